@@ -1,0 +1,85 @@
+-- A network of splitters: its edges join inputs, splitters and outputs.
+use Rattle.std.specs.Prelude.{◌≡◌, ℕ, ◌<◌, ◌≤◌, ◌==◌, ◌⊎◌, Bool, false, List, length, count_by, All}
+use Rattle.bt_net.specs.declared.network.Edge.{Edge}
+use Rattle.bt_net.specs.declared.network.Start.{Start}
+use Rattle.bt_net.specs.declared.network.Start.TheVariants as from
+use Rattle.bt_net.specs.declared.network.Target.{Target}
+use Rattle.bt_net.specs.declared.network.Target.TheVariants as to
+
+-- numbers of inputs, outputs and splitters, and the edges in their order
+pub record Network : Type 0 where
+  pub inputs : ℕ
+  pub outputs : ℕ
+  pub splitters : ℕ
+  pub edges : List Edge
+
+-- the edge leaves this splitter
+abbrev pub leaves : ℕ → Edge → Bool
+leaves s e = at_start e.start
+  where
+    at_start : Start → Bool
+    at_start (from.Split k) = k == s
+    at_start (from.Input i) = false
+
+-- the edge goes to this splitter
+abbrev pub enters : ℕ → Edge → Bool
+enters s e = at_target e.target
+  where
+    at_target : Target → Bool
+    at_target (to.Split k) = k == s
+    at_target (to.Output o) = false
+
+-- the edge starts at this input
+abbrev pub is_input : ℕ → Edge → Bool
+is_input i e = at_start e.start
+  where
+    at_start : Start → Bool
+    at_start (from.Input k) = k == i
+    at_start (from.Split s) = false
+
+-- the edge ends at this output
+abbrev pub is_output : ℕ → Edge → Bool
+is_output o e = at_target e.target
+  where
+    at_target : Target → Bool
+    at_target (to.Output k) = k == o
+    at_target (to.Split s) = false
+
+-- the network has this start
+abbrev pub StartsIn : Network → Start → Type 0
+StartsIn n (from.Input i) = i < n.inputs
+StartsIn n (from.Split s) = s < n.splitters
+
+-- the network has this target
+abbrev pub EndsIn : Network → Target → Type 0
+EndsIn n (to.Split s) = s < n.splitters
+EndsIn n (to.Output o) = o < n.outputs
+
+-- the edges join what the network has and have cap 1, each input and each output has one edge, and
+-- each splitter has at most two in edges and two out edges
+pub record IsWired (n : Network) : Type 0 where
+  pub starts : All (λ e. StartsIn n e.start) n.edges
+  pub targets : All (λ e. EndsIn n e.target) n.edges
+  pub caps : All (λ e. e.cap ≡ 1) n.edges
+  pub one_in : (i : ℕ) → i < n.inputs → count_by (is_input i) n.edges ≡ 1
+  pub one_out : (o : ℕ) → o < n.outputs → count_by (is_output o) n.edges ≡ 1
+  pub few_in : (s : ℕ) → s < n.splitters → count_by (enters s) n.edges ≤ 2
+  pub few_out : (s : ℕ) → s < n.splitters → count_by (leaves s) n.edges ≤ 2
+
+-- a count or the number of edges is more than 2048
+abbrev pub IsLarge : Network → Type 0
+IsLarge n = (2048 < n.inputs) ⊎ (2048 < n.outputs) ⊎ (2048 < n.splitters) ⊎ (2048 < length n.edges)
+
+-- it is not too large, and has no input or no output
+abbrev pub LacksEnds : Network → Type 0
+LacksEnds n = (IsLarge n → ⊥) × ((n.inputs ≡ 0) ⊎ (n.outputs ≡ 0))
+
+-- a network: wired, of at most 2048 of each kind, with an input and an output
+pub record IsNetwork (n : Network) : Type 0 where
+  pub wired : IsWired n
+  pub few_inputs : n.inputs ≤ 2048
+  pub few_outputs : n.outputs ≤ 2048
+  pub few_splitters : n.splitters ≤ 2048
+  pub few_edges : length n.edges ≤ 2048
+  pub some_input : 1 ≤ n.inputs
+  pub some_output : 1 ≤ n.outputs

@@ -1,0 +1,39 @@
+/// Where an edge starts: at an input or at a splitter, by its number from 0.
+#[derive(Clone, Copy, Debug, PartialEq, Eq)]
+pub enum Start {
+    Input(u32),
+    Split(u32),
+}
+
+/// Where an edge ends: at a splitter or at an output, by its number from 0.
+#[derive(Clone, Copy, Debug, PartialEq, Eq)]
+pub enum Target {
+    Split(u32),
+    Output(u32),
+}
+
+/// A belt between two ends of a network. `cap` is the most that it carries, where 1 is one belt
+/// of the slowest tier.
+#[derive(Clone, Copy, Debug, PartialEq, Eq)]
+pub struct Edge {
+    pub start: Start,
+    pub target: Target,
+    pub cap: u32,
+}
+
+/// An input or an output, by its number from 0.
+#[derive(Clone, Copy, Debug, PartialEq, Eq)]
+pub enum End {
+    Input(u32),
+    Output(u32),
+}
+
+/// A cell on which the first part of an input or the last part of an output stands, and the line
+/// of the text, from 1, that says so.
+#[derive(Clone, Copy, Debug, PartialEq, Eq)]
+pub struct Pin {
+    pub end: End,
+    pub x: u32,
+    pub y: u32,
+    pub line: usize,
+}
