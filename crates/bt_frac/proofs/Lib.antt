@@ -1,0 +1,4 @@
+pub mod Gcds
+pub mod Order
+pub mod Over
+pub mod Ring
