@@ -1,3 +1,4 @@
+pub mod Euclid
 pub mod Gcds
 pub mod Order
 pub mod Over
