@@ -10,18 +10,18 @@ use Rattle.bt_frac.proofs.Over.{over_same}
 use Prim.Native.Nat.{◌∣◌}
 
 -- a common divisor that takes with it what divides the same multiple of both numbers
-record Common (a b : ℕ) : Type 0 where
-  common : ℕ
-  left : common ∣ a
-  right : common ∣ b
-  scaled : (d c : ℕ) → d ∣ a * c → d ∣ b * c → d ∣ common * c
+pub record Common (a b : ℕ) : Type 0 where
+  pub common : ℕ
+  pub left : common ∣ a
+  pub right : common ∣ b
+  pub scaled : (d c : ℕ) → d ∣ a * c → d ∣ b * c → d ∣ common * c
 
 rest_scaled : (a b c d : ℕ) → d ∣ a * c → d ∣ b * c → d ∣ a % b * c
 rest_scaled a b c d p q =
     let e : a / b * (b * c) + a % b * c ≡ a * c = omega (arith, ap (λ n. n * c) (div-add-mod a b)) in
     (dvd-add_iff_right d (dvd-mul_left_of_dvd d q (a / b))).1 (subst (λ n. d ∣ n) (sym e) p)
 
-common_of : (n a b : ℕ) → b ≤ n → Common a b
+pub common_of : (n a b : ℕ) → b ≤ n → Common a b
 common_of n a zero h = record { common = a; left = dvd_refl a; right = dvd-zero a; scaled = λ d c p q. p }
 common_of zero a (suc b) h = absurd (omega arith)
 common_of (suc n) a (suc b) h =

@@ -21,7 +21,7 @@ crossed a b x d e =
 crossed_back : (a b : Ratio) (x : ℤ) (d : ℕ) → IsOver a x d → a.over *ℤ pos b.under *ℤ pos d ≡ x *ℤ pos (b.under * a.under)
 crossed_back a b x d e = over_times a x d b.under e ∙ mul_assoc x (pos b.under) (pos a.under)
 
-under_positive : (m n : ℕ) → 0 < m → 0 < n → 0 < m * n
+pub under_positive : (m n : ℕ) → 0 < m → 0 < n → 0 < m * n
 under_positive m n p q = grind arith
 
 -- a sum of fractions is the sum of their whole numbers

@@ -1,5 +1,5 @@
 -- Fractions: a whole number over a positive whole number.
-use Rattle.std.specs.Prelude.{◌≡◌, ℕ, ◌<◌, ◌*◌, ◌/◌, ◌^◌, ℤ, pos, ◌+ℤ◌, ◌*ℤ◌, ◌<ℤ◌, ◌≤ℤ◌, unsigned_abs, List}
+use Rattle.std.specs.Prelude.{◌≡◌, ℕ, ◌<◌, ◌*◌, ◌/◌, ◌^◌, ℤ, pos, ◌+ℤ◌, ◌*ℤ◌, ◌<ℤ◌, ◌≤ℤ◌, unsigned_abs, neg_ℤ, List}
 use Rattle.std.specs.List.{AllZip}
 use Rattle.std.specs.Int.{IsGcd}
 
@@ -23,6 +23,11 @@ pub record IsLowest (r : Ratio) : Type 0 where
   pub over_fits : FitsPart r.over
   pub under_fits : r.under < 2 ^ 127
 
+-- both parts are below 2 ^ 63
+pub record IsShort (r : Ratio) : Type 0 where
+  pub over_short : unsigned_abs r.over < 2 ^ 63
+  pub under_short : r.under < 2 ^ 63
+
 -- the numbers that an addition works with
 pub record AddNumbers (a b : Ratio) : Type 0 where
   pub common : ℕ
@@ -40,6 +45,10 @@ pub record AddFits {a b : Ratio} (n : AddNumbers a b) : Type 0 where
   pub right_fits : FitsPart n.right
   pub sum_fits : FitsPart (n.left +ℤ n.right)
   pub under_fits : n.under < 2 ^ 127
+
+-- the fraction with the other sign
+abbrev pub negated : Ratio → Ratio
+negated r = record { over = neg_ℤ r.over; under = r.under }
 
 -- r is the sum of a and b
 abbrev pub IsSum : Ratio → Ratio → Ratio → Type 0
