@@ -53,7 +53,7 @@ same_under m u n v p q e =
     (euclid m u v p (subst (λ t. u ∣ t) (sym e) (dvd-mul_left u n)))
     (euclid n v u q (subst (λ t. v ∣ t) e (dvd-mul_left v m)))
 
-same_record : (a b : Ratio) → a.over ≡ b.over → a.under ≡ b.under → a ≡ b
+pub same_record : (a b : Ratio) → a.over ≡ b.over → a.under ≡ b.under → a ≡ b
 same_record a b e f = ap (λ z. record { over = z; under = a.under }) e ∙ ap (λ n. record { over = b.over; under = n }) f
 
 -- fractions in lowest terms that are the same number are the same fraction
