@@ -29,10 +29,10 @@ returns-then-self-other-clause-sum c =
     let fits' : FitsSigned w128 c.other.inside.over = search rules in
     let sum_fits : FitsSigned w128 c.short_plus.result = search rules in
     let sum = simp to_z-of_z at c.short_plus.ensures.sum in
-    let over = simp to_z-of_z at c.lowest.ensures.1 in
+    let over = simp to_z-of_z at c.lowest.ensures.reduces.1 in
     seen (Summed c.lowest.result) c.self.view_is c.other.view_is
-    (same_is c.self.inside.over c.other.inside.over c.lowest.result.over c.self.inside.under c.other.inside.under c.lowest.result.under c.lowest.ensures.0
-    c.if-self-other.true (over ∙ sum) c.lowest.ensures.2)
+    (same_is c.self.inside.over c.other.inside.over c.lowest.result.over c.self.inside.under c.other.inside.under c.lowest.result.under c.lowest.ensures.reduces.0
+    c.if-self-other.true (over ∙ sum) c.lowest.ensures.reduces.2)
 
 pub quotient-left_factor-requires : goal.quotient-left_factor-requires
 quotient-left_factor-requires c = gcd_positive _ _ _ c.gcd-common.ensures c.other.invariant.positive
@@ -76,11 +76,11 @@ returns-clause-sum c =
     let right = simp (to_z-of_z, c.quotient-right_factor.ensures) at c.short_times-right.ensures.product in
     let sum = simp to_z-of_z at c.short_plus-2.ensures.sum in
     let sum' = simp (left, right) at sum in
-    let over = simp to_z-of_z at c.lowest-2.ensures.1 in
-    let under = simp c.quotient-left_factor.ensures at c.lowest-2.ensures.2 in
+    let over = simp to_z-of_z at c.lowest-2.ensures.reduces.1 in
+    let under = simp c.quotient-left_factor.ensures at c.lowest-2.ensures.reduces.2 in
     let common = c.gcd-common.ensures in
     let by = c.gcd-common.result in
     seen (Summed c.lowest-2.result) c.self.view_is c.other.view_is
     (sum_is c.self.inside.over c.other.inside.over c.lowest-2.result.over c.self.inside.under c.other.inside.under c.lowest-2.result.under
-    (c.self.inside.under / by) (c.other.inside.under / by) by c.lowest-2.ensures.0
+    (c.self.inside.under / by) (c.other.inside.under / by) by c.lowest-2.ensures.reduces.0
     (div-mul_cancel by common.0) (div-mul_cancel by common.1) (over ∙ sum') under)

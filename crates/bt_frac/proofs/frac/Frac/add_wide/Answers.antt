@@ -123,10 +123,10 @@ returns-clause-sum c =
     let sum_fits : FitsSigned w128 c.in-Some-plus.sum = search rules in
     let sum = simp to_z-of_z at c.in-Some-plus.ensures.some.0 in
     let sum' = simp (left, right) at sum in
-    let over = simp to_z-of_z at c.lowest.ensures.1 in
+    let over = simp to_z-of_z at c.lowest.ensures.reduces.1 in
     let common = c.gcd-common.ensures in
     let by = c.gcd-common.result in
     seen (Summed c.lowest.result) c.self.view_is c.other.view_is
     (sum_is c.self.inside.over c.other.inside.over c.lowest.result.over c.self.inside.under c.other.inside.under c.lowest.result.under
-    (c.self.inside.under / by) (c.other.inside.under / by) by c.lowest.ensures.0
-    (div-mul_cancel by common.0) (div-mul_cancel by common.1) (over ∙ sum') (c.lowest.ensures.2 ∙ simp c.quotient-left_factor.ensures at c.in-Some-times_unsigned.ensures.some.0))
+    (c.self.inside.under / by) (c.other.inside.under / by) by c.lowest.ensures.reduces.0
+    (div-mul_cancel by common.0) (div-mul_cancel by common.1) (over ∙ sum') (c.lowest.ensures.reduces.2 ∙ simp c.quotient-left_factor.ensures at c.in-Some-times_unsigned.ensures.some.0))

@@ -26,8 +26,17 @@ invariant_of-result c =
     simp (to_z-of_z, c.quotient.ensures)
     (lowest c.args.over c.divided.result c.args.under c.shared_divisor-shared.result c.requires.positive c.requires.under_fits c.requires.over_fits (gcd_positive _ _ _ common c.requires.positive) common size)
 
-pub returns : goal.returns
-returns c =
+pub returns-clause-lowest : goal.returns-clause-lowest
+returns-clause-lowest c =
+    let fits = c.ranges.over in
+    let result_fits : FitsSigned w128 c.divided.result = search rules in
+    let common = simp to_z-of_z at c.shared_divisor-shared.ensures in
+    let size = simp to_z-of_z at c.divided.ensures.size in
+    simp (to_z-of_z, c.quotient.ensures)
+    (lowest c.args.over c.divided.result c.args.under c.shared_divisor-shared.result c.requires.positive c.requires.under_fits c.requires.over_fits (gcd_positive _ _ _ common c.requires.positive) common size)
+
+pub returns-clause-reduces : goal.returns-clause-reduces
+returns-clause-reduces c =
     let fits = c.ranges.over in
     let result_fits : FitsSigned w128 c.divided.result = search rules in
     let common = simp to_z-of_z at c.shared_divisor-shared.ensures in
