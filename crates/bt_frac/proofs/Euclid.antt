@@ -47,7 +47,7 @@ pub coprime_part : (a b d : ℕ) → IsGcd a b 1 → d ∣ b → IsGcd a d 1
 coprime_part a b d h p = (one-dvd a, one-dvd d, λ e q r. h.2 e q (dvd_trans e r p))
 
 -- fractions in lowest terms that are the same number have the same denominator
-same_under : (m u n v : ℕ) → IsGcd m u 1 → IsGcd n v 1 → m * v ≡ n * u → u ≡ v
+pub same_under : (m u n v : ℕ) → IsGcd m u 1 → IsGcd n v 1 → m * v ≡ n * u → u ≡ v
 same_under m u n v p q e =
     dvd_antisymm
     (euclid m u v p (subst (λ t. u ∣ t) (sym e) (dvd-mul_left u n)))

@@ -3,5 +3,7 @@ pub mod Gcds
 pub mod Order
 pub mod Ordered
 pub mod Over
+pub mod Quotients
 pub mod Ring
 pub mod Sums
+pub mod Words

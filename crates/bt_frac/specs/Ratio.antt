@@ -1,5 +1,5 @@
 -- Fractions: a whole number over a positive whole number.
-use Rattle.std.specs.Prelude.{◌≡◌, ℕ, ◌<◌, ◌*◌, ◌/◌, ◌^◌, ℤ, pos, ◌+ℤ◌, ◌*ℤ◌, ◌<ℤ◌, ◌≤ℤ◌, unsigned_abs, neg_ℤ, List}
+use Rattle.std.specs.Prelude.{◌≡◌, ℕ, ◌<◌, ◌*◌, ◌/◌, ◌^◌, ℤ, pos, ◌+ℤ◌, ◌*ℤ◌, ◌<ℤ◌, ◌≤ℤ◌, unsigned_abs, neg_ℤ, List, Bool, if◌then◌else◌}
 use Rattle.std.specs.List.{AllZip}
 use Rattle.std.specs.Int.{IsGcd}
 
@@ -22,6 +22,14 @@ pub record IsLowest (r : Ratio) : Type 0 where
   pub coprime : IsGcd (unsigned_abs r.over) r.under 1
   pub over_fits : FitsPart r.over
   pub under_fits : r.under < 2 ^ 127
+
+-- r is the number p / q
+abbrev pub IsQuotient : ℤ → ℤ → Ratio → Type 0
+IsQuotient p q r = r.over *ℤ q ≡ p *ℤ pos r.under
+
+-- the numerator of this magnitude and sign over a denominator
+abbrev pub parts_ratio : Bool → ℕ → ℕ → Ratio
+parts_ratio negative size under = record { over = if negative then neg_ℤ (pos size) else pos size; under = under }
 
 -- both parts are below 2 ^ 63
 pub record IsShort (r : Ratio) : Type 0 where

@@ -1,4 +1,4 @@
-use Rattle.std.proofs.Common.{FitsSigned, rules, ◌≡◌, ◌/◌, ◌*◌, subst, sym, ap, ◌∙◌}
+use Rattle.std.proofs.Common.{FitsSigned, rules, ◌≡◌, ◌/◌, ◌*◌, ◌<◌, ◌^◌, ℕ, unsigned_abs, arith, subst, sym, ap, ◌∙◌}
 use Rattle.std.specs.Int.{w128, IsGcd}
 use Rattle.std.proofs.lemmas.Int.{to_z-of_z}
 use Rattle.std.proofs.Math.Nat.{div-mul_cancel}
@@ -16,6 +16,15 @@ divided-requires-clause-positive c = gcd_positive _ _ _ c.shared_divisor-shared.
 
 pub quotient-requires : goal.quotient-requires
 quotient-requires c = gcd_positive _ _ _ c.shared_divisor-shared.ensures c.requires.positive
+
+pub divided-requires-clause-fits : goal.divided-requires-clause-fits
+divided-requires-clause-fits c =
+    let fits = c.ranges.over in
+    let small = c.requires.over_fits in
+    simp to_z-of_z (part_fits (unsigned_abs c.args.over) c.shared_divisor-shared.result small)
+  where
+    part_fits : (n g : ℕ) → n < 2 ^ 127 → n / g < 2 ^ 127
+    part_fits n g h = omega arith
 
 pub invariant_of-result : goal.invariant_of-result
 invariant_of-result c =
