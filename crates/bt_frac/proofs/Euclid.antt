@@ -1,9 +1,9 @@
 -- Numbers with no common divisor: Euclid's lemma and what follows from it.
-use Rattle.std.proofs.Common.{◌≡◌, ℕ, ◌*◌, ◌+◌, ◌<◌, ◌≤◌, ◌%◌, ◌/◌, arith, ℤ, pos, ◌*ℤ◌, ◌+ℤ◌, ap, sym, ◌∙◌, refl, subst, zero, suc, unsigned_abs}
+use Rattle.std.proofs.Common.{◌≡◌, ℕ, ◌*◌, ◌+◌, ◌<◌, ◌≤◌, ◌%◌, ◌/◌, arith, ℤ, pos, ◌*ℤ◌, ap, sym, ◌∙◌, refl, subst, zero, suc, unsigned_abs}
 use Rattle.std.specs.Int.{IsGcd}
-use Rattle.std.proofs.lemmas.Int.{ints, unsigned_abs-mul}
-use Rattle.std.proofs.lemmas.Nat.Gcd.{dvd_refl, dvd-zero, dvd_antisymm, dvd_trans, IsGcd-swap}
-use Rattle.std.proofs.Math.Nat.{dvd-mul_left, dvd-mul_right, dvd-mul_left_of_dvd, dvd-add_iff_right, dvd-mod_iff, div-add-mod, eq-one_of_dvd-one, mod-lt, mul_comm, one-mul, one-dvd}
+use Rattle.std.proofs.lemmas.Int.{unsigned_abs-mul}
+use Rattle.std.proofs.lemmas.Nat.Gcd.{dvd_refl, dvd-zero, dvd_antisymm, dvd_trans}
+use Rattle.std.proofs.Math.Nat.{dvd-mul_left, dvd-mul_right, dvd-mul_left_of_dvd, dvd-add_iff_right, dvd-mod_iff, div-add-mod, eq-one_of_dvd-one, one-mul, one-dvd}
 use Rattle.bt_frac.specs.Ratio.{Ratio, IsLowest, SameRatio, IsOver}
 use Rattle.bt_frac.proofs.Order.{mul_cancel}
 use Rattle.bt_frac.proofs.Over.{over_same}
@@ -60,7 +60,7 @@ same_record a b e f = ap (λ z. record { over = z; under = a.under }) e ∙ ap (
 pub lowest_same : (a b : Ratio) → IsLowest a → IsLowest b → SameRatio a b → a ≡ b
 lowest_same a b p q e =
     let sizes : unsigned_abs a.over * b.under ≡ unsigned_abs b.over * a.under =
-        sym (unsigned_abs-mul a.over (pos b.under)) ∙ ap unsigned_abs e ∙ unsigned_abs-mul b.over (pos a.under) in
+    sym (unsigned_abs-mul a.over (pos b.under)) ∙ ap unsigned_abs e ∙ unsigned_abs-mul b.over (pos a.under) in
     let unders : a.under ≡ b.under = same_under (unsigned_abs a.over) a.under (unsigned_abs b.over) b.under p.coprime q.coprime sizes in
     let overs : a.over *ℤ pos a.under ≡ b.over *ℤ pos a.under = ap (λ n. a.over *ℤ pos n) unders ∙ e in
     same_record a b (mul_cancel a.over b.over a.under p.positive overs) unders

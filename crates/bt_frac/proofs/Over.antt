@@ -1,7 +1,6 @@
 -- Fractions as whole numbers over one denominator.
-use Rattle.std.proofs.Common.{◌≡◌, ℕ, ◌*◌, ◌+◌, ◌<◌, ◌≤◌, arith, ℤ, pos, ◌*ℤ◌, ◌+ℤ◌, ◌<ℤ◌, ◌≤ℤ◌, ◌↔◌, List, [], ◌∷◌, ◌++◌, ap, sym, ◌∙◌, refl, subst, map, neg_ℤ}
-use Rattle.std.specs.List.{All, AllZip}
-use Rattle.std.proofs.lemmas.Int.{ints}
+use Rattle.std.proofs.Common.{◌≡◌, ℕ, ◌*◌, ◌<◌, arith, ℤ, pos, ◌*ℤ◌, ◌+ℤ◌, ◌<ℤ◌, ◌≤ℤ◌, ◌↔◌, List, [], ◌∷◌, ◌++◌, ap, sym, ◌∙◌, refl, subst, map, neg_ℤ}
+use Rattle.std.specs.List.{All}
 use Rattle.std.proofs.lemmas.List.Elements.{All-head, All-tail}
 use Rattle.std.proofs.Math.IntN.{*ℤ_comm, zero-*ℤ, *ℤ-one}
 use Rattle.bt_frac.specs.Ratio.{Ratio, IsSum, SameRatio, IsOver, AreOver, IsLess, IsAtMost}
@@ -29,8 +28,8 @@ pub over_sum : (a b r : Ratio) (x y : ℤ) (d : ℕ) → 0 < a.under → 0 < b.u
 over_sum a b r x y d a_some b_some ea eb sum =
     let p : ℕ = a.under * b.under in
     let total = turn_last r.over (pos d) (pos p) ∙ ap (λ t. t *ℤ pos d) sum ∙ sum_of_thirds a.over b.over (pos a.under) (pos b.under) (pos r.under) (pos d)
-        ∙ ap (λ t. (t +ℤ b.over *ℤ pos a.under *ℤ pos d) *ℤ pos r.under) (crossed a b x d ea)
-        ∙ ap (λ t. (x *ℤ pos p +ℤ t) *ℤ pos r.under) (crossed_back b a y d eb) ∙ sum_of_parts x y (pos p) (pos r.under) in
+    ∙ ap (λ t. (t +ℤ b.over *ℤ pos a.under *ℤ pos d) *ℤ pos r.under) (crossed a b x d ea)
+    ∙ ap (λ t. (x *ℤ pos p +ℤ t) *ℤ pos r.under) (crossed_back b a y d eb) ∙ sum_of_parts x y (pos p) (pos r.under) in
     mul_cancel (r.over *ℤ pos d) ((x +ℤ y) *ℤ pos r.under) p (under_positive a.under b.under a_some b_some) total
 
 -- the order of fractions over one denominator is that of their whole numbers
@@ -40,8 +39,7 @@ over_at_most a b x y d some a_some b_some ea eb =
     let p : ℕ = a.under * b.under in
     let p_some : 0 < p = under_positive a.under b.under a_some b_some in
     let ca = crossed a b x d ea in
-    let cb = crossed_back b a y d eb in
-    (
+    let cb = crossed_back b a y d eb in (
       λ h. let l = mul_le (a.over *ℤ pos b.under) (b.over *ℤ pos a.under) d h in
           le_from_mul x y p p_some (subst (λ t. t ≤ℤ (y *ℤ pos p)) ca (subst (λ t. (a.over *ℤ pos b.under *ℤ pos d) ≤ℤ t) cb l)),
       λ h. let l = mul_le x y p h in
@@ -55,8 +53,7 @@ over_less a b x y d some a_some b_some ea eb =
     let p : ℕ = a.under * b.under in
     let p_some : 0 < p = under_positive a.under b.under a_some b_some in
     let ca = crossed a b x d ea in
-    let cb = crossed_back b a y d eb in
-    (
+    let cb = crossed_back b a y d eb in (
       λ h. let l = mul_lt (a.over *ℤ pos b.under) (b.over *ℤ pos a.under) d some h in
           lt_from_mul x y p (subst (λ t. t <ℤ (y *ℤ pos p)) ca (subst (λ t. (a.over *ℤ pos b.under *ℤ pos d) <ℤ t) cb l)),
       λ h. let l = mul_lt x y p p_some h in
@@ -71,8 +68,7 @@ over_same a b x y d some a_some b_some ea eb =
     let p : ℕ = a.under * b.under in
     let p_some : 0 < p = under_positive a.under b.under a_some b_some in
     let ca = crossed a b x d ea in
-    let cb = crossed_back b a y d eb in
-    (
+    let cb = crossed_back b a y d eb in (
       λ e. mul_cancel x y p p_some (sym ca ∙ ap (λ t. t *ℤ pos d) e ∙ cb),
       λ e. mul_cancel (a.over *ℤ pos b.under) (b.over *ℤ pos a.under) d some (ca ∙ ap (λ t. t *ℤ pos p) e ∙ sym cb),
     )
@@ -108,8 +104,7 @@ common_denominator (r ∷ rs) some =
     let rest = common_denominator rs (All-tail (λ q. 0 < q.under) r rs some) in
     let r_some : 0 < r.under = All-head (λ q. 0 < q.under) r rs some in
     let own : r.over *ℤ pos (r.under * rest.0) ≡ r.over *ℤ pos rest.0 *ℤ pos r.under =
-        ap (λ t. r.over *ℤ t) (*ℤ_comm (pos r.under) (pos rest.0)) ∙ sym (mul_assoc r.over (pos rest.0) (pos r.under)) in
-    (
+    ap (λ t. r.over *ℤ t) (*ℤ_comm (pos r.under) (pos rest.0)) ∙ sym (mul_assoc r.over (pos rest.0) (pos r.under)) in (
       r.under * rest.0,
       under_positive r.under rest.0 r_some rest.1,
       ((r.over *ℤ pos rest.0) ∷ map (λ w. w *ℤ pos r.under) rest.2.0, (own, are_over_scaled rs rest.2.0 rest.0 r.under rest.2.1)),

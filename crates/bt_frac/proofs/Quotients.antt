@@ -1,5 +1,5 @@
 -- The fraction of two whole numbers.
-use Rattle.std.proofs.Common.{◌≡◌, ◌≢◌, ℕ, ◌*◌, ◌+◌, ◌<◌, ◌≤◌, ◌/◌, ◌^◌, arith, ℤ, pos, neg_ℤ, ◌*ℤ◌, ◌<ℤ◌, ◌↔◌, ap, sym, ◌∙◌, refl, subst, unsigned_abs, Bool, true, false, IsTrue, if◌then◌else◌}
+use Rattle.std.proofs.Common.{◌≡◌, ◌≢◌, ℕ, ◌*◌, ◌<◌, ◌≤◌, ◌/◌, ◌^◌, arith, ℤ, pos, neg_ℤ, ◌*ℤ◌, ◌<ℤ◌, ◌↔◌, ap, sym, ◌∙◌, refl, subst, unsigned_abs, Bool, true, false, IsTrue, if◌then◌else◌}
 use Rattle.std.specs.Int.{IsGcd}
 use Rattle.std.proofs.lemmas.Bool.{false≢true}
 use Rattle.std.proofs.lemmas.Int.{ints, unsigned_abs-mul}
@@ -37,7 +37,7 @@ pub quotient_lowest : (p z : ℤ) (n g : ℕ) (negated : Bool) → 0 < n → IsG
     → unsigned_abs p / g < 2 ^ 127 → n / g < 2 ^ 127 → IsLowest (record { over = if negated then neg_ℤ z else z; under = n / g })
 quotient_lowest p z n g negated some h e p_small n_small =
     let size : unsigned_abs (if negated then neg_ℤ z else z) ≡ unsigned_abs p / g =
-        negated_size z negated ∙ cancel (unsigned_abs z) (unsigned_abs p / g) g (gcd_positive (unsigned_abs p) n g h some) (e ∙ sym (div-mul_cancel g h.0)) in
+    negated_size z negated ∙ cancel (unsigned_abs z) (unsigned_abs p / g) g (gcd_positive (unsigned_abs p) n g h some) (e ∙ sym (div-mul_cancel g h.0)) in
     record {
       positive = quotient_positive n g some h.1;
       coprime = subst (λ m. IsGcd m (n / g) 1) (sym size) (quotients_apart (unsigned_abs p) n g some h);
@@ -77,7 +77,7 @@ quotient_unique p q g f some h low is =
     let en : n / g * g ≡ n = div-mul_cancel g h.1 in
     let sizes : unsigned_abs f.over * n ≡ m * f.under = sym (unsigned_abs-mul f.over q) ∙ ap unsigned_abs is ∙ unsigned_abs-mul p (pos f.under) in
     let scaled : unsigned_abs f.over * (n / g) * g ≡ m / g * f.under * g =
-        omega (arith, sizes, ap (λ k. unsigned_abs f.over * k) en, ap (λ k. k * f.under) em) in
+    omega (arith, sizes, ap (λ k. unsigned_abs f.over * k) en, ap (λ k. k * f.under) em) in
     let parts : unsigned_abs f.over * (n / g) ≡ m / g * f.under = cancel (unsigned_abs f.over * (n / g)) (m / g * f.under) g g_some scaled in
     let under : f.under ≡ n / g = same_under (unsigned_abs f.over) f.under (m / g) (n / g) low.coprime (quotients_apart m n g some h) parts in
     (cancel (unsigned_abs f.over) (m / g) f.under low.positive (ap (λ k. unsigned_abs f.over * k) under ∙ parts), under)

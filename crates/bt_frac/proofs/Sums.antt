@@ -1,11 +1,10 @@
 -- The sum of two fractions over the least common denominator.
-use Rattle.std.proofs.Common.{◌≡◌, ℕ, ◌*◌, ◌+◌, ◌<◌, ◌≤◌, ◌%◌, ◌/◌, ◌^◌, ◌⊎◌, inl, inr, arith, ℤ, pos, negsuc, ◌*ℤ◌, ◌+ℤ◌, ap, sym, ◌∙◌, refl, subst, zero, suc, unsigned_abs}
+use Rattle.std.proofs.Common.{◌≡◌, ℕ, ◌*◌, ◌+◌, ◌<◌, ◌/◌, ◌^◌, ◌⊎◌, inl, inr, arith, ℤ, pos, ◌*ℤ◌, ◌+ℤ◌, ap, sym, ◌∙◌, subst, unsigned_abs}
 use Rattle.std.specs.Int.{IsGcd}
-use Rattle.std.proofs.lemmas.Bool.{cases_lt}
 use Rattle.std.proofs.lemmas.Int.{ints, unsigned_abs-mul}
 use Rattle.std.proofs.lemmas.Nat.{mul-lt}
 use Rattle.std.proofs.lemmas.Nat.Gcd.{dvd_trans, IsGcd-swap}
-use Rattle.std.proofs.Math.Nat.{dvd-mul_left, dvd-mul_left_of_dvd, dvd-mul_right_of_dvd, dvd-add, dvd-add_iff_left, one-dvd, dvd-mul_right, div-mul_cancel, mul-one}
+use Rattle.std.proofs.Math.Nat.{dvd-mul_left_of_dvd, dvd-add, dvd-add_iff_left, one-dvd, dvd-mul_right, div-mul_cancel, mul-one}
 use Rattle.std.proofs.Math.IntN.{*ℤ_comm}
 use Rattle.bt_frac.specs.Ratio.{Ratio, IsLowest, FitsPart, IsShort, AddNumbers, AddFits}
 use Rattle.bt_frac.proofs.Euclid.{euclid, coprime_part, common_of}
@@ -20,11 +19,11 @@ sizes x y = grind (arith, ints)
 divides_first : (x y : ℤ) (d : ℕ) → d ∣ unsigned_abs (x +ℤ y) → d ∣ unsigned_abs y → d ∣ unsigned_abs x
 divides_first x y d p q =
     elim (sizes x y) [
-      inl e ↦ subst (λ n. d ∣ n) (sym e) (dvd-add d p q)
+      | inl e ↦ subst (λ n. d ∣ n) (sym e) (dvd-add d p q)
       | inr r ↦ elim r [
-          inl e ↦ (dvd-add_iff_left d p).1 (subst (λ n. d ∣ n) (sym e) q)
-          | inr e ↦ (dvd-add_iff_left d q).1 (subst (λ n. d ∣ n) (sym e) p)
-        ]
+        | inl e ↦ (dvd-add_iff_left d p).1 (subst (λ n. d ∣ n) (sym e) q)
+        | inr e ↦ (dvd-add_iff_left d q).1 (subst (λ n. d ∣ n) (sym e) p)
+      ]
     ]
 
 turned : (x y : ℤ) → x +ℤ y ≡ y +ℤ x
@@ -37,7 +36,7 @@ apart a b m n d a_lowest both h = (
   one-dvd d,
   λ f p q.
       let second : f ∣ unsigned_abs (b *ℤ pos m) =
-          subst (λ k. f ∣ k) (sym (unsigned_abs-mul b (pos m))) (dvd-mul_left_of_dvd f p (unsigned_abs b)) in
+      subst (λ k. f ∣ k) (sym (unsigned_abs-mul b (pos m))) (dvd-mul_left_of_dvd f p (unsigned_abs b)) in
       let first : f ∣ unsigned_abs (a *ℤ pos n) = divides_first (a *ℤ pos n) (b *ℤ pos m) f (dvd_trans f q h) second in
       let split : f ∣ unsigned_abs a * n = subst (λ k. f ∣ k) (unsigned_abs-mul a (pos n)) first in
       both.2 f p (euclid (unsigned_abs a) f n (coprime_part (unsigned_abs a) m f a_lowest p) split),
@@ -62,7 +61,7 @@ shares a b g p q h d k l =
     let a_part : a.under / g ∣ a.under = subst (λ n. a.under / g ∣ n) ea (dvd-mul_right (a.under / g) g) in
     let b_part : b.under / g ∣ b.under = subst (λ n. b.under / g ∣ n) eb (dvd-mul_right (b.under / g) g) in
     let both : IsGcd (a.under / g) (b.under / g) 1 =
-        coprime_quotients (a.under / g) (b.under / g) g some (subst (λ n. IsGcd (a.under / g * g) n g) (sym eb) (subst (λ n. IsGcd n b.under g) (sym ea) h)) in
+    coprime_quotients (a.under / g) (b.under / g) g some (subst (λ n. IsGcd (a.under / g * g) n g) (sym eb) (subst (λ n. IsGcd n b.under g) (sym ea) h)) in
     shares_common a.over b.over (a.under / g) (b.under / g) g
     (coprime_part (unsigned_abs a.over) a.under (a.under / g) p.coprime a_part)
     (coprime_part (unsigned_abs b.over) b.under (b.under / g) q.coprime b_part)
@@ -73,7 +72,7 @@ same_by : (ao bo ro : ℤ) (n ru k : ℕ) → ro *ℤ pos k ≡ ao +ℤ bo → r
     → ro *ℤ pos (n * n) ≡ (ao *ℤ pos n +ℤ bo *ℤ pos n) *ℤ pos ru
 same_by ao bo ro n ru k e f =
     let whole : ro *ℤ pos n ≡ (ao +ℤ bo) *ℤ pos ru =
-        ap (λ m. ro *ℤ pos m) (sym f) ∙ ap (λ t. ro *ℤ t) (*ℤ_comm (pos ru) (pos k)) ∙ sym (mul_assoc ro (pos k) (pos ru)) ∙ ap (λ t. t *ℤ pos ru) e in
+    ap (λ m. ro *ℤ pos m) (sym f) ∙ ap (λ t. ro *ℤ t) (*ℤ_comm (pos ru) (pos k)) ∙ sym (mul_assoc ro (pos k) (pos ru)) ∙ ap (λ t. t *ℤ pos ru) e in
     sym (mul_assoc ro (pos n) (pos n)) ∙ ap (λ t. t *ℤ pos n) whole ∙ turn_last (ao +ℤ bo) (pos ru) (pos n)
     ∙ ap (λ t. t *ℤ pos ru) (mul_distrib_right ao bo (pos n))
 

@@ -1,14 +1,13 @@
 -- The words that spell fractions.
-use Rattle.std.proofs.Common.{◌≡◌, ◌≢◌, ℕ, ◌+◌, ◌<◌, ◌≤◌, ◌^◌, ◌⊎◌, inl, inr, arith, ℤ, pos, negsuc, neg_ℤ, List, [], ◌∷◌, ◌++◌, length, ap, sym, ◌∙◌, refl, subst, unsigned_abs, Bool, true, false, IsTrue, cond, ◌==◌, min, ◌-◌, zero, suc, if◌then◌else◌, lit<, Option, Some, None, IfSome, IfNone}
-use Rattle.std.specs.Fmt.{decimal, signed_decimal}
+use Rattle.std.proofs.Common.{◌≡◌, ◌≢◌, ℕ, ◌<◌, ◌^◌, ◌⊎◌, inl, inr, arith, ℤ, pos, negsuc, List, [], ◌∷◌, ◌++◌, length, ap, sym, ◌∙◌, refl, subst, unsigned_abs, Bool, true, false, IsTrue, cond, ◌==◌, min, ◌-◌, zero, suc, lit<, Option, Some, None, IfSome, IfNone}
+use Rattle.std.specs.Fmt.{decimal}
 use Rattle.std.specs.Int.{IsInRange}
 use Rattle.std.proofs.lemmas.Bool.{false≢true}
 use Rattle.std.proofs.lemmas.Bool.Decides.{nat_tests}
-use Rattle.std.proofs.lemmas.Int.{ints}
 use Rattle.std.proofs.lemmas.List.Elements.{All-head, All-tail}
 use Rattle.bt_text.specs.Lines.{Lacks, SplitsAt}
 use Rattle.bt_text.specs.Numbers.{Spells}
-use Rattle.bt_text.proofs.Numerals.{Spells-decimal, Spells-unique, Spells-lacks, decimal-from_spells, decimal-lacks}
+use Rattle.bt_text.proofs.Numerals.{Spells-decimal, Spells-unique, Spells-lacks, decimal-from_spells}
 use Rattle.bt_frac.specs.Ratio.{Ratio, IsLowest, parts_ratio}
 use Rattle.bt_frac.specs.Texts.{frac_text, WordOf, IsSigned}
 use Rattle.bt_frac.proofs.Quotients.{parts_size}

@@ -1,8 +1,8 @@
 -- The laws of the order that `Ord` gives.
-use Rattle.std.proofs.Common.{◌≡◌, ℕ, ℤ, pos, ◌*ℤ◌, ◌*◌, ◌+◌, ◌<◌, ◌≤◌, ◌<ℤ◌, ◌≤ℤ◌, max, ap, sym, ◌∙◌, refl, arith, Bool, true, false, ◌==◌}
+use Rattle.std.proofs.Common.{◌≡◌, ℕ, ℤ, pos, ◌*ℤ◌, ◌*◌, ◌+◌, ◌<◌, ◌≤◌, ◌<ℤ◌, ◌≤ℤ◌, max, ap, sym, ◌∙◌, refl, arith, true, ◌==◌}
 use Rattle.std.specs.declared.cmp.Ordering.{Ordering}
 use Rattle.std.specs.declared.cmp.Ordering.TheVariants.{Less, Equal, Greater}
-use Rattle.std.specs.Ordering.{int_cmp, nat_cmp, int_eq, on, then_cmp, eq_of_both, eq_by_cmp, as_partial_cmp, is_eq}
+use Rattle.std.specs.Ordering.{int_cmp, int_eq, on, eq_of_both, eq_by_cmp, as_partial_cmp, is_eq}
 use Rattle.std.specs.Cmp.{IsTotalOrder, Agrees, both_ways}
 use Rattle.std.proofs.lemmas.Int.{ints}
 use Rattle.std.proofs.lemmas.Cmp.{int_ranked, int_cmp_total, nat_cmp_total, on_total, then_total, tied_itself}
@@ -83,8 +83,8 @@ number_congr x y z d e f pd pe pf p =
     (moved o (x *ℤ pos f) (z *ℤ pos d) (y *ℤ pos f) (z *ℤ pos e)
     (λ h. le_lt y x z e d f pe back h)
     (λ h. antisymmetric (y *ℤ pos f) (z *ℤ pos e)
-        (le_le y x z e d f pd back (at_most (x *ℤ pos f) (z *ℤ pos d) h))
-        (le_le z x y f d e pd (at_most (z *ℤ pos d) (x *ℤ pos f) (sym h)) forth))
+    (le_le y x z e d f pd back (at_most (x *ℤ pos f) (z *ℤ pos d) h))
+    (le_le z x y f d e pd (at_most (z *ℤ pos d) (x *ℤ pos f) (sym h)) forth))
     (λ h. lt_le z x y f d e pe h forth)
     (int_ranked (x *ℤ pos f) (z *ℤ pos d) o refl))
 
@@ -113,5 +113,6 @@ ratio_cmp_eq a b = both_ways _ _ (forth a b) (back a b)
         let over : a.over ≡ b.over = grind (arith, ints) in
         let under : a.under ≡ b.under = grind (arith, ints) in
         ap (λ r. eq_by_cmp ratio_cmp a r) (sym (same_record a b over under)) ∙ ap is_eq (tied_itself ratio_cmp_total a)
+
     back : (a b : Ratio) → eq_by_cmp ratio_cmp a b ≡ true → eq_of_both (on (λ r. r.over) int_eq) (on (λ r. r.under) ◌==◌) a b ≡ true
     back a b e = grind (arith, ints)

@@ -1,7 +1,7 @@
 -- What an answer of a comparison says.
-use Rattle.std.specs.Prelude.{◌≡◌, ℕ, ℤ, pos, ◌*ℤ◌, ◌<◌, ◌<ℤ◌, ◌+◌}
+use Rattle.std.specs.Prelude.{◌≡◌, ℕ, ℤ, pos, ◌*ℤ◌, ◌<◌, ◌<ℤ◌}
 use Rattle.std.specs.declared.cmp.Ordering.{Ordering}
-use Rattle.std.specs.Ordering.{MatchOrdering, int_cmp, nat_cmp, on, then_cmp}
+use Rattle.std.specs.Ordering.{MatchOrdering}
 use Rattle.bt_frac.specs.Ratio.{Ratio}
 
 -- o is the order of two whole numbers

@@ -1,5 +1,5 @@
 -- The one spelling of a fraction.
-use Rattle.std.specs.Prelude.{◌≡◌, ◌≢◌, ℕ, ◌⊎◌, ◌==◌, List, ◌∷◌, ◌++◌, Bool, true, false, cond}
+use Rattle.std.specs.Prelude.{◌≡◌, ◌≢◌, ℕ, ◌⊎◌, ◌==◌, List, ◌∷◌, ◌++◌, Bool, cond}
 use Rattle.std.specs.Fmt.{decimal, signed_decimal}
 use Rattle.bt_text.specs.Numbers.{Spells}
 use Rattle.bt_frac.specs.Ratio.{Ratio}

@@ -1,5 +1,4 @@
-use Rattle.std.proofs.Common.{subst, sym, arith, ◌≡◌, rules, FitsSigned}
-use Rattle.std.specs.Int.{w128, IsGcd}
+use Rattle.std.proofs.Common.{subst, arith, ◌≡◌}
 use Rattle.std.proofs.lemmas.Int.{to_z-of_z}
 use Rattle.std.proofs.lemmas.Nat.Gcd.{dvd_trans}
 use Rattle.std.proofs.Math.Nat.{one-dvd}

@@ -1,4 +1,4 @@
-use Rattle.std.proofs.Common.{◌≡◌, ℕ, ◌+◌, ◌*◌, ◌/◌, ◌%◌, ap, sym, subst, arith, ◌∙◌}
+use Rattle.std.proofs.Common.{◌≡◌, ℕ, ◌+◌, ◌*◌, ◌/◌, ◌%◌, ap, sym, arith, ◌∙◌}
 use Rattle.std.proofs.lemmas.Nat.{div-add-mod'}
 use Rattle.bt_frac.proofs.wide.product.Goals as goal
 

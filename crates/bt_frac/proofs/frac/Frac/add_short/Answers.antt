@@ -1,8 +1,8 @@
-use Rattle.std.proofs.Common.{rules, ◌≡◌, ◌<◌, ℕ, ◌*◌, ◌/◌, ◌∙◌, subst, sym, arith, FitsSigned}
+use Rattle.std.proofs.Common.{rules, ◌≡◌, ◌/◌, ◌∙◌, subst, FitsSigned}
 use Rattle.std.specs.Int.{w128}
 use Rattle.std.proofs.lemmas.Int.{to_z-of_z}
 use Rattle.std.proofs.Math.Nat.{div-mul_cancel, dvd-mul_right_of_dvd}
-use Rattle.bt_frac.specs.Ratio.{Ratio, AddNumbers, AddFits, IsSum}
+use Rattle.bt_frac.specs.Ratio.{Ratio, IsSum}
 use Rattle.bt_frac.proofs.Gcds.{sum_is, quotient_positive, gcd_positive}
 use Rattle.bt_frac.proofs.Over.{under_positive}
 use Rattle.bt_frac.proofs.Sums.{shares, short_fits, same_is}

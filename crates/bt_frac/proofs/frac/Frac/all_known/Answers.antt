@@ -1,4 +1,4 @@
-use Rattle.std.proofs.Common.{ℕ, ◌<◌, get_or, below_more, subst, arith, length, ◌∙◌}
+use Rattle.std.proofs.Common.{◌<◌, get_or, below_more, subst, arith, length, ◌∙◌}
 use Rattle.std.proofs.lemmas.List.{get_or_default}
 use Rattle.bt_frac.specs.Ratio.{Ratio, IsLowest}
 use Rattle.bt_frac.proofs.frac.Frac.all_known.Goals as goal

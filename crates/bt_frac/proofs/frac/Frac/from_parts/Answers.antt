@@ -1,7 +1,6 @@
-use Rattle.std.proofs.Common.{FitsSigned, rules, arith, ◌≡◌, subst}
-use Rattle.std.specs.Int.{w128, IsGcd}
+use Rattle.std.proofs.Common.{FitsSigned, rules, arith, ◌≡◌}
+use Rattle.std.specs.Int.{w128}
 use Rattle.std.proofs.lemmas.Int.{to_z-of_z}
-use Rattle.bt_frac.specs.Ratio.{IsLowest}
 use Rattle.bt_frac.proofs.Quotients.{parts_lowest, parts_coprime}
 use Rattle.bt_frac.proofs.frac.Frac.from_parts.Goals as goal
 

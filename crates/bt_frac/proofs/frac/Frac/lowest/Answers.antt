@@ -1,8 +1,7 @@
-use Rattle.std.proofs.Common.{FitsSigned, rules, ◌≡◌, ◌/◌, ◌*◌, ◌<◌, ◌^◌, ℕ, unsigned_abs, arith, subst, sym, ap, ◌∙◌}
-use Rattle.std.specs.Int.{w128, IsGcd}
+use Rattle.std.proofs.Common.{FitsSigned, rules, ◌/◌, ◌*◌, ◌<◌, ◌^◌, ℕ, unsigned_abs, arith, ap, ◌∙◌}
+use Rattle.std.specs.Int.{w128}
 use Rattle.std.proofs.lemmas.Int.{to_z-of_z}
 use Rattle.std.proofs.Math.Nat.{div-mul_cancel}
-use Rattle.bt_frac.specs.Ratio.{IsLowest}
 use Rattle.bt_frac.proofs.Gcds.{lowest, gcd_positive}
 use Rattle.bt_frac.proofs.frac.Frac.lowest.Goals as goal
 

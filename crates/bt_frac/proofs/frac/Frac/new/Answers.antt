@@ -1,8 +1,7 @@
-use Rattle.std.proofs.Common.{FitsSigned, rules, arith, ◌≡◌, ◌<◌, ◌/◌, ◌*◌, ◌^◌, subst, sym, ap, ◌∙◌, unsigned_abs, ◌⊎◌, inl, inr}
-use Rattle.std.specs.Int.{w128, IsGcd}
+use Rattle.std.proofs.Common.{FitsSigned, rules, arith, ◌≡◌, ◌<◌, ◌/◌, ◌^◌, sym, ap, ◌∙◌, unsigned_abs}
+use Rattle.std.specs.Int.{w128}
 use Rattle.std.proofs.lemmas.Int.{to_z-of_z}
 use Rattle.std.proofs.Math.Nat.{div-mul_cancel}
-use Rattle.bt_frac.specs.Ratio.{IsLowest, FitsPart}
 use Rattle.bt_frac.proofs.Gcds.{gcd_positive}
 use Rattle.bt_frac.proofs.Quotients.{nonzero_size, quotient_fits, quotient_lowest, quotient_is, quotient_unique}
 use Rattle.bt_frac.proofs.frac.Frac.new.Goals as goal
@@ -42,7 +41,7 @@ returns-then-reduced_size-gt-PART_MAX-clause-none c f low is =
     let over_small : unsigned_abs f.over < 2 ^ 127 = low.over_fits in
     let under_small : f.under < 2 ^ 127 = low.under_fits in
     elim c.then-reduced_size-gt-PART_MAX.branch [
-      then-reduced_size-gt-PART_MAX-via-then-reduced_size-gt-PART_MAX w ↦ omega arith
+      | then-reduced_size-gt-PART_MAX-via-then-reduced_size-gt-PART_MAX w ↦ omega arith
       | then-reduced_size-gt-PART_MAX-via-else-reduced_size-gt-PART_MAX+then-reduced_under-gt-PART_MAX w ↦ omega arith
     ]
 

@@ -1,6 +1,3 @@
-use Rattle.std.proofs.Common.{rules, ◌≡◌, subst, sym, IfSome, IfNone, Option}
-use Rattle.bt_frac.specs.declared.frac.Frac.{Frac}
-use Rattle.bt_frac.specs.Ratio.{Ratio, AddNumbers, AddFits, negated}
 use Rattle.bt_frac.proofs.frac.Frac.sub.Goals as goal
 
 pub returns-clause-fits : goal.returns-clause-fits
