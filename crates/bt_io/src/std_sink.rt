@@ -60,3 +60,35 @@ impl<W: Write> Sink for StdSink<W> {
         }
     }
 }
+
+#[cfg(test)]
+mod tests {
+    use super::*;
+    use std::io;
+
+    // A writer that takes at most so many bytes at a call.
+    #[derive(Drop)]
+    struct Narrow(usize);
+
+    impl Write for Narrow {
+        fn write(&mut self, piece: &[u8]) -> io::Result<usize> {
+            Ok(piece.len().min(self.0))
+        }
+
+        fn flush(&mut self) -> io::Result<()> {
+            Ok(())
+        }
+    }
+
+    #[test]
+    fn counts_a_write_of_no_byte(rt: HostRuntime) {
+        let mut sink = StdSink::new(Narrow(2));
+        assert!(rt; sink.write(b"hello") == Ok(2));
+        assert_eq!(rt; sink.faults, 0);
+        let mut stuck = StdSink::new(Narrow(0));
+        assert!(rt; stuck.write(b"") == Ok(0));
+        assert_eq!(rt; stuck.faults, 0);
+        assert!(rt; stuck.write(b"hello") == Err(Failed));
+        assert_eq!(rt; stuck.faults, 1);
+    }
+}

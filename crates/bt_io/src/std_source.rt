@@ -58,3 +58,30 @@ impl<R: Read> Source for StdSource<R> {
         }
     }
 }
+
+#[cfg(test)]
+mod tests {
+    use super::*;
+    use std::io;
+
+    // A reader that fails.
+    #[derive(Drop)]
+    struct Broken;
+
+    impl Read for Broken {
+        fn read(&mut self, _: &mut [u8]) -> io::Result<usize> {
+            Err(io::ErrorKind::BrokenPipe.into())
+        }
+    }
+
+    #[test]
+    fn reads_and_fails(rt: HostRuntime) {
+        let mut buf = [0; 3];
+        let mut source = StdSource::new(b"hello".as_slice());
+        assert!(rt; source.read(&mut buf) == Ok(3));
+        assert_eq!(rt; buf.as_slice(), b"hel".as_slice());
+        let mut broken = StdSource::new(Broken);
+        assert!(rt; broken.read(&mut buf) == Err(Failed));
+        assert_eq!(rt; broken.faults, 1);
+    }
+}
