@@ -1,0 +1,10 @@
+-- Whole numbers as texts spell them.
+use Rattle.std.specs.Prelude.{◌≡◌, ℕ, ◌<◌, List, length, slice_index}
+use Rattle.std.specs.Str.Parse.{AllDigits, digits_value}
+
+-- the word is decimal digits without a leading zero, but for `0` itself, and this is its value
+pub record Spells (word : List ℕ) (n : ℕ) : Type 0 where
+  pub some_digit : 0 < length word
+  pub digits : AllDigits 10 word
+  pub no_zero : slice_index word 0 ≡ 48 → length word ≡ 1
+  pub value : digits_value 10 word ≡ n

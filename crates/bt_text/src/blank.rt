@@ -1,0 +1,32 @@
+ghost use Rattle.std.specs.Prelude.{◌↔◌, IsTrue};
+ghost use Rattle.bt_text.specs.Blanks.{IsBlank, SkipsBlanks};
+
+/// What follows the blanks at the front of a text: spaces, tabs, line feeds and carriage returns.
+pub fn skip_blanks(text: &[u8]) -> &[u8]
+    ensures { SkipsBlanks text.now result.now }
+{
+    for (i, byte) in text.iter().enumerate() {
+        if !is_blank(*byte) {
+            return &text[i..];
+        }
+    }
+    &text[text.len()..]
+}
+
+fn is_blank(byte: u8) -> bool
+    ensures { IsTrue result ↔ IsBlank byte }
+{
+    byte == b' ' || byte == b'\t' || byte == b'\n' || byte == b'\r'
+}
+
+#[cfg(test)]
+mod tests {
+    use super::*;
+
+    #[test]
+    fn blanks(rt: HostRuntime) {
+        assert_eq!(rt; skip_blanks(b" \t\r\n yes P\n"), b"yes P\n".as_slice());
+        assert_eq!(rt; skip_blanks(b"\x0b"), b"\x0b".as_slice());
+        assert_eq!(rt; skip_blanks(b" \n\n").len(), 0);
+    }
+}

@@ -1,0 +1,41 @@
+ghost use Rattle.std.specs.Prelude.{IfSome, IfNone};
+ghost use Rattle.bt_text.specs.Lines.{Lacks, SplitsAt, IsFirstLine};
+
+use memchr::memchr;
+
+/// What stands before the first such byte of a text, and what stands after it.
+pub fn split_once(text: &[u8], byte: u8) -> Option<(&[u8], &[u8])>
+    ensures some { IfSome result (λ parts. SplitsAt byte text.now parts.0.now parts.1.now) }
+    ensures none { IfNone result (Lacks byte text.now) }
+{
+    let at = memchr(byte, text)?;
+    Some((&text[..at], &text[at + 1..]))
+}
+
+/// The bytes of a text's first line, without the line feed, and what follows the line. The last line
+/// may lack its line feed.
+pub fn first_line(text: &[u8]) -> (&[u8], &[u8])
+    ensures { IsFirstLine text.now result.0.now result.1.now }
+{
+    match split_once(text, b'\n') {
+        Some(parts) => parts,
+        None => (text, &text[text.len()..]),
+    }
+}
+
+#[cfg(test)]
+mod tests {
+    use super::*;
+
+    #[test]
+    fn lines(rt: HostRuntime) {
+        let (line, rest) = first_line(b"net 1 1 0\nend");
+        assert_eq!(rt; line, b"net 1 1 0".as_slice());
+        assert_eq!(rt; rest, b"end".as_slice());
+        let (line, rest) = first_line(rest);
+        assert_eq!(rt; line, b"end".as_slice());
+        assert_eq!(rt; rest.len(), 0);
+        let (line, rest) = first_line(rest);
+        assert_eq!(rt; line.len() + rest.len(), 0);
+    }
+}
