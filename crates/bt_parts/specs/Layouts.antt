@@ -16,15 +16,15 @@ HasPart parts i part = slice_get parts i ≡ Some part
 abbrev pub AreInRange : List Part → Type 0
 AreInRange parts = All (λ part. IsInRange part.cell) parts
 
+-- the part with this index covers the cell
+pub record IsAt (parts : List Part) (i : ℕ) (cell : Cell) : Type 0 where
+  pub part : Part
+  pub is_i : HasPart parts i part
+  pub covers : Covers part cell
+
 -- some cell is covered by both parts
-pub record ShareCell (parts : List Part) (i j : ℕ) : Type 0 where
-  pub one : Part
-  pub is_i : HasPart parts i one
-  pub other : Part
-  pub is_j : HasPart parts j other
-  pub cell : Cell
-  pub in_one : Covers one cell
-  pub in_other : Covers other cell
+abbrev pub ShareCell : List Part → ℕ → ℕ → Type 0
+ShareCell parts i j = (cell : Cell) × IsAt parts i cell × IsAt parts j cell
 
 -- no cell is covered by two parts
 abbrev pub IsWellPlaced : List Part → Type 0

@@ -1,5 +1,5 @@
 ghost use Rattle.std.specs.Prelude.{◌≡◌, ◌↔◌, ◌≤◌, ◌+◌, ◌^◌, unsigned_abs, IsTrue};
-ghost use Rattle.bt_parts.specs.Cells.{step, opposite, Covers, IsGreaterHalf, IsInRange, IsInside};
+ghost use Rattle.bt_parts.specs.Cells.{step, steps, opposite, Covers, IsGreaterHalf, IsInRange, IsInside};
 ghost use Rattle.bt_parts.specs.Tiers.{reach_of, speed_of};
 
 /// A unit square of the plane, whose centre is at (x + 1/2, y + 1/2).
@@ -9,6 +9,25 @@ ghost use Rattle.bt_parts.specs.Tiers.{reach_of, speed_of};
 pub struct Cell {
     pub x: i32,
     pub y: i32,
+}
+
+impl Cell {
+    /// The cell so many steps on in a direction.
+    pub fn ahead(self, dir: Dir, distance: u32) -> Cell
+        requires x_small { unsigned_abs self.x ≤ 2 ^ 20 + 1 }
+        requires y_small { unsigned_abs self.y ≤ 2 ^ 20 + 1 }
+        requires near { distance ≤ 2 ^ 20 }
+        ensures { result ≡ steps distance dir self }
+    {
+        let Cell { x, y } = self;
+        let distance = distance as i32;
+        match dir {
+            Dir::North => Cell { x, y: y - distance },
+            Dir::East => Cell { x: x + distance, y },
+            Dir::South => Cell { x, y: y + distance },
+            Dir::West => Cell { x: x - distance, y },
+        }
+    }
 }
 
 /// The direction in which a part moves its items.
@@ -104,21 +123,6 @@ pub struct Rect {
     pub height: u32,
 }
 
-/// The next cell in a direction.
-fn next(dir: Dir, cell: Cell) -> Cell
-    requires x_small { unsigned_abs cell.x ≤ 2 ^ 20 + 1 }
-    requires y_small { unsigned_abs cell.y ≤ 2 ^ 20 + 1 }
-    ensures { result ≡ step dir cell }
-{
-    let Cell { x, y } = cell;
-    match dir {
-        Dir::North => Cell { x, y: y - 1 },
-        Dir::East => Cell { x: x + 1, y },
-        Dir::South => Cell { x, y: y + 1 },
-        Dir::West => Cell { x: x - 1, y },
-    }
-}
-
 /// The part's cells: its own one, which is a splitter's lesser half, and a splitter's greater half.
 pub fn cells_of(part: &Part) -> (Cell, Option<Cell>)
     requires { IsInRange part.now.cell }
@@ -127,8 +131,8 @@ pub fn cells_of(part: &Part) -> (Cell, Option<Cell>)
 {
     let greater = match part.kind {
         Kind::Splitter => Some(match part.dir {
-            Dir::North | Dir::South => next(Dir::East, part.cell),
-            Dir::East | Dir::West => next(Dir::South, part.cell),
+            Dir::North | Dir::South => part.cell.ahead(Dir::East, 1),
+            Dir::East | Dir::West => part.cell.ahead(Dir::South, 1),
         }),
         Kind::Belt | Kind::Entrance | Kind::Exit => None,
     };
@@ -141,7 +145,7 @@ pub fn front(part: &Part, half: Cell) -> Cell
     requires half { Covers part.now half }
     ensures { result ≡ step part.now.dir half }
 {
-    next(part.dir, half)
+    half.ahead(part.dir, 1)
 }
 
 /// The cell behind this half of the part.
@@ -150,7 +154,7 @@ pub fn back(part: &Part, half: Cell) -> Cell
     requires half { Covers part.now half }
     ensures { result ≡ step (opposite part.now.dir) half }
 {
-    next(part.dir.opposite(), half)
+    half.ahead(part.dir.opposite(), 1)
 }
 
 /// Whether the cell lies in the rectangle.
