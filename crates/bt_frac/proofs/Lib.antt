@@ -1,0 +1,9 @@
+pub mod Euclid
+pub mod Gcds
+pub mod Order
+pub mod Ordered
+pub mod Over
+pub mod Quotients
+pub mod Ring
+pub mod Sums
+pub mod Words

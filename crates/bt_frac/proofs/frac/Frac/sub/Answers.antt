@@ -1,0 +1,10 @@
+use Rattle.std.proofs.Common.{rules, ◌≡◌, subst, sym, IfSome, IfNone, Option}
+use Rattle.bt_frac.specs.declared.frac.Frac.{Frac}
+use Rattle.bt_frac.specs.Ratio.{Ratio, AddNumbers, AddFits, negated}
+use Rattle.bt_frac.proofs.frac.Frac.sub.Goals as goal
+
+pub returns-clause-fits : goal.returns-clause-fits
+returns-clause-fits c = rw c.negate.ensures at c.add.ensures.fits
+
+pub returns-clause-none : goal.returns-clause-none
+returns-clause-none c = rw c.negate.ensures at c.add.ensures.none

@@ -1,0 +1,58 @@
+// Fractions as texts spell them.
+ghost use Rattle.std.specs.Prelude.{◌≡◌, ◌≢◌, ℕ, ◌+◌, ◌-◌, ◌∷◌, ◌^◌, List, min, IfSome, IfNone, IsTrue, ◌⊎◌};
+ghost use Rattle.bt_frac.specs.Ratio.{Ratio, IsLowest};
+ghost use Rattle.bt_frac.specs.Texts.{frac_text, WordOf, IsSigned};
+
+use crate::frac::Frac;
+use bt_text::{read_whole, split_once};
+
+impl Frac {
+    /// The fraction that the text spells: the numerator, with a minus where it is negative, and
+    /// where the denominator isn't 1, a slash and the denominator, in lowest terms. None exactly
+    /// where the text is the one spelling of no fraction.
+    pub fn read(text: &[u8]) -> Option<Frac>
+        ensures some { IfSome result (λ f. text.now ≡ frac_text f) }
+        ensures lowest { IfSome result IsLowest }
+        ensures none { IfNone result ((f : Ratio) → IsLowest f → text.now ≢ frac_text f) }
+    {
+        let (negative, word) = split_sign(text);
+        let Some((size, under)) = read_parts(word) else {
+            return None;
+        };
+        Frac::from_parts(negative, size, under)
+    }
+}
+
+/// Whether a minus stands in front of the text, and what follows it.
+fn split_sign(text: &[u8]) -> (bool, &[u8])
+    ensures signed { IsSigned text.now result.0 result.1.now }
+    ensures minus { IsTrue result.0 ⊎ ((rest : List ℕ) → text.now ≢ 45 ∷ rest) }
+{
+    match text {
+        [b'-', word @ ..] => (true, word),
+        _ => (false, text),
+    }
+}
+
+/// The numbers of a word without sign, each at most `u128::MAX`.
+fn read_parts(word: &[u8]) -> Option<(u128, u128)>
+    ensures some { IfSome result (λ parts. (m : ℕ) × ((n : ℕ) × WordOf word.now m n × (parts.0 ≡ min m (2 ^ 128 - 1)) × (parts.1 ≡ min n (2 ^ 128 - 1)))) }
+    ensures none { IfNone result ((m n : ℕ) → WordOf word.now m n → ⊥) }
+{
+    let Some((front, back)) = split_once(word, b'/') else {
+        let Some(size) = read_whole(word) else {
+            return None;
+        };
+        return Some((size, 1));
+    };
+    let Some(size) = read_whole(front) else {
+        return None;
+    };
+    let Some(under) = read_whole(back) else {
+        return None;
+    };
+    if under == 1 {
+        return None;
+    }
+    Some((size, under))
+}
