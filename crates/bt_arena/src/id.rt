@@ -1,0 +1,39 @@
+ghost use Rattle.std.specs.Prelude.{◌≡◌};
+
+use std::marker::{Model, PhantomData};
+
+/// The place of an item among those of the kind K. Only an arena or a pool issues one.
+#[derive_where(Clone, Copy, Debug, PartialEq, Eq)]
+pub struct Id<K> {
+    place: usize,
+    kind: PhantomData<K>,
+}
+
+impl<K> Model for Id<K> {
+    ghost use Rattle.std.specs.Prelude.{ℕ};
+
+    ghost Value = { ℕ };
+
+    ghost view = { λ i. i.place };
+
+    ghost inverse = { λ place. record { place = place; kind = record {} } };
+}
+
+impl<K> Id<K> {
+    // The id of the item at a place.
+    pub(crate) fn new(place: usize) -> Id<K>
+        ensures { result ≡ place }
+    {
+        Id {
+            place,
+            kind: PhantomData,
+        }
+    }
+
+    /// Its number: so many items came before it.
+    pub fn place(self) -> usize
+        ensures { result ≡ self }
+    {
+        self.place
+    }
+}

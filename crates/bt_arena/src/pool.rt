@@ -1,0 +1,129 @@
+ghost use Rattle.std.specs.Prelude.{◌≡◌, ◌<◌, ◌≤◌, [], ◌∷◌, ◌++◌, length, slice_get, slice_range, Some, OnErr, OnOk, IfOk, IsOkAnd, IfSome, IsNone, ◌↔◌};
+ghost use Rattle.bt_arena.specs.Items.{KeepsItems};
+ghost use Rattle.bt_arena.specs.Pieces.{pieces, AreEnds, start_of};
+
+use crate::id::Id;
+use std::alloc::{AllocError, Global};
+use std::marker::{Model, PhantomData};
+
+/// Lists of items in one vector, named by the ids of one kind.
+///
+/// Lists are added and never removed, so an id that was issued names the same list for ever.
+#[derive(Drop)]
+pub struct Pool<T, K> {
+    items: Vec<T>,
+    ends: Vec<usize>,
+    kind: PhantomData<K>,
+}
+
+impl<T, K> Model for Pool<T, K> {
+    ghost use Rattle.std.specs.Prelude.{List};
+    ghost use Rattle.bt_arena.specs.Pieces.{pieces, AreEnds};
+
+    ghost Value = { List (List T) };
+
+    ghost view = { λ p. pieces 0 p.ends.items p.items.items };
+
+    ghost invariant = { λ p. AreEnds 0 p.ends.items p.items.items };
+}
+
+// Where the list at a place begins.
+fn start(ends: &[usize], place: usize) -> usize
+    requires { place < length ends.now }
+    ensures { result ≡ start_of 0 ends.now place }
+{
+    if place == 0 {
+        return 0;
+    }
+    ends[place - 1]
+}
+
+// Where the list at a place begins and ends.
+fn span<T>(items: &[T], ends: &[usize], place: usize) -> (usize, usize)
+    requires place { place < length ends.now }
+    requires ends { AreEnds 0 ends.now items.now }
+    ensures order { result.0 ≤ result.1 }
+    ensures within { result.1 ≤ length items.now }
+    ensures piece { slice_get (pieces 0 ends.now items.now) place ≡ Some (slice_range items.now result.0 result.1) }
+{
+    (start(ends, place), ends[place])
+}
+
+impl<T: Copy, K> Pool<T, K> {
+    /// A pool without lists.
+    pub fn new(alloc: Global) -> Result<Pool<T, K>, AllocError>
+        ensures { IsOkAnd result (λ p. p ≡ []) }
+    {
+        Ok(Pool {
+            items: Vec::new(alloc),
+            ends: Vec::new(alloc),
+            kind: PhantomData,
+        })
+    }
+
+    /// The number of lists.
+    pub fn len(&self) -> usize
+        ensures { result ≡ length self.now }
+    {
+        self.ends.len()
+    }
+
+    /// The list that an id names.
+    pub fn slice(&self, id: Id<K>) -> &[T]
+        requires { id < length self.now }
+        ensures { slice_get self.now id ≡ Some result.now }
+    {
+        let (from, end) = span(&self.items, &self.ends, id.place());
+        &self.items[from..end]
+    }
+
+    /// The id of the list at a place, where there is one.
+    pub fn id_at(&self, place: usize) -> Option<Id<K>>
+        ensures none { IsNone result ↔ (length self.now ≤ place) }
+        ensures some { IfSome result (λ id. id ≡ place) }
+    {
+        if place < self.len() {
+            Some(Id::new(place))
+        } else {
+            None
+        }
+    }
+
+    /// Appends a list, and gives its id.
+    pub fn add_slice(&mut self, items: &[T]) -> Result<Id<K>, AllocError>
+        ensures added { OnOk result (self.new ≡ self.old ++ items.now ∷ []) }
+        ensures place { IfOk result (λ id. id ≡ length self.old) }
+        ensures same { OnErr result (self.new ≡ self.old) }
+        ensures kept { KeepsItems self.old self.new }
+    {
+        // The room for the end is made first, so that a refusal leaves the pool as it was.
+        self.ends.reserve(1)?;
+        self.items.extend_from_slice(items)?;
+        let place = self.ends.len();
+        self.ends.push(self.items.len()).unwrap();
+        Ok(Id::new(place))
+    }
+}
+
+#[cfg(test)]
+mod tests {
+    use super::*;
+    use std::test::Fail;
+
+    struct Row;
+
+    #[test]
+    fn names_lists(rt: HostRuntime) -> Result<(), Fail> {
+        let mut pool: Pool<u32, Row> = Pool::new(rt.alloc())?;
+        let first = pool.add_slice(&[1, 2])?;
+        let second = pool.add_slice(&[3])?;
+        let empty = pool.add_slice(&[])?;
+        assert_eq!(rt; pool.slice(first), [1, 2].as_slice());
+        assert_eq!(rt; pool.slice(second), [3].as_slice());
+        assert_eq!(rt; pool.slice(empty), [].as_slice());
+        assert!(rt; pool.id_at(1) == Some(second));
+        assert!(rt; pool.id_at(3) == None);
+        assert_eq!(rt; pool.len(), 3);
+        Ok(())
+    }
+}

@@ -1,0 +1,19 @@
+-- What a source and a sink in memory show.
+use Rattle.std.specs.Prelude.{ℕ, List}
+
+-- the bytes that are left, the calls that fail, the most that a call gives, and how many calls and faults there were
+pub record SourceState : Type 0 where
+  pub left : List ℕ
+  pub fails : List ℕ
+  pub most : ℕ
+  pub calls : ℕ
+  pub faults : ℕ
+
+-- the bytes that are held and how many may be, the calls that fail, the most that a call takes, and how many calls and faults there were
+pub record SinkState : Type 0 where
+  pub held : List ℕ
+  pub room : ℕ
+  pub fails : List ℕ
+  pub most : ℕ
+  pub calls : ℕ
+  pub faults : ℕ

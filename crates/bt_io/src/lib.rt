@@ -1,0 +1,23 @@
+// Sources and sinks of bytes, which count their faults.
+#![tactic(auto)]
+
+mod fault;
+mod memory_sink;
+mod memory_source;
+mod read;
+mod sink;
+mod source;
+mod std_sink;
+mod std_source;
+mod write;
+
+pub use fault::{Failed, ReadAll, WriteFault};
+pub use memory_sink::MemSink;
+pub use memory_source::MemSource;
+pub use read::read_all;
+pub use sink::Sink;
+pub use source::Source;
+pub use std::alloc::AllocError as Memory;
+pub use std_sink::StdSink;
+pub use std_source::StdSource;
+pub use write::write_all_of;

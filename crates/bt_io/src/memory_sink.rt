@@ -1,0 +1,132 @@
+ghost use Rattle.std.specs.Prelude.{◌≡◌, ◌+◌, ◌-◌, ◌^◌, ◌<◌, ◌≤◌, ◌↔◌, ◌⊎◌, ◌++◌, [], min, take, length, IfOk, IsErr, OnErr, Contains, Some};
+ghost use Rattle.std.specs.Io.{WritesAtMost};
+ghost use Rattle.std.specs.Io.KnownBytes.{WriteAppends};
+ghost use Rattle.bt_io.specs.Bytes.{TakesSome};
+ghost use Rattle.bt_io.specs.Causes.{HasCause, next_count};
+
+use crate::fault::Failed;
+use crate::sink::Sink;
+use std::alloc::{AllocError, Global};
+use std::marker::Model;
+
+/// A sink in memory that fails at the listed calls, and where its room is used up.
+#[derive(Drop)]
+pub struct MemSink {
+    held: Vec<u8>,
+    room: usize,
+    fails: Vec<u64>,
+    most: usize,
+    calls: u64,
+    faults: u64,
+}
+
+impl Model for MemSink {
+    ghost use Rattle.std.specs.Prelude.{◌≤◌, length, vec_capacity};
+    ghost use Rattle.bt_io.specs.InMemory.{SinkState};
+
+    ghost Value = { SinkState };
+
+    ghost view = { λ s. record { held = s.held.items; room = s.room; fails = s.fails.items; most = s.most; calls = s.calls; faults = s.faults } };
+
+    ghost invariant = { λ s. (length s.held.items ≤ s.room) × (s.room ≤ vec_capacity s.held) × (1 ≤ s.most) };
+}
+
+impl MemSink {
+    /// An empty sink that takes its memory here, for `room` bytes.
+    ///
+    /// Calls are numbered from 1. Those in `fails` fail, and so does each call with a nonempty
+    /// piece where the sink holds `room` bytes. Each other call takes the least of `most`, the
+    /// length of its piece and the room that is left. The numbers of calls and of faults stay at
+    /// 2^64 - 1 once they are there.
+    pub fn new(
+        alloc: Global,
+        room: usize,
+        fails: Vec<u64>,
+        most: usize,
+    ) -> Result<MemSink, AllocError>
+        requires { 1 ≤ most }
+        ensures { IfOk result (λ s. s ≡ record { held = []; room = room; fails = fails.items; most = most; calls = 0; faults = 0 }) }
+    {
+        let held = Vec::with_capacity(alloc, room)?;
+        Ok(MemSink {
+            held,
+            room,
+            fails,
+            most,
+            calls: 0,
+            faults: 0,
+        })
+    }
+
+    /// The bytes that were written.
+    pub fn held(&self) -> &[u8]
+        ensures { result.now ≡ self.now.held }
+    {
+        &self.held
+    }
+}
+
+impl Sink for MemSink {
+    ghost held = { λ s. Some s.held };
+
+    ghost faults = { λ s. s.faults };
+
+    fn write(&mut self, piece: &[u8]) -> Result<usize, Failed>
+        ensures bound { WritesAtMost result piece.now }
+        ensures some { TakesSome result piece.now }
+        ensures bytes { WriteAppends (Some self.old.held) (Some self.new.held) result piece.now }
+        ensures cause { HasCause self.old.faults self.new.faults result }
+
+        // It fails at the listed calls, where a piece finds no room, and at no other call.
+        ensures fails { IsErr result ↔ (Contains self.old.fails (next_count self.old.calls) ⊎ ((0 < length piece.now) × (length self.old.held ≡ self.old.room))) }
+        ensures count { IfOk result (λ n. n ≡ min (min self.old.most (length piece.now)) (self.old.room - length self.old.held)) }
+        ensures taken { IfOk result (λ n. self.new ≡ record self.old { held = self.old.held ++ take n piece.now; calls = next_count self.old.calls }) }
+        ensures failed { OnErr result (self.new ≡ record self.old { calls = next_count self.old.calls; faults = next_count self.old.faults }) }
+    {
+        self.calls = self.calls.saturating_add(1);
+        let left = self.room - self.held.len();
+        if self.fails.contains(&self.calls) || (left == 0 && !piece.is_empty()) {
+            self.faults = self.faults.saturating_add(1);
+            return Err(Failed);
+        }
+        let count = self.most.min(piece.len()).min(left);
+        self.held.extend_from_slice(&piece[..count]).unwrap();
+        Ok(count)
+    }
+}
+
+#[cfg(test)]
+mod tests {
+    use super::*;
+    use crate::write::write_all_of;
+    use std::test::Fail;
+
+    #[test]
+    fn takes_what_it_may(rt: HostRuntime) -> Result<(), Fail> {
+        let rows = [
+            // room, most, the call that fails, what is held of "hello", whether that is all
+            (5, 2, 9, "hello", true),
+            (6, 9, 2, "hello", true),
+            (3, 2, 9, "hel", false),
+            (0, 1, 9, "", false),
+            (5, 4, 2, "hell", false),
+            (5, 4, 1, "", false),
+        ];
+        for (room, most, fails_at, held, whole) in rows {
+            let fails = vec![in rt.alloc(); fails_at]?;
+            let mut sink = MemSink::new(rt.alloc(), room, fails, most)?;
+            let answer = write_all_of(&mut sink, b"hello");
+            assert_eq!(rt; answer.is_ok(), whole);
+            assert_eq!(rt; sink.held(), held.as_bytes());
+        }
+        Ok(())
+    }
+
+    #[test]
+    fn takes_no_byte_where_it_is_full(rt: HostRuntime) -> Result<(), Fail> {
+        let mut sink = MemSink::new(rt.alloc(), 0, Vec::new(rt.alloc()), 1)?;
+        assert!(rt; sink.write(b"") == Ok(0));
+        assert!(rt; sink.write(b"x") == Err(Failed));
+        Ok(())
+    }
+}

@@ -1,0 +1,100 @@
+ghost use Rattle.std.specs.Prelude.{◌≡◌, ◌+◌, ◌-◌, ◌^◌, ◌≤◌, ◌↔◌, min, drop, length, IfOk, IsErr, OnErr, Contains, Some};
+ghost use Rattle.std.specs.Io.{ReadsAtMost};
+ghost use Rattle.std.specs.Io.KnownBytes.{ReadConsumes};
+ghost use Rattle.bt_io.specs.Causes.{HasCause, next_count};
+
+use crate::fault::Failed;
+use crate::source::Source;
+use std::marker::Model;
+
+/// A source over bytes in memory that fails at the listed calls.
+#[derive(Drop)]
+pub struct MemSource {
+    bytes: Vec<u8>,
+    fails: Vec<u64>,
+    most: usize,
+    at: usize,
+    calls: u64,
+    faults: u64,
+}
+
+impl Model for MemSource {
+    ghost use Rattle.std.specs.Prelude.{◌≤◌, drop, length};
+    ghost use Rattle.bt_io.specs.InMemory.{SourceState};
+
+    ghost Value = { SourceState };
+
+    ghost view = { λ s. record { left = drop s.at s.bytes.items; fails = s.fails.items; most = s.most; calls = s.calls; faults = s.faults } };
+
+    ghost invariant = { λ s. (s.at ≤ length s.bytes.items) × (1 ≤ s.most) };
+}
+
+impl MemSource {
+    /// A source of these bytes.
+    ///
+    /// Calls are numbered from 1, and those in `fails` fail. Each other call gives the least of
+    /// `most`, the length of its buffer and the number of bytes that are left. The numbers of
+    /// calls and of faults stay at 2^64 - 1 once they are there.
+    pub fn new(bytes: Vec<u8>, fails: Vec<u64>, most: usize) -> MemSource
+        requires { 1 ≤ most }
+        ensures { result ≡ record { left = bytes.items; fails = fails.items; most = most; calls = 0; faults = 0 } }
+    {
+        MemSource {
+            bytes,
+            fails,
+            most,
+            at: 0,
+            calls: 0,
+            faults: 0,
+        }
+    }
+}
+
+impl Source for MemSource {
+    ghost left = { λ s. Some s.left };
+
+    ghost faults = { λ s. s.faults };
+
+    fn read(&mut self, buf: &mut [u8]) -> Result<usize, Failed>
+        ensures bound { ReadsAtMost result buf.new }
+        ensures bytes { ReadConsumes (Some self.old.left) (Some self.new.left) result buf.new }
+        ensures cause { HasCause self.old.faults self.new.faults result }
+
+        // It fails at the listed calls and at no other, and each other call gives all that it may.
+        ensures fails { IsErr result ↔ Contains self.old.fails (next_count self.old.calls) }
+        ensures count { IfOk result (λ n. n ≡ min (min self.old.most (length buf.old)) (length self.old.left)) }
+        ensures given { IfOk result (λ n. self.new ≡ record self.old { left = drop n self.old.left; calls = next_count self.old.calls }) }
+        ensures failed { OnErr result (self.new ≡ record self.old { calls = next_count self.old.calls; faults = next_count self.old.faults }) }
+    {
+        self.calls = self.calls.saturating_add(1);
+        if self.fails.contains(&self.calls) {
+            self.faults = self.faults.saturating_add(1);
+            return Err(Failed);
+        }
+        let left = self.bytes.len() - self.at;
+        let count = self.most.min(buf.len()).min(left);
+        buf[..count].copy_from_slice(&self.bytes[self.at..self.at + count]);
+        self.at += count;
+        Ok(count)
+    }
+}
+
+#[cfg(test)]
+mod tests {
+    use super::*;
+    use std::test::Fail;
+
+    #[test]
+    fn gives_what_it_may(rt: HostRuntime) -> Result<(), Fail> {
+        let bytes = Vec::from_slice(rt.alloc(), b"hello")?;
+        let fails = vec![in rt.alloc(); 2u64]?;
+        let mut source = MemSource::new(bytes, fails, 2);
+        let mut buf = [0; 9];
+        let answers = [Ok(2), Err(Failed), Ok(2), Ok(1), Ok(0)];
+        for answer in answers {
+            assert!(rt; source.read(&mut buf) == answer);
+        }
+        assert_eq!(rt; buf[0], b'o');
+        Ok(())
+    }
+}

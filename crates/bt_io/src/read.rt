@@ -1,0 +1,81 @@
+ghost use Rattle.std.specs.Prelude.{◌≡◌, ◌+◌, ◌^◌, ◌<◌, ◌≤◌, length, IfOk, IsErrOf};
+ghost use Rattle.bt_io.specs.Causes.{Rose};
+ghost use Rattle.bt_io.specs.Bytes.{IsAllOf, TakesWithin};
+
+use crate::fault::ReadAll;
+use crate::source::Source;
+use std::alloc::Global;
+
+// The most bytes that one call asks of its source.
+const CHUNK: usize = 65536;
+
+/// Reads a source to its end, of at most `limit` bytes.
+///
+/// `ReadFault` comes only where the source's count of faults rose, and `TooLong` exactly where one
+/// byte past the limit was taken. After every other answer at most `limit` bytes were taken.
+pub fn read_all<S: Source>(alloc: Global, source: &mut S, limit: usize) -> Result<Vec<u8>, ReadAll>
+    requires { limit < 2 ^ 62 }
+    ensures all { IfOk result (λ bytes. IsAllOf (S.left source.old) (S.left source.new) bytes.items) }
+    ensures within { IfOk result (λ bytes. length bytes.items ≤ limit) }
+    ensures read_fault { IsErrOf result ReadAll.ReadFault → Rose (S.faults source.old) (S.faults source.new) }
+    ensures too_long { TakesWithin result (S.left source.old) (S.left source.new) limit }
+    ensures count { S.faults source.old ≤ S.faults source.new }
+{
+    let mut bytes = Vec::new(alloc);
+    let mut chunk = [0u8; CHUNK];
+    while bytes.len() <= limit {
+        let room = (limit + 1 - bytes.len()).min(CHUNK);
+        let piece = &mut chunk[..room];
+
+        // The memory is taken first, so that want of memory loses no byte of the source.
+        bytes.reserve(room)?;
+        let Ok(count) = source.read(piece) else {
+            return Err(ReadAll::ReadFault);
+        };
+        if count == 0 {
+            return Ok(bytes);
+        }
+        bytes.extend_from_slice(&piece[..count]).unwrap();
+    }
+    Err(ReadAll::TooLong)
+}
+
+#[cfg(test)]
+mod tests {
+    use super::*;
+    use crate::memory_source::MemSource;
+    use std::test::Fail;
+
+    // What reading "hello" answers, with a source that gives at most two bytes a call and fails at one.
+    fn answer(alloc: Global, limit: usize, fails_at: u64) -> Result<Result<Vec<u8>, ReadAll>, Fail>
+        requires { limit < 2 ^ 62 }
+    {
+        let bytes = Vec::from_slice(alloc, b"hello")?;
+        let fails = vec![in alloc; fails_at]?;
+        let mut source = MemSource::new(bytes, fails, 2);
+        Ok(read_all(alloc, &mut source, limit))
+    }
+
+    #[test]
+    fn reads_to_the_end(rt: HostRuntime) -> Result<(), Fail> {
+        let all = answer(rt.alloc(), 5, 9)??;
+        assert_eq!(rt; all.as_slice(), b"hello".as_slice());
+        Ok(())
+    }
+
+    #[test]
+    fn refuses(rt: HostRuntime) -> Result<(), Fail> {
+        let rows = [
+            // limit, the call that fails, the answer
+            (4, 9, ReadAll::TooLong),
+            (0, 9, ReadAll::TooLong),
+            (5, 1, ReadAll::ReadFault),
+            (5, 4, ReadAll::ReadFault),
+            (4, 3, ReadAll::ReadFault),
+        ];
+        for (limit, fails_at, fault) in rows {
+            assert!(rt; answer(rt.alloc(), limit, fails_at)? == Err(fault));
+        }
+        Ok(())
+    }
+}

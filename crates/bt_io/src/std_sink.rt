@@ -1,0 +1,94 @@
+ghost use Rattle.std.specs.Prelude.{◌≡◌, OnOk, OnErr};
+ghost use Rattle.std.specs.Io.{WritesAtMost};
+ghost use Rattle.std.specs.Io.KnownBytes.{WriteAppends};
+ghost use Rattle.bt_io.specs.Bytes.{TakesSome};
+ghost use Rattle.bt_io.specs.Causes.{HasCause, next_count};
+
+use crate::fault::Failed;
+use crate::sink::Sink;
+use std::io::Write;
+use std::marker::Model;
+
+/// A sink over a writer of std.
+///
+/// It tells the bytes that it holds only where its writer does, which no stream of the system
+/// does. A write of no byte of a nonempty piece counts as a fault.
+#[derive(Drop)]
+pub struct StdSink<W> {
+    output: W,
+    faults: u64,
+}
+
+impl<W> Model for StdSink<W> {
+    ghost use Rattle.bt_io.specs.Streams.{Counted};
+
+    ghost Value = { Counted W };
+
+    ghost view = { λ s. record { stream = s.output; faults = s.faults } };
+}
+
+impl<W: Write> StdSink<W> {
+    /// A sink over `output`, with no fault so far.
+    pub fn new(output: W) -> StdSink<W>
+        ensures { result ≡ record { stream = output; faults = 0 } }
+    {
+        StdSink { output, faults: 0 }
+    }
+}
+
+impl<W: Write> Sink for StdSink<W> {
+    ghost held = { λ s. W.contents s.stream };
+
+    ghost faults = { λ s. s.faults };
+
+    fn write(&mut self, piece: &[u8]) -> Result<usize, Failed>
+        ensures bound { WritesAtMost result piece.now }
+        ensures some { TakesSome result piece.now }
+        ensures bytes { WriteAppends (W.contents self.old.stream) (W.contents self.new.stream) result piece.now }
+        ensures cause { HasCause self.old.faults self.new.faults result }
+
+        // The count rises at each fault and at no other call.
+        ensures counted { OnErr result (self.new.faults ≡ next_count self.old.faults) }
+        ensures uncounted { OnOk result (self.new.faults ≡ self.old.faults) }
+    {
+        match self.output.write(piece) {
+            Ok(count) if count > 0 || piece.is_empty() => Ok(count),
+            _ => {
+                self.faults = self.faults.saturating_add(1);
+                Err(Failed)
+            }
+        }
+    }
+}
+
+#[cfg(test)]
+mod tests {
+    use super::*;
+    use std::io;
+
+    // A writer that takes at most so many bytes at a call.
+    #[derive(Drop)]
+    struct Narrow(usize);
+
+    impl Write for Narrow {
+        fn write(&mut self, piece: &[u8]) -> io::Result<usize> {
+            Ok(piece.len().min(self.0))
+        }
+
+        fn flush(&mut self) -> io::Result<()> {
+            Ok(())
+        }
+    }
+
+    #[test]
+    fn counts_a_write_of_no_byte(rt: HostRuntime) {
+        let mut sink = StdSink::new(Narrow(2));
+        assert!(rt; sink.write(b"hello") == Ok(2));
+        assert_eq!(rt; sink.faults, 0);
+        let mut stuck = StdSink::new(Narrow(0));
+        assert!(rt; stuck.write(b"") == Ok(0));
+        assert_eq!(rt; stuck.faults, 0);
+        assert!(rt; stuck.write(b"hello") == Err(Failed));
+        assert_eq!(rt; stuck.faults, 1);
+    }
+}

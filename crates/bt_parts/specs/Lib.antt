@@ -1,0 +1,4 @@
+pub mod Cells
+pub mod Handing
+pub mod Layouts
+pub mod Tiers

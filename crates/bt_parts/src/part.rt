@@ -1,0 +1,168 @@
+ghost use Rattle.std.specs.Prelude.{◌≡◌, ◌↔◌, ◌≤◌, ◌+◌, ◌^◌, unsigned_abs, IsTrue};
+ghost use Rattle.bt_parts.specs.Cells.{step, steps, opposite, Covers, IsGreaterHalf, IsInRange, IsInside};
+ghost use Rattle.bt_parts.specs.Tiers.{reach_of, speed_of};
+
+/// A unit square of the plane, whose centre is at (x + 1/2, y + 1/2).
+///
+/// x grows to the east and y to the south. Cells are ordered by x and then by y.
+#[derive(Clone, Copy, Debug, PartialEq, Eq, PartialOrd, Ord)]
+pub struct Cell {
+    pub x: i32,
+    pub y: i32,
+}
+
+impl Cell {
+    /// The cell so many steps on in a direction.
+    pub fn ahead(self, dir: Dir, distance: u32) -> Cell
+        requires x_small { unsigned_abs self.x ≤ 2 ^ 20 + 1 }
+        requires y_small { unsigned_abs self.y ≤ 2 ^ 20 + 1 }
+        requires near { distance ≤ 2 ^ 20 }
+        ensures { result ≡ steps distance dir self }
+    {
+        let Cell { x, y } = self;
+        let distance = distance as i32;
+        match dir {
+            Dir::North => Cell { x, y: y - distance },
+            Dir::East => Cell { x: x + distance, y },
+            Dir::South => Cell { x, y: y + distance },
+            Dir::West => Cell { x: x - distance, y },
+        }
+    }
+}
+
+/// The direction in which a part moves its items.
+#[derive(Clone, Copy, Debug, PartialEq, Eq)]
+pub enum Dir {
+    North,
+    East,
+    South,
+    West,
+}
+
+impl Dir {
+    /// The direction against this one.
+    pub fn opposite(self) -> Dir
+        ensures { result ≡ opposite self }
+    {
+        match self {
+            Dir::North => Dir::South,
+            Dir::East => Dir::West,
+            Dir::South => Dir::North,
+            Dir::West => Dir::East,
+        }
+    }
+}
+
+/// The speed class of a part.
+#[derive(Clone, Copy, Debug, PartialEq, Eq)]
+pub enum Tier {
+    Basic,
+    Fast,
+    Express,
+    Turbo,
+}
+
+impl Tier {
+    /// The number of tiles, at most, between the two ends of an underground pair.
+    pub fn reach(self) -> u32
+        ensures { result ≡ reach_of self }
+    {
+        match self {
+            Tier::Basic => 4,
+            Tier::Fast => 6,
+            Tier::Express => 8,
+            Tier::Turbo => 10,
+        }
+    }
+
+    /// The speed as a multiple of the basic tier's.
+    pub fn speed(self) -> u32
+        ensures { result ≡ speed_of self }
+    {
+        match self {
+            Tier::Basic => 1,
+            Tier::Fast => 2,
+            Tier::Express => 3,
+            Tier::Turbo => 4,
+        }
+    }
+}
+
+/// What a part is. An entrance and an exit are the two underground pieces.
+#[derive(Clone, Copy, Debug, PartialEq, Eq)]
+pub enum Kind {
+    Belt,
+    Entrance,
+    Exit,
+    Splitter,
+}
+
+/// A part of a layout.
+#[derive(Clone, Copy, Debug, PartialEq, Eq)]
+pub struct Part {
+    pub kind: Kind,
+    pub tier: Tier,
+    pub dir: Dir,
+
+    /// The part's cell; of a splitter its lesser half, the one further to the west or the north.
+    pub cell: Cell,
+}
+
+/// From where a part comes upon another one.
+#[derive(Clone, Copy, Debug, PartialEq, Eq)]
+pub enum Side {
+    Behind,
+    Across,
+    Ahead,
+}
+
+/// The cells from (0, 0) on, so many to the east and so many to the south.
+#[derive(Clone, Copy, Debug, PartialEq, Eq)]
+pub struct Rect {
+    pub width: u32,
+    pub height: u32,
+}
+
+/// The part's cells: its own one, which is a splitter's lesser half, and a splitter's greater half.
+pub fn cells_of(part: &Part) -> (Cell, Option<Cell>)
+    requires { IsInRange part.now.cell }
+    ensures first { result.0 ≡ part.now.cell }
+    ensures second { (c : Cell) → (result.1 ≡ Some c) ↔ IsGreaterHalf part.now c }
+{
+    let greater = match part.kind {
+        Kind::Splitter => Some(match part.dir {
+            Dir::North | Dir::South => part.cell.ahead(Dir::East, 1),
+            Dir::East | Dir::West => part.cell.ahead(Dir::South, 1),
+        }),
+        Kind::Belt | Kind::Entrance | Kind::Exit => None,
+    };
+    (part.cell, greater)
+}
+
+/// The cell that this half of the part faces.
+pub fn front(part: &Part, half: Cell) -> Cell
+    requires range { IsInRange part.now.cell }
+    requires half { Covers part.now half }
+    ensures { result ≡ step part.now.dir half }
+{
+    half.ahead(part.dir, 1)
+}
+
+/// The cell behind this half of the part.
+pub fn back(part: &Part, half: Cell) -> Cell
+    requires range { IsInRange part.now.cell }
+    requires half { Covers part.now half }
+    ensures { result ≡ step (opposite part.now.dir) half }
+{
+    half.ahead(part.dir.opposite(), 1)
+}
+
+/// Whether the cell lies in the rectangle.
+pub fn inside(rect: &Rect, cell: Cell) -> bool
+    ensures { IsTrue result ↔ IsInside rect.now cell }
+{
+    cell.x >= 0
+        && cell.y >= 0
+        && cell.x.unsigned_abs() < rect.width
+        && cell.y.unsigned_abs() < rect.height
+}
