@@ -140,11 +140,11 @@ pub adds_both : (old mid new : BTreeMap Cell ℕ) (part : Part) (first : Cell) (
 adds_both old mid new part first second cell i e is_second f u v =
     adds_two old mid new part cell i (subst (λ o. IsSecond part o) f is_second) (subst (λ c. Updates cell_order old mid c (Some i)) e u) v
 
-same_part : (parts : List Part) (i : ℕ) (p q : Part) → HasPart parts i p → HasPart parts i q → p ≡ q
+pub same_part : (parts : List Part) (i : ℕ) (p q : Part) → HasPart parts i p → HasPart parts i q → p ≡ q
 same_part parts i p q h k = same_Some p q (sym h ∙ k)
 
 -- the part at this cell is the one with this index
-covers_at : (parts : List Part) (i : ℕ) (part : Part) (cell : Cell) → HasPart parts i part → IsAt parts i cell → Covers part cell
+pub covers_at : (parts : List Part) (i : ℕ) (part : Part) (cell : Cell) → HasPart parts i part → IsAt parts i cell → Covers part cell
 covers_at parts i part cell h at = subst (λ p. Covers p cell) (same_part parts i at.part part at.is_i h) at.covers
 
 -- the map of the first n parts with the next one added

@@ -1,6 +1,6 @@
-ghost use Rattle.std.specs.Prelude.{◌≡◌, ◌↔◌, ℕ, IfOk, IfErr, MatchOption, OnOk};
+ghost use Rattle.std.specs.Prelude.{◌≡◌, ◌↔◌, ℕ, ◌<◌, length, IfOk, IfErr, MatchOption, OnOk};
 ghost use Rattle.bt_parts.specs.Cells.{IsInRange};
-ghost use Rattle.bt_parts.specs.Layouts.{AreInRange, IsAt, IsWellPlaced};
+ghost use Rattle.bt_parts.specs.Layouts.{AreInRange, HasPart, IsAt, IsWellPlaced};
 ghost use Rattle.bt_grid.specs.Overlap.{IsPlaceFault};
 ghost use Rattle.bt_grid.specs.Index.{index_at, IsLesser, IsFreeFor, IsLeastOn, Adds};
 
@@ -113,6 +113,15 @@ impl Grid {
         ensures well_placed { IsWellPlaced self.now }
     {
         &self.parts
+    }
+
+    /// The part with this index.
+    pub fn part(&self, i: usize) -> &Part
+        requires { i < length self.now }
+        ensures value { HasPart self.now i result.now }
+        ensures in_range { IsInRange result.now.cell }
+    {
+        &self.parts[i]
     }
 
     /// The index of the part that covers the cell, if there is one.

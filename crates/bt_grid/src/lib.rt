@@ -2,5 +2,10 @@
 #![tactic(auto)]
 
 mod grid;
+mod pairing;
+mod partners;
 
+pub use grid::{Grid, GridFault};
+pub use pairing::{PairFault, pairs};
+pub use partners::Pairs;
 pub use std::alloc::AllocError as Memory;
