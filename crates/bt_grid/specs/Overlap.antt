@@ -1,5 +1,5 @@
 -- Why a list of parts can't be placed.
-use Rattle.std.specs.Prelude.{◌≡◌, ℕ, ◌<◌, List, ⊤}
+use Rattle.std.specs.Prelude.{ℕ, ◌<◌, List, ⊤}
 use Rattle.bt_parts.specs.declared.part.Part.{Part}
 use Rattle.bt_parts.specs.Layouts.{ShareCell}
 use Rattle.bt_grid.specs.declared.grid.GridFault.{GridFault}

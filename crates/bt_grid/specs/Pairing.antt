@@ -41,7 +41,7 @@ pub record IsPieceThere (parts : List Part) (tier : Tier) (dir : Dir) (cell : Ce
 -- nearer than this distance there is no piece of the part's tier and axis
 abbrev pub NoneNearer : List Part → Part → Dir → ℕ → Type 0
 NoneNearer parts from toward limit = (d i : ℕ) → 0 < d → d < limit
-  → IsPieceThere parts from.tier from.dir (steps d toward from.cell) i → ⊥
+    → IsPieceThere parts from.tier from.dir (steps d toward from.cell) i → ⊥
 
 -- the first piece of the part's tier and axis from the part on in a direction, within its reach
 pub record IsFirstPiece (parts : List Part) (from : Part) (toward : Dir) (i : ℕ) : Type 0 where
@@ -54,8 +54,8 @@ pub record IsFirstPiece (parts : List Part) (from : Part) (toward : Dir) (i : �
 -- a piece's other end lies in this direction and is of this kind
 abbrev pub IsFarEnd : Part → Dir → Kind → Type 0
 IsFarEnd part toward kind =
-  ((part.kind ≡ Entrance) × (toward ≡ part.dir) × (kind ≡ Exit))
-  ⊎ ((part.kind ≡ Exit) × (toward ≡ opposite part.dir) × (kind ≡ Entrance))
+    ((part.kind ≡ Entrance) × (toward ≡ part.dir) × (kind ≡ Exit))
+    ⊎ ((part.kind ≡ Exit) × (toward ≡ opposite part.dir) × (kind ≡ Entrance))
 
 -- the list has the other ends of the first n parts
 pub record HasPartners (parts : List Part) (partners : List (Option ℕ)) (n : ℕ) : Type 0 where

@@ -54,7 +54,10 @@ fn least_on(cells: &BTreeMap<Cell, usize>, part: &Part) -> Option<usize>
     ensures { MatchOption result (IsFreeFor cells.now part.now) (IsLeastOn cells.now part.now) }
 {
     let (first, second) = cells_of(part);
-    lesser(index_at(cells, first), second.and_then(|cell| index_at(cells, cell)))
+    lesser(
+        index_at(cells, first),
+        second.and_then(|cell| index_at(cells, cell)),
+    )
 }
 
 /// Puts the index on each cell of the part.

@@ -9,3 +9,6 @@ pub use grid::{Grid, GridFault};
 pub use pairing::{PairFault, pairs};
 pub use partners::Pairs;
 pub use std::alloc::AllocError as Memory;
+
+#[cfg(test)]
+mod tests;

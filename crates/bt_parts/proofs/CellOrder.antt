@@ -1,5 +1,5 @@
 -- Cells that compare equal are the same cell.
-use Rattle.std.proofs.Common.{◌≡◌, ◌⊎◌, Bool, true, false, Ordering, refl, ap, ◌∙◌, sym, subst, inl, inr, arith}
+use Rattle.std.proofs.Common.{◌≡◌, ◌⊎◌, Bool, true, false, Ordering, refl, ap, ◌∙◌, subst, inl, inr}
 use Rattle.std.specs.declared.cmp.Ordering.TheVariants.{Less, Equal, Greater}
 use Rattle.std.specs.Ordering.{is_eq, ordering_then, int_cmp}
 use Rattle.std.specs.Cmp.{IsTotalOrder}

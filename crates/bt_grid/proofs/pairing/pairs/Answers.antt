@@ -9,20 +9,20 @@ pub returns-then-is_alone-clause-refused : goal.returns-then-is_alone-clause-ref
 returns-then-is_alone-clause-refused c =
     let alone = c.is_alone.ensures.0 c.if-is_alone.true in
     first_unpaired c.args.grid.now c.loop-i.partners.items c.loop-i.i _ c.loop-i.invariant
-        (read_part c.args.grid.now c.parts-parts.result.now c.loop-i.i _ c.parts-parts.ensures.value c.loop-i-test.true)
-        alone.1
-        (subst (λ o. (j : ℕ) → (o ≡ Some j) ↔ ArePaired c.args.grid.now c.loop-i.i j) alone.0 c.other_end-partner.ensures)
+    (read_part c.args.grid.now c.parts-parts.result.now c.loop-i.i _ c.parts-parts.ensures.value c.loop-i-test.true)
+    alone.1
+    (subst (λ o. (j : ℕ) → (o ≡ Some j) ↔ ArePaired c.args.grid.now c.loop-i.i j) alone.0 c.other_end-partner.ensures)
 
 pub loop-i-preserved : goal.loop-i-preserved
 loop-i-preserved c =
     rw (rw (c.is_err.ensures.negation, c.if-is_err.false) at c.push.ensures.items)
     (more_partners c.args.grid.now c.loop-i.partners.items c.loop-i.i c.other_end-partner.result c.loop-i.invariant c.other_end-partner.ensures
-        (not_alone c.args.grid.now c.loop-i.i _ c.other_end-partner.result
-            (read_part c.args.grid.now c.parts-parts.result.now c.loop-i.i _ c.parts-parts.ensures.value c.loop-i-test.true)
-            (iff_false c.is_alone.ensures c.if-is_alone.false)))
+    (not_alone c.args.grid.now c.loop-i.i _ c.other_end-partner.result
+    (read_part c.args.grid.now c.parts-parts.result.now c.loop-i.i _ c.parts-parts.ensures.value c.loop-i-test.true)
+    (iff_false c.is_alone.ensures c.if-is_alone.false)))
 
 pub returns-clause-paired : goal.returns-clause-paired
 returns-clause-paired c =
     let same : c.loop-i.i ≡ length c.args.grid.now = omega (arith, ap length c.parts-parts.ensures.value) in
     rw c.new.ensures (all_partners c.args.grid.now c.loop-i.partners.items
-        (subst (λ n. HasPartners c.args.grid.now c.loop-i.partners.items n) same c.loop-i.invariant))
+    (subst (λ n. HasPartners c.args.grid.now c.loop-i.partners.items n) same c.loop-i.invariant))

@@ -1,4 +1,3 @@
-use Rattle.std.proofs.Common.{subst}
 use Rattle.bt_grid.proofs.IndexLemmas.{found_there, empty_there}
 use Rattle.bt_grid.proofs.grid.Grid.at.Goals as goal
 

@@ -9,12 +9,12 @@ pub returns-in-Some-clause-refused : goal.returns-in-Some-clause-refused
 returns-in-Some-clause-refused c =
     subst (λ parts. IsFirstOverlap parts c.in-Some.first c.loop-i.i) c.deref-part-items.ensures.value
     (overlap_found c.deref-part-items.result.now c.loop-i.i _ c.in-Some.first c.loop-i.cells
-        (slice_get-get_or c.deref-part-items.result.now c.loop-i.i _ c.loop-i-test.true) c.loop-i.invariant c.in-Some.ensures)
+    (slice_get-get_or c.deref-part-items.result.now c.loop-i.i _ c.loop-i-test.true) c.loop-i.invariant c.in-Some.ensures)
 
 pub loop-i-preserved : goal.loop-i-preserved
 loop-i-preserved c =
     index_more c.deref-part-items.result.now c.loop-i.i _ c.loop-i.cells c.add.new.cells
-        (slice_get-get_or c.deref-part-items.result.now c.loop-i.i _ c.loop-i-test.true) c.loop-i.invariant c.in_default.ensures c.in_ok-add.ensures
+    (slice_get-get_or c.deref-part-items.result.now c.loop-i.i _ c.loop-i-test.true) c.loop-i.invariant c.in_default.ensures c.in_ok-add.ensures
 
 whole : (c : goal.After-loop-i) → IsIndexOf c.args.parts.items (length c.args.parts.items) c.loop-i.cells
 whole c =
