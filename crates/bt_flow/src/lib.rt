@@ -1,0 +1,13 @@
+// Steady states of splitter networks, the properties of balancers, and the states that break them.
+#![tactic(auto)]
+
+mod fault;
+mod judgement;
+mod property;
+mod state;
+
+pub use fault::StateFault;
+pub use judgement::{Judgement, Test, WideSum};
+pub use property::Property;
+pub use state::State;
+pub use std::alloc::AllocError as Memory;
