@@ -5,3 +5,6 @@ pub mod Properties
 pub mod Tests
 pub mod Sums
 pub mod StateText
+pub mod Pieces
+pub mod StateLines
+pub mod StateFaults

@@ -4,6 +4,7 @@
 mod fault;
 mod judgement;
 mod property;
+mod reading;
 mod state;
 
 pub use fault::StateFault;
