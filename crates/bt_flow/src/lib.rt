@@ -10,5 +10,6 @@ mod state;
 pub use fault::StateFault;
 pub use judgement::{Judgement, Test, WideSum};
 pub use property::Property;
+pub use reading::{one_state, read_state};
 pub use state::State;
 pub use std::alloc::AllocError as Memory;

@@ -5,12 +5,11 @@ mod line;
 mod marks;
 mod piece;
 
-ghost use Rattle.std.specs.Prelude.{◌≡◌, ℕ, IfOk, IfErr};
-ghost use Rattle.bt_flow.specs.declared.state.State.{State};
+ghost use Rattle.std.specs.Prelude.{◌≡◌, ℕ, List, IfOk, IfErr};
 ghost use Rattle.bt_flow.specs.States.{Fits};
 ghost use Rattle.bt_flow.specs.StateText.{IsStateText};
 ghost use Rattle.bt_flow.specs.StateLines.{IsWrongLine};
-ghost use Rattle.bt_flow.specs.StateFaults.{IsFault, ReadsAs, RefusesAt};
+ghost use Rattle.bt_flow.specs.StateFaults.{IsFault, ReadsAs, RefusesAt, SameLists};
 
 use crate::fault::StateFault;
 use crate::property::Property;
@@ -49,6 +48,12 @@ pub fn read_state(alloc: Global, net: &Net, bytes: &[u8], property: Property) ->
     ensures exact { (line : ℕ) → IsWrongLine net.now property bytes.now line → RefusesAt line result }
 {
     state_of(alloc, net, bytes, property)
+}
+
+/// A text is written for one state.
+pub fn one_state()
+    ensures { (p : Property) (s t : State) (bytes : List ℕ) → IsStateText p s bytes → IsStateText p t bytes → SameLists s t }
+{
 }
 
 fn state_of(alloc: Global, net: &Net, bytes: &[u8], property: Property) -> Result<State, StateFault>
