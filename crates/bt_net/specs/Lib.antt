@@ -1,2 +1,4 @@
 pub mod Network
 pub mod NetText
+pub mod Wiring
+pub mod Refusals

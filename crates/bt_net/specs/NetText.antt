@@ -1,16 +1,13 @@
 -- The text of a network: a line of its counts, a line for each edge, and the line `end`.
-use Rattle.std.specs.Prelude.{◌≡◌, ℕ, List, [], ◌∷◌, ◌++◌, ◌⊎◌, codes, decimal}
+use Rattle.std.specs.Prelude.{◌≡◌, ℕ, List, [], ◌++◌, ◌⊎◌, codes, decimal}
 use Rattle.std.specs.List.{flat_map}
+pub use Rattle.bt_text.specs.Lines.{line}
 use Rattle.bt_net.specs.declared.network.Edge.{Edge}
 use Rattle.bt_net.specs.declared.network.Start.{Start}
 use Rattle.bt_net.specs.declared.network.Start.TheVariants as from
 use Rattle.bt_net.specs.declared.network.Target.{Target}
 use Rattle.bt_net.specs.declared.network.Target.TheVariants as to
 use Rattle.bt_net.specs.Network.{Network}
-
--- a line is its bytes and a line feed
-abbrev pub line : List ℕ → List ℕ
-line bytes = bytes ++ 10 ∷ []
 
 -- `i` and the number of an input, or `s` and that of a splitter
 abbrev pub start_text : Start → List ℕ

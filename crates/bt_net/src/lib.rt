@@ -2,10 +2,17 @@
 #![tactic(auto)]
 
 mod fault;
+mod header;
+mod law;
 mod net;
 mod network;
+mod reading;
+mod wiring;
+mod words;
 
 pub use fault::NetFault;
+pub use law::one_net;
 pub use net::Net;
 pub use network::{Edge, End, Pin, Start, Target};
+pub use reading::{NetRead, read};
 pub use std::alloc::AllocError as Memory;

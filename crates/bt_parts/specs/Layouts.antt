@@ -59,9 +59,11 @@ pub record Pairs (parts : List Part) (a b : ℕ) : Type 0 where
 abbrev pub ArePaired : List Part → ℕ → ℕ → Type 0
 ArePaired parts i j = Pairs parts i j ⊎ Pairs parts j i
 
+-- the part with this index is an underground piece
+abbrev pub IsPieceAt : List Part → ℕ → Type 0
+IsPieceAt parts i = (part : Part) × HasPart parts i part × IsUnderground part
+
 -- an underground piece that is in no pair
 pub record IsUnpaired (parts : List Part) (i : ℕ) : Type 0 where
-  pub part : Part
-  pub is_i : HasPart parts i part
-  pub underground : IsUnderground part
+  pub piece : IsPieceAt parts i
   pub alone : (j : ℕ) → ArePaired parts i j → ⊥

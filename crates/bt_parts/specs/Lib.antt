@@ -1,4 +1,5 @@
 pub mod Cells
 pub mod Handing
 pub mod Layouts
+pub mod Order
 pub mod Tiers

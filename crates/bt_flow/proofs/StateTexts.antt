@@ -1,0 +1,264 @@
+-- The text of a state: its lines, that every line of it is right, and that it has one state.
+use Rattle.std.proofs.Common.{◌≡◌, ◌≢◌, ℕ, zero, suc, ◌+◌, ◌<◌, ◌≤◌, ◌⊎◌, ◌==◌, Bool, true, false, List, [], ◌∷◌, ◌++◌, length, map, refl, sym, ◌∙◌, ap, subst, inl, inr, arith, append_assoc, append-nil, codes, nat_lt, Result, Ok, Err}
+use Rattle.std.specs.Bool.{⊤}
+use Rattle.std.specs.Result.{IfOk, IfErr}
+use Rattle.std.specs.List.{All, AllPass, list_all, slice_split, slice_index_or}
+use Rattle.std.proofs.lemmas.List.{append_cancel_left}
+use Rattle.std.proofs.lemmas.List.Sums.{AllPass-from_list_all}
+use Rattle.std.proofs.lemmas.List.Splits.{slice_split_at}
+use Rattle.std.proofs.lemmas.List.Elements.{All-head, All-tail, All-cons, All-nil, All-weaker, All-append}
+use borrow.Author.Tests.{ltb-true}
+use Rattle.bt_text.specs.Blanks.{IsBlank}
+use Rattle.bt_text.specs.Lines.{Lacks, line}
+use Rattle.bt_frac.specs.Ratio.{Ratio, IsLowest}
+use Rattle.bt_frac.specs.Texts.{frac_text}
+use Rattle.bt_net.specs.Network.{Network}
+use Rattle.bt_flow.specs.declared.property.Property.{Property}
+use Rattle.bt_flow.specs.declared.property.Property.TheVariants.{Balanced, DrawnEvenly, Unlimited, Full}
+use Rattle.bt_flow.specs.declared.state.State.{State}
+use Rattle.bt_flow.specs.States.{Fits}
+use Rattle.bt_flow.specs.Pieces.{BeginsWith, CutsAt, LeadsTo}
+use Rattle.bt_flow.specs.StateText.{property_name, mark_text, spaced, state_text, IsStateText}
+use Rattle.bt_flow.specs.StateLines.{SpellsItems, SpellsFractions, SpellsMarks, Follows, Form, just, numbers, marks, Fills, forms, lines_of, IsRightAt, IsFirstWrong, IsWrongLine}
+use Rattle.bt_flow.specs.declared.fault.StateFault.{StateFault}
+use Rattle.bt_flow.specs.declared.fault.StateFault.TheVariants.{CertLine, Memory}
+use Rattle.bt_flow.specs.StateFaults.{SameLists, IsFault, ReadsAs, RefusesAt}
+use Rattle.bt_flow.proofs.Words.{piece_is, spaced_begins}
+use Rattle.bt_flow.proofs.FracTexts.{frac_text_same, frac_text_lacks, frac_text_in_line}
+use Rattle.bt_flow.proofs.MarkTexts.{mark_same, mark_lacks, mark_in_line}
+use Rattle.bt_flow.proofs.WrongLines.{lines_after, cut_lines, AreRight, all_later, blank_right}
+
+-- six lines, the last without its line feed, and the rest
+regrouped : (a b c d e f rest : List ℕ) → line a ++ line b ++ line c ++ line d ++ line e ++ f ++ rest
+    ≡ a ++ 10 ∷ (b ++ 10 ∷ (c ++ 10 ∷ (d ++ 10 ∷ (e ++ 10 ∷ (f ++ rest)))))
+regrouped a b c d e f rest = simp append_assoc
+
+-- bytes that were cut into six lines
+pub joined : (bytes a b c d e f r1 r2 r3 r4 r5 r6 : List ℕ) → bytes ≡ a ++ r1 → r1 ≡ 10 ∷ (b ++ r2) → r2 ≡ 10 ∷ (c ++ r3) → r3 ≡ 10 ∷ (d ++ r4)
+    → r4 ≡ 10 ∷ (e ++ r5) → r5 ≡ 10 ∷ (f ++ r6) → bytes ≡ line a ++ line b ++ line c ++ line d ++ line e ++ f ++ r6
+joined bytes a b c d e f r1 r2 r3 r4 r5 r6 e1 e2 e3 e4 e5 e6 =
+    e1 ∙ ap (λ r. a ++ r) (e2 ∙ ap (λ r. 10 ∷ (b ++ r)) (e3 ∙ ap (λ r. 10 ∷ (c ++ r)) (e4 ∙ ap (λ r. 10 ∷ (d ++ r)) (e5 ∙ ap (λ r. 10 ∷ (e ++ r)) e6))))
+    ∙ sym (regrouped a b c d e f r6)
+
+-- a line without line feeds is the first
+first_line : (a rest : List ℕ) → Lacks 10 a → lines_of (a ++ 10 ∷ rest) ≡ a ∷ lines_of rest
+unfolding lines_after
+first_line a rest lacks =
+    cut_lines (a ++ 10 ∷ rest) a (10 ∷ rest) (record { lacks = lacks; text_is = refl; begins = inr (rest, refl) })
+
+-- no line feed in bytes that are written out
+lacks_feed : (bytes : List ℕ) → list_all (λ b. nat_lt 10 b) bytes ≡ true → Lacks 10 bytes
+lacks_feed bytes e =
+    All-weaker (λ b. nat_lt 10 b ≡ true) (λ b. b ≢ 10) (λ b high. let above = ltb-true 10 b high in omega (arith, above)) bytes
+    (AllPass-from_list_all (λ b. nat_lt 10 b) bytes e)
+
+title_lacks : (p : Property) → Lacks 10 (codes "no " ++ property_name p)
+title_lacks Balanced = lacks_feed (codes "no balanced") refl
+title_lacks DrawnEvenly = lacks_feed (codes "no drawn-evenly") refl
+title_lacks Unlimited = lacks_feed (codes "no unlimited") refl
+title_lacks Full = lacks_feed (codes "no full") refl
+
+spaced_lacks : {A : Type 0} (P : A → Type 0) (word : A → List ℕ) → ((x : A) → P x → Lacks 10 (word x)) → (items : List A) → All P items
+    → Lacks 10 (spaced (map word items))
+spaced_lacks P word lacks [] all = All-nil (λ b. b ≢ 10)
+spaced_lacks P word lacks (x ∷ items) all =
+    All-append (λ b. b ≢ 10) (32 ∷ word x) (spaced (map word items))
+    (All-cons (λ b. b ≢ 10) 32 (word x) (omega arith) (lacks x (All-head P x items all)))
+    (spaced_lacks P word lacks items (All-tail P x items all))
+
+-- equal words after spaces are equal items
+spaced_same : {A : Type 0} (P : A → Type 0) (word : A → List ℕ) → ((x : A) → P x → Lacks 32 (word x)) → ((x y : A) → P x → P y → word x ≡ word y → x ≡ y)
+    → (xs ys : List A) → All P xs → All P ys → spaced (map word xs) ≡ spaced (map word ys) → xs ≡ ys
+spaced_same P word lacks same [] [] all all' e = refl
+spaced_same P word lacks same [] (y ∷ ys) all all' e = cc
+spaced_same P word lacks same (x ∷ xs) [] all all' e = cc
+spaced_same P word lacks same (x ∷ xs) (y ∷ ys) all all' e =
+    let good = All-head P x xs all in
+    let good' = All-head P y ys all' in
+    let texts : word x ++ spaced (map word xs) ≡ word y ++ spaced (map word ys) = cc in
+    let pieces =
+      piece_is 32 (word x) (spaced (map word xs)) (word y) (spaced (map word ys)) (lacks x good) (lacks y good') (spaced_begins (map word xs))
+      (spaced_begins (map word ys)) texts in
+    let heads = same x y good good' pieces.0 in
+    let tails = spaced_same P word lacks same xs ys (All-tail P x xs all) (All-tail P y ys all') pieces.1 in
+    cc
+
+-- six lines without line feeds, and the rest
+six_lines : (a b c d e f rest : List ℕ) (tail : List (List ℕ)) → Lacks 10 a → Lacks 10 b → Lacks 10 c → Lacks 10 d → Lacks 10 e
+    → lines_of (f ++ rest) ≡ f ∷ tail
+    → lines_of (line a ++ line b ++ line c ++ line d ++ line e ++ f ++ rest) ≡ a ∷ b ∷ c ∷ d ∷ e ∷ f ∷ tail
+six_lines a b c d e f rest tail la lb lc ld le last =
+    ap lines_of (regrouped a b c d e f rest) ∙ first_line a (b ++ 10 ∷ (c ++ 10 ∷ (d ++ 10 ∷ (e ++ 10 ∷ (f ++ rest))))) la
+    ∙ ap (λ ls. a ∷ ls)
+    (first_line b (c ++ 10 ∷ (d ++ 10 ∷ (e ++ 10 ∷ (f ++ rest)))) lb
+    ∙ ap (λ ls. b ∷ ls)
+    (first_line c (d ++ 10 ∷ (e ++ 10 ∷ (f ++ rest))) lc
+    ∙ ap (λ ls. c ∷ ls) (first_line d (e ++ 10 ∷ (f ++ rest)) ld ∙ ap (λ ls. d ∷ ls) (first_line e (f ++ rest) le ∙ ap (λ ls. e ∷ ls) last))))
+
+title : Property → List ℕ
+title p = codes "no " ++ property_name p
+
+fraction_line : List ℕ → List Ratio → List ℕ
+fraction_line word fractions = word ++ spaced (map frac_text fractions)
+
+mark_line : List Bool → List ℕ
+mark_line backed = codes "mark" ++ spaced (map mark_text backed)
+
+fraction_line_lacks : (word : List ℕ) (fractions : List Ratio) → Lacks 10 word → All IsLowest fractions → Lacks 10 (fraction_line word fractions)
+unfolding fraction_line
+fraction_line_lacks word fractions lacks lowest =
+    All-append (λ b. b ≢ 10) word (spaced (map frac_text fractions)) lacks (spaced_lacks IsLowest frac_text frac_text_in_line fractions lowest)
+
+all_marks : (backed : List Bool) → All (λ _. ⊤) backed
+all_marks backed = λ k d below. tt
+
+mark_line_lacks : (backed : List Bool) → Lacks 10 (mark_line backed)
+unfolding mark_line
+mark_line_lacks backed =
+    All-append (λ b. b ≢ 10) (codes "mark") (spaced (map mark_text backed)) (lacks_feed (codes "mark") refl)
+    (spaced_lacks (λ _. ⊤) mark_text mark_in_line backed (all_marks backed))
+
+-- the lines of a state's text
+record HasLines (p : Property) (t : State) (bytes : List ℕ) : Type 0 where
+  rest : List (List ℕ)
+  lines : lines_of bytes
+      ≡ title p ∷ fraction_line (codes "load") t.loads.items ∷ fraction_line (codes "room") t.rooms.items
+        ∷ fraction_line (codes "flow") t.flows.items ∷ mark_line t.backed.items ∷ codes "end" ∷ rest
+  blank : AreRight [] rest
+
+has_lines : (p : Property) (t : State) (bytes : List ℕ) → IsStateText p t bytes → HasLines p t bytes
+unfolding title fraction_line mark_line lines_after
+has_lines p t bytes h =
+    elim h.text [
+      inl ends ↦ record {
+        rest = [];
+        lines = ap lines_of (ends ∙ sym (append-nil (state_text p t))) ∙ six [] [] (cut_lines (codes "end" ++ []) (codes "end") [] (record { lacks = lacks_feed (codes "end") refl; text_is = refl; begins = inl refl }));
+        blank = record { at = λ k. omega arith };
+      }
+      | inr more ↦ record {
+        rest = lines_of more.0;
+        lines = ap lines_of more.2 ∙ six (10 ∷ more.0) (lines_of more.0) (first_line (codes "end") more.0 (lacks_feed (codes "end") refl));
+        blank = record { at = blank_right more.0 more.1 };
+      }
+    ]
+  where
+    six : (rest : List ℕ) (tail : List (List ℕ)) → lines_of (codes "end" ++ rest) ≡ codes "end" ∷ tail
+        → lines_of (state_text p t ++ rest)
+          ≡ title p ∷ fraction_line (codes "load") t.loads.items ∷ fraction_line (codes "room") t.rooms.items
+            ∷ fraction_line (codes "flow") t.flows.items ∷ mark_line t.backed.items ∷ codes "end" ∷ tail
+    six rest tail last =
+        six_lines (title p) (fraction_line (codes "load") t.loads.items) (fraction_line (codes "room") t.rooms.items)
+        (fraction_line (codes "flow") t.flows.items) (mark_line t.backed.items) (codes "end") rest tail (title_lacks p)
+        (fraction_line_lacks (codes "load") t.loads.items (lacks_feed (codes "load") refl) h.loads)
+        (fraction_line_lacks (codes "room") t.rooms.items (lacks_feed (codes "room") refl) h.rooms)
+        (fraction_line_lacks (codes "flow") t.flows.items (lacks_feed (codes "flow") refl) h.flows)
+        (mark_line_lacks t.backed.items) last
+
+-- every line of a state's text is right
+all_right : (n : Network) (p : Property) (t : State) (bytes : List ℕ) → Fits n t → IsStateText p t bytes → AreRight (forms n p) (lines_of bytes)
+unfolding title fraction_line mark_line
+all_right n p t bytes fits text =
+    let has = has_lines p t bytes text in
+    subst (λ ls. AreRight (forms n p) ls) (sym has.lines)
+    (all_later (just (title p)) _ (title p) _ refl
+    (all_later (numbers (codes "load") n.inputs) _ (fraction_line (codes "load") t.loads.items) _ (filled (codes "load") t.loads.items n.inputs fits.loads text.loads)
+    (all_later (numbers (codes "room") n.outputs) _ (fraction_line (codes "room") t.rooms.items) _ (filled (codes "room") t.rooms.items n.outputs fits.rooms text.rooms)
+    (all_later (numbers (codes "flow") (length n.edges)) _ (fraction_line (codes "flow") t.flows.items) _ (filled (codes "flow") t.flows.items (length n.edges) fits.flows text.flows)
+    (all_later (marks (length n.edges)) _ (mark_line t.backed.items) _
+    (t.backed.items, record { text = spaced (map mark_text t.backed.items); line_is = refl; spells = record { counted = fits.backed; meets = all_marks t.backed.items; text_is = refl } })
+    (all_later (just (codes "end")) [] (codes "end") has.rest refl has.blank))))))
+  where
+    filled : (word : List ℕ) (fractions : List Ratio) (count : ℕ) → length fractions ≡ count → All IsLowest fractions
+        → Fills (numbers word count) (fraction_line word fractions)
+    filled word fractions count counted lowest =
+        (fractions, record { text = spaced (map frac_text fractions); line_is = refl; spells = record { counted = counted; meets = lowest; text_is = refl } })
+
+-- so none is wrong
+pub none_wrong : (n : Network) (p : Property) (t : State) (bytes : List ℕ) (wrong : ℕ) → Fits n t → IsStateText p t bytes → IsWrongLine n p bytes wrong → ⊥
+none_wrong n p t bytes wrong fits text (k, is, first) = first.wrong ((all_right n p t bytes fits text).at k)
+
+-- one line is the first that isn't right
+pub one_wrong : (n : Network) (p : Property) (bytes : List ℕ) (one other : ℕ) → IsWrongLine n p bytes one → IsWrongLine n p bytes other → one ≡ other
+one_wrong n p bytes one other (k, is, first) (j, is', first') =
+    let not_below : k < j → ⊥ = λ below. first.wrong (first'.earlier k below) in
+    let not_above : j < k → ⊥ = λ below. first'.wrong (first.earlier j below) in
+    omega arith
+
+-- lines with one text have the same lists
+same_fractions : (word : List ℕ) (xs ys : List Ratio) → All IsLowest xs → All IsLowest ys → fraction_line word xs ≡ fraction_line word ys → xs ≡ ys
+unfolding fraction_line
+same_fractions word xs ys all all' e =
+    spaced_same IsLowest frac_text frac_text_lacks frac_text_same xs ys all all'
+    (append_cancel_left word (spaced (map frac_text xs)) (spaced (map frac_text ys)) e)
+
+same_marks : (xs ys : List Bool) → mark_line xs ≡ mark_line ys → xs ≡ ys
+unfolding mark_line
+same_marks xs ys e =
+    spaced_same (λ _. ⊤) mark_text mark_lacks mark_same xs ys (all_marks xs) (all_marks ys)
+    (append_cancel_left (codes "mark") (spaced (map mark_text xs)) (spaced (map mark_text ys)) e)
+
+-- a text is written for one state
+pub one_state : (p : Property) (s t : State) (bytes : List ℕ) → IsStateText p s bytes → IsStateText p t bytes → SameLists s t
+one_state p s t bytes hs ht =
+    let has = has_lines p s bytes hs in
+    let has' = has_lines p t bytes ht in
+    let e = sym has.lines ∙ has'.lines in
+    record {
+      flows = same_fractions (codes "flow") s.flows.items t.flows.items hs.flows ht.flows (ap (λ ls. slice_index_or ls 3 []) e);
+      backed = same_marks s.backed.items t.backed.items (ap (λ ls. slice_index_or ls 4 []) e);
+      loads = same_fractions (codes "load") s.loads.items t.loads.items hs.loads ht.loads (ap (λ ls. slice_index_or ls 1 []) e);
+      rooms = same_fractions (codes "room") s.rooms.items t.rooms.items hs.rooms ht.rooms (ap (λ ls. slice_index_or ls 2 []) e);
+    }
+
+-- a line that follows is a word and its fractions
+fraction_line_is : (word line : List ℕ) (count : ℕ) (fractions : List Ratio) → Follows word line (SpellsFractions count) fractions
+    → line ≡ word ++ spaced (map frac_text fractions)
+fraction_line_is word line count fractions follows = follows.line_is ∙ ap (λ t. word ++ t) follows.spells.text_is
+
+mark_line_is : (line : List ℕ) (count : ℕ) (backed : List Bool) → Follows (codes "mark") line (SpellsMarks count) backed
+    → line ≡ codes "mark" ++ spaced (map mark_text backed)
+mark_line_is line count backed follows = follows.line_is ∙ ap (λ t. codes "mark" ++ t) follows.spells.text_is
+
+-- a text that was cut into the six lines of a state, and blanks
+pub found_text : (p : Property) (t : State) (bytes a b c d e f r1 r2 r3 r4 r5 r6 : List ℕ) (inputs outputs edges : ℕ)
+    → CutsAt 10 bytes a r1 → a ≡ codes "no " ++ property_name p
+    → LeadsTo 10 r1 b r2 → Follows (codes "load") b (SpellsFractions inputs) t.loads.items
+    → LeadsTo 10 r2 c r3 → Follows (codes "room") c (SpellsFractions outputs) t.rooms.items
+    → LeadsTo 10 r3 d r4 → Follows (codes "flow") d (SpellsFractions edges) t.flows.items
+    → LeadsTo 10 r4 e r5 → Follows (codes "mark") e (SpellsMarks edges) t.backed.items
+    → LeadsTo 10 r5 f r6 → f ≡ codes "end" → All IsBlank r6 → IsStateText p t bytes
+found_text p t bytes a b c d e f r1 r2 r3 r4 r5 r6 inputs outputs edges cuts is_a leads_b is_b leads_c is_c leads_d is_d leads_e is_e leads_f is_f blank =
+    record {
+      loads = is_b.spells.meets;
+      rooms = is_c.spells.meets;
+      flows = is_d.spells.meets;
+      text = elim leads_f.begins [
+        inl none ↦ inl (whole ∙ ap (λ r. state_text p t ++ r) none ∙ append-nil (state_text p t))
+        | inr more ↦ inr (more.0, All-tail IsBlank 10 more.0 (subst (λ r. All IsBlank r) more.1 blank), whole ∙ ap (λ r. state_text p t ++ r) more.1)
+      ];
+    }
+  where
+    whole : bytes ≡ state_text p t ++ r6
+    whole =
+        joined bytes (codes "no " ++ property_name p) (codes "load" ++ spaced (map frac_text t.loads.items)) (codes "room" ++ spaced (map frac_text t.rooms.items))
+        (codes "flow" ++ spaced (map frac_text t.flows.items)) (codes "mark" ++ spaced (map mark_text t.backed.items)) (codes "end") r1 r2 r3 r4 r5 r6
+        (cuts.text_is ∙ ap (λ l. l ++ r1) is_a)
+        (leads_b.text_is ∙ ap (λ l. 10 ∷ (l ++ r2)) (fraction_line_is (codes "load") b inputs t.loads.items is_b))
+        (leads_c.text_is ∙ ap (λ l. 10 ∷ (l ++ r3)) (fraction_line_is (codes "room") c outputs t.rooms.items is_c))
+        (leads_d.text_is ∙ ap (λ l. 10 ∷ (l ++ r4)) (fraction_line_is (codes "flow") d edges t.flows.items is_d))
+        (leads_e.text_is ∙ ap (λ l. 10 ∷ (l ++ r5)) (mark_line_is e edges t.backed.items is_e))
+        (leads_f.text_is ∙ ap (λ l. 10 ∷ (l ++ r6)) is_f)
+
+-- what is written for a state is read as it
+pub reads_as : (n : Network) (p : Property) (bytes : List ℕ) (r : Result State StateFault) → IfOk r (λ t. IsStateText p t bytes)
+    → IfErr r (IsFault (IsWrongLine n p bytes)) → (t : State) → Fits n t → IsStateText p t bytes → ReadsAs t r
+reads_as n p bytes (Ok s) found wrong t fits text = one_state p s t bytes found text
+reads_as n p bytes (Err (CertLine line)) found wrong t fits text = none_wrong n p t bytes line fits text wrong
+reads_as n p bytes (Err Memory) found wrong t fits text = tt
+
+-- the first wrong line is refused
+pub refuses_at : (n : Network) (p : Property) (bytes : List ℕ) (r : Result State StateFault) → IfOk r (Fits n) → IfOk r (λ t. IsStateText p t bytes)
+    → IfErr r (IsFault (IsWrongLine n p bytes)) → (line : ℕ) → IsWrongLine n p bytes line → RefusesAt line r
+refuses_at n p bytes (Ok s) fits found wrong line h = none_wrong n p s bytes line fits found h
+refuses_at n p bytes (Err (CertLine other)) fits found wrong line h = one_wrong n p bytes other line wrong h
+refuses_at n p bytes (Err Memory) fits found wrong line h = tt

@@ -1,0 +1,130 @@
+-- Pieces of a text, and words of a line, each after a space.
+use Rattle.std.proofs.Common.{◌≡◌, ◌≢◌, ℕ, ◌+◌, ◌-◌, ◌<◌, ◌≤◌, ◌⊎◌, List, [], ◌∷◌, ◌++◌, length, map, refl, sym, ◌∙◌, ap, subst, inl, inr, arith, append_assoc, append-nil}
+use Rattle.std.specs.List.{All, flat_map}
+use Rattle.std.proofs.lemmas.List.{length_push, map_push, nil_from_length}
+use Rattle.std.proofs.lemmas.List.Elements.{All-head, All-tail, All-push, All-nil}
+use Rattle.std.proofs.lemmas.Grind.{flat_map-append}
+use Rattle.bt_text.specs.Lines.{Lacks}
+use Rattle.bt_flow.specs.Pieces.{BeginsWith, CutsAt, LeadsTo}
+use Rattle.bt_flow.specs.StateText.{spaced}
+use Rattle.bt_flow.specs.StateLines.{SpellsItems}
+
+-- a rest that begins with the byte begins with no other
+ends_apart : (byte : ℕ) (rest : List ℕ) (other : ℕ) (more : List ℕ) → BeginsWith byte rest → other ≢ byte → rest ≡ other ∷ more → ⊥
+ends_apart byte rest other more begins apart e = elim begins [ inl none ↦ cc | inr found ↦ let same = found.1 in apart cc ]
+
+-- a text has one piece before a byte
+pub piece_is : (byte : ℕ) (a x b y : List ℕ) → Lacks byte a → Lacks byte b → BeginsWith byte x → BeginsWith byte y → a ++ x ≡ b ++ y
+    → (a ≡ b) × (x ≡ y)
+piece_is byte [] x [] y lacks lacks' begins begins' e = (refl, e)
+piece_is byte [] x (d ∷ b) y lacks lacks' begins begins' e =
+    absurd (ends_apart byte x d (b ++ y) begins (All-head (λ o. o ≢ byte) d b lacks') e)
+piece_is byte (c ∷ a) x [] y lacks lacks' begins begins' e =
+    absurd (ends_apart byte y c (a ++ x) begins' (All-head (λ o. o ≢ byte) c a lacks) (sym e))
+piece_is byte (c ∷ a) x (d ∷ b) y lacks lacks' begins begins' e =
+    let heads : c ≡ d = cc in
+    let tails : a ++ x ≡ b ++ y = cc in
+    let more = piece_is byte a x b y (All-tail (λ o. o ≢ byte) c a lacks) (All-tail (λ o. o ≢ byte) d b lacks') begins begins' tails in
+    let fronts = more.0 in
+    (cc, more.1)
+
+-- words after spaces are nothing, or begin with a space
+pub spaced_begins : (words : List (List ℕ)) → BeginsWith 32 (spaced words)
+spaced_begins [] = inl refl
+spaced_begins (w ∷ words) = inr (w ++ spaced words, refl)
+
+-- one more word at the end
+spaced_push : (words : List (List ℕ)) (w rest : List ℕ) → spaced (words ++ w ∷ []) ++ rest ≡ spaced words ++ 32 ∷ (w ++ rest)
+spaced_push [] w rest = ap (λ v. 32 ∷ (v ++ rest)) (append-nil w)
+spaced_push (v ∷ words) w rest =
+    ap (λ t. 32 ∷ t)
+    (append_assoc v (spaced (words ++ w ∷ [])) rest ∙ ap (λ t. v ++ t) (spaced_push words w rest)
+    ∙ sym (append_assoc v (spaced words) (32 ∷ (w ++ rest))))
+
+-- after a front of the text these items were read, and what spells so many items has the rest of them here
+pub record Walks {A : Type 0} (P : A → Type 0) (word : A → List ℕ) (count : ℕ) (text : List ℕ) (items : List A) (done : ℕ) (rest : List ℕ) : Type 0 where
+  pub counted : length items ≡ done
+  pub meets : All P items
+  pub front : text ≡ spaced (map word items) ++ rest
+  pub later : (all : List A) → SpellsItems P word count text all → (left : List A) × SpellsItems P word (count - done) rest left
+
+pub walk_begins : {A : Type 0} (P : A → Type 0) (word : A → List ℕ) (count : ℕ) (text : List ℕ) → Walks P word count text [] 0 text
+walk_begins P word count text = record {
+  counted = refl;
+  meets = All-nil P;
+  front = refl;
+  later = λ all h. (all, record { counted = omega (arith, h.counted); meets = h.meets; text_is = h.text_is });
+}
+
+-- the next word is the first that is left
+next_word : {A : Type 0} (P : A → Type 0) (word : A → List ℕ) → ((x : A) → P x → Lacks 32 (word x)) → (left : ℕ) (rest w after : List ℕ) (all : List A)
+    → 0 < left → LeadsTo 32 rest w after → SpellsItems P word left rest all
+    → (y : A) × (ys : List A) × P y × (w ≡ word y) × SpellsItems P word (left - 1) after ys
+next_word P word lacks left rest w after [] some leads h = let counted = h.counted in absurd (omega arith)
+next_word P word lacks left rest w after (y ∷ ys) some leads h =
+    let text = leads.text_is in
+    let spelled = h.text_is in
+    let same : w ++ after ≡ word y ++ spaced (map word ys) = cc in
+    let meets = All-head P y ys h.meets in
+    let pieces = piece_is 32 w after (word y) (spaced (map word ys)) leads.lacks (lacks y meets) leads.begins (spaced_begins (map word ys)) same in
+    let counted = h.counted in
+    (y, ys, meets, pieces.0, record { counted = omega arith; meets = All-tail P y ys h.meets; text_is = pieces.1 })
+
+pub walk_more : {A : Type 0} (P : A → Type 0) (word : A → List ℕ) → ((x : A) → P x → Lacks 32 (word x))
+    → (count : ℕ) (text : List ℕ) (items : List A) (done : ℕ) (rest w after : List ℕ) (x : A)
+    → Walks P word count text items done rest → done < count → LeadsTo 32 rest w after → P x → w ≡ word x
+    → Walks P word count text (items ++ x ∷ []) (done + 1) after
+walk_more P word lacks count text items done rest w after x walk more leads good is = record {
+  counted = let counted = walk.counted in omega (arith, length_push items x);
+  meets = All-push P items x walk.meets good;
+  front =
+      walk.front ∙ ap (λ r. spaced (map word items) ++ r) (leads.text_is ∙ ap (λ v. 32 ∷ (v ++ after)) is)
+      ∙ sym (spaced_push (map word items) (word x) after) ∙ ap (λ words. spaced words ++ after) (sym (map_push word items x));
+  later = λ all h.
+      let left = walk.later all h in
+      let next = next_word P word lacks (count - done) rest w after left.0 (omega arith) leads left.1 in
+      (next.1, record { counted = let counted = next.4.counted in omega arith; meets = next.4.meets; text_is = next.4.text_is });
+}
+
+-- nothing spells so many where no word comes next
+pub walk_misses : {A : Type 0} (P : A → Type 0) (word : A → List ℕ)
+    → (count : ℕ) (text : List ℕ) (items : List A) (done : ℕ) (rest : List ℕ)
+    → Walks P word count text items done rest → done < count → ((more : List ℕ) → rest ≡ 32 ∷ more → ⊥)
+    → (all : List A) → SpellsItems P word count text all → ⊥
+walk_misses {A = A} P word count text items done rest walk more none all h =
+    let left = walk.later all h in nothing left.0 left.1
+  where
+    nothing : (left : List A) → SpellsItems P word (count - done) rest left → ⊥
+    nothing [] h = let counted = h.counted in omega arith
+    nothing (y ∷ ys) h = none (word y ++ spaced (map word ys)) h.text_is
+
+-- or the next word is no item's
+pub walk_refuses : {A : Type 0} (P : A → Type 0) (word : A → List ℕ) → ((x : A) → P x → Lacks 32 (word x))
+    → (count : ℕ) (text : List ℕ) (items : List A) (done : ℕ) (rest w after : List ℕ)
+    → Walks P word count text items done rest → done < count → LeadsTo 32 rest w after → ((x : A) → P x → w ≡ word x → ⊥)
+    → (all : List A) → SpellsItems P word count text all → ⊥
+walk_refuses P word lacks count text items done rest w after walk more leads none all h =
+    let left = walk.later all h in
+    let next = next_word P word lacks (count - done) rest w after left.0 (omega arith) leads left.1 in
+    none next.0 next.2 next.3
+
+-- or more follows
+pub walk_goes_on : {A : Type 0} (P : A → Type 0) (word : A → List ℕ)
+    → (count : ℕ) (text : List ℕ) (items : List A) (done : ℕ) (rest : List ℕ)
+    → Walks P word count text items done rest → count ≤ done → (rest ≡ [] → ⊥)
+    → (all : List A) → SpellsItems P word count text all → ⊥
+walk_goes_on {A = A} P word count text items done rest walk all_done some all h =
+    let left = walk.later all h in nothing left.0 left.1
+  where
+    nothing : (left : List A) → SpellsItems P word (count - done) rest left → ⊥
+    nothing [] h = some h.text_is
+    nothing (y ∷ ys) h = let counted = h.counted in omega arith
+
+pub walk_ends : {A : Type 0} (P : A → Type 0) (word : A → List ℕ)
+    → (count : ℕ) (text : List ℕ) (items : List A) (done : ℕ) (rest : List ℕ)
+    → Walks P word count text items done rest → done ≡ count → rest ≡ [] → SpellsItems P word count text items
+walk_ends P word count text items done rest walk all_done none = record {
+  counted = walk.counted ∙ all_done;
+  meets = walk.meets;
+  text_is = walk.front ∙ ap (λ r. spaced (map word items) ++ r) none ∙ append-nil (spaced (map word items));
+}

@@ -1,0 +1,59 @@
+-- Steady states of a splitter network, by seven laws. (After Couëtoux, Gastaldi and Naves, The
+-- Steady-States of Splitter Networks.)
+use Rattle.std.specs.Prelude.{◌≡◌, ◌≢◌, ℕ, ◌<◌, Bool, true, false, IsTrue, List, [], ◌∷◌, length, slice_get, Some, ℤ, pos, ◌+ℤ◌, ◌≤ℤ◌, if◌then◌else◌, ◌⊎◌}
+use Rattle.bt_net.specs.declared.network.Edge.{Edge}
+use Rattle.bt_net.specs.Network.{Network, leaves, enters, is_input, is_output}
+use Rattle.bt_flow.specs.States.{Flows, flow_at, backed_at, load_at, room_at, cap_in}
+
+-- the edge with this number
+abbrev pub HasEdge : Network → ℕ → Edge → Type 0
+HasEdge n a e = slice_get n.edges a ≡ Some e
+
+-- the sum of the flows of the edges that pass a test
+abbrev pub sum_where : (Edge → Bool) → List Edge → List ℤ → ℤ
+sum_where p [] flows = pos 0
+sum_where p (e ∷ edges) [] = pos 0
+sum_where p (e ∷ edges) (f ∷ flows) = (if p e then f else pos 0) +ℤ sum_where p edges flows
+
+-- range: the flow of an edge is from 0 to its cap
+abbrev pub KeepsRange : Network → Flows → ℕ → Type 0
+KeepsRange n s a = (e : Edge) → HasEdge n a e → (pos 0 ≤ℤ flow_at s a) × (flow_at s a ≤ℤ cap_in s e)
+
+-- conserve: at a splitter the sum of the in flows equals the sum of the out flows
+abbrev pub Conserves : Network → Flows → ℕ → Type 0
+Conserves n s k = sum_where (enters k) n.edges s.flows ≡ sum_where (leaves k) n.edges s.flows
+
+-- even-out: a free out edge of a splitter has a flow at least that of the splitter's other out edge
+abbrev pub EvensOut : Network → Flows → ℕ → Type 0
+EvensOut n s a = (k b : ℕ) (e f : Edge) → HasEdge n a e → HasEdge n b f → b ≢ a → IsTrue (leaves k e) → IsTrue (leaves k f)
+    → backed_at s a ≡ false → flow_at s b ≤ℤ flow_at s a
+
+-- even-in: a backed in edge of a splitter has a flow at least that of the splitter's other in edge
+abbrev pub EvensIn : Network → Flows → ℕ → Type 0
+EvensIn n s a = (k b : ℕ) (e f : Edge) → HasEdge n a e → HasEdge n b f → b ≢ a → IsTrue (enters k e) → IsTrue (enters k f)
+    → backed_at s a ≡ true → flow_at s b ≤ℤ flow_at s a
+
+-- backing: where an in edge of a splitter is backed, each out edge of that splitter is backed or full
+abbrev pub Backs : Network → Flows → ℕ → Type 0
+Backs n s a = (k b : ℕ) (e f : Edge) → HasEdge n a e → HasEdge n b f → IsTrue (enters k e) → IsTrue (leaves k f)
+    → backed_at s a ≡ true → (backed_at s b ≡ true) ⊎ (flow_at s b ≡ cap_in s f)
+
+-- input: the flow of an input is at most its load, and equals it where the edge is free
+abbrev pub FeedsInput : Network → Flows → ℕ → Type 0
+FeedsInput n s i = (a : ℕ) (e : Edge) → HasEdge n a e → IsTrue (is_input i e)
+    → (flow_at s a ≤ℤ load_at s i) × (backed_at s a ≡ false → flow_at s a ≡ load_at s i)
+
+-- output: the flow of an output is at most its room, and equals it where the edge is backed
+abbrev pub FillsOutput : Network → Flows → ℕ → Type 0
+FillsOutput n s o = (a : ℕ) (e : Edge) → HasEdge n a e → IsTrue (is_output o e)
+    → (flow_at s a ≤ℤ room_at s o) × (backed_at s a ≡ true → flow_at s a ≡ room_at s o)
+
+-- the seven laws hold everywhere
+pub record IsSteady (n : Network) (s : Flows) : Type 0 where
+  pub range : (a : ℕ) → a < length n.edges → KeepsRange n s a
+  pub conserve : (k : ℕ) → k < n.splitters → Conserves n s k
+  pub even_out : (a : ℕ) → a < length n.edges → EvensOut n s a
+  pub even_in : (a : ℕ) → a < length n.edges → EvensIn n s a
+  pub backing : (a : ℕ) → a < length n.edges → Backs n s a
+  pub input : (i : ℕ) → i < n.inputs → FeedsInput n s i
+  pub output : (o : ℕ) → o < n.outputs → FillsOutput n s o

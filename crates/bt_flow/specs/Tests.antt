@@ -1,0 +1,63 @@
+-- The tests of a state in their order, and the first that fails.
+use Rattle.std.specs.Prelude.{◌≡◌, ℕ, ◌<◌, IsTrue, length, ◌⊎◌}
+use Rattle.bt_net.specs.Network.{Network}
+use Rattle.bt_flow.specs.declared.property.Property.{Property}
+use Rattle.bt_flow.specs.declared.judgement.Test.{Test}
+use Rattle.bt_flow.specs.declared.judgement.Test.TheVariants as test
+use Rattle.bt_flow.specs.States.{Flows}
+use Rattle.bt_flow.specs.Steady.{KeepsRange, Conserves, EvensOut, EvensIn, Backs, FeedsInput, FillsOutput}
+use Rattle.bt_flow.specs.Properties.{AdmitsLoad, AdmitsRoom, IsLoaded, IsOpen, asks_loads, asks_rooms, Concludes}
+
+-- the place of a test in the order of tests
+abbrev pub order_of : Test → ℕ
+order_of test.Load = 0
+order_of test.Room = 1
+order_of test.Range = 2
+order_of test.Conserve = 3
+order_of test.EvenOut = 4
+order_of test.EvenIn = 5
+order_of test.Backing = 6
+order_of test.Input = 7
+order_of test.Output = 8
+order_of test.Kept = 9
+
+-- how many places a test has: inputs, outputs, edges, splitters, or one
+abbrev pub places : Network → Test → ℕ
+places n test.Load = n.inputs
+places n test.Room = n.outputs
+places n test.Range = length n.edges
+places n test.Conserve = n.splitters
+places n test.EvenOut = length n.edges
+places n test.EvenIn = length n.edges
+places n test.Backing = length n.edges
+places n test.Input = n.inputs
+places n test.Output = n.outputs
+places n test.Kept = 1
+
+-- the state passes the test at the place
+abbrev pub Passes : Network → Property → Flows → Test → ℕ → Type 0
+Passes n p s test.Load i = AdmitsLoad n s i × (IsTrue (asks_loads p) → IsLoaded n s i)
+Passes n p s test.Room o = AdmitsRoom n s o × (IsTrue (asks_rooms p) → IsOpen n s o)
+Passes n p s test.Range a = KeepsRange n s a
+Passes n p s test.Conserve k = Conserves n s k
+Passes n p s test.EvenOut a = EvensOut n s a
+Passes n p s test.EvenIn a = EvensIn n s a
+Passes n p s test.Backing a = Backs n s a
+Passes n p s test.Input i = FeedsInput n s i
+Passes n p s test.Output o = FillsOutput n s o
+Passes n p s test.Kept a = Concludes p n s → ⊥
+
+-- one test at a place comes before another at a place
+abbrev pub IsEarlier : Test → ℕ → Test → ℕ → Type 0
+IsEarlier t a u b = (order_of t < order_of u) ⊎ ((order_of t ≡ order_of u) × (a < b))
+
+-- every test from one on passes at its places, up to a test at a place
+abbrev pub PassesUpTo : Network → Property → Flows → ℕ → Test → ℕ → Type 0
+PassesUpTo n p s first t a = (u : Test) (b : ℕ) → (order_of u < first → ⊥) → b < places n u → IsEarlier u b t a → Passes n p s u b
+
+-- the first test that fails, among those from one on, and its place
+pub record FailsFirst (n : Network) (p : Property) (s : Flows) (first : ℕ) (t : Test) (a : ℕ) : Type 0 where
+  pub among : order_of t < first → ⊥
+  pub place : a < places n t
+  pub fails : Passes n p s t a → ⊥
+  pub earlier : PassesUpTo n p s first t a

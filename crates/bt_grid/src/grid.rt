@@ -1,0 +1,137 @@
+ghost use Rattle.std.specs.Prelude.{◌≡◌, ◌↔◌, ℕ, ◌<◌, length, IfOk, IfErr, MatchOption, OnOk};
+ghost use Rattle.bt_parts.specs.Cells.{IsInRange};
+ghost use Rattle.bt_parts.specs.Layouts.{AreInRange, HasPart, IsAt, IsWellPlaced};
+ghost use Rattle.bt_grid.specs.Overlap.{IsPlaceFault};
+ghost use Rattle.bt_grid.specs.Index.{index_at, IsLesser, IsFreeFor, IsLeastOn, Adds};
+
+use bt_parts::{Cell, Part, cells_of};
+use std::alloc::{AllocError, Global};
+use std::collections::BTreeMap;
+use std::marker::Model;
+
+/// Why parts can't be placed.
+#[derive(Clone, Copy, Debug, PartialEq, Eq)]
+pub enum GridFault {
+    /// The two parts share a cell.
+    Overlap(usize, usize),
+
+    /// There is no memory.
+    Memory,
+}
+
+impl From<AllocError> for GridFault {
+    ghost use Rattle.std.specs.Prelude.{◌≡◌};
+    ghost use Rattle.bt_grid.specs.declared.grid.GridFault.TheVariants.{Memory};
+
+    ghost from_gives = { λ _ fault. fault ≡ Memory };
+
+    fn from(_: AllocError) -> GridFault {
+        GridFault::Memory
+    }
+}
+
+/// The index at the cell.
+fn index_at(cells: &BTreeMap<Cell, usize>, cell: Cell) -> Option<usize>
+    ensures { result ≡ index_at cells.now cell }
+{
+    cells.get(&cell).copied()
+}
+
+/// The lesser of the indices that are there.
+fn lesser(one: Option<usize>, other: Option<usize>) -> Option<usize>
+    ensures { IsLesser one other result }
+{
+    match (one, other) {
+        (Some(i), Some(j)) => Some(i.min(j)),
+        (Some(i), None) => Some(i),
+        (None, other) => other,
+    }
+}
+
+/// The least index on a cell of the part.
+fn least_on(cells: &BTreeMap<Cell, usize>, part: &Part) -> Option<usize>
+    requires { IsInRange part.now.cell }
+    ensures { MatchOption result (IsFreeFor cells.now part.now) (IsLeastOn cells.now part.now) }
+{
+    let (first, second) = cells_of(part);
+    lesser(
+        index_at(cells, first),
+        second.and_then(|cell| index_at(cells, cell)),
+    )
+}
+
+/// Puts the index on each cell of the part.
+fn add(cells: &mut BTreeMap<Cell, usize>, part: &Part, i: usize) -> Result<(), AllocError>
+    requires { IsInRange part.now.cell }
+    ensures { OnOk result (Adds cells.old cells.new part.now i) }
+{
+    let (first, second) = cells_of(part);
+    cells.insert(first, i)?;
+    if let Some(cell) = second {
+        cells.insert(cell, i)?;
+    }
+    Ok(())
+}
+
+/// Parts of which no two share a cell.
+#[derive(Drop)]
+pub struct Grid {
+    parts: Vec<Part>,
+    cells: BTreeMap<Cell, usize>,
+}
+
+impl Model for Grid {
+    ghost use Rattle.std.specs.Prelude.{List};
+    ghost use Rattle.bt_parts.specs.declared.part.Part.{Part};
+    ghost use Rattle.bt_grid.specs.Index.{Indexes};
+
+    ghost Value = { List Part };
+
+    ghost view = { λ grid. grid.parts.items };
+
+    ghost invariant = { λ grid. Indexes grid.parts.items grid.cells };
+}
+
+impl Grid {
+    /// Places the parts; the part at place i of the list is the part i.
+    pub fn place(alloc: Global, parts: Vec<Part>) -> Result<Grid, GridFault>
+        requires { AreInRange parts.items }
+        ensures placed { IfOk result (λ grid. (grid ≡ parts.items) × IsWellPlaced parts.items) }
+        ensures refused { IfErr result (IsPlaceFault parts.items) }
+    {
+        let mut cells = BTreeMap::new(alloc);
+        for (i, part) in parts.iter().enumerate() {
+            if let Some(first) = least_on(&cells, part) {
+                return Err(GridFault::Overlap(first, i));
+            }
+            add(&mut cells, part, i)?;
+        }
+        Ok(Grid { parts, cells })
+    }
+
+    /// The parts in the order of their indices.
+    pub fn parts(&self) -> &[Part]
+        ensures value { result.now ≡ self.now }
+        ensures in_range { AreInRange self.now }
+        ensures well_placed { IsWellPlaced self.now }
+    {
+        &self.parts
+    }
+
+    /// The part with this index.
+    pub fn part(&self, i: usize) -> &Part
+        requires { i < length self.now }
+        ensures value { HasPart self.now i result.now }
+        ensures in_range { IsInRange result.now.cell }
+    {
+        &self.parts[i]
+    }
+
+    /// The index of the part that covers the cell, if there is one.
+    pub fn at(&self, cell: Cell) -> Option<usize>
+        ensures found { (i : ℕ) → (result ≡ Some i) ↔ IsAt self.now i cell }
+        ensures empty { (result ≡ None) ↔ ((i : ℕ) → IsAt self.now i cell → ⊥) }
+    {
+        index_at(&self.cells, cell)
+    }
+}

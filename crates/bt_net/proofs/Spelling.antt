@@ -1,0 +1,117 @@
+-- What the words of a network's text spell.
+use Rattle.std.proofs.Common.{◌≡◌, ◌≢◌, ℕ, ◌-◌, ◌^◌, ◌<◌, ◌≤◌, min, List, [], ◌∷◌, ◌++◌, length, drop, refl, sym, ◌∙◌, ap, subst, arith}
+use Rattle.std.specs.Prelude.{codes, decimal}
+use Rattle.std.specs.Int.{IsInRange}
+use Rattle.std.proofs.lemmas.List.{append_assoc}
+use Rattle.std.proofs.lemmas.List.Elements.{All-cons}
+use Rattle.bt_text.specs.Lines.{Lacks, SplitsAt}
+use Rattle.bt_text.specs.Numbers.{Spells}
+use Rattle.bt_text.proofs.Numerals.{Spells-decimal, Spells-unique, Spells-lacks, decimal-from_spells, decimal-lacks}
+use Rattle.bt_text.proofs.FirstLines.{split_apart, SplitsAt-lacks}
+use Rattle.bt_net.specs.declared.network.Edge.{Edge}
+use Rattle.bt_net.specs.declared.network.Start.{Start}
+use Rattle.bt_net.specs.declared.network.Start.TheVariants as from
+use Rattle.bt_net.specs.declared.network.Target.{Target}
+use Rattle.bt_net.specs.declared.network.Target.TheVariants as to
+use Rattle.bt_net.specs.Network.{Network}
+use Rattle.bt_net.specs.NetText.{start_text, target_text, header, edge_text}
+use Rattle.bt_net.specs.Refusals.{IsHeader, HasSmallSizes, StartFits, TargetFits, EdgeFits}
+
+-- a number that is read, and limited, and is small, is the one written
+pub small_number : (w : List ℕ) (v n : ℕ) → Spells w n → v ≡ min n (2 ^ 128 - 1) → v < 2 ^ 32 → w ≡ decimal v
+small_number w v n s is small = let same : n ≡ v = omega arith in subst (λ m. w ≡ decimal m) same (decimal-from_spells w n s (omega arith))
+
+-- a number that is read and is not small is none that is written
+pub large_number : (w : List ℕ) (v n m : ℕ) → Spells w n → v ≡ min n (2 ^ 128 - 1) → 2 ^ 32 ≤ v → m < 2 ^ 32 → w ≡ decimal m → ⊥
+large_number w v n m s is large small e =
+    let same = Spells-unique (rw e at s) (Spells-decimal m (omega arith)) in omega arith
+
+-- no space in the word of an end
+pub start-lacks : (byte : ℕ) (s : Start) → StartFits s → ¬ IsInRange 48 57 byte → byte ≢ 105 → byte ≢ 115 → Lacks byte (start_text s)
+start-lacks byte (from.Input i) fits digit apart_i apart_s = All-cons (λ b. b ≢ byte) 105 (decimal i) (λ e. apart_i (sym e)) (decimal-lacks i byte (omega arith) digit)
+start-lacks byte (from.Split i) fits digit apart_i apart_s = All-cons (λ b. b ≢ byte) 115 (decimal i) (λ e. apart_s (sym e)) (decimal-lacks i byte (omega arith) digit)
+
+pub target-lacks : (byte : ℕ) (t : Target) → TargetFits t → ¬ IsInRange 48 57 byte → byte ≢ 111 → byte ≢ 115 → Lacks byte (target_text t)
+target-lacks byte (to.Output i) fits digit apart_o apart_s = All-cons (λ b. b ≢ byte) 111 (decimal i) (λ e. apart_o (sym e)) (decimal-lacks i byte (omega arith) digit)
+target-lacks byte (to.Split i) fits digit apart_o apart_s = All-cons (λ b. b ≢ byte) 115 (decimal i) (λ e. apart_s (sym e)) (decimal-lacks i byte (omega arith) digit)
+
+-- the two words of an edge line
+pub ends_of : (ends front back : List ℕ) (e : Edge) → EdgeFits e → SplitsAt 32 ends front back → ends ≡ start_text e.start ++ 32 ∷ target_text e.target → (front ≡ start_text e.start) × (back ≡ target_text e.target)
+ends_of ends front back e fits splits is =
+    split_apart 32 front (start_text e.start) back (target_text e.target) splits.first
+    (start-lacks 32 e.start fits.0 (λ r. omega (arith, r.0)) (λ e. omega arith) (λ e. omega arith))
+    (sym splits.text_is ∙ is)
+
+-- what follows the first word of an edge line
+pub after_edge : (text front rest : List ℕ) (e : Edge) → rest ≡ drop (length front) text → front ≡ codes "edge " → text ≡ edge_text e → rest ≡ start_text e.start ++ 32 ∷ target_text e.target
+after_edge text front rest e cut is all =
+    cut ∙ ap (λ f. drop (length f) text) is ∙ ap (drop 5) all ∙ append_assoc (start_text e.start) (32 ∷ []) (target_text e.target)
+
+three_words : (a b c : List ℕ) → a ++ 32 ∷ [] ++ b ++ 32 ∷ [] ++ c ≡ a ++ 32 ∷ (b ++ 32 ∷ c)
+three_words a b c = simp append_assoc
+
+-- what follows the first word of a header
+after_net : (text front rest : List ℕ) (i o s : ℕ) (h : IsHeader text i o s) → rest ≡ drop (length front) text → front ≡ codes "net " → rest ≡ h.inputs_word ++ 32 ∷ (h.outputs_word ++ 32 ∷ h.splitters_word)
+after_net text front rest i o s h cut is =
+    cut ∙ ap (λ f. drop (length f) text) is ∙ ap (drop 4) h.bytes_are ∙ three_words h.inputs_word h.outputs_word h.splitters_word
+
+word-lacks : (w : List ℕ) (n : ℕ) → Spells w n → Lacks 32 w
+word-lacks w n s = Spells-lacks w n 32 s (λ r. omega (arith, r.0))
+
+-- the numbers of a header, by its three words
+pub header_words : (text front rest f back g d : List ℕ) (i o s : ℕ) → rest ≡ drop (length front) text → front ≡ codes "net " → SplitsAt 32 rest f back → SplitsAt 32 back g d → IsHeader text i o s → Spells f i × Spells g o × Spells d s
+header_words text front rest f back g d i o s cut is one two h =
+    let all = after_net text front rest i o s h cut is in
+    let first = split_apart 32 f h.inputs_word back (h.outputs_word ++ 32 ∷ h.splitters_word) one.first (word-lacks h.inputs_word i h.inputs_spelled) (sym one.text_is ∙ all) in
+    let second = split_apart 32 g h.outputs_word d h.splitters_word two.first (word-lacks h.outputs_word o h.outputs_spelled) (sym two.text_is ∙ first.1) in
+    (rw first.0 h.inputs_spelled, rw second.0 h.outputs_spelled, rw second.1 h.splitters_spelled)
+
+-- a header has a second space
+pub header_spaces : (text front rest f back : List ℕ) (i o s : ℕ) → rest ≡ drop (length front) text → front ≡ codes "net " → SplitsAt 32 rest f back → Lacks 32 back → IsHeader text i o s → ⊥
+header_spaces text front rest f back i o s cut is one none h =
+    let all = after_net text front rest i o s h cut is in
+    let first = split_apart 32 f h.inputs_word back (h.outputs_word ++ 32 ∷ h.splitters_word) one.first (word-lacks h.inputs_word i h.inputs_spelled) (sym one.text_is ∙ all) in
+    let two : SplitsAt 32 back h.outputs_word h.splitters_word = record { first = word-lacks h.outputs_word o h.outputs_spelled; text_is = first.1 } in
+    SplitsAt-lacks two none
+
+-- three words that spell numbers make a header
+pub header_of : (text front rest f back g d : List ℕ) (i o s : ℕ) → text ≡ front ++ rest → front ≡ codes "net " → SplitsAt 32 rest f back → SplitsAt 32 back g d → Spells f i → Spells g o → Spells d s → IsHeader text i o s
+header_of text front rest f back g d i o s all is one two a b c = record {
+  inputs_word = f;
+  outputs_word = g;
+  splitters_word = d;
+  inputs_spelled = a;
+  outputs_spelled = b;
+  splitters_spelled = c;
+  bytes_are = all ∙ ap (λ x. x ++ rest) is ∙ ap (λ x. codes "net " ++ x) (one.text_is ∙ ap (λ x. f ++ 32 ∷ x) two.text_is) ∙ sym (simp append_assoc);
+}
+
+-- the header of small numbers is the one that is written
+pub header_is : (text : List ℕ) (i o s : ℕ) → IsHeader text i o s → i ≤ 2048 → o ≤ 2048 → s ≤ 2048 → text ≡ codes "net " ++ decimal i ++ codes " " ++ decimal o ++ codes " " ++ decimal s
+header_is text i o s h a b c =
+    let p = decimal-from_spells h.inputs_word i h.inputs_spelled (omega arith) in
+    let q = decimal-from_spells h.outputs_word o h.outputs_spelled (omega arith) in
+    let r = decimal-from_spells h.splitters_word s h.splitters_spelled (omega arith) in
+    h.bytes_are ∙ (λ k. codes "net " ++ p k ++ codes " " ++ q k ++ codes " " ++ r k)
+
+-- what is written of a network is a header
+pub IsHeader-header : (n : Network) → HasSmallSizes n → IsHeader (header n) n.inputs n.outputs n.splitters
+IsHeader-header n small = record {
+  inputs_word = decimal n.inputs;
+  outputs_word = decimal n.outputs;
+  splitters_word = decimal n.splitters;
+  inputs_spelled = Spells-decimal n.inputs (omega (arith, small.few_inputs));
+  outputs_spelled = Spells-decimal n.outputs (omega (arith, small.few_outputs));
+  splitters_spelled = Spells-decimal n.splitters (omega (arith, small.few_splitters));
+  bytes_are = refl;
+}
+
+-- a line is the header of one triple of numbers
+pub header_unique : (text : List ℕ) (i o s j p t : ℕ) → IsHeader text i o s → IsHeader text j p t → (i ≡ j) × (o ≡ p) × (s ≡ t)
+header_unique text i o s j p t h g =
+    let words = three_words g.inputs_word g.outputs_word g.splitters_word in
+    let cut = sym (ap (drop 4) g.bytes_are ∙ words) in
+    let one : SplitsAt 32 (g.inputs_word ++ 32 ∷ (g.outputs_word ++ 32 ∷ g.splitters_word)) g.inputs_word (g.outputs_word ++ 32 ∷ g.splitters_word) = record { first = word-lacks g.inputs_word j g.inputs_spelled; text_is = refl } in
+    let two : SplitsAt 32 (g.outputs_word ++ 32 ∷ g.splitters_word) g.outputs_word g.splitters_word = record { first = word-lacks g.outputs_word p g.outputs_spelled; text_is = refl } in
+    let spelled = header_words text (codes "net ") (g.inputs_word ++ 32 ∷ (g.outputs_word ++ 32 ∷ g.splitters_word)) g.inputs_word (g.outputs_word ++ 32 ∷ g.splitters_word) g.outputs_word g.splitters_word i o s cut refl one two h in
+    (Spells-unique spelled.0 g.inputs_spelled, Spells-unique spelled.1 g.outputs_spelled, Spells-unique spelled.2 g.splitters_spelled)

@@ -1,0 +1,5 @@
+use Rattle.bt_net.proofs.NetLines.{one_network}
+use Rattle.bt_net.proofs.law.one_net.Goals as goal
+
+pub returns : goal.returns
+returns c = one_network

@@ -1,0 +1,65 @@
+ghost use Rattle.std.specs.Prelude.{◌≡◌, ℕ, ◌-◌, ◌^◌, min, IfOk, IfErr, IfSome, IfNone};
+ghost use Rattle.bt_net.specs.Refusals.{IsHeader, IsStarted, HeaderRefused};
+
+use crate::fault::NetFault;
+use crate::wiring::Wiring;
+use bt_text::{read_whole, split_once};
+use std::alloc::Global;
+
+/// The network that the first line of a text begins, without edges yet.
+pub fn read_header(alloc: Global, line: &[u8]) -> Result<Wiring, NetFault>
+    ensures started { IfOk result (λ wiring. IsStarted wiring line.now) }
+    ensures refused { IfErr result (λ fault. HeaderRefused line.now fault) }
+{
+    let Some(sizes) = read_sizes(line) else {
+        return Err(NetFault::NetLine(1));
+    };
+    if sizes.inputs > 2048 || sizes.outputs > 2048 || sizes.splitters > 2048 {
+        return Err(NetFault::TooLarge);
+    }
+    let wiring = Wiring::new(
+        alloc,
+        sizes.inputs as u32,
+        sizes.outputs as u32,
+        sizes.splitters as u32,
+    )?;
+    Ok(wiring)
+}
+
+/// The numbers of a header, where those past `u128::MAX` are that.
+#[derive(Clone, Copy)]
+struct Sizes {
+    inputs: u128,
+    outputs: u128,
+    splitters: u128,
+}
+
+fn read_sizes(line: &[u8]) -> Option<Sizes>
+    ensures some { IfSome result (λ sizes. (i o s : ℕ) × IsHeader line.now i o s
+        × (sizes.inputs ≡ min i (2 ^ 128 - 1)) × (sizes.outputs ≡ min o (2 ^ 128 - 1)) × (sizes.splitters ≡ min s (2 ^ 128 - 1))) }
+    ensures none { IfNone result ((i o s : ℕ) → IsHeader line.now i o s → ⊥) }
+{
+    let Some(words) = line.strip_prefix(b"net ".as_slice()) else {
+        return None;
+    };
+    let Some((inputs, words)) = split_once(words, b' ') else {
+        return None;
+    };
+    let Some((outputs, splitters)) = split_once(words, b' ') else {
+        return None;
+    };
+    let Some(inputs) = read_whole(inputs) else {
+        return None;
+    };
+    let Some(outputs) = read_whole(outputs) else {
+        return None;
+    };
+    let Some(splitters) = read_whole(splitters) else {
+        return None;
+    };
+    Some(Sizes {
+        inputs,
+        outputs,
+        splitters,
+    })
+}

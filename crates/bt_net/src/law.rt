@@ -1,0 +1,9 @@
+ghost use Rattle.std.specs.Prelude.{◌≡◌, ℕ, List};
+ghost use Rattle.bt_net.specs.Network.{Network, IsNetwork};
+ghost use Rattle.bt_net.specs.NetText.{BeginsWithNet};
+
+/// Bytes begin with the text of one network at most, and what follows it is one.
+pub fn one_net()
+    ensures { (bytes : List ℕ) (m n : Network) (r s : List ℕ) → IsNetwork m → IsNetwork n
+        → BeginsWithNet bytes m r → BeginsWithNet bytes n s → (m ≡ n) × (r ≡ s) }
+{}

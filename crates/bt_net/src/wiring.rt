@@ -1,0 +1,165 @@
+ghost use Rattle.std.specs.Prelude.{◌≡◌, ◌<◌, ◌+◌, ◌↔◌, ℕ, [], ◌∷◌, ◌++◌, List, length, slice_index, slice_set, vec_len, IsTrue, IfOk, OnOk, OnErr, IsErrOf, All};
+ghost use Rattle.bt_net.specs.Wiring.{IsBelow, IsFreeStart, IsFreeTarget, CountsStart, CountsTarget};
+
+use crate::fault::NetFault;
+use crate::net::Net;
+use crate::network::{Edge, Start, Target};
+use std::alloc::{AllocError, Global};
+use std::marker::Model;
+
+/// The edges of a network while they are read, and how many there are at each end.
+#[derive(Drop)]
+pub struct Wiring {
+    inputs: Vec<u8>,
+    outputs: Vec<u8>,
+    leaving: Vec<u8>,
+    entering: Vec<u8>,
+    edges: Vec<Edge>,
+}
+
+impl Model for Wiring {
+    ghost use Rattle.bt_net.specs.Network.{Network};
+    ghost use Rattle.bt_net.specs.Wiring.{AreTallied};
+    ghost use Rattle.std.specs.Prelude.{length};
+
+    ghost Value = { Network };
+
+    ghost view = { λ w. record { inputs = length w.inputs.items; outputs = length w.outputs.items; splitters = length w.leaving.items; edges = w.edges.items } };
+
+    ghost invariant = { λ w. AreTallied w.inputs.items w.outputs.items w.leaving.items w.entering.items w.edges.items };
+}
+
+impl Wiring {
+    ghost use Rattle.bt_net.specs.Network.{Network, IsWired, IsLarge, LacksEnds};
+    ghost use Rattle.bt_net.specs.Refusals.{HasSmallSizes};
+    ghost use Rattle.bt_net.specs.Wiring.{IsPartlyWired, with_edge};
+
+    /// No edges yet.
+    pub fn new(
+        alloc: Global,
+        inputs: u32,
+        outputs: u32,
+        splitters: u32,
+    ) -> Result<Wiring, AllocError>
+        ensures { IfOk result (λ w. w ≡ record { inputs = inputs; outputs = outputs; splitters = splitters; edges = [] }) }
+    {
+        let entering = vec![in alloc; 0u8; splitters as usize]?;
+        Ok(Wiring {
+            inputs: vec![in alloc; 0u8; inputs as usize]?,
+            outputs: vec![in alloc; 0u8; outputs as usize]?,
+            leaving: vec![in alloc; 0u8; splitters as usize]?,
+            entering,
+            edges: Vec::new(alloc),
+        })
+    }
+
+    pub fn len(&self) -> usize
+        ensures { result ≡ length self.now.edges }
+    {
+        self.edges.len()
+    }
+
+    /// Whether this edge may come next.
+    pub fn admits(&self, edge: Edge) -> bool
+        requires { edge.cap ≡ 1 }
+        ensures { IsTrue result ↔ IsPartlyWired (with_edge self.now edge) }
+    {
+        let start = starts_free(&self.inputs, &self.leaving, edge.start);
+        let target = ends_free(&self.entering, &self.outputs, edge.target);
+        start && target
+    }
+
+    pub fn push(&mut self, edge: Edge) -> Result<(), AllocError>
+        requires { IsPartlyWired (with_edge self.old edge) }
+        ensures ok { OnOk result (self.new ≡ with_edge self.old edge) }
+        ensures err { OnErr result (self.new ≡ self.old) }
+    {
+        self.edges.push(edge)?;
+        count_start(&mut self.inputs, &mut self.leaving, edge.start);
+        count_target(&mut self.entering, &mut self.outputs, edge.target);
+        Ok(())
+    }
+
+    /// The network of these edges.
+    pub fn into_net(self) -> Result<Net, NetFault>
+        requires wired { IsWired self }
+        requires small { HasSmallSizes self }
+        ensures net { IfOk result (λ n. n ≡ self) }
+        ensures too_large { IsErrOf result NetFault.TooLarge ↔ IsLarge self }
+        ensures no_ends { IsErrOf result NetFault.NoEnds ↔ LacksEnds self }
+        ensures no_line { (line : ℕ) → IsErrOf result (NetFault.NetLine line) → ⊥ }
+        ensures memory { IsErrOf result NetFault.Memory → ⊥ }
+    {
+        let inputs = self.inputs.len() as u32;
+        let outputs = self.outputs.len() as u32;
+        let splitters = self.leaving.len() as u32;
+        Net::new(inputs, outputs, splitters, self.edges)
+    }
+
+    /// Whether each input and each output has its edge.
+    pub fn is_complete(&self) -> bool
+        ensures { IsTrue result ↔ IsWired self.now }
+    {
+        let inputs = each_is_one(&self.inputs);
+        let outputs = each_is_one(&self.outputs);
+        inputs && outputs
+    }
+}
+
+/// Whether each place of the tally has one edge.
+fn each_is_one(tally: &[u8]) -> bool
+    ensures { IsTrue result ↔ All (λ count. count ≡ 1) tally.now }
+{
+    tally.iter().all(|count| *count == 1)
+}
+
+/// Whether an edge may start there: at an input without an edge, or at a splitter with fewer than two
+/// out edges.
+fn starts_free(inputs: &[u8], leaving: &[u8], start: Start) -> bool
+    ensures { IsTrue result ↔ IsFreeStart inputs.now leaving.now start }
+{
+    match start {
+        Start::Input(i) => is_below(inputs, i, 1),
+        Start::Split(s) => is_below(leaving, s, 2),
+    }
+}
+
+/// Whether an edge may end there: at an output without an edge, or at a splitter with fewer than two
+/// in edges.
+fn ends_free(entering: &[u8], outputs: &[u8], target: Target) -> bool
+    ensures { IsTrue result ↔ IsFreeTarget entering.now outputs.now target }
+{
+    match target {
+        Target::Split(s) => is_below(entering, s, 2),
+        Target::Output(o) => is_below(outputs, o, 1),
+    }
+}
+
+/// Whether the tally has this place, with fewer than that many.
+fn is_below(tally: &[u8], place: u32, most: u8) -> bool
+    ensures { IsTrue result ↔ IsBelow tally.now place most }
+{
+    (place as usize) < tally.len() && tally[place as usize] < most
+}
+
+/// Counts one more edge with this start.
+fn count_start(inputs: &mut Vec<u8>, leaving: &mut Vec<u8>, start: Start)
+    requires { IsFreeStart inputs.old.items leaving.old.items start }
+    ensures { CountsStart start inputs.old.items leaving.old.items inputs.new.items leaving.new.items }
+{
+    match start {
+        Start::Input(i) => inputs[i as usize] += 1,
+        Start::Split(s) => leaving[s as usize] += 1,
+    }
+}
+
+/// Counts one more edge with this target.
+fn count_target(entering: &mut Vec<u8>, outputs: &mut Vec<u8>, target: Target)
+    requires { IsFreeTarget entering.old.items outputs.old.items target }
+    ensures { CountsTarget target entering.old.items outputs.old.items entering.new.items outputs.new.items }
+{
+    match target {
+        Target::Split(s) => entering[s as usize] += 1,
+        Target::Output(o) => outputs[o as usize] += 1,
+    }
+}
