@@ -3,7 +3,7 @@ use Rattle.std.proofs.Common.{◌≡◌, ℕ, ◌*◌, ◌+◌, ◌<◌, ◌/◌
 use Rattle.std.specs.Int.{IsGcd}
 use Rattle.std.proofs.lemmas.Int.{ints, unsigned_abs-mul}
 use Rattle.std.proofs.lemmas.Nat.{mul-lt}
-use Rattle.std.proofs.lemmas.Nat.Gcd.{dvd_trans, IsGcd-swap}
+use Rattle.std.proofs.lemmas.Nat.Gcd.{dvd_trans, IsGcd-swap, same_from_IsGcd}
 use Rattle.std.proofs.Math.Nat.{dvd-mul_left_of_dvd, dvd-add, dvd-add_iff_left, one-dvd, dvd-mul_right, div-mul_cancel, mul-one}
 use Rattle.std.proofs.Math.IntN.{*ℤ_comm}
 use Rattle.bt_frac.specs.Ratio.{Ratio, IsLowest, FitsPart, IsShort, AddNumbers, AddFits}
@@ -106,3 +106,20 @@ short_fits a b p q =
     let right : unsigned_abs (b.over *ℤ pos (a.under / g)) < 2 ^ 126 = product_below b.over a.under g q.over_short p.under_short in
     let under : a.under * (b.under / g) < 2 ^ 126 = mul-lt a.under (b.under / g) (2 ^ 63) (2 ^ 63) p.under_short (part_below b.under g q.under_short) in
     all_fit a b g common.1 (omega arith) (omega arith) (sum_below (a.over *ℤ pos (b.under / g)) (b.over *ℤ pos (a.under / g)) left right) (omega arith)
+
+-- the working numbers of an addition are the same wherever they are named, so a sum is not both wide and fitting
+pub fits_alike : (a b : Ratio) (m n : AddNumbers a b) → AddFits m → AddFits n
+fits_alike a b m n h =
+    let common : m.common ≡ n.common = same_from_IsGcd a.under b.under m.common n.common m.is_common n.is_common in
+    let left : m.left ≡ n.left = m.left_is ∙ ap (λ g. a.over *ℤ pos (b.under / g)) common ∙ sym n.left_is in
+    let right : m.right ≡ n.right = m.right_is ∙ ap (λ g. b.over *ℤ pos (a.under / g)) common ∙ sym n.right_is in
+    let under : m.under ≡ n.under = m.under_is ∙ ap (λ g. a.under * (b.under / g)) common ∙ sym n.under_is in
+    record {
+      left_fits = subst FitsPart left h.left_fits;
+      right_fits = subst FitsPart right h.right_fits;
+      sum_fits = subst FitsPart (ap (λ x. x +ℤ m.right) left ∙ ap (λ y. n.left +ℤ y) right) h.sum_fits;
+      under_fits = subst (λ k. k < 2 ^ 127) under h.under_fits;
+    }
+
+pub wide_apart : (a b : Ratio) → ((n : AddNumbers a b) × (AddFits n → ⊥)) → ((m : AddNumbers a b) × AddFits m) → ⊥
+wide_apart a b wide fits = wide.1 (fits_alike a b fits.0 wide.0 fits.1)
