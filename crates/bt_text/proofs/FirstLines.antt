@@ -86,7 +86,7 @@ fork (k ∷ ks) (l ∷ ls) text r s p q a b =
     let y = BeginsWithLines-tail text f.0 f.1 l ls s f.2 (All-head (Lacks 10) l ls q) b in
     let same : k ≡ l = sym x.0 ∙ y.0 in
     ⊎_elim (λ h. inl (h.0, ap (λ z. l ∷ z) h.1 ∙ ap (λ z. z ∷ (ks ++ h.0)) (sym same), h.2)) (λ h. inr (h.0, ap (λ z. k ∷ z) h.1 ∙ ap (λ z. z ∷ (ls ++ h.0)) same, h.2))
-      (fork ks ls f.1 r s (All-tail (Lacks 10) k ks p) (All-tail (Lacks 10) l ls q) x.1 y.1)
+    (fork ks ls f.1 r s (All-tail (Lacks 10) k ks p) (All-tail (Lacks 10) l ls q) x.1 y.1)
 
 -- where the text ends
 pub BeginsWithLines-used : (text rest : List ℕ) (ls : List (List ℕ)) → BeginsWithLines text ls rest → (length rest ≤ length text) × (drop (length text - length rest) text ≡ rest)
