@@ -1,3 +1,4 @@
 pub mod Tallying
 pub mod Spelling
 pub mod NetLines
+pub mod Refusing

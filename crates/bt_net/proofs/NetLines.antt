@@ -7,7 +7,7 @@ use Rattle.std.proofs.lemmas.List.Concat.{flat_map-append}
 use Rattle.std.proofs.lemmas.List.Elements.{All-nil, All-cons, All-head, All-tail, All-append, All-map, All-weaker}
 use Rattle.std.proofs.lemmas.List.Sums.{sum_by-append, AllPass-from_list_all}
 use Rattle.bt_text.specs.Lines.{Lacks, SplitsAt, line, IsFirstLine, BeginsWithLines}
-use Rattle.bt_text.proofs.FirstLines.{fork, BeginsWithLines-tail, BeginsWithLines-nil, BeginsWithLines-cons, BeginsWithLines-used}
+use Rattle.bt_text.proofs.FirstLines.{fork, BeginsWithLines-tail, BeginsWithLines-nil, BeginsWithLines-cons, BeginsWithLines-push, BeginsWithLines-used}
 use Rattle.bt_text.proofs.Numerals.{decimal-lacks, decimal_apart}
 use Rattle.bt_net.specs.declared.fault.NetFault.{NetFault}
 use Rattle.bt_net.specs.declared.fault.NetFault.TheVariants.{NetLine, TooLarge, NoEnds, Memory}
@@ -18,7 +18,7 @@ use Rattle.bt_net.specs.declared.network.Target.{Target}
 use Rattle.bt_net.specs.declared.network.Target.TheVariants as to
 use Rattle.bt_net.specs.Network.{Network, IsWired, IsNetwork, IsLarge, LacksEnds, StartsIn, EndsIn, is_input, is_output, leaves, enters}
 use Rattle.bt_net.specs.NetText.{start_text, target_text, header, edge_text, net_text, BeginsWithNet}
-use Rattle.bt_net.specs.Refusals.{HasSmallSizes, StartFits, TargetFits, EdgeFits, HeaderRefused, EndsWith, SameSizes, GoesOn, EdgesRefused}
+use Rattle.bt_net.specs.Refusals.{HasSmallSizes, StartFits, TargetFits, EdgeFits, IsStarted, HeaderRefused, EndsWith, SameSizes, GoesOn, EdgesRefused}
 use Rattle.bt_net.specs.Wiring.{IsPartlyWired, with_edge}
 use Rattle.bt_net.proofs.Spelling.{start-lacks, target-lacks, ends_of, header_unique, IsHeader-header}
 
@@ -46,7 +46,7 @@ net_from_lines bytes n rest begins = subst (λ t. (bytes ≡ t ++ rest) ⊎ ((li
 lacks : (byte : ℕ) (xs : List ℕ) → list_all (λ x. not (eqb x byte)) xs ≡ true → Lacks byte xs
 lacks byte xs e = All-weaker (λ x. not (eqb x byte) ≡ true) (λ x. x ≢ byte) (λ x t same. cc (ap not (eq-eqb x byte same))) xs (AllPass-from_list_all (λ x. not (eqb x byte)) xs e)
 
-edge-lacks : (e : Edge) → EdgeFits e → Lacks 10 (edge_text e)
+pub edge-lacks : (e : Edge) → EdgeFits e → Lacks 10 (edge_text e)
 edge-lacks e fits =
     let start = start-lacks 10 e.start fits.0 (λ r. omega (arith, r.0)) (λ x. omega arith) (λ x. omega arith) in
     let target = target-lacks 10 e.target fits.1 (λ r. omega (arith, r.0)) (λ x. omega arith) (λ x. omega arith) in
@@ -84,11 +84,11 @@ target_fits n (to.Output i) small inside = omega (arith, small.few_outputs, insi
 pub edges_fit : (n : Network) → HasSmallSizes n → All (λ e. StartsIn n e.start) n.edges → All (λ e. EndsIn n e.target) n.edges → All EdgeFits n.edges
 edges_fit n small starts targets k d inside = (start_fits n (get_or n.edges k d).start small (starts k d inside), target_fits n (get_or n.edges k d).target small (targets k d inside))
 
-edges-lack : (es : List Edge) → All EdgeFits es → All (Lacks 10) (map edge_text es)
+pub edges-lack : (es : List Edge) → All EdgeFits es → All (Lacks 10) (map edge_text es)
 edges-lack es fits = All-map (Lacks 10) edge_text es (All-weaker EdgeFits (λ e. Lacks 10 (edge_text e)) edge-lacks es fits)
 
 -- an edge line is no line `end`
-edge-ne_end : (e : Edge) → edge_text e ≡ codes "end" → ⊥
+pub edge-ne_end : (e : Edge) → edge_text e ≡ codes "end" → ⊥
 edge-ne_end e is = omega (arith, ap (λ l. get_or l 1 0) is)
 
 start_apart : (s t : Start) → StartFits s → StartFits t → start_text s ≡ start_text t → s ≡ t
@@ -121,10 +121,10 @@ pub record AreRead (es : List Edge) : Type 0 where
   pub fit : All EdgeFits es
   pub caps : All (λ e. e.cap ≡ 1) es
 
-AreRead-head : (e : Edge) (es : List Edge) → AreRead (e ∷ es) → EdgeFits e × (e.cap ≡ 1)
+pub AreRead-head : (e : Edge) (es : List Edge) → AreRead (e ∷ es) → EdgeFits e × (e.cap ≡ 1)
 AreRead-head e es r = (All-head EdgeFits e es r.fit, All-head (λ x. x.cap ≡ 1) e es r.caps)
 
-AreRead-tail : (e : Edge) (es : List Edge) → AreRead (e ∷ es) → AreRead es
+pub AreRead-tail : (e : Edge) (es : List Edge) → AreRead (e ∷ es) → AreRead es
 AreRead-tail e es r = record { fit = All-tail EdgeFits e es r.fit; caps = All-tail (λ x. x.cap ≡ 1) e es r.caps }
 
 -- edge lines up to `end` that begin with the lines of some edges: these come first, and the others follow
@@ -152,14 +152,26 @@ count_front p es gs m most = omega (arith, sum_by-append (λ x. cond (p x) 1 0) 
 All-front : (P : Edge → Type 0) (es gs : List Edge) → All P (es ++ gs) → All P es
 All-front P es gs all k d inside = subst P (get_or_append_left es gs d k inside) (all k d (omega (arith, length-append es gs)))
 
--- the first edges of a wired network may stand
-pub partly_wired : (n : Network) (es gs : List Edge) → IsWired n → n.edges ≡ es ++ gs → IsPartlyWired (record n { edges = es })
-partly_wired n es gs wired is = record {
+-- a wired network is partly wired
+pub partly_of_wired : (n : Network) → IsWired n → IsPartlyWired n
+partly_of_wired n wired = record {
+  starts = wired.starts;
+  targets = wired.targets;
+  caps = wired.caps;
+  one_in = λ i inside. omega (arith, wired.one_in i inside);
+  one_out = λ o inside. omega (arith, wired.one_out o inside);
+  few_in = wired.few_in;
+  few_out = wired.few_out;
+}
+
+-- the first of the edges that may stand may stand
+pub partly_front : (n : Network) (es gs : List Edge) → IsPartlyWired n → n.edges ≡ es ++ gs → IsPartlyWired (record n { edges = es })
+partly_front n es gs wired is = record {
   starts = All-front (λ e. StartsIn n e.start) es gs (subst (All (λ e. StartsIn n e.start)) is wired.starts);
   targets = All-front (λ e. EndsIn n e.target) es gs (subst (All (λ e. EndsIn n e.target)) is wired.targets);
   caps = All-front (λ e. e.cap ≡ 1) es gs (subst (All (λ e. e.cap ≡ 1)) is wired.caps);
-  one_in = λ i inside. count_front (is_input i) es gs 1 (subst (λ xs. count_by (is_input i) xs ≤ 1) is (omega (arith, wired.one_in i inside)));
-  one_out = λ o inside. count_front (is_output o) es gs 1 (subst (λ xs. count_by (is_output o) xs ≤ 1) is (omega (arith, wired.one_out o inside)));
+  one_in = λ i inside. count_front (is_input i) es gs 1 (subst (λ xs. count_by (is_input i) xs ≤ 1) is (wired.one_in i inside));
+  one_out = λ o inside. count_front (is_output o) es gs 1 (subst (λ xs. count_by (is_output o) xs ≤ 1) is (wired.one_out o inside));
   few_in = λ s inside. count_front (enters s) es gs 2 (subst (λ xs. count_by (enters s) xs ≤ 2) is (wired.few_in s inside));
   few_out = λ s inside. count_front (leaves s) es gs 2 (subst (λ xs. count_by (leaves s) xs ≤ 2) is (wired.few_out s inside));
 }
@@ -209,19 +221,6 @@ whole m n more p q is =
     let tail = whole_tail m.edges n.edges more (AreRead-network m p) (AreRead-network n q) (ap (drop 1) is) in
     (same_network m n (SameSizes-header m n (HasSmallSizes-network m p) (HasSmallSizes-network n q) head) tail.0, tail.1)
 
--- two networks of the same sizes whose edge lines a text has up to `end`
-pub same_end : (w n : Network) (text r s : List ℕ) → IsNetwork n → SameSizes w n → IsWired w → EndsWith w text r → EndsWith n text s → (w ≡ n) × (r ≡ s)
-same_end w n text r s net sizes wired a b = ⊎_elim
-    (λ h. let same = whole_tail w.edges n.edges h.0 read (AreRead-network n net) h.1 in (same_network w n sizes same.0, BeginsWithLines-nil r s (subst (λ ls. BeginsWithLines r ls s) same.1 h.2)))
-    (λ h. let same = whole_tail n.edges w.edges h.0 (AreRead-network n net) read h.1 in (same_network w n sizes (sym same.0), sym (BeginsWithLines-nil s r (subst (λ ls. BeginsWithLines s ls r) same.1 h.2))))
-    (fork (map edge_text w.edges ++ codes "end" ∷ []) (map edge_text n.edges ++ codes "end" ∷ []) text r s (tail_lacks w.edges read) (tail_lacks n.edges (AreRead-network n net)) a b)
-  where
-    small : HasSmallSizes w
-    small = record { few_inputs = omega (arith, sizes.inputs, net.few_inputs); few_outputs = omega (arith, sizes.outputs, net.few_outputs); few_splitters = omega (arith, sizes.splitters, net.few_splitters) }
-
-    read : AreRead w.edges
-    read = record { fit = edges_fit w small wired.starts wired.targets; caps = wired.caps }
-
 -- a text begins with one network at most
 pub one_network : (bytes : List ℕ) (m n : Network) (r s : List ℕ) → IsNetwork m → IsNetwork n → BeginsWithNet bytes m r → BeginsWithNet bytes n s → (m ≡ n) × (r ≡ s)
 one_network bytes m n r s p q a b = ⊎_elim
@@ -237,25 +236,25 @@ pub first_of_net : (bytes first text : List ℕ) (n : Network) (rest : List ℕ)
 first_of_net bytes first text n rest net is begins =
     BeginsWithLines-tail bytes first text (header n) (map edge_text n.edges ++ codes "end" ∷ []) rest is (header-lacks n (HasSmallSizes-network n net)) (lines_from_net bytes n rest begins)
 
--- the header of a network is not refused
-pub header_stands : (first : List ℕ) (n : Network) (fault : NetFault) → IsNetwork n → first ≡ header n → HeaderRefused first fault → fault ≡ Memory
-header_stands first n (NetLine k) net is refused = absurd (refused.1 n.inputs n.outputs n.splitters (rw is (IsHeader-header n (HasSmallSizes-network n net))))
-header_stands first n TooLarge net is refused =
-    let same = header_unique first refused.0 refused.1 refused.2 n.inputs n.outputs n.splitters refused.3 (rw is (IsHeader-header n (HasSmallSizes-network n net))) in
-    absurd (⊎_elim (λ large. omega (arith, same.0, net.few_inputs)) (⊎_elim (λ large. omega (arith, same.1, net.few_outputs)) (λ large. omega (arith, same.2, net.few_splitters))) refused.4)
-header_stands first n NoEnds net is refused = absurd refused
-header_stands first n Memory net is refused = refl
+-- the header of a small network is not refused
+pub header_stands : (first : List ℕ) (n : Network) (fault : NetFault) → HasSmallSizes n → first ≡ header n → HeaderRefused first fault → ⊥
+header_stands first n (NetLine k) small is refused = refused.1 n.inputs n.outputs n.splitters (rw is (IsHeader-header n small))
+header_stands first n TooLarge small is refused =
+    let same = header_unique first refused.0 refused.1 refused.2 n.inputs n.outputs n.splitters refused.3 (rw is (IsHeader-header n small)) in
+    ⊎_elim (λ large. omega (arith, same.0, small.few_inputs)) (⊎_elim (λ large. omega (arith, same.1, small.few_outputs)) (λ large. omega (arith, same.2, small.few_splitters))) refused.4
+header_stands first n NoEnds small is refused = refused
+header_stands first n Memory small is refused = refused
 
 -- where a network's lines go on behind its first edges: with the line of the next edge, or with `end`
 abbrev NextLine : (w n : Network) (bytes : List ℕ) → Type 0
 NextLine w n bytes = ((bytes ≡ codes "end") × (w ≡ n)) ⊎ ((g : Edge) × (gs : List Edge) × (bytes ≡ edge_text g) × (n.edges ≡ w.edges ++ g ∷ gs))
 
-All-at : (es : List Edge) (g : Edge) (gs : List Edge) → All EdgeFits (es ++ g ∷ gs) → EdgeFits g
+pub All-at : (es : List Edge) (g : Edge) (gs : List Edge) → All EdgeFits (es ++ g ∷ gs) → EdgeFits g
 All-at es g gs all = subst EdgeFits (get_or_at es g gs g (length es) refl) (all (length es) g (omega (arith, length-append es (g ∷ gs))))
 
-one_more : (w n : Network) (g : Edge) (gs : List Edge) → SameSizes w n → IsWired n → n.edges ≡ w.edges ++ g ∷ gs → IsPartlyWired (with_edge w g)
+pub one_more : (w n : Network) (g : Edge) (gs : List Edge) → SameSizes w n → IsPartlyWired n → n.edges ≡ w.edges ++ g ∷ gs → IsPartlyWired (with_edge w g)
 one_more w n g gs sizes wired is =
-    let part = partly_wired n (w.edges ++ g ∷ []) gs wired (is ∙ sym (append_assoc w.edges (g ∷ []) gs)) in
+    let part = partly_front n (w.edges ++ g ∷ []) gs wired (is ∙ sym (append_assoc w.edges (g ∷ []) gs)) in
     let same : SameSizes (with_edge w g) (record n { edges = w.edges ++ g ∷ [] }) = record { inputs = sizes.inputs; outputs = sizes.outputs; splitters = sizes.splitters } in
     rw (same_network (with_edge w g) (record n { edges = w.edges ++ g ∷ [] }) same refl) part
 
@@ -280,17 +279,20 @@ next_line w n text bytes after rest net sizes on begins = ⊎_elim
     by (g ∷ gs) is lines = inr (g, gs, (BeginsWithLines-tail on.rest bytes after (edge_text g) (map edge_text gs ++ codes "end" ∷ []) rest on.next (edge-lacks g (All-at w.edges g gs (subst (All EdgeFits) is (AreRead-network n net).fit))) lines).0, is)
 
 -- no line of a network is refused behind its first edges
-pub edges_stand : (w n : Network) (text rest : List ℕ) (fault : NetFault) → IsNetwork n → SameSizes w n → BeginsWithLines text (map edge_text n.edges ++ codes "end" ∷ []) rest → EdgesRefused w text fault → fault ≡ Memory
-edges_stand w n text rest (NetLine k) net sizes begins refused = absurd (⊎_elim
-    (λ last. refused.3.no_end last.0 (rw last.1 net.wired))
-    (λ next. refused.3.no_edge next.0 next.2 (one_more w n next.0 next.1 sizes net.wired next.3))
-    (next_line w n text refused.0 refused.1 rest net sizes refused.2 begins))
-edges_stand w n text rest TooLarge net sizes begins refused = absurd (⊎_elim
-    (λ last. edge-ne_end refused.0 last.0)
-    (λ next. omega (arith, net.few_edges, refused.4, ap length next.3, length-append w.edges (next.0 ∷ next.1)))
-    (next_line w n text (edge_text refused.0) refused.1 rest net sizes refused.2 begins))
-edges_stand w n text rest NoEnds net sizes begins refused = absurd refused
-edges_stand w n text rest Memory net sizes begins refused = refl
+pub edges_stand : (w n : Network) (text rest : List ℕ) (fault : NetFault) → IsNetwork n → SameSizes w n → BeginsWithLines text (map edge_text n.edges ++ codes "end" ∷ []) rest → EdgesRefused w text fault → ⊥
+edges_stand w n text rest (NetLine k) net sizes begins refused = ⊎_elim
+    (λ last. refused.3.0.no_end last.0 (rw last.1 net.wired))
+    (λ next. refused.3.0.no_edge next.0 next.2 (one_more w n next.0 next.1 sizes (partly_of_wired n net.wired) next.3))
+    (next_line w n text refused.0 refused.1 rest net sizes refused.2 begins)
+edges_stand w n text rest TooLarge net sizes begins refused = ⊎_elim
+    (λ last. edge-ne_end refused.3.0 (sym refused.3.1 ∙ last.0))
+    (λ next. omega (arith, net.few_edges, refused.3.3, ap length next.3, length-append w.edges (next.0 ∷ next.1)))
+    (next_line w n text refused.0 refused.1 rest net sizes refused.2 begins)
+edges_stand w n text rest NoEnds net sizes begins refused = ⊎_elim
+    (λ last. ⊎_elim (λ none. omega (arith, none, sizes.inputs, net.some_input)) (λ none. omega (arith, none, sizes.outputs, net.some_output)) refused.3.2)
+    (λ next. edge-ne_end next.0 (sym next.2 ∙ refused.3.0))
+    (next_line w n text refused.0 refused.1 rest net sizes refused.2 begins)
+edges_stand w n text rest Memory net sizes begins refused = refused.3
 
 -- the edge that comes last has small numbers
 pub last_fits : (w : Network) (e : Edge) → HasSmallSizes w → IsPartlyWired (with_edge w e) → EdgeFits e
@@ -323,31 +325,27 @@ network_of w wired small ends = record {
     some : (k : ℕ) → (k ≡ 0 → ⊥) → 1 ≤ k
     some k h = omega (arith, h)
 
--- a network is neither too large nor without ends
-pub network_stands : (w : Network) (fault : NetFault) → IsNetwork w → (fault ≡ TooLarge → IsLarge w) → (fault ≡ NoEnds → LacksEnds w) → ((k : ℕ) → fault ≡ NetLine k → ⊥) → fault ≡ Memory
-network_stands w (NetLine k) net large ends none = absurd (none k refl)
-network_stands w TooLarge net large ends none =
-    absurd (⊎_elim (λ h. omega (arith, net.few_inputs, h)) (⊎_elim (λ h. omega (arith, net.few_outputs, h)) (⊎_elim (λ h. omega (arith, net.few_splitters, h)) (λ h. omega (arith, net.few_edges, h)))) (large refl))
-network_stands w NoEnds net large ends none = absurd (⊎_elim (λ h. omega (arith, net.some_input, h)) (λ h. omega (arith, net.some_output, h)) (ends refl).1)
-network_stands w Memory net large ends none = refl
+-- networks of the same sizes have one header
+pub header-same : (m n : Network) → SameSizes m n → header m ≡ header n
+header-same m n s = let a = s.inputs in let b = s.outputs in let c = s.splitters in λ i. codes "net " ++ decimal (a i) ++ codes " " ++ decimal (b i) ++ codes " " ++ decimal (c i)
 
 -- the text of a header and of edges up to `end`
-pub net_of_parts : (bytes first text rest : List ℕ) (m w : Network) → IsFirstLine bytes first text → first ≡ header m → SameSizes m w → EndsWith w text rest → BeginsWithLines bytes (net_lines w) rest
+net_of_parts : (bytes first text rest : List ℕ) (m w : Network) → IsFirstLine bytes first text → first ≡ header m → SameSizes m w → EndsWith w text rest → BeginsWithLines bytes (net_lines w) rest
 net_of_parts bytes first text rest m w is head sizes ends =
-    let same : first ≡ header w = head ∙ (let a = sizes.inputs in let b = sizes.outputs in let c = sizes.splitters in λ i. codes "net " ++ decimal (a i) ++ codes " " ++ decimal (b i) ++ codes " " ++ decimal (c i)) in
-    BeginsWithLines-cons bytes (header w) text rest (map edge_text w.edges ++ codes "end" ∷ []) (subst (λ l. IsFirstLine bytes l text) same is) ends
+    BeginsWithLines-cons bytes (header w) text rest (map edge_text w.edges ++ codes "end" ∷ []) (subst (λ l. IsFirstLine bytes l text) (head ∙ header-same m w sizes) is) ends
     (rw (flat_map-append line (map edge_text w.edges) (codes "end" ∷ [])) (omega (arith, length-append (flat_map line (map edge_text w.edges)) (flat_map line (codes "end" ∷ [])))))
-
-pub SameSizes-trans : (l m n : Network) → SameSizes l m → SameSizes l n → SameSizes m n
-SameSizes-trans l m n p q = record { inputs = sym p.inputs ∙ q.inputs; outputs = sym p.outputs ∙ q.outputs; splitters = sym p.splitters ∙ q.splitters }
 
 pub HasSmallSizes-same : (m n : Network) → SameSizes m n → HasSmallSizes m → HasSmallSizes n
 HasSmallSizes-same m n s h = record { few_inputs = omega (arith, s.inputs, h.few_inputs); few_outputs = omega (arith, s.outputs, h.few_outputs); few_splitters = omega (arith, s.splitters, h.few_splitters) }
 
+-- where a text goes on with `end`
+pub ends_with : (n : Network) (text rest : List ℕ) → GoesOn n text (codes "end") rest → EndsWith n text rest
+ends_with n text rest on = BeginsWithLines-push text on.rest (codes "end") rest (map edge_text n.edges) on.edges on.next (omega arith)
+
 -- what a text of a header and of edges up to `end` is, and where it ends
-pub read_parts : (bytes first text rest : List ℕ) (m w : Network) → IsFirstLine bytes first text → first ≡ header m → SameSizes m w → EndsWith w text rest
+pub read_parts : (bytes first text rest : List ℕ) (m w : Network) → IsFirstLine bytes first text → IsStarted m first → SameSizes m w → GoesOn w text (codes "end") rest
     → BeginsWithNet bytes w rest × (length rest ≤ length bytes) × (drop (length bytes - length rest) bytes ≡ rest)
-read_parts bytes first text rest m w is head sizes ends =
-    let lines = net_of_parts bytes first text rest m w is head sizes ends in
+read_parts bytes first text rest m w is start sizes on =
+    let lines = net_of_parts bytes first text rest m w is start.line_is sizes (ends_with w text rest on) in
     let used = BeginsWithLines-used bytes rest (net_lines w) lines in
     (net_from_lines bytes w rest lines, used.0, used.1)

@@ -1,5 +1,5 @@
 ghost use Rattle.std.specs.Prelude.{◌≡◌, ℕ, ◌-◌, ◌^◌, min, IfOk, IfErr, IfSome, IfNone};
-ghost use Rattle.bt_net.specs.Refusals.{IsHeader, IsStarted, HeaderRefused};
+ghost use Rattle.bt_net.specs.Refusals.{IsHeader, IsStarted, HeaderRefused, UnlessMemory};
 
 use crate::fault::NetFault;
 use crate::wiring::Wiring;
@@ -9,7 +9,7 @@ use std::alloc::Global;
 /// The network that the first line of a text begins, without edges yet.
 pub fn read_header(alloc: Global, line: &[u8]) -> Result<Wiring, NetFault>
     ensures started { IfOk result (λ wiring. IsStarted wiring line.now) }
-    ensures refused { IfErr result (λ fault. HeaderRefused line.now fault) }
+    ensures refused { IfErr result (UnlessMemory (HeaderRefused line.now)) }
 {
     let Some(sizes) = read_sizes(line) else {
         return Err(NetFault::NetLine(1));

@@ -1,7 +1,7 @@
-ghost use Rattle.std.specs.Prelude.{◌≡◌, ℕ, ◌+◌, ◌≤◌, [], List, length, drop, IfOk, IfErr, MatchResult};
+ghost use Rattle.std.specs.Prelude.{◌≡◌, ℕ, ◌+◌, ◌≤◌, [], List, codes, length, drop, IfOk, IfErr, MatchResult};
 ghost use Rattle.bt_net.specs.Network.{Network, IsNetwork, IsWired};
 ghost use Rattle.bt_net.specs.NetText.{BeginsWithNet};
-ghost use Rattle.bt_net.specs.Refusals.{EndsWith, EdgesRefused, HasSmallSizes, SameSizes};
+ghost use Rattle.bt_net.specs.Refusals.{GoesOn, EdgesRefused, Refuses, UnlessMemory, HasSmallSizes, SameSizes};
 ghost use Rattle.bt_net.specs.Wiring.{IsPartlyWired};
 
 use crate::fault::NetFault;
@@ -36,6 +36,11 @@ pub fn read(alloc: Global, bytes: &[u8]) -> Result<NetRead, NetFault>
     // Where the bytes begin with a network, there is no other answer but want of memory.
     ensures only { (n : Network) (rest : List ℕ) → IsNetwork n → BeginsWithNet bytes.now n rest
         → MatchResult result (λ r. (r.net ≡ n) × (drop r.used bytes.now ≡ rest)) (λ fault. fault ≡ NetFault.Memory) }
+
+    // Each refusal has its cause, and where there is a cause, that refusal comes.
+    ensures refused { IfErr result (UnlessMemory (Refuses bytes.now)) }
+    ensures refuses { (fault : NetFault) → Refuses bytes.now fault
+        → MatchResult result (λ _. ⊥) (UnlessMemory (λ other. other ≡ fault)) }
 {
     let (line, text) = first_line(bytes);
     let mut wiring = read_header(alloc, line)?;
@@ -56,10 +61,9 @@ fn read_edges<'a>(wiring: &mut Wiring, text: &'a [u8]) -> Result<&'a [u8], NetFa
     requires none { wiring.old.edges ≡ [] }
     requires small { HasSmallSizes wiring.old }
     ensures sizes { SameSizes wiring.old wiring.new }
-    ensures few { length wiring.new.edges ≤ 2048 }
-    ensures ended { IfOk result (λ rest. EndsWith wiring.new text.now rest.now) }
+    ensures ended { IfOk result (λ rest. GoesOn wiring.new text.now (codes "end") rest.now) }
     ensures wired { IfOk result (λ _. IsWired wiring.new) }
-    ensures refused { IfErr result (λ fault. EdgesRefused wiring.new text.now fault) }
+    ensures refused { IfErr result (UnlessMemory (EdgesRefused wiring.new text.now)) }
 {
     let mut rest = text;
     loop {

@@ -102,3 +102,10 @@ BeginsWithLines-cons text bytes rest after ls (inr q) (inl e) some =
     absurd (omega (arith, length-append (flat_map line ls) after, ap length (sym q.2 ∙ e)))
 BeginsWithLines-cons text bytes rest after ls (inr q) (inr e) some =
     absurd (omega (arith, ap length e.0, length-append rest (10 ∷ []), ap length q.2))
+
+-- a text has one first line
+pub IsFirstLine-unique : (text k l r s : List ℕ) → IsFirstLine text k r → IsFirstLine text l s → (k ≡ l) × (r ≡ s)
+IsFirstLine-unique text k l r s (inl p) (inl q) = SplitsAt-unique p q
+IsFirstLine-unique text k l r s (inl p) (inr q) = absurd (SplitsAt-lacks p q.0)
+IsFirstLine-unique text k l r s (inr p) (inl q) = absurd (SplitsAt-lacks q p.0)
+IsFirstLine-unique text k l r s (inr p) (inr q) = (sym p.1 ∙ q.1, p.2 ∙ sym q.2)

@@ -1,0 +1,164 @@
+-- A text is refused for one cause, and never where a network's text stands.
+use Rattle.std.proofs.Common.{◌≡◌, ℕ, ◌<◌, ◌≤◌, ◌⊎◌, List, [], ◌∷◌, ◌++◌, length, map, refl, sym, ◌∙◌, ap, subst, inl, inr, ⊎_elim, arith, length-append}
+use Rattle.std.specs.Prelude.{codes}
+use Rattle.std.specs.List.{All}
+use Rattle.std.proofs.lemmas.List.{append-nil}
+use Rattle.bt_text.specs.Lines.{IsFirstLine, BeginsWithLines}
+use Rattle.bt_text.proofs.FirstLines.{fork, BeginsWithLines-tail, BeginsWithLines-nil, IsFirstLine-unique}
+use Rattle.bt_net.specs.declared.fault.NetFault.{NetFault}
+use Rattle.bt_net.specs.declared.fault.NetFault.TheVariants.{NetLine, TooLarge, NoEnds, Memory}
+use Rattle.bt_net.specs.declared.network.Edge.{Edge}
+use Rattle.bt_net.specs.Network.{Network, IsWired, IsNetwork, IsLarge, LacksEnds}
+use Rattle.bt_net.specs.NetText.{edge_text, BeginsWithNet}
+use Rattle.bt_net.specs.Refusals.{EdgeFits, HasSmallSizes, HeaderRefused, IsStarted, SameSizes, LineRefused, GoesOn, EdgesRefused, Refuses, UnlessMemory}
+use Rattle.bt_net.specs.Wiring.{IsPartlyWired, with_edge}
+use Rattle.bt_net.proofs.NetLines.{AreRead, AreRead-head, AreRead-tail, AreRead-partly, edge_apart, edge-lacks, edges-lack, edge-ne_end, same_network, one_more, All-at, header_stands, edges_stand, first_of_net, SameSizes-header, header-same, HasSmallSizes-same, HasSmallSizes-network}
+
+-- a cause that holds, unless there was no memory
+pub UnlessMemory-weaker : (P Q : NetFault → Type 0) (f : NetFault) → ((g : NetFault) → P g → Q g) → UnlessMemory P f → UnlessMemory Q f
+UnlessMemory-weaker P Q (NetLine k) to p = to (NetLine k) p
+UnlessMemory-weaker P Q TooLarge to p = to TooLarge p
+UnlessMemory-weaker P Q NoEnds to p = to NoEnds p
+UnlessMemory-weaker P Q Memory to p = tt
+
+-- where no cause holds, there was no memory
+pub UnlessMemory-none : (P : NetFault → Type 0) (f : NetFault) → ((g : NetFault) → P g → ⊥) → UnlessMemory P f → f ≡ Memory
+UnlessMemory-none P (NetLine k) no_cause p = absurd (no_cause (NetLine k) p)
+UnlessMemory-none P TooLarge no_cause p = absurd (no_cause TooLarge p)
+UnlessMemory-none P NoEnds no_cause p = absurd (no_cause NoEnds p)
+UnlessMemory-none P Memory no_cause p = refl
+
+-- edge lines that begin with the lines of some edges: these come first, and the others follow
+go_edges : (es fs : List Edge) (more : List (List ℕ)) → AreRead es → AreRead fs → map edge_text fs ≡ map edge_text es ++ more
+    → (gs : List Edge) × (fs ≡ es ++ gs) × (more ≡ map edge_text gs)
+go_edges [] fs more p q is = (fs, refl, sym is)
+go_edges (e ∷ es) [] more p q is = absurd (cc)
+go_edges (e ∷ es) (f ∷ fs) more p q is =
+    let a = AreRead-head e es p in
+    let b = AreRead-head f fs q in
+    let same = edge_apart f e b.0 a.0 b.1 a.1 (cc) in
+    let rest = go_edges es fs more (AreRead-tail e es p) (AreRead-tail f fs q) (cc) in
+    (rest.0, (λ i. same i ∷ rest.1 i), rest.2)
+
+-- the line behind the edges of one network so far, where the edges of another begin with these: the
+-- networks are one, or it is the line of the other's next edge
+abbrev Behind : (n m : Network) (bytes rest s : List ℕ) → Type 0
+Behind n m bytes rest s = ((n ≡ m) × (rest ≡ s)) ⊎ ((g : Edge) × (bytes ≡ edge_text g) × IsPartlyWired (with_edge n g) × (length n.edges < 2048))
+
+behind : (n m : Network) (text bytes after s : List ℕ) (on : GoesOn n text bytes after) → HasSmallSizes n → HasSmallSizes m → SameSizes n m → IsPartlyWired m → length m.edges ≤ 2048
+    → (more : List (List ℕ)) → map edge_text m.edges ≡ map edge_text n.edges ++ more → BeginsWithLines on.rest more s → Behind n m bytes on.rest s
+behind n m text bytes after s on small smaller sizes wired few more is begins =
+    let ahead = go_edges n.edges m.edges more (AreRead-partly n small on.wired) (AreRead-partly m smaller wired) is in
+    by ahead.0 ahead.1 (subst (λ ls. BeginsWithLines on.rest ls s) ahead.2 begins)
+  where
+    by : (gs : List Edge) → m.edges ≡ n.edges ++ gs → BeginsWithLines on.rest (map edge_text gs) s → Behind n m bytes on.rest s
+    by [] same lines = inl (same_network n m sizes (sym (same ∙ append-nil n.edges)), BeginsWithLines-nil on.rest s lines)
+    by (g ∷ gs) same lines =
+        let fits : EdgeFits g = All-at n.edges g gs (subst (All EdgeFits) same (AreRead-partly m smaller wired).fit) in
+        inr (
+          g,
+          (BeginsWithLines-tail on.rest bytes after (edge_text g) (map edge_text gs) s on.next (edge-lacks g fits) lines).0,
+          one_more n m g gs sizes wired same,
+          omega (arith, few, ap length same, length-append n.edges (g ∷ gs)),
+        )
+
+-- a line that is refused is no edge that may come next
+not_next : (n : Network) (bytes : List ℕ) (f : NetFault) (g : Edge) → LineRefused n bytes f → bytes ≡ edge_text g → IsPartlyWired (with_edge n g) → length n.edges < 2048 → ⊥
+not_next n bytes (NetLine k) g refused is wired few = refused.0.no_edge g is wired
+not_next n bytes TooLarge g refused is wired few = omega (arith, refused.3)
+not_next n bytes NoEnds g refused is wired few = edge-ne_end g (sym is ∙ refused.0)
+not_next n bytes Memory g refused is wired few = refused
+
+-- a line is refused for one cause
+line_same : (n : Network) (bytes : List ℕ) (f g : NetFault) → LineRefused n bytes f → LineRefused n bytes g → f ≡ g
+line_same n bytes (NetLine k) (NetLine j) p q = ap NetLine (p.1 ∙ sym q.1)
+line_same n bytes (NetLine k) TooLarge p q = absurd (p.0.no_edge q.0 q.1 q.2)
+line_same n bytes (NetLine k) NoEnds p q = absurd (p.0.no_end q.0 q.1)
+line_same n bytes TooLarge (NetLine j) p q = absurd (q.0.no_edge p.0 p.1 p.2)
+line_same n bytes TooLarge TooLarge p q = refl
+line_same n bytes TooLarge NoEnds p q = absurd (edge-ne_end p.0 (sym p.1 ∙ q.0))
+line_same n bytes NoEnds (NetLine j) p q = absurd (q.0.no_end p.0 p.1)
+line_same n bytes NoEnds TooLarge p q = absurd (edge-ne_end q.0 (sym q.1 ∙ p.0))
+line_same n bytes NoEnds NoEnds p q = refl
+line_same n bytes f Memory p q = absurd q
+line_same n bytes Memory g p q = absurd p
+
+-- a header is refused for one cause
+header_same : (bytes : List ℕ) (f g : NetFault) → HeaderRefused bytes f → HeaderRefused bytes g → f ≡ g
+header_same bytes (NetLine k) (NetLine j) p q = ap NetLine (p.0 ∙ sym q.0)
+header_same bytes (NetLine k) TooLarge p q = absurd (p.1 q.0 q.1 q.2 q.3)
+header_same bytes TooLarge (NetLine j) p q = absurd (q.1 p.0 p.1 p.2 p.3)
+header_same bytes TooLarge TooLarge p q = refl
+header_same bytes f NoEnds p q = absurd q
+header_same bytes f Memory p q = absurd q
+header_same bytes NoEnds g p q = absurd p
+header_same bytes Memory g p q = absurd p
+
+-- behind one header a text is refused for one cause
+edges_same : (n m : Network) (text : List ℕ) (f g : NetFault) → HasSmallSizes n → HasSmallSizes m → SameSizes n m → EdgesRefused n text f → EdgesRefused m text g → f ≡ g
+edges_same n m text f g small smaller sizes p q = ⊎_elim
+    (λ h. ⊎_elim
+    (λ same. let line = IsFirstLine-unique q.2.rest p.0 q.0 p.1 q.1 (rw same.1 at p.2.next) q.2.next in
+    line_same m q.0 f g (rw (same.0, line.0) at p.3) q.3)
+    (λ next. absurd (not_next n p.0 f next.0 p.3 next.1 next.2 next.3))
+    (behind n m text p.0 p.1 q.2.rest p.2 small smaller sizes q.2.wired q.2.few h.0 h.1 h.2))
+    (λ h. ⊎_elim
+    (λ same. let line = IsFirstLine-unique p.2.rest q.0 p.0 q.1 p.1 (rw same.1 at q.2.next) p.2.next in
+    line_same n p.0 f g p.3 (rw (same.0, line.0) at q.3))
+    (λ next. absurd (not_next m q.0 g next.0 q.3 next.1 next.2 next.3))
+    (behind m n text q.0 q.1 p.2.rest q.2 smaller small back p.2.wired p.2.few h.0 h.1 h.2))
+    (fork (map edge_text n.edges) (map edge_text m.edges) text p.2.rest q.2.rest (edges-lack n.edges (AreRead-partly n small p.2.wired).fit) (edges-lack m.edges (AreRead-partly m smaller q.2.wired).fit) p.2.edges q.2.edges)
+  where
+    back : SameSizes m n
+    back = record { inputs = sym sizes.inputs; outputs = sym sizes.outputs; splitters = sym sizes.splitters }
+
+-- a text is refused for one cause
+pub Refuses-unique : (text : List ℕ) (f g : NetFault) → Refuses text f → Refuses text g → f ≡ g
+Refuses-unique text f g p q =
+    let line = IsFirstLine-unique text p.0 q.0 p.1 q.1 p.2 q.2 in
+    ⊎_elim
+    (λ a. ⊎_elim
+    (λ b. header_same q.0 f g (rw line.0 at a) b)
+    (λ b. absurd (header_stands p.0 b.0 f b.2 (line.0 ∙ b.1) a))
+    q.3)
+    (λ a. ⊎_elim
+    (λ b. absurd (header_stands q.0 a.0 g a.2 (sym line.0 ∙ a.1) b))
+    (λ b. edges_same a.0 b.0 q.1 f g a.2 b.2 (SameSizes-header a.0 b.0 a.2 b.2 (sym a.1 ∙ line.0 ∙ b.1)) (rw line.1 at a.3) b.3)
+    q.3)
+    p.3
+
+-- a network's text is not refused
+pub Refuses-network : (text rest : List ℕ) (n : Network) (f : NetFault) → IsNetwork n → BeginsWithNet text n rest → Refuses text f → ⊥
+Refuses-network text rest n f net begins p =
+    let first = first_of_net text p.0 p.1 n rest net p.2 begins in
+    let small = HasSmallSizes-network n net in
+    ⊎_elim
+    (λ a. header_stands p.0 n f small first.0 a)
+    (λ a. edges_stand a.0 n p.1 rest f net (SameSizes-header a.0 n a.2 small (sym a.1 ∙ first.0)) first.1 a.3)
+    p.3
+
+-- what is refused is no network's text
+pub memory_only : (text rest : List ℕ) (n : Network) (f : NetFault) → UnlessMemory (Refuses text) f → IsNetwork n → BeginsWithNet text n rest → f ≡ Memory
+memory_only text rest n f refused net begins = UnlessMemory-none (Refuses text) f (λ g. Refuses-network text rest n g net begins) refused
+
+-- what is refused has no other cause
+pub cause_only : (text : List ℕ) (f g : NetFault) → UnlessMemory (Refuses text) f → Refuses text g → UnlessMemory (λ other. other ≡ g) f
+cause_only text f g refused cause = UnlessMemory-weaker (Refuses text) (λ other. other ≡ g) f (λ other why. Refuses-unique text other g why cause) refused
+
+-- a text whose first line is refused
+pub refused_first : (text first rest : List ℕ) (f : NetFault) → IsFirstLine text first rest → UnlessMemory (HeaderRefused first) f → UnlessMemory (Refuses text) f
+refused_first text first rest f is refused = UnlessMemory-weaker (HeaderRefused first) (Refuses text) f (λ g why. (first, rest, is, inl why)) refused
+
+-- a text that is refused behind the header of a network
+pub refused_behind : (text first rest : List ℕ) (m w : Network) (f : NetFault) → IsFirstLine text first rest → IsStarted m first → SameSizes m w → UnlessMemory (EdgesRefused w rest) f → UnlessMemory (Refuses text) f
+refused_behind text first rest m w f is start sizes refused =
+    UnlessMemory-weaker (EdgesRefused w rest) (Refuses text) f (λ g why. (first, rest, is, inr (w, start.line_is ∙ header-same m w sizes, HasSmallSizes-same m w sizes start.small, why))) refused
+
+-- why there is no network of a text's edges up to `end`
+pub refused_end : (w : Network) (text rest : List ℕ) (f : NetFault) → HasSmallSizes w → IsWired w → GoesOn w text (codes "end") rest
+    → (f ≡ TooLarge → IsLarge w) → (f ≡ NoEnds → LacksEnds w) → ((k : ℕ) → f ≡ NetLine k → ⊥) → UnlessMemory (EdgesRefused w text) f
+refused_end w text rest (NetLine k) small wired on large ends none = absurd (none k refl)
+refused_end w text rest TooLarge small wired on large ends none =
+    absurd (⊎_elim (λ h. omega (arith, small.few_inputs, h)) (⊎_elim (λ h. omega (arith, small.few_outputs, h)) (⊎_elim (λ h. omega (arith, small.few_splitters, h)) (λ h. omega (arith, on.few, h)))) (large refl))
+refused_end w text rest NoEnds small wired on large ends none = (codes "end", rest, on, (refl, wired, (ends refl).1))
+refused_end w text rest Memory small wired on large ends none = tt
