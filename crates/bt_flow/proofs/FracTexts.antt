@@ -74,10 +74,10 @@ tail_lacks false n byte h below slash = All-cons (λ b. b ≢ byte) 47 (decimal 
 pub frac_text_same : (a b : Ratio) → IsLowest a → IsLowest b → frac_text a ≡ frac_text b → a ≡ b
 frac_text_same a b ha hb e =
     let pieces =
-      piece_is 47 (signed_decimal a.over) (tail (a.under == 1) a.under) (signed_decimal b.over) (tail (b.under == 1) b.under)
-      (signed_lacks a.over 47 ha.over_fits (omega arith) (omega arith)) (signed_lacks b.over 47 hb.over_fits (omega arith) (omega arith))
-      (tail_begins (a.under == 1) a.under) (tail_begins (b.under == 1) b.under)
-      (sym (parts (a.under == 1) (signed_decimal a.over) a.under) ∙ e ∙ parts (b.under == 1) (signed_decimal b.over) b.under) in
+    piece_is 47 (signed_decimal a.over) (tail (a.under == 1) a.under) (signed_decimal b.over) (tail (b.under == 1) b.under)
+    (signed_lacks a.over 47 ha.over_fits (omega arith) (omega arith)) (signed_lacks b.over 47 hb.over_fits (omega arith) (omega arith))
+    (tail_begins (a.under == 1) a.under) (tail_begins (b.under == 1) b.under)
+    (sym (parts (a.under == 1) (signed_decimal a.over) a.under) ∙ e ∙ parts (b.under == 1) (signed_decimal b.over) b.under) in
     let overs = signed_same a.over b.over ha.over_fits hb.over_fits pieces.0 in
     let unders = tail_same (a.under == 1) (b.under == 1) a.under b.under (eqb-true a.under 1) (eqb-true b.under 1) ha.under_fits hb.under_fits pieces.1 in
     let mk : ℤ → ℕ → Ratio = λ over under. record { over = over; under = under } in

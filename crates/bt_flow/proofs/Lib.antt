@@ -5,3 +5,13 @@ pub mod Faults
 pub mod WrongLines
 pub mod StateTexts
 pub mod Refusals
+pub mod Adding
+pub mod Agreeing
+pub mod AtEdges
+pub mod Both
+pub mod Compared
+pub mod Each
+pub mod Judged
+pub mod Numbers
+pub mod Sharing
+pub mod Totals

@@ -77,8 +77,8 @@ spaced_same P word lacks same (x ∷ xs) (y ∷ ys) all all' e =
     let good' = All-head P y ys all' in
     let texts : word x ++ spaced (map word xs) ≡ word y ++ spaced (map word ys) = cc in
     let pieces =
-      piece_is 32 (word x) (spaced (map word xs)) (word y) (spaced (map word ys)) (lacks x good) (lacks y good') (spaced_begins (map word xs))
-      (spaced_begins (map word ys)) texts in
+    piece_is 32 (word x) (spaced (map word xs)) (word y) (spaced (map word ys)) (lacks x good) (lacks y good') (spaced_begins (map word xs))
+    (spaced_begins (map word ys)) texts in
     let heads = same x y good good' pieces.0 in
     let tails = spaced_same P word lacks same xs ys (All-tail P x xs all) (All-tail P y ys all') pieces.1 in
     cc
@@ -123,14 +123,14 @@ record HasLines (p : Property) (t : State) (bytes : List ℕ) : Type 0 where
   rest : List (List ℕ)
   lines : lines_of bytes
       ≡ title p ∷ fraction_line (codes "load") t.loads.items ∷ fraction_line (codes "room") t.rooms.items
-        ∷ fraction_line (codes "flow") t.flows.items ∷ mark_line t.backed.items ∷ codes "end" ∷ rest
+      ∷ fraction_line (codes "flow") t.flows.items ∷ mark_line t.backed.items ∷ codes "end" ∷ rest
   blank : AreRight [] rest
 
 has_lines : (p : Property) (t : State) (bytes : List ℕ) → IsStateText p t bytes → HasLines p t bytes
 unfolding title fraction_line mark_line lines_after
 has_lines p t bytes h =
     elim h.text [
-      inl ends ↦ record {
+      | inl ends ↦ record {
         rest = [];
         lines = ap lines_of (ends ∙ sym (append-nil (state_text p t))) ∙ six [] [] (cut_lines (codes "end" ++ []) (codes "end") [] (record { lacks = lacks_feed (codes "end") refl; text_is = refl; begins = inl refl }));
         blank = record { at = λ k. omega arith };
@@ -144,8 +144,8 @@ has_lines p t bytes h =
   where
     six : (rest : List ℕ) (tail : List (List ℕ)) → lines_of (codes "end" ++ rest) ≡ codes "end" ∷ tail
         → lines_of (state_text p t ++ rest)
-          ≡ title p ∷ fraction_line (codes "load") t.loads.items ∷ fraction_line (codes "room") t.rooms.items
-            ∷ fraction_line (codes "flow") t.flows.items ∷ mark_line t.backed.items ∷ codes "end" ∷ tail
+        ≡ title p ∷ fraction_line (codes "load") t.loads.items ∷ fraction_line (codes "room") t.rooms.items
+        ∷ fraction_line (codes "flow") t.flows.items ∷ mark_line t.backed.items ∷ codes "end" ∷ tail
     six rest tail last =
         six_lines (title p) (fraction_line (codes "load") t.loads.items) (fraction_line (codes "room") t.rooms.items)
         (fraction_line (codes "flow") t.flows.items) (mark_line t.backed.items) (codes "end") rest tail (title_lacks p)
@@ -233,7 +233,7 @@ found_text p t bytes a b c d e f r1 r2 r3 r4 r5 r6 inputs outputs edges cuts is_
       rooms = is_c.spells.meets;
       flows = is_d.spells.meets;
       text = elim leads_f.begins [
-        inl none ↦ inl (whole ∙ ap (λ r. state_text p t ++ r) none ∙ append-nil (state_text p t))
+        | inl none ↦ inl (whole ∙ ap (λ r. state_text p t ++ r) none ∙ append-nil (state_text p t))
         | inr more ↦ inr (more.0, All-tail IsBlank 10 more.0 (subst (λ r. All IsBlank r) more.1 blank), whole ∙ ap (λ r. state_text p t ++ r) more.1)
       ];
     }

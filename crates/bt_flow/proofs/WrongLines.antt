@@ -30,12 +30,12 @@ pub cut_lines : (text line rest : List ℕ) → CutsAt 10 text line rest → lin
 unfolding lines_after
 cut_lines text line rest cuts =
     elim cuts.begins [
-      inl none ↦
-        ap lines_of (cuts.text_is ∙ ap (λ r. line ++ r) none ∙ append-nil line) ∙ slice_split_none (λ b. b == 10) line (no_feeds line cuts.lacks)
-        ∙ ap (λ r. line ∷ lines_after r) (sym none)
+      | inl none ↦
+          ap lines_of (cuts.text_is ∙ ap (λ r. line ++ r) none ∙ append-nil line) ∙ slice_split_none (λ b. b == 10) line (no_feeds line cuts.lacks)
+          ∙ ap (λ r. line ∷ lines_after r) (sym none)
       | inr more ↦
-        ap lines_of (cuts.text_is ∙ ap (λ r. line ++ r) more.1) ∙ slice_split_at (λ b. b == 10) line 10 more.0 (no_feeds line cuts.lacks) refl
-        ∙ ap (λ r. line ∷ lines_after r) (sym more.1)
+          ap lines_of (cuts.text_is ∙ ap (λ r. line ++ r) more.1) ∙ slice_split_at (λ b. b == 10) line 10 more.0 (no_feeds line cuts.lacks) refl
+          ∙ ap (λ r. line ∷ lines_after r) (sym more.1)
     ]
 
 pub next_lines : (text line rest : List ℕ) → LeadsTo 10 text line rest → lines_after text ≡ line ∷ lines_after rest
@@ -99,8 +99,8 @@ reach_first n p bytes form wanted line rest are cuts fills = record {
   fails = λ k h.
       let later = first_later form wanted line (lines_after rest) k fills h in
       let at : IsFirstWrong (forms n p) (lines_of bytes) (suc k) =
-        subst (λ fs. IsFirstWrong fs (lines_of bytes) (suc k)) (sym are)
-        (subst (λ ls. IsFirstWrong (form ∷ wanted) ls (suc k)) (sym (cut_lines bytes line rest cuts)) later) in
+      subst (λ fs. IsFirstWrong fs (lines_of bytes) (suc k)) (sym are)
+      (subst (λ ls. IsFirstWrong (form ∷ wanted) ls (suc k)) (sym (cut_lines bytes line rest cuts)) later) in
       subst (λ m. IsFirstWrong (forms n p) (lines_of bytes) m) (omega arith) at;
   begins = cuts.begins;
 }
@@ -124,9 +124,10 @@ stop_missing n p bytes form wanted done text reach none = (done, refl, at)
     missing : IsFirstWrong (form ∷ wanted) (lines_after text) 0
     missing =
         elim reach.begins [
-          inl empty ↦ subst (λ t. IsFirstWrong (form ∷ wanted) (lines_after t) 0) (sym empty) (first_here (form ∷ wanted) [] (λ h. omega arith))
+          | inl empty ↦ subst (λ t. IsFirstWrong (form ∷ wanted) (lines_after t) 0) (sym empty) (first_here (form ∷ wanted) [] (λ h. omega arith))
           | inr more ↦ absurd (none more.0 more.1)
         ]
+
     at : IsFirstWrong (forms n p) (lines_of bytes) done
     at = subst (λ m. IsFirstWrong (forms n p) (lines_of bytes) m) (omega arith) (reach.fails 0 missing)
 
@@ -139,17 +140,20 @@ stop_unfilled n p bytes form wanted done text line rest reach leads wrong = (don
     unfilled =
         subst (λ ls. IsFirstWrong (form ∷ wanted) ls 0) (sym (next_lines text line rest leads))
         (first_here (form ∷ wanted) (line ∷ lines_after rest) wrong)
+
     at : IsFirstWrong (forms n p) (lines_of bytes) done
     at = subst (λ m. IsFirstWrong (forms n p) (lines_of bytes) m) (omega arith) (reach.fails 0 unfilled)
 
 -- the first line isn't right
 pub stop_first : (n : Network) (p : Property) (bytes : List ℕ) (form : Form) (wanted : List Form) (line rest : List ℕ)
     → forms n p ≡ form ∷ wanted → CutsAt 10 bytes line rest → (Fills form line → ⊥) → IsWrongLine n p bytes 1
-stop_first n p bytes form wanted line rest are cuts wrong =
-    (0, refl,
-      subst (λ fs. IsFirstWrong fs (lines_of bytes) 0) (sym are)
+stop_first n p bytes form wanted line rest are cuts wrong = (
+  0,
+  refl,
+  subst (λ fs. IsFirstWrong fs (lines_of bytes) 0) (sym are)
       (subst (λ ls. IsFirstWrong (form ∷ wanted) ls 0) (sym (cut_lines bytes line rest cuts))
-      (first_here (form ∷ wanted) (line ∷ lines_after rest) wrong)))
+      (first_here (form ∷ wanted) (line ∷ lines_after rest) wrong)),
+)
 
 -- the line with this number among blank ones
 blank_inner : (line : List ℕ) (lines : List (List ℕ)) (j : ℕ) → IsRightAt [] (line ∷ lines) (suc j) → IsRightAt [] lines j
@@ -216,23 +220,27 @@ blank_wrong (b ∷ front) byte rest blank other =
     let lines = lines_of (front ++ byte ∷ rest) in
     let count = count_by (λ b. b == 10) front in
     elim (eqb_tells b 10) [
-      inl feed ↦
-        subst (λ k. IsFirstWrong [] (lines_of ((b ∷ front) ++ byte ∷ rest)) k) (sym (feeds_yes b front feed.0))
-        (subst (λ ls. IsFirstWrong [] ls (suc count)) (sym (slice_split-cons_yes (λ b. b == 10) b (front ++ byte ∷ rest) feed.0))
-        (blank_later [] lines count (All-nil IsBlank) more))
+      | inl feed ↦
+          subst (λ k. IsFirstWrong [] (lines_of ((b ∷ front) ++ byte ∷ rest)) k) (sym (feeds_yes b front feed.0))
+          (subst (λ ls. IsFirstWrong [] ls (suc count)) (sym (slice_split-cons_yes (λ b. b == 10) b (front ++ byte ∷ rest) feed.0))
+          (blank_later [] lines count (All-nil IsBlank) more))
       | inr apart ↦
-        subst (λ k. IsFirstWrong [] (lines_of ((b ∷ front) ++ byte ∷ rest)) k) (sym (feeds_no b front apart.0))
-        (subst (λ ls. IsFirstWrong [] ls count) (sym (slice_split-cons_no (λ b. b == 10) b (front ++ byte ∷ rest) apart.0))
-        (blank_onto b lines count (All-head IsBlank b front blank) more))
+          subst (λ k. IsFirstWrong [] (lines_of ((b ∷ front) ++ byte ∷ rest)) k) (sym (feeds_no b front apart.0))
+          (subst (λ ls. IsFirstWrong [] ls count) (sym (slice_split-cons_no (λ b. b == 10) b (front ++ byte ∷ rest) apart.0))
+          (blank_onto b lines count (All-head IsBlank b front blank) more))
     ]
 
 -- after a blank line the numbers are one less
 blank_earlier : (lines : List (List ℕ)) (feeds : ℕ) → IsFirstWrong [] ([] ∷ lines) feeds → (k : ℕ) × (feeds ≡ suc k) × IsFirstWrong [] lines k
 blank_earlier lines zero h = absurd (h.wrong (All-nil IsBlank))
-blank_earlier lines (suc k) h = (k, refl, record {
-  wrong = λ right. h.wrong (blank_outer [] lines k right);
-  earlier = λ j below. blank_inner [] lines j (h.earlier (suc j) (omega arith));
-})
+blank_earlier lines (suc k) h = (
+  k,
+  refl,
+  record {
+    wrong = λ right. h.wrong (blank_outer [] lines k right);
+    earlier = λ j below. blank_inner [] lines j (h.earlier (suc j) (omega arith));
+  },
+)
 
 -- blank lines follow, and then one that isn't
 pub stop_blank : (n : Network) (p : Property) (bytes : List ℕ) (done : ℕ) (text : List ℕ) (feeds : ℕ)
@@ -243,17 +251,20 @@ stop_blank n p bytes done text feeds reach h = at (blank_earlier (lines_after te
     some_byte : (front : List ℕ) (byte : ℕ) (rest : List ℕ) → [] ≡ front ++ byte ∷ rest → ⊥
     some_byte [] byte rest e = cc
     some_byte (c ∷ front) byte rest e = cc
+
     wrong : IsFirstWrong [] (lines_of text) feeds
     wrong =
         subst (λ t. IsFirstWrong [] (lines_of t) feeds) (sym h.text_is)
         (subst (λ k. IsFirstWrong [] (lines_of (h.blanks ++ h.byte ∷ h.rest)) k) (sym h.feeds_are) (blank_wrong h.blanks h.byte h.rest h.are_blanks h.other))
+
     after : IsFirstWrong [] ([] ∷ lines_after text) feeds
     after =
         elim reach.begins [
-          inl none ↦ absurd (some_byte h.blanks h.byte h.rest (sym none ∙ h.text_is))
+          | inl none ↦ absurd (some_byte h.blanks h.byte h.rest (sym none ∙ h.text_is))
           | inr more ↦
-            subst (λ t. IsFirstWrong [] ([] ∷ lines_after t) feeds) (sym more.1) (subst (λ t. IsFirstWrong [] (lines_of t) feeds) more.1 wrong)
+              subst (λ t. IsFirstWrong [] ([] ∷ lines_after t) feeds) (sym more.1) (subst (λ t. IsFirstWrong [] (lines_of t) feeds) more.1 wrong)
         ]
+
     at : (k : ℕ) × (feeds ≡ suc k) × IsFirstWrong [] (lines_after text) k → IsWrongLine n p bytes (done + feeds)
     at (k, is, first) = (done + k, omega arith, reach.fails k first)
 
@@ -270,10 +281,10 @@ blank_right [] blank (suc k) = omega arith
 blank_right (b ∷ text) blank k =
     let more = blank_right text (All-tail IsBlank b text blank) in
     elim (eqb_tells b 10) [
-      inl feed ↦ subst (λ ls. IsRightAt [] ls k) (sym (slice_split-cons_yes (λ b. b == 10) b text feed.0)) (onto k more)
+      | inl feed ↦ subst (λ ls. IsRightAt [] ls k) (sym (slice_split-cons_yes (λ b. b == 10) b text feed.0)) (onto k more)
       | inr apart ↦
-        subst (λ ls. IsRightAt [] ls k) (sym (slice_split-cons_no (λ b. b == 10) b text apart.0))
-        (blank_onto_right b (lines_of text) (All-head IsBlank b text blank) more k)
+          subst (λ ls. IsRightAt [] ls k) (sym (slice_split-cons_no (λ b. b == 10) b text apart.0))
+          (blank_onto_right b (lines_of text) (All-head IsBlank b text blank) more k)
     ]
   where
     onto : (k : ℕ) → ((k : ℕ) → IsRightAt [] (lines_of text) k) → IsRightAt [] ([] ∷ lines_of text) k

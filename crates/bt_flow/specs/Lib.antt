@@ -1,9 +1,10 @@
-pub mod Lists
 pub mod States
 pub mod Steady
 pub mod Properties
 pub mod Tests
 pub mod Sums
+pub mod Judging
+pub mod Ports
 pub mod StateText
 pub mod Pieces
 pub mod StateLines

@@ -1,10 +1,9 @@
 -- States of a network, as whole numbers over one denominator and as fractions.
 use Rattle.std.specs.Prelude.{◌≡◌, ℕ, ◌<◌, ◌*◌, Bool, false, List, length, ℤ, pos, slice_index_or}
-use Rattle.bt_frac.specs.Ratio.{IsOver}
+use Rattle.bt_frac.specs.Ratio.{AreOver}
 use Rattle.bt_net.specs.Network.{Network}
 use Rattle.bt_net.specs.declared.network.Edge.{Edge}
 use Rattle.bt_flow.specs.declared.state.State.{State}
-use Rattle.bt_flow.specs.Lists.{PairsUp}
 
 -- whole numbers over one denominator: a flow and a mark for each edge, a load for each input, a room
 -- for each output
@@ -28,10 +27,10 @@ pub record IsStateOf (n : Network) (s : Flows) : Type 0 where
 -- over the denominator, and the marks are the same
 pub record StandsFor (n : Network) (t : State) (s : Flows) : Type 0 where
   pub is_state : IsStateOf n s
-  pub flows : PairsUp (λ r z. IsOver r z s.denominator) t.flows.items s.flows
+  pub flows : AreOver t.flows.items s.flows s.denominator
   pub backed : t.backed.items ≡ s.backed
-  pub loads : PairsUp (λ r z. IsOver r z s.denominator) t.loads.items s.loads
-  pub rooms : PairsUp (λ r z. IsOver r z s.denominator) t.rooms.items s.rooms
+  pub loads : AreOver t.loads.items s.loads s.denominator
+  pub rooms : AreOver t.rooms.items s.rooms s.denominator
 
 -- the state has a flow and a mark for each edge of the network, a load for each input and a room for
 -- each output

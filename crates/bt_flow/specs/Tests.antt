@@ -1,5 +1,5 @@
 -- The tests of a state in their order, and the first that fails.
-use Rattle.std.specs.Prelude.{◌≡◌, ℕ, ◌<◌, IsTrue, length, ◌⊎◌}
+use Rattle.std.specs.Prelude.{◌≡◌, ℕ, ◌<◌, ◌≤◌, IsTrue, length, ◌⊎◌}
 use Rattle.bt_net.specs.Network.{Network}
 use Rattle.bt_flow.specs.declared.property.Property.{Property}
 use Rattle.bt_flow.specs.declared.judgement.Test.{Test}
@@ -51,13 +51,19 @@ Passes n p s test.Kept a = Concludes p n s → ⊥
 abbrev pub IsEarlier : Test → ℕ → Test → ℕ → Type 0
 IsEarlier t a u b = (order_of t < order_of u) ⊎ ((order_of t ≡ order_of u) × (a < b))
 
--- every test from one on passes at its places, up to a test at a place
-abbrev pub PassesUpTo : Network → Property → Flows → ℕ → Test → ℕ → Type 0
-PassesUpTo n p s first t a = (u : Test) (b : ℕ) → (order_of u < first → ⊥) → b < places n u → IsEarlier u b t a → Passes n p s u b
+-- the test is among those from the place `first` to the place `last` of the order
+abbrev pub IsAmong : ℕ → ℕ → Test → Type 0
+IsAmong first last t = (first ≤ order_of t) × (order_of t ≤ last)
 
--- the first test that fails, among those from one on, and its place
-pub record FailsFirst (n : Network) (p : Property) (s : Flows) (first : ℕ) (t : Test) (a : ℕ) : Type 0 where
-  pub among : order_of t < first → ⊥
+-- of the tests from the place `first` to the place `last` of the order, each that comes before a test at
+-- a place passes
+abbrev pub PassesUpTo : Network → Property → Flows → ℕ → ℕ → Test → ℕ → Type 0
+PassesUpTo n p s first last t a = (u : Test) (b : ℕ) → IsAmong first last u → b < places n u → IsEarlier u b t a → Passes n p s u b
+
+-- of the tests from the place `first` to the place `last` of the order, this is the first that fails, and
+-- this is its least place
+pub record FailsFirst (n : Network) (p : Property) (s : Flows) (first last : ℕ) (t : Test) (a : ℕ) : Type 0 where
+  pub among : IsAmong first last t
   pub place : a < places n t
   pub fails : Passes n p s t a → ⊥
-  pub earlier : PassesUpTo n p s first t a
+  pub earlier : PassesUpTo n p s first last t a

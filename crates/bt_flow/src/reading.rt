@@ -24,10 +24,15 @@ use std::alloc::Global;
 
 // The lines of a state's text, by their numbers.
 const TITLE: usize = 1;
+
 const LOADS: usize = 2;
+
 const ROOMS: usize = 3;
+
 const FLOWS: usize = 4;
+
 const MARKS: usize = 5;
+
 const END: usize = 6;
 
 /// The state that the bytes write for the property: the line `no` and the property's name, the lines
@@ -35,7 +40,12 @@ const END: usize = 6;
 /// `f` (free) or `b` (backed) for each edge, and the line `end`, after which only blanks stand.
 /// `CertLine` names the first line, from 1, that isn't so, or the line after the last where one is
 /// missing.
-pub fn read_state(alloc: Global, net: &Net, bytes: &[u8], property: Property) -> Result<State, StateFault>
+pub fn read_state(
+    alloc: Global,
+    net: &Net,
+    bytes: &[u8],
+    property: Property,
+) -> Result<State, StateFault>
     // What is read fits the network and is written so.
     ensures fits { IfOk result (Fits net.now) }
     ensures found { IfOk result (λ t. IsStateText property t bytes.now) }
@@ -53,8 +63,7 @@ pub fn read_state(alloc: Global, net: &Net, bytes: &[u8], property: Property) ->
 /// A text is written for one state.
 pub fn one_state()
     ensures { (p : Property) (s t : State) (bytes : List ℕ) → IsStateText p s bytes → IsStateText p t bytes → SameLists s t }
-{
-}
+{}
 
 fn state_of(alloc: Global, net: &Net, bytes: &[u8], property: Property) -> Result<State, StateFault>
     ensures fits { IfOk result (Fits net.now) }

@@ -9,7 +9,13 @@ use bt_frac::Frac;
 use std::alloc::Global;
 
 /// Reads a line of a word and so many fractions, each after a space. The line has this number.
-pub fn read_fractions(alloc: Global, line: &[u8], word: &[u8], count: usize, number: usize) -> Result<Vec<Frac>, StateFault>
+pub fn read_fractions(
+    alloc: Global,
+    line: &[u8],
+    word: &[u8],
+    count: usize,
+    number: usize,
+) -> Result<Vec<Frac>, StateFault>
     ensures ok { IfOk result (λ v. Follows word.now line.now (SpellsFractions count) v.items) }
     ensures err { IfErr result (IsLineFault number ((items : List Ratio) → Follows word.now line.now (SpellsFractions count) items → ⊥)) }
 {
@@ -19,7 +25,12 @@ pub fn read_fractions(alloc: Global, line: &[u8], word: &[u8], count: usize, num
     }
 }
 
-fn spelled_fractions(alloc: Global, text: &[u8], count: usize, number: usize) -> Result<Vec<Frac>, StateFault>
+fn spelled_fractions(
+    alloc: Global,
+    text: &[u8],
+    count: usize,
+    number: usize,
+) -> Result<Vec<Frac>, StateFault>
     ensures ok { IfOk result (λ v. SpellsFractions count text.now v.items) }
     ensures err { IfErr result (IsLineFault number ((items : List Ratio) → SpellsFractions count text.now items → ⊥)) }
 {

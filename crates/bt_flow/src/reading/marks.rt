@@ -8,7 +8,13 @@ use crate::reading::piece::{after_word, next_piece};
 use std::alloc::Global;
 
 /// Reads a line of a word and so many marks, each after a space. The line has this number.
-pub fn read_marks(alloc: Global, line: &[u8], word: &[u8], count: usize, number: usize) -> Result<Vec<bool>, StateFault>
+pub fn read_marks(
+    alloc: Global,
+    line: &[u8],
+    word: &[u8],
+    count: usize,
+    number: usize,
+) -> Result<Vec<bool>, StateFault>
     ensures ok { IfOk result (λ v. Follows word.now line.now (SpellsMarks count) v.items) }
     ensures err { IfErr result (IsLineFault number ((items : List Bool) → Follows word.now line.now (SpellsMarks count) items → ⊥)) }
 {
@@ -18,7 +24,12 @@ pub fn read_marks(alloc: Global, line: &[u8], word: &[u8], count: usize, number:
     }
 }
 
-fn spelled_marks(alloc: Global, text: &[u8], count: usize, number: usize) -> Result<Vec<bool>, StateFault>
+fn spelled_marks(
+    alloc: Global,
+    text: &[u8],
+    count: usize,
+    number: usize,
+) -> Result<Vec<bool>, StateFault>
     ensures ok { IfOk result (λ v. SpellsMarks count text.now v.items) }
     ensures err { IfErr result (IsLineFault number ((items : List Bool) → SpellsMarks count text.now items → ⊥)) }
 {

@@ -107,4 +107,3 @@ returns-clause-found c =
     c.in_ok-load_line.ensures.ok c.in_ok-loads.ensures.ok c.in_ok-room_line.ensures.ok c.in_ok-rooms.ensures.ok
     c.in_ok-flow_line.ensures.ok c.in_ok-flows.ensures.ok c.in_ok-mark_line.ensures.ok c.in_ok-backed.ensures.ok
     c.in_ok-end_line.ensures.ok (c.is_end.ensures.0 c.if-not-is_end.false) c.in_default.ensures.none
-

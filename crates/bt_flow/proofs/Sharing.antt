@@ -1,0 +1,86 @@
+-- The laws of splitters at one edge, from what holds at the ports of its splitter.
+use Rattle.std.proofs.Common.{◌≡◌, ◌≢◌, ℕ, ◌<◌, ◌==◌, ℤ, ◌≤ℤ◌, Bool, true, false, IsTrue, ◌↔◌, ◌⊎◌, inl, inr, List, length, get_or, slice_get, Some, sym, subst, refl, ap, ◌∙◌}
+use Rattle.std.specs.List.{AllByRecursion}
+use Rattle.std.specs.Int.Signed.{≤ℤ_refl}
+use Rattle.std.proofs.lemmas.Bool.{false≢true, eqb-true, eq-eqb, cases_eq}
+use Rattle.std.proofs.lemmas.Option.{slice_get-get_or, get_or_from_slice_get}
+use Rattle.bt_net.specs.declared.network.Edge.{Edge}
+use Rattle.bt_net.specs.declared.network.Start.TheVariants as from
+use Rattle.bt_net.specs.declared.network.Target.TheVariants as to
+use Rattle.bt_net.specs.Network.{Network, leaves, enters}
+use Rattle.bt_flow.specs.declared.ports.Port.{Port}
+use Rattle.bt_flow.specs.declared.ports.Role.{Role}
+use Rattle.bt_flow.specs.declared.ports.Role.TheVariants.{OutOf, Into}
+use Rattle.bt_flow.specs.Ports.{numbers_of, plays, IsPort}
+use Rattle.bt_flow.specs.States.{Flows, flow_at, backed_at, cap_in}
+use Rattle.bt_flow.specs.Steady.{HasEdge, Backs}
+use Rattle.bt_flow.proofs.AtEdges.{Stops}
+use Rattle.bt_flow.proofs.Each.{each, each_with}
+
+pub leaves-split : (e : Edge) (k m : ℕ) → e.start ≡ from.Split k → leaves m e ≡ (k == m)
+leaves-split e k m h = ap (λ t. leaves m (record { start = t; target = e.target; cap = e.cap })) h
+
+pub leaves-input : (e : Edge) (i m : ℕ) → e.start ≡ from.Input i → leaves m e ≡ false
+leaves-input e i m h = ap (λ t. leaves m (record { start = t; target = e.target; cap = e.cap })) h
+
+pub enters-split : (e : Edge) (k m : ℕ) → e.target ≡ to.Split k → enters m e ≡ (k == m)
+enters-split e k m h = ap (λ t. enters m (record { start = e.start; target = t; cap = e.cap })) h
+
+pub enters-output : (e : Edge) (o m : ℕ) → e.target ≡ to.Output o → enters m e ≡ false
+enters-output e o m h = ap (λ t. enters m (record { start = e.start; target = t; cap = e.cap })) h
+
+-- an edge with the mark has a flow at least that of each other edge with the same role at its splitter
+abbrev pub Evens : Network → Flows → Role → Bool → ℕ → Type 0
+Evens n s r mark a = (k b : ℕ) (e f : Edge) → HasEdge n a e → HasEdge n b f → b ≢ a → IsTrue (plays r k e) → IsTrue (plays r k f)
+    → backed_at s a ≡ mark → flow_at s b ≤ℤ flow_at s a
+
+module _ (n : Network) (s : Flows) (edges : List Edge) (a : ℕ) (d : Edge) (same : edges ≡ n.edges) (l : a < length n.edges) where
+  there : HasEdge n a (get_or edges a d)
+  there = subst (λ x. slice_get n.edges a ≡ Some (get_or x a d)) (sym same) (slice_get-get_or n.edges a d l)
+
+  it_is : (e : Edge) → HasEdge n a e → get_or edges a d ≡ e
+  it_is e h = ap (λ x. get_or x a d) same ∙ get_or_from_slice_get n.edges a e d h
+
+  -- the edge doesn't have the role
+  pub evens_none : (r : Role) (mark : Bool) → ((k : ℕ) → plays r k (get_or edges a d) ≡ false) → IsTrue true ↔ Evens n s r mark a
+  evens_none r mark none = (
+    λ t k b e f h g o p q m. absurd (false≢true (sym (none k) ∙ subst (λ x. IsTrue (plays r k x)) (sym (it_is e h)) p)),
+    λ _. refl,
+  )
+
+  -- the edge has the other mark
+  pub evens_other : (r : Role) (mark : Bool) (v : Bool) → v ≡ true → (backed_at s a ≡ mark → ⊥) → IsTrue v ↔ Evens n s r mark a
+  evens_other r mark v e other = (λ t k b x f h g o p q m. absurd (other m), λ _. e)
+
+  -- the edge has the mark, and no edge of the port of its splitter has a greater flow
+  pub evens_at : (r : Role) (mark : Bool) (k : ℕ) (port : Port) → ((m : ℕ) → plays r m (get_or edges a d) ≡ (k == m)) → IsPort n r k port → backed_at s a ≡ mark
+      → (v : Bool) → IsTrue v ↔ AllByRecursion (λ b. flow_at s b ≤ℤ flow_at s a) (numbers_of port) → IsTrue v ↔ Evens n s r mark a
+  evens_at r mark k port has is_port marked v h =
+      let ports = each n r k port is_port (λ b. flow_at s b ≤ℤ flow_at s a) in (
+        λ t m b e f x y o p q _.
+            let at : k ≡ m = eqb-true k m (sym (has m) ∙ subst (λ z. IsTrue (plays r m z)) (sym (it_is e x)) p) in
+            ports.0 (h.0 t) b f y (subst (λ z. IsTrue (plays r z f)) (sym at) q),
+        λ g. h.1 (ports.1 (λ b f y q. elim (cases_eq b a) [
+          | inl e ↦ subst (λ z. flow_at s z ≤ℤ flow_at s a) (sym e) (≤ℤ_refl (flow_at s a))
+          | inr o ↦ g k b (get_or edges a d) f there y o (has k ∙ eq-eqb k k refl) q marked
+        ])),
+      )
+
+  pub backs_none : ((k : ℕ) → enters k (get_or edges a d) ≡ false) → IsTrue true ↔ Backs n s a
+  backs_none none = (
+    λ t k b e f h g p q m. absurd (false≢true (sym (none k) ∙ subst (λ x. IsTrue (enters k x)) (sym (it_is e h)) p)),
+    λ _. refl,
+  )
+
+  pub backs_free : (v : Bool) → v ≡ true → backed_at s a ≡ false → IsTrue v ↔ Backs n s a
+  backs_free v e free = (λ t k b x f h g p q m. absurd (false≢true (sym free ∙ m)), λ _. e)
+
+  pub backs_at : (k : ℕ) (port : Port) → ((m : ℕ) → enters m (get_or edges a d) ≡ (k == m)) → IsPort n OutOf k port → backed_at s a ≡ true
+      → (v : Bool) → IsTrue v ↔ AllByRecursion (λ b. (f : Edge) → HasEdge n b f → Stops s b f) (numbers_of port) → IsTrue v ↔ Backs n s a
+  backs_at k port has is_port backed v h =
+      let ports = each_with n OutOf k port is_port (Stops s) in (
+        λ t m b e f x y p q _.
+            let at : k ≡ m = eqb-true k m (sym (has m) ∙ subst (λ z. IsTrue (enters m z)) (sym (it_is e x)) p) in
+            ports.0 (h.0 t) b f y (subst (λ z. IsTrue (leaves z f)) (sym at) q),
+        λ g. h.1 (ports.1 (λ b f y q. g k b (get_or edges a d) f there y (has k ∙ eq-eqb k k refl) q backed)),
+      )

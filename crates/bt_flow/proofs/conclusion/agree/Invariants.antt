@@ -1,0 +1,7 @@
+use Rattle.std.proofs.Common.{◌≡◌, ℕ, ◌<◌, IsTrue, Option, Some, None, length}
+use Rattle.bt_net.specs.declared.network.Edge.{Edge}
+use Rattle.bt_flow.proofs.Agreeing.{AgreeSoFar}
+use Rattle.bt_flow.proofs.conclusion.agree.Given as goal
+
+abbrev pub invariant-loop-place : goal.invariant-loop-place
+invariant-loop-place l = AgreeSoFar l.net l.state l.role l.place l.first

@@ -1,0 +1,88 @@
+ghost use Rattle.std.specs.Prelude.{◌≡◌, ℕ, ◌+◌, ◌==◌, ◌<◌, ◌≤◌, ◌++◌, ◌∷◌, [], false, IfSome, IfNone, IsTrue, length, count_by, All, slice_index_or};
+ghost use Rattle.bt_flow.specs.Ports.{numbers_of, plays, AreAt, ArePorts};
+
+use bt_net::{Edge, Net, Start, Target};
+
+/// The edges at one end of a network, by their numbers in ascending order.
+#[derive(Clone, Copy)]
+pub enum Port {
+    Unused,
+    One(u16),
+    Two(u16, u16),
+}
+
+impl Port {
+    /// The port with one more edge.
+    fn with(self, edge: u16) -> Port
+        requires { length (numbers_of self) < 2 }
+        ensures { numbers_of result ≡ numbers_of self ++ edge ∷ [] }
+    {
+        match self {
+            Port::Unused => Port::One(edge),
+            Port::One(first) => Port::Two(first, edge),
+            Port::Two(first, second) => Port::Two(first, second),
+        }
+    }
+}
+
+/// What an edge is at one of its two ends.
+#[derive(Clone, Copy)]
+pub enum Role {
+    FromInput,
+    ToOutput,
+    OutOf,
+    Into,
+}
+
+impl Role {
+    /// The number of the input, output or splitter at which the edge has this role.
+    pub fn number_in(self, edge: &Edge) -> Option<u32>
+        ensures some { IfSome result (λ n. (k : ℕ) → plays self k edge.now ≡ (n == k)) }
+        ensures none { IfNone result ((k : ℕ) → plays self k edge.now ≡ false) }
+    {
+        match (self, edge.start, edge.target) {
+            (Role::FromInput, Start::Input(number), _) => Some(number),
+            (Role::ToOutput, _, Target::Output(number)) => Some(number),
+            (Role::OutOf, Start::Split(number), _) => Some(number),
+            (Role::Into, _, Target::Split(number)) => Some(number),
+            _ => None,
+        }
+    }
+}
+
+/// The edges with a role, at each number.
+fn ports_of(net: &Net, role: Role) -> [Port; 2048]
+    ensures { AreAt net.now role result }
+{
+    let mut ports = [Port::Unused; 2048];
+    for (place, edge) in net.edges().iter().enumerate() {
+        if let Some(number) = role.number_in(edge) {
+            let port = ports[number as usize];
+            ports[number as usize] = port.with(place as u16);
+        }
+    }
+    ports
+}
+
+/// The edges at each input, at each output, and at both sides of each splitter.
+#[derive(Drop)]
+pub struct Ports {
+    pub inputs: [Port; 2048],
+    pub outputs: [Port; 2048],
+    pub out_of: [Port; 2048],
+    pub into: [Port; 2048],
+}
+
+impl Ports {
+    pub fn of(net: &Net) -> Ports
+        ensures { ArePorts net.now result }
+    {
+        let _edges = net.edges();
+        Ports {
+            inputs: ports_of(net, Role::FromInput),
+            outputs: ports_of(net, Role::ToOutput),
+            out_of: ports_of(net, Role::OutOf),
+            into: ports_of(net, Role::Into),
+        }
+    }
+}

@@ -1,0 +1,70 @@
+ghost use Rattle.std.specs.Prelude.{◌≡◌, ◌<◌, ℕ, List, IfOk, IfErr, length, map, slice_index_or};
+ghost use Rattle.std.specs.List.{AllByRecursion};
+ghost use Rattle.bt_flow.specs.Sums.{nothing, AddsTo, IsWide, RunsTo, IsWideIn, fractions_where};
+ghost use Rattle.bt_flow.specs.Ports.{numbers_of};
+ghost use Rattle.bt_flow.specs.Properties.{is_last};
+
+use crate::ports::Port;
+use bt_frac::Frac;
+use bt_net::{Edge, Target};
+
+/// Two numbers whose addition leaves 128 bits.
+#[derive(Clone, Copy)]
+pub struct Wide {
+    pub left: Frac,
+    pub right: Frac,
+}
+
+fn add(left: Frac, right: Frac) -> Result<Frac, Wide>
+    ensures sum { IfOk result (λ r. AddsTo left right r) }
+    ensures wide { IfErr result (λ w. (w.left ≡ left) × (w.right ≡ right) × IsWide left right) }
+{
+    match left.add(&right) {
+        Some(sum) => Ok(sum),
+        None => Err(Wide { left, right }),
+    }
+}
+
+/// The sum of numbers.
+pub fn sum_of(numbers: &[Frac]) -> Result<Frac, Wide>
+    ensures sum { IfOk result (λ r. RunsTo nothing numbers.now r) }
+    ensures wide { IfErr result (λ w. IsWideIn w.left w.right numbers.now) }
+{
+    let mut sum = Frac::whole(0);
+    for number in numbers {
+        sum = add(sum, *number)?;
+    }
+    Ok(sum)
+}
+
+/// The sum of the flows of the edges of a port.
+pub fn port_sum(flows: &[Frac], port: Port) -> Result<Frac, Wide>
+    requires { AllByRecursion (λ a. a < length flows.now) (numbers_of port) }
+    ensures sum { IfOk result (λ r. RunsTo nothing (map (λ a. slice_index_or flows.now a nothing) (numbers_of port)) r) }
+    ensures wide { IfErr result (λ w. IsWideIn w.left w.right (map (λ a. slice_index_or flows.now a nothing) (numbers_of port))) }
+{
+    let zero = Frac::whole(0);
+    match port {
+        Port::Unused => Ok(zero),
+        Port::One(only) => add(zero, flows[only as usize]),
+        Port::Two(first, second) => {
+            let sum = add(zero, flows[first as usize])?;
+            add(sum, flows[second as usize])
+        }
+    }
+}
+
+/// The sum of the flows of the edges that end at an output.
+pub fn output_sum(edges: &[Edge], flows: &[Frac]) -> Result<Frac, Wide>
+    requires { length flows.now ≡ length edges.now }
+    ensures sum { IfOk result (λ r. RunsTo nothing (fractions_where is_last edges.now flows.now) r) }
+    ensures wide { IfErr result (λ w. IsWideIn w.left w.right (fractions_where is_last edges.now flows.now)) }
+{
+    let mut sum = Frac::whole(0);
+    for (place, edge) in edges.iter().enumerate() {
+        if let Target::Output(_) = edge.target {
+            sum = add(sum, flows[place])?;
+        }
+    }
+    Ok(sum)
+}
