@@ -9,10 +9,10 @@ use std::alloc::{AllocError, Global};
 use std::collections::BTreeMap;
 use std::marker::Model;
 
-/// Why parts can't be placed.
+/// Why parts can't be placed. The numbers are places in the list of parts.
 #[derive(Clone, Copy, Debug, PartialEq, Eq)]
 pub enum GridFault {
-    /// The two parts share a cell.
+    /// The second part shares a cell with the first one, which comes before it.
     Overlap(usize, usize),
 
     /// There is no memory.
@@ -73,7 +73,7 @@ fn add(cells: &mut BTreeMap<Cell, usize>, part: &Part, i: usize) -> Result<(), A
     Ok(())
 }
 
-/// Parts of which no two share a cell.
+/// Parts of which no two share a cell, with an ordered map from each cell to the part on it.
 #[derive(Drop)]
 pub struct Grid {
     parts: Vec<Part>,
@@ -93,7 +93,10 @@ impl Model for Grid {
 }
 
 impl Grid {
-    /// Places the parts; the part at place i of the list is the part i.
+    /// Places the parts. A part's index is its place in the list.
+    ///
+    /// It refuses the first overlap: the least index that shares a cell with an earlier part, and the
+    /// least such earlier one. It takes O(n log n) steps for n parts.
     pub fn place(alloc: Global, parts: Vec<Part>) -> Result<Grid, GridFault>
         requires { AreInRange parts.items }
         ensures placed { IfOk result (λ grid. (grid ≡ parts.items) × IsWellPlaced parts.items) }
@@ -118,7 +121,7 @@ impl Grid {
         &self.parts
     }
 
-    /// The part with this index.
+    /// The part with this index, which is less than the number of parts.
     pub fn part(&self, i: usize) -> &Part
         requires { i < length self.now }
         ensures value { HasPart self.now i result.now }

@@ -9,10 +9,10 @@ use crate::partners::Pairs;
 use bt_parts::{Cell, Dir, Kind, Part, Tier};
 use std::alloc::{AllocError, Global};
 
-/// Why the underground pieces can't all be paired.
+/// Why the underground pieces can't all be paired. The number is a place in the list of parts.
 #[derive(Clone, Copy, Debug, PartialEq, Eq)]
 pub enum PairFault {
-    /// The underground piece is in no pair.
+    /// The underground piece with this index is in no pair, and each one before it is in one.
     Unpaired(usize),
 
     /// There is no memory.
@@ -117,9 +117,11 @@ fn is_alone(part: &Part, partner: Option<usize>) -> bool
     partner.is_none() && is_underground(part)
 }
 
-/// Finds the other end of each underground piece's pair.
+/// Finds the other end of each underground piece's pair (Factorio Wiki, underground belts).
 ///
-/// It refuses the first underground piece that is in no pair.
+/// An entrance and an exit of one tier and direction are a pair where the exit lies ahead within
+/// reach and no piece of that tier and axis lies between. It refuses the first underground piece
+/// that is in no pair. It takes O(n log n) steps for n parts.
 pub fn pairs(alloc: Global, grid: &Grid) -> Result<Pairs, PairFault>
     ensures paired { IfOk result (ArePartners grid.now) }
     ensures refused { IfErr result (IsPairFault grid.now) }

@@ -3,7 +3,7 @@ ghost use Rattle.bt_grid.specs.Pairing.{partner_of};
 
 use std::marker::Model;
 
-/// The pairs of a grid's underground pieces.
+/// The pairs of a grid's underground pieces: for each part the other end of its pair.
 #[derive(Drop)]
 pub struct Pairs {
     partners: Vec<Option<usize>>,
