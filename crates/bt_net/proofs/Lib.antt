@@ -2,3 +2,4 @@ pub mod Tallying
 pub mod Spelling
 pub mod NetLines
 pub mod Refusing
+pub mod NetWrites

@@ -4,8 +4,10 @@
 mod fault;
 mod header;
 mod law;
+mod line_buffer;
 mod net;
 mod network;
+mod printing;
 mod reading;
 mod wiring;
 mod words;
@@ -14,5 +16,6 @@ pub use fault::NetFault;
 pub use law::one_net;
 pub use net::Net;
 pub use network::{Edge, End, Pin, Start, Target};
+pub use printing::print;
 pub use reading::{NetRead, read};
 pub use std::alloc::AllocError as Memory;

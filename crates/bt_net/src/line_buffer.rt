@@ -1,0 +1,93 @@
+ghost use Rattle.std.specs.Prelude.{◌≡◌, ◌+◌, ◌≤◌, ◌++◌, [], length, decimal};
+ghost use Rattle.bt_net.specs.NetText.{start_text, target_text};
+
+use crate::network::{Start, Target};
+use itoa::Buffer;
+use std::marker::Model;
+
+/// A line while it is written, which has at most 48 bytes.
+#[derive(Drop)]
+pub struct LineBuffer {
+    bytes: [u8; 48],
+    len: usize,
+}
+
+impl Model for LineBuffer {
+    ghost use Rattle.std.specs.Prelude.{ℕ, ◌≤◌, List, take};
+
+    ghost Value = { List ℕ };
+
+    ghost view = { λ b. take b.len b.bytes };
+
+    ghost invariant = { λ b. b.len ≤ 48 };
+}
+
+impl LineBuffer {
+    pub fn new() -> Self
+        ensures { result ≡ [] }
+    {
+        LineBuffer {
+            bytes: [0; 48],
+            len: 0,
+        }
+    }
+
+    pub fn as_bytes(&self) -> &[u8]
+        ensures { result.now ≡ self.now }
+    {
+        &self.bytes[..self.len]
+    }
+
+    pub fn push(&mut self, piece: &[u8])
+        requires { length self.old + length piece.now ≤ 48 }
+        ensures { self.new ≡ self.old ++ piece.now }
+    {
+        let end = self.len + piece.len();
+        self.bytes[self.len..end].copy_from_slice(piece);
+        self.len = end;
+    }
+
+    pub fn push_number(&mut self, number: u32)
+        requires { length self.old + 10 ≤ 48 }
+        ensures number { self.new ≡ self.old ++ decimal number }
+        ensures short { length self.new ≤ length self.old + 10 }
+    {
+        let mut buffer = Buffer::new();
+        let digits = buffer.format(number).as_bytes();
+        self.push(digits);
+    }
+
+    pub fn push_start(&mut self, start: Start)
+        requires { length self.old + 11 ≤ 48 }
+        ensures start { self.new ≡ self.old ++ start_text start }
+        ensures short { length self.new ≤ length self.old + 11 }
+    {
+        match start {
+            Start::Input(i) => {
+                self.push(b"i");
+                self.push_number(i);
+            }
+            Start::Split(s) => {
+                self.push(b"s");
+                self.push_number(s);
+            }
+        }
+    }
+
+    pub fn push_target(&mut self, target: Target)
+        requires { length self.old + 11 ≤ 48 }
+        ensures target { self.new ≡ self.old ++ target_text target }
+        ensures short { length self.new ≤ length self.old + 11 }
+    {
+        match target {
+            Target::Split(s) => {
+                self.push(b"s");
+                self.push_number(s);
+            }
+            Target::Output(o) => {
+                self.push(b"o");
+                self.push_number(o);
+            }
+        }
+    }
+}
