@@ -15,3 +15,5 @@ pub mod Judged
 pub mod Numbers
 pub mod Sharing
 pub mod Totals
+pub mod Decided
+pub mod Denominators
