@@ -17,3 +17,5 @@ pub mod Sharing
 pub mod Totals
 pub mod Decided
 pub mod Denominators
+pub mod OneWide
+pub mod OneAnswer

@@ -1,7 +1,9 @@
-ghost use Rattle.std.specs.Prelude.{◌≡◌, ◌<◌, ◌≤◌, ℕ, IfOk, IfErr};
+ghost use Rattle.std.specs.Prelude.{Result, ◌≡◌, ◌<◌, ◌≤◌, ℕ, IfOk, IfErr};
+ghost use Rattle.bt_flow.specs.declared.judgement.Judgement.{Judgement};
+ghost use Rattle.bt_flow.specs.declared.judgement.WideSum.{WideSum};
 ghost use Rattle.bt_flow.specs.declared.property.Property.{Property};
 ghost use Rattle.bt_flow.specs.States.{Flows, StandsFor, Fits};
-ghost use Rattle.bt_flow.specs.Judging.{Judges, JudgesSteady, JudgesBreaking, NeedsFit, IsWideSum, first_law, last_law, last_test};
+ghost use Rattle.bt_flow.specs.Judging.{Judges, JudgesSteady, JudgesBreaking, NeedsFit, IsWideSum, IsSteadyAnswer, IsBreakingAnswer, first_law, last_law, last_test};
 
 use crate::judgement::{Judgement, Test, WideSum};
 use crate::passing::failed_place;
@@ -56,6 +58,8 @@ pub fn steady(net: &Net, state: &State) -> Result<Judgement, WideSum>
     ensures judges { IfOk result (λ j. (s : Flows) → StandsFor net.now state.now s → JudgesSteady net.now s j) }
     ensures fit { IfOk result (λ j. (p : Property) → NeedsFit net.now p state.now first_law last_law j) }
     ensures wide { IfErr result (λ w. (p : Property) → IsWideSum net.now p state.now first_law last_law w) }
+    // There is one right answer, so each comes exactly where it is right.
+    ensures exact { (s : Flows) → StandsFor net.now state.now s → (answer : Result Judgement WideSum) → IsSteadyAnswer net.now state.now s answer → result ≡ answer }
 {
     judge(net, Property::Unlimited, state, 2, 8)
 }
@@ -67,6 +71,8 @@ pub fn breaks(net: &Net, property: Property, state: &State) -> Result<Judgement,
     ensures judges { IfOk result (λ j. (s : Flows) → StandsFor net.now state.now s → JudgesBreaking net.now property s j) }
     ensures fit { IfOk result (λ j. NeedsFit net.now property state.now 0 last_test j) }
     ensures wide { IfErr result (λ w. IsWideSum net.now property state.now 0 last_test w) }
+    // There is one right answer, so each comes exactly where it is right.
+    ensures exact { (s : Flows) → StandsFor net.now state.now s → (answer : Result Judgement WideSum) → IsBreakingAnswer net.now property state.now s answer → result ≡ answer }
 {
     judge(net, property, state, 0, 9)
 }
