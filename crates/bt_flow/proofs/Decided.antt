@@ -12,14 +12,14 @@ use Rattle.bt_flow.specs.Properties.{IsLesser, Concludes, Holds, Breaks}
 le_or : (x y : ℤ) → (x ≤ℤ y) ⊎ (x ≤ℤ y → ⊥)
 le_or x y =
     elim (cases_lt (up y + down x) (up x + down y)) [
-      inl l ↦ inr (λ h. absurd (omega (arith, ints, l, h)))
+      | inl l ↦ inr (λ h. absurd (omega (arith, ints, l, h)))
       | inr l ↦ inl (omega (arith, ints, l))
     ]
 
 same_or : (x y : ℤ) → (x ≡ y) ⊎ (x ≡ y → ⊥)
 same_or x y =
     elim (le_or x y) [
-      inl l ↦ elim (le_or y x) [ inl m ↦ inl (omega (arith, ints, l, m)) | inr o ↦ inr (λ e. o (omega (arith, ints, e))) ]
+      | inl l ↦ elim (le_or y x) [ inl m ↦ inl (omega (arith, ints, l, m)) | inr o ↦ inr (λ e. o (omega (arith, ints, e))) ]
       | inr o ↦ inr (λ e. o (omega (arith, ints, e)))
     ]
 
@@ -33,11 +33,11 @@ both_or p q =
 lesser_unless : (z x y : ℤ) → ((IsLesser z x y → ⊥) → ⊥) → IsLesser z x y
 lesser_unless z x y f =
     elim (both_or (same_or z x) (le_or x y)) [
-      inl h ↦ inl h
+      | inl h ↦ inl h
       | inr o ↦ elim (both_or (same_or z y) (le_or y x)) [
-          inl h ↦ inr h
-          | inr q ↦ absurd (f (λ l. elim l [ inl h ↦ o h | inr h ↦ q h ]))
-        ]
+        | inl h ↦ inr h
+        | inr q ↦ absurd (f (λ l. elim l [ inl h ↦ o h | inr h ↦ q h ]))
+      ]
     ]
 
 concludes_unless : (p : Property) (n : Network) (s : Flows) → ((Concludes p n s → ⊥) → ⊥) → Concludes p n s

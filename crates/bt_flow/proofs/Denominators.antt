@@ -20,8 +20,7 @@ some_flows n t fits flows loads rooms =
     let c = common_denominator (t.flows.items ++ ends) (positive (t.flows.items ++ ends) all) in
     let front = are_over_split t.flows.items ends c.2.0 c.0 c.2.1 in
     let back = are_over_split t.loads.items t.rooms.items front.1.0 c.0 front.1.3 in
-    let long = λ (rs : List Ratio) (ws : List ℤ). AllZip-long (λ r w. IsOver r w c.0) rs ws in
-    (
+    let long = λ (rs : List Ratio) (ws : List ℤ). AllZip-long (λ r w. IsOver r w c.0) rs ws in (
       record { denominator = c.0; flows = front.0; backed = t.backed.items; loads = back.0; rooms = back.1.0 },
       record {
         is_state = record {

@@ -24,8 +24,8 @@ use Rattle.bt_flow.proofs.OneWide.{one_first_wide, all_fit_or_wide}
 compared : (t u : Test) (a b : ℕ) → IsEarlier t a u b ⊎ (IsEarlier u b t a ⊎ ((t ≡ u) × (a ≡ b)))
 compared t u a b =
     elim (cases_order (order_of t) (order_of u)) [
-      inl same ↦ elim (cases_order a b) [
-        inl e ↦ inr (inr (same_order t u same, e))
+      | inl same ↦ elim (cases_order a b) [
+        | inl e ↦ inr (inr (same_order t u same, e))
         | inr o ↦ elim o [ inl l ↦ inl (inr (same, l)) | inr l ↦ inr (inl (inr (sym same, l))) ]
       ]
       | inr o ↦ elim o [ inl l ↦ inl (inl l) | inr l ↦ inr (inl (inl l)) ]
@@ -54,35 +54,35 @@ module _ (n : Network) (p : Property) (t : State) (s : Flows) (g : StandsFor n t
   one_judgement (Fails u a) Holds h f = absurd (h.fails (f u a h.among h.place))
   one_judgement (Fails u a) (Fails v b) h f =
       elim (compared u v a b) [
-        inl e ↦ absurd (h.fails (f.earlier u a h.among h.place e))
+        | inl e ↦ absurd (h.fails (f.earlier u a h.among h.place e))
         | inr o ↦ elim o [
-            inl e ↦ absurd (f.fails (h.earlier v b f.among f.place e))
-            | inr e ↦ ap (λ x. Fails x a) e.0 ∙ ap (λ x. Fails v x) e.1
-          ]
+          | inl e ↦ absurd (f.fails (h.earlier v b f.among f.place e))
+          | inr e ↦ ap (λ x. Fails x a) e.0 ∙ ap (λ x. Fails v x) e.1
+        ]
       ]
 
   judged_or_wide : (j : Judgement) (w : WideSum) → Says n p s first last j → NeedsFit n p t first last j → IsWideSum n p t first last w → ⊥
   judged_or_wide Holds w h f k = all_fit_or_wide w.left w.right _ (f w.test w.place k.among k.place tt) k.first_wide
   judged_or_wide (Fails u a) w h f k =
       elim (compared u w.test a w.place) [
-        inl e ↦ h.fails (k.earlier s g u a h.among h.place e)
+        | inl e ↦ h.fails (k.earlier s g u a h.among h.place e)
         | inr o ↦ elim o [
-            inl e ↦ all_fit_or_wide w.left w.right _ (f w.test w.place k.among k.place (inl e)) k.first_wide
-            | inr e ↦ all_fit_or_wide w.left w.right _ (f w.test w.place k.among k.place (inr (sym e.0, sym e.1))) k.first_wide
-          ]
+          | inl e ↦ all_fit_or_wide w.left w.right _ (f w.test w.place k.among k.place (inl e)) k.first_wide
+          | inr e ↦ all_fit_or_wide w.left w.right _ (f w.test w.place k.among k.place (inr (sym e.0, sym e.1))) k.first_wide
+        ]
       ]
 
   one_wide : (w v : WideSum) → IsWideSum n p t first last w → IsWideSum n p t first last v → w ≡ v
   one_wide w v h k =
       elim (compared w.test v.test w.place v.place) [
-        inl e ↦ absurd (all_fit_or_wide w.left w.right _ (k.earlier_fit w.test w.place h.among h.place e) h.first_wide)
+        | inl e ↦ absurd (all_fit_or_wide w.left w.right _ (k.earlier_fit w.test w.place h.among h.place e) h.first_wide)
         | inr o ↦ elim o [
-            inl e ↦ absurd (all_fit_or_wide v.left v.right _ (h.earlier_fit v.test v.place k.among k.place e) k.first_wide)
-            | inr e ↦
-                let q = one_first_wide w.left w.right v.left v.right (sums_of n p t v.test v.place)
-                    (subst (λ u. IsFirstWide w.left w.right (sums_of n p t u v.place)) e.0 (subst (λ a. IsFirstWide w.left w.right (sums_of n p t w.test a)) e.1 h.first_wide)) k.first_wide in
-                same_wide w v e.0 e.1 q.0 q.1
-          ]
+          | inl e ↦ absurd (all_fit_or_wide v.left v.right _ (h.earlier_fit v.test v.place k.among k.place e) k.first_wide)
+          | inr e ↦
+              let q = one_first_wide w.left w.right v.left v.right (sums_of n p t v.test v.place)
+              (subst (λ u. IsFirstWide w.left w.right (sums_of n p t u v.place)) e.0 (subst (λ a. IsFirstWide w.left w.right (sums_of n p t w.test a)) e.1 h.first_wide)) k.first_wide in
+              same_wide w v e.0 e.1 q.0 q.1
+        ]
       ]
 
   pub one_answer : (x y : Result Judgement WideSum) → Answers n p t s first last x → Answers n p t s first last y → x ≡ y
