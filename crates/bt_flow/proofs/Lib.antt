@@ -15,3 +15,7 @@ pub mod Judged
 pub mod Numbers
 pub mod Sharing
 pub mod Totals
+pub mod Decided
+pub mod Denominators
+pub mod OneWide
+pub mod OneAnswer

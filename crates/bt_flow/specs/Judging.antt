@@ -1,5 +1,5 @@
 -- What the judgement of a state says.
-use Rattle.std.specs.Prelude.{◌≡◌, ℕ, ◌<◌, ◌⊎◌, ⊤}
+use Rattle.std.specs.Prelude.{Result, Ok, Err, ◌≡◌, ℕ, ◌<◌, ◌⊎◌, ⊤}
 use Rattle.bt_net.specs.Network.{Network}
 use Rattle.bt_flow.specs.declared.property.Property.{Property}
 use Rattle.bt_flow.specs.declared.judgement.Test.{Test}
@@ -77,3 +77,13 @@ abbrev pub Judges : Network → Property → State → ℕ → ℕ → Judgement
 Judges n p t first last Holds = (u : Test) (b : ℕ) → IsAmong first last u → b < places n u → IsClear n p t u b
 Judges n p t first last (Fails v a) = IsAmong first last v × FailsAt n p t v a
     × ((u : Test) (b : ℕ) → IsAmong first last u → b < places n u → order_of u < order_of v → IsClear n p t u b)
+
+-- the right answer for a state: a judgement that is right and needed no sum that leaves 128 bits, or the
+-- first wide sum
+abbrev pub IsBreakingAnswer : Network → Property → State → Flows → Result Judgement WideSum → Type 0
+IsBreakingAnswer n p t s (Ok j) = JudgesBreaking n p s j × NeedsFit n p t 0 last_test j
+IsBreakingAnswer n p t s (Err w) = IsWideSum n p t 0 last_test w
+
+abbrev pub IsSteadyAnswer : Network → State → Flows → Result Judgement WideSum → Type 0
+IsSteadyAnswer n t s (Ok j) = JudgesSteady n s j × ((p : Property) → NeedsFit n p t first_law last_law j)
+IsSteadyAnswer n t s (Err w) = (p : Property) → IsWideSum n p t first_law last_law w

@@ -4,6 +4,7 @@ use Rattle.bt_flow.specs.declared.property.Property.TheVariants.{Unlimited}
 use Rattle.bt_flow.specs.States.{Flows, StandsFor}
 use Rattle.bt_flow.specs.Judging.{Judges, JudgesSteady, NeedsFit, IsWideSum}
 use Rattle.bt_flow.proofs.Judged.{judges_steady, needs_fit, fit_alone, wide_alone}
+use Rattle.bt_flow.proofs.OneAnswer.{one_steady_answer, is_steady_answer}
 use Rattle.bt_flow.proofs.judge.steady.Goals as goal
 
 pub returns-clause-judges : goal.returns-clause-judges
@@ -24,3 +25,10 @@ returns-clause-wide c =
     let n = c.args.net.now in
     let t = c.args.state.now in
     IfErr-weaker c.judge.result (λ w. IsWideSum n Unlimited t 2 8 w) (λ w. (p : Property) → IsWideSum n p t 2 8 w) (λ w h p. wide_alone n Unlimited p t w h) c.judge.ensures.wide
+
+pub returns-clause-exact : goal.returns-clause-exact
+returns-clause-exact c = λ s g x h.
+    let n = c.args.net.now in
+    let t = c.args.state.now in
+    one_steady_answer n t s g c.judge.result x
+    (is_steady_answer n t c.judge.result (returns-clause-judges c) (returns-clause-fit c) (returns-clause-wide c) s g) h
