@@ -21,25 +21,58 @@ fn one_belt(alloc: Global) -> Result<Vec<Edge>, AllocError>
 // A state of that belt as text, and the line that is refused, or 0.
 const TEXTS: [(&str, usize); 20] = [
     ("no unlimited\nload 1/2\nroom 0\nflow -1/3\nmark b\nend", 0),
-    ("no unlimited\nload 1/2\nroom 0\nflow -1/3\nmark f\nend\n \t\r\n\n", 0),
+    (
+        "no unlimited\nload 1/2\nroom 0\nflow -1/3\nmark f\nend\n \t\r\n\n",
+        0,
+    ),
     ("", 1),
-    ("\nno unlimited\nload 1/2\nroom 0\nflow -1/3\nmark b\nend\n", 1),
+    (
+        "\nno unlimited\nload 1/2\nroom 0\nflow -1/3\nmark b\nend\n",
+        1,
+    ),
     ("yes unlimited\n", 1),
     ("no full\nload 1/2\nroom 0\nflow -1/3\nmark b\nend\n", 1),
-    ("no unlimited\r\nload 1/2\nroom 0\nflow -1/3\nmark b\nend\n", 1),
+    (
+        "no unlimited\r\nload 1/2\nroom 0\nflow -1/3\nmark b\nend\n",
+        1,
+    ),
     ("no unlimited", 2),
     ("no unlimited\nload\nroom 0\nflow -1/3\nmark b\nend\n", 2),
-    ("no unlimited\nload 2/4\nroom 0\nflow -1/3\nmark b\nend\n", 2),
-    ("no unlimited\nload 1/2\nroom 0 0\nflow -1/3\nmark b\nend\n", 3),
-    ("no unlimited\nload 1/2\nroom  0\nflow -1/3\nmark b\nend\n", 3),
-    ("no unlimited\nload 1/2\nroom 0\nflow -1/3 \nmark b\nend\n", 4),
+    (
+        "no unlimited\nload 2/4\nroom 0\nflow -1/3\nmark b\nend\n",
+        2,
+    ),
+    (
+        "no unlimited\nload 1/2\nroom 0 0\nflow -1/3\nmark b\nend\n",
+        3,
+    ),
+    (
+        "no unlimited\nload 1/2\nroom  0\nflow -1/3\nmark b\nend\n",
+        3,
+    ),
+    (
+        "no unlimited\nload 1/2\nroom 0\nflow -1/3 \nmark b\nend\n",
+        4,
+    ),
     ("no unlimited\nload 1/2\nroom 0\n", 4),
-    ("no unlimited\nload 1/2\nroom 0\nflow -1/3\nmark x\nend\n", 5),
+    (
+        "no unlimited\nload 1/2\nroom 0\nflow -1/3\nmark x\nend\n",
+        5,
+    ),
     ("no unlimited\nload 1/2\nroom 0\nflow -1/3\nmark\nend\n", 5),
     ("no unlimited\nload 1/2\nroom 0\nflow -1/3\nmark b\n", 6),
-    ("no unlimited\nload 1/2\nroom 0\nflow -1/3\nmark b\nend \n", 6),
-    ("no unlimited\nload 1/2\nroom 0\nflow -1/3\nmark b\nend\nend\n", 7),
-    ("no unlimited\nload 1/2\nroom 0\nflow -1/3\nmark b\nend\n\n \r\n\t.\n", 9),
+    (
+        "no unlimited\nload 1/2\nroom 0\nflow -1/3\nmark b\nend \n",
+        6,
+    ),
+    (
+        "no unlimited\nload 1/2\nroom 0\nflow -1/3\nmark b\nend\nend\n",
+        7,
+    ),
+    (
+        "no unlimited\nload 1/2\nroom 0\nflow -1/3\nmark b\nend\n\n \r\n\t.\n",
+        9,
+    ),
 ];
 
 #[test]
@@ -61,7 +94,10 @@ fn reads_each_list(rt: HostRuntime) -> Result<(), Fail> {
     let net = Net::new(1, 1, 0, one_belt(rt.alloc())?)?;
     let text = b"no drawn-evenly\nload 1/2\nroom 0\nflow -3\nmark b\nend\n";
     let state = read_state(rt.alloc(), &net, text, Property::DrawnEvenly)?;
-    assert_eq!(rt; format!(in rt.alloc(); "{:?}", state.backed)?.as_str(), "[true]");
+    assert_eq!(rt;
+        format!(in rt.alloc(); "{:?}", state.backed)?.as_str(),
+        "[true]"
+    );
     assert_eq!(rt; state.loads.first().ok_or("load")?.denominator(), 2);
     assert_eq!(rt; state.rooms.first().ok_or("room")?.numerator(), 0);
     assert_eq!(rt; state.flows.first().ok_or("flow")?.numerator(), -3);
