@@ -1,11 +1,10 @@
 -- The text of a state: its lines, that every line of it is right, and that it has one state.
-use Rattle.std.proofs.Common.{◌≡◌, ◌≢◌, ℕ, zero, suc, ◌+◌, ◌<◌, ◌≤◌, ◌⊎◌, ◌==◌, Bool, true, false, List, [], ◌∷◌, ◌++◌, length, map, refl, sym, ◌∙◌, ap, subst, inl, inr, arith, append_assoc, append-nil, codes, nat_lt, Result, Ok, Err}
+use Rattle.std.proofs.Common.{◌≡◌, ◌≢◌, ℕ, ◌<◌, Bool, true, List, [], ◌∷◌, ◌++◌, length, map, refl, sym, ◌∙◌, ap, subst, inl, inr, arith, append_assoc, append-nil, codes, nat_lt, Result, Ok, Err}
 use Rattle.std.specs.Bool.{⊤}
 use Rattle.std.specs.Result.{IfOk, IfErr}
-use Rattle.std.specs.List.{All, AllPass, list_all, slice_split, slice_index_or}
+use Rattle.std.specs.List.{All, list_all, slice_index_or}
 use Rattle.std.proofs.lemmas.List.{append_cancel_left}
 use Rattle.std.proofs.lemmas.List.Sums.{AllPass-from_list_all}
-use Rattle.std.proofs.lemmas.List.Splits.{slice_split_at}
 use Rattle.std.proofs.lemmas.List.Elements.{All-head, All-tail, All-cons, All-nil, All-weaker, All-append}
 use borrow.Author.Tests.{ltb-true}
 use Rattle.bt_text.specs.Blanks.{IsBlank}
@@ -17,9 +16,9 @@ use Rattle.bt_flow.specs.declared.property.Property.{Property}
 use Rattle.bt_flow.specs.declared.property.Property.TheVariants.{Balanced, DrawnEvenly, Unlimited, Full}
 use Rattle.bt_flow.specs.declared.state.State.{State}
 use Rattle.bt_flow.specs.States.{Fits}
-use Rattle.bt_flow.specs.Pieces.{BeginsWith, CutsAt, LeadsTo}
+use Rattle.bt_flow.specs.Pieces.{CutsAt, LeadsTo}
 use Rattle.bt_flow.specs.StateText.{property_name, mark_text, spaced, state_text, IsStateText}
-use Rattle.bt_flow.specs.StateLines.{SpellsItems, SpellsFractions, SpellsMarks, Follows, Form, just, numbers, marks, Fills, forms, lines_of, IsRightAt, IsFirstWrong, IsWrongLine}
+use Rattle.bt_flow.specs.StateLines.{SpellsFractions, SpellsMarks, Follows, just, numbers, marks, Fills, forms, lines_of, IsWrongLine}
 use Rattle.bt_flow.specs.declared.fault.StateFault.{StateFault}
 use Rattle.bt_flow.specs.declared.fault.StateFault.TheVariants.{CertLine, Memory}
 use Rattle.bt_flow.specs.StateFaults.{SameLists, IsFault, ReadsAs, RefusesAt}

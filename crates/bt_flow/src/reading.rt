@@ -4,6 +4,8 @@ mod fractions;
 mod line;
 mod marks;
 mod piece;
+#[cfg(test)]
+mod tests;
 
 ghost use Rattle.std.specs.Prelude.{◌≡◌, ℕ, List, IfOk, IfErr};
 ghost use Rattle.bt_flow.specs.States.{Fits};
