@@ -18,9 +18,13 @@ use Rattle.bt_net.specs.declared.network.Target.{Target}
 use Rattle.bt_net.specs.declared.network.Target.TheVariants as to
 use Rattle.bt_net.specs.Network.{Network, IsWired, IsNetwork, IsLarge, LacksEnds, StartsIn, EndsIn, is_input, is_output, leaves, enters}
 use Rattle.bt_net.specs.NetText.{start_text, target_text, header, edge_text, net_text, BeginsWithNet}
-use Rattle.bt_net.specs.Refusals.{HasSmallSizes, StartFits, TargetFits, EdgeFits, IsStarted, HeaderRefused, EndsWith, SameSizes, GoesOn, EdgesRefused}
-use Rattle.bt_net.specs.Wiring.{IsPartlyWired, with_edge}
+use Rattle.bt_net.specs.Refusals.{HeaderRefused, GoesOn, EdgesRefused}
+use Rattle.bt_net.specs.Wiring.{IsPartlyWired, with_edge, HasSmallSizes, StartFits, TargetFits, EdgeFits, IsStarted, SameSizes}
 use Rattle.bt_net.proofs.Spelling.{start-lacks, target-lacks, ends_of, header_unique, IsHeader-header}
+
+-- the text is the lines of the network's edges and the line `end`, and then this rest
+abbrev pub EndsWith : Network → List ℕ → List ℕ → Type 0
+EndsWith n text rest = BeginsWithLines text (map edge_text n.edges ++ codes "end" ∷ []) rest
 
 -- the lines of a network's text
 abbrev pub net_lines : Network → List (List ℕ)

@@ -10,8 +10,8 @@ use Rattle.bt_net.specs.declared.fault.NetFault.TheVariants.{NetLine, TooLarge, 
 use Rattle.bt_net.specs.declared.network.Edge.{Edge}
 use Rattle.bt_net.specs.Network.{Network, IsWired, IsNetwork, IsLarge, LacksEnds}
 use Rattle.bt_net.specs.NetText.{edge_text, BeginsWithNet}
-use Rattle.bt_net.specs.Refusals.{EdgeFits, HasSmallSizes, HeaderRefused, IsStarted, SameSizes, LineRefused, GoesOn, EdgesRefused, Refuses, UnlessMemory}
-use Rattle.bt_net.specs.Wiring.{IsPartlyWired, with_edge}
+use Rattle.bt_net.specs.Refusals.{HeaderRefused, LineRefused, GoesOn, EdgesRefused, Refuses, UnlessMemory}
+use Rattle.bt_net.specs.Wiring.{IsPartlyWired, with_edge, EdgeFits, HasSmallSizes, IsStarted, SameSizes}
 use Rattle.bt_net.proofs.NetLines.{AreRead, AreRead-head, AreRead-tail, AreRead-partly, edge_apart, edge-lacks, edges-lack, edge-ne_end, same_network, one_more, All-at, header_stands, edges_stand, first_of_net, SameSizes-header, header-same, HasSmallSizes-same, HasSmallSizes-network}
 
 -- a cause that holds, unless there was no memory

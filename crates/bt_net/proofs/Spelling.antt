@@ -15,7 +15,8 @@ use Rattle.bt_net.specs.declared.network.Target.{Target}
 use Rattle.bt_net.specs.declared.network.Target.TheVariants as to
 use Rattle.bt_net.specs.Network.{Network}
 use Rattle.bt_net.specs.NetText.{start_text, target_text, header, edge_text}
-use Rattle.bt_net.specs.Refusals.{IsHeader, HasSmallSizes, StartFits, TargetFits, EdgeFits}
+use Rattle.bt_net.specs.Refusals.{IsHeader}
+use Rattle.bt_net.specs.Wiring.{HasSmallSizes, StartFits, TargetFits, EdgeFits}
 
 -- a number that is read, and limited, and is small, is the one written
 pub small_number : (w : List ℕ) (v n : ℕ) → Spells w n → v ≡ min n (2 ^ 128 - 1) → v < 2 ^ 32 → w ≡ decimal v

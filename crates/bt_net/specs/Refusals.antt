@@ -1,17 +1,13 @@
 -- Where a text stops to be the text of a network.
-use Rattle.std.specs.Prelude.{◌≡◌, ℕ, ◌+◌, ◌<◌, ◌≤◌, ◌^◌, ◌⊎◌, List, [], ◌∷◌, ◌++◌, length, map, codes}
+use Rattle.std.specs.Prelude.{◌≡◌, ℕ, ◌+◌, ◌<◌, ◌≤◌, ◌⊎◌, List, ◌++◌, length, map, codes}
 use Rattle.bt_text.specs.Lines.{IsFirstLine, BeginsWithLines}
 use Rattle.bt_text.specs.Numbers.{Spells}
 use Rattle.bt_net.specs.declared.fault.NetFault.{NetFault}
 use Rattle.bt_net.specs.declared.fault.NetFault.TheVariants.{NetLine, TooLarge, NoEnds, Memory}
 use Rattle.bt_net.specs.declared.network.Edge.{Edge}
-use Rattle.bt_net.specs.declared.network.Start.{Start}
-use Rattle.bt_net.specs.declared.network.Start.TheVariants as from
-use Rattle.bt_net.specs.declared.network.Target.{Target}
-use Rattle.bt_net.specs.declared.network.Target.TheVariants as to
 use Rattle.bt_net.specs.Network.{Network, IsWired}
 use Rattle.bt_net.specs.NetText.{header, edge_text}
-use Rattle.bt_net.specs.Wiring.{IsPartlyWired, with_edge}
+use Rattle.bt_net.specs.Wiring.{HasSmallSizes, IsPartlyWired, with_edge}
 
 -- the line is `net` and three whole numbers, however large
 pub record IsHeader (bytes : List ℕ) (inputs outputs splitters : ℕ) : Type 0 where
@@ -22,36 +18,6 @@ pub record IsHeader (bytes : List ℕ) (inputs outputs splitters : ℕ) : Type 0
   pub outputs_spelled : Spells outputs_word outputs
   pub splitters_spelled : Spells splitters_word splitters
   pub bytes_are : bytes ≡ codes "net " ++ inputs_word ++ codes " " ++ outputs_word ++ codes " " ++ splitters_word
-
--- the number of an end has at most 32 bits
-abbrev pub StartFits : Start → Type 0
-StartFits (from.Input i) = i < 2 ^ 32
-StartFits (from.Split s) = s < 2 ^ 32
-
-abbrev pub TargetFits : Target → Type 0
-TargetFits (to.Split s) = s < 2 ^ 32
-TargetFits (to.Output o) = o < 2 ^ 32
-
-abbrev pub EdgeFits : Edge → Type 0
-EdgeFits e = StartFits e.start × TargetFits e.target
-
--- at most 2048 inputs, outputs and splitters
-pub record HasSmallSizes (n : Network) : Type 0 where
-  pub few_inputs : n.inputs ≤ 2048
-  pub few_outputs : n.outputs ≤ 2048
-  pub few_splitters : n.splitters ≤ 2048
-
--- a network without edges yet, of which this is the first line
-pub record IsStarted (n : Network) (bytes : List ℕ) : Type 0 where
-  pub line_is : bytes ≡ header n
-  pub no_edges : n.edges ≡ []
-  pub small : HasSmallSizes n
-
--- the same numbers of inputs, outputs and splitters
-pub record SameSizes (m n : Network) : Type 0 where
-  pub inputs : m.inputs ≡ n.inputs
-  pub outputs : m.outputs ≡ n.outputs
-  pub splitters : m.splitters ≡ n.splitters
 
 -- why the first line is refused: it is no header, or one of its numbers is more than 2048
 abbrev pub HeaderRefused : List ℕ → NetFault → Type 0
@@ -81,10 +47,6 @@ pub record GoesOn (n : Network) (text bytes after : List ℕ) : Type 0 where
   pub rest : List ℕ
   pub edges : BeginsWithLines text (map edge_text n.edges) rest
   pub next : IsFirstLine rest bytes after
-
--- the text is the lines of the network's edges and the line `end`, and then this rest
-abbrev pub EndsWith : Network → List ℕ → List ℕ → Type 0
-EndsWith n text rest = BeginsWithLines text (map edge_text n.edges ++ codes "end" ∷ []) rest
 
 -- behind a header, why the line after the edges so far is refused
 abbrev pub EdgesRefused : Network → List ℕ → NetFault → Type 0

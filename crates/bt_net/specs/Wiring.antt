@@ -1,10 +1,11 @@
 -- Networks while their edges are read.
-use Rattle.std.specs.Prelude.{◌≡◌, ℕ, ◌<◌, ◌≤◌, Bool, List, [], ◌∷◌, ◌++◌, length, slice_index, count_by, All}
+use Rattle.std.specs.Prelude.{◌≡◌, ℕ, ◌<◌, ◌≤◌, ◌^◌, Bool, List, [], ◌∷◌, ◌++◌, length, slice_index, count_by, All}
 use Rattle.bt_net.specs.declared.network.Edge.{Edge}
 use Rattle.bt_net.specs.declared.network.Start.{Start}
 use Rattle.bt_net.specs.declared.network.Start.TheVariants as from
 use Rattle.bt_net.specs.declared.network.Target.{Target}
 use Rattle.bt_net.specs.declared.network.Target.TheVariants as to
+use Rattle.bt_net.specs.NetText.{header}
 use Rattle.bt_net.specs.Network.{Network, StartsIn, EndsIn, is_input, is_output, leaves, enters}
 
 -- edges that may stand so far: they join what the network has and have cap 1, no input and no output
@@ -62,3 +63,35 @@ pub record CountsTarget (target : Target) (entering outputs entering_after outpu
   pub outputs_length : length outputs_after ≡ length outputs
   pub of_entering : (edges : List Edge) (e : Edge) → e.target ≡ target → Tallies enters edges entering → Tallies enters (edges ++ e ∷ []) entering_after
   pub of_outputs : (edges : List Edge) (e : Edge) → e.target ≡ target → Tallies is_output edges outputs → Tallies is_output (edges ++ e ∷ []) outputs_after
+
+-- at most 2048 inputs, outputs and splitters
+pub record HasSmallSizes (n : Network) : Type 0 where
+  pub few_inputs : n.inputs ≤ 2048
+  pub few_outputs : n.outputs ≤ 2048
+  pub few_splitters : n.splitters ≤ 2048
+
+-- a network without edges yet, of which this is the first line
+pub record IsStarted (n : Network) (bytes : List ℕ) : Type 0 where
+  pub line_is : bytes ≡ header n
+  pub no_edges : n.edges ≡ []
+  pub small : HasSmallSizes n
+
+-- the same numbers of inputs, outputs and splitters
+pub record SameSizes (m n : Network) : Type 0 where
+  pub inputs : m.inputs ≡ n.inputs
+  pub outputs : m.outputs ≡ n.outputs
+  pub splitters : m.splitters ≡ n.splitters
+
+-- the number of a start has at most 32 bits
+abbrev pub StartFits : Start → Type 0
+StartFits (from.Input i) = i < 2 ^ 32
+StartFits (from.Split s) = s < 2 ^ 32
+
+-- the number of a target has at most 32 bits
+abbrev pub TargetFits : Target → Type 0
+TargetFits (to.Split s) = s < 2 ^ 32
+TargetFits (to.Output o) = o < 2 ^ 32
+
+-- the numbers of an edge's two ends have at most 32 bits
+abbrev pub EdgeFits : Edge → Type 0
+EdgeFits e = StartFits e.start × TargetFits e.target

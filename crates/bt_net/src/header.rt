@@ -1,5 +1,6 @@
 ghost use Rattle.std.specs.Prelude.{◌≡◌, ℕ, ◌-◌, ◌^◌, min, IfOk, IfErr, IfSome, IfNone};
-ghost use Rattle.bt_net.specs.Refusals.{IsHeader, IsStarted, HeaderRefused, UnlessMemory};
+ghost use Rattle.bt_net.specs.Refusals.{IsHeader, HeaderRefused, UnlessMemory};
+ghost use Rattle.bt_net.specs.Wiring.{IsStarted};
 
 use crate::fault::NetFault;
 use crate::wiring::Wiring;

@@ -1,8 +1,8 @@
 ghost use Rattle.std.specs.Prelude.{◌≡◌, ℕ, ◌+◌, ◌≤◌, [], List, codes, length, drop, IfOk, IfErr, MatchResult};
 ghost use Rattle.bt_net.specs.Network.{Network, IsNetwork, IsWired};
 ghost use Rattle.bt_net.specs.NetText.{BeginsWithNet};
-ghost use Rattle.bt_net.specs.Refusals.{GoesOn, EdgesRefused, Refuses, UnlessMemory, HasSmallSizes, SameSizes};
-ghost use Rattle.bt_net.specs.Wiring.{IsPartlyWired};
+ghost use Rattle.bt_net.specs.Refusals.{GoesOn, EdgesRefused, Refuses, UnlessMemory};
+ghost use Rattle.bt_net.specs.Wiring.{IsPartlyWired, HasSmallSizes, SameSizes};
 
 use crate::fault::NetFault;
 use crate::header::read_header;

@@ -31,8 +31,7 @@ impl Model for Wiring {
 
 impl Wiring {
     ghost use Rattle.bt_net.specs.Network.{Network, IsWired, IsLarge, LacksEnds};
-    ghost use Rattle.bt_net.specs.Refusals.{HasSmallSizes};
-    ghost use Rattle.bt_net.specs.Wiring.{IsPartlyWired, with_edge};
+    ghost use Rattle.bt_net.specs.Wiring.{IsPartlyWired, with_edge, HasSmallSizes};
 
     /// No edges yet.
     pub fn new(

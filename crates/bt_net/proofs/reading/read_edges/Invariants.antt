@@ -1,8 +1,7 @@
 use Rattle.std.proofs.Common.{◌≤◌, ◌-◌, length, map}
 use Rattle.bt_text.specs.Lines.{BeginsWithLines}
 use Rattle.bt_net.specs.NetText.{edge_text}
-use Rattle.bt_net.specs.Refusals.{SameSizes}
-use Rattle.bt_net.specs.Wiring.{IsPartlyWired}
+use Rattle.bt_net.specs.Wiring.{IsPartlyWired, SameSizes}
 use Rattle.bt_net.proofs.reading.read_edges.Given as goal
 
 -- the text begins with the lines of the edges so far, and the rest follows
