@@ -1,5 +1,5 @@
 -- Running sums of fractions.
-use Rattle.std.proofs.Common.{◌≡◌, ℕ, ◌<◌, ◌+◌, Bool, true, false, List, [], ◌∷◌, ◌++◌, length, map, take, drop, get_or, cond, sym, subst, refl, ap, ◌∙◌, arith, zero, suc, add-one, append-nil}
+use Rattle.std.proofs.Common.{◌≡◌, ℕ, ◌<◌, ◌+◌, Bool, true, false, List, [], ◌∷◌, ◌++◌, length, map, take, drop, get_or, cond, sym, subst, refl, ap, ◌∙◌, arith, suc, add-one, append-nil}
 use Rattle.std.proofs.lemmas.List.{take_more, take-append-drop, length-take-le, get_or_default}
 use Rattle.std.proofs.Math.Seq.{drop-cons}
 use Rattle.bt_flow.specs.declared.ports.Port.{Port}

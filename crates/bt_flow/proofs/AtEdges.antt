@@ -8,7 +8,7 @@ use Rattle.bt_frac.specs.Ratio.{Ratio, IsOver, AreOver}
 use Rattle.bt_net.specs.declared.network.Edge.{Edge}
 use Rattle.bt_net.specs.Network.{Network}
 use Rattle.bt_flow.specs.declared.state.State.{State}
-use Rattle.bt_flow.specs.States.{Flows, StandsFor, Fits, flow_at, backed_at, cap_in}
+use Rattle.bt_flow.specs.States.{Flows, StandsFor, flow_at, backed_at, cap_in}
 use Rattle.bt_flow.specs.Steady.{HasEdge}
 use Rattle.std.specs.List.{AllByRecursion}
 use Rattle.bt_flow.specs.declared.ports.Port.{Port}

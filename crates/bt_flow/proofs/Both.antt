@@ -3,7 +3,7 @@ use Rattle.std.proofs.Common.{◌≡◌, ℕ, Bool, true, false, IsTrue, ◌↔�
 use Rattle.std.specs.List.{AllByRecursion}
 use Rattle.std.proofs.lemmas.Bool.{false≢true}
 use Rattle.bt_flow.specs.declared.ports.Port.{Port}
-use Rattle.bt_flow.specs.declared.ports.Port.TheVariants.{Unused, One, Two}
+use Rattle.bt_flow.specs.declared.ports.Port.TheVariants.{One, Two}
 use Rattle.bt_flow.specs.Ports.{numbers_of}
 
 -- a test that fails answers for both

@@ -1,11 +1,11 @@
 -- Comparisons of fractions as comparisons of whole numbers over one denominator.
-use Rattle.std.proofs.Common.{◌≡◌, ℕ, ◌<◌, ◌≤◌, ◌+◌, ◌*◌, ℤ, pos, ◌<ℤ◌, ◌≤ℤ◌, ◌*ℤ◌, Bool, true, false, IsTrue, ◌↔◌, sym, subst, refl, arith, ◌⊎◌, inl, inr, Ordering, Less, Equal, Greater, ◌∙◌}
+use Rattle.std.proofs.Common.{◌≡◌, ℕ, ◌<◌, ◌+◌, ◌*◌, ℤ, pos, ◌≤ℤ◌, Bool, true, false, IsTrue, ◌↔◌, sym, subst, refl, arith, ◌⊎◌, inl, inr, Ordering, Less, Equal, Greater, ◌∙◌}
 use Rattle.bt_flow.specs.Properties.{IsLesser}
 use Rattle.std.proofs.lemmas.Bool.{false≢true, cases_lt}
 use borrow.Author.Differences.{up, down}
 use Rattle.std.proofs.lemmas.Int.{ints}
 use Rattle.std.proofs.Math.IntN.{pos-*ℤ-pos}
-use Rattle.bt_frac.specs.Ratio.{Ratio, IsOver, IsAtMost, IsLess, SameRatio, IsLowest}
+use Rattle.bt_frac.specs.Ratio.{Ratio, IsOver, IsLess, SameRatio}
 use Rattle.bt_frac.specs.Orders.{IsOrder}
 use Rattle.bt_frac.proofs.Over.{over_at_most, over_less, over_same, over_whole}
 

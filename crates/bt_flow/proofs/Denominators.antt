@@ -1,9 +1,9 @@
 -- Every state of a network stands for whole numbers over one denominator.
-use Rattle.std.proofs.Common.{◌≡◌, ℕ, ◌<◌, ℤ, List, ◌++◌, length, refl, sym, ◌∙◌}
+use Rattle.std.proofs.Common.{◌<◌, ℤ, List, ◌++◌, refl, ◌∙◌}
 use Rattle.std.specs.List.{All}
-use Rattle.std.proofs.lemmas.List.Elements.{All-append, All-map}
+use Rattle.std.proofs.lemmas.List.Elements.{All-append}
 use Rattle.std.proofs.lemmas.Slice.Zip.{AllZip-long}
-use Rattle.bt_frac.specs.Ratio.{Ratio, IsLowest, IsOver, AreOver}
+use Rattle.bt_frac.specs.Ratio.{Ratio, IsLowest, IsOver}
 use Rattle.bt_frac.proofs.Over.{common_denominator, are_over_split}
 use Rattle.bt_net.specs.Network.{Network}
 use Rattle.bt_flow.specs.declared.state.State.{State}

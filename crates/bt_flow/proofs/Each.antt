@@ -1,7 +1,6 @@
 -- What holds at each edge of a port holds of each edge with a role at a number.
-use Rattle.std.proofs.Common.{◌≡◌, ℕ, ◌<◌, ◌+◌, Bool, true, false, IsTrue, ◌↔◌, List, [], ◌∷◌, length, slice_get, Some, None, cond, sym, subst, refl, ap, ◌∙◌, arith, zero, suc}
+use Rattle.std.proofs.Common.{◌≡◌, ℕ, ◌<◌, ◌+◌, Bool, true, false, IsTrue, ◌↔◌, List, [], ◌∷◌, length, slice_get, Some, cond, sym, subst, refl, ap, ◌∙◌, arith, zero, suc}
 use Rattle.std.specs.List.{AllByRecursion}
-use Rattle.std.proofs.lemmas.Bool.{false≢true}
 use Rattle.std.proofs.lemmas.Option.{slice_get_within}
 use Rattle.bt_net.specs.declared.network.Edge.{Edge}
 use Rattle.bt_net.specs.Network.{Network}

@@ -1,13 +1,13 @@
 -- From the tests at their places to the judgement.
-use Rattle.std.proofs.Common.{◌≡◌, ◌≢◌, ℕ, ◌<◌, ◌≤◌, ◌+◌, Bool, true, false, IsTrue, ◌↔◌, ◌⊎◌, inl, inr, sym, subst, refl, ap, ◌∙◌, arith, zero, suc, lit<, lit≤, List, [], ◌∷◌, get_or}
-use Rattle.std.proofs.lemmas.Bool.{false≢true, cases_lt, cases_eq, cases_order}
+use Rattle.std.proofs.Common.{◌≡◌, ℕ, ◌<◌, ◌≤◌, ◌+◌, Bool, true, false, IsTrue, ◌↔◌, inl, inr, sym, subst, refl, ap, ◌∙◌, arith, zero, suc, lit<, lit≤, List, [], ◌∷◌, get_or}
+use Rattle.std.proofs.lemmas.Bool.{false≢true, cases_lt, cases_eq}
 use Rattle.bt_net.specs.Network.{Network}
 use Rattle.bt_flow.specs.declared.property.Property.{Property}
 use Rattle.bt_flow.specs.declared.judgement.Test.{Test}
 use Rattle.bt_flow.specs.declared.judgement.WideSum.{WideSum}
 use Rattle.bt_flow.specs.declared.state.State.{State}
 use Rattle.bt_flow.specs.States.{Flows, StandsFor}
-use Rattle.bt_flow.specs.Tests.{order_of, places, Passes, IsAmong, IsEarlier, PassesUpTo, FailsFirst}
+use Rattle.bt_flow.specs.Tests.{order_of, places, Passes, IsAmong, IsEarlier, FailsFirst}
 use Rattle.bt_flow.specs.Sums.{sums_of, AllFit, IsFirstWide}
 use Rattle.bt_flow.specs.Judging.{IsClear, FailsAt, IsWideAt, IsWideSum, Judges, JudgesSteady, JudgesBreaking, NeedsFit}
 use Rattle.bt_flow.specs.declared.judgement.Test.TheVariants as test

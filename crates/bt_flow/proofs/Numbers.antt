@@ -1,9 +1,8 @@
 -- The numbers of the edges that pass a test, and of those that have a role.
-use Rattle.std.proofs.Common.{◌≡◌, ℕ, ◌<◌, ◌≤◌, ◌+◌, ◌==◌, Bool, true, false, IsTrue, List, [], ◌∷◌, ◌++◌, length, take, get_or, slice_get, Some, cond, ap, sym, ◌∙◌, refl, subst, arith, inl, inr, set, append-nil}
-use Rattle.std.specs.List.{All, count_by, sum_by}
+use Rattle.std.proofs.Common.{◌≡◌, ℕ, ◌<◌, ◌≤◌, ◌+◌, ◌==◌, Bool, true, false, List, [], ◌∷◌, ◌++◌, length, take, get_or, cond, ap, sym, ◌∙◌, refl, subst, arith, inl, inr, set, append-nil}
+use Rattle.std.specs.List.{count_by}
 use Rattle.std.proofs.lemmas.List.{take_more, length-take-le, get_or-set_same, get_or-set_other}
 use Rattle.std.proofs.lemmas.List.Sums.{sum_by-append, sum_by-take-drop, count_by_more_yes}
-use Rattle.std.proofs.lemmas.List.Elements.{All-head, All-tail}
 use Rattle.std.proofs.lemmas.Bool.{eqb-true, false≢true, cases_eq, eq-eqb, ne_eqb}
 use Rattle.bt_net.specs.declared.network.Edge.{Edge}
 use Rattle.bt_net.specs.declared.network.Start.TheVariants as from

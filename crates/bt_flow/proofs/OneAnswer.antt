@@ -1,5 +1,5 @@
 -- There is one right answer.
-use Rattle.std.proofs.Common.{◌≡◌, ℕ, ◌<◌, ◌≤◌, ◌⊎◌, inl, inr, sym, subst, refl, ap, ◌∙◌, arith, Result, Ok, Err, lit≤}
+use Rattle.std.proofs.Common.{◌≡◌, ℕ, ◌<◌, ◌≤◌, ◌⊎◌, inl, inr, sym, subst, refl, ap, ◌∙◌, arith, Result, Ok, Err}
 use Rattle.std.proofs.lemmas.Bool.{cases_order}
 use Rattle.bt_net.specs.Network.{Network}
 use Rattle.bt_flow.specs.declared.property.Property.{Property}
@@ -15,7 +15,7 @@ use Rattle.bt_flow.specs.Steady.{IsSteady}
 use Rattle.bt_flow.specs.Properties.{Breaks}
 use Rattle.bt_flow.specs.Tests.{order_of, places, Passes, IsAmong, IsEarlier, FailsFirst}
 use Rattle.std.specs.Result.{IfOk, IfErr}
-use Rattle.bt_flow.specs.Sums.{sums_of, AllFit, IsFirstWide}
+use Rattle.bt_flow.specs.Sums.{sums_of, IsFirstWide}
 use Rattle.bt_flow.specs.Judging.{JudgesBreaking, JudgesSteady, NeedsFit, IsWideSum, IsBreakingAnswer, IsSteadyAnswer}
 use Rattle.bt_flow.proofs.Judged.{same_order}
 use Rattle.bt_flow.proofs.OneWide.{one_first_wide, all_fit_or_wide}

@@ -1,6 +1,5 @@
 -- A list of sums forms one first wide addition, or none where all additions fit.
-use Rattle.std.proofs.Common.{◌≡◌, ℕ, ◌<◌, ◌*◌, List, [], ◌∷◌, ◌++◌, ◌⊎◌, inl, inr, sym, subst, refl, ap, ◌∙◌, ℤ, pos, ◌*ℤ◌, ◌+ℤ◌}
-use Rattle.std.specs.List.{AllByRecursion}
+use Rattle.std.proofs.Common.{◌≡◌, ◌*◌, List, [], ◌∷◌, ◌++◌, inl, inr, sym, subst, ◌∙◌, pos, ◌*ℤ◌, ◌+ℤ◌}
 use Rattle.bt_frac.specs.Ratio.{Ratio}
 use Rattle.bt_frac.proofs.Euclid.{over_unique}
 use Rattle.bt_frac.proofs.Over.{under_positive}

@@ -1,5 +1,5 @@
 -- The laws of splitters at one edge, from what holds at the ports of its splitter.
-use Rattle.std.proofs.Common.{◌≡◌, ◌≢◌, ℕ, ◌<◌, ◌==◌, ℤ, ◌≤ℤ◌, Bool, true, false, IsTrue, ◌↔◌, ◌⊎◌, inl, inr, List, length, get_or, slice_get, Some, sym, subst, refl, ap, ◌∙◌}
+use Rattle.std.proofs.Common.{◌≡◌, ◌≢◌, ℕ, ◌<◌, ◌==◌, ◌≤ℤ◌, Bool, true, false, IsTrue, ◌↔◌, inl, inr, List, length, get_or, slice_get, Some, sym, subst, refl, ap, ◌∙◌}
 use Rattle.std.specs.List.{AllByRecursion}
 use Rattle.std.specs.Int.Signed.{≤ℤ_refl}
 use Rattle.std.proofs.lemmas.Bool.{false≢true, eqb-true, eq-eqb, cases_eq}
@@ -10,9 +10,9 @@ use Rattle.bt_net.specs.declared.network.Target.TheVariants as to
 use Rattle.bt_net.specs.Network.{Network, leaves, enters}
 use Rattle.bt_flow.specs.declared.ports.Port.{Port}
 use Rattle.bt_flow.specs.declared.ports.Role.{Role}
-use Rattle.bt_flow.specs.declared.ports.Role.TheVariants.{OutOf, Into}
+use Rattle.bt_flow.specs.declared.ports.Role.TheVariants.{OutOf}
 use Rattle.bt_flow.specs.Ports.{numbers_of, plays, IsPort}
-use Rattle.bt_flow.specs.States.{Flows, flow_at, backed_at, cap_in}
+use Rattle.bt_flow.specs.States.{Flows, flow_at, backed_at}
 use Rattle.bt_flow.specs.Steady.{HasEdge, Backs}
 use Rattle.bt_flow.proofs.AtEdges.{Stops}
 use Rattle.bt_flow.proofs.Each.{each, each_with}

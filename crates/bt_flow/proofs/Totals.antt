@@ -1,5 +1,5 @@
 -- Sums of fractions as sums of whole numbers over one denominator.
-use Rattle.std.proofs.Common.{◌≡◌, ℕ, ◌<◌, ◌+◌, ◌-◌, Bool, true, false, IsTrue, ℤ, pos, ◌+ℤ◌, List, [], ◌∷◌, length, map, drop, get_or, cond, sym, subst, refl, ap, ◌∙◌, arith, zero, suc}
+use Rattle.std.proofs.Common.{◌≡◌, ℕ, ◌+◌, Bool, true, false, ℤ, pos, ◌+ℤ◌, List, [], ◌∷◌, length, map, drop, get_or, cond, sym, subst, refl, ap, ◌∙◌, arith, zero, suc}
 use Rattle.std.proofs.lemmas.Int.{ints}
 use Rattle.bt_frac.specs.Ratio.{Ratio, IsOver, AreOver}
 use Rattle.bt_frac.proofs.Over.{over_sum, over_zero}
@@ -8,8 +8,6 @@ use Rattle.bt_net.specs.Network.{Network}
 use Rattle.bt_flow.specs.declared.ports.Port.{Port}
 use Rattle.bt_flow.specs.declared.ports.Role.{Role}
 use Rattle.bt_flow.specs.Ports.{numbers_of, numbers_where, plays, IsPort}
-use Rattle.bt_flow.specs.declared.state.State.{State}
-use Rattle.bt_flow.specs.States.{Flows, StandsFor}
 use Rattle.bt_flow.specs.Steady.{sum_where}
 use Rattle.bt_flow.specs.Properties.{total}
 use Rattle.bt_flow.specs.Sums.{nothing, AddsTo, RunsTo, fractions_where}

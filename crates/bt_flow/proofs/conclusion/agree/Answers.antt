@@ -1,6 +1,5 @@
-use Rattle.std.proofs.Common.{◌≡◌, ◌<◌, ◌≤◌, ◌+◌, ℕ, pos, true, false, length, get_or, sym, subst, ap, ◌∙◌, arith, refl}
+use Rattle.std.proofs.Common.{◌<◌, ◌≤◌, ◌+◌, pos, length, sym, subst, ap, ◌∙◌, arith}
 use Rattle.std.proofs.lemmas.Bool.{false≢true}
-use Rattle.bt_net.specs.Network.{Network}
 use Rattle.bt_flow.specs.States.{flow_at}
 use Rattle.bt_flow.proofs.AtEdges.{over_read}
 use Rattle.bt_flow.proofs.Adding.{no_edge}

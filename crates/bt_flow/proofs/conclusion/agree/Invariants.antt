@@ -1,5 +1,3 @@
-use Rattle.std.proofs.Common.{◌≡◌, ℕ, ◌<◌, IsTrue, Option, Some, None, length}
-use Rattle.bt_net.specs.declared.network.Edge.{Edge}
 use Rattle.bt_flow.proofs.Agreeing.{AgreeSoFar}
 use Rattle.bt_flow.proofs.conclusion.agree.Given as goal
 

@@ -1,9 +1,8 @@
-use Rattle.std.proofs.Common.{◌≡◌, ℕ, pos, inl, inr, List, sym, subst, ap, ◌∙◌}
+use Rattle.std.proofs.Common.{inl, inr, subst}
 use Rattle.std.proofs.lemmas.Result.{err_from_is_err_and}
-use Rattle.bt_frac.specs.Ratio.{Ratio}
 use Rattle.bt_flow.specs.Properties.{is_last, total}
 use Rattle.bt_flow.specs.Steady.{sum_where}
-use Rattle.bt_flow.specs.Sums.{nothing, RunsTo, IsWideIn, fractions_where}
+use Rattle.bt_flow.specs.Sums.{nothing, RunsTo, IsWideIn}
 use Rattle.bt_flow.proofs.Totals.{sum_over, total_over, same_fractions}
 use Rattle.bt_flow.proofs.conclusion.passes_all.Goals as goal
 

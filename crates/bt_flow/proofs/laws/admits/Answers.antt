@@ -1,4 +1,3 @@
-use Rattle.std.proofs.Common.{ℕ}
 use Rattle.bt_net.specs.declared.network.Edge.{Edge}
 use Rattle.bt_flow.specs.Steady.{HasEdge}
 use Rattle.bt_flow.proofs.Both.{port_one, port_two, port_fails}

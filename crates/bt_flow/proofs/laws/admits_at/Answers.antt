@@ -1,4 +1,3 @@
-use Rattle.std.proofs.Common.{pos, ◌*◌}
 use Rattle.bt_flow.proofs.AtEdges.{admits_at_none, admits_at_free, admits_at_full}
 use Rattle.bt_flow.proofs.laws.admits_at.Goals as goal
 

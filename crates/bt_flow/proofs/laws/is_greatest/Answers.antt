@@ -1,4 +1,4 @@
-use Rattle.std.proofs.Common.{ℕ, pos, ◌<◌, ◌≤ℤ◌, length}
+use Rattle.std.proofs.Common.{pos, ◌<◌, ◌≤ℤ◌, length}
 use Rattle.bt_flow.specs.States.{flow_at}
 use Rattle.bt_flow.proofs.Both.{port_one, port_two, port_fails}
 use Rattle.bt_flow.proofs.AtEdges.{over_read, port_one_is, port_first_is, port_second_is}

@@ -1,5 +1,5 @@
-use Rattle.std.proofs.Common.{pos, ◌<◌, ◌≡◌, length, subst, sym, ◌∙◌, arith}
-use Rattle.bt_flow.specs.States.{flow_at, backed_at}
+use Rattle.std.proofs.Common.{pos, ◌<◌, length, ◌∙◌, arith}
+use Rattle.bt_flow.specs.States.{flow_at}
 use Rattle.bt_flow.proofs.AtEdges.{over_read, mark_read, stops_at_full}
 use Rattle.bt_flow.proofs.laws.stops_at.Goals as goal
 

@@ -1,12 +1,10 @@
-use Rattle.std.proofs.Common.{◌≡◌, ◌<◌, ℕ, pos, inl, inr, List, length, map, get_or, sym, subst, ap, ◌∙◌, arith}
+use Rattle.std.proofs.Common.{◌<◌, inl, inr, length, get_or, subst, ap, ◌∙◌, arith}
 use Rattle.std.proofs.lemmas.Result.{err_from_is_err_and}
-use Rattle.bt_frac.specs.Ratio.{Ratio}
 use Rattle.bt_flow.specs.declared.ports.Port.TheVariants.{Unused}
 use Rattle.bt_flow.specs.declared.ports.Role.TheVariants.{OutOf, Into}
 use Rattle.bt_net.specs.Network.{enters, leaves}
-use Rattle.bt_flow.specs.Ports.{plays, numbers_of}
 use Rattle.bt_flow.specs.Steady.{sum_where}
-use Rattle.bt_flow.specs.Sums.{nothing, RunsTo, IsWideIn, fractions_where}
+use Rattle.bt_flow.specs.Sums.{nothing, RunsTo, IsWideIn}
 use Rattle.bt_flow.proofs.Each.{port_below}
 use Rattle.bt_flow.proofs.Totals.{port_flows_at, sum_over}
 use Rattle.bt_flow.proofs.passing.conserves.Goals as goal

@@ -1,4 +1,4 @@
-use Rattle.std.proofs.Common.{◌≡◌, ◌<◌, ◌≤◌, ℕ, sym, subst, refl, arith}
+use Rattle.std.proofs.Common.{◌<◌, ◌≤◌, subst, arith}
 use Rattle.std.proofs.lemmas.Result.{err_from_is_err_and}
 use Rattle.bt_flow.specs.Tests.{places}
 use Rattle.bt_flow.proofs.Judged.{wide_here, clear_more, clear_here, fails_here}

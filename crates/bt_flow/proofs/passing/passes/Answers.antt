@@ -1,4 +1,4 @@
-use Rattle.std.proofs.Common.{◌≡◌, IsTrue, ◌↔◌, sym, subst}
+use Rattle.std.proofs.Common.{IsTrue, ◌↔◌, sym, subst}
 use Rattle.bt_flow.specs.declared.judgement.Test.{Test}
 use Rattle.bt_flow.specs.States.{Flows, StandsFor}
 use Rattle.bt_flow.specs.Tests.{Passes}

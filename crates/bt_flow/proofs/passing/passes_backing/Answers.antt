@@ -1,4 +1,4 @@
-use Rattle.std.proofs.Common.{◌≡◌, ◌<◌, ℕ, true, false, length, get_or, sym, subst, ap, ◌∙◌, arith}
+use Rattle.std.proofs.Common.{◌<◌, length, get_or, sym, subst, ◌∙◌, arith}
 use Rattle.bt_flow.specs.declared.ports.Port.TheVariants.{Unused}
 use Rattle.bt_flow.specs.declared.ports.Role.TheVariants.{OutOf, Into}
 use Rattle.bt_flow.proofs.AtEdges.{mark_read}

@@ -1,12 +1,11 @@
-use Rattle.std.proofs.Common.{◌≡◌, ◌<◌, ℕ, true, false, length, get_or, sym, subst, ap, ◌∙◌, arith}
-use Rattle.std.proofs.lemmas.Bool.{false≢true, true≢false}
+use Rattle.std.proofs.Common.{◌<◌, true, length, get_or, sym, subst, ◌∙◌, arith}
 use Rattle.bt_flow.specs.declared.ports.Port.TheVariants.{Unused}
 use Rattle.bt_flow.specs.declared.ports.Role.TheVariants.{Into}
 use Rattle.bt_flow.proofs.AtEdges.{mark_read}
 use Rattle.bt_flow.proofs.Adding.{no_edge}
 use Rattle.bt_flow.proofs.Each.{port_below}
 use Rattle.bt_flow.proofs.Numbers.{number_fits}
-use Rattle.bt_flow.proofs.Sharing.{evens_none, evens_other, evens_at, enters-split, enters-output}
+use Rattle.bt_flow.proofs.Sharing.{evens_none, evens_at, enters-split, enters-output}
 use Rattle.bt_flow.proofs.passing.passes_even_in.Goals as goal
 
 pub is_greatest-requires-clause-port : goal.is_greatest-requires-clause-port

@@ -1,5 +1,4 @@
-use Rattle.std.proofs.Common.{◌≡◌, ◌<◌, ℕ, pos, IsTrue, length, get_or, arith}
-use Rattle.bt_net.specs.declared.network.Edge.{Edge}
+use Rattle.std.proofs.Common.{◌<◌, pos, length, get_or, arith}
 use Rattle.bt_flow.specs.declared.ports.Port.TheVariants.{Unused}
 use Rattle.bt_flow.specs.declared.ports.Role.TheVariants.{ToOutput}
 use Rattle.bt_flow.specs.States.{room_at}

@@ -1,10 +1,7 @@
-use Rattle.std.proofs.Common.{◌≡◌, ◌≢◌, ℕ, ◌+◌, ◌==◌, ◌<◌, ◌≤◌, ◌++◌, ◌∷◌, [], true, false, List, length, take, get_or, cond, ap, sym, ◌∙◌, refl, subst, arith}
+use Rattle.std.proofs.Common.{◌≡◌, ◌+◌, ◌≤◌, length, ap, sym, ◌∙◌, subst}
 use Rattle.std.proofs.lemmas.List.{get_or-replicate, length-replicate, length-set, take_all}
-use Rattle.std.proofs.lemmas.Bool.{cases_eq, eq-eqb, ne_eqb}
-use Rattle.bt_net.specs.declared.network.Edge.{Edge}
-use Rattle.bt_flow.specs.declared.ports.Port.{Port}
 use Rattle.bt_flow.specs.declared.ports.Port.TheVariants.{Unused}
-use Rattle.bt_flow.specs.Ports.{numbers_of, plays, AreAt, numbers_where}
+use Rattle.bt_flow.specs.Ports.{numbers_of, plays, numbers_where}
 use Rattle.bt_flow.proofs.Numbers.{Fill, port_has_room, number_fits, filled_with, filled_without}
 use Rattle.bt_flow.proofs.ports.ports_of.Goals as goal
 use Rattle.bt_flow.proofs.ports.ports_of.Goals.{in-Some, in_default}

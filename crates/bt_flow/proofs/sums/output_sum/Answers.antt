@@ -1,4 +1,4 @@
-use Rattle.std.proofs.Common.{◌≡◌, true, false, take, length, get_or, ap, sym, subst, ◌+◌, ◌∙◌, arith}
+use Rattle.std.proofs.Common.{take, get_or, sym, subst, ◌+◌, arith}
 use Rattle.std.proofs.lemmas.List.{get_or_default}
 use Rattle.std.proofs.lemmas.Result.{err_from_is_err_and}
 use Rattle.bt_flow.specs.Sums.{nothing, RunsTo, fractions_where}

@@ -1,4 +1,3 @@
-use Rattle.std.proofs.Common.{take, length}
 use Rattle.std.proofs.lemmas.Result.{err_from_is_err_and}
 use Rattle.bt_flow.proofs.Adding.{runs_on, wide_on}
 use Rattle.bt_flow.proofs.sums.sum_of.Goals as goal
