@@ -1,7 +1,7 @@
 -- The edges at one end of a network, and the four parts that an edge plays at its two ends.
 use Rattle.std.specs.Prelude.{◌≡◌, ℕ, ◌+◌, ◌<◌, Bool, List, [], ◌∷◌, length, slice_index_or, if◌then◌else◌}
 use Rattle.bt_net.specs.declared.network.Edge.{Edge}
-use Rattle.bt_net.specs.Network.{Network, is_input, is_output, leaves, enters}
+use Rattle.bt_net.specs.Network.{Network, IsNetwork, is_input, is_output, leaves, enters}
 use Rattle.bt_flow.specs.declared.ports.Port.{Port}
 use Rattle.bt_flow.specs.declared.ports.Port.TheVariants.{Unused, One, Two}
 use Rattle.bt_flow.specs.declared.ports.Ports.{Ports}
@@ -35,8 +35,9 @@ pub record AreAt (n : Network) (r : Role) (ports : List Port) : Type 0 where
   pub long : length ports ≡ 2048
   pub at : (k : ℕ) → k < 2048 → (d : Port) → IsPort n r k (slice_index_or ports k d)
 
--- the ports of the network
+-- the ports of the network, which is one
 pub record ArePorts (n : Network) (ports : Ports) : Type 0 where
+  pub network : IsNetwork n
   pub inputs : AreAt n FromInput ports.inputs
   pub outputs : AreAt n ToOutput ports.outputs
   pub out_of : AreAt n OutOf ports.out_of

@@ -58,7 +58,6 @@ pub fn concludes(net: &Net, property: Property, state: &State) -> Result<bool, W
     match property {
         Property::Balanced => Ok(agree(net, state, Role::ToOutput)),
         Property::DrawnEvenly => Ok(agree(net, state, Role::FromInput)),
-        Property::Unlimited => passes_all(net, state),
-        Property::Full => passes_all(net, state),
+        Property::Unlimited | Property::Full => passes_all(net, state),
     }
 }

@@ -21,7 +21,6 @@ fn passes_load(net: &Net, ports: &Ports, property: Property, state: &State, inpu
     requires place { input < net.now.inputs }
     ensures { (s : Flows) → StandsFor net.now state.now s → IsTrue result ↔ Passes net.now property s Test.Load input }
 {
-    let _edges = net.edges();
     admits(
         net,
         ports.inputs[input],
@@ -36,7 +35,6 @@ fn passes_room(net: &Net, ports: &Ports, property: Property, state: &State, outp
     requires place { output < net.now.outputs }
     ensures { (s : Flows) → StandsFor net.now state.now s → IsTrue result ↔ Passes net.now property s Test.Room output }
 {
-    let _edges = net.edges();
     admits(
         net,
         ports.outputs[output],
@@ -59,7 +57,6 @@ fn conserves(
     ensures fit { OnOk result (AllFit (sums_of net.now property state.now Test.Conserve splitter)) }
     ensures wide { IfErr result (λ w. IsFirstWide w.left w.right (sums_of net.now property state.now Test.Conserve splitter)) }
 {
-    let _edges = net.edges();
     let entering = port_sum(&state.flows, ports.into[splitter])?;
     let leaving = port_sum(&state.flows, ports.out_of[splitter])?;
     Ok(is_same(&entering, &leaving))
@@ -110,7 +107,6 @@ fn passes_input(net: &Net, ports: &Ports, property: Property, state: &State, inp
     requires place { input < net.now.inputs }
     ensures { (s : Flows) → StandsFor net.now state.now s → IsTrue result ↔ Passes net.now property s Test.Input input }
 {
-    let _edges = net.edges();
     meets(state, ports.inputs[input], &state.loads[input], false)
 }
 
@@ -120,7 +116,6 @@ fn passes_output(net: &Net, ports: &Ports, property: Property, state: &State, ou
     requires place { output < net.now.outputs }
     ensures { (s : Flows) → StandsFor net.now state.now s → IsTrue result ↔ Passes net.now property s Test.Output output }
 {
-    let _edges = net.edges();
     meets(state, ports.outputs[output], &state.rooms[output], true)
 }
 

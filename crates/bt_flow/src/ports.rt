@@ -1,4 +1,5 @@
 ghost use Rattle.std.specs.Prelude.{◌≡◌, ℕ, ◌+◌, ◌==◌, ◌<◌, ◌≤◌, ◌++◌, ◌∷◌, [], false, IfSome, IfNone, IsTrue, length, count_by, All, slice_index_or};
+ghost use Rattle.bt_net.specs.Network.{IsNetwork};
 ghost use Rattle.bt_flow.specs.Ports.{numbers_of, plays, AreAt, ArePorts};
 
 use bt_net::{Edge, Net, Start, Target};
@@ -52,7 +53,8 @@ impl Role {
 
 /// The edges with a role, at each number.
 fn ports_of(net: &Net, role: Role) -> [Port; 2048]
-    ensures { AreAt net.now role result }
+    ensures ports { AreAt net.now role result }
+    ensures network { IsNetwork net.now }
 {
     let mut ports = [Port::Unused; 2048];
     for (place, edge) in net.edges().iter().enumerate() {
@@ -77,7 +79,6 @@ impl Ports {
     pub fn of(net: &Net) -> Ports
         ensures { ArePorts net.now result }
     {
-        let _edges = net.edges();
         Ports {
             inputs: ports_of(net, Role::FromInput),
             outputs: ports_of(net, Role::ToOutput),

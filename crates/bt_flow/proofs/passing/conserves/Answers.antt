@@ -11,19 +11,19 @@ use Rattle.bt_flow.proofs.passing.conserves.Goals as goal
 
 pub port_sum-requires : goal.port_sum-requires
 port_sum-requires c =
-    let few : c.args.splitter < 2048 = let p = c.requires.place in let q = c.edges-edges.ensures.network.few_splitters in omega (arith, p, q) in
+    let few : c.args.splitter < 2048 = let p = c.requires.place in let q = c.requires.ports.network.few_splitters in omega (arith, p, q) in
     port_below c.args.net.now Into c.args.splitter (get_or c.args.ports.now.into c.args.splitter Unused) (c.requires.ports.into.at c.args.splitter few Unused)
     (length c.deref.result.now) (ap length c.deref.ensures.value ∙ c.requires.fits.flows)
 
 pub port_sum-requires-2 : goal.port_sum-requires-2
 port_sum-requires-2 c =
-    let few : c.args.splitter < 2048 = let p = c.requires.place in let q = c.edges-edges.ensures.network.few_splitters in omega (arith, p, q) in
+    let few : c.args.splitter < 2048 = let p = c.requires.place in let q = c.requires.ports.network.few_splitters in omega (arith, p, q) in
     port_below c.args.net.now OutOf c.args.splitter (get_or c.args.ports.now.out_of c.args.splitter Unused) (c.requires.ports.out_of.at c.args.splitter few Unused)
     (length c.deref-2.result.now) (ap length c.deref-2.ensures.value ∙ c.requires.fits.flows)
 
 pub returns-in_err-entering-clause-wide : goal.returns-in_err-entering-clause-wide
 returns-in_err-entering-clause-wide c =
-    let few : c.args.splitter < 2048 = let p = c.requires.place in let q = c.edges-edges.ensures.network.few_splitters in omega (arith, p, q) in
+    let few : c.args.splitter < 2048 = let p = c.requires.place in let q = c.requires.ports.network.few_splitters in omega (arith, p, q) in
     let into = port_flows_at c.args.net.now Into c.args.splitter (get_or c.args.ports.now.into c.args.splitter Unused) c.args.state.now.flows.items c.deref.result.now
     (c.requires.ports.into.at c.args.splitter few Unused) c.requires.fits.flows c.deref.ensures.value in
     let p = err_from_is_err_and c.from_residual.result c.from_residual.ensures.1 in
@@ -31,7 +31,7 @@ returns-in_err-entering-clause-wide c =
 
 pub returns-in_err-leaving-clause-wide : goal.returns-in_err-leaving-clause-wide
 returns-in_err-leaving-clause-wide c =
-    let few : c.args.splitter < 2048 = let p = c.requires.place in let q = c.edges-edges.ensures.network.few_splitters in omega (arith, p, q) in
+    let few : c.args.splitter < 2048 = let p = c.requires.place in let q = c.requires.ports.network.few_splitters in omega (arith, p, q) in
     let into = port_flows_at c.args.net.now Into c.args.splitter (get_or c.args.ports.now.into c.args.splitter Unused) c.args.state.now.flows.items c.deref.result.now
     (c.requires.ports.into.at c.args.splitter few Unused) c.requires.fits.flows c.deref.ensures.value in
     let out_of = port_flows_at c.args.net.now OutOf c.args.splitter (get_or c.args.ports.now.out_of c.args.splitter Unused) c.args.state.now.flows.items c.deref-2.result.now
@@ -45,7 +45,7 @@ returns-in_err-leaving-clause-wide c =
 
 pub returns-clause-passes : goal.returns-clause-passes
 returns-clause-passes c = λ s h.
-    let few : c.args.splitter < 2048 = let p = c.requires.place in let q = c.edges-edges.ensures.network.few_splitters in omega (arith, p, q) in
+    let few : c.args.splitter < 2048 = let p = c.requires.place in let q = c.requires.ports.network.few_splitters in omega (arith, p, q) in
     let k = c.args.splitter in
     let into = port_flows_at c.args.net.now Into k (get_or c.args.ports.now.into k Unused) c.args.state.now.flows.items c.deref.result.now
     (c.requires.ports.into.at k few Unused) c.requires.fits.flows c.deref.ensures.value in
@@ -59,7 +59,7 @@ returns-clause-passes c = λ s h.
 
 pub returns-clause-fit : goal.returns-clause-fit
 returns-clause-fit c =
-    let few : c.args.splitter < 2048 = let p = c.requires.place in let q = c.edges-edges.ensures.network.few_splitters in omega (arith, p, q) in
+    let few : c.args.splitter < 2048 = let p = c.requires.place in let q = c.requires.ports.network.few_splitters in omega (arith, p, q) in
     let k = c.args.splitter in
     let into = port_flows_at c.args.net.now Into k (get_or c.args.ports.now.into k Unused) c.args.state.now.flows.items c.deref.result.now
     (c.requires.ports.into.at k few Unused) c.requires.fits.flows c.deref.ensures.value in

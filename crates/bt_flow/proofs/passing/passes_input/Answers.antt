@@ -9,19 +9,19 @@ use Rattle.bt_flow.proofs.passing.passes_input.Goals as goal
 
 pub meets-requires-clause-flow : goal.meets-requires-clause-flow
 meets-requires-clause-flow c =
-    let few : c.args.input < 2048 = let p = c.requires.place in let q = c.edges-edges.ensures.network.few_inputs in omega (arith, p, q) in
+    let few : c.args.input < 2048 = let p = c.requires.place in let q = c.requires.ports.network.few_inputs in omega (arith, p, q) in
     port_below c.args.net.now FromInput c.args.input (get_or c.args.ports.now.inputs c.args.input Unused) (c.requires.ports.inputs.at c.args.input few Unused)
     (length c.args.state.now.flows.items) c.requires.fits.flows
 
 pub meets-requires-clause-backed : goal.meets-requires-clause-backed
 meets-requires-clause-backed c =
-    let few : c.args.input < 2048 = let p = c.requires.place in let q = c.edges-edges.ensures.network.few_inputs in omega (arith, p, q) in
+    let few : c.args.input < 2048 = let p = c.requires.place in let q = c.requires.ports.network.few_inputs in omega (arith, p, q) in
     port_below c.args.net.now FromInput c.args.input (get_or c.args.ports.now.inputs c.args.input Unused) (c.requires.ports.inputs.at c.args.input few Unused)
     (length c.args.state.now.backed.items) c.requires.fits.backed
 
 pub returns : goal.returns
 returns c = λ s h.
-    let few : c.args.input < 2048 = let p = c.requires.place in let q = c.edges-edges.ensures.network.few_inputs in omega (arith, p, q) in
+    let few : c.args.input < 2048 = let p = c.requires.place in let q = c.requires.ports.network.few_inputs in omega (arith, p, q) in
     let port = get_or c.args.ports.now.inputs c.args.input Unused in
     let x = load_at s c.args.input in
     let l : c.args.input < length c.args.state.now.loads.items = let p = c.requires.place in let q = c.requires.fits.loads in omega (arith, p, q) in

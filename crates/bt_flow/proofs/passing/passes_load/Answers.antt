@@ -9,12 +9,12 @@ use Rattle.bt_flow.proofs.passing.passes_load.Goals as goal
 
 pub admits-requires : goal.admits-requires
 admits-requires c =
-    let few : c.args.input < 2048 = let p = c.requires.place in let q = c.edges-edges.ensures.network.few_inputs in omega (arith, p, q) in
+    let few : c.args.input < 2048 = let p = c.requires.place in let q = c.requires.ports.network.few_inputs in omega (arith, p, q) in
     port_within c.args.net.now FromInput c.args.input (get_or c.args.ports.now.inputs c.args.input Unused) (c.requires.ports.inputs.at c.args.input few Unused)
 
 pub returns : goal.returns
 returns c = λ s h.
-    let few : c.args.input < 2048 = let p = c.requires.place in let q = c.edges-edges.ensures.network.few_inputs in omega (arith, p, q) in
+    let few : c.args.input < 2048 = let p = c.requires.place in let q = c.requires.ports.network.few_inputs in omega (arith, p, q) in
     let port = get_or c.args.ports.now.inputs c.args.input Unused in
     let x = load_at s c.args.input in
     let l : c.args.input < length c.args.state.now.loads.items = let p = c.requires.place in let q = c.requires.fits.loads in omega (arith, p, q) in

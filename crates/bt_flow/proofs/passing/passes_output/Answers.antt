@@ -9,19 +9,19 @@ use Rattle.bt_flow.proofs.passing.passes_output.Goals as goal
 
 pub meets-requires-clause-flow : goal.meets-requires-clause-flow
 meets-requires-clause-flow c =
-    let few : c.args.output < 2048 = let p = c.requires.place in let q = c.edges-edges.ensures.network.few_outputs in omega (arith, p, q) in
+    let few : c.args.output < 2048 = let p = c.requires.place in let q = c.requires.ports.network.few_outputs in omega (arith, p, q) in
     port_below c.args.net.now ToOutput c.args.output (get_or c.args.ports.now.outputs c.args.output Unused) (c.requires.ports.outputs.at c.args.output few Unused)
     (length c.args.state.now.flows.items) c.requires.fits.flows
 
 pub meets-requires-clause-backed : goal.meets-requires-clause-backed
 meets-requires-clause-backed c =
-    let few : c.args.output < 2048 = let p = c.requires.place in let q = c.edges-edges.ensures.network.few_outputs in omega (arith, p, q) in
+    let few : c.args.output < 2048 = let p = c.requires.place in let q = c.requires.ports.network.few_outputs in omega (arith, p, q) in
     port_below c.args.net.now ToOutput c.args.output (get_or c.args.ports.now.outputs c.args.output Unused) (c.requires.ports.outputs.at c.args.output few Unused)
     (length c.args.state.now.backed.items) c.requires.fits.backed
 
 pub returns : goal.returns
 returns c = λ s h.
-    let few : c.args.output < 2048 = let p = c.requires.place in let q = c.edges-edges.ensures.network.few_outputs in omega (arith, p, q) in
+    let few : c.args.output < 2048 = let p = c.requires.place in let q = c.requires.ports.network.few_outputs in omega (arith, p, q) in
     let port = get_or c.args.ports.now.outputs c.args.output Unused in
     let x = room_at s c.args.output in
     let l : c.args.output < length c.args.state.now.rooms.items = let p = c.requires.place in let q = c.requires.fits.rooms in omega (arith, p, q) in

@@ -9,12 +9,12 @@ use Rattle.bt_flow.proofs.passing.passes_room.Goals as goal
 
 pub admits-requires : goal.admits-requires
 admits-requires c =
-    let few : c.args.output < 2048 = let p = c.requires.place in let q = c.edges-edges.ensures.network.few_outputs in omega (arith, p, q) in
+    let few : c.args.output < 2048 = let p = c.requires.place in let q = c.requires.ports.network.few_outputs in omega (arith, p, q) in
     port_within c.args.net.now ToOutput c.args.output (get_or c.args.ports.now.outputs c.args.output Unused) (c.requires.ports.outputs.at c.args.output few Unused)
 
 pub returns : goal.returns
 returns c = λ s h.
-    let few : c.args.output < 2048 = let p = c.requires.place in let q = c.edges-edges.ensures.network.few_outputs in omega (arith, p, q) in
+    let few : c.args.output < 2048 = let p = c.requires.place in let q = c.requires.ports.network.few_outputs in omega (arith, p, q) in
     let port = get_or c.args.ports.now.outputs c.args.output Unused in
     let x = room_at s c.args.output in
     let l : c.args.output < length c.args.state.now.rooms.items = let p = c.requires.place in let q = c.requires.fits.rooms in omega (arith, p, q) in

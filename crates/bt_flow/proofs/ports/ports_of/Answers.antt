@@ -41,8 +41,8 @@ loop-place-preserved c =
           (c.loop-place.invariant.0, filled_without n c.args.role c.edges-edge-items.result.now c.loop-place.place c.loop-place.ports _ same c.loop-place-test.true w.in_default.ensures.none c.loop-place.invariant.1)
     ]
 
-pub returns : goal.returns
-returns c =
+pub returns-clause-ports : goal.returns-clause-ports
+returns-clause-ports c =
     record {
       long = c.loop-place.invariant.0;
       at = λ k h d. c.loop-place.invariant.1 k h d ∙ ap (numbers_where (plays c.args.role k) 0) (take_all c.loop-place.place c.args.net.now.edges (subst (λ l. length l ≤ c.loop-place.place) c.edges-edge-items.ensures.edges c.loop-place-test.false));
