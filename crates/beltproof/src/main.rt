@@ -1,0 +1,34 @@
+// The program: its words, standard input and standard output.
+#![tactic(auto)]
+
+use bt_io::{StdSink, StdSource};
+use bt_top::run;
+use std::env;
+use std::io::ErrorKind;
+use std::process::ExitCode;
+
+/// The words after the program's name, or no words where they can't be had; `None` where there is no
+/// memory for them.
+fn words_of(rt: &HostRuntime) -> Option<Vec<String>> {
+    let mut words = Vec::new(rt.alloc());
+    let args = match env::args(rt) {
+        Ok(args) => args,
+        Err(error) if error.kind() == ErrorKind::OutOfMemory => return None,
+        Err(_) => return Some(words),
+    };
+    for word in args.skip(1) {
+        if words.push(word).is_err() {
+            return None;
+        }
+    }
+    Some(words)
+}
+
+fn main(rt: HostRuntime) -> ExitCode {
+    let Some(words) = words_of(&rt) else {
+        return ExitCode::from(8);
+    };
+    let mut source = StdSource::new(rt.stdin());
+    let mut sink = StdSink::new(rt.stdout());
+    ExitCode::from(run(rt.alloc(), &words, &mut source, &mut sink))
+}

@@ -1,0 +1,18 @@
+use Rattle.std.proofs.Common.{◌≡◌, ℕ, List, [], ◌∷◌, string_bytes, arith, sym, ◌∙◌, ap, Option, Some, None, IfSome, codes}
+use Rattle.std.specs.Cmp.Lexicographic.{same_text}
+use Rattle.bt_flow.specs.declared.property.Property.{Property}
+use Rattle.bt_flow.specs.StateText.{property_name}
+use Rattle.bt_top.proofs.WordLists.{two_items}
+use Rattle.bt_top.proofs.command.flow_check_property.Goals as goal
+
+-- the words are the command and the name of the property that was found
+named : (words : List (List ℕ)) (name first text : List ℕ) (r : Option Property) → words ≡ first ∷ text ∷ [] → first ≡ codes "flow-check"
+    → name ≡ text → IfSome r (λ p. name ≡ property_name p) → IfSome r (λ p. words ≡ codes "flow-check" ∷ property_name p ∷ [])
+named words name first text None e f h k = tt
+named words name first text (Some p) e f h k = e ∙ ap (λ x. x ∷ text ∷ []) f ∙ ap (λ x. codes "flow-check" ∷ x ∷ []) (sym h ∙ k)
+
+pub returns-in-len2-clause-some : goal.returns-in-len2-clause-some
+returns-in-len2-clause-some c =
+    let words = two_items string_bytes c.args.words.now c.command-item.result c.name-item.result (omega arith) (omega arith) c.command-item.is c.name-item.is in
+    let first = same_text c.as_str.result.now (codes "flow-check") (sym c.if-eq.true ∙ c.eq.ensures) in
+    named _ _ _ _ c.property_named.result words (sym c.as_str.ensures.value ∙ first) c.as_str-in-len2.ensures.value c.property_named.ensures.some

@@ -1,0 +1,45 @@
+-- The statuses and the texts of answers.
+use Rattle.std.specs.Prelude.{ℕ, List, ◌++◌, codes, decimal}
+use Rattle.bt_net.specs.NetText.{line}
+use Rattle.bt_flow.specs.declared.judgement.Test.{Test}
+use Rattle.bt_flow.specs.declared.judgement.Test.TheVariants as test
+use Rattle.bt_flow.specs.StateText.{property_name}
+use Rattle.bt_top.specs.declared.answer.Answer.{Answer}
+use Rattle.bt_top.specs.declared.answer.Answer.TheVariants.{Breaks, Usage, NetLine, TooLarge, NoEnds, WideState, CertLine, NotBreaking, TooLong}
+
+-- the status of an answer
+abbrev pub status_of : Answer → ℕ
+status_of (Breaks p) = 0
+status_of Usage = 2
+status_of (NetLine k) = 3
+status_of TooLarge = 3
+status_of NoEnds = 3
+status_of (WideState t a) = 5
+status_of (CertLine k) = 9
+status_of (NotBreaking t a) = 9
+status_of TooLong = 11
+
+-- the word for a test
+abbrev pub test_name : Test → List ℕ
+test_name test.Load = codes "load"
+test_name test.Room = codes "room"
+test_name test.Range = codes "range"
+test_name test.Conserve = codes "conserve"
+test_name test.EvenOut = codes "even-out"
+test_name test.EvenIn = codes "even-in"
+test_name test.Backing = codes "backing"
+test_name test.Input = codes "input"
+test_name test.Output = codes "output"
+test_name test.Kept = codes "kept"
+
+-- the text of an answer
+abbrev pub text_of : Answer → List ℕ
+text_of (Breaks p) = line (codes "breaks " ++ property_name p)
+text_of Usage = line (codes "usage")
+text_of (NetLine k) = line (codes "refused 40 NetLine " ++ decimal k)
+text_of TooLarge = line (codes "refused 41 TooLarge")
+text_of NoEnds = line (codes "refused 42 NoEnds")
+text_of (WideState t a) = line (codes "wide state " ++ test_name t ++ codes " " ++ decimal a)
+text_of (CertLine k) = line (codes "refused 50 CertLine " ++ decimal k)
+text_of (NotBreaking t a) = line (codes "refused 54 NotBreaking " ++ test_name t ++ codes " " ++ decimal a)
+text_of TooLong = line (codes "too long")
