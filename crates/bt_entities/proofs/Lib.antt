@@ -1,0 +1,6 @@
+pub mod Unique
+pub mod Middles
+pub mod Placed
+pub mod Lowest
+pub mod Whole
+pub mod Once

@@ -1,0 +1,317 @@
+-- Pieces and the cells that they have.
+use Rattle.std.proofs.Common.{◌≡◌, ◌≢◌, ℕ, ◌<◌, ◌≤◌, ℤ, List, length, get_or, Option, Some, None, refl, ap, ◌∙◌, sym, arith, inl, inr}
+use Rattle.std.specs.Prelude.{codes}
+use Rattle.bt_json.specs.Json.{Json, Number}
+use Rattle.bt_parts.specs.declared.part.Cell.{Cell}
+use Rattle.bt_parts.specs.declared.part.Dir.{Dir}
+use Rattle.bt_parts.specs.declared.part.Dir.TheVariants.{North, East, South, West}
+use Rattle.bt_parts.specs.declared.part.Kind.{Kind}
+use Rattle.bt_parts.specs.declared.part.Kind.TheVariants.{Belt, Entrance, Exit, Splitter}
+use Rattle.bt_parts.specs.declared.part.Part.{Part}
+use Rattle.bt_parts.specs.declared.part.Tier.{Tier}
+use Rattle.bt_parts.specs.Cells.{IsInRange}
+use Rattle.bt_entities.specs.declared.blueprint.Frame.{Frame}
+use Rattle.bt_entities.specs.declared.fault.EntityFault.{EntityFault}
+use Rattle.bt_entities.specs.declared.fault.EntityFault.TheVariants.{NotBlueprint, Book, TooMany, Unsupported, BadMember, OffGrid, MixedTier, Special, Memory}
+use Rattle.bt_entities.specs.declared.fault.Member.{Member}
+use Rattle.bt_entities.specs.declared.fault.Member.TheVariants.{Entity, Name, Position, Direction, PieceType, InputPriority, OutputPriority, ControlBehavior, Filter}
+use Rattle.bt_entities.specs.declared.name.Family.{Family}
+use Rattle.bt_entities.specs.declared.name.Family.TheVariants.{Belts, Undergrounds, Splitters}
+use Rattle.bt_entities.specs.declared.piece.Piece.{Piece}
+use Rattle.bt_entities.specs.declared.piece.Priority.{Priority}
+use Rattle.bt_entities.specs.declared.piece.Priority.TheVariants.{Even, Sided}
+use Rattle.bt_entities.specs.declared.shift.Shift.{Shift}
+use Rattle.bt_entities.specs.Members.{Lacks, HasMember, HasText}
+use Rattle.bt_entities.specs.Names.{name_of}
+use Rattle.bt_entities.specs.Places.{width_of, height_of, IsMiddle}
+use Rattle.bt_entities.specs.Entities.{HasFamily, HasTier, HasKind, IsHalves, IsPlaced, SetsShift, IsEven, IsSided, IsEntity}
+use Rattle.bt_entities.specs.Refusals.{IsFault, IsWrong, IsSpecial, IsOffGrid, IsMixed, IsFirstSpecial, IsLowest, tested_members, special_members}
+use Rattle.bt_entities.specs.Pieces.{AreHalves, IsPriority, IsPiece, IsOn, HasShift, IsPlain, IsFrame}
+use Rattle.bt_entities.proofs.Unique.{object_of, same_text, same_kind, same_dir, same_tier, same_family, same_position, same_times, lacks_or_has}
+use Rattle.bt_entities.proofs.Middles.{same_middle, middle_near}
+use Rattle.bt_entities.proofs.Lowest.{none_first, IsNamed, named, lowest_off, lowest_mixed, lowest_special}
+
+halves_some : (n : Number) (o : Option ℤ) (z : ℤ) → AreHalves n o → IsHalves n z → o ≡ Some z
+halves_some n None z h i = absurd (h z i)
+halves_some n (Some w) z h i = ap Some (same_times 2 n w z h.0 i.0)
+
+halves_at : (n : Number) (o : Option ℤ) (z : ℤ) → AreHalves n o → o ≡ Some z → IsHalves n z
+halves_at n o z h e = rw e at h
+
+-- what is placed for an entity is its piece's cell
+pub placed_on : (major : ℕ) (v : Json) (piece : Piece) (shift : Shift) (cell : Cell) → IsPiece major v piece → IsPlaced major shift v cell → IsOn piece shift cell
+placed_on major v piece shift cell p a =
+    let k : a.kind ≡ piece.kind = same_kind v _ _ a.has_kind p.has_kind in
+    let d : a.dir ≡ piece.dir = same_dir major v _ _ a.has_dir p.has_dir in
+    let at = same_position v a.x a.y p.x p.y a.has_position p.has_position in
+    let hx : IsHalves p.x a.twice_x = rw at.same_x at a.halves_x in
+    let hy : IsHalves p.y a.twice_y = rw at.same_y at a.halves_y in
+    record {
+      twice_x = a.twice_x;
+      has_x = halves_some p.x piece.x a.twice_x p.halves_x hx;
+      middle_x = rw (k, d) at a.middle_x;
+      twice_y = a.twice_y;
+      has_y = halves_some p.y piece.y a.twice_y p.halves_y hy;
+      middle_y = rw (k, d) at a.middle_y;
+    }
+
+pub on_placed : (major : ℕ) (v : Json) (piece : Piece) (shift : Shift) (cell : Cell) → IsPiece major v piece → IsOn piece shift cell → IsPlaced major shift v cell
+on_placed major v piece shift cell p a = record {
+  kind = piece.kind;
+  has_kind = p.has_kind;
+  dir = piece.dir;
+  has_dir = p.has_dir;
+  x = p.x;
+  y = p.y;
+  has_position = p.has_position;
+  twice_x = a.twice_x;
+  halves_x = halves_at p.x piece.x a.twice_x p.halves_x a.has_x;
+  middle_x = a.middle_x;
+  twice_y = a.twice_y;
+  halves_y = halves_at p.y piece.y a.twice_y p.halves_y a.has_y;
+  middle_y = a.middle_y;
+}
+
+pub record SamePlace (a b : Shift) (c d : Cell) : Type 0 where
+  pub same_shift : a ≡ b
+  pub same_cell : c ≡ d
+
+abbrev shift_at : ℕ → ℕ → Shift
+shift_at x y = record { x = x; y = y }
+
+abbrev cell_at : ℤ → ℤ → Cell
+cell_at x y = record { x = x; y = y }
+
+same_record : (a b : Shift) (c d : Cell) → a.x ≡ b.x → a.y ≡ b.y → c.x ≡ d.x → c.y ≡ d.y → SamePlace a b c d
+same_record a b c d ax ay cx cy = record {
+  same_shift = ap (λ x. shift_at x a.y) ax ∙ ap (λ y. shift_at b.x y) ay;
+  same_cell = ap (λ x. cell_at x c.y) cx ∙ ap (λ y. cell_at d.x y) cy;
+}
+
+-- an entity has one shift and one cell at most
+pub same_place : (major : ℕ) (v : Json) (s t : Shift) (c d : Cell) → s.x < 2 → s.y < 2 → t.x < 2 → t.y < 2
+    → IsPlaced major s v c → IsPlaced major t v d → SamePlace s t c d
+same_place major v s t c d sx sy tx ty a b =
+    let k : a.kind ≡ b.kind = same_kind v _ _ a.has_kind b.has_kind in
+    let e : a.dir ≡ b.dir = same_dir major v _ _ a.has_dir b.has_dir in
+    let at = same_position v a.x a.y b.x b.y a.has_position b.has_position in
+    let hx : a.twice_x ≡ b.twice_x = same_times 2 b.x _ _ (rw at.same_x at a.halves_x.0) b.halves_x.0 in
+    let hy : a.twice_y ≡ b.twice_y = same_times 2 b.y _ _ (rw at.same_y at a.halves_y.0) b.halves_y.0 in
+    let x = same_middle b.twice_x (width_of b.kind b.dir) s.x t.x c.x d.x sx tx (rw (← hx, ← k, ← e) a.middle_x) b.middle_x in
+    let y = same_middle b.twice_y (height_of b.kind b.dir) s.y t.y c.y d.y sy ty (rw (← hy, ← k, ← e) a.middle_y) b.middle_y in
+    same_record s t c d x.same_shift y.same_shift x.same_first y.same_first
+
+pub same_shift : (major : ℕ) (v : Json) (s t : Shift) → SetsShift major v s → SetsShift major v t → s ≡ t
+same_shift major v s t a b = (same_place major v s t a.cell b.cell a.small_x a.small_y b.small_x b.small_y a.placed b.placed).same_shift
+
+width_few : (kind : Kind) (dir : Dir) → width_of kind dir ≤ 2
+width_few Belt dir = omega arith
+width_few Entrance dir = omega arith
+width_few Exit dir = omega arith
+width_few Splitter North = omega arith
+width_few Splitter East = omega arith
+width_few Splitter South = omega arith
+width_few Splitter West = omega arith
+
+height_few : (kind : Kind) (dir : Dir) → height_of kind dir ≤ 2
+height_few Belt dir = omega arith
+height_few Entrance dir = omega arith
+height_few Exit dir = omega arith
+height_few Splitter North = omega arith
+height_few Splitter East = omega arith
+height_few Splitter South = omega arith
+height_few Splitter West = omega arith
+
+-- each part's cell is in range
+pub entity_in_range : (major : ℕ) (first v : Json) (part : Part) → IsEntity major first v part → IsInRange part.cell
+entity_in_range major first v part e =
+    let p = e.placed in (
+      middle_near p.twice_x _ e.shift.x part.cell.x (width_few p.kind p.dir) e.first_shift.small_x p.halves_x.1 p.middle_x,
+      middle_near p.twice_y _ e.shift.y part.cell.y (height_few p.kind p.dir) e.first_shift.small_y p.halves_y.1 p.middle_y,
+    )
+
+-- of a name's family there is a tier
+kind_family : (v : Json) (kind : Kind) → HasKind v kind → (family : Family) × HasFamily v family
+kind_family v Belt h = (Belts, h)
+kind_family v Entrance h = (Undergrounds, h.0)
+kind_family v Exit h = (Undergrounds, h.0)
+kind_family v Splitter h = (Splitters, h)
+
+pub tier_named : (v : Json) (tier : Tier) → HasTier v tier → IsNamed v
+tier_named v tier h = named v h.0 tier h.1
+
+tier_object : (major : ℕ) (v : Json) (tier : Tier) → HasTier v tier → ¬ IsWrong major v Entity
+tier_object major v tier h wrong = wrong (object_of v (codes "name") _ h.1)
+
+tier_name : (major : ℕ) (v : Json) (tier : Tier) → HasTier v tier → ¬ IsWrong major v Name
+tier_name major v tier h wrong = wrong (name_of h.0 tier) h.1
+
+pub kind_typed : (major : ℕ) (v : Json) (kind : Kind) → HasKind v kind → ¬ IsWrong major v PieceType
+kind_typed major v Belt h wrong = let e : Belts ≡ Undergrounds = same_family v _ _ h wrong.0 in absurd cc
+kind_typed major v Entrance h wrong = wrong.1 h.1
+kind_typed major v Exit h wrong = wrong.2 h.1
+kind_typed major v Splitter h wrong = let e : Splitters ≡ Undergrounds = same_family v _ _ h wrong.0 in absurd cc
+
+texts_apart : (v : Json) (name s t : List ℕ) → HasText v name s → HasText v name t → length s ≢ length t → ⊥
+texts_apart v name s t a b ne = ne (ap length (same_text v name s t a b))
+
+none_left : (v : Json) (name : List ℕ) → HasText v name (codes "none") → HasText v name (codes "left") → ⊥
+none_left v name a b =
+    let e : get_or (codes "none") 0 0 ≡ get_or (codes "left") 0 0 = ap (λ ts. get_or ts 0 0) (same_text v name _ _ a b) in
+    absurd (omega arith)
+
+-- a priority that is even has no side
+pub even_or_sided : (v : Json) (name : List ℕ) → IsEven v name → IsSided v name → ⊥
+even_or_sided v name even sided = elim even [
+  | inl lacks ↦ elim sided [ inl left ↦ lacks_or_has v name _ lacks left | inr right ↦ lacks_or_has v name _ lacks right ]
+  | inr none ↦ elim sided [ inl left ↦ none_left v name none left | inr right ↦ texts_apart v name _ _ none right (omega arith) ]
+]
+
+pub priority_right : (v : Json) (name : List ℕ) (priority : Priority) → IsPriority v name priority
+    → HasFamily v Splitters × (¬ IsEven v name) × (¬ IsSided v name) → ⊥
+priority_right v name Even p wrong = wrong.1 (p wrong.0)
+priority_right v name Sided p wrong = wrong.2 p.1
+
+-- a piece has no wrong member
+pub piece_right : (major : ℕ) (v : Json) (piece : Piece) → IsPiece major v piece → (m : Member) → ¬ IsWrong major v m
+piece_right major v piece p Entity wrong = tier_object major v piece.tier p.has_tier wrong
+piece_right major v piece p Name wrong = tier_name major v piece.tier p.has_tier wrong
+piece_right major v piece p Position wrong = wrong p.x p.y p.has_position
+piece_right major v piece p Direction wrong = wrong piece.dir p.has_dir
+piece_right major v piece p PieceType wrong = kind_typed major v piece.kind p.has_kind wrong
+piece_right major v piece p InputPriority wrong = priority_right v (codes "input_priority") piece.input p.input wrong
+piece_right major v piece p OutputPriority wrong = priority_right v (codes "output_priority") piece.output p.output wrong
+piece_right major v piece p ControlBehavior wrong = wrong
+piece_right major v piece p Filter wrong = wrong
+
+-- nor has an entity that stands for a part
+pub entity_right : (major : ℕ) (first v : Json) (part : Part) → IsEntity major first v part → (m : Member) → ¬ IsWrong major v m
+entity_right major first v part p Entity wrong = tier_object major v part.tier p.has_tier wrong
+entity_right major first v part p Name wrong = tier_name major v part.tier p.has_tier wrong
+entity_right major first v part p Position wrong = wrong p.placed.x p.placed.y p.placed.has_position
+entity_right major first v part p Direction wrong = wrong part.dir p.has_dir
+entity_right major first v part p PieceType wrong = kind_typed major v part.kind p.has_kind wrong
+entity_right major first v part p InputPriority wrong = wrong.1 (p.even_input wrong.0)
+entity_right major first v part p OutputPriority wrong = wrong.1 (p.even_output wrong.0)
+entity_right major first v part p ControlBehavior wrong = wrong
+entity_right major first v part p Filter wrong = wrong
+
+pub plain_special : (v : Json) → IsPlain v → (m : Member) → ¬ IsSpecial v m
+plain_special v p Entity s = s
+plain_special v p Name s = s
+plain_special v p Position s = s
+plain_special v p Direction s = s
+plain_special v p PieceType s = s
+plain_special v p InputPriority s = even_or_sided v (codes "input_priority") (p.even_input s.0) s.1
+plain_special v p OutputPriority s = even_or_sided v (codes "output_priority") (p.even_output s.0) s.1
+plain_special v p ControlBehavior s = lacks_or_has v (codes "control_behavior") s.0 p.no_condition s.1
+plain_special v p Filter s = lacks_or_has v (codes "filter") s.0 p.no_filter s.1
+
+entity_plain : (major : ℕ) (first v : Json) (part : Part) → IsEntity major first v part → IsPlain v
+entity_plain major first v part p = record { even_input = p.even_input; even_output = p.even_output; no_condition = p.no_condition; no_filter = p.no_filter }
+
+-- an entity that stands for a part has no fault
+pub entity_sound : (major : ℕ) (first : Json) (i : ℕ) (v : Json) (part : Part) → IsEntity major first v part → (fault : EntityFault) → ¬ IsFault major first i v fault
+entity_sound major first i v part p NotBlueprint f = f
+entity_sound major first i v part p Book f = f
+entity_sound major first i v part p TooMany f = f
+entity_sound major first i v part p (Unsupported at name) f = tier_named v part.tier p.has_tier _ f.1
+entity_sound major first i v part p (BadMember at member) f = none_first (IsWrong major v) tested_members member (entity_right major first v part p) f.1
+entity_sound major first i v part p (OffGrid at) f = f.1 p.shift part.cell p.first_shift p.placed
+entity_sound major first i v part p (MixedTier at) f = let m = f.1 in m.4 (same_tier v m.0 part.tier m.2 p.has_tier ∙ sym (same_tier first m.1 part.tier m.3 p.first_tier))
+entity_sound major first i v part p (Special at member) f = none_first (IsSpecial v) special_members member (plain_special v (entity_plain major first v part p)) f.1
+entity_sound major first i v part p Memory f = f
+
+-- a piece with a shift stands on the grid
+pub sets_shift : (major : ℕ) (v : Json) (piece : Piece) (shift : Shift) → IsPiece major v piece → HasShift piece shift → SetsShift major v shift
+sets_shift major v piece shift p h = record { small_x = h.small_x; small_y = h.small_y; cell = h.cell; placed = on_placed major v piece shift h.cell p h.on }
+
+pub has_shift : (piece : Piece) (x y : ℤ) (w h s t : ℕ) (c d : ℤ) → piece.x ≡ Some x → piece.y ≡ Some y
+    → w ≡ width_of piece.kind piece.dir → h ≡ height_of piece.kind piece.dir → s < 2 → t < 2 → IsMiddle x w s c → IsMiddle y h t d → HasShift piece (shift_at s t)
+has_shift piece x y w h s t c d ex ey ew eh ls lt mx my = record {
+  small_x = ls;
+  small_y = lt;
+  cell = cell_at c d;
+  on = record { twice_x = x; has_x = ex; middle_x = rw ew at mx; twice_y = y; has_y = ey; middle_y = rw eh at my };
+}
+
+pub first_off : (major : ℕ) (v : Json) (piece : Piece) → IsPiece major v piece → ((shift : Shift) (cell : Cell) → ¬ IsOn piece shift cell) → IsOffGrid major v v
+first_off major v piece p none shift cell sets placed = none shift cell (placed_on major v piece shift cell p placed)
+
+off_grid : (major : ℕ) (first v : Json) (piece : Piece) (shift : Shift) → IsPiece major v piece → SetsShift major first shift
+    → ((cell : Cell) → ¬ IsOn piece shift cell) → IsOffGrid major first v
+off_grid major first v piece shift p sets none other cell also placed =
+    none cell (rw (same_shift major first shift other sets also) (placed_on major v piece other cell p placed))
+
+on_grid : (major : ℕ) (first v : Json) (piece : Piece) (shift : Shift) (cell : Cell) → IsPiece major v piece → SetsShift major first shift
+    → IsOn piece shift cell → ¬ IsOffGrid major first v
+on_grid major first v piece shift cell p sets on off = off shift cell sets (on_placed major v piece shift cell p on)
+
+one_tier : (first v : Json) (tier of_first : Tier) → HasTier v tier → HasTier first of_first → tier ≡ of_first → ¬ IsMixed first v
+one_tier first v tier of_first a b e m = m.4 (same_tier v m.0 tier m.2 a ∙ e ∙ sym (same_tier first m.1 of_first m.3 b))
+
+pub told_first_off : (major : ℕ) (v : Json) (piece : Piece) → IsPiece major v piece → ((shift : Shift) (cell : Cell) → ¬ IsOn piece shift cell) → IsLowest major v 0 v (OffGrid 0)
+told_first_off major v piece p none = lowest_off major v 0 v (tier_named v piece.tier p.has_tier) (piece_right major v piece p) (first_off major v piece p none)
+
+pub told_off : (major : ℕ) (first : Json) (i : ℕ) (v : Json) (piece : Piece) (frame : Frame) → IsPiece major v piece → IsFrame major first frame
+    → ((cell : Cell) → ¬ IsOn piece frame.shift cell) → IsLowest major first i v (OffGrid i)
+told_off major first i v piece frame p f none =
+    lowest_off major first i v (tier_named v piece.tier p.has_tier) (piece_right major v piece p) (off_grid major first v piece frame.shift p f.0 none)
+
+pub told_mixed : (major : ℕ) (first : Json) (i : ℕ) (v : Json) (piece : Piece) (frame : Frame) (cell : Cell) → IsPiece major v piece → IsFrame major first frame
+    → IsOn piece frame.shift cell → piece.tier ≢ frame.tier → IsLowest major first i v (MixedTier i)
+told_mixed major first i v piece frame cell p f on ne =
+    lowest_mixed major first i v (tier_named v piece.tier p.has_tier) (piece_right major v piece p) (on_grid major first v piece frame.shift cell p f.0 on)
+    (piece.tier, frame.tier, p.has_tier, f.1, ne)
+
+pub told_special : (major : ℕ) (first : Json) (i : ℕ) (v : Json) (piece : Piece) (frame : Frame) (cell : Cell) (member : Member) → IsPiece major v piece → IsFrame major first frame
+    → IsOn piece frame.shift cell → piece.tier ≡ frame.tier → IsFirstSpecial v member → IsLowest major first i v (Special i member)
+told_special major first i v piece frame cell member p f on e s =
+    lowest_special major first i v member (tier_named v piece.tier p.has_tier) (piece_right major v piece p) (on_grid major first v piece frame.shift cell p f.0 on)
+    (one_tier first v piece.tier frame.tier p.has_tier f.1 e) s
+
+pub is_entity : (major : ℕ) (first v : Json) (piece : Piece) (frame : Frame) (part : Part) → IsPiece major v piece → IsFrame major first frame
+    → IsOn piece frame.shift part.cell → part.kind ≡ piece.kind → part.tier ≡ piece.tier → part.dir ≡ piece.dir → piece.tier ≡ frame.tier → IsPlain v → IsEntity major first v part
+is_entity major first v piece frame part p f on k t d e plain = record {
+  has_kind = rw k p.has_kind;
+  has_tier = rw t p.has_tier;
+  has_dir = rw d p.has_dir;
+  shift = frame.shift;
+  first_shift = f.0;
+  placed = on_placed major v piece frame.shift part.cell p on;
+  first_tier = rw (t, e) f.1;
+  even_input = plain.even_input;
+  even_output = plain.even_output;
+  no_condition = plain.no_condition;
+  no_filter = plain.no_filter;
+}
+
+has_none : (v : Json) (name : List ℕ) → Lacks v name → ¬ ((m : Json) × HasMember v name m)
+has_none v name lacks has = lacks_or_has v name has.0 lacks has.1
+
+even_none : (v : Json) (name : List ℕ) (priority : Priority) → priority ≡ Even → IsPriority v name priority → HasFamily v Splitters → IsEven v name
+even_none v name priority e p = rw e at p
+
+pub special_input : (major : ℕ) (v : Json) (piece : Piece) → Lacks v (codes "control_behavior") → Lacks v (codes "filter") → piece.input ≡ Sided → IsPiece major v piece → IsFirstSpecial v InputPriority
+special_input major v piece a b e p = inr (has_none v _ a, inr (has_none v _ b, inl (rw e at p.input, refl)))
+
+pub special_output : (major : ℕ) (v : Json) (piece : Piece) → Lacks v (codes "control_behavior") → Lacks v (codes "filter") → piece.input ≡ Even → piece.output ≡ Sided → IsPiece major v piece → IsFirstSpecial v OutputPriority
+special_output major v piece a b e o p =
+    inr (
+      has_none v _ a,
+      inr (
+        has_none v _ b,
+        inr (
+          (λ s. even_or_sided v (codes "input_priority") (even_none v (codes "input_priority") piece.input e p.input s.0) s.1),
+          inl (rw o at p.output, refl),
+        ),
+      ),
+    )
+
+pub is_plain : (major : ℕ) (v : Json) (piece : Piece) → Lacks v (codes "control_behavior") → Lacks v (codes "filter") → piece.input ≡ Even → piece.output ≡ Even → IsPiece major v piece → IsPlain v
+is_plain major v piece a b e o p = record {
+  even_input = even_none v (codes "input_priority") piece.input e p.input;
+  even_output = even_none v (codes "output_priority") piece.output o p.output;
+  no_condition = a;
+  no_filter = b;
+}

@@ -1,0 +1,5 @@
+use Rattle.std.proofs.lemmas.Result.{err_from_is_err_and}
+use Rattle.bt_entities.proofs.piece.piece_of.Goals as goal
+
+pub returns-in_err-family : goal.returns-in_err-family
+returns-in_err-family c = let p = err_from_is_err_and c.from_residual.result c.from_residual.ensures.1 in rw (p.1, p.2) (λ first. c.in_err-family.ensures c.args.major first)

@@ -1,0 +1,165 @@
+-- When a text that is JSON is refused as a blueprint, and for what.
+use Rattle.std.specs.Prelude.{◌≡◌, ◌≢◌, ℕ, ◌<◌, ◌≤◌, List, [], ◌∷◌, length, String, string_bytes, codes, ◌⊎◌}
+use Rattle.std.specs.Global.{Global}
+use Rattle.bt_json.specs.Json.{Json, Number, Items, list}
+use Rattle.bt_parts.specs.declared.part.Cell.{Cell}
+use Rattle.bt_parts.specs.declared.part.Dir.{Dir}
+use Rattle.bt_parts.specs.declared.part.Tier.{Tier}
+use Rattle.bt_entities.specs.declared.fault.EntityFault.{EntityFault}
+use Rattle.bt_entities.specs.declared.fault.EntityFault.TheVariants.{NotBlueprint, Book, TooMany, Unsupported, BadMember, OffGrid, MixedTier, Special, Memory}
+use Rattle.bt_entities.specs.declared.fault.Member.{Member}
+use Rattle.bt_entities.specs.declared.fault.Member.TheVariants.{Entity, Name, Position, Direction, PieceType, InputPriority, OutputPriority, ControlBehavior, Filter}
+use Rattle.bt_entities.specs.declared.name.Family.{Family}
+use Rattle.bt_entities.specs.declared.name.Family.TheVariants.{Undergrounds, Splitters}
+use Rattle.bt_entities.specs.declared.shift.Shift.{Shift}
+use Rattle.bt_entities.specs.Members.{HasMember, Lacks, HasText, IsObject}
+use Rattle.bt_entities.specs.Names.{name_of}
+use Rattle.bt_entities.specs.Entities.{HasFamily, HasTier, HasPosition, HasDirection, IsPlaced, SetsShift, IsEven, IsSided}
+use Rattle.bt_entities.specs.Blueprints.{IsVersion, IsBlueprint, HasEntity}
+
+-- a member of that name is there and isn't what it has to be
+abbrev pub HasWrong : Json → List ℕ → (Json → Type 0) → Type 0
+HasWrong v name IsRight = (m : Json) × HasMember v name m × ¬ IsRight m
+
+abbrev pub IsList : Json → Type 0
+IsList v = (items : Items) × (v ≡ list items)
+
+-- the root is no object, or has neither a blueprint nor a book, or the blueprint is no object, or its entities are no list, or its version is no whole number that fits 64 bits
+abbrev pub IsNotBlueprint : Json → Type 0
+IsNotBlueprint root = (¬ IsObject root)
+    ⊎ (Lacks root (codes "blueprint") × Lacks root (codes "blueprint_book"))
+    ⊎ HasWrong root (codes "blueprint") IsObject
+    ⊎ ((b : Json) × HasMember root (codes "blueprint") b × HasWrong b (codes "entities") IsList)
+    ⊎ ((b : Json) × HasMember root (codes "blueprint") b × HasWrong b (codes "version") (λ v. (major : ℕ) × IsVersion v major))
+
+-- the root has no blueprint, and has a book of blueprints
+abbrev pub IsBook : Json → Type 0
+IsBook root = Lacks root (codes "blueprint") × ((book : Json) × HasMember root (codes "blueprint_book") book)
+
+-- the blueprint has more than 4096 entities
+abbrev pub HasTooMany : Json → Type 0
+HasTooMany root = (major : ℕ) × (entities : List Json) × IsBlueprint root major entities × (4096 < length entities)
+
+-- the entity's name is this text, which names no part
+abbrev pub IsUnsupported : Json → List ℕ → Type 0
+IsUnsupported v name = HasText v (codes "name") name × ((family : Family) (tier : Tier) → name ≢ name_of family tier)
+
+-- the member of an entity isn't what it has to be
+abbrev pub IsWrong : ℕ → Json → Member → Type 0
+IsWrong major v Entity = ¬ IsObject v
+IsWrong major v Name = (name : List ℕ) → ¬ HasText v (codes "name") name
+IsWrong major v Position = (x y : Number) → ¬ HasPosition v x y
+IsWrong major v Direction = (dir : Dir) → ¬ HasDirection major v dir
+IsWrong major v PieceType = HasFamily v Undergrounds × (¬ HasText v (codes "type") (codes "input")) × (¬ HasText v (codes "type") (codes "output"))
+IsWrong major v InputPriority = HasFamily v Splitters × (¬ IsEven v (codes "input_priority")) × (¬ IsSided v (codes "input_priority"))
+IsWrong major v OutputPriority = HasFamily v Splitters × (¬ IsEven v (codes "output_priority")) × (¬ IsSided v (codes "output_priority"))
+IsWrong major v ControlBehavior = ⊥
+IsWrong major v Filter = ⊥
+
+-- the member gives an entity what no layout has: a condition, a filter or a preferred side of a splitter
+abbrev pub IsSpecial : Json → Member → Type 0
+IsSpecial v Entity = ⊥
+IsSpecial v Name = ⊥
+IsSpecial v Position = ⊥
+IsSpecial v Direction = ⊥
+IsSpecial v PieceType = ⊥
+IsSpecial v InputPriority = HasFamily v Splitters × IsSided v (codes "input_priority")
+IsSpecial v OutputPriority = HasFamily v Splitters × IsSided v (codes "output_priority")
+IsSpecial v ControlBehavior = (m : Json) × HasMember v (codes "control_behavior") m
+IsSpecial v Filter = (m : Json) × HasMember v (codes "filter") m
+
+-- the member is the first of the list of which this holds
+abbrev pub IsFirst : (Member → Type 0) → List Member → Member → Type 0
+IsFirst P [] member = ⊥
+IsFirst P (m ∷ ms) member = (P m × (member ≡ m)) ⊎ ((¬ P m) × IsFirst P ms member)
+
+-- the members in the order in which they may be wrong
+abbrev pub tested_members : List Member
+tested_members = Entity ∷ Name ∷ Position ∷ Direction ∷ PieceType ∷ InputPriority ∷ OutputPriority ∷ []
+
+-- the members in the order in which they may be special
+abbrev pub special_members : List Member
+special_members = ControlBehavior ∷ Filter ∷ InputPriority ∷ OutputPriority ∷ []
+
+-- the first wrong member
+abbrev pub IsBadMember : ℕ → Json → Member → Type 0
+IsBadMember major v member = IsFirst (IsWrong major v) tested_members member
+
+-- the first special member
+abbrev pub IsFirstSpecial : Json → Member → Type 0
+IsFirstSpecial v member = IsFirst (IsSpecial v) special_members member
+
+-- no cell is the entity's on the grid that entity 0 stands on: a coordinate is no multiple of a half or too great, or the halves don't agree with entity 0's
+abbrev pub IsOffGrid : ℕ → Json → Json → Type 0
+IsOffGrid major first v = (shift : Shift) (cell : Cell) → SetsShift major first shift → ¬ IsPlaced major shift v cell
+
+-- the entity's tier isn't that of entity 0
+abbrev pub IsMixed : Json → Json → Type 0
+IsMixed first v = (tier of_first : Tier) × HasTier v tier × HasTier first of_first × (tier ≢ of_first)
+
+-- the fault is one of the entity with this index
+abbrev pub IsFault : ℕ → Json → ℕ → Json → EntityFault → Type 0
+IsFault major first i v NotBlueprint = ⊥
+IsFault major first i v Book = ⊥
+IsFault major first i v TooMany = ⊥
+IsFault major first i v (Unsupported at name) = (at ≡ i) × IsUnsupported v (string_bytes name)
+IsFault major first i v (BadMember at member) = (at ≡ i) × IsBadMember major v member
+IsFault major first i v (OffGrid at) = (at ≡ i) × IsOffGrid major first v
+IsFault major first i v (MixedTier at) = (at ≡ i) × IsMixed first v
+IsFault major first i v (Special at member) = (at ≡ i) × IsFirstSpecial v member
+IsFault major first i v Memory = ⊥
+
+-- the numbers by which faults go before one another
+abbrev pub number_of_fault : EntityFault → ℕ
+number_of_fault NotBlueprint = 20
+number_of_fault Book = 21
+number_of_fault TooMany = 22
+number_of_fault (Unsupported at name) = 23
+number_of_fault (BadMember at member) = 24
+number_of_fault (OffGrid at) = 25
+number_of_fault (MixedTier at) = 26
+number_of_fault (Special at member) = 27
+number_of_fault Memory = 28
+
+-- the fault is the one of the entity with the lowest number
+pub record IsLowest (major : ℕ) (first : Json) (i : ℕ) (v : Json) (fault : EntityFault) : Type 0 where
+  pub is_fault : IsFault major first i v fault
+  pub no_lower : (other : EntityFault) → number_of_fault other < number_of_fault fault → ¬ IsFault major first i v other
+
+-- the fault is the one of the lowest entity that has one, with the lowest number
+pub record IsFirstFault (root : Json) (fault : EntityFault) : Type 0 where
+  pub major : ℕ
+  pub entities : List Json
+  pub is_blueprint : IsBlueprint root major entities
+  pub few : length entities ≤ 4096
+  pub first : Json
+  pub is_first : HasEntity entities 0 first
+  pub index : ℕ
+  pub v : Json
+  pub is_v : HasEntity entities index v
+  pub lowest : IsLowest major first index v fault
+  pub none_before : (i : ℕ) (w : Json) (other : EntityFault) → i < index → HasEntity entities i w → ¬ IsFault major first i w other
+
+-- the root is refused with this fault; want of memory refuses nothing
+abbrev pub IsRefused : Json → EntityFault → Type 0
+IsRefused root NotBlueprint = IsNotBlueprint root
+IsRefused root Book = IsBook root
+IsRefused root TooMany = HasTooMany root
+IsRefused root (Unsupported at name) = IsFirstFault root (Unsupported at name)
+IsRefused root (BadMember at member) = IsFirstFault root (BadMember at member)
+IsRefused root (OffGrid at) = IsFirstFault root (OffGrid at)
+IsRefused root (MixedTier at) = IsFirstFault root (MixedTier at)
+IsRefused root (Special at member) = IsFirstFault root (Special at member)
+IsRefused root Memory = ⊥
+
+-- the same fault, where the text of a name may stand elsewhere in memory
+abbrev pub IsSameFault : EntityFault → EntityFault → Type 0
+IsSameFault NotBlueprint other = other ≡ NotBlueprint
+IsSameFault Book other = other ≡ Book
+IsSameFault TooMany other = other ≡ TooMany
+IsSameFault (Unsupported at name) other = (text : String Global) × (other ≡ Unsupported at text) × (string_bytes name ≡ string_bytes text)
+IsSameFault (BadMember at member) other = other ≡ BadMember at member
+IsSameFault (OffGrid at) other = other ≡ OffGrid at
+IsSameFault (MixedTier at) other = other ≡ MixedTier at
+IsSameFault (Special at member) other = other ≡ Special at member
+IsSameFault Memory other = other ≡ Memory

@@ -1,0 +1,74 @@
+ghost use Rattle.std.specs.Prelude.{◌≡◌};
+ghost use Rattle.bt_entities.specs.declared.fault.EntityFault.TheVariants.{Memory};
+
+use std::alloc::{AllocError, AllocFailed};
+
+/// A member of an entity, or the entity itself.
+#[derive(Clone, Copy, Debug, PartialEq, Eq)]
+pub enum Member {
+    /// The entity itself.
+    Entity,
+    /// `name`
+    Name,
+    /// `position`
+    Position,
+    /// `direction`
+    Direction,
+    /// `type`
+    PieceType,
+    /// `input_priority`
+    InputPriority,
+    /// `output_priority`
+    OutputPriority,
+    /// `control_behavior`
+    ControlBehavior,
+    /// `filter`
+    Filter,
+}
+
+/// Why a JSON value is no blueprint of parts.
+///
+/// The faults stand in the order in which they are told. Those of an entity begin with its index:
+/// the lowest entity comes first, and in one entity the fault that stands first here.
+#[derive(Debug, PartialEq, Eq, Drop)]
+pub enum EntityFault {
+    /// The root is no object or has neither `blueprint` nor `blueprint_book`, or its `blueprint` is
+    /// no object, or `entities` is there and no list, or `version` is there and no whole number.
+    NotBlueprint,
+    /// The root has a `blueprint_book` and no `blueprint`.
+    Book,
+    /// There are more than 4096 entities.
+    TooMany,
+    /// The entity's name, given here, is of no part.
+    Unsupported(usize, String),
+    /// The entity's first wrong member: it is no object, or has no text as its `name`, no
+    /// `position` with numbers `x` and `y`, or a `direction` that isn't one of its version; or an
+    /// underground piece's `type` isn't `input` or `output`, or a splitter has a priority that isn't
+    /// `none`, `left` or `right`.
+    BadMember(usize, Member),
+    /// A coordinate isn't a multiple of a half of magnitude at most 524288, or the entity isn't on the
+    /// grid of entity 0.
+    OffGrid(usize),
+    /// The entity's tier isn't that of entity 0.
+    MixedTier(usize),
+    /// The entity has `control_behavior`, `filter`, or is a splitter that prefers a side.
+    Special(usize, Member),
+    /// Memory ran out.
+    Memory,
+}
+
+impl From<AllocError> for EntityFault {
+    ghost from_gives = { λ _ e. e ≡ Memory };
+
+    fn from(_e: AllocError) -> EntityFault {
+        EntityFault::Memory
+    }
+}
+
+impl<T: Drop> From<AllocFailed<T>> for EntityFault {
+    ghost from_gives = { λ _ e. e ≡ Memory };
+
+    fn from(_e: AllocFailed<T>) -> EntityFault {
+        EntityFault::Memory
+    }
+}

@@ -1,0 +1,35 @@
+ghost use Rattle.std.specs.Prelude.{◌≡◌, ◌≢◌, MatchOption};
+ghost use Rattle.bt_parts.specs.declared.part.Tier.{Tier};
+ghost use Rattle.bt_entities.specs.Names.{name_of};
+ghost use Rattle.bt_entities.specs.declared.name.Family.{Family};
+
+use bt_parts::Tier;
+
+/// What an entity's name says of its kind.
+#[derive(Clone, Copy, Debug, PartialEq, Eq)]
+pub enum Family {
+    Belts,
+    Undergrounds,
+    Splitters,
+}
+
+/// The family and the tier that a name tells.
+pub fn named(name: &str) -> Option<(Family, Tier)>
+    ensures { MatchOption result ((family : Family) (tier : Tier) → name.now ≢ name_of family tier) (λ r. name.now ≡ name_of r.0 r.1) }
+{
+    match name {
+        "transport-belt" => Some((Family::Belts, Tier::Basic)),
+        "fast-transport-belt" => Some((Family::Belts, Tier::Fast)),
+        "express-transport-belt" => Some((Family::Belts, Tier::Express)),
+        "turbo-transport-belt" => Some((Family::Belts, Tier::Turbo)),
+        "underground-belt" => Some((Family::Undergrounds, Tier::Basic)),
+        "fast-underground-belt" => Some((Family::Undergrounds, Tier::Fast)),
+        "express-underground-belt" => Some((Family::Undergrounds, Tier::Express)),
+        "turbo-underground-belt" => Some((Family::Undergrounds, Tier::Turbo)),
+        "splitter" => Some((Family::Splitters, Tier::Basic)),
+        "fast-splitter" => Some((Family::Splitters, Tier::Fast)),
+        "express-splitter" => Some((Family::Splitters, Tier::Express)),
+        "turbo-splitter" => Some((Family::Splitters, Tier::Turbo)),
+        _ => None,
+    }
+}

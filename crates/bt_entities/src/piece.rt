@@ -1,0 +1,257 @@
+ghost use Rattle.std.specs.Prelude.{◌≡◌, ◌≢◌, ℕ, ℤ, codes, MatchOption, MatchResult};
+ghost use Rattle.bt_json.specs.Json.{Json, Number};
+ghost use Rattle.bt_json.specs.Stands.{json_of, number_of};
+ghost use Rattle.bt_parts.specs.declared.part.Dir.{Dir};
+ghost use Rattle.bt_parts.specs.declared.part.Cell.{Cell};
+ghost use Rattle.bt_entities.specs.declared.name.Family.TheVariants.{Undergrounds, Splitters};
+ghost use Rattle.bt_entities.specs.declared.shift.Shift.{Shift};
+ghost use Rattle.bt_entities.specs.Members.{HasText};
+ghost use Rattle.bt_entities.specs.Names.{name_of};
+ghost use Rattle.bt_entities.specs.Entities.{HasFamily, HasKind, HasDirection, HasPosition, IsHalves, IsEven, IsSided, direction_value};
+ghost use Rattle.bt_entities.specs.Refusals.{IsBadMember};
+ghost use Rattle.bt_entities.specs.Pieces.{AreHalves, IsPriority, IsPiece, IsOn, IsTold};
+
+use crate::fault::{EntityFault, Member};
+use crate::member::{
+    as_number, as_text, has_member, is_object, member, number_member, text_member,
+};
+use crate::name::{Family, named};
+use crate::shift::{Shift, first_tile, height, shift_of, width};
+use bt_json::{Decimal, Tree};
+use bt_parts::{Cell, Dir, Kind, Tier};
+use std::alloc::Global;
+
+/// Which of its two sides a splitter prefers.
+#[derive(Clone, Copy, Debug, PartialEq, Eq)]
+pub enum Priority {
+    /// None of them.
+    Even,
+    Sided,
+}
+
+/// An entity as its members tell it.
+#[derive(Clone, Copy, Debug)]
+pub struct Piece {
+    pub kind: Kind,
+    pub tier: Tier,
+    pub dir: Dir,
+    /// Twice the centre's x, where that is a whole number in range.
+    pub x: Option<i32>,
+    pub y: Option<i32>,
+    pub input: Priority,
+    pub output: Priority,
+}
+
+fn position(entity: &Tree) -> Option<(&Decimal, &Decimal)>
+    ensures { MatchOption result ((x y : Number) → ¬ HasPosition (json_of entity.now) x y)
+        (λ p. HasPosition (json_of entity.now) (number_of p.0.now) (number_of p.1.now)) }
+{
+    let position = member(entity, "position")?;
+    let x = number_member(position, "x")?;
+    let y = number_member(position, "y")?;
+    Some((x, y))
+}
+
+fn halves(number: &Decimal) -> Option<i32>
+    ensures { AreHalves (number_of number.now) result }
+{
+    number.halves()
+}
+
+/// The direction with this value, in eighths of a turn below major version 2, else in sixteenths.
+fn direction_of(major: u64, value: u64) -> Option<Dir>
+    ensures { MatchOption result ((dir : Dir) → value ≢ direction_value major dir) (λ dir. value ≡ direction_value major dir) }
+{
+    if major < 2 {
+        match value {
+            0 => Some(Dir::North),
+            2 => Some(Dir::East),
+            4 => Some(Dir::South),
+            6 => Some(Dir::West),
+            _ => None,
+        }
+    } else {
+        match value {
+            0 => Some(Dir::North),
+            4 => Some(Dir::East),
+            8 => Some(Dir::South),
+            12 => Some(Dir::West),
+            _ => None,
+        }
+    }
+}
+
+fn direction(major: u64, entity: &Tree) -> Option<Dir>
+    ensures { MatchOption result ((dir : Dir) → ¬ HasDirection major (json_of entity.now) dir) (HasDirection major (json_of entity.now)) }
+{
+    let Some(direction) = member(entity, "direction") else {
+        return Some(Dir::North);
+    };
+    let number = as_number(direction)?;
+    let Some(value) = number.whole() else {
+        return None;
+    };
+    direction_of(major, value)
+}
+
+/// The kind of an entity of this family.
+fn kind_of(family: Family, entity: &Tree) -> Option<Kind>
+    requires { HasFamily (json_of entity.now) family }
+    ensures { MatchOption result
+        (HasFamily (json_of entity.now) Undergrounds
+        × (¬ HasText (json_of entity.now) (codes "type") (codes "input"))
+        × (¬ HasText (json_of entity.now) (codes "type") (codes "output")))
+        (HasKind (json_of entity.now)) }
+{
+    match family {
+        Family::Belts => Some(Kind::Belt),
+        Family::Splitters => Some(Kind::Splitter),
+        Family::Undergrounds => match text_member(entity, "type")? {
+            "input" => Some(Kind::Entrance),
+            "output" => Some(Kind::Exit),
+            _ => None,
+        },
+    }
+}
+
+fn side_of(entity: &Tree, name: &str) -> Option<Priority>
+    requires { HasFamily (json_of entity.now) Splitters }
+    ensures { MatchOption result ((¬ IsEven (json_of entity.now) name.now) × (¬ IsSided (json_of entity.now) name.now))
+        (IsPriority (json_of entity.now) name.now) }
+{
+    let Some(side) = member(entity, name) else {
+        return Some(Priority::Even);
+    };
+    match as_text(side)? {
+        "none" => Some(Priority::Even),
+        "left" | "right" => Some(Priority::Sided),
+        _ => None,
+    }
+}
+
+/// The priority of that name of an entity of this family.
+fn priority_of(family: Family, entity: &Tree, name: &str) -> Option<Priority>
+    requires { HasFamily (json_of entity.now) family }
+    ensures { MatchOption result
+        (HasFamily (json_of entity.now) Splitters × (¬ IsEven (json_of entity.now) name.now) × (¬ IsSided (json_of entity.now) name.now))
+        (IsPriority (json_of entity.now) name.now) }
+{
+    match family {
+        Family::Splitters => side_of(entity, name),
+        Family::Belts | Family::Undergrounds => Some(Priority::Even),
+    }
+}
+
+/// The entity of this family and tier, or its first wrong member.
+fn with_members(major: u64, family: Family, tier: Tier, entity: &Tree) -> Result<Piece, Member>
+    requires { HasText (json_of entity.now) (codes "name") (name_of family tier) }
+    ensures { MatchResult result (IsPiece major (json_of entity.now)) (IsBadMember major (json_of entity.now)) }
+{
+    let Some((x, y)) = position(entity) else {
+        return Err(Member::Position);
+    };
+    let Some(dir) = direction(major, entity) else {
+        return Err(Member::Direction);
+    };
+    let Some(kind) = kind_of(family, entity) else {
+        return Err(Member::PieceType);
+    };
+    let Some(input) = priority_of(family, entity, "input_priority") else {
+        return Err(Member::InputPriority);
+    };
+    let Some(output) = priority_of(family, entity, "output_priority") else {
+        return Err(Member::OutputPriority);
+    };
+    Ok(Piece {
+        kind,
+        tier,
+        dir,
+        x: halves(x),
+        y: halves(y),
+        input,
+        output,
+    })
+}
+
+/// The family and the tier of the entity with this index.
+fn name_of(alloc: Global, place: usize, entity: &Tree) -> Result<(Family, Tier), EntityFault>
+    ensures { MatchResult result (λ r. HasText (json_of entity.now) (codes "name") (name_of r.0 r.1))
+        (λ e. (major : ℕ) (first : Json) → IsTold major first place (json_of entity.now) e) }
+{
+    if !is_object(entity) {
+        return Err(EntityFault::BadMember(place, Member::Entity));
+    }
+    let Some(name) = text_member(entity, "name") else {
+        return Err(EntityFault::BadMember(place, Member::Name));
+    };
+    match named(name) {
+        Some(found) => Ok(found),
+        None => {
+            let name = String::from_str(alloc, name)?;
+            Err(EntityFault::Unsupported(place, name))
+        }
+    }
+}
+
+/// The entity with this index as its members tell it.
+pub fn piece_of(
+    alloc: Global,
+    major: u64,
+    place: usize,
+    entity: &Tree,
+) -> Result<Piece, EntityFault>
+    ensures { MatchResult result (IsPiece major (json_of entity.now)) (λ e. (first : Json) → IsTold major first place (json_of entity.now) e) }
+{
+    let (family, tier) = name_of(alloc, place, entity)?;
+    match with_members(major, family, tier, entity) {
+        Ok(piece) => Ok(piece),
+        Err(member) => Err(EntityFault::BadMember(place, member)),
+    }
+}
+
+impl Piece {
+    /// The cell on the grid with this shift.
+    pub fn cell(&self, shift: Shift) -> Option<Cell>
+        ensures { MatchOption result ((cell : Cell) → ¬ IsOn self.now shift cell) (IsOn self.now shift) }
+    {
+        let twice_x = self.x?;
+        let twice_y = self.y?;
+        let x = first_tile(twice_x, width(self.kind, self.dir), shift.x)?;
+        let y = first_tile(twice_y, height(self.kind, self.dir), shift.y)?;
+        Some(Cell { x, y })
+    }
+}
+
+impl Piece {
+    ghost use Rattle.bt_entities.specs.Refusals.{IsFirstSpecial};
+    ghost use Rattle.bt_entities.specs.Pieces.{IsPlain, HasShift};
+
+    /// The shift of the grid that it stands on.
+    pub fn shift(&self) -> Option<Shift>
+        ensures { MatchOption result ((shift : Shift) (cell : Cell) → ¬ IsOn self.now shift cell) (HasShift self.now) }
+    {
+        let twice_x = self.x?;
+        let twice_y = self.y?;
+        let x = shift_of(twice_x, width(self.kind, self.dir));
+        let y = shift_of(twice_y, height(self.kind, self.dir));
+        Some(Shift { x, y })
+    }
+
+    /// The first of its members that no layout has.
+    pub fn special(&self, entity: &Tree) -> Option<Member>
+        ensures { (major : ℕ) → IsPiece major (json_of entity.now) self.now
+            → MatchOption result (IsPlain (json_of entity.now)) (IsFirstSpecial (json_of entity.now)) }
+    {
+        if has_member(entity, "control_behavior") {
+            return Some(Member::ControlBehavior);
+        }
+        if has_member(entity, "filter") {
+            return Some(Member::Filter);
+        }
+        match (self.input, self.output) {
+            (Priority::Sided, _) => Some(Member::InputPriority),
+            (Priority::Even, Priority::Sided) => Some(Member::OutputPriority),
+            (Priority::Even, Priority::Even) => None,
+        }
+    }
+}

@@ -1,0 +1,68 @@
+ghost use Rattle.std.specs.Prelude.{◌≡◌, ◌<◌, ◌^◌, ℤ, ◌*ℤ◌, unsigned_abs, pos, neg_ℤ, if◌then◌else◌, MatchOption};
+ghost use Rattle.bt_entities.specs.Places.{width_of, height_of, IsMiddle};
+
+use bt_parts::{Dir, Kind};
+
+/// By how many halves of a tile, 0 or 1, a blueprint's parts stand off the grid of cells.
+#[derive(Clone, Copy, Debug, PartialEq, Eq)]
+pub struct Shift {
+    pub x: u8,
+    pub y: u8,
+}
+
+/// How many tiles a part takes from west to east.
+pub fn width(kind: Kind, dir: Dir) -> u8
+    ensures { result ≡ width_of kind dir }
+{
+    match (kind, dir) {
+        (Kind::Splitter, Dir::North | Dir::South) => 2,
+        _ => 1,
+    }
+}
+
+/// How many tiles a part takes from north to south.
+pub fn height(kind: Kind, dir: Dir) -> u8
+    ensures { result ≡ height_of kind dir }
+{
+    match (kind, dir) {
+        (Kind::Splitter, Dir::East | Dir::West) => 2,
+        _ => 1,
+    }
+}
+
+fn with_sign(negative: bool, magnitude: u64) -> i32
+    requires { magnitude < 2 ^ 31 }
+    ensures { result ≡ (if negative then neg_ℤ (pos magnitude) else pos magnitude) }
+{
+    let value = magnitude as i32;
+    if negative { -value } else { value }
+}
+
+fn half(twice: i64) -> Option<i32>
+    requires { unsigned_abs twice < 2 ^ 32 }
+    ensures { MatchOption result ((half : ℤ) → ¬ (twice ≡ pos 2 *ℤ half)) (λ half. twice ≡ pos 2 *ℤ half) }
+{
+    let magnitude = twice.unsigned_abs();
+    if magnitude % 2 != 0 {
+        return None;
+    }
+    Some(with_sign(twice < 0, magnitude / 2))
+}
+
+/// The first of so many tiles with this middle, which is told in halves of a tile and shifted.
+pub fn first_tile(middle: i32, size: u8, shift: u8) -> Option<i32>
+    ensures { MatchOption result ((first : ℤ) → ¬ IsMiddle middle size shift first) (IsMiddle middle size shift) }
+{
+    half(i64::from(middle) - i64::from(size) - i64::from(shift))
+}
+
+/// By how many halves of a tile so many tiles with this middle stand off the grid.
+pub fn shift_of(middle: i32, size: u8) -> u8
+    ensures small { result < 2 }
+    ensures on { (first : ℤ) × IsMiddle middle size result first }
+{
+    match first_tile(middle, size, 0) {
+        Some(_) => 0,
+        None => 1,
+    }
+}

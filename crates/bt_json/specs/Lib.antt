@@ -1,0 +1,10 @@
+pub mod Json
+pub mod Stands
+pub mod Value
+pub mod Grammar
+pub mod Bytes
+pub mod Reading
+pub mod Running
+pub mod Numerals
+pub mod Tails
+pub mod Unescaping

@@ -1,0 +1,13 @@
+-- What a number as far as it is written shows of the reader's own.
+use Rattle.bt_json.specs.Reading.{Numeral, InNumber, goes_on, ends, wrong}
+use Rattle.bt_json.specs.declared.number.Numeral.{Numeral as Held}
+use Rattle.bt_json.specs.declared.number.Next.{Next}
+use Rattle.bt_json.specs.declared.number.Next.TheVariants.{GoesOn, Ends, Wrong}
+
+abbrev pub view : Held → Numeral
+view n = record { negative = n.negative; digits = n.digits.items; places = n.places; below = n.below; power = n.power }
+
+abbrev pub shown : Next → Numeral → InNumber
+shown (GoesOn phase) n = goes_on phase n
+shown Ends n = ends n
+shown Wrong n = wrong

@@ -1,0 +1,54 @@
+-- What the parts of the reader give, told by how reading goes on.
+use Rattle.std.specs.Prelude.{◌≡◌, ℕ, ◌≤◌, Bool, true, List, ◌++◌, [], ◌∷◌, drop, length, Option, None, ◌&&◌, ◌==◌, not, nat_le, nat_lt}
+use Rattle.bt_json.specs.Grammar.{is_blank}
+use Rattle.bt_json.specs.Reading.{State, Step, go, Stop, bad, deep, twice, step, after_step, run, Role, Frame, Place, InText, in_text, step_in_text, flushed}
+use Rattle.bt_json.specs.declared.fault.JsonFault.{JsonFault}
+use Rattle.bt_json.specs.declared.fault.JsonFault.TheVariants.{Json, Deep, DuplicateKey, Memory}
+
+-- blanks leave it as it is
+pub record SkipsBlanks (s : State) : Type 0 where
+  pub skips : (at b : ℕ) → is_blank b ≡ true → step true at b s ≡ go s
+
+-- how reading of the bytes ends, from a place and a state on
+abbrev pub rest_of : List ℕ → ℕ → State → Stop
+rest_of bytes at s = run true at s (drop at bytes)
+
+abbrev pub rest_after : List ℕ → ℕ → Step → Stop
+rest_after bytes at next = after_step next (λ s. rest_of bytes at s)
+
+-- a place of the bytes that is no earlier
+abbrev pub IsLater : List ℕ → ℕ → ℕ → Type 0
+IsLater bytes at later = (at ≤ later) × (later ≤ length bytes)
+
+-- the fault is how reading ends, unless memory ran out
+abbrev pub Faults : JsonFault → Stop → Type 0
+Faults (Json k) e = e ≡ bad k
+Faults (Deep o) e = e ≡ deep o
+Faults (DuplicateKey o) e = (close : ℕ) × (e ≡ twice o close)
+Faults Memory e = Unit {0}
+
+-- around a place in a text: what it has, the high surrogate that waits, what the text is, and the open frames
+pub record Around : Type 0 where
+  pub out : List ℕ
+  pub high : Option ℕ
+  pub role : Role
+  pub frames : List Frame
+
+abbrev pub within : Around → Place → State
+within t place = in_text t.out t.high place t.role t.frames
+
+abbrev pub step_within : ℕ → Around → InText → Step
+step_within at t next = step_in_text true at t.role t.frames next
+
+-- characters that stand for themselves come behind what the text has
+abbrev pub with_plain : Around → List ℕ → Around
+with_plain t plain = record t { out = flushed t.out t.high ++ plain; high = None }
+
+-- a character of one byte that stands for itself
+abbrev pub is_plain : ℕ → Bool
+is_plain b = nat_le 32 b && nat_lt b 128 && not (b == 34) && not (b == 92)
+
+-- plain characters, or none
+abbrev pub after_plain : Around → List ℕ → Around
+after_plain t [] = t
+after_plain t (b ∷ plain) = with_plain t (b ∷ plain)

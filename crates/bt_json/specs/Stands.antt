@@ -1,0 +1,33 @@
+-- Which JSON value a tree stands for.
+use Rattle.std.specs.Prelude.{ℕ, List, [], ◌∷◌, map, string_bytes}
+use Rattle.bt_json.specs.declared.decimal.Decimal.{Decimal}
+use Rattle.bt_json.specs.declared.tree.Tree.{Tree, fold-Tree}
+use Rattle.bt_json.specs.declared.tree.Tree.TheOpen.{Tree-F}
+use Rattle.bt_json.specs.Json.{Number, Json, null, boolean, number, text, list, object, Items, no_items, item, Members, no_members, member}
+
+-- the number that a decimal stands for
+abbrev pub number_of : Decimal → Number
+number_of d = record { negative = d.negative; digits = d.digits.items; exponent = d.exponent }
+
+abbrev pub items_of : List Json → Items
+items_of [] = no_items
+items_of (v ∷ vs) = item v (items_of vs)
+
+-- each name with the value at its place, as far as there are both
+abbrev pub members_of : List (List ℕ) → List Json → Members
+members_of [] values = no_members
+members_of (name ∷ names) [] = no_members
+members_of (name ∷ names) (value ∷ values) = member name value (members_of names values)
+
+-- by cases on the tree, whose inner trees are seen as their values
+abbrev pub json_step : Tree-F Json → Json
+json_step Tree-F.Null = null
+json_step (Tree-F.Bool b) = boolean b
+json_step (Tree-F.Num d) = number (number_of d)
+json_step (Tree-F.Text t) = text (string_bytes t)
+json_step (Tree-F.List v) = list (items_of v.items)
+json_step (Tree-F.Object names v) = object (members_of (map string_bytes names.keys) v.items)
+
+-- the value that a tree stands for
+abbrev pub json_of : Tree → Json
+json_of = fold-Tree Json json_step

@@ -1,0 +1,6 @@
+-- The place inside a character that the reader's own tail stands for.
+use Rattle.bt_json.specs.Reading.{Place, tail}
+use Rattle.bt_json.specs.declared.text.Tail.{Tail}
+
+abbrev pub place_of : Tail → Place
+place_of t = tail t.low t.top t.more

@@ -1,0 +1,25 @@
+-- The value of a written number.
+use Rattle.std.specs.Prelude.{◌≡◌, ℕ, ◌+◌, ◌*◌, ◌^◌, ℤ, pos, negsuc, neg_ℤ, Bool, true, false, IsTrue, if◌then◌else◌}
+use Rattle.std.specs.Int.Digits.{number_from_digits}
+use Rattle.bt_json.specs.Json.{Number}
+
+-- m is n times ten to the power of z
+abbrev pub IsScaled : ℕ → ℕ → ℤ → Type 0
+IsScaled m n (pos k) = m ≡ n * 10 ^ k
+IsScaled m n (negsuc k) = m * 10 ^ (k + 1) ≡ n
+
+abbrev pub signed : Bool → ℕ → ℤ
+signed negative m = if negative then neg_ℤ (pos m) else pos m
+
+-- the whole number z is k times the value of the number
+abbrev pub IsTimes : ℕ → Number → ℤ → Type 0
+IsTimes k n z = (m : ℕ) × IsScaled m (k * number_from_digits 10 n.digits) n.exponent × (z ≡ signed n.negative m)
+
+-- twice a whole number with or without a half behind it
+abbrev pub twice : ℕ × Bool → ℕ
+twice r = 2 * r.0 + (if r.1 then 1 else 0)
+
+-- the digits behind a point, of which there are as many as the power has zeros, write a half of it, or nothing
+abbrev pub IsHalfOf : Bool → Bool → ℕ → ℕ → Type 0
+IsHalfOf true full digits power = IsTrue full × (2 * digits ≡ power)
+IsHalfOf false full digits power = digits ≡ 0

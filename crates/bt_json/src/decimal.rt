@@ -1,0 +1,178 @@
+ghost use Rattle.std.specs.Prelude.{◌≡◌, ◌≢◌, ◌<◌, ◌≤◌, ◌+◌, ◌*◌, ◌^◌, ℕ, ℤ, pos, All, length, take, drop, IsTrue, ◌↔◌, IfSome, IfNone, MatchOption, Some, None, ◌<ℤ◌, ◌≤ℤ◌, neg_ℤ, Bool, if◌then◌else◌};
+ghost use Rattle.std.specs.Int.Digits.{number_from_digits};
+ghost use Rattle.std.specs.Int.RustNames.{unsigned_abs};
+ghost use Rattle.bt_json.specs.Value.{IsScaled, IsTimes, twice, signed, IsHalfOf};
+
+/// A number of a JSON text as it is written: its value is the digits, as one whole number, times ten to the power of the exponent.
+#[derive(Debug, Drop)]
+pub struct Decimal {
+    /// Whether a minus sign stands in front.
+    pub negative: bool,
+    /// The digits of the whole part and then those of the fraction.
+    pub digits: Vec<u8>,
+    /// The written exponent, kept within 2^62 in magnitude, less the number of digits of the fraction.
+    pub exponent: i64,
+    ghost below_ten: { All (λ d. d < 10) digits.items },
+}
+
+/// The whole number that the digits write, where it fits.
+fn number_of_digits(digits: &[u8]) -> Option<u64>
+    ensures { MatchOption result (2 ^ 64 ≤ number_from_digits 10 digits.now) (λ n. n ≡ number_from_digits 10 digits.now) }
+{
+    let mut number: u64 = 0;
+    for digit in digits {
+        let Some(tens) = number.checked_mul(10) else {
+            return None;
+        };
+        let Some(next) = tens.checked_add(u64::from(*digit)) else {
+            return None;
+        };
+        number = next;
+    }
+    Some(number)
+}
+
+/// The number with that many zeros behind it, where it fits.
+fn with_zeros(number: u64, zeros: u64) -> Option<u64>
+    ensures { MatchOption result (2 ^ 64 ≤ number * 10 ^ zeros) (λ n. n ≡ number * 10 ^ zeros) }
+{
+    if number == 0 {
+        return Some(0);
+    }
+    let mut scaled = number;
+    for _ in 0..zeros {
+        let Some(next) = scaled.checked_mul(10) else {
+            return None;
+        };
+        scaled = next;
+    }
+    Some(scaled)
+}
+
+fn are_zeros(digits: &[u8]) -> bool
+    ensures { IsTrue result ↔ (number_from_digits 10 digits.now ≡ 0) }
+{
+    for digit in digits {
+        if *digit != 0 {
+            return false;
+        }
+    }
+    true
+}
+
+/// Whether these digits, behind a decimal point, write one half.
+fn is_half(fraction: &[u8]) -> bool
+    requires { All (λ d. d < 10) fraction.now }
+    ensures { IsTrue result ↔ (2 * number_from_digits 10 fraction.now ≡ 10 ^ length fraction.now) }
+{
+    if fraction.is_empty() {
+        return false;
+    }
+    if fraction[0] != 5 {
+        return false;
+    }
+    are_zeros(&fraction[1..])
+}
+
+/// The half that the digits behind a decimal point write: none of it, or all of it. The digits
+/// are all that stand there only if `full`.
+fn half_of(fraction: &[u8], full: bool) -> Option<bool>
+    requires { All (λ d. d < 10) fraction.now }
+    ensures { MatchOption result
+        ((0 < number_from_digits 10 fraction.now) × (IsTrue full → 2 * number_from_digits 10 fraction.now ≢ 10 ^ length fraction.now))
+        (λ half. IsHalfOf half full (number_from_digits 10 fraction.now) (10 ^ length fraction.now)) }
+{
+    if are_zeros(fraction) {
+        Some(false)
+    } else if full && is_half(fraction) {
+        Some(true)
+    } else {
+        None
+    }
+}
+
+/// The whole part of the digits with that many of them behind a decimal point, and whether a half
+/// follows it, where twice the value is a whole number and its half fits.
+fn whole_and_half(digits: &[u8], places: u64) -> Option<(u64, bool)>
+    requires { All (λ d. d < 10) digits.now }
+    ensures some { IfSome result (λ r. twice r * 10 ^ places ≡ 2 * number_from_digits 10 digits.now) }
+    ensures none { IfNone result ((m : ℕ) → m * 10 ^ places ≡ 2 * number_from_digits 10 digits.now → 2 ^ 65 ≤ m) }
+{
+    let places = places as usize;
+    let full = places <= digits.len();
+    let (whole, fraction) = digits.split_at(digits.len().saturating_sub(places));
+    let Some(half) = half_of(fraction, full) else {
+        return None;
+    };
+    let Some(number) = number_of_digits(whole) else {
+        return None;
+    };
+    Some((number, half))
+}
+
+fn with_sign(negative: bool, magnitude: u32) -> i32
+    requires { magnitude ≤ 1048576 }
+    ensures { result ≡ signed negative magnitude }
+{
+    let value = magnitude as i32;
+    if negative { -value } else { value }
+}
+
+impl Decimal {
+    ghost use Rattle.bt_json.specs.Stands.{number_of};
+
+    /// The whole part of the magnitude and whether a half follows it, where twice the magnitude is a
+    /// whole number and its half fits.
+    fn magnitude(&self) -> Option<(u64, bool)>
+        ensures some { IfSome result (λ r. IsScaled (twice r) (2 * number_from_digits 10 self.now.digits.items) self.now.exponent) }
+        ensures none { IfNone result ((m : ℕ) → IsScaled m (2 * number_from_digits 10 self.now.digits.items) self.now.exponent → 2 ^ 65 ≤ m) }
+    {
+        let places = self.exponent.unsigned_abs();
+        if self.exponent < 0 {
+            return whole_and_half(&self.digits, places);
+        }
+        let Some(number) = number_of_digits(&self.digits) else {
+            return None;
+        };
+        let Some(scaled) = with_zeros(number, places) else {
+            return None;
+        };
+        Some((scaled, false))
+    }
+
+    /// Twice the value. `None` exactly where that is no whole number of magnitude at most 1048576.
+    pub fn halves(&self) -> Option<i32>
+        ensures found { IfSome result (λ z. IsTimes 2 (number_of self.now) z) }
+        ensures bounds { IfSome result (λ z. unsigned_abs z ≤ 1048576) }
+        ensures none { IfNone result ((z : ℤ) → unsigned_abs z ≤ 1048576 → IsTimes 2 (number_of self.now) z → ⊥) }
+    {
+        let Some((whole, half)) = self.magnitude() else {
+            return None;
+        };
+        if whole > 524_288 {
+            return None;
+        }
+        let twice = 2 * whole + u64::from(half);
+        if twice > 1_048_576 {
+            return None;
+        }
+        Some(with_sign(self.negative, twice as u32))
+    }
+
+    /// The value. `None` exactly where it is no whole number that fits.
+    pub fn whole(&self) -> Option<u64>
+        ensures found { IfSome result (λ n. IsTimes 1 (number_of self.now) (pos n)) }
+        ensures none { IfNone result ((n : ℕ) → n < 2 ^ 64 → IsTimes 1 (number_of self.now) (pos n) → ⊥) }
+    {
+        let Some((whole, half)) = self.magnitude() else {
+            return None;
+        };
+        if half {
+            return None;
+        }
+        if self.negative && whole != 0 {
+            return None;
+        }
+        Some(whole)
+    }
+}

@@ -1,0 +1,250 @@
+ghost use Rattle.std.specs.Prelude.{◌≡◌, ◌≤◌, ◌<◌, ◌+◌, ◌*◌, ◌^◌, [], length, slice_index, drop, false, true, IfOk, IfErr, IfSome, IfNone, OnOk, OnErr, List, ℕ, All, MatchOption};
+ghost use Rattle.bt_json.specs.Grammar.{limit};
+ghost use Rattle.bt_json.specs.Reading.{first_phase};
+
+use crate::decimal::Decimal;
+use crate::fault::JsonFault;
+use crate::kind::{Mark, Phase, mark_of, may_end};
+use std::alloc::{AllocError, Global};
+
+/// The greatest exponent that is kept.
+const LIMIT: u64 = 1 << 62;
+
+/// A number as far as it is written.
+#[derive(Drop)]
+pub struct Numeral {
+    negative: bool,
+    digits: Vec<u8>,
+    /// How many of the digits are the fraction's.
+    places: usize,
+    /// Whether the exponent has a minus sign.
+    below: bool,
+    power: u64,
+    ghost below_ten: { All (λ d. d < 10) digits.items },
+    ghost counted: { places ≤ length digits.items },
+    ghost limited: { power ≤ limit },
+}
+
+/// How a number goes on at a byte.
+pub enum Next {
+    GoesOn(Phase),
+    /// It ends before the byte.
+    Ends,
+    /// The byte can't stand there.
+    Wrong,
+}
+
+impl Numeral {
+    ghost use Rattle.bt_json.specs.Numerals.{view, shown};
+    ghost use Rattle.bt_json.specs.Reading.{with_whole, with_fraction, with_power, step_digit, step_number, step_sign, numeral_value};
+    ghost use Rattle.bt_json.specs.Stands.{number_of};
+    ghost use Rattle.bt_json.specs.Json.{number};
+    ghost use Rattle.bt_json.specs.Reading.{Frame, due, in_number, numeral, deliver};
+    ghost use Rattle.bt_json.specs.Running.{IsLater, rest_of, rest_after, Faults};
+    ghost use Rattle.bt_json.specs.Bytes.{mark_of, kind_of};
+    ghost use Rattle.bt_json.specs.declared.fault.JsonFault.TheVariants.{Memory};
+    ghost use Rattle.bt_json.specs.declared.kind.Kind.TheVariants.{Minus, Digit};
+
+    fn push_digit(&mut self, digit: u8) -> Result<(), AllocError>
+        requires { digit < 10 }
+        ensures ok { OnOk result (view self.new ≡ with_whole (view self.old) digit) }
+    {
+        self.digits.push(digit)?;
+        Ok(())
+    }
+
+    fn push_fraction(&mut self, digit: u8) -> Result<(), AllocError>
+        requires { digit < 10 }
+        ensures ok { OnOk result (view self.new ≡ with_fraction (view self.old) digit) }
+    {
+        self.digits.push(digit)?;
+        self.places += 1;
+        Ok(())
+    }
+
+    fn push_power(&mut self, digit: u8)
+        requires { digit < 10 }
+        ensures { view self.new ≡ with_power (view self.old) digit }
+    {
+        self.power = if self.power > LIMIT / 10 {
+            LIMIT
+        } else {
+            (self.power * 10 + u64::from(digit)).min(LIMIT)
+        };
+    }
+
+    fn take_digit(&mut self, phase: Phase, digit: u8) -> Result<Next, AllocError>
+        requires { digit < 10 }
+        ensures { IfOk result (λ next. shown next (view self.new) ≡ step_digit phase (view self.old) digit) }
+    {
+        match phase {
+            Phase::AfterMinus => {
+                self.push_digit(digit)?;
+                Ok(Next::GoesOn(first_phase(digit)))
+            }
+            Phase::AfterZero => Ok(Next::Wrong),
+            Phase::InWhole => {
+                self.push_digit(digit)?;
+                Ok(Next::GoesOn(Phase::InWhole))
+            }
+            Phase::AfterPoint | Phase::InFraction => {
+                self.push_fraction(digit)?;
+                Ok(Next::GoesOn(Phase::InFraction))
+            }
+            Phase::AfterLetter | Phase::AfterSign | Phase::InPower => {
+                self.push_power(digit);
+                Ok(Next::GoesOn(Phase::InPower))
+            }
+        }
+    }
+
+    fn step(&mut self, phase: Phase, byte: u8) -> Result<Next, AllocError>
+        ensures { IfOk result (λ next. shown next (view self.new) ≡ step_number phase (view self.old) (mark_of byte)) }
+    {
+        match mark_of(byte) {
+            Mark::Figure(digit) => self.take_digit(phase, digit),
+            Mark::Point => Ok(match phase {
+                Phase::AfterZero | Phase::InWhole => Next::GoesOn(Phase::AfterPoint),
+                _ => Next::Wrong,
+            }),
+            Mark::LetterE => Ok(match phase {
+                Phase::AfterZero | Phase::InWhole | Phase::InFraction => {
+                    Next::GoesOn(Phase::AfterLetter)
+                }
+                _ => Next::Wrong,
+            }),
+            Mark::PlusSign => Ok(self.take_sign(phase, false)),
+            Mark::MinusSign => Ok(self.take_sign(phase, true)),
+            Mark::Over => Ok(if may_end(phase) {
+                Next::Ends
+            } else {
+                Next::Wrong
+            }),
+        }
+    }
+
+    fn take_sign(&mut self, phase: Phase, below: bool) -> Next
+        ensures { shown result (view self.new) ≡ step_sign below phase (view self.old) }
+    {
+        match phase {
+            Phase::AfterLetter => {
+                self.below = below;
+                Next::GoesOn(Phase::AfterSign)
+            }
+            _ => Next::Wrong,
+        }
+    }
+
+    /// A fraction of more digits than that fits no memory.
+    fn into_decimal(self) -> Result<Decimal, JsonFault>
+        ensures ok { IfOk result (λ d. number_of d ≡ numeral_value (view self)) }
+        ensures err { IfErr result (λ f. f ≡ Memory) }
+    {
+        let Numeral {
+            negative,
+            digits,
+            places,
+            below,
+            power,
+        } = self;
+        if places as u64 > LIMIT {
+            return Err(JsonFault::Memory);
+        }
+        let power = power as i64;
+        let power = if below { -power } else { power };
+        Ok(Decimal {
+            negative,
+            digits,
+            exponent: power - places as i64,
+        })
+    }
+
+    /// The rest of a number, and the place after it.
+    fn rest(
+        mut self,
+        phase: Phase,
+        bytes: &[u8],
+        start: usize,
+    ) -> Result<(Decimal, usize), JsonFault>
+        requires { start ≤ length bytes.now }
+        ensures later { IfOk result (λ r. IsLater bytes.now start r.1) }
+        ensures ok { IfOk result (λ r. (k : List Frame) → rest_of bytes.now start (in_number phase (view self) k)
+            ≡ rest_after bytes.now r.1 (deliver (number (number_of r.0)) k r.1)) }
+        ensures err { IfErr result (λ f. (k : List Frame) → Faults f (rest_of bytes.now start (in_number phase (view self) k))) }
+    {
+        let mut phase = phase;
+        let mut at = start;
+        while at < bytes.len() {
+            match self.step(phase, bytes[at])? {
+                Next::GoesOn(next) => {
+                    phase = next;
+                    at += 1;
+                }
+                Next::Ends => return Ok((self.into_decimal()?, at)),
+                Next::Wrong => return Err(JsonFault::Json(at)),
+            }
+        }
+        if !may_end(phase) {
+            return Err(JsonFault::Json(at));
+        }
+        Ok((self.into_decimal()?, at))
+    }
+
+    fn new(alloc: Global, negative: bool) -> Self
+        ensures { view result ≡ numeral negative [] }
+    {
+        Numeral {
+            negative,
+            digits: Vec::new(alloc),
+            places: 0,
+            below: false,
+            power: 0,
+        }
+    }
+
+    /// The number that begins with the minus sign at a place, and the place after it.
+    pub fn read_negative(
+        alloc: Global,
+        bytes: &[u8],
+        start: usize,
+    ) -> Result<(Decimal, usize), JsonFault>
+        requires within { start < length bytes.now }
+        requires front { kind_of (slice_index bytes.now start) ≡ Minus }
+        ensures later { IfOk result (λ r. IsLater bytes.now start r.1) }
+        ensures ok { IfOk result (λ r. (k : List Frame) → rest_of bytes.now start (due k)
+            ≡ rest_after bytes.now r.1 (deliver (number (number_of r.0)) k r.1)) }
+        ensures err { IfErr result (λ f. (k : List Frame) → Faults f (rest_of bytes.now start (due k))) }
+    {
+        Numeral::new(alloc, true).rest(Phase::AfterMinus, bytes, start + 1)
+    }
+
+    /// The number that begins with the digit at a place, and the place after it.
+    pub fn read_plain(
+        alloc: Global,
+        bytes: &[u8],
+        start: usize,
+    ) -> Result<(Decimal, usize), JsonFault>
+        requires within { start < length bytes.now }
+        requires front { kind_of (slice_index bytes.now start) ≡ Digit }
+        ensures later { IfOk result (λ r. IsLater bytes.now start r.1) }
+        ensures ok { IfOk result (λ r. (k : List Frame) → rest_of bytes.now start (due k)
+            ≡ rest_after bytes.now r.1 (deliver (number (number_of r.0)) k r.1)) }
+        ensures err { IfErr result (λ f. (k : List Frame) → Faults f (rest_of bytes.now start (due k))) }
+    {
+        let digit = bytes[start] - b'0';
+        let mut front = Numeral::new(alloc, false);
+        front.push_digit(digit)?;
+        front.rest(first_phase(digit), bytes, start + 1)
+    }
+}
+
+/// How far a number is written whose whole part begins with the digit.
+fn first_phase(digit: u8) -> Phase
+    ensures { result ≡ first_phase digit }
+{
+    if digit == 0 {
+        Phase::AfterZero
+    } else {
+        Phase::InWhole
+    }
+}

@@ -1,0 +1,40 @@
+ghost use Rattle.std.specs.Prelude.{◌≡◌, ◌≤◌, ◌<◌, length, slice_index, false, IfOk, IfErr, List, ℕ};
+ghost use Rattle.bt_json.specs.Json.{Json};
+ghost use Rattle.bt_json.specs.Grammar.{is_blank};
+ghost use Rattle.bt_json.specs.Reading.{State, Frame, in_word, deliver};
+ghost use Rattle.bt_json.specs.Running.{SkipsBlanks, IsLater, rest_of, rest_after, Faults};
+
+use crate::fault::JsonFault;
+use crate::kind::is_blank;
+
+/// The first place from there on that has no blank.
+pub fn skip_blanks(bytes: &[u8], start: usize) -> usize
+    requires { start ≤ length bytes.now }
+    ensures later { IsLater bytes.now start result }
+    ensures blanks { (s : State) → SkipsBlanks s → rest_of bytes.now start s ≡ rest_of bytes.now result s }
+    ensures ends { result < length bytes.now → is_blank (slice_index bytes.now result) ≡ false }
+{
+    let mut at = start;
+    while at < bytes.len() && is_blank(bytes[at]) {
+        at += 1;
+    }
+    at
+}
+
+/// The place behind these letters, the rest of a word.
+pub fn skip_word(bytes: &[u8], start: usize, letters: &[u8]) -> Result<usize, JsonFault>
+    requires within { start ≤ length bytes.now }
+    requires some { 0 < length letters.now }
+    ensures later { IfOk result (λ n. IsLater bytes.now start n) }
+    ensures ok { IfOk result (λ n. (v : Json) (k : List Frame) → rest_of bytes.now start (in_word letters.now v k) ≡ rest_after bytes.now n (deliver v k n)) }
+    ensures err { IfErr result (λ f. (v : Json) (k : List Frame) → Faults f (rest_of bytes.now start (in_word letters.now v k))) }
+{
+    let mut at = start;
+    for letter in letters {
+        if at >= bytes.len() || bytes[at] != *letter {
+            return Err(JsonFault::Json(at));
+        }
+        at += 1;
+    }
+    Ok(at)
+}

@@ -1,0 +1,341 @@
+ghost use Rattle.std.specs.Prelude.{◌≡◌, ◌≢◌, ◌≤◌, ◌<◌, ◌-◌, ◌+◌, ◌*◌, ◌^◌, ◌++◌, ◌∷◌, [], length, slice_range, slice_index, false, true, IfOk, IfErr, IfSome, OnOk, OnErr, List, ℕ, MatchOption, None, Some, option_map, string_bytes};
+ghost use Rattle.std.specs.Option.{ForSome};
+ghost use Rattle.std.specs.Str.{IsUtf8};
+ghost use Rattle.std.specs.Char.{encode_utf8, is_digit, digit_value};
+ghost use Rattle.std.specs.Char.Utf16.{is_high_surrogate, is_low_surrogate, surrogate_pair_char};
+ghost use Rattle.bt_json.specs.Tails.{place_of};
+ghost use Rattle.bt_json.specs.Grammar.{short_escape, alone};
+ghost use Rattle.bt_json.specs.Reading.{Frame, Role, in_text, between, escape, hex, tail, flushed, with_unit, reads, lead_of, finish_text};
+ghost use Rattle.bt_json.specs.Running.{IsLater, rest_of, rest_after, Faults, Around, within, step_within, with_plain, after_plain, is_plain};
+ghost use Rattle.bt_json.specs.declared.fault.JsonFault.TheVariants.{Json, Memory};
+
+use crate::fault::JsonFault;
+use std::alloc::{AllocError, Global};
+
+/// The bytes that may come next in a character of several bytes, and how many more come after.
+#[derive(Clone, Copy, Debug, PartialEq, Eq)]
+struct Tail {
+    low: u8,
+    top: u8,
+    more: u8,
+}
+
+/// What may follow the first byte of a character of several bytes.
+#[tactic(auto, unfolding(crate::specs::Reading::lead_of))]
+fn tail_of(byte: u8) -> Option<Tail>
+    ensures { option_map place_of result ≡ lead_of byte }
+{
+    let (low, top, more) = match byte {
+        0xC2..=0xDF => (0x80, 0xBF, 0),
+        0xE0 => (0xA0, 0xBF, 1),
+        0xED => (0x80, 0x9F, 1),
+        0xE1..=0xEF => (0x80, 0xBF, 1),
+        0xF0 => (0x90, 0xBF, 2),
+        0xF1..=0xF3 => (0x80, 0xBF, 2),
+        0xF4 => (0x80, 0x8F, 2),
+        _ => return None,
+    };
+    Some(Tail { low, top, more })
+}
+
+/// The code that a backslash and a byte stand for.
+fn short_escape(byte: u8) -> Option<u16>
+    ensures { result ≡ short_escape byte }
+{
+    match byte {
+        b'"' | b'\\' | b'/' => Some(u16::from(byte)),
+        b'b' => Some(8),
+        b'f' => Some(12),
+        b'n' => Some(10),
+        b'r' => Some(13),
+        b't' => Some(9),
+        _ => None,
+    }
+}
+
+/// The character of sixteen bits that are in no pair.
+fn alone(unit: u16) -> char
+    ensures { encode_utf8 result ≡ alone unit }
+{
+    if is_high(unit) || is_low(unit) {
+        return '\u{FFFD}';
+    }
+    char::from_u32(u32::from(unit)).unwrap_or('\u{FFFD}')
+}
+
+fn is_high(unit: u16) -> bool
+    ensures { result ≡ is_high_surrogate unit }
+{
+    (0xD800..0xDC00).contains(&unit)
+}
+
+fn is_low(unit: u16) -> bool
+    ensures { result ≡ is_low_surrogate unit }
+{
+    (0xDC00..0xE000).contains(&unit)
+}
+
+/// The character of a surrogate pair.
+fn paired(high: u16, low: u16) -> char
+    requires high { is_high_surrogate high ≡ true }
+    requires low { is_low_surrogate low ≡ true }
+    ensures { result ≡ surrogate_pair_char high low }
+{
+    let code = 0x1_0000 + (u32::from(high) - 0xD800) * 0x400 + (u32::from(low) - 0xDC00);
+    char::from_u32(code).unwrap_or('\u{FFFD}')
+}
+
+/// A text so far, and a high surrogate that waits for a low one.
+#[derive(Drop)]
+pub struct Unescaped {
+    bytes: String,
+    high: Option<u16>,
+    ghost waits: { ForSome high (λ h. is_high_surrogate h ≡ true) },
+}
+
+impl Unescaped {
+    /// The high surrogate stays alone.
+    fn flush(&mut self) -> Result<(), AllocError>
+        ensures ok { OnOk result ((string_bytes self.new.bytes ≡ flushed (string_bytes self.old.bytes) self.old.high) × (self.new.high ≡ None)) }
+    {
+        if let Some(high) = self.high {
+            self.bytes.push(alone(high))?;
+            self.high = None;
+        }
+        Ok(())
+    }
+
+    fn push_unit(&mut self, unit: u16) -> Result<(), AllocError>
+        ensures ok { OnOk result (reads (string_bytes self.new.bytes) self.new.high between ≡ with_unit (string_bytes self.old.bytes) self.old.high unit) }
+    {
+        if let Some(high) = self.high {
+            if is_low(unit) {
+                self.bytes.push(paired(high, unit))?;
+                self.high = None;
+                return Ok(());
+            }
+            self.bytes.push(alone(high))?;
+        }
+        if is_high(unit) {
+            self.high = Some(unit);
+        } else {
+            self.bytes.push(alone(unit))?;
+            self.high = None;
+        }
+        Ok(())
+    }
+
+    /// Characters that stand for themselves.
+    fn push_plain(&mut self, plain: &[u8]) -> Result<(), AllocError>
+        requires { IsUtf8 plain.now }
+        ensures ok { OnOk result ((string_bytes self.new.bytes ≡ flushed (string_bytes self.old.bytes) self.old.high ++ plain.now) × (self.new.high ≡ None)) }
+    {
+        self.flush()?;
+        match std::str::from_utf8(plain) {
+            Ok(text) => self.bytes.push_str(text),
+            Err(_) => unreachable!(),
+        }
+    }
+}
+
+/// The value of a hexadecimal digit.
+fn hex_digit(byte: u8) -> Option<u16>
+    ensures { MatchOption result (is_digit byte 16 ≡ false) (λ d. (is_digit byte 16 ≡ true) × (d ≡ digit_value byte) × (d < 16)) }
+{
+    let Some(digit) = char::from(byte).to_digit(16) else {
+        return None;
+    };
+    Some(digit as u16)
+}
+
+/// The sixteen bits that four hexadecimal digits write.
+fn read_hex(bytes: &[u8], start: usize) -> Result<u16, JsonFault>
+    requires { start ≤ length bytes.now }
+    ensures within { OnOk result (start + 4 ≤ length bytes.now) }
+    ensures ok { IfOk result (λ u. (t : Around) → rest_of bytes.now start (within t (hex 3 0)) ≡ rest_after bytes.now (start + 4) (step_within 0 t (with_unit t.out t.high u))) }
+    ensures err { IfErr result (λ f. (t : Around) → Faults f (rest_of bytes.now start (within t (hex 3 0)))) }
+{
+    let mut unit: u16 = 0;
+    for index in 0..4 {
+        let at = start + index;
+        if at >= bytes.len() {
+            return Err(JsonFault::Json(at));
+        }
+        let Some(digit) = hex_digit(bytes[at]) else {
+            return Err(JsonFault::Json(at));
+        };
+        unit = unit * 16 + digit;
+    }
+    Ok(unit)
+}
+
+/// That a byte of this range stands there.
+fn check_byte(bytes: &[u8], at: usize, low: u8, top: u8) -> Result<(), JsonFault>
+    ensures ok { OnOk result ((at < length bytes.now) × (low ≤ slice_index bytes.now at) × (slice_index bytes.now at ≤ top)) }
+    ensures err { IfErr result (λ f. (f ≡ Json at) × (at < length bytes.now → low ≤ slice_index bytes.now at → slice_index bytes.now at ≤ top → ⊥)) }
+{
+    if at >= bytes.len() {
+        return Err(JsonFault::Json(at));
+    }
+    if bytes[at] < low || bytes[at] > top {
+        return Err(JsonFault::Json(at));
+    }
+    Ok(())
+}
+
+/// The place behind the character of several bytes at a place.
+fn character_end(bytes: &[u8], start: usize) -> Result<usize, JsonFault>
+    requires within { start < length bytes.now }
+    requires wide { 128 ≤ slice_index bytes.now start }
+    ensures later { IfOk result (λ n. (start < n) × (n ≤ length bytes.now)) }
+    ensures utf8 { IfOk result (λ n. IsUtf8 (slice_range bytes.now start n)) }
+    ensures ok { IfOk result (λ n. (t : Around) → rest_of bytes.now start (within t between) ≡ rest_of bytes.now n (within (with_plain t (slice_range bytes.now start n)) between)) }
+    ensures err { IfErr result (λ f. (t : Around) → Faults f (rest_of bytes.now start (within t between))) }
+{
+    let Some(tail) = tail_of(bytes[start]) else {
+        return Err(JsonFault::Json(start));
+    };
+    check_byte(bytes, start + 1, tail.low, tail.top)?;
+    if tail.more == 0 {
+        return Ok(start + 2);
+    }
+    check_byte(bytes, start + 2, 0x80, 0xBF)?;
+    if tail.more == 1 {
+        return Ok(start + 3);
+    }
+    check_byte(bytes, start + 3, 0x80, 0xBF)?;
+    Ok(start + 4)
+}
+
+/// Whether the byte is a character that stands for itself.
+fn is_plain(byte: u8) -> bool
+    ensures { result ≡ is_plain byte }
+{
+    (0x20..0x80).contains(&byte) && byte != b'"' && byte != b'\\'
+}
+
+/// The first place from there on that has no character of one byte which stands for itself.
+fn plain_end(bytes: &[u8], start: usize) -> usize
+    requires { start ≤ length bytes.now }
+    ensures later { IsLater bytes.now start result }
+    ensures utf8 { IsUtf8 (slice_range bytes.now start result) }
+    ensures read { (t : Around) → rest_of bytes.now start (within t between) ≡ rest_of bytes.now result (within (after_plain t (slice_range bytes.now start result)) between) }
+    ensures ends { result < length bytes.now → is_plain (slice_index bytes.now result) ≡ false }
+{
+    let mut at = start;
+    while at < bytes.len() && is_plain(bytes[at]) {
+        at += 1;
+    }
+    at
+}
+
+impl Unescaped {
+    ghost use Rattle.bt_json.specs.Unescaping.{state_of};
+
+    /// The characters of one byte from a place on, and the place behind them.
+    fn read_plain(&mut self, bytes: &[u8], start: usize) -> Result<usize, JsonFault>
+        requires { start ≤ length bytes.now }
+        ensures later { IfOk result (λ n. IsLater bytes.now start n) }
+        ensures ok { IfOk result (λ n. (role : Role) (k : List Frame) → rest_of bytes.now start (state_of self.old between role k) ≡ rest_of bytes.now n (state_of self.new between role k)) }
+        ensures err { IfErr result (λ f. f ≡ Memory) }
+        ensures ends { IfOk result (λ n. n < length bytes.now → is_plain (slice_index bytes.now n) ≡ false) }
+    {
+        let end = plain_end(bytes, start);
+        if start < end {
+            self.push_plain(&bytes[start..end])?;
+        }
+        Ok(end)
+    }
+
+    /// The character of several bytes at a place, and the place behind it.
+    fn read_wide(&mut self, bytes: &[u8], start: usize) -> Result<usize, JsonFault>
+        requires within { start < length bytes.now }
+        requires wide { 128 ≤ slice_index bytes.now start }
+        ensures later { IfOk result (λ n. (start < n) × (n ≤ length bytes.now)) }
+        ensures ok { IfOk result (λ n. (role : Role) (k : List Frame) → rest_of bytes.now start (state_of self.old between role k) ≡ rest_of bytes.now n (state_of self.new between role k)) }
+        ensures err { IfErr result (λ f. (role : Role) (k : List Frame) → Faults f (rest_of bytes.now start (state_of self.old between role k))) }
+    {
+        let end = character_end(bytes, start)?;
+        self.push_plain(&bytes[start..end])?;
+        Ok(end)
+    }
+
+    /// The escape behind a backslash, and the place behind it.
+    fn read_escape(&mut self, bytes: &[u8], start: usize) -> Result<usize, JsonFault>
+        requires { start ≤ length bytes.now }
+        ensures later { IfOk result (λ n. (start < n) × (n ≤ length bytes.now)) }
+        ensures ok { IfOk result (λ n. (role : Role) (k : List Frame) → rest_of bytes.now start (state_of self.old escape role k) ≡ rest_of bytes.now n (state_of self.new between role k)) }
+        ensures err { IfErr result (λ f. (role : Role) (k : List Frame) → Faults f (rest_of bytes.now start (state_of self.old escape role k))) }
+    {
+        if start >= bytes.len() {
+            return Err(JsonFault::Json(start));
+        }
+        if bytes[start] == b'u' {
+            let unit = read_hex(bytes, start + 1)?;
+            self.push_unit(unit)?;
+            return Ok(start + 5);
+        }
+        let Some(unit) = short_escape(bytes[start]) else {
+            return Err(JsonFault::Json(start));
+        };
+        self.push_unit(unit)?;
+        Ok(start + 1)
+    }
+
+    /// The escape or the character of several bytes at a place, and the place behind it.
+    fn read_special(&mut self, bytes: &[u8], start: usize) -> Result<usize, JsonFault>
+        requires within { start < length bytes.now }
+        requires special { is_plain (slice_index bytes.now start) ≡ false }
+        requires no_quote { slice_index bytes.now start ≢ 34 }
+        ensures later { IfOk result (λ n. (start < n) × (n ≤ length bytes.now)) }
+        ensures ok { IfOk result (λ n. (role : Role) (k : List Frame) → rest_of bytes.now start (state_of self.old between role k) ≡ rest_of bytes.now n (state_of self.new between role k)) }
+        ensures err { IfErr result (λ f. (role : Role) (k : List Frame) → Faults f (rest_of bytes.now start (state_of self.old between role k))) }
+    {
+        if bytes[start] < 0x20 {
+            return Err(JsonFault::Json(start));
+        }
+        if bytes[start] == b'\\' {
+            return self.read_escape(bytes, start + 1);
+        }
+        self.read_wide(bytes, start)
+    }
+
+    fn new(alloc: Global) -> Self
+        ensures { (string_bytes result.bytes ≡ []) × (result.high ≡ None) }
+    {
+        Unescaped {
+            bytes: String::new(alloc),
+            high: None,
+        }
+    }
+
+    fn into_string(mut self) -> Result<String, AllocError>
+        ensures ok { IfOk result (λ s. string_bytes s ≡ flushed (string_bytes self.bytes) self.high) }
+    {
+        self.flush()?;
+        let Unescaped { bytes, high: _ } = self;
+        Ok(bytes)
+    }
+
+    /// The text behind an opening quote, and the place behind its closing quote.
+    pub fn read(alloc: Global, bytes: &[u8], start: usize) -> Result<(String, usize), JsonFault>
+        requires { start ≤ length bytes.now }
+        ensures later { IfOk result (λ r. (start < r.1) × (r.1 ≤ length bytes.now)) }
+        ensures ok { IfOk result (λ r. (role : Role) (k : List Frame) → rest_of bytes.now start (in_text [] None between role k)
+            ≡ rest_after bytes.now r.1 (finish_text true (r.1 - 1) (string_bytes r.0) role k)) }
+        ensures err { IfErr result (λ f. (role : Role) (k : List Frame) → Faults f (rest_of bytes.now start (in_text [] None between role k))) }
+    {
+        let mut text = Unescaped::new(alloc);
+        let mut at = start;
+        loop {
+            let stop = text.read_plain(bytes, at)?;
+            if stop >= bytes.len() {
+                return Err(JsonFault::Json(stop));
+            }
+            if bytes[stop] == b'"' {
+                return Ok((text.into_string()?, stop + 1));
+            }
+            at = text.read_special(bytes, stop)?;
+        }
+    }
+}
