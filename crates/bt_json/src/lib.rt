@@ -1,7 +1,6 @@
 //! JSON text (RFC 8259), read exactly.
 #![tactic(auto)]
 
-
 mod decimal;
 mod fault;
 mod kind;
