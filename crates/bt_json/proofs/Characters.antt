@@ -60,22 +60,22 @@ pub more_than : (a low top more : ℕ) → lead_of a ≡ Some (tail low top more
 unfolding lead_of
 more_than a low top more e = grind (arith, nat_tests)
 
-encode_two : (c : ℕ) → 128 ≤ c → c < 2048 → encode c ≡ (192 + c / 64) ∷ (128 + c % 64) ∷ []
+pub encode_two : (c : ℕ) → 128 ≤ c → c < 2048 → encode c ≡ (192 + c / 64) ∷ (128 + c % 64) ∷ []
 unfolding encode
 encode_two c lo hi = rw (le-ltb c 128 lo, lt-ltb c 2048 hi) refl
 
-encode_three : (c : ℕ) → 2048 ≤ c → c < 65536 → encode c ≡ (224 + c / 4096) ∷ (128 + c / 64 % 64) ∷ (128 + c % 64) ∷ []
+pub encode_three : (c : ℕ) → 2048 ≤ c → c < 65536 → encode c ≡ (224 + c / 4096) ∷ (128 + c / 64 % 64) ∷ (128 + c % 64) ∷ []
 unfolding encode
 encode_three c lo hi = let l : 128 ≤ c = omega arith in rw (le-ltb c 128 l, le-ltb c 2048 lo, lt-ltb c 65536 hi) refl
 
-encode_four : (c : ℕ) → 65536 ≤ c → encode c ≡ (240 + c / 262144) ∷ (128 + c / 4096 % 64) ∷ (128 + c / 64 % 64) ∷ (128 + c % 64) ∷ []
+pub encode_four : (c : ℕ) → 65536 ≤ c → encode c ≡ (240 + c / 262144) ∷ (128 + c / 4096 % 64) ∷ (128 + c / 64 % 64) ∷ (128 + c % 64) ∷ []
 unfolding encode
 encode_four c lo = let l : 128 ≤ c = omega arith in let m : 2048 ≤ c = omega arith in rw (le-ltb c 128 l, le-ltb c 2048 m, le-ltb c 65536 lo) refl
 
-scalar_low : (c : ℕ) → c < 55296 → IsScalar c
+pub scalar_low : (c : ℕ) → c < 55296 → IsScalar c
 scalar_low c h = low_scalar c h
 
-scalar_high : (c : ℕ) → 57344 ≤ c → c < 1114112 → IsScalar c
+pub scalar_high : (c : ℕ) → 57344 ≤ c → c < 1114112 → IsScalar c
 scalar_high c lo hi = grind (arith, nat_tests)
 
 pub two_bytes : (a b low top : ℕ) → lead_of a ≡ Some (tail low top 0) → low ≤ b → b ≤ top → IsWide (a ∷ b ∷ [])

@@ -6,9 +6,11 @@ use Rattle.std.specs.List.{slice_get, position_or_len}
 use Rattle.std.specs.Str.{bytes_eq}
 use Rattle.std.specs.Global.{Global}
 use Rattle.indexmap.specs.IndexSet.{IndexSet}
-use Rattle.bt_json.specs.Json.{Json, list, object, value_at}
-use Rattle.bt_json.specs.Stands.{json_of, items_of, members_of}
+use Rattle.bt_json.specs.Json.{Json, null, boolean, number, text, list, object, value_at}
+use Rattle.bt_json.specs.Stands.{json_of, number_of, items_of, members_of}
+use Rattle.bt_json.specs.declared.decimal.Decimal.{Decimal}
 use Rattle.bt_json.specs.declared.tree.Tree.{Tree, the_lemmas}
+use Rattle.bt_json.specs.declared.tree.Tree.{Null, Bool as Boolean, Num, Text}
 use Rattle.bt_json.specs.declared.tree.Tree.TheViews as views
 use Rattle.std.specs.declared.hash.FoldHasher.{FoldHasher}
 use Rattle.std.specs.declared.hash.BuildHasherDefault.{BuildHasherDefault}
@@ -39,3 +41,15 @@ json-List v = search (rules, the_lemmas)
 
 pub json-Object : (names : IndexSet (String Global) (BuildHasherDefault FoldHasher)) (v : Vec Tree Global) → json_of (views.Object names v) ≡ object (members_of (map string_bytes names.keys) (map json_of v.items))
 json-Object names v = search (rules, the_lemmas)
+
+pub json-Text : (s : String Global) → json_of (Text s) ≡ text (string_bytes s)
+json-Text s = search (rules, the_lemmas)
+
+pub json-Num : (d : Decimal) → json_of (Num d) ≡ number (number_of d)
+json-Num d = search (rules, the_lemmas)
+
+pub json-Bool : (b : Bool) → json_of (Boolean b) ≡ boolean b
+json-Bool b = search (rules, the_lemmas)
+
+pub json-Null : json_of Null ≡ null
+json-Null = search (rules, the_lemmas)

@@ -2,8 +2,10 @@ pub mod Json
 pub mod Stands
 pub mod Value
 pub mod Grammar
+pub mod Places
 pub mod Bytes
 pub mod Reading
+pub mod Answers
 pub mod Running
 pub mod Numerals
 pub mod Tails

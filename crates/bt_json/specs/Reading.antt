@@ -8,6 +8,7 @@ use Rattle.bt_json.specs.Json.{Number, Json, null, boolean, number, text, list, 
 use Rattle.bt_json.specs.Stands.{items_of, members_of}
 use Rattle.bt_json.specs.Grammar.{short_escape, alone, limit}
 use Rattle.bt_json.specs.Value.{signed}
+pub use Rattle.bt_json.specs.Places.{Frame, in_list, in_object}
 use Rattle.bt_json.specs.Bytes.{kind_of, mark_of}
 use Rattle.bt_json.specs.declared.kind.Kind.{Kind}
 use Rattle.bt_json.specs.declared.kind.Kind.TheVariants.{Blank, ListOpens, ListCloses, ObjectOpens, ObjectCloses, Comma, Colon, Quote, Minus, Digit, LetterT, LetterF, LetterN}
@@ -161,11 +162,6 @@ step_text out high (tail low top more) b = if nat_le low b && nat_le b top then 
 
 -- ---- values
 
--- a list or an object that is open where a value is due: the values that it has, and the names, of which the last one is the due value's
-pub data Frame : Type 0 where
-  in_list : List Json → Frame
-  in_object : List (List ℕ) → List Json → Frame
-
 -- what a text between quotes is: a value, or a name behind these members, with the place of its opening quote
 pub data Role : Type 0 where
   as_value : Role
@@ -208,7 +204,7 @@ deliver v (f ∷ frames) at = go (behind v f frames)
 
 -- a level more, unless there are as many as may be
 abbrev pub opens_level : Bool → List Frame → ℕ → State → Step
-opens_level strict frames at inside = if strict && nat_le 64 (length frames) then stop (deep at) else go inside
+opens_level strict frames at inside = if strict && (length frames == 64) then stop (deep at) else go inside
 
 abbrev pub has_name : List (List ℕ) → List ℕ → Bool
 has_name names n = list_any (bytes_eq n) names

@@ -5,10 +5,12 @@ mod decimal;
 mod fault;
 mod kind;
 mod number;
+mod reader;
 mod scan;
 mod text;
 mod tree;
 
 pub use decimal::Decimal;
 pub use fault::JsonFault;
+pub use reader::read;
 pub use tree::Tree;

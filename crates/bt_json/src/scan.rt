@@ -1,8 +1,9 @@
-ghost use Rattle.std.specs.Prelude.{◌≡◌, ◌≤◌, ◌<◌, length, slice_index, false, IfOk, IfErr, List, ℕ};
+ghost use Rattle.std.specs.Prelude.{◌≡◌, ◌≢◌, OnOk, IsTrue, ◌≤◌, ◌<◌, length, slice_index, false, IfOk, IfErr, List, ℕ};
 ghost use Rattle.bt_json.specs.Json.{Json};
 ghost use Rattle.bt_json.specs.Grammar.{is_blank};
 ghost use Rattle.bt_json.specs.Reading.{State, Frame, in_word, deliver};
 ghost use Rattle.bt_json.specs.Running.{SkipsBlanks, IsLater, rest_of, rest_after, Faults};
+ghost use Rattle.bt_json.specs.declared.fault.JsonFault.TheVariants.{Json as JsonAt};
 
 use crate::fault::JsonFault;
 use crate::kind::is_blank;
@@ -37,4 +38,30 @@ pub fn skip_word(bytes: &[u8], start: usize, letters: &[u8]) -> Result<usize, Js
         at += 1;
     }
     Ok(at)
+}
+
+/// That this byte stands there.
+pub fn expect_byte(bytes: &[u8], at: usize, byte: u8) -> Result<(), JsonFault>
+    ensures ok { OnOk result ((at < length bytes.now) × (slice_index bytes.now at ≡ byte)) }
+    ensures err { IfErr result (λ f. (f ≡ JsonAt at) × (at < length bytes.now → slice_index bytes.now at ≢ byte)) }
+{
+    if at >= bytes.len() {
+        return Err(JsonFault::Json(at));
+    }
+    if bytes[at] != byte {
+        return Err(JsonFault::Json(at));
+    }
+    Ok(())
+}
+
+/// Whether this byte stands there.
+pub fn stands_at(bytes: &[u8], at: usize, byte: u8) -> bool
+    ensures yes { IsTrue result → (at < length bytes.now) × (slice_index bytes.now at ≡ byte) }
+    ensures no { result ≡ false → at < length bytes.now → slice_index bytes.now at ≢ byte }
+{
+    if at < bytes.len() {
+        bytes[at] == byte
+    } else {
+        false
+    }
 }
