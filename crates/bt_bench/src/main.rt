@@ -1,17 +1,42 @@
-// Loops that time the crates. The first word names the loop, and the second is the number of rounds.
+// Loops that time the crates. The first word names the loop, the second is the number of rounds, and the third,
+// which `grid` has, is the number of entities.
 #![tactic(auto)]
 
+mod fault;
+mod field;
 mod fractions;
+mod grid;
 
+use bt_frac::Frac;
+use fault::Fault;
+use field::field;
 use fractions::{repeated_sum, small_fractions, wide_fractions};
-use std::alloc::{AllocError, Global};
+use grid::number_of_parts;
+use std::alloc::Global;
 use std::{env, io};
 
-fn loop_named(alloc: Global, name: &str, rounds: u64) -> Result<Option<(i128, i128)>, AllocError> {
+/// What a loop comes to.
+enum Outcome {
+    Sum(i128, i128),
+    Count(usize),
+}
+
+fn sum_of(terms: &[Frac], rounds: u64) -> Result<Outcome, Fault> {
+    match repeated_sum(terms, rounds) {
+        Some((over, under)) => Ok(Outcome::Sum(over, under)),
+        None => Err(Fault::Wide),
+    }
+}
+
+fn outcome_of(alloc: Global, name: &str, rounds: u64, entities: u16) -> Result<Outcome, Fault> {
     match name {
-        "add-small" => Ok(repeated_sum(small_fractions(alloc)?.as_slice(), rounds)),
-        "add-wide" => Ok(repeated_sum(wide_fractions(alloc)?.as_slice(), rounds)),
-        _ => Ok(None),
+        "add-small" => sum_of(small_fractions(alloc)?.as_slice(), rounds),
+        "add-wide" => sum_of(wide_fractions(alloc)?.as_slice(), rounds),
+        "grid" => {
+            let blueprint = field(alloc, entities)?;
+            Ok(Outcome::Count(number_of_parts(alloc, &blueprint, rounds)?))
+        }
+        _ => Err(Fault::Usage),
     }
 }
 
@@ -19,11 +44,18 @@ fn main(rt: HostRuntime) -> io::Result<()> {
     let mut words = env::args(&rt)?.skip(1);
     let name = words.next();
     let rounds = words.next();
-    if let (Some(name), Some(rounds)) = (name, rounds) {
-        let rounds = rounds.as_str().parse::<u64>().unwrap_or(0);
-        if let Some((over, under)) = loop_named(rt.alloc(), name.as_str(), rounds)? {
-            return println!(rt; "{over}/{under}");
-        }
+    let entities = words.next();
+    let (Some(name), Some(rounds)) = (name, rounds) else {
+        return println!(rt; "{}", Fault::Usage.word());
+    };
+    let rounds = rounds.as_str().parse::<u64>().unwrap_or(0);
+    let entities = match entities {
+        Some(entities) => entities.as_str().parse::<u16>().unwrap_or(0),
+        None => 0,
+    };
+    match outcome_of(rt.alloc(), name.as_str(), rounds, entities) {
+        Ok(Outcome::Sum(over, under)) => println!(rt; "{over}/{under}"),
+        Ok(Outcome::Count(count)) => println!(rt; "{count}"),
+        Err(fault) => println!(rt; "{}", fault.word()),
     }
-    println!(rt; "usage: bt_bench (add-small | add-wide) ROUNDS")
 }
