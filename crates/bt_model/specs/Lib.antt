@@ -1,0 +1,4 @@
+pub mod Chains
+pub mod Clean
+pub mod Handing
+pub mod Shown
