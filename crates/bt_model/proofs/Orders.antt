@@ -1,10 +1,8 @@
 -- The orders of cells, of parts by their cells, and of sources are strict.
-use Rattle.std.proofs.Common.{◌≡◌, ◌≢◌, ℕ, List, sym, ◌∙◌, ap, subst, inl, inr, arith}
+use Rattle.std.proofs.Common.{◌≡◌, ◌≢◌, List, sym, ◌∙◌, ap, subst, inl, inr, arith}
 use Rattle.std.specs.List.{AllPairs}
 use Rattle.std.proofs.lemmas.Int.{ints}
-use Rattle.std.proofs.lemmas.Option.{same_Some}
 use Rattle.bt_parts.specs.declared.part.Part.{Part}
-use Rattle.bt_parts.specs.Layouts.{HasPart}
 use Rattle.bt_net.specs.declared.network.Edge.{Edge}
 use Rattle.bt_net.specs.declared.network.Start.{Start}
 use Rattle.bt_net.specs.declared.network.Start.TheVariants as from
@@ -12,6 +10,7 @@ use Rattle.bt_net.specs.declared.network.Target.{Target}
 use Rattle.bt_net.specs.declared.network.Target.TheVariants as to
 use Rattle.bt_model.specs.Chains.{Source, begins, leaves, Sink, ends, enters, Chain}
 use Rattle.bt_model.specs.Shown.{Naming, Precedes, IsPlacedBefore, ComesBefore, IsStartOf, IsTargetOf, IsEdgeOf}
+use Rattle.bt_model.proofs.Places.{same_part}
 use Rattle.bt_model.proofs.Sorted.{IsAsymmetric, one_place}
 
 pub cells_asymmetric : IsAsymmetric Precedes
@@ -19,10 +18,6 @@ cells_asymmetric a b (inl h) (inl k) = omega (arith, ints)
 cells_asymmetric a b (inl h) (inr k) = let e = k.0 in omega (arith, ints)
 cells_asymmetric a b (inr h) (inl k) = let e = h.0 in omega (arith, ints)
 cells_asymmetric a b (inr h) (inr k) = let x = h.1 in let y = k.1 in omega (arith, ints)
-
--- there is one part with an index
-pub same_part : (parts : List Part) (i : ℕ) (p q : Part) → HasPart parts i p → HasPart parts i q → p ≡ q
-same_part parts i p q h k = same_Some p q (sym h ∙ k)
 
 pub parts_asymmetric : (parts : List Part) → IsAsymmetric (IsPlacedBefore parts)
 parts_asymmetric parts i j h k =

@@ -15,6 +15,10 @@ IsSplitter parts i = (part : Part) × HasPart parts i part × (part.kind ≡ Spl
 abbrev pub IsLink : List Part → ℕ → Type 0
 IsLink parts i = (part : Part) × HasPart parts i part × (part.kind ≢ Splitter)
 
+-- both are belts or underground pieces, and i hands to j
+abbrev pub LinksTo : List Part → ℕ → ℕ → Type 0
+LinksTo parts i j = IsLink parts i × IsLink parts j × Hands parts i j
+
 -- a list of belts and underground pieces from the first to the last, each handing to the next
 pub data Path (parts : List Part) : ℕ → ℕ → List ℕ → Type 0 where
   one : (i : ℕ) → IsLink parts i → Path parts i i (i ∷ [])

@@ -6,7 +6,7 @@ use Rattle.bt_parts.specs.declared.part.Kind.TheVariants.{Belt, Entrance, Exit, 
 use Rattle.bt_parts.specs.declared.part.Part.{Part}
 use Rattle.bt_parts.specs.declared.part.Side.{Side}
 use Rattle.bt_parts.specs.declared.part.Side.TheVariants.{Behind, Across, Ahead}
-use Rattle.bt_parts.specs.Cells.{step}
+use Rattle.bt_parts.specs.Cells.{step, Covers}
 use Rattle.bt_parts.specs.Handing.{ComesFrom, TakesFrom}
 use Rattle.bt_parts.specs.Layouts.{IsAt, Pairs}
 
@@ -23,6 +23,15 @@ pub record FeedsFrom (parts : List Part) (p : ℕ) (half : Cell) (q : ℕ) : Typ
   pub side : Side
   pub look : LooksFrom parts p half q side
   pub takes : TakesFrom look.taker.part.kind side
+
+-- this cell of the giver faces the taker, which takes
+pub record FeedsPart (giver : Part) (half : Cell) (taker : Part) : Type 0 where
+  pub no_entrance : giver.kind ≢ Entrance
+  pub covers : Covers giver half
+  pub faces : Covers taker (step giver.dir half)
+  pub side : Side
+  pub comes : ComesFrom giver.dir taker.dir side
+  pub takes : TakesFrom taker.kind side
 
 -- p is a feeder of q: it looks at q, and q takes
 abbrev pub Feeds : List Part → ℕ → ℕ → Type 0

@@ -1,3 +1,4 @@
+pub mod Ahead
 pub mod Chains
 pub mod Clean
 pub mod Handing
