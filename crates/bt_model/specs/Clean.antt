@@ -37,13 +37,16 @@ pub record IsSeenAcross (parts : List Part) (i : ℕ) : Type 0 where
 abbrev pub IsSideLoaded : List Part → ℕ → Type 0
 IsSideLoaded parts i = HasTwoFeeders parts i ⊎ IsSeenAcross parts i
 
--- the part looks at one that takes nothing from there and isn't side-loaded from there
-pub record IsBlocked (parts : List Part) (i : ℕ) : Type 0 where
-  pub half : Cell
+-- this cell of the part looks at one that takes nothing from there and isn't side-loaded from there
+pub record IsHalfBlocked (parts : List Part) (i : ℕ) (half : Cell) : Type 0 where
   pub taker : ℕ
   pub side : Side
   pub look : LooksFrom parts i half taker side
   pub blocked : BlocksFrom look.taker.part.kind side
+
+-- the part looks at one that blocks it
+abbrev pub IsBlocked : List Part → ℕ → Type 0
+IsBlocked parts i = (half : Cell) × IsHalfBlocked parts i half
 
 -- the part is on a ring: a closed list of belts and underground pieces in which each hands to the next
 pub record IsOnRing (parts : List Part) (i : ℕ) : Type 0 where

@@ -1,0 +1,5 @@
+pub mod SightLemmas
+pub mod CleanLemmas
+pub mod HandLaws
+pub mod MarkLemmas
+pub mod RefusalLemmas

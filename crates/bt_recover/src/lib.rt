@@ -1,0 +1,12 @@
+//! The network of splitters that a layout of belts shows.
+#![tactic(auto)]
+
+mod clean;
+mod fault;
+mod following;
+mod marks;
+mod refusals;
+mod sight;
+
+pub use fault::RecoverFault;
+pub use std::alloc::AllocError as Memory;
