@@ -35,7 +35,7 @@ pub takes_at : (parts : List Part) (p i : ℕ) (half : Cell) (part : Part) → H
 takes_at parts p i half part is_i feeds =
     subst (λ t. TakesFrom t.kind feeds.side) (same_part parts i feeds.look.taker.part part feeds.look.taker.is_i is_i) feeds.takes
 
-comes_at : (parts : List Part) (p i : ℕ) (half : Cell) (part : Part) → HasPart parts i part → (feeds : FeedsFrom parts p half i)
+pub comes_at : (parts : List Part) (p i : ℕ) (half : Cell) (part : Part) → HasPart parts i part → (feeds : FeedsFrom parts p half i)
     → ComesFrom feeds.look.giver.part.dir part.dir feeds.side
 comes_at parts p i half part is_i feeds =
     subst (λ t. ComesFrom feeds.look.giver.part.dir t.dir feeds.side) (same_part parts i feeds.look.taker.part part feeds.look.taker.is_i is_i) feeds.look.comes

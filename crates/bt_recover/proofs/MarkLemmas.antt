@@ -26,7 +26,7 @@ path_closes parts i last links path k lt back =
     (path_next parts i last links path k (omega arith))
 
 -- a part that a path has twice is on a ring
-path_twice : (parts : List Part) (i last : ℕ) (links : List ℕ) → Path parts i last links → (k l : ℕ) → k < l → l < length links
+pub path_twice : (parts : List Part) (i last : ℕ) (links : List ℕ) → Path parts i last links → (k l : ℕ) → k < l → l < length links
     → get_or links k 0 ≡ get_or links l 0 → IsOnRing parts (get_or links k 0)
 path_twice parts i last links (one j link) k l lt in' same = absurd (omega arith)
 path_twice parts i last links (more j m e rest link hands path) zero zero lt in' same = absurd (omega arith)
