@@ -2,6 +2,8 @@ pub mod SightLemmas
 pub mod WiredLemmas
 pub mod ChainLemmas
 pub mod CleanLemmas
+pub mod CourseLemmas
+pub mod EndLemmas
 pub mod ExistLemmas
 pub mod HandLaws
 pub mod MarkLemmas

@@ -170,7 +170,7 @@ enters_of naming (ends s) (to.Split k) i a h e at = absurd h
 enters_of naming (ends s) (to.Output k) i a h e at = absurd (cc)
 
 -- a chain's cell of its input is the part's
-begins_cell : (parts : List Part) (chain : Chain) (a : ℕ) (cell : Cell) → IsChain parts chain → chain.source ≡ begins a cell → (part : Part) × HasPart parts a part × (cell ≡ part.cell)
+pub begins_cell : (parts : List Part) (chain : Chain) (a : ℕ) (cell : Cell) → IsChain parts chain → chain.source ≡ begins a cell → (part : Part) × HasPart parts a part × (cell ≡ part.cell)
 begins_cell parts chain a cell (inl h) e =
     let starts : StartsAs parts (begins a cell) h.first = subst (λ x. StartsAs parts x h.first) e h.starts in
     let input = starts.1 in
@@ -178,7 +178,7 @@ begins_cell parts chain a cell (inl h) e =
 begins_cell parts chain a cell (inr h) e = absurd (let s = h.source in cc)
 
 -- one chain begins with an input
-same_begins : (parts : List Part) → IsOrderly parts → (c d : Chain) (a : ℕ) (one other : Cell) → IsChain parts c → IsChain parts d
+pub same_begins : (parts : List Part) → IsOrderly parts → (c d : Chain) (a : ℕ) (one other : Cell) → IsChain parts c → IsChain parts d
   → c.source ≡ begins a one → d.source ≡ begins a other → c ≡ d
 same_begins parts orderly c d a one other h k e f =
     let at_c = begins_cell parts c a one h e in
@@ -285,7 +285,7 @@ same_hop parts orderly c d s at_c at_d e k f g half =
             (h.source ∙ ap (λ x. leaves x h.half) (a ∙ givers ∙ sym b) ∙ ap (λ x. leaves j.from x) (t ∙ half ∙ sym u) ∙ sym j.source)
 
 -- the halves at which a chain starts
-leaves_half : (parts : List Part) (chain : Chain) (s : ℕ) (half : Cell) (part : Part) → HasPart parts s part → IsChain parts chain → chain.source ≡ leaves s half
+pub leaves_half : (parts : List Part) (chain : Chain) (s : ℕ) (half : Cell) (part : Part) → HasPart parts s part → IsChain parts chain → chain.source ≡ leaves s half
   → (half ≡ part.cell) ⊎ (half ≡ beside part.dir part.cell)
 leaves_half parts chain s half part is_s (inl h) e =
     let starts : StartsAs parts (leaves s half) h.first = subst (λ x. StartsAs parts x h.first) e h.starts in
@@ -487,3 +487,9 @@ wired parts net naming chains are = record {
         let there = at_number naming.splitters i (let e = are.names.splitter_count in omega arith) in
         count_two (leaves_from i) net.edges (two_leave parts net naming chains are i there.0 there.1 (are.names.splitters.only there.0 there.2))
 }
+
+pub zip_push : {X Y : Type 0} (R : X → Y → Type 0) (xs : List X) (ys : List Y) (x : X) (y : Y) → AllZip R xs ys → R x y → AllZip R (xs ++ x ∷ []) (ys ++ y ∷ [])
+zip_push R [] [] x y h r = (r, tt)
+zip_push R [] (z ∷ ys) x y h r = absurd h
+zip_push R (w ∷ xs) [] x y h r = absurd h
+zip_push R (w ∷ xs) (z ∷ ys) x y h r = (h.0, zip_push R xs ys x y h.1 r)

@@ -2,6 +2,8 @@
 #![tactic(auto)]
 
 mod clean;
+mod courses;
+mod ends;
 mod fault;
 mod following;
 mod marks;
