@@ -1,18 +1,17 @@
 -- In an orderly layout a chain is determined by where it starts, and by where it ends.
-use Rattle.std.proofs.Common.{◌≡◌, ◌≢◌, ◌⊎◌, ◌↔◌, ℕ, zero, suc, ◌+◌, ◌-◌, ◌<◌, ◌≤◌, List, [], ◌∷◌, ◌++◌, length, get_or, Option, Some, None, refl, sym, ◌∙◌, ap, subst, inl, inr, ⊎_elim, arith}
-use Rattle.std.proofs.lemmas.Option.{same_Some, none-some}
+use Rattle.std.proofs.Common.{◌≡◌, ℕ, zero, suc, ◌+◌, ◌-◌, List, ◌∷◌, length, get_or, refl, sym, ◌∙◌, ap, subst, inl, inr, ⊎_elim, arith}
 use Rattle.std.proofs.lemmas.Bool.{cases_lt}
 use Rattle.bt_parts.specs.declared.part.Cell.{Cell}
-use Rattle.bt_parts.specs.declared.part.Kind.TheVariants.{Belt, Entrance, Exit, Splitter}
+use Rattle.bt_parts.specs.declared.part.Kind.TheVariants.{Splitter}
 use Rattle.bt_parts.specs.declared.part.Part.{Part}
-use Rattle.bt_parts.specs.Layouts.{HasPart, IsAt, IsWellPlaced}
-use Rattle.bt_model.specs.Handing.{FeedsFrom, Feeds, Hands}
-use Rattle.bt_model.specs.Chains.{IsSplitter, IsLink, LinksTo, Path, one, more, IsInput, IsOutput, Source, begins, leaves, Sink, ends, enters, Chain, StartsAs, EndsAs, IsLongest, IsEmptyChain, IsChain}
+use Rattle.bt_parts.specs.Layouts.{IsWellPlaced}
+use Rattle.bt_model.specs.Handing.{FeedsFrom, Hands}
+use Rattle.bt_model.specs.Chains.{IsSplitter, IsLink, LinksTo, Path, one, more, Source, begins, leaves, Sink, ends, enters, Chain, StartsAs, EndsAs, IsLongest, IsEmptyChain, IsChain}
 use Rattle.bt_model.proofs.Places.{same_part}
 use Rattle.bt_model.proofs.HandLemmas.{one_handed, one_fed}
 use Rattle.bt_model.proofs.PathLemmas.{path_start, path_head, path_next}
 use Rattle.bt_recover.specs.Faults.{IsOrderly}
-use Rattle.bt_recover.proofs.HandLaws.{one_giver, output_hands_none, pair_leaves}
+use Rattle.bt_recover.proofs.HandLaws.{one_giver, output_hands_none}
 
 -- a splitter is no link
 pub no_link : (parts : List Part) (i : ℕ) → IsSplitter parts i → IsLink parts i → ⊥
@@ -20,7 +19,7 @@ no_link parts i splitter link = link.2 (subst (λ p. p.kind ≡ Splitter) (same_
 
 -- from one part on there is one path that can't be made longer
 pub same_links : (parts : List Part) → IsWellPlaced parts → (i last end : ℕ) (xs ys : List ℕ) → Path parts i last xs → Path parts i end ys
-  → ((k : ℕ) → LinksTo parts last k → ⊥) → ((k : ℕ) → LinksTo parts end k → ⊥) → (last ≡ end) × (xs ≡ ys)
+    → ((k : ℕ) → LinksTo parts last k → ⊥) → ((k : ℕ) → LinksTo parts end k → ⊥) → (last ≡ end) × (xs ≡ ys)
 same_links parts placed i last end xs ys (one j link) (one k other) no_last no_end = (refl, refl)
 same_links parts placed i last end xs ys (one j link) (more k m e rest other hands path) no_last no_end =
     absurd (no_last m (link, path_start parts m end rest path, hands))
@@ -58,10 +57,10 @@ path_stop parts i last links (more j m e rest link hands path) = path_stop parts
 
 -- longest chains with one first part are the same but for their source
 pub longest_same : (parts : List Part) → IsWellPlaced parts → (c d : Chain) (h : IsLongest parts c) (k : IsLongest parts d) → h.first ≡ k.first
-  → (c.links ≡ d.links) × (c.sink ≡ d.sink)
+    → (c.links ≡ d.links) × (c.sink ≡ d.sink)
 longest_same parts placed c d h k first =
     let same = same_links parts placed h.first h.last k.last c.links d.links h.path (subst (λ x. Path parts x k.last d.links) (sym first) k.path)
-        (no_links_after parts c h) (no_links_after parts d k) in
+    (no_links_after parts c h) (no_links_after parts d k) in
     (same.1, sink_one parts placed h.last (path_stop parts h.first h.last c.links h.path) c.sink d.sink h.ends (subst (λ x. EndsAs parts d.sink x) (sym same.0) k.ends))
 
 leaves_parts : (s t : ℕ) (a b : Cell) → leaves s a ≡ leaves t b → (s ≡ t) × (a ≡ b)
@@ -84,12 +83,12 @@ chain_from parts placed c d (inr h) (inl k) sources = absurd (empty_not_longest 
 chain_from parts placed c d (inr h) (inr k) sources =
     let ends_of = leaves_parts h.from k.from h.half k.half (sym h.source ∙ sources ∙ k.source) in
     let to : h.to ≡ k.to = one_fed parts placed k.from h.to k.to k.half
-        (subst (λ x. FeedsFrom parts x k.half h.to) ends_of.0 (subst (λ x. FeedsFrom parts h.from x h.to) ends_of.1 h.feeds)) k.feeds in
+    (subst (λ x. FeedsFrom parts x k.half h.to) ends_of.0 (subst (λ x. FeedsFrom parts h.from x h.to) ends_of.1 h.feeds)) k.feeds in
     chain_is c d sources (h.no_link ∙ sym k.no_link) (h.sink ∙ ap enters to ∙ sym k.sink)
 
 -- what is so far before the end of a path
 back_at : (parts : List Part) → IsOrderly parts → (i j last : ℕ) (xs ys : List ℕ) → Path parts i last xs → Path parts j last ys
-  → (n k l : ℕ) → k + n + 1 ≡ length xs → l + n + 1 ≡ length ys → get_or xs k 0 ≡ get_or ys l 0
+    → (n k l : ℕ) → k + n + 1 ≡ length xs → l + n + 1 ≡ length ys → get_or xs k 0 ≡ get_or ys l 0
 back_at parts is i j last xs ys p q zero k l ex ey =
     let x = ⊎_elim (λ next. let lt = next.1 in absurd (omega arith)) (λ end. end.1) (path_next parts i last xs p k (omega arith)) in
     let y = ⊎_elim (λ next. let lt = next.1 in absurd (omega arith)) (λ end. end.1) (path_next parts j last ys q l (omega arith)) in
@@ -102,27 +101,27 @@ back_at parts is i j last xs ys p q (suc n) k l ex ey =
 
 -- two paths to one part that can't be made longer at their fronts begin with one part
 pub same_first : (parts : List Part) → IsOrderly parts → (i j last : ℕ) (xs ys : List ℕ) → Path parts i last xs → Path parts j last ys
-  → ((k : ℕ) → LinksTo parts k i → ⊥) → ((k : ℕ) → LinksTo parts k j → ⊥) → i ≡ j
+    → ((k : ℕ) → LinksTo parts k i → ⊥) → ((k : ℕ) → LinksTo parts k j → ⊥) → i ≡ j
 same_first parts is i j last xs ys p q no_i no_j =
     let head_x = path_head parts i last xs 0 p in
     let head_y = path_head parts j last ys 0 q in
     let some_x = head_x.0 in let some_y = head_y.0 in
     ⊎_elim
-        (λ lt. absurd (no_i (get_or ys (length ys - length xs - 1) 0)
-            (let at : get_or xs 0 0 ≡ get_or ys (suc (length ys - length xs - 1)) 0 =
-                back_at parts is i j last xs ys p q (length xs - 1) 0 (suc (length ys - length xs - 1)) (omega arith) (omega arith) in
-            subst (λ z. LinksTo parts (get_or ys (length ys - length xs - 1) 0) z) (sym at ∙ head_x.1)
-                (⊎_elim (λ next. next.0) (λ end. let e = end.0 in absurd (omega arith)) (path_next parts j last ys q (length ys - length xs - 1) (omega arith))))))
-        (λ ge. ⊎_elim
-            (λ gt. absurd (no_j (get_or xs (length xs - length ys - 1) 0)
-                (let at : get_or xs (suc (length xs - length ys - 1)) 0 ≡ get_or ys 0 0 =
-                    back_at parts is i j last xs ys p q (length ys - 1) (suc (length xs - length ys - 1)) 0 (omega arith) (omega arith) in
-                subst (λ z. LinksTo parts (get_or xs (length xs - length ys - 1) 0) z) (at ∙ head_y.1)
-                    (⊎_elim (λ next. next.0) (λ end. let e = end.0 in absurd (omega arith)) (path_next parts i last xs p (length xs - length ys - 1) (omega arith))))))
-            (λ le.
-                let at : get_or xs 0 0 ≡ get_or ys 0 0 = back_at parts is i j last xs ys p q (length xs - 1) 0 0 (omega arith) (omega arith) in
-                sym head_x.1 ∙ at ∙ head_y.1)
-        (cases_lt (length ys) (length xs)))
+    (λ lt. absurd (no_i (get_or ys (length ys - length xs - 1) 0)
+    (let at : get_or xs 0 0 ≡ get_or ys (suc (length ys - length xs - 1)) 0 =
+    back_at parts is i j last xs ys p q (length xs - 1) 0 (suc (length ys - length xs - 1)) (omega arith) (omega arith) in
+    subst (λ z. LinksTo parts (get_or ys (length ys - length xs - 1) 0) z) (sym at ∙ head_x.1)
+    (⊎_elim (λ next. next.0) (λ end. let e = end.0 in absurd (omega arith)) (path_next parts j last ys q (length ys - length xs - 1) (omega arith))))))
+    (λ ge. ⊎_elim
+    (λ gt. absurd (no_j (get_or xs (length xs - length ys - 1) 0)
+    (let at : get_or xs (suc (length xs - length ys - 1)) 0 ≡ get_or ys 0 0 =
+    back_at parts is i j last xs ys p q (length ys - 1) (suc (length xs - length ys - 1)) 0 (omega arith) (omega arith) in
+    subst (λ z. LinksTo parts (get_or xs (length xs - length ys - 1) 0) z) (at ∙ head_y.1)
+    (⊎_elim (λ next. next.0) (λ end. let e = end.0 in absurd (omega arith)) (path_next parts i last xs p (length xs - length ys - 1) (omega arith))))))
+    (λ le.
+    let at : get_or xs 0 0 ≡ get_or ys 0 0 = back_at parts is i j last xs ys p q (length xs - 1) 0 0 (omega arith) (omega arith) in
+    sym head_x.1 ∙ at ∙ head_y.1)
+    (cases_lt (length ys) (length xs)))
     (cases_lt (length xs) (length ys))
 
 pub no_links_before : (parts : List Part) (c : Chain) (h : IsLongest parts c) → (k : ℕ) → LinksTo parts k h.first → ⊥

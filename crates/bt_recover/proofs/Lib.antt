@@ -1,4 +1,5 @@
 pub mod SightLemmas
+pub mod SurveyLemmas
 pub mod WiredLemmas
 pub mod ChainLemmas
 pub mod CleanLemmas

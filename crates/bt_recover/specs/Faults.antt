@@ -4,6 +4,8 @@ use Rattle.bt_parts.specs.declared.part.Part.{Part}
 use Rattle.bt_parts.specs.Layouts.{IsWellPlaced, IsPieceAt, IsUnpaired}
 use Rattle.bt_grid.specs.declared.pairing.PairFault.{PairFault}
 use Rattle.bt_grid.specs.declared.pairing.PairFault.TheVariants as pair
+use Rattle.bt_net.specs.Network.{Network, IsLarge, LacksEnds}
+use Rattle.bt_model.specs.Shown.{Naming, IsNumbered}
 use Rattle.bt_model.specs.Clean.{IsPaired, IsSideLoaded, IsBlocked, IsOnRing}
 use Rattle.bt_recover.specs.declared.fault.RecoverFault.{RecoverFault}
 use Rattle.bt_recover.specs.declared.fault.RecoverFault.TheVariants.{Unpaired, SideLoad, Blocked, Ring, TooLarge, NoEnds, Memory}
@@ -42,3 +44,13 @@ IsUnclean parts (Ring i) = IsOrderly parts × IsFirst (IsOnRing parts) i
 IsUnclean parts TooLarge = ⊥
 IsUnclean parts NoEnds = ⊥
 IsUnclean parts Memory = ⊤
+
+-- why no network is recovered: the layout isn't clean, or its network is too large or lacks an end
+abbrev pub IsRecoverFault : List Part → RecoverFault → Type 0
+IsRecoverFault parts (Unpaired i) = IsUnclean parts (Unpaired i)
+IsRecoverFault parts (SideLoad i) = IsUnclean parts (SideLoad i)
+IsRecoverFault parts (Blocked i) = IsUnclean parts (Blocked i)
+IsRecoverFault parts (Ring i) = IsUnclean parts (Ring i)
+IsRecoverFault parts TooLarge = (net : Network) × (naming : Naming) × IsNumbered parts net naming × IsLarge net
+IsRecoverFault parts NoEnds = (net : Network) × (naming : Naming) × IsNumbered parts net naming × LacksEnds net
+IsRecoverFault parts Memory = ⊤

@@ -80,7 +80,14 @@ fn end_from_half(grid: &Grid, pairs: &Pairs, s: usize, half: Cell) -> Option<usi
 }
 
 /// Adds the course of the chain from this half, if there is one.
-fn push_half(courses: &mut Vec<Course>, grid: &Grid, pairs: &Pairs, k: usize, s: usize, half: Cell) -> Result<(), AllocError>
+fn push_half(
+    courses: &mut Vec<Course>,
+    grid: &Grid,
+    pairs: &Pairs,
+    k: usize,
+    s: usize,
+    half: Cell,
+) -> Result<(), AllocError>
     requires splitter { IsSplitter grid.now s }
     requires half { IsAt grid.now s half }
     requires within { s < length grid.now }
@@ -99,7 +106,13 @@ fn push_half(courses: &mut Vec<Course>, grid: &Grid, pairs: &Pairs, k: usize, s:
 }
 
 /// Adds the courses of the chains from the splitter, the one from the lesser half first.
-fn push_halves(courses: &mut Vec<Course>, grid: &Grid, pairs: &Pairs, k: usize, s: usize) -> Result<(), AllocError>
+fn push_halves(
+    courses: &mut Vec<Course>,
+    grid: &Grid,
+    pairs: &Pairs,
+    k: usize,
+    s: usize,
+) -> Result<(), AllocError>
     requires splitter { IsSplitter grid.now s }
     requires within { s < length grid.now }
     requires partners { ArePartners grid.now pairs.now }
@@ -115,7 +128,13 @@ fn push_halves(courses: &mut Vec<Course>, grid: &Grid, pairs: &Pairs, k: usize, 
 }
 
 /// The courses of all chains, in the order of their sources.
-pub(crate) fn courses_of(alloc: Global, grid: &Grid, pairs: &Pairs, inputs: &[usize], splitters: &[usize]) -> Result<Vec<Course>, AllocError>
+pub(crate) fn courses_of(
+    alloc: Global,
+    grid: &Grid,
+    pairs: &Pairs,
+    inputs: &[usize],
+    splitters: &[usize],
+) -> Result<Vec<Course>, AllocError>
     requires partners { ArePartners grid.now pairs.now }
     requires clean { IsClean grid.now }
     requires inputs { ListsEach (IsInput grid.now) inputs.now }

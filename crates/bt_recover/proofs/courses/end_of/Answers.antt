@@ -24,14 +24,14 @@ returns-in_default-clause-within c = c.loop-steps.invariant.within
 pub returns-then-is_kind-clause-ends : goal.returns-then-is_kind-clause-ends
 returns-then-is_kind-clause-ends c =
     following_splitter c.args.grid.now c.args.first c.loop-steps.last c.in-Some.next c.loop-steps._steps c.loop-steps.invariant c.in-Some.ensures.takes
-        (c.part.result.now, c.part.ensures.value, c.is_kind.ensures.0 c.if-is_kind.true)
+    (c.part.result.now, c.part.ensures.value, c.is_kind.ensures.0 c.if-is_kind.true)
 
 pub loop-steps-preserved : goal.loop-steps-preserved
 loop-steps-preserved c =
     following_more c.args.grid.now c.args.first c.loop-steps.last c.in-Some.next c.loop-steps._steps c.loop-steps.invariant c.in-Some.ensures.takes
-        (c.part.result.now, c.part.ensures.value, iff_false c.is_kind.ensures c.if-is_kind.false) c.in-Some.ensures.within
+    (c.part.result.now, c.part.ensures.value, iff_false c.is_kind.ensures c.if-is_kind.false) c.in-Some.ensures.within
 
 pub unreachable-requires : goal.unreachable-requires
 unreachable-requires c =
     following_too_long c.args.grid.now c.requires.clean c.args.first c.loop-steps.last c.loop-steps._steps c.loop-steps.invariant
-        (omega (arith, ap length c.parts-steps-end.ensures.value))
+    (omega (arith, ap length c.parts-steps-end.ensures.value))
