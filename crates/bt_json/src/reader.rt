@@ -105,6 +105,7 @@ fn read_list(
         items.push(item)?;
         let next = skip_blanks(bytes, end);
         if stands_at(bytes, next, b']') {
+            items.shrink_to_fit();
             return Ok((Tree::List(items), next + 1));
         }
         expect_byte(bytes, next, b',')?;
@@ -163,6 +164,8 @@ fn read_object(
         values.push(value)?;
         let next = skip_blanks(bytes, end);
         if stands_at(bytes, next, b'}') {
+            names.shrink_to_fit();
+            values.shrink_to_fit();
             return Ok((Tree::Object { names, values }, next + 1));
         }
         expect_byte(bytes, next, b',')?;

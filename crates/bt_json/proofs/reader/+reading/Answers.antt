@@ -1,4 +1,4 @@
-use Rattle.std.proofs.Common.{arith, true, false, List, ◌≡◌, ◌<◌, ◌+◌, ◌-◌, ◌++◌, ◌∷◌, [], map, get_or, length, sym, ap, ◌∙◌, subst}
+use Rattle.std.proofs.Common.{arith, true, false, List, ◌≡◌, ◌<◌, ◌+◌, ◌-◌, ◌++◌, ◌∷◌, [], map, get_or, length, sym, ap, ap₂, ◌∙◌, subst}
 use Rattle.std.specs.Prelude.{string_bytes}
 use Rattle.std.proofs.lemmas.Result.{err_from_is_err_and}
 use Rattle.std.proofs.lemmas.List.{map_push}
@@ -41,7 +41,7 @@ read_list-returns-then-stands_at-2-clause-ok t c = λ k e.
     let v = json_of c.in_ok-item.item in
     let next = c.skip_blanks-next.result in
     let y = c.stands_at-in-loop-items.ensures.yes c.if-stands_at-2.true in
-    let made : json_of (views.List c.push.new.self) ≡ list (items_of (vs ++ v ∷ [])) = json-List c.push.new.self ∙ ap (λ ts. list (items_of (map json_of ts))) c.in_ok-push.ensures.items ∙ ap (λ ws. list (items_of ws)) (map_push json_of c.loop-items.items.items c.in_ok-item.item) in
+    let made : json_of (views.List c.shrink_to_fit.new.self) ≡ list (items_of (vs ++ v ∷ [])) = json-List c.shrink_to_fit.new.self ∙ ap (λ ts. list (items_of (map json_of ts))) (c.shrink_to_fit.ensures.items ∙ c.in_ok-push.ensures.items) ∙ ap (λ ws. list (items_of ws)) (map_push json_of c.loop-items.items.items c.in_ok-item.item) in
     let inner : length (in_list vs ∷ k) ≡ c.args.depth = omega arith in
     c.loop-items.invariant.read k e ∙ c.in_ok-item.ensures.ok (in_list vs ∷ k) inner ∙ c.skip_blanks-next.ensures.blanks (behind v (in_list vs) k) (skips_behind v (in_list vs) k)
     ∙ item_ends_list bs next v vs k y.0 y.1 ∙ ap (λ w. rest_after bs (next + 1) (deliver w k (next + 1))) (sym made)
@@ -106,8 +106,8 @@ read_object-returns-then-stands_at-2-clause-ok t c = λ k e.
     let v = json_of c.in_ok-value.value in
     let next = c.skip_blanks-next.result in
     let y = c.stands_at-in-loop-values.ensures.yes c.if-stands_at-2.true in
-    let made : json_of (views.Object c.read_name.new.names c.push.new.self) ≡ object (members_of names (vs ++ v ∷ [])) =
-    json-Object c.read_name.new.names c.push.new.self ∙ ap (λ ts. object (members_of names (map json_of ts))) c.in_ok-push.ensures.items ∙ ap (λ ws. object (members_of names ws)) (map_push json_of c.loop-values.values.items c.in_ok-value.value) in
+    let made : json_of (views.Object c.shrink_to_fit.new.self c.shrink_to_fit-then-stands_at-2.new.self) ≡ object (members_of names (vs ++ v ∷ [])) =
+    json-Object c.shrink_to_fit.new.self c.shrink_to_fit-then-stands_at-2.new.self ∙ ap₂ (λ ns ts. object (members_of (map string_bytes ns) (map json_of ts))) c.shrink_to_fit.ensures.keys (c.shrink_to_fit-then-stands_at-2.ensures.items ∙ c.in_ok-push.ensures.items) ∙ ap (λ ws. object (members_of names ws)) (map_push json_of c.loop-values.values.items c.in_ok-value.value) in
     let inner : length (in_object names vs ∷ k) ≡ c.args.depth = omega arith in
     c.loop-values.invariant.read k e ∙ c.in_ok-due.ensures.ok vs k ∙ c.in_ok-value.ensures.ok (in_object names vs ∷ k) inner ∙ c.skip_blanks-next.ensures.blanks (behind v (in_object names vs) k) (skips_behind v (in_object names vs) k)
     ∙ value_ends_object bs next v names vs k y.0 y.1 ∙ ap (λ w. rest_after bs (next + 1) (deliver w k (next + 1))) (sym made)
