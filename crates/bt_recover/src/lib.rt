@@ -15,3 +15,6 @@ mod sight;
 pub use fault::RecoverFault;
 pub use recovery::{Traced, recover};
 pub use std::alloc::AllocError as Memory;
+
+#[cfg(test)]
+mod tests;
