@@ -1,5 +1,7 @@
 use bt_entities::EntityFault;
 use bt_grid::{GridFault, PairFault};
+use bt_io::ReadAll;
+use bt_json::JsonFault;
 use std::alloc::{AllocError, AllocFailed};
 
 /// Why a loop came to nothing.
@@ -7,6 +9,8 @@ use std::alloc::{AllocError, AllocFailed};
 pub enum Fault {
     Usage,
     Wide,
+    Input,
+    Json,
     Entities,
     Grid,
     Pairs,
@@ -17,8 +21,11 @@ impl Fault {
     /// What is printed in place of an outcome.
     pub fn word(self) -> &'static str {
         match self {
-            Fault::Usage => "usage: bt_bench (add-small | add-wide) ROUNDS | grid ROUNDS ENTITIES",
+            Fault::Usage =>
+                "usage: bt_bench (add-small | add-wide | json | json-kept) ROUNDS | grid ROUNDS ENTITIES",
             Fault::Wide => "wide",
+            Fault::Input => "input",
+            Fault::Json => "json",
             Fault::Entities => "entities",
             Fault::Grid => "grid",
             Fault::Pairs => "pairs",
@@ -36,6 +43,18 @@ impl From<AllocError> for Fault {
 impl<T: Drop> From<AllocFailed<T>> for Fault {
     fn from(_: AllocFailed<T>) -> Fault {
         Fault::Memory
+    }
+}
+
+impl From<ReadAll> for Fault {
+    fn from(_: ReadAll) -> Fault {
+        Fault::Input
+    }
+}
+
+impl From<JsonFault> for Fault {
+    fn from(_: JsonFault) -> Fault {
+        Fault::Json
     }
 }
 

@@ -1,19 +1,25 @@
 // Loops that time the crates. The first word names the loop, the second is the number of rounds, and the third,
-// which `grid` has, is the number of entities.
+// which `grid` has, is the number of entities. The loops over JSON read their text from standard input.
 #![tactic(auto)]
 
 mod fault;
 mod field;
 mod fractions;
 mod grid;
+mod json;
 
 use bt_frac::Frac;
+use bt_io::{Source, StdSource, read_all};
 use fault::Fault;
 use field::field;
 use fractions::{repeated_sum, small_fractions, wide_fractions};
 use grid::number_of_parts;
+use json::{place_after, place_after_kept};
 use std::alloc::Global;
 use std::{env, io};
+
+/// The most bytes of standard input.
+const INPUT_LIMIT: usize = 1 << 30;
 
 /// What a loop comes to.
 enum Outcome {
@@ -28,10 +34,24 @@ fn sum_of(terms: &[Frac], rounds: u64) -> Result<Outcome, Fault> {
     }
 }
 
-fn outcome_of(alloc: Global, name: &str, rounds: u64, entities: u16) -> Result<Outcome, Fault> {
+fn outcome_of<S: Source>(
+    alloc: Global,
+    name: &str,
+    rounds: u64,
+    entities: u16,
+    source: &mut S,
+) -> Result<Outcome, Fault> {
     match name {
         "add-small" => sum_of(small_fractions(alloc)?.as_slice(), rounds),
         "add-wide" => sum_of(wide_fractions(alloc)?.as_slice(), rounds),
+        "json" => {
+            let text = read_all(alloc, source, INPUT_LIMIT)?;
+            Ok(Outcome::Count(place_after(alloc, &text, rounds)?))
+        }
+        "json-kept" => {
+            let text = read_all(alloc, source, INPUT_LIMIT)?;
+            Ok(Outcome::Count(place_after_kept(alloc, &text, rounds)?))
+        }
         "grid" => {
             let blueprint = field(alloc, entities)?;
             Ok(Outcome::Count(number_of_parts(alloc, &blueprint, rounds)?))
@@ -53,7 +73,8 @@ fn main(rt: HostRuntime) -> io::Result<()> {
         Some(entities) => entities.as_str().parse::<u16>().unwrap_or(0),
         None => 0,
     };
-    match outcome_of(rt.alloc(), name.as_str(), rounds, entities) {
+    let mut source = StdSource::new(rt.stdin());
+    match outcome_of(rt.alloc(), name.as_str(), rounds, entities, &mut source) {
         Ok(Outcome::Sum(over, under)) => println!(rt; "{over}/{under}"),
         Ok(Outcome::Count(count)) => println!(rt; "{count}"),
         Err(fault) => println!(rt; "{}", fault.word()),
