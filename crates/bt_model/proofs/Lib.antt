@@ -1,0 +1,5 @@
+pub mod HandLemmas
+pub mod Orders
+pub mod PathLemmas
+pub mod Places
+pub mod Sorted

@@ -1,0 +1,5 @@
+pub mod Ahead
+pub mod Chains
+pub mod Clean
+pub mod Handing
+pub mod Shown

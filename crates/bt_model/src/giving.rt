@@ -1,0 +1,93 @@
+ghost use Rattle.std.specs.Prelude.{◌≡◌, ◌↔◌, ℕ, ◌<◌, length, Some, IsTrue, IfSome};
+ghost use Rattle.bt_parts.specs.Cells.{Covers, IsInRange};
+ghost use Rattle.bt_parts.specs.Layouts.{AreInRange, IsWellPlaced, Pairs};
+ghost use Rattle.bt_model.specs.Handing.{FeedsPart, Feeds, Hands};
+ghost use Rattle.bt_model.specs.Ahead.{IsExitFor};
+
+use crate::looking::{covers, first_ahead};
+use bt_parts::{Cell, Kind, Part, accepts, cells_of, front, side};
+
+/// Whether the part is an exit in the entrance's direction.
+fn is_exit_for(part: &Part, entrance: &Part) -> bool
+    ensures { IsTrue result ↔ IsExitFor part.now entrance.now }
+{
+    part.kind == Kind::Exit && part.dir == entrance.dir
+}
+
+/// The exit with which the part is a pair, where it is an entrance that has one.
+pub(crate) fn exit_of(parts: &[Part], a: usize) -> Option<usize>
+    requires within { a < length parts.now }
+    requires in_range { AreInRange parts.now }
+    requires well_placed { IsWellPlaced parts.now }
+    ensures pair { (b : ℕ) → (result ≡ Some b) ↔ Pairs parts.now a b }
+    ensures within { IfSome result (λ b. b < length parts.now) }
+{
+    let entrance = &parts[a];
+    if entrance.kind != Kind::Entrance {
+        return None;
+    }
+    let Some(b) = first_ahead(parts, entrance) else {
+        return None;
+    };
+    if is_exit_for(&parts[b], entrance) {
+        Some(b)
+    } else {
+        None
+    }
+}
+
+/// Whether the two parts are the entrance and the exit of a pair.
+pub fn pair(parts: &[Part], a: usize, b: usize) -> bool
+    requires a_within { a < length parts.now }
+    requires b_within { b < length parts.now }
+    requires in_range { AreInRange parts.now }
+    requires well_placed { IsWellPlaced parts.now }
+    ensures { IsTrue result ↔ Pairs parts.now a b }
+{
+    match exit_of(parts, a) {
+        Some(exit) => exit == b,
+        None => false,
+    }
+}
+
+/// Whether this cell of the giver faces the taker, which takes.
+pub(crate) fn feeds_from(giver: &Part, half: Cell, taker: &Part) -> bool
+    requires giver { IsInRange giver.now.cell }
+    requires taker { IsInRange taker.now.cell }
+    requires half { Covers giver.now half }
+    ensures { IsTrue result ↔ FeedsPart giver.now half taker.now }
+{
+    giver.kind != Kind::Entrance
+        && covers(taker, front(giver, half))
+        && accepts(taker.kind, side(giver.dir, taker.dir))
+}
+
+/// Whether one part is a feeder of the other.
+fn feeds(parts: &[Part], p: usize, q: usize) -> bool
+    requires p_within { p < length parts.now }
+    requires q_within { q < length parts.now }
+    requires in_range { AreInRange parts.now }
+    ensures { IsTrue result ↔ Feeds parts.now p q }
+{
+    let giver = &parts[p];
+    let taker = &parts[q];
+    let (first, second) = cells_of(giver);
+    if feeds_from(giver, first, taker) {
+        return true;
+    }
+    match second {
+        Some(half) => feeds_from(giver, half, taker),
+        None => false,
+    }
+}
+
+/// Whether one part hands what it carries to the other.
+pub fn hands(parts: &[Part], a: usize, b: usize) -> bool
+    requires a_within { a < length parts.now }
+    requires b_within { b < length parts.now }
+    requires in_range { AreInRange parts.now }
+    requires well_placed { IsWellPlaced parts.now }
+    ensures { IsTrue result ↔ Hands parts.now a b }
+{
+    pair(parts, a, b) || feeds(parts, a, b)
+}

@@ -1,0 +1,11 @@
+pub mod SightLemmas
+pub mod SurveyLemmas
+pub mod WiredLemmas
+pub mod ChainLemmas
+pub mod CleanLemmas
+pub mod CourseLemmas
+pub mod EndLemmas
+pub mod ExistLemmas
+pub mod HandLaws
+pub mod MarkLemmas
+pub mod RefusalLemmas

@@ -1,0 +1,5 @@
+pub mod Courses
+pub mod Ends
+pub mod Faults
+pub mod Marks
+pub mod Sight

@@ -1,0 +1,104 @@
+ghost use Rattle.std.specs.Prelude.{◌≡◌, ◌≢◌, ◌↔◌, ℕ, ◌<◌, length, IsTrue, MatchOption, IfSome};
+ghost use Rattle.bt_parts.specs.Cells.{IsInRange, opposite};
+ghost use Rattle.bt_parts.specs.Layouts.{HasPart, IsAt, IsWellPlaced};
+ghost use Rattle.bt_grid.specs.Pairing.{ArePartners};
+ghost use Rattle.bt_model.specs.Handing.{Hands};
+ghost use Rattle.bt_model.specs.Chains.{IsLink, LinksTo, IsOutput};
+ghost use Rattle.bt_recover.specs.Faults.{IsOrderly};
+ghost use Rattle.bt_recover.specs.Sight.{IsBeltFeeder};
+
+use crate::sight::{left, looker};
+use bt_grid::{Grid, Pairs};
+use bt_parts::{Kind, Part, front};
+
+/// Whether the part is of the kind.
+pub(crate) fn is_kind(part: &Part, kind: Kind) -> bool
+    ensures { IsTrue result ↔ (part.now.kind ≡ kind) }
+{
+    part.kind == kind
+}
+
+/// A part that looks at the cell of a belt, and not from ahead.
+fn belt_feeder(grid: &Grid, belt: &Part) -> Option<usize>
+    requires { IsInRange belt.now.cell }
+    ensures feeder { MatchOption result ((p : ℕ) → IsBeltFeeder grid.now belt.now p → ⊥) (IsBeltFeeder grid.now belt.now) }
+    ensures within { IfSome result (λ p. p < length grid.now) }
+{
+    if let Some(p) = looker(grid, belt.cell, belt.dir) {
+        return Some(p);
+    }
+    if let Some(p) = looker(grid, belt.cell, left(belt.dir)) {
+        return Some(p);
+    }
+    looker(grid, belt.cell, left(belt.dir).opposite())
+}
+
+/// The part that hands to this belt or underground piece.
+pub(crate) fn giver(grid: &Grid, pairs: &Pairs, i: usize) -> Option<usize>
+    requires link { IsLink grid.now i }
+    requires within { i < length grid.now }
+    requires partners { ArePartners grid.now pairs.now }
+    ensures gives { MatchOption result ((p : ℕ) → Hands grid.now p i → ⊥) (λ p. Hands grid.now p i) }
+    ensures within { IfSome result (λ p. p < length grid.now) }
+{
+    let part = grid.part(i);
+    match part.kind {
+        Kind::Belt => belt_feeder(grid, part),
+        Kind::Entrance => looker(grid, part.cell, part.dir),
+        Kind::Exit => pairs.partner(i),
+        Kind::Splitter => None,
+    }
+}
+
+/// The part to which this belt or underground piece hands; an output hands to none.
+pub(crate) fn taker(grid: &Grid, pairs: &Pairs, i: usize) -> Option<usize>
+    requires link { IsLink grid.now i }
+    requires within { i < length grid.now }
+    requires partners { ArePartners grid.now pairs.now }
+    requires orderly { IsOrderly grid.now }
+    ensures takes { MatchOption result (IsOutput grid.now i) (Hands grid.now i) }
+    ensures within { IfSome result (λ j. j < length grid.now) }
+{
+    let part = grid.part(i);
+    if is_kind(part, Kind::Entrance) {
+        return pairs.partner(i);
+    }
+    grid.at(front(part, part.cell))
+}
+
+/// The belt or underground piece that hands to this one.
+pub(crate) fn link_before(grid: &Grid, pairs: &Pairs, i: usize) -> Option<usize>
+    requires link { IsLink grid.now i }
+    requires within { i < length grid.now }
+    requires partners { ArePartners grid.now pairs.now }
+    requires orderly { IsOrderly grid.now }
+    ensures { MatchOption result ((p : ℕ) → LinksTo grid.now p i → ⊥) (λ p. LinksTo grid.now p i) }
+{
+    let Some(p) = giver(grid, pairs, i) else {
+        return None;
+    };
+    if is_kind(grid.part(p), Kind::Splitter) {
+        None
+    } else {
+        Some(p)
+    }
+}
+
+/// The belt or underground piece to which this one hands.
+pub(crate) fn link_after(grid: &Grid, pairs: &Pairs, i: usize) -> Option<usize>
+    requires link { IsLink grid.now i }
+    requires within { i < length grid.now }
+    requires partners { ArePartners grid.now pairs.now }
+    requires orderly { IsOrderly grid.now }
+    ensures next { MatchOption result ((j : ℕ) → LinksTo grid.now i j → ⊥) (LinksTo grid.now i) }
+    ensures within { IfSome result (λ j. j < length grid.now) }
+{
+    let Some(j) = taker(grid, pairs, i) else {
+        return None;
+    };
+    if is_kind(grid.part(j), Kind::Splitter) {
+        None
+    } else {
+        Some(j)
+    }
+}

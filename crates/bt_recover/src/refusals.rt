@@ -1,0 +1,102 @@
+ghost use Rattle.std.specs.Prelude.{◌≡◌, ◌↔◌, ℕ, ◌<◌, length, IsTrue, MatchOption};
+ghost use Rattle.bt_parts.specs.Cells.{IsInRange};
+ghost use Rattle.bt_parts.specs.Layouts.{HasPart, IsAt, IsWellPlaced};
+ghost use Rattle.bt_model.specs.Handing.{BlocksFrom};
+ghost use Rattle.bt_model.specs.Clean.{IsSideLoaded, IsHalfBlocked, IsBlocked};
+ghost use Rattle.bt_recover.specs.Faults.{IsFirst, Never};
+
+use crate::sight::{is_seen_aside, is_seen_twice};
+use bt_grid::Grid;
+use bt_parts::{Cell, Kind, Part, Side, cells_of, front, side};
+
+/// Whether there is side-loading at the part.
+fn is_side_loaded(grid: &Grid, i: usize) -> bool
+    requires within { i < length grid.now }
+    requires well_placed { IsWellPlaced grid.now }
+    ensures { IsTrue result ↔ IsSideLoaded grid.now i }
+{
+    let part = grid.part(i);
+    match part.kind {
+        Kind::Belt => is_seen_twice(grid, part.cell, part.dir),
+        Kind::Entrance => is_seen_aside(grid, part.cell, part.dir),
+        Kind::Exit => is_seen_aside(grid, part.cell, part.dir),
+        Kind::Splitter => false,
+    }
+}
+
+/// The first part at which there is side-loading.
+pub(crate) fn first_side_loaded(grid: &Grid) -> Option<usize>
+    ensures { MatchOption result (Never (IsSideLoaded grid.now)) (IsFirst (IsSideLoaded grid.now)) }
+{
+    for i in 0..grid.parts().len() {
+        if is_side_loaded(grid, i) {
+            return Some(i);
+        }
+    }
+    None
+}
+
+/// Whether the kind blocks what comes from there.
+///
+/// A belt and an entrance block from ahead, an exit from behind and ahead, and a splitter from
+/// everywhere but behind.
+fn blocks(kind: Kind, side: Side) -> bool
+    ensures { IsTrue result ↔ BlocksFrom kind side }
+{
+    match kind {
+        Kind::Belt | Kind::Entrance => side == Side::Ahead,
+        Kind::Exit => side != Side::Across,
+        Kind::Splitter => side != Side::Behind,
+    }
+}
+
+/// Whether the part is an entrance, which looks at no cell.
+fn is_entrance(part: &Part) -> bool
+    ensures { IsTrue result ↔ (part.now.kind ≡ Kind.Entrance) }
+{
+    part.kind == Kind::Entrance
+}
+
+/// Whether this cell of the part looks at a part that blocks.
+fn is_half_blocked(grid: &Grid, i: usize, half: Cell) -> bool
+    requires within { i < length grid.now }
+    requires half { IsAt grid.now i half }
+    ensures { IsTrue result ↔ IsHalfBlocked grid.now i half }
+{
+    let giver = grid.part(i);
+    if is_entrance(giver) {
+        return false;
+    }
+    let Some(j) = grid.at(front(giver, half)) else {
+        return false;
+    };
+    let taker = grid.part(j);
+    blocks(taker.kind, side(giver.dir, taker.dir))
+}
+
+/// Whether the part looks at a part that takes nothing from there.
+fn is_blocked(grid: &Grid, i: usize) -> bool
+    requires { i < length grid.now }
+    ensures { IsTrue result ↔ IsBlocked grid.now i }
+{
+    let (first, second) = cells_of(grid.part(i));
+    if is_half_blocked(grid, i, first) {
+        return true;
+    }
+    match second {
+        Some(half) => is_half_blocked(grid, i, half),
+        None => false,
+    }
+}
+
+/// The first part that looks at one that takes nothing from there.
+pub(crate) fn first_blocked(grid: &Grid) -> Option<usize>
+    ensures { MatchOption result (Never (IsBlocked grid.now)) (IsFirst (IsBlocked grid.now)) }
+{
+    for i in 0..grid.parts().len() {
+        if is_blocked(grid, i) {
+            return Some(i);
+        }
+    }
+    None
+}
