@@ -1,7 +1,6 @@
 -- What is answered to the bytes of an input.
-use Rattle.std.proofs.Common.{◌≡◌, ◌<◌, ℕ, List, [], ◌∷◌, ◌++◌, All, refl, sym, subst, ◌∙◌, length, slice_index, inl, inr, ◌⊎◌, suc, arith}
-use Rattle.bt_net.specs.Network.{Network, IsNetwork}
-use Rattle.bt_net.specs.NetText.{BeginsWithNet}
+use Rattle.std.proofs.Common.{◌≡◌, ◌<◌, ℕ, List, ◌∷◌, ◌++◌, All, refl, sym, subst, ◌∙◌, length, slice_index, inl, inr, ◌⊎◌, arith}
+use Rattle.bt_net.specs.Network.{Network}
 use Rattle.bt_flow.specs.declared.property.Property.{Property}
 use Rattle.bt_flow.specs.declared.state.State.{State}
 use Rattle.bt_flow.specs.States.{Fits, Flows, StandsFor}
@@ -11,11 +10,10 @@ use Rattle.bt_flow.specs.StateLines.{IsWrongLine}
 use Rattle.bt_text.specs.Blanks.{IsBlank, SkipsBlanks}
 use Rattle.bt_top.specs.declared.answer.Answer.{Answer}
 use Rattle.bt_top.specs.declared.answer.Answer.TheVariants as answer
-use Rattle.bt_top.specs.Inputs.{IsDesign, IsCertificate, IsRestChecked, IsAnswerTo, IsJudged, IsChecked, IsRefusedAt}
-
--- a network that was read, and what follows its text
-pub design : (bytes rest more : List ℕ) (n : Network) → IsNetwork n → rest ≡ more → BeginsWithNet bytes n more → IsDesign bytes n rest
-design bytes rest more n net e h = record { network = net; begins = subst (λ x. BeginsWithNet bytes n x) (sym e) h }
+use Rattle.bt_top.proofs.Blanks.{after_blanks}
+use Rattle.bt_top.proofs.OneDesign.{one_design}
+use Rattle.bt_top.specs.Designs.{IsDesign}
+use Rattle.bt_top.specs.Inputs.{IsCertificate, IsRestChecked, IsAnswerTo, IsJudged, IsChecked, IsRefusedAt}
 
 -- a state that was read after the blanks
 pub certificate : (rest text : List ℕ) (n : Network) (p : Property) (t : State) → SkipsBlanks rest text → IsStateText p t text → Fits n t
@@ -39,24 +37,21 @@ judged_rest rest n p t a h right =
     rest_checked (answer.WideState u k) h j = (t, h, j)
     rest_checked (answer.NotBreaking u k) h j = (t, h, j)
     rest_checked answer.Usage h j = (t, h, j)
-    rest_checked (answer.NetLine k) h j = (t, h, j)
-    rest_checked answer.TooLarge h j = (t, h, j)
-    rest_checked answer.NoEnds h j = (t, h, j)
+    rest_checked (answer.Refused r) h j = (t, h, j)
+    rest_checked (answer.Recovered m) h j = (t, h, j)
     rest_checked answer.TooLong h j = (t, h, j)
 
--- the answer to all of the bytes, from that to what follows the network's text
-pub checked : (bytes rest : List ℕ) (n : Network) (p : Property) (a : Answer) → IsDesign bytes n rest
-    → ((m : Network) (more : List ℕ) → IsDesign bytes m more → (n ≡ m) × (rest ≡ more)) → IsRestChecked rest n p a → IsChecked p bytes a
-checked bytes rest n p (answer.CertLine k) h only none =
-    record { network = n; rest = rest; design = h; refused = none; none = λ m t w. let same = only m w.rest w.design in none.none t (subst (λ x. IsCertificate x n p t) (sym same.1) (subst (λ x. IsCertificate w.rest x p t) (sym same.0) w.certificate)) }
-checked bytes rest n p (answer.Breaks q) h only j = (n, j.0, record { rest = rest; design = h; certificate = j.1 }, j.2)
-checked bytes rest n p (answer.WideState u k) h only j = (n, j.0, record { rest = rest; design = h; certificate = j.1 }, j.2)
-checked bytes rest n p (answer.NotBreaking u k) h only j = (n, j.0, record { rest = rest; design = h; certificate = j.1 }, j.2)
-checked bytes rest n p answer.Usage h only j = (n, j.0, record { rest = rest; design = h; certificate = j.1 }, j.2)
-checked bytes rest n p (answer.NetLine k) h only j = absurd (j.2.right j.2.state j.2.stands)
-checked bytes rest n p answer.TooLarge h only j = absurd (j.2.right j.2.state j.2.stands)
-checked bytes rest n p answer.NoEnds h only j = absurd (j.2.right j.2.state j.2.stands)
-checked bytes rest n p answer.TooLong h only j = (n, j.0, record { rest = rest; design = h; certificate = j.1 }, j.2)
+-- the answer to all of the bytes, from that to what follows the design
+pub checked : (bytes rest : List ℕ) (n : Network) (p : Property) (a : Answer) → IsDesign bytes n rest → IsRestChecked rest n p a → IsChecked p bytes a
+checked bytes rest n p (answer.CertLine k) h none =
+    record { network = n; rest = rest; design = h; refused = none; none = λ m t w. let same = one_design bytes n m rest w.rest h w.design in none.none t (subst (λ x. IsCertificate x n p t) (sym same.1) (subst (λ x. IsCertificate w.rest x p t) (sym same.0) w.certificate)) }
+checked bytes rest n p (answer.Breaks q) h j = (n, j.0, record { rest = rest; design = h; certificate = j.1 }, j.2)
+checked bytes rest n p (answer.WideState u k) h j = (n, j.0, record { rest = rest; design = h; certificate = j.1 }, j.2)
+checked bytes rest n p (answer.NotBreaking u k) h j = (n, j.0, record { rest = rest; design = h; certificate = j.1 }, j.2)
+checked bytes rest n p answer.Usage h j = (n, j.0, record { rest = rest; design = h; certificate = j.1 }, j.2)
+checked bytes rest n p (answer.Refused r) h j = absurd (j.2.right j.2.state j.2.stands)
+checked bytes rest n p (answer.Recovered m) h j = (n, j.0, record { rest = rest; design = h; certificate = j.1 }, j.2)
+checked bytes rest n p answer.TooLong h j = (n, j.0, record { rest = rest; design = h; certificate = j.1 }, j.2)
 
 no_blank : (n : ℕ) → n ≡ 110 → IsBlank n → ⊥
 no_blank n e (inl f) = absurd (omega arith)
@@ -71,15 +66,6 @@ text_begins p t text is some h = begins is.text
     begins : (text ≡ state_text p t) ⊎ ((blanks : List ℕ) × All IsBlank blanks × (text ≡ state_text p t ++ 10 ∷ blanks)) → ⊥
     begins (inl e) = no_blank 110 refl (subst (λ x. IsBlank (slice_index x 0)) e h)
     begins (inr k) = no_blank 110 refl (subst (λ x. IsBlank (slice_index x 0)) k.2 h)
-
--- what follows blanks is one text
-pub after_blanks : (a b x y : List ℕ) → All IsBlank a → All IsBlank b → (0 < length x → IsBlank (slice_index x 0) → ⊥)
-    → (0 < length y → IsBlank (slice_index y 0) → ⊥) → a ++ x ≡ b ++ y → x ≡ y
-after_blanks [] [] x y p q h k e = e
-after_blanks [] (c ∷ b) x y p q h k e = absurd (subst (λ z. (0 < length z → IsBlank (slice_index z 0) → ⊥)) e h (omega arith) (q 0 0 (omega arith)))
-after_blanks (c ∷ a) [] x y p q h k e = absurd (subst (λ z. (0 < length z → IsBlank (slice_index z 0) → ⊥)) (sym e) k (omega arith) (p 0 0 (omega arith)))
-after_blanks (c ∷ a) (d ∷ b) x y p q h k e =
-    after_blanks a b x y (λ i z lt. p (suc i) z (omega arith)) (λ i z lt. q (suc i) z (omega arith)) h k (cc)
 
 -- what follows the blanks is no state, so neither are all of the bytes
 pub refused : (rest text : List ℕ) (n : Network) (p : Property) (k : ℕ) → SkipsBlanks rest text → IsWrongLine n p text k

@@ -1,4 +1,9 @@
 pub mod WordLists
+pub mod Blanks
+pub mod Told
+pub mod OneNetwork
+pub mod OneJson
+pub mod OneDesign
 pub mod Checks
 pub mod Answered
 pub mod SameLists

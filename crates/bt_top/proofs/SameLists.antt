@@ -74,9 +74,8 @@ same_answer n p t u s (answer.Breaks q) e h = (h.0, h.1, same_needs n p t u Hold
 same_answer n p t u s (answer.NotBreaking v a) e h = (h.0, same_needs n p t u (Fails v a) e h.1)
 same_answer n p t u s (answer.WideState v a) e h = (h.0, h.1, h.2, same_wide n p t u h.0 e h.3)
 same_answer n p t u s answer.Usage e h = h
-same_answer n p t u s (answer.NetLine k) e h = h
-same_answer n p t u s answer.TooLarge e h = h
-same_answer n p t u s answer.NoEnds e h = h
+same_answer n p t u s (answer.Refused r) e h = h
+same_answer n p t u s (answer.Recovered m) e h = h
 same_answer n p t u s (answer.CertLine k) e h = h
 same_answer n p t u s answer.TooLong e h = h
 

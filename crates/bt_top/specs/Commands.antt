@@ -1,12 +1,19 @@
--- The words of commands.
+-- The words of commands, and how much a command reads.
 use Rattle.std.specs.Prelude.{◌≡◌, ℕ, List, [], ◌∷◌, codes}
-use Rattle.bt_flow.specs.declared.property.Property.{Property}
 use Rattle.bt_flow.specs.StateText.{property_name}
+use Rattle.bt_top.specs.declared.command.Command.{Command}
+use Rattle.bt_top.specs.declared.command.Command.TheVariants.{FlowCheck, Recover}
 
--- `flow-check` and the name of the property
-abbrev pub IsFlowCheck : Property → List (List ℕ) → Type 0
-IsFlowCheck p words = words ≡ codes "flow-check" ∷ property_name p ∷ []
+-- `flow-check` and the name of the property, or `recover` alone
+abbrev pub IsCommand : Command → List (List ℕ) → Type 0
+IsCommand (FlowCheck p) words = words ≡ codes "flow-check" ∷ property_name p ∷ []
+IsCommand Recover words = words ≡ codes "recover" ∷ []
 
 -- the words are no command
 abbrev pub IsUsage : List (List ℕ) → Type 0
-IsUsage words = (p : Property) → IsFlowCheck p words → ⊥
+IsUsage words = (command : Command) → IsCommand command words → ⊥
+
+-- the most bytes that a command reads: a certificate may be long
+abbrev pub input_limit : Command → ℕ
+input_limit (FlowCheck p) = 1073741824
+input_limit Recover = 16777216

@@ -1,4 +1,6 @@
+pub mod Refusals
 pub mod Answers
 pub mod Commands
+pub mod Designs
 pub mod Inputs
 pub mod Endings

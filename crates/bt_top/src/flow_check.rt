@@ -3,8 +3,9 @@ ghost use Rattle.bt_flow.specs.States.{Fits, Flows, StandsFor};
 ghost use Rattle.bt_top.specs.Inputs.{IsChecked, IsRestChecked, IsAnswerTo};
 
 use crate::answer::Answer;
+use crate::design::{DesignFault, read_design};
 use bt_flow::{Judgement, Property, State, StateFault, WideSum, breaks, read_state};
-use bt_net::{Net, NetFault};
+use bt_net::Net;
 use bt_text::skip_blanks;
 use std::alloc::{AllocError, Global};
 
@@ -12,19 +13,17 @@ use std::alloc::{AllocError, Global};
 pub fn check(alloc: Global, property: Property, bytes: &[u8]) -> Result<Answer, AllocError>
     ensures { IfOk result (λ a. IsChecked property bytes.now a) }
 {
-    match bt_net::read(alloc, bytes) {
-        Ok(read) => {
-            let (_, rest) = bytes.split_at(read.used);
-            check_rest(alloc, property, &read.net, rest)
+    match read_design(alloc, bytes) {
+        Ok(design) => {
+            let (_, rest) = bytes.split_at(design.used);
+            check_rest(alloc, property, &design.net, rest)
         }
-        Err(NetFault::NetLine(line)) => Ok(Answer::NetLine(line)),
-        Err(NetFault::TooLarge) => Ok(Answer::TooLarge),
-        Err(NetFault::NoEnds) => Ok(Answer::NoEnds),
-        Err(NetFault::Memory) => Err(AllocError),
+        Err(DesignFault::Refused(refusal)) => Ok(Answer::Refused(refusal)),
+        Err(DesignFault::Memory) => Err(AllocError),
     }
 }
 
-/// The answer to what follows a network's text.
+/// The answer to what follows a design.
 fn check_rest(
     alloc: Global,
     property: Property,

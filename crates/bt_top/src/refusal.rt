@@ -1,0 +1,46 @@
+use bt_entities::Member;
+
+/// Why a design is refused. The numbers are offsets of bytes, indices of entities, and lines from 1.
+#[derive(Clone, Copy, Debug, PartialEq, Eq)]
+pub enum Refusal {
+    /// The byte at this offset can't go on JSON text, or the text ends there; or something else than
+    /// blanks begins there, after the JSON of a design.
+    Json(usize),
+    /// The 65th open list or object begins at this offset.
+    Deep(usize),
+    /// The name that begins at this offset is in its object already.
+    DuplicateKey(usize),
+    /// The JSON is no blueprint.
+    NotBlueprint,
+    /// The JSON is a book of blueprints.
+    Book,
+    /// The blueprint has more than 4096 entities.
+    TooMany,
+    /// The entity's name is of no part.
+    Unsupported(usize),
+    /// The entity's first member that is wrong.
+    BadMember(usize, Member),
+    /// The entity isn't on the grid of entity 0.
+    OffGrid(usize),
+    /// The entity's tier isn't that of entity 0.
+    MixedTier(usize),
+    /// The entity's first member that no balancer has.
+    Special(usize, Member),
+    /// The second entity shares a cell with the first one.
+    Overlap(usize, usize),
+    /// The underground piece is in no pair.
+    Unpaired(usize),
+    /// The belt has two or more feeders, or a part looks at the underground piece from a side.
+    SideLoad(usize),
+    /// The part looks at a part that takes nothing from there.
+    Blocked(usize),
+    /// The part is on a ring of belts and underground pieces.
+    Ring(usize),
+    /// This line, from 1, may not stand in the network text; or something else than blanks begins on
+    /// it, after the network text of a design.
+    NetLine(usize),
+    /// The network has more than 2048 inputs, outputs, splitters or edges.
+    TooLarge,
+    /// The network has no input or no output.
+    NoEnds,
+}
