@@ -14,3 +14,6 @@ pub use decimal::Decimal;
 pub use fault::JsonFault;
 pub use reader::read;
 pub use tree::Tree;
+
+#[cfg(test)]
+mod tests;
