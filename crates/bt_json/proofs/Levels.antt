@@ -113,7 +113,7 @@ colon_breaks bytes at names vs n k no_blank no_colon = elim (cases_lt at (length
 ]
 
 -- what a set of names tells of a name
-any_along : {X : Type 0} (f : X → List ℕ) (n : List ℕ) (xs : List X) → list_any (bytes_eq n) (map f xs) ≡ list_any (λ x. bytes_eq n (f x)) xs
+pub any_along : {X : Type 0} (f : X → List ℕ) (n : List ℕ) (xs : List X) → list_any (bytes_eq n) (map f xs) ≡ list_any (λ x. bytes_eq n (f x)) xs
 any_along f n [] = refl
 any_along f n (x ∷ xs) = ap (λ b. bytes_eq n (f x) || b) (any_along f n xs)
 

@@ -22,3 +22,4 @@ pub mod Limits
 pub mod Dues
 pub mod Events
 pub mod Results
+pub mod NameLemmas

@@ -11,7 +11,7 @@ use Rattle.std.proofs.lemmas.Bool.Decides.{nat_tests}
 use Rattle.std.proofs.lemmas.Nat.{pow-add}
 use Rattle.std.proofs.Math.Nat.{pow-le-pow_right}
 use Rattle.bt_json.specs.Grammar.{short_escape}
-use Rattle.bt_json.specs.Reading.{bad, Stop, step, Place, hex, tail, between, escape, InText, reads, no_text, with_unit, step_hex, flushed, lead_of, step_short, step_lead, behind_tail, step_between, in_text, finish_text}
+use Rattle.bt_json.specs.Reading.{bad, Stop, step, Place, hex, tail, between, escape, InText, reads, no_text, with_unit, step_hex, flushed, lead_of, step_short, step_lead, behind_tail, step_between, in_text, finish_text, Role, Frame}
 use Rattle.bt_json.specs.Running.{rest_of, rest_after, Around, within, step_within, with_plain, after_plain, is_plain}
 use Rattle.bt_json.proofs.Running.{rest_more, rest_end}
 
@@ -304,3 +304,9 @@ closing bytes at t lt e =
 
 pub must_be_wide : (b : ℕ) → is_plain b ≡ false → b ≢ 34 → b ≢ 92 → 32 ≤ b → 128 ≤ b
 must_be_wide b p q s c = grind (arith, nat_tests)
+
+-- a text of such characters alone
+pub closing_plain : (bytes : List ℕ) (at : ℕ) (role : Role) (k : List Frame) (plain : List ℕ) → at < length bytes → get_or bytes at 0 ≡ 34
+    → rest_of bytes at (within (after_plain (record { out = []; high = None; role = role; frames = k }) plain) between) ≡ rest_after bytes (at + 1) (finish_text true at plain role k)
+closing_plain bytes at role k [] lt quote = closing bytes at (record { out = []; high = None; role = role; frames = k }) lt quote
+closing_plain bytes at role k (b ∷ plain) lt quote = closing bytes at (record { out = b ∷ plain; high = None; role = role; frames = k }) lt quote

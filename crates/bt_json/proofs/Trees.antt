@@ -5,15 +5,14 @@ use Rattle.std.specs.Prelude.{option_and_then, string_bytes, position, not, nat_
 use Rattle.std.specs.List.{slice_get, position_or_len}
 use Rattle.std.specs.Str.{bytes_eq}
 use Rattle.std.specs.Global.{Global}
-use Rattle.indexmap.specs.IndexSet.{IndexSet}
+use Rattle.std.specs.declared.rc.Rc.{Rc}
+use Rattle.bt_json.specs.Names.{Set, keys_of}
 use Rattle.bt_json.specs.Json.{Json, null, boolean, number, text, list, object, value_at}
 use Rattle.bt_json.specs.Stands.{json_of, number_of, items_of, members_of}
 use Rattle.bt_json.specs.declared.decimal.Decimal.{Decimal}
 use Rattle.bt_json.specs.declared.tree.Tree.{Tree, the_lemmas}
 use Rattle.bt_json.specs.declared.tree.Tree.{Null, Bool as Boolean, Num, Text}
 use Rattle.bt_json.specs.declared.tree.Tree.TheViews as views
-use Rattle.std.specs.declared.hash.FoldHasher.{FoldHasher}
-use Rattle.std.specs.declared.hash.BuildHasherDefault.{BuildHasherDefault}
 
 -- one place further on
 abbrev place : Bool → ℕ → ℕ → Option ℕ
@@ -39,7 +38,7 @@ value_at-members_of (k ∷ ks) (v ∷ vs) name = ap (cond (bytes_eq name (string
 pub json-List : (v : Vec Tree Global) → json_of (views.List v) ≡ list (items_of (map json_of v.items))
 json-List v = search (rules, the_lemmas)
 
-pub json-Object : (names : IndexSet (String Global) (BuildHasherDefault FoldHasher)) (v : Vec Tree Global) → json_of (views.Object names v) ≡ object (members_of (map string_bytes names.keys) (map json_of v.items))
+pub json-Object : (names : Rc Set Global) (v : Vec Tree Global) → json_of (views.Object names v) ≡ object (members_of (keys_of names.value) (map json_of v.items))
 json-Object names v = search (rules, the_lemmas)
 
 pub json-Text : (s : String Global) → json_of (Text s) ≡ text (string_bytes s)

@@ -10,3 +10,4 @@ pub mod Running
 pub mod Numerals
 pub mod Tails
 pub mod Unescaping
+pub mod Names

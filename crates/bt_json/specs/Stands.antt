@@ -26,7 +26,7 @@ json_step (Tree-F.Bool b) = boolean b
 json_step (Tree-F.Num d) = number (number_of d)
 json_step (Tree-F.Text t) = text (string_bytes t)
 json_step (Tree-F.List v) = list (items_of v.items)
-json_step (Tree-F.Object names v) = object (members_of (map string_bytes names.keys) v.items)
+json_step (Tree-F.Object names v) = object (members_of (map string_bytes names.value.keys) v.items)
 
 -- the value that a tree stands for
 abbrev pub json_of : Tree → Json

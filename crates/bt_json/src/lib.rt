@@ -4,6 +4,7 @@
 mod decimal;
 mod fault;
 mod kind;
+mod names;
 mod number;
 mod reader;
 mod scan;

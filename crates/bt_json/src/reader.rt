@@ -1,22 +1,23 @@
-ghost use Rattle.std.specs.Prelude.{◌≡◌, ◌≢◌, ◌≤◌, ◌<◌, ◌-◌, ◌+◌, [], ◌∷◌, ◌++◌, length, slice_index, true, false, IfOk, IfErr, List, ℕ, map, string_bytes};
+ghost use Rattle.std.specs.Prelude.{◌≡◌, ◌≢◌, ◌≤◌, ◌<◌, ◌-◌, ◌+◌, [], ◌∷◌, ◌++◌, length, slice_index, true, false, IfOk, IfErr, OnOk, List, None, ℕ, map, string_bytes};
 ghost use Rattle.bt_json.specs.Json.{Json as JsonValue, number, text};
 ghost use Rattle.bt_json.specs.Stands.{json_of};
 ghost use Rattle.bt_json.specs.Bytes.{kind_of};
-ghost use Rattle.bt_json.specs.Reading.{Frame, in_list, in_object, due, opened_list, opened_object, behind, name_due, deliver, reading, found};
+ghost use Rattle.bt_json.specs.Reading.{Frame, Role, in_text, between, in_list, in_object, due, opened_list, opened_object, behind, name_due, deliver, reading, found};
 ghost use Rattle.bt_json.specs.Answers.{depth_of, HasDistinctNames, IsFront, IsFirst, IsReadAs, IsRefusedAs};
 ghost use Rattle.bt_json.specs.declared.fault.JsonFault.{JsonFault};
 ghost use Rattle.bt_json.specs.declared.fault.JsonFault.TheVariants.{Memory};
+ghost use Rattle.bt_json.specs.Names.{names_of, TakesName};
 ghost use Rattle.bt_json.specs.Running.{IsLater, rest_of, rest_after, Faults};
 
 use crate::decimal::Decimal;
 use crate::fault::JsonFault;
 use crate::kind::{Kind, kind_of};
+use crate::names::{Known, NamesSoFar};
 use crate::number::Numeral;
 use crate::scan::{expect_byte, skip_blanks, skip_word, stands_at};
-use crate::text::Unescaped;
+use crate::text::{Unescaped, plain_text};
 use crate::tree::Tree;
-use indexmap::IndexSet;
-use std::alloc::Global;
+use std::alloc::{AllocError, Global};
 
 /// How many levels of lists and objects there may be.
 const LEVELS: usize = 64;
@@ -28,6 +29,7 @@ fn read_value(
     bytes: &[u8],
     start: usize,
     depth: usize,
+    known: &mut Known,
 ) -> Result<(Tree, usize), JsonFault>
     requires within { start ≤ length bytes.now }
     requires shallow { depth ≤ 64 }
@@ -44,13 +46,13 @@ fn read_value(
             if depth >= LEVELS {
                 return Err(JsonFault::Deep(at));
             }
-            read_list(alloc, bytes, at + 1, depth + 1)
+            read_list(alloc, bytes, at + 1, depth + 1, known)
         }
         Kind::ObjectOpens => {
             if depth >= LEVELS {
                 return Err(JsonFault::Deep(at));
             }
-            read_object(alloc, bytes, at + 1, depth + 1)
+            read_object(alloc, bytes, at + 1, depth + 1, known)
         }
         Kind::Quote => {
             let (text, end) = Unescaped::read(alloc, bytes, at + 1)?;
@@ -87,6 +89,7 @@ fn read_list(
     bytes: &[u8],
     start: usize,
     depth: usize,
+    known: &mut Known,
 ) -> Result<(Tree, usize), JsonFault>
     requires within { start ≤ length bytes.now }
     requires shallow { depth ≤ 64 }
@@ -101,7 +104,7 @@ fn read_list(
         return Ok((Tree::List(items), at + 1));
     }
     loop {
-        let (item, end) = read_value(alloc, bytes, at, depth)?;
+        let (item, end) = read_value(alloc, bytes, at, depth, known)?;
         items.push(item)?;
         let next = skip_blanks(bytes, end);
         if stands_at(bytes, next, b']') {
@@ -113,28 +116,64 @@ fn read_list(
     }
 }
 
+/// A name behind its opening quote, put behind the names before unless it is among them. Whether it
+/// wasn't, and the place behind its closing quote.
+fn take_name(
+    alloc: Global,
+    bytes: &[u8],
+    start: usize,
+    names: &mut NamesSoFar,
+    known: &Known,
+) -> Result<(bool, usize), JsonFault>
+    requires { start ≤ length bytes.now }
+    ensures later { IfOk result (λ r. (start < r.1) × (r.1 ≤ length bytes.now)) }
+    ensures ok { IfOk result (TakesName bytes.now start (names_of names.old) (names_of names.new)) }
+    ensures err { IfErr result (λ f. (role : Role) (k : List Frame) → Faults f (rest_of bytes.now start (in_text [] None between role k))) }
+{
+    if let Some(end) = plain_text(bytes, start) {
+        let added = match std::str::from_utf8(&bytes[start..end]) {
+            Ok(name) => names.push(alloc, name, known)?,
+            Err(_) => unreachable!(),
+        };
+        return Ok((added, end + 1));
+    }
+    let (name, end) = Unescaped::read(alloc, bytes, start)?;
+    let added = names.push(alloc, name.as_str(), known)?;
+    Ok((added, end))
+}
+
 /// A name and the colon behind it, put behind the names before. The place behind the colon.
 fn read_name(
     alloc: Global,
     bytes: &[u8],
     start: usize,
-    names: &mut IndexSet<String>,
+    names: &mut NamesSoFar,
+    known: &Known,
 ) -> Result<usize, JsonFault>
     requires { start ≤ length bytes.now }
     ensures later { IfOk result (λ n. (start < n) × (n ≤ length bytes.now)) }
-    ensures ok { IfOk result (λ n. (vs : List JsonValue) (k : List Frame) → rest_of bytes.now start (name_due (map string_bytes names.old.keys) vs k) ≡ rest_of bytes.now n (due (in_object (map string_bytes names.new.keys) vs ∷ k))) }
-    ensures err { IfErr result (λ f. (vs : List JsonValue) (k : List Frame) → Faults f (rest_of bytes.now start (name_due (map string_bytes names.old.keys) vs k))) }
+    ensures ok { IfOk result (λ n. (vs : List JsonValue) (k : List Frame) → rest_of bytes.now start (name_due (names_of names.old) vs k) ≡ rest_of bytes.now n (due (in_object (names_of names.new) vs ∷ k))) }
+    ensures err { IfErr result (λ f. (vs : List JsonValue) (k : List Frame) → Faults f (rest_of bytes.now start (name_due (names_of names.old) vs k))) }
 {
     let quote = skip_blanks(bytes, start);
     expect_byte(bytes, quote, b'"')?;
-    let (name, end) = Unescaped::read(alloc, bytes, quote + 1)?;
-    let (_, added) = names.insert_full(name)?;
+    let (added, end) = take_name(alloc, bytes, quote + 1, names, known)?;
     if !added {
         return Err(JsonFault::DuplicateKey(quote));
     }
     let colon = skip_blanks(bytes, end);
     expect_byte(bytes, colon, b':')?;
     Ok(colon + 1)
+}
+
+/// Makes room for as many values as there are likely to be, where there is none yet.
+fn make_room(values: &mut Vec<Tree>, names: &NamesSoFar) -> Result<(), AllocError>
+    ensures { OnOk result (values.new.items ≡ values.old.items) }
+{
+    if values.capacity() == 0 {
+        values.reserve_exact(names.likely_len())?;
+    }
+    Ok(())
 }
 
 /// The object behind its brace, itself one of that many open lists and objects.
@@ -144,6 +183,7 @@ fn read_object(
     bytes: &[u8],
     start: usize,
     depth: usize,
+    known: &mut Known,
 ) -> Result<(Tree, usize), JsonFault>
     requires within { start ≤ length bytes.now }
     requires shallow { depth ≤ 64 }
@@ -152,19 +192,21 @@ fn read_object(
     ensures ok { IfOk result (λ r. (k : List Frame) → length k + 1 ≡ depth → rest_of bytes.now start (opened_object k) ≡ rest_after bytes.now r.1 (deliver (json_of r.0) k r.1)) }
     ensures err { IfErr result (λ f. (k : List Frame) → length k + 1 ≡ depth → Faults f (rest_of bytes.now start (opened_object k))) }
 {
-    let mut names = IndexSet::new(alloc);
+    let mut names = known.no_names()?;
     let mut values = Vec::new(alloc);
     let mut at = skip_blanks(bytes, start);
     if stands_at(bytes, at, b'}') {
+        let names = names.finish(alloc, known)?;
         return Ok((Tree::Object { names, values }, at + 1));
     }
     loop {
-        let due = read_name(alloc, bytes, at, &mut names)?;
-        let (value, end) = read_value(alloc, bytes, due, depth)?;
+        let due = read_name(alloc, bytes, at, &mut names, known)?;
+        make_room(&mut values, &names)?;
+        let (value, end) = read_value(alloc, bytes, due, depth, known)?;
         values.push(value)?;
         let next = skip_blanks(bytes, end);
         if stands_at(bytes, next, b'}') {
-            names.shrink_to_fit();
+            let names = names.finish(alloc, known)?;
             values.shrink_to_fit();
             return Ok((Tree::Object { names, values }, next + 1));
         }
@@ -178,7 +220,8 @@ fn read_front(alloc: Global, bytes: &[u8]) -> Result<(Tree, usize), JsonFault>
     ensures ok { IfOk result (λ r. reading bytes.now ≡ found (json_of r.0) r.1) }
     ensures err { IfErr result (λ f. Faults f (reading bytes.now)) }
 {
-    read_value(alloc, bytes, 0, 0)
+    let mut known = Known::new(alloc)?;
+    read_value(alloc, bytes, 0, 0, &mut known)
 }
 
 /// Reads blanks and the JSON value behind them (RFC 8259) at the front of the bytes, and gives the

@@ -10,6 +10,7 @@ ghost use Rattle.bt_json.specs.Running.{IsLater, rest_of, rest_after, Faults, Ar
 ghost use Rattle.bt_json.specs.declared.fault.JsonFault.TheVariants.{Json, Memory};
 
 use crate::fault::JsonFault;
+use crate::scan::stands_at;
 use std::alloc::{AllocError, Global};
 
 /// The bytes that may come next in a character of several bytes, and how many more come after.
@@ -227,6 +228,23 @@ fn plain_end(bytes: &[u8], start: usize) -> usize
         at += 1;
     }
     at
+}
+
+/// The place of the closing quote of the text behind an opening quote, where each character is of
+/// one byte and stands for itself.
+pub fn plain_text(bytes: &[u8], start: usize) -> Option<usize>
+    requires { start ≤ length bytes.now }
+    ensures later { IfSome result (λ n. (start ≤ n) × (n < length bytes.now)) }
+    ensures utf8 { IfSome result (λ n. IsUtf8 (slice_range bytes.now start n)) }
+    ensures ok { IfSome result (λ n. (role : Role) (k : List Frame) → rest_of bytes.now start (in_text [] None between role k)
+        ≡ rest_after bytes.now (n + 1) (finish_text true n (slice_range bytes.now start n) role k)) }
+{
+    let end = plain_end(bytes, start);
+    if stands_at(bytes, end, b'"') {
+        Some(end)
+    } else {
+        None
+    }
 }
 
 impl Unescaped {

@@ -5,6 +5,7 @@ ghost use Rattle.bt_json.specs.Stands.{json_of, members_of};
 
 use crate::decimal::Decimal;
 use indexmap::IndexSet;
+use std::rc::Rc;
 
 /// A JSON value (RFC 8259).
 #[derive(Drop)]
@@ -15,9 +16,10 @@ pub enum Tree {
     /// Its escapes are read.
     Text(String),
     List(Vec<Tree>),
-    /// The member of a name is the value at that name's place.
+    /// The member of a name is the value at that name's place. Objects with the same names in the
+    /// same order may share them.
     Object {
-        names: IndexSet<String>,
+        names: Rc<IndexSet<String>>,
         values: Vec<Tree>,
     },
 }

@@ -2,6 +2,7 @@ use Rattle.std.proofs.Common.{arith, true, false, List, ◌≡◌, ◌<◌, ◌+
 use Rattle.std.specs.Prelude.{string_bytes}
 use Rattle.std.proofs.lemmas.Result.{err_from_is_err_and}
 use Rattle.std.proofs.lemmas.List.{map_push}
+use Rattle.bt_json.specs.Names.{names_of, keys_of}
 use Rattle.bt_json.specs.Json.{Json, null, boolean, text, list, object}
 use Rattle.bt_json.specs.Stands.{json_of, items_of, members_of}
 use Rattle.bt_json.specs.Bytes.{kind_of}
@@ -81,33 +82,37 @@ read_object-returns-then-stands_at-clause-ok t c = λ k e.
     let bs = c.args.bytes.now in
     let at = c.skip_blanks-at.result in
     let y = c.stands_at.ensures.yes c.if-stands_at.true in
-    let no_names : map string_bytes c.new-names.result.keys ≡ [] = ap (map string_bytes) c.new-names.ensures.empty in
-    let none : json_of (views.Object c.new-names.result c.new-values.result) ≡ object (members_of [] []) =
-    json-Object c.new-names.result c.new-values.result ∙ ap (λ ns. object (members_of ns (map json_of c.new-values.result.items))) no_names in
+    let set = c.in_ok-names-2.names in
+    let no_names : keys_of set.value ≡ [] = c.in_ok-names-2.ensures ∙ c.in_ok-names.ensures in
+    let none : json_of (views.Object set c.new-values.result) ≡ object (members_of [] []) =
+    json-Object set c.new-values.result ∙ ap₂ (λ ns ts. object (members_of ns (map json_of ts))) no_names c.new-values.ensures.items in
     c.skip_blanks-at.ensures.blanks (opened_object k) (skips_opened_object k) ∙ object_closes bs at k y.0 y.1 ∙ ap (λ v. rest_after bs (at + 1) (deliver v k (at + 1))) (sym none)
 
 pub read_object-loop-values-init : goal.read_object-loop-values-init
 read_object-loop-values-init t c =
     let bs = c.args.bytes.now in
     let at = c.skip_blanks-at.result in
-    let no_names : map string_bytes c.new-names.result.keys ≡ [] = ap (map string_bytes) c.new-names.ensures.empty in
+    let no_names : names_of c.in_ok-names.names ≡ [] = c.in_ok-names.ensures in
     record {
       from = c.skip_blanks-at.ensures.later.0;
       inside = c.skip_blanks-at.ensures.later.1;
       read = λ k e. c.skip_blanks-at.ensures.blanks (opened_object k) (skips_opened_object k) ∙ first_name bs at k c.skip_blanks-at.ensures.ends (c.stands_at.ensures.no c.if-stands_at.false)
-          ∙ ap (λ ns. rest_of bs at (name_due ns [] k)) (sym no_names) ∙ ap (λ ts. rest_of bs at (name_due (map string_bytes c.new-names.result.keys) (map json_of ts) k)) (sym c.new-values.ensures.items);
+          ∙ ap (λ ns. rest_of bs at (name_due ns [] k)) (sym no_names) ∙ ap (λ ts. rest_of bs at (name_due (names_of c.in_ok-names.names) (map json_of ts) k)) (sym c.new-values.ensures.items);
     }
 
 pub read_object-returns-then-stands_at-2-clause-ok : goal.read_object-returns-then-stands_at-2-clause-ok
 read_object-returns-then-stands_at-2-clause-ok t c = λ k e.
     let bs = c.args.bytes.now in
-    let names = map string_bytes c.read_name.new.names.keys in
+    let names = names_of c.read_name.new.names in
     let vs = map json_of c.loop-values.values.items in
     let v = json_of c.in_ok-value.value in
     let next = c.skip_blanks-next.result in
+    let set = c.in_ok-names-3.names in
+    let values = c.shrink_to_fit.new.self in
     let y = c.stands_at-in-loop-values.ensures.yes c.if-stands_at-2.true in
-    let made : json_of (views.Object c.shrink_to_fit.new.self c.shrink_to_fit-then-stands_at-2.new.self) ≡ object (members_of names (vs ++ v ∷ [])) =
-    json-Object c.shrink_to_fit.new.self c.shrink_to_fit-then-stands_at-2.new.self ∙ ap₂ (λ ns ts. object (members_of (map string_bytes ns) (map json_of ts))) c.shrink_to_fit.ensures.keys (c.shrink_to_fit-then-stands_at-2.ensures.items ∙ c.in_ok-push.ensures.items) ∙ ap (λ ws. object (members_of names ws)) (map_push json_of c.loop-values.values.items c.in_ok-value.value) in
+    let items : values.items ≡ c.loop-values.values.items ++ c.in_ok-value.value ∷ [] = c.shrink_to_fit.ensures.items ∙ c.in_ok-push.ensures.items ∙ ap (λ ts. ts ++ c.in_ok-value.value ∷ []) c.in_ok-make_room.ensures in
+    let made : json_of (views.Object set values) ≡ object (members_of names (vs ++ v ∷ [])) =
+    json-Object set values ∙ ap₂ (λ ns ts. object (members_of ns (map json_of ts))) c.in_ok-names-3.ensures items ∙ ap (λ ws. object (members_of names ws)) (map_push json_of c.loop-values.values.items c.in_ok-value.value) in
     let inner : length (in_object names vs ∷ k) ≡ c.args.depth = omega arith in
     c.loop-values.invariant.read k e ∙ c.in_ok-due.ensures.ok vs k ∙ c.in_ok-value.ensures.ok (in_object names vs ∷ k) inner ∙ c.skip_blanks-next.ensures.blanks (behind v (in_object names vs) k) (skips_behind v (in_object names vs) k)
     ∙ value_ends_object bs next v names vs k y.0 y.1 ∙ ap (λ w. rest_after bs (next + 1) (deliver w k (next + 1))) (sym made)
@@ -115,7 +120,7 @@ read_object-returns-then-stands_at-2-clause-ok t c = λ k e.
 pub read_object-returns-in_err-expect_byte-clause-err : goal.read_object-returns-in_err-expect_byte-clause-err
 read_object-returns-in_err-expect_byte-clause-err t c =
     let bs = c.args.bytes.now in
-    let names = map string_bytes c.read_name.new.names.keys in
+    let names = names_of c.read_name.new.names in
     let vs = map json_of c.loop-values.values.items in
     let v = json_of c.in_ok-value.value in
     let next = c.skip_blanks-next.result in
@@ -128,11 +133,11 @@ read_object-returns-in_err-expect_byte-clause-err t c =
 pub read_object-loop-values-preserved : goal.read_object-loop-values-preserved
 read_object-loop-values-preserved t c =
     let bs = c.args.bytes.now in
-    let names = map string_bytes c.read_name.new.names.keys in
+    let names = names_of c.read_name.new.names in
     let vs = map json_of c.loop-values.values.items in
     let v = json_of c.in_ok-value.value in
     let next = c.skip_blanks-next.result in
-    let grown : map json_of c.push.new.self.items ≡ vs ++ v ∷ [] = ap (map json_of) c.in_ok-push.ensures.items ∙ map_push json_of c.loop-values.values.items c.in_ok-value.value in
+    let grown : map json_of c.push.new.self.items ≡ vs ++ v ∷ [] = ap (map json_of) (c.in_ok-push.ensures.items ∙ ap (λ ts. ts ++ c.in_ok-value.value ∷ []) c.in_ok-make_room.ensures) ∙ map_push json_of c.loop-values.values.items c.in_ok-value.value in
     record {
       from = let d = c.in_ok-due.ensures.later in let a = c.in_ok-value.ensures.later in let b = c.skip_blanks-next.ensures.later in omega arith;
       inside = let o = c.in_ok-expect_byte.ensures.ok.0 in omega arith;

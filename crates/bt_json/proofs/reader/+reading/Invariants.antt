@@ -1,5 +1,5 @@
 use Rattle.std.proofs.Common.{◌≡◌, ◌≤◌, ◌+◌, ◌-◌, ◌*◌, ◌∷◌, List, map, length}
-use Rattle.std.specs.Prelude.{string_bytes}
+use Rattle.bt_json.specs.Names.{names_of}
 use Rattle.bt_json.specs.Stands.{json_of}
 use Rattle.bt_json.specs.Reading.{Frame, in_list, due, opened_list, opened_object, name_due}
 use Rattle.bt_json.specs.Running.{rest_of}
@@ -29,7 +29,7 @@ abbrev pub invariant-read_object-loop-values : goal.invariant-read_object-loop-v
 invariant-read_object-loop-values l = record {
   from : l.start ≤ l.at;
   inside : l.at ≤ length l.bytes;
-  read : (k : List Frame) → length k + 1 ≡ l.depth → rest_of l.bytes l.start (opened_object k) ≡ rest_of l.bytes l.at (name_due (map string_bytes l.names.keys) (map json_of l.values.items) k);
+  read : (k : List Frame) → length k + 1 ≡ l.depth → rest_of l.bytes l.start (opened_object k) ≡ rest_of l.bytes l.at (name_due (names_of l.names) (map json_of l.values.items) k);
 }
 
 abbrev pub decreases-read_object-loop-values : goal.decreases-read_object-loop-values

@@ -10,5 +10,5 @@ returns-in-Object c =
     let names = c.in-Object.names in
     let vs = c.in-Object.values in
     c.value_at_name.ensures
-    ∙ ap (λ ts. value_at (members_of (map string_bytes names.keys) (map json_of ts)) c.args.name.now) c.deref.ensures.value
+    ∙ ap (λ ts. value_at (members_of (map string_bytes names.value.keys) (map json_of ts)) c.args.name.now) c.deref.ensures.value
     ∙ sym (ap (λ j. member_of j c.args.name.now) (ap json_of c.in-Object.is ∙ json-Object names vs))

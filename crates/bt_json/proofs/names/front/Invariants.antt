@@ -1,0 +1,7 @@
+use Rattle.std.proofs.Common.{◌≡◌, take}
+use Rattle.std.specs.Prelude.{map, string_bytes}
+use Rattle.bt_json.specs.Names.{keys_of, front_of}
+use Rattle.bt_json.proofs.names.front.Given as goal
+
+abbrev pub invariant-loop-place : goal.invariant-loop-place
+invariant-loop-place l = keys_of l.front ≡ front_of l.set l.place

@@ -1,0 +1,38 @@
+-- The names of an object as far as it is read.
+use Rattle.std.specs.Prelude.{◌≡◌, ◌<◌, ℕ, List, map, take, length, not, false, Bool, string_bytes, ◌++◌, ◌∷◌, [], IsTrue, None, ◌-◌, ◌+◌, true}
+use Rattle.std.specs.List.{slice_index_or}
+use Rattle.std.specs.Global.{Global}
+use Rattle.std.specs.Prelude.{String}
+use Rattle.indexmap.specs.IndexSet.{IndexSet}
+use Rattle.std.specs.declared.hash.FoldHasher.{FoldHasher}
+use Rattle.std.specs.declared.hash.BuildHasherDefault.{BuildHasherDefault}
+use Rattle.bt_json.specs.Reading.{Role, Frame, has_name, in_text, between, finish_text}
+use Rattle.bt_json.specs.Running.{rest_of, rest_after}
+use Rattle.bt_json.specs.declared.names.NamesSoFar.{NamesSoFar}
+use Rattle.bt_json.specs.declared.names.NamesSoFar.TheVariants.{Front, Own}
+
+abbrev pub Set : Type 0
+Set = IndexSet (String Global) (BuildHasherDefault FoldHasher)
+
+abbrev pub keys_of : Set → List (List ℕ)
+keys_of set = map string_bytes set.keys
+
+-- the first names of a set, that many
+abbrev pub front_of : Set → ℕ → List (List ℕ)
+front_of set count = take count (keys_of set)
+
+abbrev pub names_of : NamesSoFar → List (List ℕ)
+names_of (Front set count) = front_of set.value count
+names_of (Own set) = keys_of set
+
+-- the name with that place is this one, and stands at no place before
+pub record GoesOn (names : List (List ℕ)) (count : ℕ) (name : List ℕ) : Type 0 where
+  pub next : take (count + 1) names ≡ take count names ++ name ∷ []
+  pub new : has_name (take count names) name ≡ false
+
+-- A name was read that ends before that place. It was put behind the others, unless it is among them.
+pub record TakesName (bytes : List ℕ) (start : ℕ) (old new : List (List ℕ)) (taken : Bool × ℕ) : Type 0 where
+  pub name : List ℕ
+  pub read : (role : Role) (k : List Frame) → rest_of bytes start (in_text [] None between role k) ≡ rest_after bytes taken.1 (finish_text true (taken.1 - 1) name role k)
+  pub added : taken.0 ≡ not (has_name old name)
+  pub names : IsTrue taken.0 → new ≡ old ++ name ∷ []

@@ -1,0 +1,215 @@
+ghost use Rattle.std.specs.Prelude.{◌≡◌, ◌<◌, ◌+◌, ◌^◌, ◌++◌, ◌∷◌, [], take, length, slice_index_or, not, IsTrue, IfOk, IfSome, map, string_bytes};
+ghost use Rattle.bt_json.specs.Reading.{has_name};
+ghost use Rattle.bt_json.specs.Names.{names_of, keys_of, front_of, GoesOn};
+
+use indexmap::IndexSet;
+use std::alloc::{AllocError, Global};
+use std::rc::Rc;
+
+/// How many sets of names are kept.
+const SETS: usize = 16;
+
+/// How many names a kept set has at most.
+const NAMES: usize = 32;
+
+/// Sets of names that objects had which were read before. Objects with the same names in the same
+/// order share their set.
+#[derive(Drop)]
+pub struct Known {
+    none: Rc<IndexSet<String>>,
+    sets: Vec<Rc<IndexSet<String>>>,
+    /// The place of the set that has been kept for longest.
+    oldest: usize,
+    ghost empty: { none.value.keys ≡ [] },
+}
+
+/// The names of an object so far.
+#[derive(Drop)]
+pub enum NamesSoFar {
+    /// The first names of a kept set, that many.
+    Front(Rc<IndexSet<String>>, usize),
+    Own(IndexSet<String>),
+}
+
+/// Whether that name has that place in the set.
+fn stands_next(set: &IndexSet<String>, place: usize, name: &str) -> bool
+    ensures next { IsTrue result → GoesOn (keys_of set.now) place name.now }
+    ensures small { IsTrue result → place + 1 < 2 ^ 64 }
+{
+    let names = set.as_slice();
+    place < names.len() && names[place].as_str() == name
+}
+
+/// Whether both sets begin with the same names, that many.
+fn begin_alike(one: &IndexSet<String>, other: &IndexSet<String>, count: usize) -> bool
+    ensures { IsTrue result → front_of one.now count ≡ front_of other.now count }
+{
+    let one = one.as_slice();
+    let other = other.as_slice();
+    if one.len() < count || other.len() < count {
+        return false;
+    }
+    for place in 0..count {
+        if one[place].as_str() != other[place].as_str() {
+            return false;
+        }
+    }
+    true
+}
+
+/// Puts the name behind the others, unless it is among them: whether it wasn't.
+fn insert(alloc: Global, set: &mut IndexSet<String>, name: &str) -> Result<bool, AllocError>
+    ensures added { IfOk result (λ added. added ≡ not (has_name (keys_of set.old) name.now)) }
+    ensures names { IfOk result (λ added. IsTrue added → keys_of set.new ≡ keys_of set.old ++ name.now ∷ []) }
+{
+    let (_, added) = set.insert_full(String::from_str(alloc, name)?)?;
+    Ok(added)
+}
+
+/// A set of the first names, that many.
+fn front(
+    alloc: Global,
+    set: &IndexSet<String>,
+    count: usize,
+) -> Result<IndexSet<String>, AllocError>
+    ensures { IfOk result (λ front. keys_of front ≡ front_of set.now count) }
+{
+    let names = set.as_slice();
+    let mut front = IndexSet::new(alloc);
+    for place in 0..count.min(names.len()) {
+        insert(alloc, &mut front, names[place].as_str())?;
+    }
+    Ok(front)
+}
+
+impl Known {
+    pub fn new(alloc: Global) -> Result<Known, AllocError> {
+        Ok(Known {
+            none: Rc::new(alloc, IndexSet::new(alloc))?,
+            sets: Vec::new(alloc),
+            oldest: 0,
+        })
+    }
+
+    /// A kept set that begins with the first names of the set, that many, and then has the name.
+    fn that_goes_on(
+        &self,
+        set: &IndexSet<String>,
+        count: usize,
+        name: &str,
+    ) -> Option<&Rc<IndexSet<String>>>
+        ensures alike { IfSome result (λ other. front_of other.now.value count ≡ front_of set.now count) }
+        ensures next { IfSome result (λ other. GoesOn (keys_of other.now.value) count name.now) }
+        ensures small { IfSome result (λ _. count + 1 < 2 ^ 64) }
+    {
+        for other in &self.sets {
+            if stands_next(other, count, name) && begin_alike(set, other, count) {
+                return Some(other);
+            }
+        }
+        None
+    }
+
+    /// A kept set of the first names of the set, that many.
+    fn that_ends(&self, set: &IndexSet<String>, count: usize) -> Option<&Rc<IndexSet<String>>>
+        ensures { IfSome result (λ other. keys_of other.now.value ≡ front_of set.now count) }
+    {
+        for other in &self.sets {
+            if other.len() == count && begin_alike(set, other, count) {
+                return Some(other);
+            }
+        }
+        None
+    }
+
+    /// The set, which is kept unless it is large.
+    fn keep(
+        &mut self,
+        alloc: Global,
+        set: IndexSet<String>,
+    ) -> Result<Rc<IndexSet<String>>, AllocError>
+        ensures { IfOk result (λ kept. kept.value ≡ set) }
+    {
+        let set = Rc::new(alloc, set)?;
+        if set.len() > NAMES {
+            return Ok(set);
+        }
+        let kept = set.clone()?;
+        if self.sets.len() < SETS {
+            self.sets.push(kept)?;
+        } else {
+            let oldest = self.oldest % SETS;
+            self.sets[oldest] = kept;
+            self.oldest = oldest + 1;
+        }
+        Ok(set)
+    }
+
+    /// The names of an object that has none so far.
+    pub fn no_names(&self) -> Result<NamesSoFar, AllocError>
+        ensures { IfOk result (λ names. names_of names ≡ []) }
+    {
+        Ok(NamesSoFar::Front(self.none.clone()?, 0))
+    }
+}
+
+impl NamesSoFar {
+    /// Puts the name behind the others, unless it is among them: whether it wasn't.
+    pub fn push(&mut self, alloc: Global, name: &str, known: &Known) -> Result<bool, AllocError>
+        ensures added { IfOk result (λ added. added ≡ not (has_name (names_of self.old) name.now)) }
+        ensures names { IfOk result (λ added. IsTrue added → names_of self.new ≡ names_of self.old ++ name.now ∷ []) }
+    {
+        match self {
+            NamesSoFar::Own(set) => insert(alloc, set, name),
+            NamesSoFar::Front(set, count) => {
+                if stands_next(set, *count, name) {
+                    *count += 1;
+                    return Ok(true);
+                }
+                if let Some(other) = known.that_goes_on(set, *count, name) {
+                    *set = other.clone()?;
+                    *count += 1;
+                    return Ok(true);
+                }
+                let mut own = front(alloc, set, *count)?;
+                let added = insert(alloc, &mut own, name)?;
+                *self = NamesSoFar::Own(own);
+                Ok(added)
+            }
+        }
+    }
+
+    /// How many names the object will have if it goes on as one before.
+    pub fn likely_len(&self) -> usize {
+        match self {
+            NamesSoFar::Front(set, _) => set.len(),
+            NamesSoFar::Own(set) => set.len(),
+        }
+    }
+
+    /// The set of the names.
+    pub fn finish(
+        self,
+        alloc: Global,
+        known: &mut Known,
+    ) -> Result<Rc<IndexSet<String>>, AllocError>
+        ensures { IfOk result (λ set. keys_of set.value ≡ names_of self) }
+    {
+        match self {
+            NamesSoFar::Own(set) => {
+                let mut set = set;
+                set.shrink_to_fit();
+                known.keep(alloc, set)
+            }
+            NamesSoFar::Front(set, count) => {
+                if count == set.len() {
+                    return Ok(set);
+                }
+                if let Some(other) = known.that_ends(&set, count) {
+                    return other.clone();
+                }
+                known.keep(alloc, front(alloc, &set, count)?)
+            }
+        }
+    }
+}
