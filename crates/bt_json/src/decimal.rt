@@ -3,13 +3,15 @@ ghost use Rattle.std.specs.Int.Digits.{number_from_digits};
 ghost use Rattle.std.specs.Int.RustNames.{unsigned_abs};
 ghost use Rattle.bt_json.specs.Value.{IsScaled, IsTimes, twice, signed, IsHalfOf};
 
+use smallvec::SmallVec;
+
 /// A number of a JSON text as it is written: its value is the digits, as one whole number, times ten to the power of the exponent.
 #[derive(Debug, Drop)]
 pub struct Decimal {
     /// Whether a minus sign stands in front.
     pub negative: bool,
     /// The digits of the whole part and then those of the fraction.
-    pub digits: Vec<u8>,
+    pub digits: SmallVec<u8, 16>,
     /// The written exponent, kept within 2^62 in magnitude, less the number of digits of the fraction.
     pub exponent: i64,
     ghost below_ten: { All (λ d. d < 10) digits.items },

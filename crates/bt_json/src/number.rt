@@ -5,6 +5,7 @@ ghost use Rattle.bt_json.specs.Reading.{first_phase};
 use crate::decimal::Decimal;
 use crate::fault::JsonFault;
 use crate::kind::{Mark, Phase, mark_of, may_end};
+use smallvec::SmallVec;
 use std::alloc::{AllocError, Global};
 
 /// The greatest exponent that is kept.
@@ -14,7 +15,7 @@ const LIMIT: u64 = 1 << 62;
 #[derive(Drop)]
 pub struct Numeral {
     negative: bool,
-    digits: Vec<u8>,
+    digits: SmallVec<u8, 16>,
     /// How many of the digits are the fraction's.
     places: usize,
     /// Whether the exponent has a minus sign.
@@ -58,6 +59,7 @@ impl Numeral {
         ensures ok { OnOk result (view self.new ≡ with_fraction (view self.old) digit) }
     {
         self.digits.push(digit)?;
+        prove!(self.places < self.digits.len());
         self.places += 1;
         Ok(())
     }
@@ -195,7 +197,7 @@ impl Numeral {
     {
         Numeral {
             negative,
-            digits: Vec::new(alloc),
+            digits: SmallVec::new(alloc),
             places: 0,
             below: false,
             power: 0,
