@@ -67,9 +67,9 @@ not_not false e = absurd (true≢false e)
 
 -- a name that was there isn't taken, and one that wasn't is
 pub taken_before : (added there : Bool) → added ≡ not there → added ≡ false → there ≡ true
-taken_before added true e no = refl
-taken_before added false e no = absurd (true≢false (sym e ∙ no))
+taken_before added true e h = refl
+taken_before added false e h = absurd (true≢false (sym e ∙ h))
 
 pub taken_first : (added there : Bool) → added ≡ not there → added ≡ true → there ≡ false
-taken_first added true e yes = absurd (true≢false (sym yes ∙ e))
-taken_first added false e yes = refl
+taken_first added true e h = absurd (true≢false (sym h ∙ e))
+taken_first added false e h = refl

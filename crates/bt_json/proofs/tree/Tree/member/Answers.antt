@@ -1,5 +1,5 @@
-use Rattle.std.proofs.Common.{ap, sym, ◌∙◌, map}
-use Rattle.std.specs.Prelude.{string_bytes}
+use Rattle.std.proofs.Common.{ap, ap₂, sym, ◌∙◌, map}
+use Rattle.bt_json.specs.Names.{keys_of}
 use Rattle.bt_json.specs.Json.{member_of, value_at}
 use Rattle.bt_json.specs.Stands.{json_of, members_of}
 use Rattle.bt_json.proofs.Trees.{json-Object}
@@ -10,5 +10,5 @@ returns-in-Object c =
     let names = c.in-Object.names in
     let vs = c.in-Object.values in
     c.value_at_name.ensures
-    ∙ ap (λ ts. value_at (members_of (map string_bytes names.value.keys) (map json_of ts)) c.args.name.now) c.deref.ensures.value
+    ∙ ap₂ (λ set ts. value_at (members_of (keys_of set) (map json_of ts)) c.args.name.now) c.deref.ensures c.deref-in-Object.ensures.value
     ∙ sym (ap (λ j. member_of j c.args.name.now) (ap json_of c.in-Object.is ∙ json-Object names vs))
