@@ -4,6 +4,7 @@ ghost use Rattle.std.specs.Prelude.{◌<◌};
 use bt_json::{Decimal, Tree};
 use indexmap::IndexSet;
 use std::alloc::{AllocError, Global};
+use std::rc::Rc;
 
 /// How many blocks stand beside one another. A block has eight entities, and is eight tiles wide and two high.
 const COLUMNS: u16 = 16;
@@ -116,14 +117,15 @@ impl Members {
     }
 
     /// An object that takes no more room than it needs.
-    fn into_tree(self) -> Tree {
+    fn into_tree(self, alloc: Global) -> Result<Tree, AllocError> {
         let Members {
             mut names,
             mut values,
         } = self;
         names.shrink_to_fit();
         values.shrink_to_fit();
-        Tree::Object { names, values }
+        let names = Rc::new(alloc, names)?;
+        Ok(Tree::Object { names, values })
     }
 }
 
@@ -151,7 +153,7 @@ fn position(alloc: Global, corner: Corner, entity: Entity) -> Result<Tree, Alloc
     let position = Members::new(alloc)
         .with(alloc, "x", number(alloc, 5 * x)?)?
         .with(alloc, "y", number(alloc, 5 * y)?)?;
-    Ok(position.into_tree())
+    position.into_tree(alloc)
 }
 
 /// The JSON value of an entity of the block with this corner.
@@ -165,13 +167,13 @@ fn tree_of(alloc: Global, corner: Corner, entity: Entity) -> Result<Tree, AllocE
             number(alloc, 10 * u32::from(entity.direction))?,
         )?;
     match entity.end {
-        Some(end) => Ok(members.with(alloc, "type", text(alloc, end)?)?.into_tree()),
-        None => Ok(members.into_tree()),
+        Some(end) => members.with(alloc, "type", text(alloc, end)?)?.into_tree(alloc),
+        None => members.into_tree(alloc),
     }
 }
 
 fn holder(alloc: Global, name: &str, value: Tree) -> Result<Tree, AllocError> {
-    Ok(Members::new(alloc).with(alloc, name, value)?.into_tree())
+    Members::new(alloc).with(alloc, name, value)?.into_tree(alloc)
 }
 
 /// The blueprint of a field of so many entities, a multiple of eight.

@@ -3,6 +3,7 @@ use bt_json::{Decimal, Tree};
 use bt_parts::{Cell, Dir, Kind, Part, Tier};
 use indexmap::IndexSet;
 use std::alloc::Global;
+use std::rc::Rc;
 use std::test::Fail;
 
 /// A number as it is written: seven digits times a power of ten.
@@ -56,9 +57,10 @@ impl Object {
         Ok(Object { names, values })
     }
 
-    fn tree(self) -> Tree {
+    fn tree(self, alloc: Global) -> Result<Tree, Fail> {
         let Object { names, values } = self;
-        Tree::Object { names, values }
+        let names = Rc::new(alloc, names)?;
+        Ok(Tree::Object { names, values })
     }
 }
 
@@ -89,18 +91,18 @@ fn tree_of(alloc: Global, value: Value) -> Result<Tree, Fail> {
         Value::Null => Ok(Tree::Null),
         Value::Text(text) => Ok(Tree::Text(String::from_str(alloc, text)?)),
         Value::Num(written) => number(alloc, written),
-        Value::Empty => Ok(Object::new(alloc).tree()),
+        Value::Empty => Object::new(alloc).tree(alloc),
     }
 }
 
 /// An object with one member.
 fn holder(alloc: Global, name: &str, value: Tree) -> Result<Tree, Fail> {
-    Ok(Object::new(alloc).with(alloc, name, value)?.tree())
+    Object::new(alloc).with(alloc, name, value)?.tree(alloc)
 }
 
 fn position(alloc: Global, x: Written, y: Written) -> Result<Tree, Fail> {
     let position = Object::new(alloc).with(alloc, "x", number(alloc, x)?)?;
-    Ok(position.with(alloc, "y", number(alloc, y)?)?.tree())
+    position.with(alloc, "y", number(alloc, y)?)?.tree(alloc)
 }
 
 fn entity(alloc: Global, sample: Sample) -> Result<Tree, Fail> {
@@ -108,7 +110,7 @@ fn entity(alloc: Global, sample: Sample) -> Result<Tree, Fail> {
     let named = Object::new(alloc).with(alloc, "name", name)?;
     let placed = named.with(alloc, "position", position(alloc, sample.x, sample.y)?)?;
     let value = tree_of(alloc, sample.value)?;
-    Ok(placed.with(alloc, sample.member, value)?.tree())
+    placed.with(alloc, sample.member, value)?.tree(alloc)
 }
 
 fn root(alloc: Global, samples: &[Sample]) -> Result<Tree, Fail> {
@@ -444,7 +446,7 @@ fn directions_by_version(rt: HostRuntime) -> Result<(), Fail> {
         entities.push(entity(alloc, belt)?)?;
         let blueprint = Object::new(alloc).with(alloc, "version", number(alloc, version)?)?;
         let blueprint = blueprint.with(alloc, "entities", Tree::List(entities))?;
-        let parts = parts_of(alloc, &holder(alloc, "blueprint", blueprint.tree())?)?;
+        let parts = parts_of(alloc, &holder(alloc, "blueprint", blueprint.tree(alloc)?)?)?;
         assert_eq!(rt; parts.as_slice(), [basic(Kind::Belt, dir, 0, 0)].as_slice());
     }
     Ok(())
