@@ -128,8 +128,8 @@ pub fn recover(alloc: Global, grid: &Grid) -> Result<Traced, RecoverFault>
     ensures refused { IfErr result (IsRecoverFault grid.now) }
     ensures only_found { (net : Network) (naming : Naming) → IsNumbered grid.now net naming → KeepsLimits net
         → MatchResult result
-            (λ traced. (traced.net ≡ net) × (naming_of traced.inputs.items traced.outputs.items traced.splitters.items ≡ naming))
-            (λ fault. fault ≡ Memory) }
+        (λ traced. (traced.net ≡ net) × (naming_of traced.inputs.items traced.outputs.items traced.splitters.items ≡ naming))
+        (λ fault. fault ≡ Memory) }
     ensures only_refused { (fault : RecoverFault) → fault ≢ Memory → IsRecoverFault grid.now fault
         → MatchResult result (λ _. ⊥) (λ told. (told ≡ fault) ⊎ (told ≡ Memory)) }
 {
