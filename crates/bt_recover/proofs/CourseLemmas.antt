@@ -25,7 +25,8 @@ use Rattle.bt_model.proofs.PathLemmas.{path_snoc}
 use Rattle.bt_recover.specs.Faults.{IsOrderly}
 use Rattle.bt_recover.specs.declared.courses.Origin.TheVariants.{Input, Split}
 use Rattle.bt_recover.specs.declared.courses.Course.{Course}
-use Rattle.bt_recover.specs.Courses.{EndsWith, BeginsChain, LeavesChain, LeavesNone, IsOriginOf, IsCourseOf, AreCourses, HasCourses, AllDone, InputsDone, SplittersDone, HalfDone, AddsHalf, AddsHalves}
+use Rattle.bt_recover.specs.Courses.{EndsWith, BeginsChain, LeavesChain, LeavesNone, IsOriginOf, IsCourseOf, AreCourses, HasCourses, AllDone, AddsHalf, AddsHalves}
+use Rattle.bt_recover.proofs.Done.{InputsDone, SplittersDone, HalfDone}
 use Rattle.bt_recover.proofs.HandLaws.{front_fed}
 use Rattle.bt_recover.proofs.ChainLemmas.{chain_from}
 use Rattle.bt_recover.proofs.ExistLemmas.{no_long_path, input_chain, half_chain, empty_chain}

@@ -4,8 +4,10 @@ pub mod WiredLemmas
 pub mod ChainLemmas
 pub mod CleanLemmas
 pub mod CourseLemmas
+pub mod Done
 pub mod EndLemmas
 pub mod ExistLemmas
 pub mod HandLaws
 pub mod MarkLemmas
+pub mod OneRecovery
 pub mod RefusalLemmas

@@ -78,21 +78,6 @@ HasCourses parts inputs splitters done courses = (chains : List Chain) × AreCou
 abbrev pub AllDone : Source → Type 0
 AllDone source = ⊤
 
--- the first k inputs are done
-abbrev pub InputsDone : List ℕ → ℕ → Source → Type 0
-InputsDone inputs k (begins i cell) = (j : ℕ) × (j < k) × (slice_get inputs j ≡ Some i)
-InputsDone inputs k (leaves s half) = ⊥
-
--- the inputs and the first k splitters are done
-abbrev pub SplittersDone : List ℕ → ℕ → Source → Type 0
-SplittersDone splitters k (begins i cell) = ⊤
-SplittersDone splitters k (leaves s half) = (j : ℕ) × (j < k) × (slice_get splitters j ≡ Some s)
-
--- and the lesser half of the next splitter
-abbrev pub HalfDone : List ℕ → ℕ → ℕ → Cell → Source → Type 0
-HalfDone splitters k s first (begins i cell) = ⊤
-HalfDone splitters k s first (leaves t half) = ((j : ℕ) × (j < k) × (slice_get splitters j ≡ Some t)) ⊎ ((t ≡ s) × (half ≡ first))
-
 -- the course of the chain from this half is added, if there is such a chain
 abbrev pub AddsHalf : List Part → List Course → List Course → ℕ → ℕ → Cell → Type 0
 AddsHalf parts old new k s half =

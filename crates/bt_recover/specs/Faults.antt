@@ -20,8 +20,8 @@ abbrev pub IsFirst : (ℕ → Type 0) → ℕ → Type 0
 IsFirst P i = P i × ((j : ℕ) → j < i → P j → ⊥)
 
 -- each underground piece is in one pair
-abbrev pub ArePaired : List Part → Type 0
-ArePaired parts = (i : ℕ) → IsPieceAt parts i → IsPaired parts i
+abbrev pub AllPaired : List Part → Type 0
+AllPaired parts = (i : ℕ) → IsPieceAt parts i → IsPaired parts i
 
 -- no part is of this kind
 abbrev pub Never : (ℕ → Type 0) → Type 0
@@ -30,7 +30,7 @@ Never P = (i : ℕ) → P i → ⊥
 -- clean but for rings
 pub record IsOrderly (parts : List Part) : Type 0 where
   pub well_placed : IsWellPlaced parts
-  pub paired : ArePaired parts
+  pub paired : AllPaired parts
   pub no_side_load : Never (IsSideLoaded parts)
   pub no_blocked : Never (IsBlocked parts)
 
@@ -38,12 +38,16 @@ pub record IsOrderly (parts : List Part) : Type 0 where
 -- of memory says nothing of it
 abbrev pub IsUnclean : List Part → RecoverFault → Type 0
 IsUnclean parts (Unpaired i) = IsFirst (IsUnpaired parts) i
-IsUnclean parts (SideLoad i) = ArePaired parts × IsFirst (IsSideLoaded parts) i
-IsUnclean parts (Blocked i) = ArePaired parts × Never (IsSideLoaded parts) × IsFirst (IsBlocked parts) i
+IsUnclean parts (SideLoad i) = AllPaired parts × IsFirst (IsSideLoaded parts) i
+IsUnclean parts (Blocked i) = AllPaired parts × Never (IsSideLoaded parts) × IsFirst (IsBlocked parts) i
 IsUnclean parts (Ring i) = IsOrderly parts × IsFirst (IsOnRing parts) i
 IsUnclean parts TooLarge = ⊥
 IsUnclean parts NoEnds = ⊥
 IsUnclean parts Memory = ⊤
+
+-- the network is neither too large nor lacks an end
+abbrev pub KeepsLimits : Network → Type 0
+KeepsLimits net = (IsLarge net → ⊥) × (LacksEnds net → ⊥)
 
 -- why no network is recovered: the layout isn't clean, or its network is too large or lacks an end
 abbrev pub IsRecoverFault : List Part → RecoverFault → Type 0

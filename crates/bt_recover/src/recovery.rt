@@ -1,8 +1,10 @@
-ghost use Rattle.std.specs.Prelude.{◌≡◌, ◌↔◌, length, IsTrue, IfOk, IfErr, MatchOption};
-ghost use Rattle.bt_net.specs.Network.{IsWired, IsLarge, LacksEnds};
-ghost use Rattle.bt_model.specs.Shown.{IsNumbered};
+ghost use Rattle.std.specs.Prelude.{◌≡◌, ◌≢◌, ◌↔◌, ◌⊎◌, length, IsTrue, IfSome, IfOk, IfErr, MatchOption, MatchResult};
+ghost use Rattle.bt_net.specs.Network.{Network, IsWired, IsLarge, LacksEnds};
+ghost use Rattle.bt_model.specs.Shown.{Naming, IsNumbered};
+ghost use Rattle.bt_recover.specs.declared.fault.RecoverFault.{RecoverFault};
+ghost use Rattle.bt_recover.specs.declared.fault.RecoverFault.TheVariants.{Memory};
 ghost use Rattle.bt_recover.specs.Courses.{IsSurvey, IsLong, naming_of, network_of};
-ghost use Rattle.bt_recover.specs.Faults.{IsUnclean, IsRecoverFault};
+ghost use Rattle.bt_recover.specs.Faults.{IsUnclean, KeepsLimits, IsRecoverFault};
 
 use crate::clean::clean_pairs;
 use crate::courses::{Course, courses_of};
@@ -68,9 +70,10 @@ fn is_long(survey: &Survey) -> bool
 fn net_of(inputs: u32, outputs: u32, splitters: u32, edges: Vec<Edge>) -> Option<Net>
     requires wired { IsWired (record { inputs = inputs; outputs = outputs; splitters = splitters; edges = edges.items }) }
     requires small { IsLarge (record { inputs = inputs; outputs = outputs; splitters = splitters; edges = edges.items }) → ⊥ }
-    ensures { MatchOption result
+    ensures net { MatchOption result
         (LacksEnds (record { inputs = inputs; outputs = outputs; splitters = splitters; edges = edges.items }))
         (λ n. n ≡ record { inputs = inputs; outputs = outputs; splitters = splitters; edges = edges.items }) }
+    ensures keeps { IfSome result KeepsLimits }
 {
     match Net::new(inputs, outputs, splitters, edges) {
         Ok(net) => Some(net),
@@ -78,18 +81,10 @@ fn net_of(inputs: u32, outputs: u32, splitters: u32, edges: Vec<Edge>) -> Option
     }
 }
 
-/// Recovers the network that a layout shows, with its own numbering.
-///
-/// Splitters are numbered in the order of the parts, inputs by the cells of their first parts and
-/// outputs by the cells of their last, by x and then by y. Edges come in the order of their starts:
-/// the inputs, then the splitters, and of a splitter the lesser half first. The work grows as that of
-/// sorting the parts.
-///
-/// # Errors
-///
-/// The first of the faults in the order of [`RecoverFault`].
-pub fn recover(alloc: Global, grid: &Grid) -> Result<Traced, RecoverFault>
+/// The network that a layout shows, or why there is none.
+fn traced_or_fault(alloc: Global, grid: &Grid) -> Result<Traced, RecoverFault>
     ensures found { IfOk result (λ traced. IsNumbered grid.now traced.net (naming_of traced.inputs.items traced.outputs.items traced.splitters.items)) }
+    ensures keeps { IfOk result (λ traced. KeepsLimits traced.net) }
     ensures refused { IfErr result (IsRecoverFault grid.now) }
 {
     let survey = survey_of(alloc, grid)?;
@@ -116,4 +111,27 @@ pub fn recover(alloc: Global, grid: &Grid) -> Result<Traced, RecoverFault>
         inputs: survey.inputs,
         outputs: survey.outputs,
     })
+}
+
+/// Recovers the network that a layout shows, with its own numbering.
+///
+/// Splitters are numbered in the order of the parts, inputs by the cells of their first parts and
+/// outputs by the cells of their last, by x and then by y. Edges come in the order of their starts:
+/// the inputs, then the splitters, and of a splitter the lesser half first. The work grows as that of
+/// sorting the parts.
+///
+/// # Errors
+///
+/// The first of the faults in the order of [`RecoverFault`].
+pub fn recover(alloc: Global, grid: &Grid) -> Result<Traced, RecoverFault>
+    ensures found { IfOk result (λ traced. IsNumbered grid.now traced.net (naming_of traced.inputs.items traced.outputs.items traced.splitters.items)) }
+    ensures refused { IfErr result (IsRecoverFault grid.now) }
+    ensures only_found { (net : Network) (naming : Naming) → IsNumbered grid.now net naming → KeepsLimits net
+        → MatchResult result
+        (λ traced. (traced.net ≡ net) × (naming_of traced.inputs.items traced.outputs.items traced.splitters.items ≡ naming))
+        (λ fault. fault ≡ Memory) }
+    ensures only_refused { (fault : RecoverFault) → fault ≢ Memory → IsRecoverFault grid.now fault
+        → MatchResult result (λ _. ⊥) (λ told. (told ≡ fault) ⊎ (told ≡ Memory)) }
+{
+    traced_or_fault(alloc, grid)
 }

@@ -101,9 +101,33 @@ fn parts_of(alloc: Global, map: &[&[u8]]) -> Result<Vec<Part>, Memory>
     Ok(parts)
 }
 
+/// So many belts, none of which hands to another.
+fn lone_belts(alloc: Global, count: u16) -> Result<Vec<Part>, Memory>
+    ensures { IfOk result (λ parts. AreInRange parts.items) }
+{
+    let mut parts = Vec::new(alloc);
+    for i in 0..count {
+        let row = (i / 256) as u8;
+        let part = part_at(
+            Kind::Belt,
+            Dir::North,
+            (i % 256) as u8,
+            row.saturating_mul(2),
+        );
+        parts.push(part)?;
+    }
+    Ok(parts)
+}
+
 /// The grid of a map.
 fn grid_of(rt: &impl Abort, alloc: Global, map: &[&[u8]]) -> Result<Grid, Memory> {
     let parts = parts_of(alloc, map)?;
+    Ok(Grid::place(alloc, parts).expect(rt, "no two parts share a cell"))
+}
+
+/// The grid of so many belts, none of which hands to another.
+fn grid_of_belts(rt: &impl Abort, alloc: Global, count: u16) -> Result<Grid, Memory> {
+    let parts = lone_belts(alloc, count)?;
     Ok(Grid::place(alloc, parts).expect(rt, "no two parts share a cell"))
 }
 
@@ -145,6 +169,59 @@ fn belts_without_splitters_join_inputs_and_outputs(rt: HostRuntime) -> Result<()
             [edge(Start::Input(0), Target::Output(0))].as_slice()
         );
     }
+    Ok(())
+}
+
+#[test]
+fn belts_side_by_side_are_not_joined(rt: HostRuntime) -> Result<(), Fail> {
+    let grid = grid_of(&rt, rt.alloc(), &[b"^^"])?;
+    let traced = recover(rt.alloc(), &grid)?;
+    assert_eq!(rt; traced.net.inputs(), 2);
+    assert_eq!(rt; traced.net.outputs(), 2);
+    assert_eq!(rt; traced.net.splitters(), 0);
+    assert_eq!(rt;
+        traced.net.edges(),
+        [
+            edge(Start::Input(0), Target::Output(0)),
+            edge(Start::Input(1), Target::Output(1)),
+        ]
+        .as_slice()
+    );
+    Ok(())
+}
+
+#[test]
+fn a_splitter_joins_two_inputs_and_two_outputs(rt: HostRuntime) -> Result<(), Fail> {
+    let grid = grid_of(&rt, rt.alloc(), &[b"^^", b"[]", b"^^"])?;
+    let traced = recover(rt.alloc(), &grid)?;
+    assert_eq!(rt; traced.net.inputs(), 2);
+    assert_eq!(rt; traced.net.outputs(), 2);
+    assert_eq!(rt; traced.net.splitters(), 1);
+    assert_eq!(rt;
+        traced.net.edges(),
+        [
+            edge(Start::Input(0), Target::Split(0)),
+            edge(Start::Input(1), Target::Split(0)),
+            edge(Start::Split(0), Target::Output(0)),
+            edge(Start::Split(0), Target::Output(1)),
+        ]
+        .as_slice()
+    );
+    Ok(())
+}
+
+#[test]
+fn at_most_2048_of_a_kind_are_recovered(rt: HostRuntime) -> Result<(), Fail> {
+    let grid = grid_of_belts(&rt, rt.alloc(), 2048)?;
+    let traced = recover(rt.alloc(), &grid)?;
+    assert_eq!(rt; traced.net.inputs(), 2048);
+    assert_eq!(rt; traced.net.outputs(), 2048);
+    assert_eq!(rt; traced.net.edges().len(), 2048);
+    let grid = grid_of_belts(&rt, rt.alloc(), 2049)?;
+    assert_eq!(rt;
+        recover(rt.alloc(), &grid).err(),
+        Some(RecoverFault::TooLarge)
+    );
     Ok(())
 }
 

@@ -1,7 +1,6 @@
 pub mod WordLists
 pub mod Blanks
 pub mod Told
-pub mod OneNetwork
 pub mod OneJson
 pub mod OneDesign
 pub mod Checks

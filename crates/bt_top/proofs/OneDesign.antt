@@ -11,17 +11,18 @@ use Rattle.bt_entities.specs.Blueprints.{IsBlueprintOf}
 use Rattle.bt_entities.specs.Refusals.{IsSameFault}
 use Rattle.bt_entities.proofs.Once.{one_list, blueprint_not_refused, one_fault}
 use Rattle.bt_parts.specs.declared.part.Part.{Part}
-use Rattle.bt_parts.specs.Layouts.{IsWellPlaced, IsUnpaired, ShareCell}
+use Rattle.bt_parts.specs.Layouts.{IsWellPlaced, ShareCell}
 use Rattle.bt_grid.specs.Overlap.{IsPlaceFault, IsFirstOverlap}
 use Rattle.bt_grid.specs.declared.grid.GridFault.{GridFault}
 use Rattle.bt_grid.specs.declared.grid.GridFault.TheVariants as grid
-use Rattle.bt_model.specs.Clean.{IsSideLoaded, IsBlocked, IsOnRing}
-use Rattle.bt_model.specs.Shown.{Naming, IsNumbered}
-use Rattle.bt_top.proofs.OneNetwork.{same_network}
-use Rattle.bt_recover.specs.Faults.{IsFirst, ArePaired, Never, IsRecoverFault}
+use Rattle.bt_model.specs.Shown.{IsNumbered}
+use Rattle.bt_model.proofs.OneNetwork.{same_network}
+use Rattle.bt_recover.specs.Faults.{KeepsLimits, IsRecoverFault}
+use Rattle.bt_recover.proofs.OneRecovery.{network_not_refused}
+use Rattle.bt_recover.proofs.OneRecovery.{one_fault as one_layout_fault}
 use Rattle.bt_recover.specs.declared.fault.RecoverFault.{RecoverFault}
 use Rattle.bt_recover.specs.declared.fault.RecoverFault.TheVariants as layout
-use Rattle.bt_net.specs.Network.{Network, IsNetwork, IsLarge, LacksEnds}
+use Rattle.bt_net.specs.Network.{Network, IsNetwork, IsLarge}
 use Rattle.bt_net.specs.NetText.{BeginsWithNet}
 use Rattle.bt_net.specs.declared.fault.NetFault.{NetFault}
 use Rattle.bt_net.specs.declared.fault.NetFault.TheVariants as net
@@ -58,79 +59,20 @@ same_net_told net.TooLarge r s t u = t ∙ sym u
 same_net_told net.NoEnds r s t u = t ∙ sym u
 same_net_told net.Memory r s t u = absurd t
 
+same_layout_told : (f : RecoverFault) (r s : Refusal) → TellsLayout f r → TellsLayout f s → r ≡ s
+same_layout_told (layout.Unpaired i) r s t u = t ∙ sym u
+same_layout_told (layout.SideLoad i) r s t u = t ∙ sym u
+same_layout_told (layout.Blocked i) r s t u = t ∙ sym u
+same_layout_told (layout.Ring i) r s t u = t ∙ sym u
+same_layout_told layout.TooLarge r s t u = t ∙ sym u
+same_layout_told layout.NoEnds r s t u = t ∙ sym u
+same_layout_told layout.Memory r s t u = absurd t
+
+-- a fault that is told isn't want of memory
+layout_told : (f : RecoverFault) (r : Refusal) → TellsLayout f r → f ≡ layout.Memory → ⊥
+layout_told f r t e = subst (λ x. TellsLayout x r) e t
+
 -- ---- layouts
-
-one_first : (P : ℕ → Type 0) (i j : ℕ) → IsFirst P i → IsFirst P j → i ≡ j
-one_first P i j h k = compare (cases_lt i j)
-  where
-    compare : (i < j) ⊎ (j ≤ i) → i ≡ j
-    compare (inl lt) = absurd (k.1 i lt h.0)
-    compare (inr le) = finish (cases_lt j i)
-      where
-        finish : (j < i) ⊎ (i ≤ j) → i ≡ j
-        finish (inl lt) = absurd (h.1 j lt k.0)
-        finish (inr more) = omega (arith, le, more)
-
--- the first part of a kind is told, or there is none and something later is
-FirstOr : (ℕ → Type 0) → (ℕ → Refusal) → (Refusal → Type 0) → Refusal → Type 0
-FirstOr P tell Later r = ((i : ℕ) × IsFirst P i × (r ≡ tell i)) ⊎ (Never P × Later r)
-
-one_first_or : (P : ℕ → Type 0) (tell : ℕ → Refusal) (Later : Refusal → Type 0) → ((r s : Refusal) → Later r → Later s → r ≡ s)
-    → (r s : Refusal) → FirstOr P tell Later r → FirstOr P tell Later s → r ≡ s
-unfolding FirstOr
-one_first_or P tell Later more r s (inl a) (inl b) = a.2 ∙ ap tell (one_first P a.0 b.0 a.1 b.1) ∙ sym b.2
-one_first_or P tell Later more r s (inl a) (inr b) = absurd (b.0 a.0 a.1.0)
-one_first_or P tell Later more r s (inr a) (inl b) = absurd (a.0 b.0 b.1.0)
-one_first_or P tell Later more r s (inr a) (inr b) = more r s a.1 b.1
-
--- the network has too many of a kind, or lacks ends
-record Unsized (parts : List Part) (r : Refusal) : Type 0 where
-  network : Network
-  naming : Naming
-  numbered : IsNumbered parts network naming
-  cause : (IsLarge network × (r ≡ refusal.TooLarge)) ⊎ (LacksEnds network × (r ≡ refusal.NoEnds))
-
-one_unsized : (parts : List Part) (r s : Refusal) → Unsized parts r → Unsized parts s → r ≡ s
-one_unsized parts r s h k = compare h.cause k.cause
-  where
-    compare : (IsLarge h.network × (r ≡ refusal.TooLarge)) ⊎ (LacksEnds h.network × (r ≡ refusal.NoEnds))
-        → (IsLarge k.network × (s ≡ refusal.TooLarge)) ⊎ (LacksEnds k.network × (s ≡ refusal.NoEnds)) → r ≡ s
-    compare (inl a) (inl b) = a.1 ∙ sym b.1
-    compare (inl a) (inr b) = absurd (b.0.0 (subst IsLarge (same_network parts h.network k.network h.naming k.naming h.numbered k.numbered) a.0))
-    compare (inr a) (inl b) = absurd (a.0.0 (subst IsLarge (same_network parts k.network h.network k.naming h.naming k.numbered h.numbered) b.0))
-    compare (inr a) (inr b) = a.1 ∙ sym b.1
-
-never_unpaired : (parts : List Part) → ArePaired parts → Never (IsUnpaired parts)
-never_unpaired parts all i alone = let paired = all i alone.piece in alone.alone paired.other paired.paired
-
--- the causes in their order
-Causes : List Part → Refusal → Type 0
-Causes parts r =
-    FirstOr (IsUnpaired parts) refusal.Unpaired (FirstOr (IsSideLoaded parts) refusal.SideLoad
-    (FirstOr (IsBlocked parts) refusal.Blocked (FirstOr (IsOnRing parts) refusal.Ring (Unsized parts)))) r
-
-one_cause : (parts : List Part) (r s : Refusal) → Causes parts r → Causes parts s → r ≡ s
-unfolding Causes
-one_cause parts r s h k =
-    one_first_or (IsUnpaired parts) refusal.Unpaired _
-    (one_first_or (IsSideLoaded parts) refusal.SideLoad _
-    (one_first_or (IsBlocked parts) refusal.Blocked _
-    (one_first_or (IsOnRing parts) refusal.Ring (Unsized parts) (one_unsized parts)))) r s h k
-
-causes_of : (parts : List Part) (fault : RecoverFault) (r : Refusal) → IsRecoverFault parts fault → TellsLayout fault r → Causes parts r
-unfolding Causes FirstOr
-causes_of parts (layout.Unpaired i) r h t = inl (i, h, t)
-causes_of parts (layout.SideLoad i) r h t = inr (never_unpaired parts h.0, inl (i, h.1, t))
-causes_of parts (layout.Blocked i) r h t = inr (never_unpaired parts h.0, inr (h.1, inl (i, h.2, t)))
-causes_of parts (layout.Ring i) r h t =
-    inr (never_unpaired parts h.0.paired, inr (h.0.no_side_load, inr (h.0.no_blocked, inl (i, h.1, t))))
-causes_of parts layout.TooLarge r h t =
-    let clean = h.2.clean in
-    inr (never_unpaired parts clean.paired, inr (clean.no_side_load, inr (clean.no_blocked, inr (clean.no_ring, record { network = h.0; naming = h.1; numbered = h.2; cause = inl (h.3, t) }))))
-causes_of parts layout.NoEnds r h t =
-    let clean = h.2.clean in
-    inr (never_unpaired parts clean.paired, inr (clean.no_side_load, inr (clean.no_blocked, inr (clean.no_ring, record { network = h.0; naming = h.1; numbered = h.2; cause = inr (h.3, t) }))))
-causes_of parts layout.Memory r h t = absurd t
 
 not_unplaced : (parts : List Part) (fault : GridFault) (r : Refusal) → IsWellPlaced parts → IsPlaceFault parts fault → TellsGrid fault r → ⊥
 not_unplaced parts (grid.Overlap i j) r placed h t = placed i j h.earlier h.shared
@@ -164,11 +106,15 @@ one_unplaced parts (grid.Overlap i j) (grid.Overlap k l) r s h g t u =
 one_unplaced parts (grid.Overlap i j) grid.Memory r s h g t u = absurd u
 one_unplaced parts grid.Memory g r s h k t u = absurd t
 
+one_unfit : (parts : List Part) (f g : RecoverFault) (r s : Refusal) → IsRecoverFault parts f → IsRecoverFault parts g → TellsLayout f r → TellsLayout g s → r ≡ s
+one_unfit parts f g r s h k t u =
+    same_layout_told g r s (subst (λ x. TellsLayout x r) (one_layout_fault parts f g (layout_told f r t) (layout_told g s u) h k) t) u
+
 one_refused_layout : (parts : List Part) (r s : Refusal) → IsRefusedLayout parts r → IsRefusedLayout parts s → r ≡ s
 one_refused_layout parts r s (unplaced f h t) (unplaced g k u) = one_unplaced parts f g r s h k t u
 one_refused_layout parts r s (unplaced f h t) (unfit g placed k u) = absurd (not_unplaced parts f r placed h t)
 one_refused_layout parts r s (unfit f placed h t) (unplaced g k u) = absurd (not_unplaced parts g s placed k u)
-one_refused_layout parts r s (unfit f placed h t) (unfit g also k u) = one_cause parts r s (causes_of parts f r h t) (causes_of parts g s k u)
+one_refused_layout parts r s (unfit f placed h t) (unfit g also k u) = one_unfit parts f g r s h k t u
 
 not_large : (n : Network) → IsNetwork n → IsLarge n → ⊥
 not_large n h (inl lt) = absurd (omega (arith, h.few_inputs, lt))
@@ -180,21 +126,12 @@ has_ends : (n : Network) → IsNetwork n → (n.inputs ≡ 0) ⊎ (n.outputs ≡
 has_ends n h (inl e) = absurd (omega (arith, h.some_input, e))
 has_ends n h (inr e) = absurd (omega (arith, h.some_output, e))
 
-fits : (parts : List Part) (n : Network) (naming : Naming) (fault : RecoverFault) (r : Refusal) → IsNetwork n → IsNumbered parts n naming
-    → IsRecoverFault parts fault → TellsLayout fault r → ⊥
-fits parts n naming (layout.Unpaired i) r network h k t = never_unpaired parts h.clean.paired i k.0
-fits parts n naming (layout.SideLoad i) r network h k t = h.clean.no_side_load i k.1.0
-fits parts n naming (layout.Blocked i) r network h k t = h.clean.no_blocked i k.2.0
-fits parts n naming (layout.Ring i) r network h k t = h.clean.no_ring i k.1.0
-fits parts n naming layout.TooLarge r network h k t = not_large n network (subst IsLarge (same_network parts k.0 n k.1 naming k.2 h) k.3)
-fits parts n naming layout.NoEnds r network h k t =
-    let same = same_network parts k.0 n k.1 naming k.2 h in
-    has_ends n network (subst (λ m. (m.inputs ≡ 0) ⊎ (m.outputs ≡ 0)) same k.3.1)
-fits parts n naming layout.Memory r network h k t = t
+keeps : (n : Network) → IsNetwork n → KeepsLimits n
+keeps n h = (not_large n h, λ lacks. has_ends n h lacks.1)
 
 layout_not_refused : (parts : List Part) (n : Network) (r : Refusal) → IsNetwork n → IsLayoutOf parts n → IsRefusedLayout parts r → ⊥
 layout_not_refused parts n r network h (unplaced f k t) = not_unplaced parts f r h.1.clean.well_placed k t
-layout_not_refused parts n r network h (unfit f placed k t) = fits parts n h.0 f r network h.1 k t
+layout_not_refused parts n r network h (unfit f placed k t) = network_not_refused parts n h.0 f h.1 (keeps n network) (layout_told f r t) k
 
 -- ---- values and JSON
 

@@ -1,43 +1,8 @@
-use Rattle.std.proofs.Common.{◌≡◌, ◌<◌, List, ap, sym, ◌∙◌, subst, arith}
-use Rattle.std.specs.List.{AllZip, AllPairs}
-use Rattle.bt_parts.specs.declared.part.Part.{Part}
-use Rattle.bt_net.specs.Network.{Network}
-use Rattle.bt_model.specs.Shown.{Naming, IsNumbered, IsPlacedBefore, ComesBefore, IsEdgeOf, ListsEach}
-use Rattle.bt_model.proofs.Sorted.{IsAsymmetric, same_ascending, same_zipped}
-use Rattle.bt_model.proofs.Orders.{parts_asymmetric, sources_asymmetric, same_edge}
+use Rattle.bt_model.proofs.OneNetwork.{same_network, same_naming}
 use Rattle.bt_model.proofs.laws.one_network.Goals as goal
 
--- two lists in one order of each thing of a kind
-same_each : {X : Type 0} (R : X → X → Type 0) (P : X → Type 0) → IsAsymmetric R → (xs ys : List X)
-    → ListsEach P xs → ListsEach P ys → AllPairs R xs → AllPairs R ys → xs ≡ ys
-same_each R P asym xs ys h k up_xs up_ys =
-    same_ascending R asym xs ys up_xs up_ys (λ x there. k.all x (h.only x there)) (λ x there. h.all x (k.only x there))
-
-same_naming : (parts : List Part) (m n : Network) (a b : Naming) → IsNumbered parts m a → IsNumbered parts n b → a ≡ b
-same_naming parts m n a b h k =
-    let splitters : a.splitters ≡ b.splitters = same_each ◌<◌ _ (λ i j lt gt. omega arith) a.splitters b.splitters h.names.splitters k.names.splitters h.numbering.splitters k.numbering.splitters in
-    let inputs : a.inputs ≡ b.inputs = same_each (IsPlacedBefore parts) _ (parts_asymmetric parts) a.inputs b.inputs h.names.inputs k.names.inputs h.numbering.inputs k.numbering.inputs in
-    let outputs : a.outputs ≡ b.outputs = same_each (IsPlacedBefore parts) _ (parts_asymmetric parts) a.outputs b.outputs h.names.outputs k.names.outputs h.numbering.outputs k.numbering.outputs in
-    ap (λ z. record { splitters = z; inputs = a.inputs; outputs = a.outputs }) splitters
-    ∙ ap (λ z. record { splitters = b.splitters; inputs = z; outputs = a.outputs }) inputs
-    ∙ ap (λ z. record { splitters = b.splitters; inputs = b.inputs; outputs = z }) outputs
-
-same_edges : (parts : List Part) (m n : Network) (a : Naming) → IsNumbered parts m a → IsNumbered parts n a → m ≡ n
-same_edges parts m n a h k =
-    let chains : h.chains ≡ k.chains = same_each (λ one other. ComesBefore one.source other.source) _ (λ x y. sources_asymmetric x.source y.source)
-    h.chains k.chains h.each_once k.each_once h.in_order k.in_order in
-    let edges : m.edges ≡ n.edges = same_zipped (IsEdgeOf a) (same_edge a h.names.splitters.once h.names.inputs.once h.names.outputs.once) h.chains m.edges n.edges
-    h.named (subst (λ cs. AllZip (IsEdgeOf a) cs n.edges) (sym chains) k.named) in
-    let splitters : m.splitters ≡ n.splitters = h.names.splitter_count ∙ sym k.names.splitter_count in
-    let inputs : m.inputs ≡ n.inputs = h.names.input_count ∙ sym k.names.input_count in
-    let outputs : m.outputs ≡ n.outputs = h.names.output_count ∙ sym k.names.output_count in
-    ap (λ z. record { inputs = z; outputs = m.outputs; splitters = m.splitters; edges = m.edges }) inputs
-    ∙ ap (λ z. record { inputs = n.inputs; outputs = z; splitters = m.splitters; edges = m.edges }) outputs
-    ∙ ap (λ z. record { inputs = n.inputs; outputs = n.outputs; splitters = z; edges = m.edges }) splitters
-    ∙ ap (λ z. record { inputs = n.inputs; outputs = n.outputs; splitters = n.splitters; edges = z }) edges
-
 pub returns-clause-net : goal.returns-clause-net
-returns-clause-net c = λ parts m n a b h k. same_edges parts m n a h (subst (λ name. IsNumbered parts n name) (sym (same_naming parts m n a b h k)) k)
+returns-clause-net c = same_network
 
 pub returns-clause-naming : goal.returns-clause-naming
 returns-clause-naming c = same_naming

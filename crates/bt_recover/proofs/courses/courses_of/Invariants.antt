@@ -1,4 +1,5 @@
-use Rattle.bt_recover.specs.Courses.{HasCourses, InputsDone, SplittersDone}
+use Rattle.bt_recover.specs.Courses.{HasCourses}
+use Rattle.bt_recover.proofs.Done.{InputsDone, SplittersDone}
 use Rattle.bt_recover.proofs.courses.courses_of.Given as goal
 
 abbrev pub invariant-loop-k : goal.invariant-loop-k

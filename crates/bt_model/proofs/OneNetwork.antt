@@ -13,7 +13,7 @@ same_each : {X : Type 0} (R : X → X → Type 0) (P : X → Type 0) → IsAsymm
 same_each R P asym xs ys h k up_xs up_ys =
     same_ascending R asym xs ys up_xs up_ys (λ x there. k.all x (h.only x there)) (λ x there. h.all x (k.only x there))
 
-same_naming : (parts : List Part) (m n : Network) (a b : Naming) → IsNumbered parts m a → IsNumbered parts n b → a ≡ b
+pub same_naming : (parts : List Part) (m n : Network) (a b : Naming) → IsNumbered parts m a → IsNumbered parts n b → a ≡ b
 same_naming parts m n a b h k =
     let splitters : a.splitters ≡ b.splitters = same_each ◌<◌ _ (λ i j lt gt. omega arith) a.splitters b.splitters h.names.splitters k.names.splitters h.numbering.splitters k.numbering.splitters in
     let inputs : a.inputs ≡ b.inputs = same_each (IsPlacedBefore parts) _ (parts_asymmetric parts) a.inputs b.inputs h.names.inputs k.names.inputs h.numbering.inputs k.numbering.inputs in
