@@ -1,6 +1,5 @@
 -- The names of an object as far as it is read.
-use Rattle.std.specs.Prelude.{◌≡◌, ◌<◌, ℕ, List, map, take, length, not, false, Bool, string_bytes, ◌++◌, ◌∷◌, [], IsTrue, None, ◌-◌, ◌+◌, true}
-use Rattle.std.specs.List.{slice_index_or}
+use Rattle.std.specs.Prelude.{◌≡◌, ℕ, List, map, take, not, false, Bool, string_bytes, ◌++◌, ◌∷◌, [], IsTrue, None, ◌-◌, ◌+◌, true}
 use Rattle.std.specs.Global.{Global}
 use Rattle.std.specs.Prelude.{String}
 use Rattle.indexmap.specs.IndexSet.{IndexSet}

@@ -1,5 +1,4 @@
-use Rattle.std.proofs.Common.{◌≡◌, take}
-use Rattle.std.specs.Prelude.{map, string_bytes}
+use Rattle.std.proofs.Common.{◌≡◌}
 use Rattle.bt_json.specs.Names.{keys_of, front_of}
 use Rattle.bt_json.proofs.names.front.Given as goal
 

@@ -1,4 +1,4 @@
-use Rattle.std.proofs.Common.{arith, true, false, not, List, ℕ, ◌≡◌, ◌+◌, ◌-◌, ◌++◌, ◌∷◌, [], sym, ap, ◌∙◌, subst}
+use Rattle.std.proofs.Common.{List, ℕ, ◌+◌, ◌-◌, ◌∷◌, sym, ap, ◌∙◌, subst}
 use Rattle.std.proofs.lemmas.Result.{err_from_is_err_and}
 use Rattle.bt_json.specs.Names.{names_of}
 use Rattle.bt_json.specs.Reading.{has_name, name_due, colon_due, as_name, due, in_object}

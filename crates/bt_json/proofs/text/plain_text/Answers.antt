@@ -1,7 +1,5 @@
-use Rattle.std.proofs.Common.{◌+◌, None, ◌∙◌, ap, sym}
+use Rattle.std.proofs.Common.{None, ◌∙◌}
 use Rattle.std.specs.Prelude.{[], slice_range}
-use Rattle.bt_json.specs.Reading.{between}
-use Rattle.bt_json.specs.Running.{rest_of, within}
 use Rattle.bt_json.proofs.Texts.{closing_plain}
 use Rattle.bt_json.proofs.text.plain_text.Goals as goal
 
