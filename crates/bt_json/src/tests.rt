@@ -1,3 +1,6 @@
+mod bytes;
+mod numbers;
+
 use crate::{JsonFault, Tree, read};
 use std::alloc::Global;
 use std::test::Fail;
@@ -39,6 +42,22 @@ fn member_of<'a>(tree: &'a Tree, name: &str) -> Option<Shape<'a>> {
     Some(shape_of(member))
 }
 
+fn whole_of(tree: &Tree) -> Option<u64> {
+    match tree {
+        Tree::Num(number) => number.whole(),
+        _ => None,
+    }
+}
+
+/// The member of that name of a list's last object, where it is a whole number.
+fn last_member(tree: &Tree, name: &str) -> Option<u64> {
+    let Tree::List(items) = tree else {
+        return None;
+    };
+    let object = items.last()?;
+    whole_of(object.member(name)?)
+}
+
 /// The place after the value, or why none is read.
 fn answer(alloc: Global, bytes: &[u8]) -> Result<usize, JsonFault> {
     let (_, after) = read(alloc, bytes)?;
@@ -55,152 +74,6 @@ fn answer_behind(
     bytes.extend_from_slice(front)?;
     bytes.extend_from_slice(more)?;
     Ok(answer(alloc, &bytes))
-}
-
-/// The answer where the text ends behind a byte that goes on, or the byte is bad.
-fn at_the_byte(front: &[u8], goes_on: bool) -> Result<usize, JsonFault> {
-    let at = front.len().saturating_add(usize::from(goes_on));
-    Err(JsonFault::Json(at))
-}
-
-#[test]
-fn bad_bytes(rt: HostRuntime) {
-    let table: [(&[u8], usize); 40] = [
-        (b"", 0),
-        (b" \t\n\r", 4),
-        (b"\x0B1", 0),
-        (b"\xC2\xA01", 0),
-        (b"\xEF\xBB\xBF1", 0),
-        (b"0eNq", 2),
-        (b"01", 1),
-        (b"-01", 2),
-        (b"-", 1),
-        (b"1-", 1),
-        (b"1.", 2),
-        (b".5", 0),
-        (b"1.5.", 3),
-        (b"1e", 2),
-        (b"1e+", 3),
-        (b"1e5.", 3),
-        (b"+1", 0),
-        (b"NaN", 0),
-        (b"-Infinity", 1),
-        (b"True", 0),
-        (b"tru", 3),
-        (b"nulL", 3),
-        (b"]", 0),
-        (b"}", 0),
-        (b",", 0),
-        (b":", 0),
-        (b"'a'", 0),
-        (b"//1", 0),
-        (b"[1,,", 3),
-        (b"[1,]", 3),
-        (b"[1}", 2),
-        (b"{a", 1),
-        (b"{\"a\":1,}", 7),
-        (b"{\"a\":1]", 6),
-        (b"{\"blueprint\":{\"item\":\"blu", 25),
-        (b"\"", 1),
-        (b"\"a\nb\"", 2),
-        (b"\"\\x41\"", 2),
-        (b"\"\\u12g4\"", 5),
-        (b"\"\\ud83d\\u\"", 9),
-    ];
-    for (text, at) in table {
-        assert_eq!(rt;
-            answer(rt.alloc(), text),
-            Err(JsonFault::Json(at)),
-            "{text:?}"
-        );
-    }
-}
-
-/// Every byte is put behind a front that is in a list or an object: it goes on, and the text is cut
-/// behind it, or it is the bad byte.
-#[test]
-fn bytes_that_go_on(rt: HostRuntime) -> Result<(), Fail> {
-    let alloc = rt.alloc();
-    let sets: [(&[u8], &[u8]); 36] = [
-        (b"[[", b" \t\n\r[]{\"-0123456789tfn"),
-        (b"[[1 ", b" \t\n\r,]"),
-        (b"[1,", b" \t\n\r[{\"-0123456789tfn"),
-        (b"[{", b" \t\n\r\"}"),
-        (b"{\"a\"", b" \t\n\r:"),
-        (b"{\"a\" ", b" \t\n\r:"),
-        (b"{\"a\":", b" \t\n\r[{\"-0123456789tfn"),
-        (b"[{\"a\":[]", b" \t\n\r,}"),
-        (b"[{\"a\":1 ", b" \t\n\r,}"),
-        (b"{\"a\":1,", b" \t\n\r\""),
-        (b"[-", b"0123456789"),
-        (b"[[-0", b" \t\n\r,].eE"),
-        (b"[[0", b" \t\n\r,].eE"),
-        (b"[[10", b" \t\n\r,].eE0123456789"),
-        (b"[1.", b"0123456789"),
-        (b"[[1.0", b" \t\n\r,]eE0123456789"),
-        (b"[1e", b"+-0123456789"),
-        (b"[1E+", b"0123456789"),
-        (b"[0e-", b"0123456789"),
-        (b"[[1e0", b" \t\n\r,]0123456789"),
-        (b"[t", b"r"),
-        (b"[tr", b"u"),
-        (b"[tru", b"e"),
-        (b"[[true", b" \t\n\r,]"),
-        (b"[f", b"a"),
-        (b"[fa", b"l"),
-        (b"[fal", b"s"),
-        (b"[fals", b"e"),
-        (b"[n", b"u"),
-        (b"[nu", b"l"),
-        (b"[nul", b"l"),
-        (b"[\"\\", b"\"\\/bfnrtu"),
-        (b"[\"\\u", b"0123456789abcdefABCDEF"),
-        (b"[\"\\ud", b"0123456789abcdefABCDEF"),
-        (b"[\"\\udf", b"0123456789abcdefABCDEF"),
-        (b"[\"\\udf8", b"0123456789abcdefABCDEF"),
-    ];
-    for (front, set) in sets {
-        for byte in 0..=u8::MAX {
-            let wanted = at_the_byte(front, set.contains(&byte));
-            assert_eq!(rt;
-                answer_behind(alloc, front, &[byte])?,
-                wanted,
-                "{front:?} {byte}"
-            );
-        }
-    }
-    // The bytes of UTF-8.
-    let ranges: [(&[u8], &[(u8, u8)]); 17] = [
-        (b"[\"", &[(0x20, 0x7F), (0xC2, 0xF4)]),
-        (b"[\"\xC2", &[(0x80, 0xBF)]),
-        (b"[\"\xDF", &[(0x80, 0xBF)]),
-        (b"[\"\xE0", &[(0xA0, 0xBF)]),
-        (b"[\"\xE0\xA0", &[(0x80, 0xBF)]),
-        (b"[\"\xE1", &[(0x80, 0xBF)]),
-        (b"[\"\xEC", &[(0x80, 0xBF)]),
-        (b"[\"\xED", &[(0x80, 0x9F)]),
-        (b"[\"\xED\x9F", &[(0x80, 0xBF)]),
-        (b"[\"\xEE", &[(0x80, 0xBF)]),
-        (b"[\"\xF0", &[(0x90, 0xBF)]),
-        (b"[\"\xF0\x90", &[(0x80, 0xBF)]),
-        (b"[\"\xF0\x90\x80", &[(0x80, 0xBF)]),
-        (b"[\"\xF1", &[(0x80, 0xBF)]),
-        (b"[\"\xF3", &[(0x80, 0xBF)]),
-        (b"[\"\xF4", &[(0x80, 0x8F)]),
-        (b"[\"\xF4\x8F\xBF", &[(0x80, 0xBF)]),
-    ];
-    for (front, among) in ranges {
-        for byte in 0..=u8::MAX {
-            let goes_on = among.iter().any(|(low, top)| *low <= byte && byte <= *top);
-            let wanted = at_the_byte(front, goes_on);
-            assert_eq!(rt;
-                answer_behind(alloc, front, &[byte])?,
-                wanted,
-                "{front:?} {byte}"
-            );
-        }
-    }
-    Ok(())
 }
 
 #[test]
@@ -332,6 +205,73 @@ fn members(rt: HostRuntime) -> Result<(), Fail> {
     Ok(())
 }
 
+/// The objects of a list have their own names, whatever names the objects before them have.
+#[test]
+fn members_of_the_last_object(rt: HostRuntime) -> Result<(), Fail> {
+    for (json, a, b, c) in [
+        (r#"[{"a":1,"b":2},{"a":3,"b":4}]"#, Some(3), Some(4), None),
+        (r#"[{"a":1,"b":2},{"b":3,"a":4}]"#, Some(4), Some(3), None),
+        (r#"[{"a":1,"b":2},{"a":3}]"#, Some(3), None, None),
+        (r#"[{"a":1,"b":2},{"a":3,"c":4}]"#, Some(3), None, Some(4)),
+        (
+            r#"[{"a":1,"b":2},{"a":3,"b":4,"c":5}]"#,
+            Some(3),
+            Some(4),
+            Some(5),
+        ),
+        (
+            r#"[{"a":1,"b":2},{"\u0061":3,"c":4}]"#,
+            Some(3),
+            None,
+            Some(4),
+        ),
+        (r#"[{"a":1},{"b":2,"c":3},{"b":4}]"#, None, Some(4), None),
+        (
+            r#"[{"a":1,"c":2},{"b":3,"c":4},{"a":5,"c":6}]"#,
+            Some(5),
+            None,
+            Some(6),
+        ),
+        (
+            r#"[{"a":1,"c":2},{"b":3,"c":4},{"b":5}]"#,
+            None,
+            Some(5),
+            None,
+        ),
+        (r#"[{"a":1},{}]"#, None, None, None),
+        (
+            r#"[{"b":{"a":1}},{"b":2,"c":{"b":1}}]"#,
+            None,
+            Some(2),
+            None,
+        ),
+    ] {
+        let (tree, after) = read(rt.alloc(), json.as_bytes())?;
+        assert_eq!(rt; after, json.len(), "{json}");
+        for (name, wanted) in [("a", a), ("b", b), ("c", c)] {
+            let found = last_member(&tree, name);
+            assert_eq!(rt; found, wanted, "{name} of {json}");
+        }
+    }
+    Ok(())
+}
+
+/// Objects of more kinds than the reader keeps the names of.
+#[test]
+fn objects_of_many_kinds(rt: HostRuntime) -> Result<(), Fail> {
+    let alloc = rt.alloc();
+    let mut open = String::from_str(alloc, "[")?;
+    for number in 0..40 {
+        let kind = format!(in alloc; "{}", number % 20)?;
+        let object = format!(in alloc; "{{\"{kind}\":{number}}}")?;
+        open.push_str(&object)?;
+        let (tree, _) = read(alloc, format!(in alloc; "{open}]")?.as_bytes())?;
+        assert_eq!(rt; last_member(&tree, &kind), Some(number));
+        open.push_str(",")?;
+    }
+    Ok(())
+}
+
 #[test]
 fn repeated_names(rt: HostRuntime) {
     for (json, wanted) in [
@@ -355,6 +295,19 @@ fn repeated_names(rt: HostRuntime) {
         (r#"{"a":1,"A":1,"aa":1,"":1,"a ":1}"#, Ok(32)),
         (r#"{"a":{"a":{"a":1}},"b":{"a":1}}"#, Ok(31)),
         (r#"[{"a":1},{"a":1}]"#, Ok(17)),
+        // In an object that begins as one before.
+        (
+            r#"[{"a":1,"b":2},{"a":1,"a""#,
+            Err(JsonFault::DuplicateKey(22)),
+        ),
+        (
+            r#"[{"a":1,"b":2},{"a":1,"b":2,"a""#,
+            Err(JsonFault::DuplicateKey(28)),
+        ),
+        (
+            r#"[{"a":1,"b":2},{"b":1,"a":2,"b""#,
+            Err(JsonFault::DuplicateKey(28)),
+        ),
     ] {
         assert_eq!(rt; answer(rt.alloc(), json.as_bytes()), wanted, "{json}");
     }
@@ -422,86 +375,6 @@ fn levels(rt: HostRuntime) -> Result<(), Fail> {
     ];
     for (more, fault) in table {
         assert_eq!(rt; answer_behind(alloc, &open, more)?, Err(fault), "{more:?}");
-    }
-    Ok(())
-}
-
-#[test]
-fn a_text_cut_at_every_place(rt: HostRuntime) -> Result<(), Fail> {
-    let text =
-        b" {\"a\" : [-1.5e-1, \"b\\u00e9\xC3\xA9\\n\", true,false], \"\" : {} , \"\xF0\x9F\x9A\x80\":null}";
-    for at in 0..text.len() {
-        assert_eq!(rt; answer(rt.alloc(), &text[..at]), Err(JsonFault::Json(at)));
-    }
-    assert_eq!(rt; answer(rt.alloc(), text), Ok(text.len()));
-    Ok(())
-}
-
-#[test]
-fn numbers(rt: HostRuntime) -> Result<(), Fail> {
-    for (text, halves, whole) in [
-        ("0", Some(0), Some(0)),
-        ("-0", Some(0), Some(0)),
-        ("-0.00e-7", Some(0), Some(0)),
-        ("-1", Some(-2), None),
-        ("0.5", Some(1), None),
-        ("-0.5", Some(-1), None),
-        ("0.25", None, None),
-        ("0.05", None, None),
-        ("0.51", None, None),
-        ("1.50", Some(3), None),
-        ("15e-1", Some(3), None),
-        ("0.15e+1", Some(3), None),
-        ("2.0", Some(4), Some(2)),
-        ("20e-1", Some(4), Some(2)),
-        ("200e-3", None, None),
-        ("1e002", Some(200), Some(100)),
-        // The bounds.
-        ("524287.5", Some(1_048_575), None),
-        ("524288", Some(1_048_576), Some(524_288)),
-        ("-524288", Some(-1_048_576), None),
-        ("524288.5", None, None),
-        ("-524288.5", None, None),
-        ("524289", None, Some(524_289)),
-        ("18446744073709551615", None, Some(u64::MAX)),
-        ("18446744073709551616", None, None),
-        ("1844674407370955161.5e1", None, Some(u64::MAX)),
-        ("1844674407370955161.6e1", None, None),
-        // Many digits.
-        ("1234567890123456789", None, Some(1_234_567_890_123_456_789)),
-        ("5000000000000000000000000e-24", Some(10), Some(5)),
-        ("1500000000000000000000000e-24", Some(3), None),
-        ("1500000000000000000000001e-24", None, None),
-        ("0.000000000000000000000000015e26", Some(3), None),
-        ("0.000000000000000000000000015e27", Some(30), Some(15)),
-        (
-            "2.0000000000000000000000000000000000000000",
-            Some(4),
-            Some(2),
-        ),
-        ("0.5000000000000000000000000000000000000000", Some(1), None),
-        ("0.5000000000000000000000000000000000000001", None, None),
-        (
-            "70000000000000000000000000000000000000000e-40",
-            Some(14),
-            Some(7),
-        ),
-        // Exponents around 2^62 and far beyond it.
-        ("1e4611686018427387904", None, None),
-        ("1e-4611686018427387905", None, None),
-        ("0e99999999999999999999", Some(0), Some(0)),
-        ("0.0e-99999999999999999999", Some(0), Some(0)),
-        ("1e99999999999999999999", None, None),
-        ("1e-99999999999999999999", None, None),
-        (
-            "1e00000000000000000000000000000000000000001",
-            Some(20),
-            Some(10),
-        ),
-    ] {
-        let (tree, after) = read(rt.alloc(), text.as_bytes())?;
-        let wanted = (Shape::Num(halves, whole), text.len());
-        assert_eq!(rt; (shape_of(&tree), after), wanted, "{text}");
     }
     Ok(())
 }
