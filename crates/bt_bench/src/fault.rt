@@ -22,7 +22,7 @@ impl Fault {
     pub fn word(self) -> &'static str {
         match self {
             Fault::Usage =>
-                "usage: bt_bench (add-small | add-wide | json | json-kept) ROUNDS | grid ROUNDS ENTITIES",
+                "usage: bt_bench (add-small | add-wide | json | json-kept | grid) ROUNDS",
             Fault::Wide => "wide",
             Fault::Input => "input",
             Fault::Json => "json",

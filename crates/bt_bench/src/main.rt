@@ -1,17 +1,16 @@
-// Loops that time the crates. The first word names the loop, the second is the number of rounds, and the third,
-// which `grid` has, is the number of entities. The loops over JSON read their text from standard input.
+// Loops that time the crates. The first word names the loop, and the second is the number of rounds. The loops over
+// JSON and over a blueprint read their text from standard input.
 #![tactic(auto)]
 
 mod fault;
-mod field;
 mod fractions;
 mod grid;
 mod json;
 
 use bt_frac::Frac;
 use bt_io::{Source, StdSource, read_all};
+use bt_json::read;
 use fault::Fault;
-use field::field;
 use fractions::{repeated_sum, small_fractions, wide_fractions};
 use grid::number_of_parts;
 use json::{place_after, place_after_kept};
@@ -38,7 +37,6 @@ fn outcome_of<S: Source>(
     alloc: Global,
     name: &str,
     rounds: u64,
-    entities: u16,
     source: &mut S,
 ) -> Result<Outcome, Fault> {
     match name {
@@ -53,7 +51,8 @@ fn outcome_of<S: Source>(
             Ok(Outcome::Count(place_after_kept(alloc, &text, rounds)?))
         }
         "grid" => {
-            let blueprint = field(alloc, entities)?;
+            let text = read_all(alloc, source, INPUT_LIMIT)?;
+            let (blueprint, _) = read(alloc, &text)?;
             Ok(Outcome::Count(number_of_parts(alloc, &blueprint, rounds)?))
         }
         _ => Err(Fault::Usage),
@@ -64,17 +63,12 @@ fn main(rt: HostRuntime) -> io::Result<()> {
     let mut words = env::args(&rt)?.skip(1);
     let name = words.next();
     let rounds = words.next();
-    let entities = words.next();
     let (Some(name), Some(rounds)) = (name, rounds) else {
         return println!(rt; "{}", Fault::Usage.word());
     };
     let rounds = rounds.as_str().parse::<u64>().unwrap_or(0);
-    let entities = match entities {
-        Some(entities) => entities.as_str().parse::<u16>().unwrap_or(0),
-        None => 0,
-    };
     let mut source = StdSource::new(rt.stdin());
-    match outcome_of(rt.alloc(), name.as_str(), rounds, entities, &mut source) {
+    match outcome_of(rt.alloc(), name.as_str(), rounds, &mut source) {
         Ok(Outcome::Sum(over, under)) => println!(rt; "{over}/{under}"),
         Ok(Outcome::Count(count)) => println!(rt; "{count}"),
         Err(fault) => println!(rt; "{}", fault.word()),
