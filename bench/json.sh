@@ -11,7 +11,7 @@ trap 'rm -rf "$folder"' EXIT
 python3 "$top/bench/make_blueprint.py" 16777216 >"$folder/book"
 (cd "$top/crates/bt_bench" && rt run -- json 1 <"$folder/book" >/dev/null)
 python3 - "$top/crates/bt_bench/out/bt_bench" "$folder" <<'PYTHON'
-import importlib.util, os, subprocess, sys
+import importlib.util, os, string, subprocess, sys
 from pathlib import Path
 
 program, folder = sys.argv[1], Path(sys.argv[2])
@@ -55,14 +55,7 @@ def nested(opening, closing, levels=62):
     return opening * levels + closing * levels
 
 
-def objects_of_other_names():
-    """Objects of one member, no two near each other with the same name."""
-    letters = "abcdefghijklmnopqrstuvwxyzABCDEFGHIJKLMNOPQRSTUVWXYZ"
-    names = ['{"' + a + b + '":1}' for a in letters for b in letters]
-    number = (SIZE - 1) // (len(names[0]) + 1)
-    return ("[" + ",".join(names[place % len(names)] for place in range(number)) + "]").encode()
-
-
+LETTERS = string.ascii_letters
 TEXTS = {
     "one-digit numbers": ("[", "1", "]"),
     "texts of no character": ("[", '""', "]"),
@@ -73,8 +66,8 @@ TEXTS = {
     "lists of five numbers": ("[", "[1,1,1,1,1]", "]"),
     "lists within lists": ("[", nested("[", "]"), "]"),
     "objects within objects": ("[", nested('{"":', "}").replace(':}', ":1}", 1), "]"),
+    "objects of other names": ("[", ",".join('{"' + a + b + '":1}' for a in LETTERS for b in LETTERS), "]"),
 }
-TEXTS = {name: repeated(*parts) for name, parts in TEXTS.items()} | {"objects of other names": objects_of_other_names()}
 
 book = folder / "book"
 size = book.stat().st_size
@@ -97,9 +90,9 @@ for module, times in theirs.items():
     print(f"{module}.loads alone {best[0]:.3f} s: {ours[0] / best[0]:.2f} times{limit}; with the value let go {best[1]:.3f} s: {ours[1] / best[1]:.2f} times")
 print(f"peak memory {peak / 2**20:.0f} MiB: {peak / size:.1f} times the text (at most 30)")
 worst = 0
-for name, text in TEXTS.items():
+for name, parts in TEXTS.items():
     path = folder / "text"
-    path.write_bytes(text)
+    path.write_bytes(repeated(*parts))
     ratio = run("json", 1, path)[1] / path.stat().st_size
     worst = max(worst, ratio)
     print(f"{name}: peak memory {ratio:.1f} times the text")
