@@ -21,6 +21,7 @@ use Rattle.bt_entities.specs.Blueprints.{IsVersion, IsBlueprint, HasEntity}
 abbrev pub HasWrong : Json → List ℕ → (Json → Type 0) → Type 0
 HasWrong v name IsRight = (m : Json) × HasMember v name m × ¬ IsRight m
 
+-- the value is a list
 abbrev pub IsList : Json → Type 0
 IsList v = (items : Items) × (v ≡ list items)
 

@@ -13,13 +13,15 @@ use Rattle.bt_flow.specs.Properties.{Breaks}
 use Rattle.bt_flow.specs.Tests.{order_of, places, Passes, IsAmong, IsEarlier, PassesUpTo, FailsFirst}
 use Rattle.bt_flow.specs.Sums.{sums_of, AllFit, IsFirstWide}
 
--- the tests of the seven laws have the places 2 to 8 in the order, and all tests 0 to 9
+-- the place of the first law in the order of the tests, of which two come before the laws and one after them
 abbrev pub first_law : ℕ
 first_law = 2
 
+-- the place of the last law in that order
 abbrev pub last_law : ℕ
 last_law = 8
 
+-- the place of the last test in that order
 abbrev pub last_test : ℕ
 last_test = 9
 
@@ -84,6 +86,7 @@ abbrev pub IsBreakingAnswer : Network → Property → State → Flows → Resul
 IsBreakingAnswer n p t s (Ok j) = JudgesBreaking n p s j × NeedsFit n p t 0 last_test j
 IsBreakingAnswer n p t s (Err w) = IsWideSum n p t 0 last_test w
 
+-- the same for the seven laws alone, whatever the property
 abbrev pub IsSteadyAnswer : Network → State → Flows → Result Judgement WideSum → Type 0
 IsSteadyAnswer n t s (Ok j) = JudgesSteady n s j × ((p : Property) → NeedsFit n p t first_law last_law j)
 IsSteadyAnswer n t s (Err w) = (p : Property) → IsWideSum n p t first_law last_law w

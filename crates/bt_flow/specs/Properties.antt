@@ -30,13 +30,14 @@ IsLoaded n s i = (a : ℕ) (e : Edge) → HasEdge n a e → IsTrue (is_input i e
 abbrev pub IsOpen : Network → Flows → ℕ → Type 0
 IsOpen n s o = (a : ℕ) (e : Edge) → HasEdge n a e → IsTrue (is_output o e) → room_at s o ≡ cap_in s e
 
--- which loads and which rooms a property asks to be at their caps
+-- whether a property asks every load to be at its cap
 abbrev pub asks_loads : Property → Bool
 asks_loads Balanced = false
 asks_loads DrawnEvenly = true
 asks_loads Unlimited = false
 asks_loads Full = true
 
+-- whether a property asks every room to be at its cap
 abbrev pub asks_rooms : Property → Bool
 asks_rooms Balanced = true
 asks_rooms DrawnEvenly = false

@@ -40,16 +40,19 @@ pub record Fits (n : Network) (t : State) : Type 0 where
   pub loads : length t.loads.items ≡ n.inputs
   pub rooms : length t.rooms.items ≡ n.outputs
 
--- the flow and the mark of the edge with this number, the load of an input and the room of an output
+-- the flow of the edge with this number, over the state's denominator
 abbrev pub flow_at : Flows → ℕ → ℤ
 flow_at s a = slice_index_or s.flows a (pos 0)
 
+-- whether the edge with this number is marked as backed
 abbrev pub backed_at : Flows → ℕ → Bool
 backed_at s a = slice_index_or s.backed a false
 
+-- the load of the input with this number
 abbrev pub load_at : Flows → ℕ → ℤ
 load_at s i = slice_index_or s.loads i (pos 0)
 
+-- the room of the output with this number
 abbrev pub room_at : Flows → ℕ → ℤ
 room_at s o = slice_index_or s.rooms o (pos 0)
 

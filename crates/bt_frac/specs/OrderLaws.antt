@@ -95,9 +95,11 @@ number_cmp_total = record {
   congr = λ a b c. number_congr a.over b.over c.over (max a.under 1) (max b.under 1) (max c.under 1) (some_shown a.under) (some_shown b.under) (some_shown c.under);
 }
 
+-- the order of fractions is total
 pub ratio_cmp_total : IsTotalOrder ratio_cmp
 ratio_cmp_total = then_total number_cmp_total (then_total (on_total (λ r. r.over) int_cmp_total) (on_total (λ r. r.under) nat_cmp_total))
 
+-- the partial order of fractions is their order
 pub ratio_cmp_partial : Agrees (as_partial_cmp ratio_cmp) ratio_cmp
 ratio_cmp_partial x y = refl
 

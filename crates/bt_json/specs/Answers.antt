@@ -69,6 +69,7 @@ pub record IsFront (bytes : List ℕ) (v : Json) (after : ℕ) : Type 0 where
   pub spelled : (Blanks ▸ IsValue v) (take after bytes)
   pub ends : EndsBefore v (drop after bytes)
 
+-- some value stands at the front of the text
 abbrev pub HasValue : List ℕ → Type 0
 HasValue bytes = (v : Json) × (after : ℕ) × IsFront bytes v after
 

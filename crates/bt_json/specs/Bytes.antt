@@ -6,11 +6,12 @@ use Rattle.bt_json.specs.declared.kind.Kind.TheVariants.{Blank, ListOpens, ListC
 use Rattle.bt_json.specs.declared.kind.Mark.{Mark}
 use Rattle.bt_json.specs.declared.kind.Mark.TheVariants.{Figure, Point, LetterE, PlusSign, MinusSign, Over}
 
+-- what a byte may be between the tokens of a text, or at a token's front
 unfoldable pub kind_of : ℕ → Kind
 kind_of b =
     if is_blank b then Blank else (if b == 91 then ListOpens else (if b == 93 then ListCloses else (if b == 123 then ObjectOpens else (if b == 125 then ObjectCloses else (if b == 44 then Comma else (if b == 58 then Colon else (if b == 34 then Quote else (if b == 45 then Minus else (if nat_le 48 b && nat_le b 57 then Digit else (if b == 116 then LetterT else (if b == 102 then LetterF else (if b == 110 then LetterN else Other))))))))))))
 
--- in a number
+-- what a byte may be in a number
 unfoldable pub mark_of : ℕ → Mark
 mark_of b =
     if nat_le 48 b && nat_le b 57 then Figure (b - 48) else (if b == 46 then Point else (if (b == 101) || (b == 69) then LetterE else (if b == 43 then PlusSign else (if b == 45 then MinusSign else Over))))

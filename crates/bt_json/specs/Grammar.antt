@@ -19,6 +19,7 @@ pub record Joined (First Second : Texts) (t : List ℕ) : Type 0 where
   pub second : Second back
   pub whole : t ≡ front ++ back
 
+-- the same, written between the two sets
 infixr 5 ◌▸◌
 abbrev pub ◌▸◌ : Texts → Texts → Texts
 First ▸ Second = Joined First Second
@@ -31,6 +32,7 @@ Byte b t = t ≡ b ∷ []
 abbrev pub is_blank : ℕ → Bool
 is_blank b = (b == 32) || (b == 9) || (b == 10) || (b == 13)
 
+-- any number of these, none too
 abbrev pub Blanks : Texts
 Blanks t = AllByRecursion (λ b. IsTrue (is_blank b)) t
 
@@ -61,6 +63,7 @@ abbrev pub ExponentSign : Bool → Texts
 ExponentSign true t = t ≡ 45 ∷ []
 ExponentSign false t = (t ≡ []) ⊎ (t ≡ 43 ∷ [])
 
+-- the letter before an exponent
 abbrev pub Letter : Texts
 Letter t = (t ≡ 101 ∷ []) ⊎ (t ≡ 69 ∷ [])
 
@@ -110,6 +113,7 @@ abbrev pub IsPiece : Piece → Texts
 IsPiece (plain c) t = IsScalar c × (32 ≤ c) × (c ≢ 34) × (c ≢ 92) × (t ≡ encode_utf8 c)
 IsPiece (unit u) t = ((b : ℕ) × (t ≡ 92 ∷ b ∷ []) × (short_escape b ≡ Some u)) ⊎ IsHexEscape u t
 
+-- the texts of the pieces, one behind the other
 abbrev pub Pieces : List Piece → Texts
 Pieces [] t = t ≡ []
 Pieces (p ∷ ps) t = (IsPiece p ▸ Pieces ps) t

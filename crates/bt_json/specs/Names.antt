@@ -10,9 +10,11 @@ use Rattle.bt_json.specs.Running.{rest_of, rest_after}
 use Rattle.bt_json.specs.declared.names.NamesSoFar.{NamesSoFar}
 use Rattle.bt_json.specs.declared.names.NamesSoFar.TheVariants.{Front, Own}
 
+-- the set of names that a tree holds
 abbrev pub Set : Type 0
 Set = IndexSet (String Global) (BuildHasherDefault FoldHasher)
 
+-- its names, in their order
 abbrev pub keys_of : Set → List (List ℕ)
 keys_of set = map string_bytes set.keys
 
@@ -20,6 +22,7 @@ keys_of set = map string_bytes set.keys
 abbrev pub front_of : Set → ℕ → List (List ℕ)
 front_of set count = take count (keys_of set)
 
+-- the names that an object has so far
 abbrev pub names_of : NamesSoFar → List (List ℕ)
 names_of (Front set count) = front_of set.value count
 names_of (Own set) = keys_of set

@@ -13,6 +13,7 @@ pub record SkipsBlanks (s : State) : Type 0 where
 abbrev pub rest_of : List ℕ → ℕ → State → Stop
 rest_of bytes at s = run true at s (drop at bytes)
 
+-- the same from a step on
 abbrev pub rest_after : List ℕ → ℕ → Step → Stop
 rest_after bytes at next = after_step next (λ s. rest_of bytes at s)
 
@@ -34,9 +35,11 @@ pub record Around : Type 0 where
   pub role : Role
   pub frames : List Frame
 
+-- the state at that place
 abbrev pub within : Around → Place → State
 within t place = in_text t.out t.high place t.role t.frames
 
+-- the step to what the text has come to
 abbrev pub step_within : ℕ → Around → InText → Step
 step_within at t next = step_in_text true at t.role t.frames next
 

@@ -9,6 +9,7 @@ use Rattle.bt_json.specs.Json.{Number, Json, null, boolean, number, text, list, 
 abbrev pub number_of : Decimal → Number
 number_of d = record { negative = d.negative; digits = d.digits.items; exponent = d.exponent }
 
+-- the items of a list, in their order
 abbrev pub items_of : List Json → Items
 items_of [] = no_items
 items_of (v ∷ vs) = item v (items_of vs)

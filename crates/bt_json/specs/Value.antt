@@ -8,6 +8,7 @@ abbrev pub IsScaled : ℕ → ℕ → ℤ → Type 0
 IsScaled m n (pos k) = m ≡ n * 10 ^ k
 IsScaled m n (negsuc k) = m * 10 ^ (k + 1) ≡ n
 
+-- the whole number with that sign
 abbrev pub signed : Bool → ℕ → ℤ
 signed negative m = if negative then neg_ℤ (pos m) else pos m
 
