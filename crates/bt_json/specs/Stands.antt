@@ -1,5 +1,6 @@
 -- Which JSON value a tree stands for.
-use Rattle.std.specs.Prelude.{ℕ, List, [], ◌∷◌, map, string_bytes}
+use Rattle.std.specs.Prelude.{ℕ, Bool, true, ◌&&◌, ◌==◌, List, [], ◌∷◌, map, length, string_bytes}
+use Rattle.std.specs.List.{list_all}
 use Rattle.bt_json.specs.declared.decimal.Decimal.{Decimal}
 use Rattle.bt_json.specs.declared.tree.Tree.{Tree, fold-Tree}
 use Rattle.bt_json.specs.declared.tree.Tree.TheOpen.{Tree-F}
@@ -32,3 +33,16 @@ json_step (Tree-F.Object names v) = object (members_of (map string_bytes names.v
 -- the value that a tree stands for
 abbrev pub json_of : Tree → Json
 json_of = fold-Tree Json json_step
+
+-- by cases on the tree, whose inner trees are seen by whether they are full
+abbrev pub full_step : Tree-F Bool → Bool
+full_step Tree-F.Null = true
+full_step (Tree-F.Bool b) = true
+full_step (Tree-F.Num d) = true
+full_step (Tree-F.Text t) = true
+full_step (Tree-F.List v) = list_all (λ full. full) v.items
+full_step (Tree-F.Object names v) = (length names.value.keys == length v.items) && list_all (λ full. full) v.items
+
+-- each object of the tree has as many values as names
+abbrev pub is_full : Tree → Bool
+is_full = fold-Tree Bool full_step

@@ -1,6 +1,6 @@
-ghost use Rattle.std.specs.Prelude.{◌≡◌, ◌≢◌, ◌≤◌, ◌<◌, ◌-◌, ◌+◌, [], ◌∷◌, ◌++◌, length, slice_index, true, false, IfOk, IfErr, OnOk, List, None, ℕ, map, string_bytes};
+ghost use Rattle.std.specs.Prelude.{◌≡◌, ◌≢◌, ◌≤◌, ◌<◌, ◌-◌, ◌+◌, [], ◌∷◌, ◌++◌, length, slice_index, true, false, IsTrue, IfOk, IfErr, OnOk, List, None, ℕ, map, string_bytes};
 ghost use Rattle.bt_json.specs.Json.{Json as JsonValue, number, text};
-ghost use Rattle.bt_json.specs.Stands.{json_of};
+ghost use Rattle.bt_json.specs.Stands.{json_of, is_full};
 ghost use Rattle.bt_json.specs.Bytes.{kind_of};
 ghost use Rattle.bt_json.specs.Reading.{Frame, Role, in_text, between, in_list, in_object, due, opened_list, opened_object, behind, name_due, deliver, reading, found};
 ghost use Rattle.bt_json.specs.Answers.{depth_of, HasDistinctNames, IsFront, IsFirst, IsReadAs, IsRefusedAs};
@@ -34,6 +34,7 @@ fn read_value(
     requires within { start ≤ length bytes.now }
     requires shallow { depth ≤ 64 }
     ensures later { IfOk result (λ r. IsLater bytes.now start r.1) }
+    ensures full { IfOk result (λ r. IsTrue (is_full r.0)) }
     ensures ok { IfOk result (λ r. (k : List Frame) → length k ≡ depth → rest_of bytes.now start (due k) ≡ rest_after bytes.now r.1 (deliver (json_of r.0) k r.1)) }
     ensures err { IfErr result (λ f. (k : List Frame) → length k ≡ depth → Faults f (rest_of bytes.now start (due k))) }
 {
@@ -95,6 +96,7 @@ fn read_list(
     requires shallow { depth ≤ 64 }
     requires inside { 0 < depth }
     ensures later { IfOk result (λ r. IsLater bytes.now start r.1) }
+    ensures full { IfOk result (λ r. IsTrue (is_full r.0)) }
     ensures ok { IfOk result (λ r. (k : List Frame) → length k + 1 ≡ depth → rest_of bytes.now start (opened_list k) ≡ rest_after bytes.now r.1 (deliver (json_of r.0) k r.1)) }
     ensures err { IfErr result (λ f. (k : List Frame) → length k + 1 ≡ depth → Faults f (rest_of bytes.now start (opened_list k))) }
 {
@@ -152,6 +154,7 @@ fn read_name(
 ) -> Result<usize, JsonFault>
     requires { start ≤ length bytes.now }
     ensures later { IfOk result (λ n. (start < n) × (n ≤ length bytes.now)) }
+    ensures grows { OnOk result (length (names_of names.new) ≡ length (names_of names.old) + 1) }
     ensures ok { IfOk result (λ n. (vs : List JsonValue) (k : List Frame) → rest_of bytes.now start (name_due (names_of names.old) vs k) ≡ rest_of bytes.now n (due (in_object (names_of names.new) vs ∷ k))) }
     ensures err { IfErr result (λ f. (vs : List JsonValue) (k : List Frame) → Faults f (rest_of bytes.now start (name_due (names_of names.old) vs k))) }
 {
@@ -189,6 +192,7 @@ fn read_object(
     requires shallow { depth ≤ 64 }
     requires inside { 0 < depth }
     ensures later { IfOk result (λ r. IsLater bytes.now start r.1) }
+    ensures full { IfOk result (λ r. IsTrue (is_full r.0)) }
     ensures ok { IfOk result (λ r. (k : List Frame) → length k + 1 ≡ depth → rest_of bytes.now start (opened_object k) ≡ rest_after bytes.now r.1 (deliver (json_of r.0) k r.1)) }
     ensures err { IfErr result (λ f. (k : List Frame) → length k + 1 ≡ depth → Faults f (rest_of bytes.now start (opened_object k))) }
 {
@@ -217,6 +221,7 @@ fn read_object(
 
 /// What reading byte by byte gives.
 fn read_front(alloc: Global, bytes: &[u8]) -> Result<(Tree, usize), JsonFault>
+    ensures full { IfOk result (λ r. IsTrue (is_full r.0)) }
     ensures ok { IfOk result (λ r. reading bytes.now ≡ found (json_of r.0) r.1) }
     ensures err { IfErr result (λ f. Faults f (reading bytes.now)) }
 {
@@ -235,6 +240,7 @@ pub fn read(alloc: Global, bytes: &[u8]) -> Result<(Tree, usize), JsonFault>
     ensures found { IfOk result (λ r. IsFront bytes.now (json_of r.0) r.1) }
     ensures levels { IfOk result (λ r. depth_of (json_of r.0) ≤ 64) }
     ensures names { IfOk result (λ r. HasDistinctNames (json_of r.0)) }
+    ensures full { IfOk result (λ r. IsTrue (is_full r.0)) }
 
     // What is in the grammar is read.
     ensures reads { (v : JsonValue) (after : ℕ) → IsFront bytes.now v after → depth_of v ≤ 64 → HasDistinctNames v → IsReadAs v after result }

@@ -1,16 +1,17 @@
 use Rattle.std.proofs.Common.{arith, true, false, List, ◌≡◌, ◌<◌, ◌+◌, ◌-◌, ◌++◌, ◌∷◌, [], map, get_or, length, sym, ap, ap₂, ◌∙◌, subst}
 use Rattle.std.specs.Prelude.{string_bytes}
 use Rattle.std.proofs.lemmas.Result.{err_from_is_err_and}
-use Rattle.std.proofs.lemmas.List.{map_push}
+use Rattle.std.proofs.lemmas.List.{map_push, length-append}
 use Rattle.bt_json.specs.Names.{names_of, keys_of}
 use Rattle.bt_json.specs.Json.{Json, null, boolean, text, list, object}
-use Rattle.bt_json.specs.Stands.{json_of, items_of, members_of}
+use Rattle.std.specs.List.{list_all}
+use Rattle.bt_json.specs.Stands.{json_of, items_of, members_of, is_full}
 use Rattle.bt_json.specs.Bytes.{kind_of}
 use Rattle.bt_json.specs.Reading.{due, opened_list, opened_object, behind, name_due, in_list, in_object, deliver, as_value}
 use Rattle.bt_json.specs.Running.{Faults, rest_of, rest_after}
 use Rattle.bt_json.specs.declared.tree.Tree.TheViews as views
 use Rattle.bt_json.specs.declared.kind.Kind.TheVariants.{ListOpens, ObjectOpens, Quote, LetterT, LetterF, LetterN}
-use Rattle.bt_json.proofs.Trees.{json-List, json-Object, json-Text, json-Num, json-Bool, json-Null}
+use Rattle.bt_json.proofs.Trees.{json-List, json-Object, json-Text, json-Num, json-Bool, json-Null, full_none, full_more}
 use Rattle.bt_json.proofs.Levels.{skips_due, skips_opened_list, skips_behind, skips_opened_object, list_closes, first_item, item_ends_list, next_item, list_breaks, object_closes, first_name, value_ends_object, next_name, object_breaks, moved_if, moved_if_err, due_at, due_cut, due_breaks, opens_inside, opens_deep, no_kind, length_is, length_more}
 use Rattle.bt_json.proofs.reader.+reading.Goals as goal
 
@@ -31,6 +32,7 @@ read_list-loop-items-init t c =
     record {
       from = c.skip_blanks-at.ensures.later.0;
       inside = c.skip_blanks-at.ensures.later.1;
+      full = full_none c.new-items.result.items c.new-items.ensures.items;
       read = λ k e. c.skip_blanks-at.ensures.blanks (opened_list k) (skips_opened_list k) ∙ first_item bs at k c.skip_blanks-at.ensures.ends (c.stands_at.ensures.no c.if-stands_at.false)
           ∙ ap (λ ts. rest_of bs at (due (in_list (map json_of ts) ∷ k))) (sym c.new-items.ensures.items);
     }
@@ -68,6 +70,7 @@ read_list-loop-items-preserved t c =
     let grown : map json_of c.push.new.self.items ≡ vs ++ v ∷ [] = ap (map json_of) c.in_ok-push.ensures.items ∙ map_push json_of c.loop-items.items.items c.in_ok-item.item in
     record {
       from = let a = c.in_ok-item.ensures.later in let b = c.skip_blanks-next.ensures.later in omega arith;
+      full = ap (λ ts. list_all (λ full. full) (map is_full ts)) c.in_ok-push.ensures.items ∙ full_more c.loop-items.items.items c.in_ok-item.item c.loop-items.invariant.full c.in_ok-item.ensures.full;
       inside = let o = c.in_ok-expect_byte.ensures.ok.0 in omega arith;
       read = λ k e.
           let inner : length (in_list vs ∷ k) ≡ c.args.depth = omega arith in
@@ -96,6 +99,8 @@ read_object-loop-values-init t c =
     record {
       from = c.skip_blanks-at.ensures.later.0;
       inside = c.skip_blanks-at.ensures.later.1;
+      count = ap length no_names ∙ sym (ap length c.new-values.ensures.items);
+      full = full_none c.new-values.result.items c.new-values.ensures.items;
       read = λ k e. c.skip_blanks-at.ensures.blanks (opened_object k) (skips_opened_object k) ∙ first_name bs at k c.skip_blanks-at.ensures.ends (c.stands_at.ensures.no c.if-stands_at.false)
           ∙ ap (λ ns. rest_of bs at (name_due ns [] k)) (sym no_names) ∙ ap (λ ts. rest_of bs at (name_due (names_of c.in_ok-names.names) (map json_of ts) k)) (sym c.new-values.ensures.items);
     }
@@ -137,9 +142,12 @@ read_object-loop-values-preserved t c =
     let vs = map json_of c.loop-values.values.items in
     let v = json_of c.in_ok-value.value in
     let next = c.skip_blanks-next.result in
+    let items = c.in_ok-push.ensures.items ∙ ap (λ ts. ts ++ c.in_ok-value.value ∷ []) c.in_ok-make_room.ensures in
     let grown : map json_of c.push.new.self.items ≡ vs ++ v ∷ [] = ap (map json_of) (c.in_ok-push.ensures.items ∙ ap (λ ts. ts ++ c.in_ok-value.value ∷ []) c.in_ok-make_room.ensures) ∙ map_push json_of c.loop-values.values.items c.in_ok-value.value in
     record {
       from = let d = c.in_ok-due.ensures.later in let a = c.in_ok-value.ensures.later in let b = c.skip_blanks-next.ensures.later in omega arith;
+      count = c.in_ok-due.ensures.grows ∙ ap (λ n. n + 1) c.loop-values.invariant.count ∙ sym (ap length items ∙ length-append c.loop-values.values.items (c.in_ok-value.value ∷ []));
+      full = ap (λ ts. list_all (λ full. full) (map is_full ts)) items ∙ full_more c.loop-values.values.items c.in_ok-value.value c.loop-values.invariant.full c.in_ok-value.ensures.full;
       inside = let o = c.in_ok-expect_byte.ensures.ok.0 in omega arith;
       read = λ k e.
           let inner : length (in_object names vs ∷ k) ≡ c.args.depth = omega arith in

@@ -1,6 +1,7 @@
-use Rattle.std.proofs.Common.{◌≡◌, ◌≤◌, ◌+◌, ◌-◌, ◌*◌, ◌∷◌, List, map, length}
+use Rattle.std.proofs.Common.{◌≡◌, true, ◌≤◌, ◌+◌, ◌-◌, ◌*◌, ◌∷◌, List, map, length}
 use Rattle.bt_json.specs.Names.{names_of}
-use Rattle.bt_json.specs.Stands.{json_of}
+use Rattle.std.specs.List.{list_all}
+use Rattle.bt_json.specs.Stands.{json_of, is_full}
 use Rattle.bt_json.specs.Reading.{Frame, in_list, due, opened_list, opened_object, name_due}
 use Rattle.bt_json.specs.Running.{rest_of}
 use Rattle.bt_json.proofs.reader.+reading.Given as goal
@@ -19,6 +20,7 @@ abbrev pub invariant-read_list-loop-items : goal.invariant-read_list-loop-items
 invariant-read_list-loop-items l = record {
   from : l.start ≤ l.at;
   inside : l.at ≤ length l.bytes;
+  full : list_all (λ full. full) (map is_full l.items.items) ≡ true;
   read : (k : List Frame) → length k + 1 ≡ l.depth → rest_of l.bytes l.start (opened_list k) ≡ rest_of l.bytes l.at (due (in_list (map json_of l.items.items) ∷ k));
 }
 
@@ -29,6 +31,8 @@ abbrev pub invariant-read_object-loop-values : goal.invariant-read_object-loop-v
 invariant-read_object-loop-values l = record {
   from : l.start ≤ l.at;
   inside : l.at ≤ length l.bytes;
+  count : length (names_of l.names) ≡ length l.values.items;
+  full : list_all (λ full. full) (map is_full l.values.items) ≡ true;
   read : (k : List Frame) → length k + 1 ≡ l.depth → rest_of l.bytes l.start (opened_object k) ≡ rest_of l.bytes l.at (name_due (names_of l.names) (map json_of l.values.items) k);
 }
 
