@@ -27,6 +27,11 @@ abbrev pub names_of : NamesSoFar → List (List ℕ)
 names_of (Front set count) = front_of set.value count
 names_of (Own set) = keys_of set
 
+-- the set that it follows, or its own
+abbrev pub set_of : NamesSoFar → Set
+set_of (Front set count) = set.value
+set_of (Own set) = set
+
 -- the name with that place is this one, and stands at no place before
 pub record GoesOn (names : List (List ℕ)) (count : ℕ) (name : List ℕ) : Type 0 where
   pub next : take (count + 1) names ≡ take count names ++ name ∷ []

@@ -1,6 +1,6 @@
 ghost use Rattle.std.specs.Prelude.{◌≡◌, ◌<◌, ◌+◌, ◌^◌, ◌++◌, ◌∷◌, [], take, length, slice_index_or, not, IsTrue, IfOk, IfSome, map, string_bytes};
 ghost use Rattle.bt_json.specs.Reading.{has_name};
-ghost use Rattle.bt_json.specs.Names.{names_of, keys_of, front_of, GoesOn};
+ghost use Rattle.bt_json.specs.Names.{names_of, keys_of, front_of, set_of, GoesOn};
 
 use indexmap::IndexSet;
 use std::alloc::{AllocError, Global};
@@ -12,13 +12,13 @@ const SETS: usize = 16;
 /// How many names a kept set has at most.
 const NAMES: usize = 32;
 
-/// Sets of names that objects had which were read before. Objects with the same names in the same
-/// order share their set.
+/// Sets of names of objects that were read before. Objects with the same names in the same order
+/// share their set.
 #[derive(Drop)]
-pub struct Known {
+pub struct KnownNames {
     none: Rc<IndexSet<String>>,
     sets: Vec<Rc<IndexSet<String>>>,
-    /// The place of the set that has been kept for longest.
+    /// The place of the set that was kept first, where there are as many as may be.
     oldest: usize,
     ghost empty: { none.value.keys ≡ [] },
 }
@@ -82,9 +82,11 @@ fn front(
     Ok(front)
 }
 
-impl Known {
-    pub fn new(alloc: Global) -> Result<Known, AllocError> {
-        Ok(Known {
+impl KnownNames {
+    pub fn new(alloc: Global) -> Result<KnownNames, AllocError>
+        ensures { IfOk result (λ known. known.sets.items ≡ []) }
+    {
+        Ok(KnownNames {
             none: Rc::new(alloc, IndexSet::new(alloc))?,
             sets: Vec::new(alloc),
             oldest: 0,
@@ -155,7 +157,12 @@ impl Known {
 
 impl NamesSoFar {
     /// Puts the name behind the others, unless it is among them: whether it wasn't.
-    pub fn push(&mut self, alloc: Global, name: &str, known: &Known) -> Result<bool, AllocError>
+    pub fn push(
+        &mut self,
+        alloc: Global,
+        name: &str,
+        known: &KnownNames,
+    ) -> Result<bool, AllocError>
         ensures added { IfOk result (λ added. added ≡ not (has_name (names_of self.old) name.now)) }
         ensures names { IfOk result (λ added. IsTrue added → names_of self.new ≡ names_of self.old ++ name.now ∷ []) }
     {
@@ -179,8 +186,10 @@ impl NamesSoFar {
         }
     }
 
-    /// How many names the object will have if it goes on as one before.
-    pub fn likely_len(&self) -> usize {
+    /// How many names the object will have if it goes on as the kept set does, or ends there.
+    pub fn likely_len(&self) -> usize
+        ensures { result ≡ length (set_of self.now).keys }
+    {
         match self {
             NamesSoFar::Front(set, _) => set.len(),
             NamesSoFar::Own(set) => set.len(),
@@ -191,7 +200,7 @@ impl NamesSoFar {
     pub fn finish(
         self,
         alloc: Global,
-        known: &mut Known,
+        known: &mut KnownNames,
     ) -> Result<Rc<IndexSet<String>>, AllocError>
         ensures { IfOk result (λ set. keys_of set.value ≡ names_of self) }
     {

@@ -12,7 +12,7 @@ ghost use Rattle.bt_json.specs.Running.{IsLater, rest_of, rest_after, Faults};
 use crate::decimal::Decimal;
 use crate::fault::JsonFault;
 use crate::kind::{Kind, kind_of};
-use crate::names::{Known, NamesSoFar};
+use crate::names::{KnownNames, NamesSoFar};
 use crate::number::Numeral;
 use crate::scan::{expect_byte, skip_blanks, skip_word, stands_at};
 use crate::text::{Unescaped, plain_text};
@@ -29,7 +29,7 @@ fn read_value(
     bytes: &[u8],
     start: usize,
     depth: usize,
-    known: &mut Known,
+    known: &mut KnownNames,
 ) -> Result<(Tree, usize), JsonFault>
     requires within { start ≤ length bytes.now }
     requires shallow { depth ≤ 64 }
@@ -90,7 +90,7 @@ fn read_list(
     bytes: &[u8],
     start: usize,
     depth: usize,
-    known: &mut Known,
+    known: &mut KnownNames,
 ) -> Result<(Tree, usize), JsonFault>
     requires within { start ≤ length bytes.now }
     requires shallow { depth ≤ 64 }
@@ -125,7 +125,7 @@ fn take_name(
     bytes: &[u8],
     start: usize,
     names: &mut NamesSoFar,
-    known: &Known,
+    known: &KnownNames,
 ) -> Result<(bool, usize), JsonFault>
     requires { start ≤ length bytes.now }
     ensures later { IfOk result (λ r. (start < r.1) × (r.1 ≤ length bytes.now)) }
@@ -150,7 +150,7 @@ fn read_name(
     bytes: &[u8],
     start: usize,
     names: &mut NamesSoFar,
-    known: &Known,
+    known: &KnownNames,
 ) -> Result<usize, JsonFault>
     requires { start ≤ length bytes.now }
     ensures later { IfOk result (λ n. (start < n) × (n ≤ length bytes.now)) }
@@ -186,7 +186,7 @@ fn read_object(
     bytes: &[u8],
     start: usize,
     depth: usize,
-    known: &mut Known,
+    known: &mut KnownNames,
 ) -> Result<(Tree, usize), JsonFault>
     requires within { start ≤ length bytes.now }
     requires shallow { depth ≤ 64 }
@@ -225,7 +225,7 @@ fn read_front(alloc: Global, bytes: &[u8]) -> Result<(Tree, usize), JsonFault>
     ensures ok { IfOk result (λ r. reading bytes.now ≡ found (json_of r.0) r.1) }
     ensures err { IfErr result (λ f. Faults f (reading bytes.now)) }
 {
-    let mut known = Known::new(alloc)?;
+    let mut known = KnownNames::new(alloc)?;
     read_value(alloc, bytes, 0, 0, &mut known)
 }
 
