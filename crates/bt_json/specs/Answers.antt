@@ -20,10 +20,12 @@ abbrev mutual
   depth_of (list items) = items_depth items + 1
   depth_of (object members) = members_depth members + 1
 
+  -- how many there are at most in an item
   pub items_depth : Items → ℕ
   items_depth no_items = 0
   items_depth (item v rest) = max (depth_of v) (items_depth rest)
 
+  -- how many there are at most in a member's value
   pub members_depth : Members → ℕ
   members_depth no_members = 0
   members_depth (member n v rest) = max (depth_of v) (members_depth rest)
@@ -38,6 +40,7 @@ abbrev mutual
   HasDistinctNames (list items) = ItemsHaveDistinctNames items
   HasDistinctNames (object members) = AreNew [] members
 
+  -- nor has an object in an item
   pub ItemsHaveDistinctNames : Items → Type 0
   ItemsHaveDistinctNames no_items = ⊤
   ItemsHaveDistinctNames (item v rest) = HasDistinctNames v × ItemsHaveDistinctNames rest

@@ -156,7 +156,7 @@ abbrev mutual
   MoreItems no_items t = (Blanks ▸ Byte 93) t
   MoreItems (item v rest) t = (Blanks ▸ Byte 44 ▸ Blanks ▸ IsValue v ▸ MoreItems rest) t
 
-  -- what follows a member
+  -- what follows a member: each further one behind a comma, and the brace that closes
   pub MoreMembers : Members → Texts
   MoreMembers no_members t = (Blanks ▸ Byte 125) t
   MoreMembers (member n v rest) t = (Blanks ▸ Byte 44 ▸ Blanks ▸ IsText n ▸ Blanks ▸ Byte 58 ▸ Blanks ▸ IsValue v ▸ MoreMembers rest) t

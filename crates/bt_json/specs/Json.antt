@@ -8,8 +8,8 @@ pub record Number : Type 0 where
   pub digits : List ℕ
   pub exponent : ℤ
 
--- A text is the bytes of its UTF-8, with every escape replaced by what it stands for. The members of an object stand in their order.
 mutual
+  -- a JSON value; a text is the bytes of its UTF-8, with every escape replaced by what it stands for
   pub data Json : Type 0 where
     null : Json
     boolean : Bool → Json
@@ -18,10 +18,12 @@ mutual
     list : Items → Json
     object : Members → Json
 
+  -- the items of a list, in their order
   pub data Items : Type 0 where
     no_items : Items
     item : Json → Items → Items
 
+  -- the members of an object, each a name and its value, in their order
   pub data Members : Type 0 where
     no_members : Members
     member : List ℕ → Json → Members → Members
