@@ -275,6 +275,7 @@ fn objects_of_many_kinds(rt: HostRuntime) -> Result<(), Fail> {
 #[test]
 fn repeated_names(rt: HostRuntime) {
     for (json, wanted) in [
+        (r#"{"a":1,"a":2}"#, Err(JsonFault::DuplicateKey(7))),
         (r#"{"":1, "":2}"#, Err(JsonFault::DuplicateKey(7))),
         (r#"{"a":1,"\u0061""#, Err(JsonFault::DuplicateKey(7))),
         (r#"{"\u0061":1,"a"x"#, Err(JsonFault::DuplicateKey(12))),
@@ -352,6 +353,9 @@ fn many_names(rt: HostRuntime) -> Result<(), Fail> {
 #[test]
 fn levels(rt: HostRuntime) -> Result<(), Fail> {
     let alloc = rt.alloc();
+    let lists = [b'['; 65];
+    assert_eq!(rt; answer(alloc, &lists), Err(JsonFault::Deep(64)));
+    assert_eq!(rt; answer(alloc, &lists[..64]), Err(JsonFault::Json(64)));
     let mut open = Vec::new(alloc);
     let mut closed = Vec::new(alloc);
     closed.push(b'1')?;
