@@ -1,6 +1,6 @@
 -- How reading goes on between the tokens of lists and objects.
-use Rattle.std.proofs.Common.{◌≡◌, ℕ, ◌+◌, ◌<◌, ◌≤◌, Bool, true, false, cond, List, [], ◌∷◌, ◌++◌, map, length, get_or, None, refl, ap, ◌∙◌, sym, subst, arith, ◌≢◌, ◌==◌, eq-eqb, inl, inr}
-use Rattle.std.specs.Prelude.{◌||◌, not, Result, Ok, Err, IfOk, IfErr}
+use Rattle.std.proofs.Common.{◌≡◌, ℕ, ◌+◌, ◌<◌, ◌≤◌, true, false, cond, List, [], ◌∷◌, ◌++◌, map, length, get_or, None, refl, ap, ◌∙◌, sym, subst, arith, ◌≢◌, ◌==◌, eq-eqb, inl, inr}
+use Rattle.std.specs.Prelude.{◌||◌, Result, Ok, Err, IfOk, IfErr}
 use Rattle.std.specs.List.{list_any}
 use Rattle.std.specs.Str.{bytes_eq}
 use Rattle.std.proofs.lemmas.Bool.{cases_lt}
@@ -117,23 +117,11 @@ pub any_along : {X : Type 0} (f : X → List ℕ) (n : List ℕ) (xs : List X) �
 any_along f n [] = refl
 any_along f n (x ∷ xs) = ap (λ b. bytes_eq n (f x) || b) (any_along f n xs)
 
-pub name_there : {X : Type 0} (f : X → List ℕ) (n : List ℕ) (xs : List X) (added : Bool) → added ≡ not (list_any (λ x. bytes_eq n (f x)) xs) → has_name (map f xs) n ≡ not added
-name_there f n xs added e = any_along f n xs ∙ sym (ap not e ∙ twice_not (list_any (λ x. bytes_eq n (f x)) xs))
-  where
-    twice_not : (b : Bool) → not (not b) ≡ b
-    twice_not true = refl
-    twice_not false = refl
-
 pub name_twice : (bytes : List ℕ) (end at from : ℕ) (names : List (List ℕ)) (vs : List Json) (n : List ℕ) (k : List Frame) → has_name names n ≡ true → rest_after bytes end (finish_text true at n (as_name names vs from) k) ≡ twice from at
 name_twice bytes end at from names vs n k e = ap (λ b. rest_after bytes end (cond b (stop (twice from at)) (go (colon_due names vs n k)))) e
 
 pub name_new : (bytes : List ℕ) (end at from : ℕ) (names : List (List ℕ)) (vs : List Json) (n : List ℕ) (k : List Frame) → has_name names n ≡ false → rest_after bytes end (finish_text true at n (as_name names vs from) k) ≡ rest_of bytes end (colon_due names vs n k)
 name_new bytes end at from names vs n k e = ap (λ b. rest_after bytes end (cond b (stop (twice from at)) (go (colon_due names vs n k)))) e
-
--- a name that was put in stands last
-pub key_last : {X : Type 0} (there added : Bool) (old new : List X) (key : X) → added ≡ not there → not added ≡ false → new ≡ cond there old (old ++ key ∷ []) → new ≡ old ++ key ∷ []
-key_last true added old new key e f g = absurd (cc (ap not e))
-key_last false added old new key e f g = g
 
 -- ---- values
 

@@ -1,8 +1,7 @@
 -- A tree, level by level.
-use Rattle.std.proofs.Common.{◌≡◌, ℕ, suc, ◌+◌, Bool, true, false, cond, ltb, List, [], ◌∷◌, ◌++◌, map, length, Option, Some, None, Vec, String, refl, ap, ◌∙◌, sym, rules, arith, inl, inr, one-add, eq-eqb}
+use Rattle.std.proofs.Common.{◌≡◌, ℕ, suc, ◌+◌, Bool, true, false, cond, ltb, List, [], ◌∷◌, ◌++◌, map, length, Option, Some, None, Vec, String, refl, ap, ◌∙◌, sym, rules, arith, inl, inr, one-add}
 use Rattle.std.proofs.lemmas.Bool.{cases_lt, le-ltb, lt-ltb, and_from, and_parts}
-use Rattle.std.proofs.lemmas.List.{length-map}
-use Rattle.std.specs.Prelude.{option_and_then, string_bytes, position, not, nat_lt, ◌&&◌, ◌==◌}
+use Rattle.std.specs.Prelude.{option_and_then, string_bytes, position, not, nat_lt}
 use Rattle.std.specs.List.{slice_get, position_or_len, list_all}
 use Rattle.std.specs.Str.{bytes_eq}
 use Rattle.std.specs.Global.{Global}
@@ -56,36 +55,12 @@ json-Null = search (rules, the_lemmas)
 
 -- ---- as many values as names
 
-pub full-List : (v : Vec Tree Global) → is_full (views.List v) ≡ list_all (λ full. full) (map is_full v.items)
-full-List v = search (rules, the_lemmas)
-
-pub full-Object : (names : Rc Set Global) (v : Vec Tree Global) → is_full (views.Object names v) ≡ ((length names.value.keys == length (map is_full v.items)) && list_all (λ full. full) (map is_full v.items))
-full-Object names v = search (rules, the_lemmas)
-
-pub full-Text : (s : String Global) → is_full (Text s) ≡ true
-full-Text s = search (rules, the_lemmas)
-
-pub full-Num : (d : Decimal) → is_full (Num d) ≡ true
-full-Num d = search (rules, the_lemmas)
-
-pub full-Bool : (b : Bool) → is_full (Boolean b) ≡ true
-full-Bool b = search (rules, the_lemmas)
-
-pub full-Null : is_full Null ≡ true
-full-Null = search (rules, the_lemmas)
-
 -- a list that gets one more full tree
 pub full_more : (ts : List Tree) (t : Tree) → list_all (λ full. full) (map is_full ts) ≡ true → is_full t ≡ true → list_all (λ full. full) (map is_full (ts ++ t ∷ [])) ≡ true
 full_more [] t all one = and_from (is_full t) true one refl
 full_more (x ∷ ts) t all one =
     let both = and_parts (is_full x) (list_all (λ full. full) (map is_full ts)) all in
     and_from (is_full x) (list_all (λ full. full) (map is_full (ts ++ t ∷ []))) both.0 (full_more ts t both.1 one)
-
--- an object that has as many names as values, which are full
-pub full_object : (names : Rc Set Global) (v : Vec Tree Global) → length (keys_of names.value) ≡ length v.items → list_all (λ full. full) (map is_full v.items) ≡ true → is_full (views.Object names v) ≡ true
-full_object names v same all =
-    let count : length names.value.keys ≡ length (map is_full v.items) = sym (length-map names.value.keys string_bytes) ∙ same ∙ sym (length-map v.items is_full) in
-    full-Object names v ∙ and_from (length names.value.keys == length (map is_full v.items)) (list_all (λ full. full) (map is_full v.items)) (eq-eqb _ _ count) all
 
 -- a list of no tree is full
 pub full_none : (ts : List Tree) → ts ≡ [] → list_all (λ full. full) (map is_full ts) ≡ true
