@@ -1,0 +1,2 @@
+//! What the contracts of all crates say alike of answers: definitions, their laws, and no code.
+#![tactic(auto)]
