@@ -1,6 +1,7 @@
+//! The words of an edge line.
 ghost use Rattle.std.specs.Prelude.{◌≡◌, ℕ, ◌^◌, ◌<◌, decimal, IfSome, IfNone};
 ghost use Rattle.bt_net.specs.NetText.{start_text, target_text, edge_text};
-ghost use Rattle.bt_net.specs.Wiring.{StartFits, TargetFits, EdgeFits};
+ghost use Rattle.bt_net.specs.inner.Lines.{StartFits, TargetFits, EdgeFits};
 ghost use Rattle.bt_net.specs.declared.network.Edge.{Edge};
 ghost use Rattle.bt_net.specs.declared.network.Start.{Start};
 ghost use Rattle.bt_net.specs.declared.network.Target.{Target};
