@@ -57,6 +57,8 @@ fn read_number(word: &[u8]) -> Option<u32>
     ensures some { IfSome result (λ n. word.now ≡ decimal n) }
     ensures none { IfNone result ((n : ℕ) → n < 2 ^ 32 → word.now ≡ decimal n → ⊥) }
 {
-    let number = read_whole(word)?;
-    u32::try_from(number).ok()
+    match u32::try_from(read_whole(word)?) {
+        Ok(number) => Some(number),
+        Err(_) => None,
+    }
 }
