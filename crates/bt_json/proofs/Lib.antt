@@ -23,3 +23,4 @@ pub mod Dues
 pub mod Events
 pub mod OneRead
 pub mod NameLemmas
+pub mod FrameSteps

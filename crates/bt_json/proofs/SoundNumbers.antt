@@ -14,7 +14,7 @@ use Rattle.bt_json.specs.inner.Reading.{Numeral, numeral, numeral_value, with_wh
 use Rattle.bt_json.specs.declared.kind.Mark.{Mark}
 use Rattle.bt_json.specs.declared.kind.Mark.TheVariants.{Figure, Point, LetterE, PlusSign, MinusSign, Over}
 use Rattle.bt_json.specs.declared.kind.Phase.{Phase}
-use Rattle.bt_json.specs.declared.kind.Phase.TheVariants.{AfterMinus, AfterZero, InWhole, AfterPoint, InFraction, AfterLetter, AfterSign, InPower}
+use Rattle.bt_json.specs.declared.kind.Phase.TheVariants.{BeforeWhole, AfterZero, InWhole, AfterPoint, InFraction, AfterLetter, AfterSign, InPower}
 use Rattle.bt_json.proofs.Joins.{join, extend, behind_both, assoc, second_as, and_nothing}
 use Rattle.bt_json.specs.declared.limits.TheConstants.{MOST_EXPONENT}
 
@@ -114,7 +114,7 @@ pub record WithPower (n : Numeral) (t : List ℕ) : Type 0 where
   pub spelled : (WholePart negative whole ▸ (Fraction fraction ▸ (Letter ▸ (ExponentSign below ▸ Digits (first ∷ power))))) t
 
 abbrev pub Written : Phase → Numeral → Texts
-Written AfterMinus n t = (n ≡ numeral true []) × (t ≡ 45 ∷ [])
+Written BeforeWhole n t = (n ≡ numeral true []) × (t ≡ 45 ∷ [])
 Written AfterZero n t = (negative : Bool) × (n ≡ numeral negative (0 ∷ [])) × WholePart negative (0 ∷ []) t
 Written InWhole n t = InWholePart n t
 Written AfterPoint n t = WithWhole (Byte 46) n t
@@ -159,7 +159,7 @@ power_number negative ds fs below e es t w = record { whole = ds; fraction = fs;
 
 -- a number that may end there is whole
 pub number_whole : (p : Phase) (n : Numeral) (t : List ℕ) → may_end p ≡ true → Written p n t → IsNumber (numeral_value n) t
-number_whole AfterMinus n t e w = absurd cc
+number_whole BeforeWhole n t e w = absurd cc
 number_whole AfterPoint n t e w = absurd cc
 number_whole AfterLetter n t e w = absurd cc
 number_whole AfterSign n t e w = absurd cc
@@ -213,12 +213,12 @@ abbrev signed_as : Bool → Numeral → Numeral
 signed_as below n = record n { below = below }
 
 pub written_step : (p : Phase) (n : Numeral) (t : List ℕ) (b : ℕ) (m : Mark) → IsMark m b → Written p n t → Onwards b t (step_number p n m)
-written_step AfterMinus n t b (Figure d) e w = first_digit true (45 ∷ []) (t ++ b ∷ []) d b (with_whole n d) e.0 e.1 (ap (λ x. with_whole x d) w.0) refl (ap (λ (x : List ℕ). x ++ b ∷ []) w.1)
-written_step AfterMinus n t b Point e w = tt
-written_step AfterMinus n t b LetterE e w = tt
-written_step AfterMinus n t b PlusSign e w = tt
-written_step AfterMinus n t b MinusSign e w = tt
-written_step AfterMinus n t b Over e w = tt
+written_step BeforeWhole n t b (Figure d) e w = first_digit true (45 ∷ []) (t ++ b ∷ []) d b (with_whole n d) e.0 e.1 (ap (λ x. with_whole x d) w.0) refl (ap (λ (x : List ℕ). x ++ b ∷ []) w.1)
+written_step BeforeWhole n t b Point e w = tt
+written_step BeforeWhole n t b LetterE e w = tt
+written_step BeforeWhole n t b PlusSign e w = tt
+written_step BeforeWhole n t b MinusSign e w = tt
+written_step BeforeWhole n t b Over e w = tt
 written_step AfterZero n t b (Figure d) e w = tt
 written_step AfterZero n t b Point e w = point_behind w.0 (0 ∷ []) n t b e w.1 w.2
 written_step AfterZero n t b LetterE e w = letter_behind w.0 (0 ∷ []) n t b e w.1 w.2
@@ -314,7 +314,7 @@ written_step InPower n t b MinusSign e w = tt
 written_step InPower n t b Over e w = (number_whole InPower n t refl w, e)
 
 -- the first byte of a number
-pub minus_first : (b : ℕ) → b ≡ 45 → Written AfterMinus (numeral true []) (b ∷ [])
+pub minus_first : (b : ℕ) → b ≡ 45 → Written BeforeWhole (numeral true []) (b ∷ [])
 minus_first b e = (refl, ap (λ x. x ∷ []) e)
 
 pub digit_first : (b : ℕ) → 48 ≤ b → b ≤ 57 → Written (first_phase (b - 48)) (numeral false ((b - 48) ∷ [])) (b ∷ [])

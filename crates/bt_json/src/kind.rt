@@ -74,7 +74,7 @@ pub fn mark_of(byte: u8) -> Mark
 /// How far a number is written.
 #[derive(Clone, Copy, Debug, PartialEq, Eq)]
 pub enum Phase {
-    AfterMinus,
+    BeforeWhole,
     AfterZero,
     InWhole,
     AfterPoint,

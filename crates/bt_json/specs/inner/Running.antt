@@ -36,6 +36,11 @@ Faults (Deep o) e = e ≡ deep o
 Faults (DuplicateKey o) e = (close : ℕ) × (e ≡ twice o close)
 Faults Memory e = Unit {0}
 
+-- What was read, with the place behind it, is how reading goes on from there; or the fault is how it ends, unless memory ran out.
+abbrev pub ReadsOn : {X K : Type 0} → List ℕ → ℕ → (K → State) → (X → ℕ) → (X → K → Step) → Result X JsonFault → Type 0
+ReadsOn {X} {K} bytes start from place next (Ok x) = IsLater bytes start (place x) × ((k : K) → rest_of bytes start (from k) ≡ rest_after bytes (place x) (next x k))
+ReadsOn {X} {K} bytes start from place next (Err f) = (k : K) → Faults f (rest_of bytes start (from k))
+
 -- around a place in a text: what it has, the high surrogate that waits, what the text is, and the open frames
 pub record Around : Type 0 where
   pub out : List ℕ
