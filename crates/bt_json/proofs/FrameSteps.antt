@@ -10,7 +10,7 @@ use Rattle.bt_json.specs.inner.Running.{SkipsBlanks, IsLater, rest_of, rest_afte
 use Rattle.bt_json.specs.inner.Frames.{frame_begun, IsFresh, closing_of, opened, item_due, with_value, closed}
 use Rattle.bt_json.specs.inner.Ahead.{Within, ComesNext, place_of, step_ahead}
 use Rattle.bt_json.specs.inner.Names.{names_of}
-use Rattle.bt_json.specs.inner.Nested.{frame_with, frame_of, Begins, IsToken, Around, ReadsTree, ReadsBehind}
+use Rattle.bt_json.specs.inner.Nested.{frame_with, frame_of, Begins, IsToken, Outside, ReadsTree, Pushes}
 use Rattle.bt_json.specs.Stands.{json_of}
 use Rattle.bt_json.specs.declared.tree.Tree.{Tree}
 use Rattle.bt_json.specs.declared.names.NamesSoFar.{NamesSoFar}
@@ -79,13 +79,13 @@ frame_with-push None ts t more e = ap in_list (ap (map json_of) e ∙ map_push j
 frame_with-push (Some names) ts t more e = ap (in_object (names_of names)) (ap (map json_of) e ∙ map_push json_of ts t)
 
 -- what comes behind a value comes behind it in its frame
-pub pushed : (bytes : List ℕ) (start closing : ℕ) (v : Json) (old new : Frame) (r : Result Ahead JsonFault) → new ≡ with_value old v → closing ≡ closing_of new → ComesNext bytes start closing r → ReadsBehind bytes start v old new r
+pub pushed : (bytes : List ℕ) (start closing : ℕ) (v : Json) (old new : Frame) (r : Result Ahead JsonFault) → new ≡ with_value old v → closing ≡ closing_of new → ComesNext bytes start closing r → Pushes bytes start v old new r
 pushed bytes start closing v old new r is closes h = rw is (by r h)
   where
     within : List Frame → Within closing
     within k = record { value = v; frame = old; around = k; closes = sym (closing-with old v) ∙ ap closing_of (sym is) ∙ sym closes }
 
-    by : (x : Result Ahead JsonFault) → ComesNext bytes start closing x → ReadsBehind bytes start v old (with_value old v) x
+    by : (x : Result Ahead JsonFault) → ComesNext bytes start closing x → Pushes bytes start v old (with_value old v) x
     by (Ok ahead) g = (g.0, λ k. g.1 (within k))
     by (Err f) g = λ k. g (within k)
 
@@ -98,7 +98,7 @@ opens_kind at k b ObjectOpens f e = let same : in_object [] [] ≡ f = cc in ap 
 opens_kind at k b kind f e = absurd cc
 
 -- the list or the object that a token opens
-pub nested_led : (bytes : List ℕ) (at depth : ℕ) (kind : Kind) (o : Option Nested) (n : Nested) → o ≡ Some n → Begins kind at depth (Ok o) → IsToken bytes at kind → (around : Around depth)
+pub nested_led : (bytes : List ℕ) (at depth : ℕ) (kind : Kind) (o : Option Nested) (n : Nested) → o ≡ Some n → Begins kind at depth (Ok o) → IsToken bytes at kind → (around : Outside depth)
     → rest_of bytes at (due around.frames) ≡ rest_of bytes (at + 1) (opened (frame_of n) around.frames)
 nested_led bytes at depth kind o n is begins token around =
     let k = around.frames in
@@ -107,7 +107,7 @@ nested_led bytes at depth kind o n is begins token around =
     due_at bytes at k kind token.within token.is ∙ ap (rest_after bytes (at + 1)) (opens_kind at k (get_or bytes at 0) kind (frame_of n) g.0 ∙ opens_inside k at (opened (frame_of n) k) shallow)
 
 -- the list or the object that a token would open as a level too many
-pub nested_ends : (bytes : List ℕ) (at depth : ℕ) (kind : Kind) (fault : JsonFault) → Begins kind at depth (Err fault) → depth ≤ MOST_LEVELS → IsToken bytes at kind → (around : Around depth) → Faults fault (rest_of bytes at (due around.frames))
+pub nested_ends : (bytes : List ℕ) (at depth : ℕ) (kind : Kind) (fault : JsonFault) → Begins kind at depth (Err fault) → depth ≤ MOST_LEVELS → IsToken bytes at kind → (around : Outside depth) → Faults fault (rest_of bytes at (due around.frames))
 nested_ends bytes at depth kind fault (inl e) le token around = subst (λ f. Faults f (rest_of bytes at (due around.frames))) (sym e) tt
 nested_ends bytes at depth kind fault (inr e) le token around = subst (λ f. Faults f (rest_of bytes at (due around.frames))) (sym e.0)
     (due_at bytes at k kind token.within token.is ∙ ap (rest_after bytes (at + 1)) (by (frame_begun kind) refl))
@@ -144,5 +144,5 @@ pub item_led : (bytes : List ℕ) (ahead : Ahead) (at : ℕ) (f : Frame) (k : Li
 item_led bytes ahead at f k e is h = h ∙ ap (λ a. rest_after bytes (place_of a) (step_ahead a f k)) is
 
 -- a frame more is open around its values
-abbrev pub inside : (depth : ℕ) → Frame → Around depth → Around (depth + 1)
+abbrev pub inside : (depth : ℕ) → Frame → Outside depth → Outside (depth + 1)
 inside depth f around = record { frames = f ∷ around.frames; count = let n = around.count in omega arith }

@@ -163,20 +163,8 @@ due_other at k b Comma o = refl
 due_other at k b Colon o = refl
 due_other at k b Other o = refl
 
-pub due_breaks : (bytes : List ℕ) (at : ℕ) (k : List Frame) → at < length bytes → OpensNone (kind_of (get_or bytes at 0)) → rest_of bytes at (due k) ≡ bad at
-due_breaks bytes at k lt o = due_at bytes at k (kind_of (get_or bytes at 0)) lt refl ∙ ap (rest_after bytes (at + 1)) (due_other at k (get_or bytes at 0) (kind_of (get_or bytes at 0)) o)
-
 pub due_cut : (bytes : List ℕ) (at : ℕ) (k : List Frame) → length bytes ≤ at → rest_of bytes at (due k) ≡ bad at
 due_cut bytes at k le = rest_end bytes at (due k) le
-
--- what was read from one state on, where something holds of the open frames, is read from another that goes on to it
-pub moved_if : {X A : Type 0} (r : Result X JsonFault) (P Q : A → Type 0) (from to : A → Stop) (g : A → A) (out : X → A → Stop) → ((k : A) → P k → Q k × (from k ≡ to k)) → IfOk r (λ x. (k : A) → Q k → to k ≡ out x k) → IfOk r (λ x. (k : A) → P k → from k ≡ out x k)
-moved_if (Ok x) P Q from to g out same h = λ k p. let s = same k p in s.1 ∙ h k s.0
-moved_if (Err f) P Q from to g out same h = tt
-
-pub moved_if_err : {X A : Type 0} (r : Result X JsonFault) (P Q : A → Type 0) (from to : A → Stop) → ((k : A) → P k → Q k × (from k ≡ to k)) → IfErr r (λ f. (k : A) → Q k → Faults f (to k)) → IfErr r (λ f. (k : A) → P k → Faults f (from k))
-moved_if_err (Ok x) P Q from to same h = tt
-moved_if_err (Err f) P Q from to same h = λ k p. let s = same k p in subst (Faults f) (sym s.1) (h k s.0)
 
 -- ---- lists
 
@@ -304,9 +292,3 @@ object_breaks bytes at v names vs k no_blank no_close no_comma = elim (cases_lt 
   | inr le ↦ rest_end bytes at (behind v (in_object names vs) k) le
 ]
 
--- how many frames are open
-abbrev pub length_is : ℕ → List Frame → Type 0
-length_is depth k = length k ≡ depth
-
-abbrev pub length_more : ℕ → List Frame → Type 0
-length_more depth k = length k + 1 ≡ depth + 1

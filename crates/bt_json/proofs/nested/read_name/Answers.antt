@@ -36,7 +36,7 @@ returns-then-not-added-clause-read c = λ o.
     let q = c.skip_blanks-quote in
     let names = names_of c.args.names.now in
     let taken = c.in_ok-added.ensures in
-    let there = taken_before c.in_ok-added.added (has_name names taken.name) taken.added c.if-not-added.true in
+    let there = taken_before c.in_ok-added.added (has_name names taken.name) taken.adds.added c.if-not-added.true in
     let end = c.in_ok-added.end in (
       end - 1,
       q.ensures.blanks (name_due names vs k) (skips_name_due names vs k) ∙ quote_opens bs q.result names vs k c.in_ok-expect_byte.ensures.ok.0 c.in_ok-expect_byte.ensures.ok.1
@@ -50,7 +50,7 @@ returns-in_err-expect_byte-2-clause-read c =
     let d = c.skip_blanks-colon in
     let names = names_of c.args.names.now in
     let taken = c.in_ok-added.ensures in
-    let first = taken_first c.in_ok-added.added (has_name names taken.name) taken.added c.if-not-added.false in
+    let first = taken_first c.in_ok-added.added (has_name names taken.name) taken.adds.added c.if-not-added.false in
     let end = c.in_ok-added.end in
     let p = err_from_is_err_and c.from_residual-in_err-expect_byte-2.result c.from_residual-in_err-expect_byte-2.ensures.1 in
     rw (p.1, p.2, c.in_err-expect_byte-2.ensures.err.0) (λ o.
@@ -71,10 +71,10 @@ returns-clause-read c = (
       let d = c.skip_blanks-colon in
       let names = names_of c.args.names.now in
       let taken = c.in_ok-added.ensures in
-      let first = taken_first c.in_ok-added.added (has_name names taken.name) taken.added c.if-not-added.false in
+      let first = taken_first c.in_ok-added.added (has_name names taken.name) taken.adds.added c.if-not-added.false in
       let end = c.in_ok-added.end in
       q.ensures.blanks (name_due names vs k) (skips_name_due names vs k) ∙ quote_opens bs q.result names vs k c.in_ok-expect_byte.ensures.ok.0 c.in_ok-expect_byte.ensures.ok.1
       ∙ taken.read (as_name names vs q.result) k ∙ name_new bs end (end - 1) q.result names vs taken.name k first
       ∙ d.ensures.blanks (colon_due names vs taken.name k) (skips_colon_due names vs taken.name k) ∙ colon_goes_on bs d.result names vs taken.name k c.in_ok-expect_byte-2.ensures.ok.0 c.in_ok-expect_byte-2.ensures.ok.1
-      ∙ ap (λ (ns : List (List ℕ)). rest_of bs (d.result + 1) (due (in_object ns vs ∷ k))) (sym (taken.names c.if-not-added.false)),
+      ∙ ap (λ (ns : List (List ℕ)). rest_of bs (d.result + 1) (due (in_object ns vs ∷ k))) (sym (taken.adds.names c.if-not-added.false)),
 )
