@@ -27,9 +27,7 @@ end_is_right bytes (twice from n) e = stops_first bytes (faults.DuplicateKey fro
 
 as_told : (e : Stop) (f : JsonFault) (place : ℕ) → StopsBy e f place → ends_as e ≡ Err f
 as_told (found v n) f place s = absurd s
-as_told (bad n) f place s = ap Err (sym s.0)
-as_told (deep n) f place s = ap Err (sym s.0)
-as_told (twice from n) f place s = ap Err (sym s.0)
+as_told state f place s = ap Err (sym s.0)
 
 -- a right answer is how reading ends
 right_is_end : (bytes : List ℕ) (answer : Result (Json × ℕ) JsonFault) → IsRead bytes answer → ends_as (reading bytes) ≡ answer

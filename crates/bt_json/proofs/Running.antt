@@ -28,7 +28,7 @@ rest_more bytes at s lt = run_more true at s bytes lt
 pub rest_end : (bytes : List ℕ) (at : ℕ) (s : State) → length bytes ≤ at → rest_of bytes at s ≡ finish at s
 rest_end bytes at s le = run_end true at s bytes le
 
-pub skip_one : (bytes : List ℕ) (start at : ℕ) (s : State) → SkipsBlanks s → at < length bytes → is_blank (get_or bytes at 0) ≡ true → rest_of bytes start s ≡ rest_of bytes at s → rest_of bytes start s ≡ rest_of bytes (at + 1) s
+pub skip_one : (bytes : List ℕ) (start at : ℕ) (s : State) → SkipsBlanks true s → at < length bytes → is_blank (get_or bytes at 0) ≡ true → rest_of bytes start s ≡ rest_of bytes at s → rest_of bytes start s ≡ rest_of bytes (at + 1) s
 skip_one bytes start at s skips lt blank so_far =
     so_far ∙ rest_more bytes at s lt ∙ ap (rest_after bytes (at + 1)) (skips.skips at (get_or bytes at 0) blank)
 

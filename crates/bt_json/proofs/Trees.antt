@@ -55,4 +55,3 @@ full_more [] t all one = and_from (is_full t) true one refl
 full_more (x ∷ ts) t all one =
     let both = and_parts (is_full x) (list_all (λ full. full) (map is_full ts)) all in
     and_from (is_full x) (list_all (λ full. full) (map is_full (ts ++ t ∷ []))) both.0 (full_more ts t both.1 one)
-

@@ -1,3 +1,5 @@
+//! Numbers as they are written, exactly: no digit is lost, so what is told of the value is no
+//! rounding. Told are the value where it is whole, and twice the value, since a layout has halves.
 ghost use Rattle.std.specs.Prelude.{◌≡◌, ◌≢◌, ◌<◌, ◌≤◌, ◌+◌, ◌*◌, ◌^◌, ℕ, ℤ, pos, All, length, take, drop, IsTrue, ◌↔◌, IfSome, IfNone, MatchOption, Some, None, ◌<ℤ◌, ◌≤ℤ◌, neg_ℤ, Bool, if◌then◌else◌};
 ghost use Rattle.std.specs.Int.Digits.{number_from_digits};
 ghost use Rattle.std.specs.Int.RustNames.{unsigned_abs};

@@ -1,3 +1,4 @@
+//! What a byte may be: the tables that the reader goes by.
 ghost use Rattle.std.specs.Prelude.{◌≡◌, ◌<◌};
 ghost use Rattle.bt_json.specs.Grammar.{is_blank};
 ghost use Rattle.bt_json.specs.inner.Reading.{may_end};

@@ -1,3 +1,6 @@
+//! The names of objects. A text has many objects with the same names in the same order, so a set that
+//! was read is kept a while, and shared by the objects that follow it: a tree of them takes less memory,
+//! and a name that stands where it stood before is not looked up.
 ghost use Rattle.std.specs.Prelude.{◌≡◌, ◌<◌, ◌+◌, ◌^◌, ◌++◌, ◌∷◌, [], take, length, slice_index_or, not, IsTrue, IfOk, IfSome, map, string_bytes};
 ghost use Rattle.bt_json.specs.inner.Reading.{has_name};
 ghost use Rattle.bt_json.specs.inner.Names.{names_of, keys_of, front_of, set_of, GoesOn, AddsName};

@@ -1,3 +1,4 @@
+//! Reading numbers, byte by byte, by how far each is written.
 ghost use Rattle.std.specs.Prelude.{◌≡◌, ◌≤◌, ◌<◌, ◌+◌, ◌*◌, ◌^◌, [], length, slice_index, drop, false, true, IfOk, IfErr, IfSome, IfNone, OnOk, OnErr, List, ℕ, All, MatchOption};
 ghost use Rattle.bt_json.specs.inner.Reading.{first_phase};
 ghost use Rattle.bt_json.specs.declared.limits.TheConstants.{MOST_EXPONENT};

@@ -1,4 +1,5 @@
-ghost use Rattle.std.specs.Prelude.{◌≡◌, ◌≢◌, OnOk, IsTrue, ◌≤◌, ◌<◌, length, slice_index, false, IfOk, IfErr, List, ℕ};
+//! Small steps over bytes: blanks, the letters of a word, one byte.
+ghost use Rattle.std.specs.Prelude.{◌≡◌, ◌≢◌, OnOk, IsTrue, ◌≤◌, ◌<◌, length, slice_index, true, false, IfOk, IfErr, List, ℕ};
 ghost use Rattle.bt_json.specs.Grammar.{is_blank};
 ghost use Rattle.bt_json.specs.inner.Bytes.{HasByte, LacksByte};
 ghost use Rattle.bt_json.specs.inner.Reading.{State};
@@ -13,7 +14,7 @@ use crate::kind::is_blank;
 pub fn skip_blanks(bytes: &[u8], start: usize) -> usize
     requires { start ≤ length bytes.now }
     ensures later { IsLater bytes.now start result }
-    ensures blanks { (s : State) → SkipsBlanks s → rest_of bytes.now start s ≡ rest_of bytes.now result s }
+    ensures blanks { (s : State) → SkipsBlanks true s → rest_of bytes.now start s ≡ rest_of bytes.now result s }
     ensures ends { result < length bytes.now → is_blank (slice_index bytes.now result) ≡ false }
 {
     let mut at = start;

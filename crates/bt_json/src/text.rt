@@ -1,3 +1,5 @@
+//! Reading texts. Runs of characters that stand for themselves are taken at once, since most texts are
+//! one; a character of several bytes is checked to be UTF-8, and an escape is put in its place.
 ghost use Rattle.std.specs.Prelude.{◌≡◌, ◌≢◌, ◌≤◌, ◌<◌, ◌-◌, ◌+◌, ◌++◌, [], length, slice_range, slice_index, false, true, IfOk, IfErr, IfSome, OnOk, MatchOption, None, option_map, string_bytes};
 ghost use Rattle.std.specs.Option.{ForSome};
 ghost use Rattle.std.specs.Str.{IsUtf8};

@@ -7,8 +7,8 @@ use Rattle.bt_json.specs.declared.fault.JsonFault.{JsonFault}
 use Rattle.bt_json.specs.declared.fault.JsonFault.TheVariants.{Json as JsonAt, Deep, DuplicateKey, Memory}
 
 -- blanks leave it as it is
-pub record SkipsBlanks (s : State) : Type 0 where
-  pub skips : (at b : ℕ) → is_blank b ≡ true → step true at b s ≡ go s
+pub record SkipsBlanks (strict : Bool) (s : State) : Type 0 where
+  pub skips : (at b : ℕ) → is_blank b ≡ true → step strict at b s ≡ go s
 
 -- how reading of the bytes ends, from a place and a state on
 abbrev pub rest_of : List ℕ → ℕ → State → Stop

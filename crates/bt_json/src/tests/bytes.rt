@@ -64,7 +64,10 @@ fn bytes_that_go_on(rt: HostRuntime) -> Result<(), Fail> {
     for (front, set) in sets {
         for byte in 0..=u8::MAX {
             let told = answer_behind(alloc, front, byte)?;
-            assert!(rt; told == at_the_byte(front, set.contains(&byte)), "{front:?} {byte}");
+            assert!(rt;
+                told == at_the_byte(front, set.contains(&byte)),
+                "{front:?} {byte}"
+            );
         }
     }
     // The bytes of UTF-8.
@@ -123,7 +126,10 @@ fn a_text_cut_at_every_place(rt: HostRuntime) -> Result<(), Fail> {
     let text =
         b" {\"a\" : [-1.5e-1, \"b\\u00e9\xC3\xA9\\n\", true,false], \"\" : {} , \"\xF0\x9F\x9A\x80\":null}";
     for at in 0..text.len() {
-        assert!(rt; answer(rt.alloc(), &text[..at]) == Err(JsonFault::Json(at)), "{at}");
+        assert!(rt;
+            answer(rt.alloc(), &text[..at]) == Err(JsonFault::Json(at)),
+            "{at}"
+        );
     }
     assert!(rt; answer(rt.alloc(), text) == Ok(text.len()));
     Ok(())

@@ -1,19 +1,9 @@
 //! Texts that are made: of many names, of many kinds of objects, and of as many levels as there may be.
+use super::members::last_member;
 use super::{Told, answer, told_of};
-use crate::{JsonFault, MOST_LEVELS, Tree, read};
+use crate::{JsonFault, MOST_LEVELS, read};
 use std::alloc::Global;
 use std::test::Fail;
-
-/// The member of that name of a list's last object, where it is a whole number.
-fn last_member(tree: &Tree, name: &str) -> Option<u64> {
-    let Tree::List(items) = tree else {
-        return None;
-    };
-    match items.last()?.member(name)? {
-        Tree::Num(number) => number.whole(),
-        _ => None,
-    }
-}
 
 /// Objects of more kinds than the reader keeps the names of.
 #[test]
