@@ -1,6 +1,6 @@
 -- Issued ids stay good.
 use Rattle.std.proofs.Common.{◌≡◌, ℕ, ◌<◌, zero, suc, List, [], ◌∷◌, ◌++◌, length, slice_get, refl, sym, ap, ap₂, ◌∙◌, arith}
-use Rattle.std.specs.Prelude.{Result, Ok, Err}
+use Rattle.std.specs.Prelude.{Ok, Err}
 use Rattle.std.specs.Allocator.{alloc_error}
 use Rattle.bt_answers.specs.Answers.{Answers, HasOneAnswer}
 use Rattle.bt_answers.proofs.OneAnswer.{answers_of}

@@ -2,7 +2,7 @@
 use Rattle.std.proofs.Common.{◌≡◌, ◌≢◌, ℕ, Bool, List, [], ◌∷◌, refl, ap, ◌∙◌}
 use Rattle.bt_json.specs.Json.{Json}
 use Rattle.bt_json.specs.Places.{Frame, in_list, in_object}
-use Rattle.bt_json.specs.inner.Reading.{State, go, step, due, opened_list, behind, opened_object, name_due, colon_due, step_due, step_opened_list, step_behind, step_opened_object, step_name_due, step_colon_due}
+use Rattle.bt_json.specs.inner.Reading.{go, step, due, opened_list, behind, opened_object, name_due, colon_due, step_due, step_opened_list, step_behind, step_opened_object, step_name_due, step_colon_due}
 use Rattle.bt_json.specs.inner.Running.{SkipsBlanks}
 use Rattle.bt_json.specs.declared.kind.Kind.{Kind}
 use Rattle.bt_json.specs.declared.kind.Kind.TheVariants.{Blank, ListCloses}

@@ -14,9 +14,9 @@ use Rattle.bt_json.specs.Answers.{depth_of, items_depth, members_depth, HasDisti
 use Rattle.bt_json.specs.inner.Bytes.{kind_of}
 use Rattle.bt_json.specs.inner.Reading.{State, Step, go, stop, deep, twice, step, Frame, in_list, in_object, as_value, as_name, due, opened_list, behind, opened_object, name_due, colon_due, in_text, between, in_word, deliver, opens_level, has_name, finish_text, step_due, step_opened_list, step_behind, step_opened_object, step_name_due, step_colon_due}
 use Rattle.bt_json.specs.declared.kind.Kind.{Kind}
-use Rattle.bt_json.specs.declared.kind.Kind.TheVariants.{Blank, ListOpens, ListCloses, ObjectOpens, ObjectCloses, Comma, Colon, Quote, Minus, Digit, LetterT, LetterF, LetterN, Other}
+use Rattle.bt_json.specs.declared.kind.Kind.TheVariants.{Blank, ListOpens, ListCloses, ObjectOpens, Quote, Minus, Digit, LetterT, LetterF, LetterN}
 use Rattle.bt_json.proofs.Blanks.{skips_due, skips_opened_list, skips_behind, skips_opened_object, skips_name_due, skips_colon_due, opened_other}
-use Rattle.bt_json.proofs.ByteKinds.{blank-kind, kind_of-list_opens, kind_of-list_closes, kind_of-object_opens, kind_of-object_closes, kind_of-comma, kind_of-colon, kind_of-quote, kind_of-minus, kind_of-t, kind_of-f, kind_of-n}
+use Rattle.bt_json.proofs.ByteKinds.{kind_of-list_opens, kind_of-list_closes, kind_of-object_opens, kind_of-object_closes, kind_of-comma, kind_of-colon, kind_of-quote, kind_of-minus, kind_of-t, kind_of-f, kind_of-n}
 use Rattle.bt_json.proofs.Eating.{after, walk, walk_cons, Eats, eats_byte, eats_both, eats_then, eats_same, eats_next, Anything, eats_blanks, eats_word}
 use Rattle.bt_json.proofs.EatenNumbers.{eats_number}
 use Rattle.bt_json.proofs.EatenTexts.{eats_text}

@@ -1,5 +1,5 @@
 -- How reading goes on in a list and in an object alike.
-use Rattle.std.proofs.Common.{◌≡◌, ◌≢◌, ℕ, ◌+◌, ◌-◌, ◌<◌, ◌≤◌, true, false, inl, inr, List, [], ◌∷◌, ◌++◌, map, length, get_or, Option, Some, None, refl, ap, ap₂, ◌∙◌, sym, subst, arith, length-append}
+use Rattle.std.proofs.Common.{◌≡◌, ◌≢◌, ℕ, ◌+◌, ◌-◌, ◌<◌, ◌≤◌, true, false, inl, inr, List, [], ◌∷◌, ◌++◌, map, length, get_or, Option, Some, None, refl, ap, ◌∙◌, sym, subst, arith}
 use Rattle.std.specs.Prelude.{Result, Ok, Err}
 use Rattle.std.proofs.lemmas.List.{map_push}
 use Rattle.std.proofs.lemmas.Bool.{cases_lt}
@@ -7,7 +7,7 @@ use Rattle.bt_json.specs.Json.{Json}
 use Rattle.bt_json.specs.Places.{Frame, in_list, in_object}
 use Rattle.bt_json.specs.inner.Bytes.{kind_of, mark_of}
 use Rattle.bt_json.specs.inner.Reading.{State, Step, go, stop, Stop, bad, deep, due, behind, deliver, opens_level, step, step_due, step_behind, step_number, in_number, numeral, first_phase}
-use Rattle.bt_json.specs.inner.Running.{SkipsBlanks, IsLater, rest_of, rest_after, Faults, ReadsOn}
+use Rattle.bt_json.specs.inner.Running.{SkipsBlanks, rest_of, rest_after, Faults, ReadsOn}
 use Rattle.bt_json.specs.inner.Frames.{frame_begun, IsFresh, closing_of, opened, item_due, with_value, closed}
 use Rattle.bt_json.specs.inner.Ahead.{Within, ComesNext, place_of, step_ahead}
 use Rattle.bt_json.specs.inner.Names.{names_of}

@@ -12,7 +12,7 @@ use Rattle.bt_json.specs.Answers.{depth_of, HasDistinctNames}
 use Rattle.bt_json.specs.inner.Bytes.{kind_of, mark_of}
 use Rattle.bt_json.specs.inner.Reading.{State, Step, go, stop, found, bad, deep, twice, step, Role, as_value, as_name, Place, InText, reads, closes, no_text, numeral_value, InNumber, goes_on, ends, wrong, due, opened_list, behind, opened_object, name_due, colon_due, in_text, in_number, in_word, deliver, opens_level, has_name, step_due, step_opened_list, step_behind, step_opened_object, step_name_due, step_colon_due, step_in_text, step_in_number, step_past, step_in_word, step_text, step_number}
 use Rattle.bt_json.specs.declared.kind.Kind.{Kind}
-use Rattle.bt_json.specs.declared.kind.Kind.TheVariants.{Blank, ListOpens, ListCloses, ObjectOpens, ObjectCloses, Comma, Colon, Quote, Minus, Digit, LetterT, LetterF, LetterN, Other}
+use Rattle.bt_json.specs.declared.kind.Kind.TheVariants.{Blank, ListOpens, ListCloses, ObjectOpens, ObjectCloses, Comma, Colon, Quote, Minus, Digit, LetterT, LetterF, LetterN}
 use Rattle.bt_json.proofs.Eaten.{Allowed, ItemsAllowed, MembersAllowed}
 use Rattle.bt_json.specs.declared.limits.TheConstants.{MOST_LEVELS}
 

@@ -1,6 +1,6 @@
 -- How reading goes on between the tokens of lists and objects.
-use Rattle.std.proofs.Common.{◌≡◌, ℕ, ◌+◌, ◌<◌, ◌≤◌, true, false, cond, List, [], ◌∷◌, ◌++◌, map, length, get_or, None, refl, ap, ◌∙◌, sym, subst, arith, ◌≢◌, ◌==◌, eq-eqb, inl, inr}
-use Rattle.std.specs.Prelude.{◌||◌, Result, Ok, Err, IfOk, IfErr}
+use Rattle.std.proofs.Common.{◌≡◌, ℕ, ◌+◌, ◌<◌, ◌≤◌, true, false, cond, List, [], ◌∷◌, ◌++◌, map, length, get_or, None, refl, ap, ◌∙◌, sym, arith, ◌≢◌, ◌==◌, eq-eqb, inl, inr}
+use Rattle.std.specs.Prelude.{◌||◌}
 use Rattle.std.specs.List.{list_any}
 use Rattle.std.specs.Str.{bytes_eq}
 use Rattle.std.proofs.lemmas.Bool.{cases_lt}
@@ -9,13 +9,12 @@ use Rattle.bt_json.specs.Json.{Json, list, object}
 use Rattle.bt_json.specs.Stands.{items_of, members_of}
 use Rattle.bt_json.specs.Grammar.{is_blank}
 use Rattle.bt_json.specs.inner.Bytes.{kind_of}
-use Rattle.bt_json.specs.inner.Reading.{State, go, stop, Stop, bad, deep, twice, step, Frame, in_list, in_object, due, opened_list, behind, opened_object, name_due, colon_due, in_text, between, as_name, finish_text, deliver, opens_level, has_name, step_due, step_opened_list, step_behind, step_opened_object, step_name_due, step_colon_due}
-use Rattle.bt_json.specs.inner.Running.{SkipsBlanks, rest_of, rest_after, Faults}
-use Rattle.bt_json.specs.declared.fault.JsonFault.{JsonFault}
+use Rattle.bt_json.specs.inner.Reading.{State, go, stop, bad, deep, twice, step, Frame, in_list, in_object, due, opened_list, opened_object, name_due, colon_due, in_text, between, as_name, finish_text, deliver, opens_level, has_name, step_due, step_opened_list, step_opened_object, step_name_due, step_colon_due}
+use Rattle.bt_json.specs.inner.Running.{rest_of, rest_after}
 use Rattle.bt_json.specs.declared.kind.Kind.{Kind}
-use Rattle.bt_json.specs.declared.kind.Kind.TheVariants.{Blank, ListOpens, ListCloses, ObjectOpens, ObjectCloses, Comma, Colon, Quote, Minus, Digit, LetterT, LetterF, LetterN, Other}
+use Rattle.bt_json.specs.declared.kind.Kind.TheVariants.{Blank, ListOpens, ObjectOpens, ObjectCloses, Colon, Quote, Minus, Digit, LetterT, LetterF, LetterN}
 use Rattle.bt_json.proofs.Blanks.{opened_other}
-use Rattle.bt_json.proofs.ByteKinds.{blank-kind, kind-Blank, kind-ListCloses, kind-ObjectCloses, kind-Comma, kind-Colon, kind-Quote, kind_of-list_closes, kind_of-object_closes, kind_of-comma, kind_of-colon, kind_of-quote}
+use Rattle.bt_json.proofs.ByteKinds.{kind-Blank, kind-ListCloses, kind-ObjectCloses, kind-Colon, kind-Quote, kind_of-list_closes, kind_of-object_closes, kind_of-colon, kind_of-quote}
 use Rattle.bt_json.proofs.Running.{rest_more, rest_end}
 use Rattle.bt_json.specs.declared.limits.TheConstants.{MOST_LEVELS}
 

@@ -6,7 +6,7 @@ use Rattle.std.proofs.lemmas.List.{take_more, length-drop, length-take, get_or-d
 use Rattle.std.specs.Prelude.{nat_le, ◌&&◌, slice_range}
 use Rattle.std.specs.Char.{is_digit, digit_value}
 use Rattle.std.specs.Char.Utf16.{is_high_surrogate, is_low_surrogate}
-use Rattle.std.proofs.lemmas.Bool.{ltb-true, cases_lt, le-ltb, lt-ltb, false_from_ne_true, eqb-true}
+use Rattle.std.proofs.lemmas.Bool.{cases_lt, le-ltb, lt-ltb, false_from_ne_true, eqb-true}
 use Rattle.std.proofs.lemmas.Bool.Decides.{nat_tests}
 use Rattle.std.proofs.lemmas.Nat.{pow-add}
 use Rattle.std.proofs.Math.Nat.{pow-le-pow_right}

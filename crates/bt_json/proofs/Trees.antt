@@ -7,11 +7,10 @@ use Rattle.std.specs.Str.{bytes_eq}
 use Rattle.std.specs.Global.{Global}
 use Rattle.std.specs.declared.rc.Rc.{Rc}
 use Rattle.bt_json.specs.inner.Names.{Set, keys_of}
-use Rattle.bt_json.specs.Json.{Json, null, boolean, number, text, list, object, value_at}
-use Rattle.bt_json.specs.Stands.{json_of, number_of, items_of, members_of, is_full}
-use Rattle.bt_json.specs.declared.decimal.Decimal.{Decimal}
+use Rattle.bt_json.specs.Json.{Json, null, boolean, list, object, value_at}
+use Rattle.bt_json.specs.Stands.{json_of, items_of, members_of, is_full}
 use Rattle.bt_json.specs.declared.tree.Tree.{Tree, the_lemmas}
-use Rattle.bt_json.specs.declared.tree.Tree.{Null, Bool as Boolean, Num, Text}
+use Rattle.bt_json.specs.declared.tree.Tree.{Null, Bool as Boolean}
 use Rattle.bt_json.specs.declared.tree.Tree.TheViews as views
 
 -- one place further on

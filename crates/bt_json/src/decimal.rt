@@ -3,8 +3,8 @@
 ghost use Rattle.std.specs.Prelude.{◌≡◌, ◌≢◌, ◌<◌, ◌≤◌, ◌+◌, ◌*◌, ◌^◌, ℕ, ℤ, pos, All, length, take, drop, IsTrue, ◌↔◌, IfSome, IfNone, MatchOption, Some, None, ◌<ℤ◌, ◌≤ℤ◌, neg_ℤ, Bool, if◌then◌else◌};
 ghost use Rattle.std.specs.Int.Digits.{number_from_digits};
 ghost use Rattle.std.specs.Int.RustNames.{unsigned_abs};
-ghost use Rattle.bt_json.specs.Value.{IsScaled, IsTimes, HasNoHalves, HasNoWhole, signed};
-ghost use Rattle.bt_json.specs.inner.Halves.{IsIfFits, twice_digits, twice, IsHalfOf, IsNoHalfOf, HasNoSmallShare, HasNoSmallValue};
+ghost use Rattle.bt_json.specs.Value.{IsTimes, HasNoHalves, HasNoWhole, signed};
+ghost use Rattle.bt_json.specs.inner.Halves.{IsIfFits, twice_digits, twice, IsMagnitude, IsHalfOf, IsNoHalfOf, HasNoSmallShare, HasNoSmallValue};
 
 use crate::limits::MOST_HALVES;
 use smallvec::SmallVec;
@@ -131,7 +131,7 @@ impl Decimal {
     /// The whole part of the magnitude and whether a half follows it, where twice the magnitude is a
     /// whole number and its half fits.
     fn magnitude(&self) -> Option<(u64, bool)>
-        ensures some { IfSome result (λ r. IsScaled (twice r) (twice_digits (number_of self.now)) self.now.exponent) }
+        ensures some { IfSome result (IsMagnitude (twice_digits (number_of self.now)) self.now.exponent) }
         ensures none { IfNone result (HasNoSmallValue (twice_digits (number_of self.now)) self.now.exponent) }
     {
         let places = self.exponent.unsigned_abs();

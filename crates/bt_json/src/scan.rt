@@ -2,8 +2,7 @@
 ghost use Rattle.std.specs.Prelude.{◌≡◌, ◌≢◌, OnOk, IsTrue, ◌≤◌, ◌<◌, length, slice_index, true, false, IfOk, IfErr, List, ℕ};
 ghost use Rattle.bt_json.specs.Grammar.{is_blank};
 ghost use Rattle.bt_json.specs.inner.Bytes.{HasByte, LacksByte};
-ghost use Rattle.bt_json.specs.inner.Reading.{State};
-ghost use Rattle.bt_json.specs.inner.Running.{SkipsBlanks, IsLater, rest_of};
+ghost use Rattle.bt_json.specs.inner.Running.{SkipsTo, IsLater};
 ghost use Rattle.bt_json.specs.inner.Words.{SkipsWord};
 ghost use Rattle.bt_json.specs.declared.fault.JsonFault.TheVariants.{Json as JsonAt};
 
@@ -14,7 +13,7 @@ use crate::kind::is_blank;
 pub fn skip_blanks(bytes: &[u8], start: usize) -> usize
     requires { start ≤ length bytes.now }
     ensures later { IsLater bytes.now start result }
-    ensures blanks { (s : State) → SkipsBlanks true s → rest_of bytes.now start s ≡ rest_of bytes.now result s }
+    ensures blanks { SkipsTo bytes.now start result }
     ensures ends { result < length bytes.now → is_blank (slice_index bytes.now result) ≡ false }
 {
     let mut at = start;

@@ -9,7 +9,7 @@ ghost use Rattle.bt_json.specs.Grammar.{short_escape, alone};
 ghost use Rattle.bt_json.specs.inner.Tails.{place_of};
 ghost use Rattle.bt_json.specs.inner.Bytes.{HasByteIn, LacksByteIn, IsHexDigit};
 ghost use Rattle.bt_json.specs.inner.Reading.{in_text, between, escape, hex, lead_of};
-ghost use Rattle.bt_json.specs.inner.Running.{IsLater, is_plain, WritesUnit, EndsWithin, IsCharacter, ArePlain, GoesOnTo, EndsText, ReadsUpTo};
+ghost use Rattle.bt_json.specs.inner.Running.{IsLater, is_plain, WritesUnit, EndsWithin, IsCharacter, ArePlain, EndsText, ReadsUpTo};
 ghost use Rattle.bt_json.specs.declared.fault.JsonFault.TheVariants.{Json, Memory};
 
 use crate::fault::JsonFault;
@@ -252,13 +252,13 @@ pub fn plain_text(bytes: &[u8], start: usize) -> Option<usize>
 }
 
 impl Unescaped {
-    ghost use Rattle.bt_json.specs.inner.Unescaping.{state_of, HasText, flushed_text};
+    ghost use Rattle.bt_json.specs.inner.Unescaping.{state_of, LeadsTo, HasText, flushed_text};
 
     /// The characters of one byte from a place on, and the place behind them.
     fn read_plain(&mut self, bytes: &[u8], start: usize) -> Result<usize, JsonFault>
         requires { start ≤ length bytes.now }
         ensures later { IfOk result (λ n. IsLater bytes.now start n) }
-        ensures ok { IfOk result (GoesOnTo bytes.now start (state_of self.old between) (state_of self.new between)) }
+        ensures ok { IfOk result (LeadsTo bytes.now start self.old between self.new) }
         ensures err { IfErr result (λ f. f ≡ Memory) }
         ensures ends { IfOk result (λ n. n < length bytes.now → is_plain (slice_index bytes.now n) ≡ false) }
     {
@@ -274,7 +274,7 @@ impl Unescaped {
         requires within { start < length bytes.now }
         requires wide { 128 ≤ slice_index bytes.now start }
         ensures later { IfOk result (λ n. (start < n) × (n ≤ length bytes.now)) }
-        ensures ok { IfOk result (GoesOnTo bytes.now start (state_of self.old between) (state_of self.new between)) }
+        ensures ok { IfOk result (LeadsTo bytes.now start self.old between self.new) }
         ensures err { IfErr result (EndsText bytes.now start (state_of self.old between)) }
     {
         let end = character_end(bytes, start)?;
@@ -286,7 +286,7 @@ impl Unescaped {
     fn read_escape(&mut self, bytes: &[u8], start: usize) -> Result<usize, JsonFault>
         requires { start ≤ length bytes.now }
         ensures later { IfOk result (λ n. (start < n) × (n ≤ length bytes.now)) }
-        ensures ok { IfOk result (GoesOnTo bytes.now start (state_of self.old escape) (state_of self.new between)) }
+        ensures ok { IfOk result (LeadsTo bytes.now start self.old escape self.new) }
         ensures err { IfErr result (EndsText bytes.now start (state_of self.old escape)) }
     {
         if start >= bytes.len() {
@@ -310,7 +310,7 @@ impl Unescaped {
         requires special { is_plain (slice_index bytes.now start) ≡ false }
         requires no_quote { slice_index bytes.now start ≢ 34 }
         ensures later { IfOk result (λ n. (start < n) × (n ≤ length bytes.now)) }
-        ensures ok { IfOk result (GoesOnTo bytes.now start (state_of self.old between) (state_of self.new between)) }
+        ensures ok { IfOk result (LeadsTo bytes.now start self.old between self.new) }
         ensures err { IfErr result (EndsText bytes.now start (state_of self.old between)) }
     {
         if bytes[start] < 0x20 {

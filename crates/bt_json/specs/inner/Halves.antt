@@ -16,6 +16,10 @@ twice_digits n = 2 * number_from_digits 10 n.digits
 abbrev pub twice : ℕ × Bool → ℕ
 twice r = 2 * r.0 + (if r.1 then 1 else 0)
 
+-- twice the whole number and the half are n times ten to that power
+abbrev pub IsMagnitude : ℕ → ℤ → ℕ × Bool → Type 0
+IsMagnitude n exponent r = IsScaled (twice r) n exponent
+
 -- The digits behind a point write a half of the power, or nothing. They are all that stand there only if it is full.
 abbrev pub IsHalfOf : Bool → Bool → ℕ → ℕ → Type 0
 IsHalfOf true full digits power = IsTrue full × (2 * digits ≡ power)

@@ -1,5 +1,5 @@
 -- The list or the object that the reader holds, as a frame, and what its parts tell of it.
-use Rattle.std.specs.Prelude.{◌≡◌, ◌≢◌, ℕ, ◌+◌, ◌<◌, ◌≤◌, true, List, [], ◌∷◌, map, length, Option, Some, None, Result, Ok, Err, slice_index, ◌⊎◌}
+use Rattle.std.specs.Prelude.{◌≡◌, ◌≢◌, ℕ, ◌+◌, ◌<◌, ◌≤◌, true, List, ◌∷◌, map, length, Option, Some, None, Result, Ok, Err, slice_index, ◌⊎◌}
 use Rattle.std.specs.List.{list_all}
 use Rattle.bt_json.specs.Json.{Json}
 use Rattle.bt_json.specs.Stands.{json_of, is_full}

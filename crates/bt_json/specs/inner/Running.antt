@@ -14,6 +14,10 @@ pub record SkipsBlanks (strict : Bool) (s : State) : Type 0 where
 abbrev pub rest_of : List ℕ → ℕ → State → Stop
 rest_of bytes at s = run true at s (drop at bytes)
 
+-- in any state that blanks leave as it is, reading goes on from the second place as from the first
+abbrev pub SkipsTo : List ℕ → ℕ → ℕ → Type 0
+SkipsTo bytes start end = (s : State) → SkipsBlanks true s → rest_of bytes start s ≡ rest_of bytes end s
+
 -- the same from a step on
 abbrev pub rest_after : List ℕ → ℕ → Step → Stop
 rest_after bytes at next = after_step next (λ s. rest_of bytes at s)

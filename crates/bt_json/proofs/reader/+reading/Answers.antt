@@ -1,8 +1,8 @@
-use Rattle.std.proofs.Common.{List, ◌≡◌, ◌+◌, arith, ap, sym, ◌∙◌, subst}
+use Rattle.std.proofs.Common.{◌+◌, arith, ap, sym, ◌∙◌, subst}
 use Rattle.std.proofs.lemmas.Result.{err_from_is_err_and}
 use Rattle.bt_json.specs.Stands.{json_of}
-use Rattle.bt_json.specs.inner.Reading.{Frame, due, deliver}
-use Rattle.bt_json.specs.inner.Running.{Faults, rest_of}
+use Rattle.bt_json.specs.inner.Reading.{due, deliver}
+use Rattle.bt_json.specs.inner.Running.{Faults}
 use Rattle.bt_json.specs.inner.Frames.{opened}
 use Rattle.bt_json.specs.inner.Ahead.{place_of}
 use Rattle.bt_json.specs.inner.Nested.{frame_of, Outside}

@@ -1,4 +1,4 @@
-use Rattle.std.proofs.Common.{true, arith, sym, ◌∙◌}
+use Rattle.std.proofs.Common.{true, sym, ◌∙◌}
 use Rattle.bt_json.specs.inner.Reading.{due}
 use Rattle.bt_json.proofs.Levels.{due_cut, no_kind}
 use Rattle.bt_json.proofs.Blanks.{skips_due}
