@@ -10,7 +10,7 @@ use Rattle.bt_model.specs.Chains.{IsSplitter, IsLink, LinksTo, Path, one, more, 
 use Rattle.bt_model.proofs.Places.{same_part}
 use Rattle.bt_model.proofs.HandLemmas.{one_handed, one_fed}
 use Rattle.bt_model.proofs.PathLemmas.{path_start, path_head, path_next}
-use Rattle.bt_recover.specs.Faults.{IsOrderly}
+use Rattle.bt_recover.specs.Recovered.{IsOrderly}
 use Rattle.bt_recover.proofs.HandLaws.{one_giver, output_hands_none}
 
 -- a splitter is no link

@@ -22,10 +22,10 @@ use Rattle.bt_model.specs.Shown.{ListsEach, Precedes, IsPlacedBefore, ComesBefor
 use Rattle.bt_model.proofs.Places.{same_part}
 use Rattle.bt_model.proofs.HandLemmas.{taker_at}
 use Rattle.bt_model.proofs.PathLemmas.{path_snoc}
-use Rattle.bt_recover.specs.Faults.{IsOrderly}
+use Rattle.bt_recover.specs.Recovered.{IsOrderly}
 use Rattle.bt_recover.specs.declared.courses.Origin.TheVariants.{Input, Split}
 use Rattle.bt_recover.specs.declared.courses.Course.{Course}
-use Rattle.bt_recover.specs.Courses.{EndsWith, BeginsChain, LeavesChain, LeavesNone, IsOriginOf, IsCourseOf, AreCourses, HasCourses, AllDone, AddsHalf, AddsHalves}
+use Rattle.bt_recover.specs.inner.Courses.{EndsWith, BeginsChain, LeavesChain, LeavesNone, IsOriginOf, IsCourseOf, AreCourses, HasCourses, AllDone, AddsHalf, AddsHalves}
 use Rattle.bt_recover.proofs.Done.{InputsDone, SplittersDone, HalfDone}
 use Rattle.bt_recover.proofs.HandLaws.{front_fed}
 use Rattle.bt_recover.proofs.ChainLemmas.{chain_from}

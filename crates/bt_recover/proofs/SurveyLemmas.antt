@@ -16,7 +16,7 @@ use Rattle.bt_model.proofs.Sorted.{contains_head, contains_more}
 use Rattle.bt_recover.specs.declared.courses.Origin.{Origin}
 use Rattle.bt_recover.specs.declared.courses.Origin.TheVariants.{Input, Split}
 use Rattle.bt_recover.specs.declared.courses.Course.{Course}
-use Rattle.bt_recover.specs.Courses.{end_part, IsOriginOf, IsCourseOf, AreCourses, AllDone, AreNumbered, start_of, number_of, IsTargetAt, IsCourseEdge, IsSurvey, IsLong, naming_of, network_of}
+use Rattle.bt_recover.specs.inner.Courses.{end_part, IsOriginOf, IsCourseOf, AreCourses, AllDone, AreNumbered, start_of, number_of, IsTargetAt, IsCourseEdge, IsSurvey, IsLong, naming_of, network_of}
 use Rattle.bt_recover.proofs.ChainLemmas.{no_link}
 use Rattle.bt_recover.proofs.ExistLemmas.{output_link}
 use Rattle.bt_recover.proofs.CourseLemmas.{contained_at, splitter_within, output_within, orderly_of}

@@ -26,7 +26,7 @@ use Rattle.bt_model.specs.Shown.{Naming, ListsEach, IsNaming, IsStartOf, IsTarge
 use Rattle.bt_model.proofs.Places.{same_part, own_cell, one_there, covers_at}
 use Rattle.bt_model.proofs.PathLemmas.{path_start}
 use Rattle.bt_model.proofs.Sorted.{one_place}
-use Rattle.bt_recover.specs.Faults.{Never, IsOrderly}
+use Rattle.bt_recover.specs.Recovered.{Never, IsOrderly}
 use Rattle.bt_recover.proofs.HandLaws.{takes_at, comes_at, one_giver, pair_leaves}
 use Rattle.bt_recover.proofs.ChainLemmas.{no_link, chain_from, same_first, longest_same, no_links_before, path_stop}
 use Rattle.bt_recover.proofs.ExistLemmas.{from_input, to_output, input_no_splitter}

@@ -4,7 +4,7 @@ ghost use Rattle.bt_grid.specs.Pairing.{ArePartners};
 ghost use Rattle.bt_model.specs.Chains.{IsLink, IsInput, IsSplitter};
 ghost use Rattle.bt_model.specs.Clean.{IsClean};
 ghost use Rattle.bt_model.specs.Shown.{ListsEach, IsPlacedBefore};
-ghost use Rattle.bt_recover.specs.Courses.{EndsWith, BeginsChain, LeavesChain, LeavesNone, AddsHalf, AddsHalves, HasCourses, AllDone};
+ghost use Rattle.bt_recover.specs.inner.Courses.{EndsWith, BeginsChain, LeavesChain, LeavesNone, AddsHalf, AddsHalves, HasCourses, AllDone};
 
 use crate::following::{is_kind, taker};
 use bt_grid::{Grid, Pairs};

@@ -2,7 +2,7 @@ ghost use Rattle.std.specs.Prelude.{◌≡◌, ◌≢◌, ◌↔◌, ℕ, ◌<�
 ghost use Rattle.std.specs.List.{AllZip};
 ghost use Rattle.bt_model.specs.Chains.{Chain, IsSplitter, IsOutput};
 ghost use Rattle.bt_model.specs.Shown.{ListsEach, IsEdgeOf};
-ghost use Rattle.bt_recover.specs.Courses.{AreNumbered, IsTargetAt, IsCourseEdge, IsSurvey, IsLong, AreCourses, AllDone, start_of, number_of, naming_of};
+ghost use Rattle.bt_recover.specs.inner.Courses.{AreNumbered, IsTargetAt, IsCourseEdge, IsSurvey, IsLong, AreCourses, AllDone, start_of, number_of, naming_of};
 
 use crate::courses::{Course, Origin};
 use crate::following::is_kind;

@@ -2,7 +2,7 @@ ghost use Rattle.std.specs.Prelude.{◌≡◌, ◌++◌, ◌∷◌, [], if◌the
 ghost use Rattle.bt_grid.specs.Pairing.{ArePartners};
 ghost use Rattle.bt_model.specs.Chains.{IsSplitter, IsInput, IsOutput};
 ghost use Rattle.bt_model.specs.Shown.{IsPlacedBefore};
-ghost use Rattle.bt_recover.specs.Ends.{ListsUpTo, AreKeyed};
+ghost use Rattle.bt_recover.specs.inner.Ends.{ListsUpTo, AreKeyed};
 
 use crate::following::{giver, is_kind};
 use bt_grid::{Grid, Pairs};

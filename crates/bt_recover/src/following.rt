@@ -4,8 +4,8 @@ ghost use Rattle.bt_parts.specs.Layouts.{HasPart, IsAt, IsWellPlaced};
 ghost use Rattle.bt_grid.specs.Pairing.{ArePartners};
 ghost use Rattle.bt_model.specs.Handing.{Hands};
 ghost use Rattle.bt_model.specs.Chains.{IsLink, LinksTo, IsOutput};
-ghost use Rattle.bt_recover.specs.Faults.{IsOrderly};
-ghost use Rattle.bt_recover.specs.Sight.{IsBeltFeeder};
+ghost use Rattle.bt_recover.specs.Recovered.{IsOrderly};
+ghost use Rattle.bt_recover.specs.inner.Sight.{IsBeltFeeder};
 
 use crate::sight::{left, looker};
 use bt_grid::{Grid, Pairs};

@@ -2,8 +2,8 @@ ghost use Rattle.std.specs.Prelude.{◌≡◌, ◌≢◌, ◌↔◌, ◌⊎◌, 
 ghost use Rattle.bt_grid.specs.Pairing.{ArePartners};
 ghost use Rattle.bt_model.specs.Chains.{IsLink, LinksTo};
 ghost use Rattle.bt_model.specs.Clean.{IsOnRing};
-ghost use Rattle.bt_recover.specs.Faults.{IsFirst, Never, IsOrderly};
-ghost use Rattle.bt_recover.specs.Marks.{IsMarked, AreMarks, Keeps, IsUnmarkedLink};
+ghost use Rattle.bt_recover.specs.Recovered.{IsFirst, Never, IsOrderly};
+ghost use Rattle.bt_recover.specs.inner.Marks.{IsMarked, AreMarks, Keeps, IsUnmarkedLink};
 
 use crate::following::{is_kind, link_after, link_before};
 use bt_grid::{Grid, Pairs};

@@ -1,10 +1,10 @@
 ghost use Rattle.std.specs.Prelude.{◌≡◌, ◌≢◌, ◌↔◌, ◌⊎◌, length, IsTrue, IfSome, IfOk, IfErr, MatchOption, MatchResult};
-ghost use Rattle.bt_net.specs.Network.{Network, IsWired, IsLarge, LacksEnds};
-ghost use Rattle.bt_model.specs.Shown.{Naming, IsNumbered};
-ghost use Rattle.bt_recover.specs.declared.fault.RecoverFault.{RecoverFault};
+ghost use Rattle.bt_answers.specs.Answers.{Answers, seen};
+ghost use Rattle.bt_net.specs.Network.{IsNetwork, IsWired, IsLarge, LacksEnds};
 ghost use Rattle.bt_recover.specs.declared.fault.RecoverFault.TheVariants.{Memory};
-ghost use Rattle.bt_recover.specs.Courses.{IsSurvey, IsLong, naming_of, network_of};
-ghost use Rattle.bt_recover.specs.Faults.{IsUnclean, KeepsLimits, IsRecoverFault};
+ghost use Rattle.bt_recover.specs.inner.Courses.{IsSurvey, IsLong};
+ghost use Rattle.bt_recover.specs.inner.Refused.{IsRefused};
+ghost use Rattle.bt_recover.specs.Recovered.{IsRecovered, network_and_naming};
 
 use crate::clean::clean_pairs;
 use crate::courses::{Course, courses_of};
@@ -39,7 +39,7 @@ struct Survey {
 /// Finds the splitters, the ends and the chains of a layout.
 fn survey_of(alloc: Global, grid: &Grid) -> Result<Survey, RecoverFault>
     ensures found { IfOk result (λ s. IsSurvey grid.now s.inputs.items s.outputs.items s.splitters.items s.courses.items) }
-    ensures refused { IfErr result (IsUnclean grid.now) }
+    ensures refused { IfErr result (IsRefused grid.now) }
 {
     let pairs = clean_pairs(alloc, grid)?;
     let splitters = splitters_of(alloc, grid)?;
@@ -73,7 +73,7 @@ fn net_of(inputs: u32, outputs: u32, splitters: u32, edges: Vec<Edge>) -> Option
     ensures net { MatchOption result
         (LacksEnds (record { inputs = inputs; outputs = outputs; splitters = splitters; edges = edges.items }))
         (λ n. n ≡ record { inputs = inputs; outputs = outputs; splitters = splitters; edges = edges.items }) }
-    ensures keeps { IfSome result KeepsLimits }
+    ensures network { IfSome result IsNetwork }
 {
     match Net::new(inputs, outputs, splitters, edges) {
         Ok(net) => Some(net),
@@ -81,11 +81,19 @@ fn net_of(inputs: u32, outputs: u32, splitters: u32, edges: Vec<Edge>) -> Option
     }
 }
 
-/// The network that a layout shows, or why there is none.
-fn traced_or_fault(alloc: Global, grid: &Grid) -> Result<Traced, RecoverFault>
-    ensures found { IfOk result (λ traced. IsNumbered grid.now traced.net (naming_of traced.inputs.items traced.outputs.items traced.splitters.items)) }
-    ensures keeps { IfOk result (λ traced. KeepsLimits traced.net) }
-    ensures refused { IfErr result (IsRecoverFault grid.now) }
+/// Recovers the network that a layout shows, with its own numbering.
+///
+/// Splitters are numbered in the order of the parts, inputs by the cells of their first parts and
+/// outputs by the cells of their last, by x and then by y. Edges come in the order of their starts:
+/// the inputs, then the splitters, and of a splitter the lesser half first. The work grows as that of
+/// sorting the parts.
+///
+/// # Errors
+///
+/// The first of the faults in the order of [`RecoverFault`].
+#[tactic(auto, using(crate::proofs::OneRecovery::recovery_answers))]
+pub fn recover(alloc: Global, grid: &Grid) -> Result<Traced, RecoverFault>
+    ensures { Answers Memory (IsRecovered grid.now) (seen network_and_naming result) }
 {
     let survey = survey_of(alloc, grid)?;
     if is_long(&survey) {
@@ -111,27 +119,4 @@ fn traced_or_fault(alloc: Global, grid: &Grid) -> Result<Traced, RecoverFault>
         inputs: survey.inputs,
         outputs: survey.outputs,
     })
-}
-
-/// Recovers the network that a layout shows, with its own numbering.
-///
-/// Splitters are numbered in the order of the parts, inputs by the cells of their first parts and
-/// outputs by the cells of their last, by x and then by y. Edges come in the order of their starts:
-/// the inputs, then the splitters, and of a splitter the lesser half first. The work grows as that of
-/// sorting the parts.
-///
-/// # Errors
-///
-/// The first of the faults in the order of [`RecoverFault`].
-pub fn recover(alloc: Global, grid: &Grid) -> Result<Traced, RecoverFault>
-    ensures found { IfOk result (λ traced. IsNumbered grid.now traced.net (naming_of traced.inputs.items traced.outputs.items traced.splitters.items)) }
-    ensures refused { IfErr result (IsRecoverFault grid.now) }
-    ensures only_found { (net : Network) (naming : Naming) → IsNumbered grid.now net naming → KeepsLimits net
-        → MatchResult result
-        (λ traced. (traced.net ≡ net) × (naming_of traced.inputs.items traced.outputs.items traced.splitters.items ≡ naming))
-        (λ fault. fault ≡ Memory) }
-    ensures only_refused { (fault : RecoverFault) → fault ≢ Memory → IsRecoverFault grid.now fault
-        → MatchResult result (λ _. ⊥) (λ told. (told ≡ fault) ⊎ (told ≡ Memory)) }
-{
-    traced_or_fault(alloc, grid)
 }

@@ -3,7 +3,7 @@ ghost use Rattle.bt_parts.specs.Cells.{IsInRange};
 ghost use Rattle.bt_parts.specs.Layouts.{HasPart, IsAt, IsWellPlaced};
 ghost use Rattle.bt_model.specs.Handing.{BlocksFrom};
 ghost use Rattle.bt_model.specs.Clean.{IsSideLoaded, IsHalfBlocked, IsBlocked};
-ghost use Rattle.bt_recover.specs.Faults.{IsFirst, Never};
+ghost use Rattle.bt_recover.specs.Recovered.{IsFirst, Never};
 
 use crate::sight::{is_seen_aside, is_seen_twice};
 use bt_grid::Grid;

@@ -1,7 +1,7 @@
 ghost use Rattle.std.specs.Prelude.{◌≡◌, ◌≢◌, ◌↔◌, ◌⊎◌, ℕ, ◌<◌, length, IsTrue, MatchOption, IfSome};
 ghost use Rattle.bt_parts.specs.Cells.{IsInRange, opposite};
 ghost use Rattle.bt_parts.specs.Layouts.{HasPart, IsAt};
-ghost use Rattle.bt_recover.specs.Sight.{left, LooksToward, IsSeen, IsSeenAside, IsSeenTwice};
+ghost use Rattle.bt_recover.specs.inner.Sight.{left, LooksToward, IsSeen, IsSeenAside, IsSeenTwice};
 
 use bt_grid::Grid;
 use bt_parts::{Cell, Dir, Kind, Part};

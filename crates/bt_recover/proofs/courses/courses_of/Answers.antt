@@ -1,7 +1,7 @@
 use Rattle.std.proofs.Common.{◌≡◌, ◌+◌, length, get_or, subst, sym, arith}
 use Rattle.std.proofs.lemmas.Option.{slice_get-get_or}
 use Rattle.bt_model.specs.Chains.{IsInput, IsSplitter}
-use Rattle.bt_recover.specs.Courses.{HasCourses}
+use Rattle.bt_recover.specs.inner.Courses.{HasCourses}
 use Rattle.bt_recover.proofs.Done.{InputsDone, SplittersDone}
 use Rattle.bt_recover.proofs.CourseLemmas.{courses_input, courses_inputs, courses_halves, courses_all, each_at, input_within, splitter_within}
 use Rattle.bt_recover.proofs.courses.courses_of.Goals as goal

@@ -1,4 +1,4 @@
-use Rattle.bt_recover.specs.Courses.{HasCourses}
+use Rattle.bt_recover.specs.inner.Courses.{HasCourses}
 use Rattle.bt_recover.proofs.Done.{InputsDone, SplittersDone}
 use Rattle.bt_recover.proofs.courses.courses_of.Given as goal
 

@@ -2,7 +2,7 @@ use Rattle.std.proofs.Common.{◌≤◌, length, subst, arith}
 use Rattle.std.specs.List.{AllZip}
 use Rattle.std.proofs.lemmas.List.{take_all}
 use Rattle.bt_model.specs.Shown.{IsEdgeOf}
-use Rattle.bt_recover.specs.Courses.{IsCourseOf, naming_of}
+use Rattle.bt_recover.specs.inner.Courses.{IsCourseOf, naming_of}
 use Rattle.bt_recover.proofs.SurveyLemmas.{course_known, edges_more}
 use Rattle.bt_recover.proofs.WiredLemmas.{zip_length}
 use Rattle.bt_recover.proofs.edges.edges_of.Goals as goal

@@ -2,7 +2,7 @@ use Rattle.std.proofs.Common.{List, take}
 use Rattle.std.specs.List.{AllZip}
 use Rattle.bt_model.specs.Chains.{Chain}
 use Rattle.bt_model.specs.Shown.{IsEdgeOf}
-use Rattle.bt_recover.specs.Courses.{AreCourses, AllDone, naming_of}
+use Rattle.bt_recover.specs.inner.Courses.{AreCourses, AllDone, naming_of}
 use Rattle.bt_recover.proofs.edges.edges_of.Given as goal
 
 abbrev pub invariant-loop-course : goal.invariant-loop-course

@@ -1,6 +1,6 @@
 use Rattle.std.proofs.Common.{◌++◌, ◌∷◌, [], take, get_or, sym, subst}
 use Rattle.std.proofs.lemmas.List.{take_more}
-use Rattle.bt_recover.specs.Ends.{AreKeyed}
+use Rattle.bt_recover.specs.inner.Ends.{AreKeyed}
 use Rattle.bt_recover.proofs.EndLemmas.{keyed_more}
 use Rattle.bt_recover.proofs.ends.keyed.Goals as goal
 

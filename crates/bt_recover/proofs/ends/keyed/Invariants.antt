@@ -1,5 +1,5 @@
 use Rattle.std.proofs.Common.{take}
-use Rattle.bt_recover.specs.Ends.{AreKeyed}
+use Rattle.bt_recover.specs.inner.Ends.{AreKeyed}
 use Rattle.bt_recover.proofs.ends.keyed.Given as goal
 
 abbrev pub invariant-loop-i : goal.invariant-loop-i

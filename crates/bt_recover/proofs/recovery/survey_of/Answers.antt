@@ -3,7 +3,7 @@ use Rattle.std.specs.List.{All}
 use Rattle.std.specs.List.Sorted.{IsPermutation}
 use Rattle.bt_model.specs.Chains.{IsSplitter, IsInput, IsOutput}
 use Rattle.bt_model.specs.Shown.{ListsEach}
-use Rattle.bt_recover.specs.Courses.{HasCourses, AllDone}
+use Rattle.bt_recover.specs.inner.Courses.{HasCourses, AllDone}
 use Rattle.bt_recover.proofs.EndLemmas.{listed_each, listed_within, moved_each}
 use Rattle.bt_recover.proofs.CourseLemmas.{input_within, splitter_within, output_within}
 use Rattle.bt_recover.proofs.recovery.survey_of.Goals as goal

@@ -1,0 +1,6 @@
+-- What the private functions alone cite: no public clause rests on these.
+pub mod Courses
+pub mod Ends
+pub mod Marks
+pub mod Refused
+pub mod Sight
