@@ -23,7 +23,7 @@ use std::alloc::Global;
 const MOST: usize = 4096;
 
 /// What entity 0 sets for all entities.
-#[derive(Clone, Copy, Debug)]
+#[derive(Clone, Copy)]
 pub struct Frame {
     pub shift: Shift,
     pub tier: Tier,

@@ -6,7 +6,7 @@ ghost use Rattle.bt_entities.specs.declared.name.Family.{Family};
 use bt_parts::Tier;
 
 /// What an entity's name says of its kind.
-#[derive(Clone, Copy, Debug, PartialEq, Eq)]
+#[derive(Clone, Copy)]
 pub enum Family {
     Belts,
     Undergrounds,

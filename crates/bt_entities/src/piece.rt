@@ -22,7 +22,7 @@ use bt_parts::{Cell, Dir, Kind, Tier};
 use std::alloc::Global;
 
 /// Which of its two sides a splitter prefers.
-#[derive(Clone, Copy, Debug, PartialEq, Eq)]
+#[derive(Clone, Copy)]
 pub enum Priority {
     /// None of them.
     Even,
@@ -30,7 +30,7 @@ pub enum Priority {
 }
 
 /// An entity as its members tell it.
-#[derive(Clone, Copy, Debug)]
+#[derive(Clone, Copy)]
 pub struct Piece {
     pub kind: Kind,
     pub tier: Tier,

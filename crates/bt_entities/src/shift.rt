@@ -4,7 +4,7 @@ ghost use Rattle.bt_entities.specs.Places.{width_of, height_of, IsMiddle};
 use bt_parts::{Dir, Kind};
 
 /// By how many halves of a tile, 0 or 1, a blueprint's parts stand off the grid of cells.
-#[derive(Clone, Copy, Debug, PartialEq, Eq)]
+#[derive(Clone, Copy)]
 pub struct Shift {
     pub x: u8,
     pub y: u8,

@@ -242,7 +242,7 @@ fn members_that_say_nothing(rt: HostRuntime) -> Result<(), Fail> {
     ];
     for (name, member, value, kind) in table {
         let part = last_part(rt.alloc(), &[sampled(name, 1, 1, member, value)])?;
-        assert_eq!(rt; part.map(|part| part.kind), Some(kind));
+        assert!(rt; part.map(|part| part.kind) == Some(kind));
     }
     Ok(())
 }
@@ -312,7 +312,7 @@ fn blueprints(rt: HostRuntime) -> Result<(), Fail> {
             Some(EntityFault::NotBlueprint)
         );
     }
-    assert_eq!(rt; last_part(alloc, &[])?, None);
+    assert!(rt; last_part(alloc, &[])? == None);
     Ok(())
 }
 
@@ -409,7 +409,7 @@ fn coordinates_on_the_grid(rt: HostRuntime) -> Result<(), Fail> {
         let root = belt_at(rt.alloc(), x)?;
         let parts = parts_of(rt.alloc(), &root)?;
         let belt = basic(Kind::Belt, Dir::North, cell, 0);
-        assert_eq!(rt; parts.as_slice(), [belt].as_slice());
+        assert!(rt; parts.as_slice() == [belt].as_slice());
     }
     Ok(())
 }
@@ -427,7 +427,7 @@ fn splitters_lie_across_their_direction(rt: HostRuntime) -> Result<(), Fail> {
         let direction = Value::Num(halves(2 * direction));
         let splitter = sampled("splitter", x, y, "direction", direction);
         let part = last_part(rt.alloc(), &[belt, splitter])?;
-        assert_eq!(rt; part, Some(basic(Kind::Splitter, dir, 1, 1)));
+        assert!(rt; part == Some(basic(Kind::Splitter, dir, 1, 1)));
     }
     Ok(())
 }
@@ -447,7 +447,7 @@ fn directions_by_version(rt: HostRuntime) -> Result<(), Fail> {
         let blueprint = Object::new(alloc).with(alloc, "version", number(alloc, version)?)?;
         let blueprint = blueprint.with(alloc, "entities", Tree::List(entities))?;
         let parts = parts_of(alloc, &holder(alloc, "blueprint", blueprint.tree(alloc)?)?)?;
-        assert_eq!(rt; parts.as_slice(), [basic(Kind::Belt, dir, 0, 0)].as_slice());
+        assert!(rt; parts.as_slice() == [basic(Kind::Belt, dir, 0, 0)].as_slice());
     }
     Ok(())
 }

@@ -3,9 +3,13 @@
 
 mod handing;
 mod part;
+mod piece;
 
 pub use handing::{accepts, side};
-pub use part::{Cell, Dir, Kind, Part, Rect, Side, Tier, back, cells_of, front, inside};
+pub use part::{
+    Cell, Dir, Kind, MOST_COORDINATE, Part, Rect, Side, Tier, back, cells_of, front, inside,
+};
+pub use piece::{Layout, is_underground, other_end};
 
 #[cfg(test)]
 mod tests;

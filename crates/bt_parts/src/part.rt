@@ -1,11 +1,15 @@
-ghost use Rattle.std.specs.Prelude.{◌≡◌, ◌↔◌, ◌≤◌, ◌+◌, ◌^◌, unsigned_abs, IsTrue};
+ghost use Rattle.std.specs.Prelude.{◌≡◌, ◌↔◌, ◌≤◌, ◌+◌, unsigned_abs, IsTrue};
 ghost use Rattle.bt_parts.specs.Cells.{step, steps, opposite, Covers, IsGreaterHalf, IsInRange, IsInside};
 ghost use Rattle.bt_parts.specs.Tiers.{reach_of, speed_of};
+
+/// The greatest magnitude of a coordinate of a part's cell, in tiles: far more than a map of the game
+/// has, and so little that a sum of a few coordinates always fits.
+pub const MOST_COORDINATE: u32 = 1 << 20;
 
 /// A unit square of the plane, whose centre is at (x + 1/2, y + 1/2).
 ///
 /// x grows to the east and y to the south. Cells are ordered by x and then by y.
-#[derive(Clone, Copy, Debug, PartialEq, Eq, PartialOrd, Ord)]
+#[derive(Clone, Copy, PartialEq, Eq, PartialOrd, Ord)]
 pub struct Cell {
     pub x: i32,
     pub y: i32,
@@ -14,9 +18,9 @@ pub struct Cell {
 impl Cell {
     /// The cell so many steps on in a direction.
     pub fn ahead(self, dir: Dir, distance: u32) -> Cell
-        requires x_small { unsigned_abs self.x ≤ 2 ^ 20 + 1 }
-        requires y_small { unsigned_abs self.y ≤ 2 ^ 20 + 1 }
-        requires near { distance ≤ 2 ^ 20 }
+        requires x_small { unsigned_abs self.x ≤ MOST_COORDINATE + 1 }
+        requires y_small { unsigned_abs self.y ≤ MOST_COORDINATE + 1 }
+        requires near { distance ≤ MOST_COORDINATE }
         ensures { result ≡ steps distance dir self }
     {
         let Cell { x, y } = self;
@@ -31,7 +35,7 @@ impl Cell {
 }
 
 /// The direction in which a part moves its items.
-#[derive(Clone, Copy, Debug, PartialEq, Eq)]
+#[derive(Clone, Copy, PartialEq, Eq)]
 pub enum Dir {
     North,
     East,
@@ -54,7 +58,7 @@ impl Dir {
 }
 
 /// The speed class of a part.
-#[derive(Clone, Copy, Debug, PartialEq, Eq)]
+#[derive(Clone, Copy, PartialEq, Eq)]
 pub enum Tier {
     Basic,
     Fast,
@@ -89,7 +93,7 @@ impl Tier {
 }
 
 /// What a part is. An entrance and an exit are the two underground pieces.
-#[derive(Clone, Copy, Debug, PartialEq, Eq)]
+#[derive(Clone, Copy, PartialEq, Eq)]
 pub enum Kind {
     Belt,
     Entrance,
@@ -98,7 +102,7 @@ pub enum Kind {
 }
 
 /// A part of a layout.
-#[derive(Clone, Copy, Debug, PartialEq, Eq)]
+#[derive(Clone, Copy, PartialEq, Eq)]
 pub struct Part {
     pub kind: Kind,
     pub tier: Tier,
@@ -109,7 +113,7 @@ pub struct Part {
 }
 
 /// From where a part comes upon another one.
-#[derive(Clone, Copy, Debug, PartialEq, Eq)]
+#[derive(Clone, Copy, PartialEq, Eq)]
 pub enum Side {
     Behind,
     Across,
@@ -117,7 +121,7 @@ pub enum Side {
 }
 
 /// The cells from (0, 0) on, so many to the east and so many to the south.
-#[derive(Clone, Copy, Debug, PartialEq, Eq)]
+#[derive(Clone, Copy, PartialEq, Eq)]
 pub struct Rect {
     pub width: u32,
     pub height: u32,

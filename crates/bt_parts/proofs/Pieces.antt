@@ -1,7 +1,6 @@
 -- The first piece from an end of a pair on is its other end.
-use Rattle.std.proofs.Common.{◌≡◌, ◌↔◌, ◌⊎◌, ℕ, ◌+◌, ◌-◌, ◌<◌, ◌≤◌, List, [], ◌∷◌, ◌++◌, length, length-append, get_or, Option, Some, None, refl, sym, ◌∙◌, ap, subst, inl, inr, ⊎_elim, arith}
-use Rattle.std.proofs.lemmas.Option.{same_Some, none-some, slice_get_within, slice_get-get_or}
-use Rattle.std.proofs.lemmas.List.{get_or_push, get_or_append_left, get_or_past}
+use Rattle.std.proofs.Common.{◌≡◌, ◌↔◌, ℕ, ◌+◌, ◌-◌, ◌<◌, ◌≤◌, List, length, Some, None, sym, ◌∙◌, ap, subst, inl, inr, ⊎_elim, arith}
+use Rattle.std.proofs.lemmas.Option.{same_Some, none-some, slice_get_within}
 use Rattle.std.proofs.lemmas.Bool.{cases_order, cases_lt}
 use Rattle.bt_parts.specs.declared.part.Cell.{Cell}
 use Rattle.bt_parts.specs.declared.part.Dir.{Dir}
@@ -12,21 +11,9 @@ use Rattle.bt_parts.specs.declared.part.Tier.{Tier}
 use Rattle.bt_parts.specs.Cells.{steps, opposite, Covers}
 use Rattle.bt_parts.specs.Tiers.{reach_of}
 use Rattle.bt_parts.specs.Layouts.{HasPart, IsAt, IsWellPlaced, IsUnderground, IsPieceOn, Pairs, ArePaired, IsPieceAt}
+use Rattle.bt_parts.specs.inner.Looking.{IsPieceThere, NoneNearer, IsFirstPiece, IsFarEnd, IsEndFor}
 use Rattle.bt_parts.proofs.Steps.{seen_back, near_end, opposite-opposite}
-use Rattle.bt_grid.specs.Pairing.{partner_of, HasPartners, ArePartners, IsFirstUnpaired, IsPieceThere, NoneNearer, IsFirstPiece, IsFarEnd}
-use Rattle.bt_grid.proofs.IndexLemmas.{same_part, covers_at}
-
--- an underground piece covers its own cell alone
-own_cell : (part : Part) (cell : Cell) → IsUnderground part → Covers part cell → cell ≡ part.cell
-own_cell part cell under (inl e) = e
-own_cell part cell (inl k) (inr g) = absurd (let a = k in let b = g.0 in cc)
-own_cell part cell (inr k) (inr g) = absurd (let a = k in let b = g.0 in cc)
-
--- the part on a cell of a well placed layout
-pub one_there : (parts : List Part) → IsWellPlaced parts → (i j : ℕ) (cell : Cell) → IsAt parts i cell → IsAt parts j cell → i ≡ j
-one_there parts placed i j cell at_i at_j =
-    ⊎_elim (λ e. e) (λ apart. ⊎_elim (λ lt. absurd (placed i j lt (cell, at_i, at_j))) (λ gt. absurd (placed j i gt (cell, at_j, at_i))) apart)
-    (cases_order i j)
+use Rattle.bt_parts.proofs.Places.{same_part, own_cell, no_splitter, one_there, covers_at}
 
 -- there is one first piece
 pub one_first : (parts : List Part) (from : Part) (toward : Dir) → IsWellPlaced parts → (i j : ℕ)
@@ -103,7 +90,7 @@ ahead_pair parts a b entrance is_a enters f leaves same_dir = record {
   distance = f.distance;
   apart = f.apart;
   within = let w = f.within in omega arith;
-  ahead = sym (own_cell f.piece.part _ f.piece.on_axis.0 f.piece.covers);
+  ahead = sym (own_cell f.piece.part _ (no_splitter f.piece.part f.piece.on_axis.0) f.piece.covers);
   none_between = λ d i part some lt here cov axis.
       f.none_nearer d i some lt (record { part = part; is_i = here; covers = cov; on_axis = axis });
 }
@@ -112,7 +99,7 @@ ahead_pair parts a b entrance is_a enters f leaves same_dir = record {
 pub back_pair : (parts : List Part) (a b : ℕ) (exit : Part) → HasPart parts b exit → exit.kind ≡ Exit
     → (f : IsFirstPiece parts exit (opposite exit.dir) a) → f.piece.part.kind ≡ Entrance → f.piece.part.dir ≡ exit.dir → Pairs parts a b
 back_pair parts a b exit is_b leaves f enters same_dir =
-    let near : f.piece.part.cell ≡ steps f.distance (opposite exit.dir) exit.cell = sym (own_cell f.piece.part _ f.piece.on_axis.0 f.piece.covers) in
+    let near : f.piece.part.cell ≡ steps f.distance (opposite exit.dir) exit.cell = sym (own_cell f.piece.part _ (no_splitter f.piece.part f.piece.on_axis.0) f.piece.covers) in
     let ahead : exit.cell ≡ steps f.distance f.piece.part.dir f.piece.part.cell =
     near_end (opposite exit.dir) f.distance exit.cell f.piece.part.cell near
     ∙ ap (λ d. steps f.distance d f.piece.part.cell) (opposite-opposite exit.dir ∙ sym same_dir) in
@@ -187,10 +174,6 @@ pub piece_if_paired : (parts : List Part) (i j : ℕ) → ArePaired parts i j �
 piece_if_paired parts i j (inl p) = (p.entrance, p.is_a, inl p.enters)
 piece_if_paired parts i j (inr p) = (p.exit, p.is_b, inr p.leaves)
 
--- the part at a cell has an index of the list
-pub within_parts : (parts : List Part) (i : ℕ) (cell : Cell) → IsAt parts i cell → i < length parts
-within_parts parts i cell at = slice_get_within parts i at.part at.is_i
-
 -- the part at the cell is a piece of the tier and axis
 pub piece_there : (parts : List Part) (tier : Tier) (dir : Dir) (cell : Cell) (i : ℕ) (part : Part) → HasPart parts i part → IsAt parts i cell
     → IsPieceOn tier dir part → IsPieceThere parts tier dir cell i
@@ -202,10 +185,10 @@ pub at_if_there : (parts : List Part) (tier : Tier) (dir : Dir) (cell : Cell) (i
 at_if_there parts tier dir cell i there = record { part = there.part; is_i = there.is_i; covers = there.covers }
 
 -- the part at the cell is no piece of the tier and axis, and there is no other
-pub no_piece_there : (parts : List Part) (tier : Tier) (dir : Dir) (cell : Cell) (i : ℕ) (part : Part) → ((j k : ℕ) → IsAt parts j cell → IsAt parts k cell → j ≡ k)
+pub no_piece_there : (parts : List Part) (tier : Tier) (dir : Dir) (cell : Cell) (i : ℕ) (part : Part) → IsWellPlaced parts
     → HasPart parts i part → IsAt parts i cell → (IsPieceOn tier dir part → ⊥) → (j : ℕ) → IsPieceThere parts tier dir cell j → ⊥
-no_piece_there parts tier dir cell i part one here at off j there =
-    let same : i ≡ j = one i j at (at_if_there parts tier dir cell j there) in
+no_piece_there parts tier dir cell i part placed here at off j there =
+    let same : i ≡ j = one_there parts placed i j cell at (at_if_there parts tier dir cell j there) in
     off (subst (λ p. IsPieceOn tier dir p)
     (same_part parts j there.part part there.is_i (subst (λ k. HasPart parts k part) same here)) there.on_axis)
 
@@ -245,7 +228,7 @@ meets parts part toward kind j other there f is_kind same_dir =
 
 -- the first piece is the other end where it is alike
 pub some_if_alike : (parts : List Part) (i : ℕ) (part : Part) (toward : Dir) (kind : Kind) (j : ℕ) (other : Part) → IsWellPlaced parts → HasPart parts i part
-    → IsFarEnd part toward kind → HasPart parts j other → IsFirstPiece parts part toward j → (other.kind ≡ kind) × (other.dir ≡ part.dir)
+    → IsFarEnd part toward kind → HasPart parts j other → IsFirstPiece parts part toward j → IsEndFor other kind part
     → (k : ℕ) → (Some j ≡ Some k) ↔ ArePaired parts i k
 some_if_alike parts i part toward kind j other placed here far there f alike k = (
   λ e. subst (λ n. ArePaired parts i n) (same_Some j k e)
@@ -255,7 +238,7 @@ some_if_alike parts i part toward kind j other placed here far there f alike k =
 
 -- the first piece is no other end where it is not alike
 pub none_if_unlike : (parts : List Part) (i : ℕ) (part : Part) (toward : Dir) (kind : Kind) (j : ℕ) (other : Part) → IsWellPlaced parts → HasPart parts i part
-    → IsFarEnd part toward kind → HasPart parts j other → IsFirstPiece parts part toward j → ((other.kind ≡ kind) × (other.dir ≡ part.dir) → ⊥)
+    → IsFarEnd part toward kind → HasPart parts j other → IsFirstPiece parts part toward j → (IsEndFor other kind part → ⊥)
     → (k : ℕ) → (None ≡ Some k) ↔ ArePaired parts i k
 none_if_unlike parts i part toward kind j other placed here far there f unlike k = (
   λ e. absurd (none-some k e),
@@ -265,74 +248,3 @@ none_if_unlike parts i part toward kind j other placed here far there f unlike k
       same_part parts k m.first.piece.part other m.first.piece.is_i (subst (λ n. HasPart parts n other) same there) in
       absurd (unlike (subst (λ q. q.kind ≡ kind) is_other m.is_kind, subst (λ q. q.dir ≡ part.dir) is_other m.same_dir)),
 )
-
--- no parts
-pub no_partners : (parts : List Part) (partners : List (Option ℕ)) → partners ≡ [] → HasPartners parts partners 0
-no_partners parts partners e = record {
-  count = ap length e;
-  other_end = λ i j lt. absurd (omega arith);
-  none_alone = λ i lt. absurd (omega arith);
-}
-
--- one more part
-pub more_partners : (parts : List Part) (partners : List (Option ℕ)) (n : ℕ) (partner : Option ℕ) → HasPartners parts partners n
-    → ((j : ℕ) → (partner ≡ Some j) ↔ ArePaired parts n j) → (partner ≡ None → IsPieceAt parts n → ⊥)
-    → HasPartners parts (partners ++ partner ∷ []) (n + 1)
-more_partners parts partners n partner has paired alone =
-    let before : (i : ℕ) → i < n → partner_of (partners ++ partner ∷ []) i ≡ partner_of partners i =
-    λ i lt. get_or_append_left partners (partner ∷ []) None i (let c = has.count in omega arith) in
-    let here : partner_of (partners ++ partner ∷ []) n ≡ partner = get_or_push partners partner None n has.count in
-    record {
-      count = length-append partners (partner ∷ []) ∙ ap (λ k. k + 1) has.count;
-      other_end = λ i j lt. ⊎_elim
-          (λ below. subst (λ o. (o ≡ Some j) ↔ ArePaired parts i j) (sym (before i below)) (has.other_end i j below))
-          (λ above. let same : i ≡ n = omega arith in
-          subst (λ k. (partner_of (partners ++ partner ∷ []) k ≡ Some j) ↔ ArePaired parts k j) (sym same)
-          (subst (λ o. (o ≡ Some j) ↔ ArePaired parts n j) (sym here) (paired j)))
-          (cases_lt i n);
-      none_alone = λ i lt none piece. ⊎_elim
-          (λ below. has.none_alone i below (sym (before i below) ∙ none) piece)
-          (λ above. let same : i ≡ n = omega arith in
-          alone (sym here ∙ subst (λ k. partner_of (partners ++ partner ∷ []) k ≡ None) same none) (subst (λ k. IsPieceAt parts k) same piece))
-          (cases_lt i n);
-    }
-
-option_cases : (o : Option ℕ) → (o ≡ None) ⊎ ((j : ℕ) × (o ≡ Some j))
-option_cases None = inl refl
-option_cases (Some j) = inr (j, refl)
-
--- all parts
-pub all_partners : (parts : List Part) (partners : List (Option ℕ)) → HasPartners parts partners (length parts) → ArePartners parts partners
-all_partners parts partners has =
-    let past : (i : ℕ) → length parts ≤ i → partner_of partners i ≡ None =
-    λ i le. get_or_past partners i None (let c = has.count in omega arith) in
-    let other_end : (i j : ℕ) → (partner_of partners i ≡ Some j) ↔ ArePaired parts i j = λ i j. (
-      λ e. ⊎_elim (λ below. (has.other_end i j below).0 e) (λ above. absurd (none-some j (sym (past i above) ∙ e))) (cases_lt i (length parts)),
-      λ p. let piece = piece_if_paired parts i j p in (has.other_end i j (slice_get_within parts i piece.0 piece.1)).1 p,
-    ) in
-    record {
-      other_end = other_end;
-      no_piece = λ i. (
-        λ none piece. has.none_alone i (slice_get_within parts i piece.0 piece.1) none piece,
-        λ off. ⊎_elim (λ none. none) (λ some. absurd (off (piece_if_paired parts i some.0 ((other_end i some.0).0 some.1))))
-            (option_cases (partner_of partners i)),
-      );
-    }
-
--- the first part that is an underground piece with no other end
-pub first_unpaired : (parts : List Part) (partners : List (Option ℕ)) (n : ℕ) (part : Part) → HasPartners parts partners n
-    → HasPart parts n part → IsUnderground part → ((j : ℕ) → (None ≡ Some j) ↔ ArePaired parts n j) → IsFirstUnpaired parts n
-first_unpaired parts partners n part has here under paired = record {
-  unpaired = record { piece = (part, here, under); alone = λ j p. none-some j ((paired j).1 p) };
-  least = λ i lt u. ⊎_elim (λ none. has.none_alone i lt none u.piece) (λ some. u.alone some.0 ((has.other_end i some.0 lt).0 some.1))
-      (option_cases (partner_of partners i));
-}
-
--- a part that is read from the list
-pub read_part : (parts shown : List Part) (i : ℕ) (d : Part) → shown ≡ parts → i < length shown → HasPart parts i (get_or shown i d)
-read_part parts shown i d e lt = subst (λ l. HasPart l i (get_or shown i d)) e (slice_get-get_or shown i d lt)
-
--- a part with a partner, or one that is no underground piece, isn't alone
-pub not_alone : (parts : List Part) (i : ℕ) (part : Part) (partner : Option ℕ) → HasPart parts i part
-    → ((partner ≡ None) × IsUnderground part → ⊥) → partner ≡ None → IsPieceAt parts i → ⊥
-not_alone parts i part partner here off none piece = off (none, subst IsUnderground (same_part parts i piece.0 part piece.1 here) piece.2)

@@ -1,7 +1,7 @@
--- Why a list of parts can't be placed.
-use Rattle.std.specs.Prelude.{ℕ, ◌<◌, List, ⊤}
+-- The right answer to parts that are to be placed.
+use Rattle.std.specs.Prelude.{◌≡◌, ℕ, ◌<◌, List, Result, Ok, Err}
 use Rattle.bt_parts.specs.declared.part.Part.{Part}
-use Rattle.bt_parts.specs.Layouts.{ShareCell}
+use Rattle.bt_parts.specs.Layouts.{ShareCell, IsWellPlaced}
 use Rattle.bt_grid.specs.declared.grid.GridFault.{GridFault}
 use Rattle.bt_grid.specs.declared.grid.GridFault.TheVariants.{Overlap, Memory}
 
@@ -12,7 +12,8 @@ pub record IsFirstOverlap (parts : List Part) (first second : ℕ) : Type 0 wher
   pub none_before : (i j : ℕ) → i < j → j < second → ShareCell parts i j → ⊥
   pub least : (i : ℕ) → i < first → ShareCell parts i second → ⊥
 
--- the fault is the one of these parts; want of memory says nothing of them
-abbrev pub IsPlaceFault : List Part → GridFault → Type 0
-IsPlaceFault parts (Overlap first second) = IsFirstOverlap parts first second
-IsPlaceFault parts Memory = ⊤
+-- the grid has these parts, of which no two share a cell, or the first overlap is told
+abbrev pub IsPlaced : List Part → Result (List Part) GridFault → Type 0
+IsPlaced parts (Ok grid) = (grid ≡ parts) × IsWellPlaced parts
+IsPlaced parts (Err (Overlap first second)) = IsFirstOverlap parts first second
+IsPlaced parts (Err Memory) = ⊥
