@@ -6,15 +6,8 @@ ghost use Rattle.bt_model.specs.Chains.{LinksTo};
 ghost use Rattle.bt_model.specs.Clean.{IsOnRing};
 
 use crate::giving::{exit_of, feeds_from};
-use crate::looking::part_at;
+use crate::plain::{is_kind, part_at};
 use bt_parts::{Kind, Part, front};
-
-/// Whether the part is of the kind.
-fn is_kind(part: &Part, kind: Kind) -> bool
-    ensures { IsTrue result ↔ (part.now.kind ≡ kind) }
-{
-    part.kind == kind
-}
 
 /// Whether the giver's cell faces the taker, which is no splitter and takes.
 fn feeds_link(giver: &Part, taker: &Part) -> bool

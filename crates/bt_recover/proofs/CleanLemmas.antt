@@ -1,11 +1,13 @@
 -- What makes a layout clean.
 use Rattle.std.proofs.Common.{◌≡◌, ℕ, List, Option, Some, None, inl, inr, refl, sym, ◌∙◌}
+use Rattle.std.specs.Prelude.{Err}
 use Rattle.std.proofs.lemmas.Option.{same_Some}
+use Rattle.bt_answers.specs.Answers.{UnlessMemory}
 use Rattle.bt_parts.specs.declared.part.Part.{Part}
 use Rattle.bt_parts.specs.Layouts.{IsWellPlaced, IsPieceAt}
 use Rattle.bt_grid.specs.declared.pairing.PairFault.{PairFault}
 use Rattle.bt_grid.specs.declared.pairing.PairFault.TheVariants.{Unpaired, Memory}
-use Rattle.bt_grid.specs.Pairing.{ArePartners, partner_of, IsPairFault}
+use Rattle.bt_grid.specs.Pairing.{ArePartners, partner_of, ArePairedAs}
 use Rattle.bt_model.specs.Clean.{IsPaired, IsSideLoaded, IsBlocked, IsOnRing, IsClean}
 use Rattle.bt_recover.specs.Recovered.{Never, IsOrderly}
 use Rattle.bt_recover.specs.inner.Refused.{IsRefused, fault_of}
@@ -39,6 +41,8 @@ clean parts is no_ring = record {
   no_ring = no_ring;
 }
 
-pub pair_refused : (parts : List Part) (fault : PairFault) → IsPairFault parts fault → IsRefused parts (fault_of fault)
-pair_refused parts (Unpaired i) first = inl (first.unpaired, first.least)
-pair_refused parts Memory first = inr refl
+pub pair_refused : (parts : List Part) (fault : PairFault) → UnlessMemory Memory (ArePairedAs parts) (Err fault) → IsRefused parts (fault_of fault)
+pair_refused parts (Unpaired i) (inl first) = inl (first.unpaired, first.least)
+pair_refused parts (Unpaired i) (inr memory) = absurd (cc)
+pair_refused parts Memory (inl none) = absurd none
+pair_refused parts Memory (inr memory) = inr refl

@@ -26,7 +26,7 @@ use Rattle.bt_parts.proofs.CellOrder.{cell_order_total}
 use Rattle.bt_model.specs.Handing.{Hands}
 use Rattle.bt_model.specs.Chains.{IsInput, IsOutput}
 use Rattle.bt_model.specs.Shown.{Precedes, IsPlacedBefore, ListsEach}
-use Rattle.bt_model.proofs.Places.{same_part, one_there}
+use Rattle.bt_parts.proofs.Places.{same_part, one_there}
 use Rattle.bt_recover.specs.inner.Ends.{ListsUpTo, IsKeyed, AreKeyed}
 use Rattle.bt_recover.proofs.ExistLemmas.{input_unhanded}
 

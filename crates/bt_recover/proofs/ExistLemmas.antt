@@ -14,7 +14,7 @@ use Rattle.bt_grid.proofs.IndexLemmas.{covers_cases}
 use Rattle.bt_model.specs.Handing.{FeedsFrom, Feeds, Hands}
 use Rattle.bt_model.specs.Chains.{IsSplitter, IsLink, LinksTo, Path, one, more, IsInput, IsOutput, begins, leaves, Sink, ends, enters, Chain, EndsAs, IsChain}
 use Rattle.bt_model.specs.Clean.{IsOnRing}
-use Rattle.bt_model.proofs.Places.{one_there}
+use Rattle.bt_parts.proofs.Places.{one_there}
 use Rattle.bt_model.proofs.HandLemmas.{one_handed}
 use Rattle.bt_model.proofs.PathLemmas.{path_start, path_snoc, path_within, crowded}
 use Rattle.bt_recover.specs.Recovered.{Never, IsOrderly}

@@ -1,18 +1,19 @@
 -- Two right answers to a layout are equal.
-use Rattle.std.proofs.Common.{◌≡◌, ℕ, zero, suc, ◌<◌, ◌≤◌, List, length, ◌⊎◌, inl, inr, ⊎_elim, refl, ap, sym, subst, ◌∙◌, arith}
+use Rattle.std.proofs.Common.{◌≡◌, ℕ, ◌<◌, ◌≤◌, List, ◌⊎◌, inl, inr, refl, ap, sym, subst, ◌∙◌, arith}
 use Rattle.std.specs.Prelude.{Result, Ok, Err}
 use Rattle.std.proofs.lemmas.Bool.{cases_lt}
 use Rattle.bt_answers.specs.Answers.{UnlessMemory, Answers, HasOneAnswer}
 use Rattle.bt_answers.proofs.OneAnswer.{answers_of}
 use Rattle.bt_parts.specs.declared.part.Part.{Part}
 use Rattle.bt_parts.specs.Layouts.{IsUnpaired}
-use Rattle.bt_net.specs.Network.{Network, IsNetwork, IsWired, IsLarge, LacksEnds}
+use Rattle.bt_net.specs.Network.{Network, IsNetwork, IsLarge, LacksEnds}
 use Rattle.bt_model.specs.Clean.{IsSideLoaded, IsBlocked, IsOnRing, IsClean}
 use Rattle.bt_model.specs.Shown.{Naming, IsNumbered}
 use Rattle.bt_model.proofs.OneNetwork.{same_network, same_naming}
 use Rattle.bt_recover.specs.declared.fault.RecoverFault.{RecoverFault}
 use Rattle.bt_recover.specs.declared.fault.RecoverFault.TheVariants.{Unpaired, SideLoad, Blocked, Ring, TooLarge, NoEnds, Memory}
 use Rattle.bt_recover.specs.Recovered.{IsFirst, AllPaired, Never, IsRecovered}
+use Rattle.bt_recover.specs.inner.Refused.{IsRefused, IsNetTold}
 
 -- what is told of a layout
 abbrev Told : Type 0
@@ -51,25 +52,6 @@ small net is (inr (inr (inr m))) = let few = is.few_edges in omega arith
 ended : (net : Network) → IsNetwork net → LacksEnds net → ⊥
 ended net is (tame, inl e) = let some = is.some_input in omega arith
 ended net is (tame, inr e) = let some = is.some_output in omega arith
-
--- a wired network that is neither too large nor lacks an end is a network
-pub is_network : (net : Network) → IsWired net → (IsLarge net → ⊥) → (LacksEnds net → ⊥) → IsNetwork net
-is_network net wired tame ends = record {
-  wired = wired;
-  few_inputs = at_most 2048 net.inputs (λ m. tame (inl m));
-  few_outputs = at_most 2048 net.outputs (λ m. tame (inr (inl m)));
-  few_splitters = at_most 2048 net.splitters (λ m. tame (inr (inr (inl m))));
-  few_edges = at_most 2048 (length net.edges) (λ m. tame (inr (inr (inr m))));
-  some_input = some net.inputs (λ e. ends (tame, inl e));
-  some_output = some net.outputs (λ e. ends (tame, inr e));
-}
-  where
-    at_most : (n m : ℕ) → (n < m → ⊥) → m ≤ n
-    at_most n m none = ⊎_elim (λ lt. absurd (none lt)) (λ le. le) (cases_lt n m)
-
-    some : (n : ℕ) → (n ≡ 0 → ⊥) → 1 ≤ n
-    some zero none = absurd (none refl)
-    some (suc n) none = omega arith
 
 one_size : (net : Network) (naming : Naming) → HasOneAnswer (IsSizeTold net naming)
 one_size net naming a b (inl h) (inl k) = h.1 ∙ sym k.1
@@ -138,3 +120,16 @@ one_recovery parts a b h k = one_in_order parts a b (in_order parts a h) (in_ord
 -- so a right answer, or want of memory, is what a call owes
 pub recovery_answers : (parts : List Part) (told : Told) → UnlessMemory Memory (IsRecovered parts) told → Answers Memory (IsRecovered parts) told
 recovery_answers parts told right = answers_of Memory (IsRecovered parts) (one_recovery parts) told right
+
+-- what is told of the network that is numbered for a layout is told of the layout
+pub net_found : (parts : List Part) (n net : Network) (naming : Naming) → IsNumbered parts n naming → IsNetTold n (Ok net) → IsRecovered parts (Ok (net, naming))
+net_found parts n net naming numbered told = (subst (λ m. IsNumbered parts m naming) (sym told.0) numbered, told.1)
+
+pub net_refused : (parts : List Part) (n : Network) (naming : Naming) (fault : RecoverFault) → IsNumbered parts n naming → IsNetTold n (Err fault) → IsRefused parts fault
+net_refused parts n naming TooLarge numbered large = inl (n, naming, numbered, large)
+net_refused parts n naming NoEnds numbered lacks = inl (n, naming, numbered, lacks)
+net_refused parts n naming (Unpaired i) numbered none = absurd none
+net_refused parts n naming (SideLoad i) numbered none = absurd none
+net_refused parts n naming (Blocked i) numbered none = absurd none
+net_refused parts n naming (Ring i) numbered none = absurd none
+net_refused parts n naming Memory numbered none = absurd none

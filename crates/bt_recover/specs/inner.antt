@@ -1,5 +1,5 @@
 -- What the private functions alone cite: no public clause rests on these.
-pub mod Courses
+pub mod Edges
 pub mod Ends
 pub mod Marks
 pub mod Refused

@@ -28,7 +28,6 @@ pub(crate) fn clean_pairs(alloc: Global, grid: &Grid) -> Result<Pairs, RecoverFa
     ensures paired { IfOk result (ArePartners grid.now) }
     ensures refused { IfErr result (IsRefused grid.now) }
 {
-    let _parts = grid.parts();
     let pairs = match pairs(alloc, grid) {
         Ok(pairs) => pairs,
         Err(fault) => return Err(fault_of(fault)),

@@ -2,7 +2,6 @@
 #![tactic(auto)]
 
 mod clean;
-mod courses;
 mod edges;
 mod ends;
 mod fault;

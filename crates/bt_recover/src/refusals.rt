@@ -26,7 +26,8 @@ fn is_side_loaded(grid: &Grid, i: usize) -> bool
 
 /// The first part at which there is side-loading.
 pub(crate) fn first_side_loaded(grid: &Grid) -> Option<usize>
-    ensures { MatchOption result (Never (IsSideLoaded grid.now)) (IsFirst (IsSideLoaded grid.now)) }
+    ensures well_placed { IsWellPlaced grid.now }
+    ensures none { MatchOption result (Never (IsSideLoaded grid.now)) (IsFirst (IsSideLoaded grid.now)) }
 {
     for i in 0..grid.parts().len() {
         if is_side_loaded(grid, i) {

@@ -1,79 +1,41 @@
-use Rattle.std.proofs.Common.{◌≡◌, ◌∙◌, length, subst, sym, inl, arith}
+use Rattle.std.proofs.Common.{inl}
 use Rattle.std.specs.Prelude.{Ok, Err}
 use Rattle.std.proofs.lemmas.Bool.{iff_false}
 use Rattle.std.proofs.lemmas.Result.{err_from_is_err_and}
-use Rattle.bt_net.specs.Network.{IsWired, IsLarge, LacksEnds}
-use Rattle.bt_model.specs.Shown.{IsNumbered}
-use Rattle.bt_recover.specs.inner.Courses.{naming_of, network_of}
-use Rattle.bt_recover.proofs.SurveyLemmas.{survey_large, survey_wired, survey_numbered, short_small, net_is, edges_for}
-use Rattle.bt_recover.specs.declared.fault.RecoverFault.TheVariants.{TooLarge, NoEnds}
-use Rattle.bt_recover.proofs.OneRecovery.{recovery_answers}
+use Rattle.bt_recover.specs.declared.fault.RecoverFault.TheVariants.{TooLarge}
+use Rattle.bt_recover.specs.inner.Edges.{naming_of, net_with}
+use Rattle.bt_recover.proofs.OneRecovery.{recovery_answers, net_found, net_refused}
+use Rattle.bt_recover.proofs.NetworkLemmas.{numbered, large_exists}
+use Rattle.bt_recover.proofs.WiredLemmas.{wired}
 use Rattle.bt_recover.proofs.recovery.recover.Goals as goal
 
-pub returns-in_err-survey : goal.returns-in_err-survey
-returns-in_err-survey c =
-    let p = err_from_is_err_and c.from_residual.result c.from_residual.ensures.1 in
-    rw (p.1, p.2) (recovery_answers c.args.grid.now _ c.in_err-survey.ensures.refused)
-
-pub returns-then-is_long : goal.returns-then-is_long
-returns-then-is_long c =
+pub returns-then-has_many : goal.returns-then-has_many
+returns-then-has_many c =
     recovery_answers c.args.grid.now (Err TooLarge) (inl
-    (survey_large c.args.grid.now c.in_ok-survey.survey.inputs.items c.in_ok-survey.survey.outputs.items c.in_ok-survey.survey.splitters.items c.in_ok-survey.survey.courses.items
-    c.in_ok-survey.ensures.found (c.is_long.ensures.0 c.if-is_long.true)))
+    (large_exists c.args.grid.now c.in_ok-pairs.ensures.clean (naming_of c.in_ok-names.names) c.in_ok-names.ensures (c.has_many.ensures.0 c.if-has_many.true)))
 
 pub net_of-requires-clause-wired : goal.net_of-requires-clause-wired
 net_of-requires-clause-wired c =
-    let s = c.in_ok-survey.survey in
-    let i : c.len-inputs.result ≡ length s.inputs.items = omega (arith, s.inputs.ok.0) in
-    let o : c.len-outputs.result ≡ length s.outputs.items = omega (arith, s.outputs.ok.0) in
-    let p : c.len-splitters.result ≡ length s.splitters.items = omega (arith, s.splitters.ok.0) in
-    let zipped = edges_for c.args.grid.now c.in_ok-edges.edges.items s.inputs.items c.deref.result.now s.outputs.items c.deref-2.result.now s.splitters.items c.deref-3.result.now s.courses.items c.deref-4.result.now
-    c.deref.ensures.value c.deref-2.ensures.value c.deref-3.ensures.value c.deref-4.ensures.value c.in_ok-edges.ensures
-    c.in_ok-survey.ensures.found.courses_are.0 c.in_ok-survey.ensures.found.courses_are.1 in
-    subst (λ n. IsWired n) (sym (net_is s.inputs.items s.outputs.items s.splitters.items c.in_ok-edges.edges.items c.len-inputs.result c.len-outputs.result c.len-splitters.result i o p))
-    (survey_wired c.args.grid.now s.inputs.items s.outputs.items s.splitters.items s.courses.items c.in_ok-survey.ensures.found c.in_ok-edges.edges.items zipped)
+    wired c.args.grid.now (net_with (naming_of c.in_ok-names.names) c.in_ok-edges.edges.items) (naming_of c.in_ok-names.names)
+    (numbered c.args.grid.now c.in_ok-pairs.ensures.clean (naming_of c.in_ok-names.names) c.in_ok-edges.edges.items c.in_ok-names.ensures c.in_ok-edges.ensures)
 
-pub net_of-requires-clause-small : goal.net_of-requires-clause-small
-net_of-requires-clause-small c =
-    let s = c.in_ok-survey.survey in
-    let i : c.len-inputs.result ≡ length s.inputs.items = omega (arith, s.inputs.ok.0) in
-    let o : c.len-outputs.result ≡ length s.outputs.items = omega (arith, s.outputs.ok.0) in
-    let p : c.len-splitters.result ≡ length s.splitters.items = omega (arith, s.splitters.ok.0) in
-    let zipped = edges_for c.args.grid.now c.in_ok-edges.edges.items s.inputs.items c.deref.result.now s.outputs.items c.deref-2.result.now s.splitters.items c.deref-3.result.now s.courses.items c.deref-4.result.now
-    c.deref.ensures.value c.deref-2.ensures.value c.deref-3.ensures.value c.deref-4.ensures.value c.in_ok-edges.ensures
-    c.in_ok-survey.ensures.found.courses_are.0 c.in_ok-survey.ensures.found.courses_are.1 in
-    λ large. short_small c.args.grid.now s.inputs.items s.outputs.items s.splitters.items s.courses.items c.in_ok-survey.ensures.found c.in_ok-edges.edges.items zipped
-    (iff_false c.is_long.ensures c.if-is_long.false)
-    (subst (λ n. IsLarge n) (net_is s.inputs.items s.outputs.items s.splitters.items c.in_ok-edges.edges.items c.len-inputs.result c.len-outputs.result c.len-splitters.result i o p) large)
+pub returns-in_err-pairs : goal.returns-in_err-pairs
+returns-in_err-pairs c =
+    let p = err_from_is_err_and c.from_residual.result c.from_residual.ensures.1 in
+    rw (p.1, p.2) (recovery_answers c.args.grid.now _ c.in_err-pairs.ensures.refused)
 
-pub returns-in_default : goal.returns-in_default
-returns-in_default c =
-    let s = c.in_ok-survey.survey in
-    let i : c.len-inputs.result ≡ length s.inputs.items = omega (arith, s.inputs.ok.0) in
-    let o : c.len-outputs.result ≡ length s.outputs.items = omega (arith, s.outputs.ok.0) in
-    let p : c.len-splitters.result ≡ length s.splitters.items = omega (arith, s.splitters.ok.0) in
-    let zipped = edges_for c.args.grid.now c.in_ok-edges.edges.items s.inputs.items c.deref.result.now s.outputs.items c.deref-2.result.now s.splitters.items c.deref-3.result.now s.courses.items c.deref-4.result.now
-    c.deref.ensures.value c.deref-2.ensures.value c.deref-3.ensures.value c.deref-4.ensures.value c.in_ok-edges.ensures
-    c.in_ok-survey.ensures.found.courses_are.0 c.in_ok-survey.ensures.found.courses_are.1 in
-    recovery_answers c.args.grid.now (Err NoEnds) (inl (
-      network_of s.inputs.items s.outputs.items s.splitters.items c.in_ok-edges.edges.items,
-      naming_of s.inputs.items s.outputs.items s.splitters.items,
-      survey_numbered c.args.grid.now s.inputs.items s.outputs.items s.splitters.items s.courses.items c.in_ok-survey.ensures.found c.in_ok-edges.edges.items zipped,
-      subst (λ n. LacksEnds n) (net_is s.inputs.items s.outputs.items s.splitters.items c.in_ok-edges.edges.items c.len-inputs.result c.len-outputs.result c.len-splitters.result i o p) c.in_default.ensures.net,
-    ))
+pub returns-in_err-net : goal.returns-in_err-net
+returns-in_err-net c =
+    let p = err_from_is_err_and c.from_residual-in_err-net.result c.from_residual-in_err-net.ensures.1 in
+    rw (p.1, p.2)
+    (recovery_answers c.args.grid.now _
+    (net_refused c.args.grid.now (net_with (naming_of c.in_ok-names.names) c.in_ok-edges.edges.items) (naming_of c.in_ok-names.names) _
+    (numbered c.args.grid.now c.in_ok-pairs.ensures.clean (naming_of c.in_ok-names.names) c.in_ok-edges.edges.items c.in_ok-names.ensures c.in_ok-edges.ensures)
+    c.in_err-net.ensures))
 
 pub returns : goal.returns
 returns c =
-    let s = c.in_ok-survey.survey in
-    let i : c.len-inputs.result ≡ length s.inputs.items = omega (arith, s.inputs.ok.0) in
-    let o : c.len-outputs.result ≡ length s.outputs.items = omega (arith, s.outputs.ok.0) in
-    let p : c.len-splitters.result ≡ length s.splitters.items = omega (arith, s.splitters.ok.0) in
-    let zipped = edges_for c.args.grid.now c.in_ok-edges.edges.items s.inputs.items c.deref.result.now s.outputs.items c.deref-2.result.now s.splitters.items c.deref-3.result.now s.courses.items c.deref-4.result.now
-    c.deref.ensures.value c.deref-2.ensures.value c.deref-3.ensures.value c.deref-4.ensures.value c.in_ok-edges.ensures
-    c.in_ok-survey.ensures.found.courses_are.0 c.in_ok-survey.ensures.found.courses_are.1 in
-    recovery_answers c.args.grid.now (Ok (c.in-Some.net, naming_of s.inputs.items s.outputs.items s.splitters.items)) (
-      subst (λ n. IsNumbered c.args.grid.now n (naming_of s.inputs.items s.outputs.items s.splitters.items))
-          (sym (c.in-Some.ensures.net ∙ net_is s.inputs.items s.outputs.items s.splitters.items c.in_ok-edges.edges.items c.len-inputs.result c.len-outputs.result c.len-splitters.result i o p))
-          (survey_numbered c.args.grid.now s.inputs.items s.outputs.items s.splitters.items s.courses.items c.in_ok-survey.ensures.found c.in_ok-edges.edges.items zipped),
-      c.in-Some.ensures.network,
-    )
+    recovery_answers c.args.grid.now (Ok (c.in_ok-net.net, naming_of c.in_ok-names.names))
+    (net_found c.args.grid.now (net_with (naming_of c.in_ok-names.names) c.in_ok-edges.edges.items) c.in_ok-net.net (naming_of c.in_ok-names.names)
+    (numbered c.args.grid.now c.in_ok-pairs.ensures.clean (naming_of c.in_ok-names.names) c.in_ok-edges.edges.items c.in_ok-names.ensures c.in_ok-edges.ensures)
+    c.in_ok-net.ensures)

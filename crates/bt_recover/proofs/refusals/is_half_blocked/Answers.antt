@@ -1,7 +1,7 @@
 use Rattle.std.proofs.Common.{refl}
 use Rattle.std.proofs.lemmas.Bool.{iff_false}
 use Rattle.std.proofs.lemmas.Option.{same_Some}
-use Rattle.bt_model.proofs.Places.{within_at}
+use Rattle.bt_parts.proofs.Places.{within_at}
 use Rattle.bt_recover.proofs.RefusalLemmas.{half_blocked, half_clear, half_under}
 use Rattle.bt_recover.proofs.refusals.is_half_blocked.Goals as goal
 
