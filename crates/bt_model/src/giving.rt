@@ -1,3 +1,5 @@
+//! Which part hands what it carries to which: through the ground to the exit of its pair, or to what is
+//! in front of it, where that takes from there (Factorio Wiki, transport belts and underground belts).
 ghost use Rattle.std.specs.Prelude.{◌≡◌, ◌↔◌, ℕ, ◌<◌, length, Some, IsTrue, IfSome};
 ghost use Rattle.bt_parts.specs.Cells.{Covers, IsInRange};
 ghost use Rattle.bt_parts.specs.Layouts.{AreInRange, IsWellPlaced, Pairs};

@@ -1,3 +1,4 @@
+//! Rings of belts and underground pieces, which no chain enters or leaves.
 ghost use Rattle.std.specs.Prelude.{◌≡◌, ◌≢◌, ◌↔◌, ℕ, ◌<◌, length, IsTrue, MatchOption, IfSome};
 ghost use Rattle.bt_parts.specs.Cells.{IsInRange};
 ghost use Rattle.bt_parts.specs.Layouts.{AreInRange, IsWellPlaced};
@@ -13,7 +14,8 @@ use bt_parts::{Kind, Part, front};
 fn feeds_link(giver: &Part, taker: &Part) -> bool
     requires giver { IsInRange giver.now.cell }
     requires taker { IsInRange taker.now.cell }
-    ensures { IsTrue result ↔ ((taker.now.kind ≢ Kind.Splitter) × FeedsPart giver.now giver.now.cell taker.now) }
+    ensures { IsTrue result
+        ↔ ((taker.now.kind ≢ Kind.Splitter) × FeedsPart giver.now giver.now.cell taker.now) }
 {
     taker.kind != Kind::Splitter && feeds_from(giver, giver.cell, taker)
 }

@@ -1,9 +1,8 @@
 -- One edge for each chain: following a chain to its end, and adding edges in the order of their starts.
-use Rattle.std.proofs.Common.{◌≡◌, ◌≢◌, ◌⊎◌, ◌↔◌, ℕ, ◌+◌, ◌<◌, ◌≤◌, List, [], ◌∷◌, ◌++◌, length, get_or, Option, Some, None, Result, Ok, Err, refl, sym, ◌∙◌, ap, subst, inl, inr, ⊎_elim, arith}
+use Rattle.std.proofs.Common.{◌≡◌, ◌≢◌, ◌⊎◌, ℕ, ◌+◌, ◌<◌, ◌≤◌, List, [], ◌∷◌, ◌++◌, length, get_or, Some, refl, sym, ◌∙◌, ap, subst, inl, inr, ⊎_elim, arith}
 use Rattle.std.specs.List.{slice_get, AllPairs, Contains}
-use Rattle.std.specs.Result.{OnOk}
 use Rattle.std.proofs.lemmas.Int.{ints}
-use Rattle.std.proofs.lemmas.Option.{same_Some, none-some, slice_get_within, slice_get-get_or, get_or_from_slice_get}
+use Rattle.std.proofs.lemmas.Option.{same_Some, slice_get_within, slice_get-get_or, get_or_from_slice_get}
 use Rattle.std.proofs.lemmas.Bool.{cases_lt}
 use Rattle.std.proofs.lemmas.List.{get_or_default, length_push}
 use Rattle.std.proofs.lemmas.List.Elements.{Contains-append_left, Contains-push, Contains-push_cases}
@@ -11,23 +10,20 @@ use Rattle.std.proofs.lemmas.List.Quantifiers.{all_pairs_push}
 use Rattle.bt_parts.specs.declared.part.Cell.{Cell}
 use Rattle.bt_parts.specs.declared.part.Dir.{Dir}
 use Rattle.bt_parts.specs.declared.part.Dir.TheVariants.{North, East, South, West}
-use Rattle.bt_parts.specs.declared.part.Kind.TheVariants.{Entrance, Splitter}
+use Rattle.bt_parts.specs.declared.part.Kind.TheVariants.{Entrance}
 use Rattle.bt_parts.specs.declared.part.Part.{Part}
-use Rattle.bt_parts.specs.Cells.{IsGreaterHalf, beside, step}
+use Rattle.bt_parts.specs.Cells.{beside, step}
 use Rattle.bt_parts.specs.Layouts.{HasPart, IsAt}
 use Rattle.bt_net.specs.declared.network.Edge.{Edge}
-use Rattle.bt_net.specs.declared.network.Start.{Start}
-use Rattle.bt_net.specs.declared.network.Start.TheVariants as from
 use Rattle.bt_net.specs.declared.network.Target.{Target}
 use Rattle.bt_model.specs.Handing.{FeedsFrom, Hands}
-use Rattle.bt_model.specs.Chains.{IsSplitter, IsLink, Path, one, IsInput, IsOutput, Source, begins, leaves, Sink, ends, enters, Chain, IsChain, StartsAs, EndsAs}
+use Rattle.bt_model.specs.Chains.{IsSplitter, IsLink, Path, one, IsInput, IsOutput, Source, begins, leaves, ends, enters, Chain, IsChain, StartsAs}
 use Rattle.bt_model.specs.Clean.{IsClean}
-use Rattle.bt_model.specs.Shown.{Naming, ListsEach, Precedes, IsPlacedBefore, ComesBefore, IsStartOf, IsTargetOf, IsEdgeOf}
+use Rattle.bt_model.specs.Shown.{Naming, ListsEach, Precedes, IsPlacedBefore, ComesBefore, IsEdgeOf}
 use Rattle.bt_parts.proofs.Places.{same_part}
 use Rattle.bt_model.proofs.HandLemmas.{taker_at}
 use Rattle.bt_model.proofs.PathLemmas.{path_snoc}
-use Rattle.bt_recover.specs.Recovered.{IsOrderly}
-use Rattle.bt_recover.specs.inner.Edges.{AreNames, AreNumbered, AreNumbers, target_at, LeadsTo, LeadsFrom, StartsNone, edge_to, AddsEdge, AddsHalves, AreEdges, HasEdges, AllDone}
+use Rattle.bt_recover.specs.inner.Edges.{AreNames, target_at, LeadsTo, LeadsFrom, StartsNone, AreEdges, HasEdges, AllDone}
 use Rattle.bt_recover.proofs.Done.{InputsDone, SplittersDone, HalfDone}
 use Rattle.bt_recover.proofs.HandLaws.{front_fed}
 use Rattle.bt_recover.proofs.ChainLemmas.{orderly_of, chain_from}

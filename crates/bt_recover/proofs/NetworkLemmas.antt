@@ -1,9 +1,8 @@
 -- From the numbers of the parts and the edges of the chains to the numbered network.
 use Rattle.std.proofs.Common.{◌≡◌, ℕ, zero, suc, ◌+◌, ◌<◌, ◌≤◌, List, [], ◌∷◌, ◌++◌, length, get_or, Option, Some, None, ◌↔◌, Result, Ok, Err, refl, sym, ◌∙◌, ap, subst, inl, inr, ◌⊎◌, ⊎_elim, arith}
-use Rattle.std.specs.List.{slice_get, All, Contains}
+use Rattle.std.specs.List.{slice_get, All}
 use Rattle.std.specs.Result.{OnOk}
 use Rattle.std.proofs.lemmas.Option.{same_Some, none-some, slice_get_within, slice_get-get_or}
-use Rattle.std.proofs.lemmas.Bool.{cases_lt}
 use Rattle.std.proofs.lemmas.List.{get_or_default}
 use Rattle.bt_parts.specs.declared.part.Cell.{Cell}
 use Rattle.bt_parts.specs.declared.part.Kind.TheVariants.{Splitter}
@@ -21,10 +20,10 @@ use Rattle.bt_net.specs.Network.{Network, IsLarge, IsNetOf, network_of}
 use Rattle.bt_model.specs.Handing.{FeedsFrom}
 use Rattle.bt_model.specs.Chains.{IsSplitter, IsLink, IsInput, IsOutput, Source, begins, leaves, Sink, ends, enters, Chain, IsChain, EndsAs}
 use Rattle.bt_model.specs.Clean.{IsClean}
-use Rattle.bt_model.specs.Shown.{Naming, ListsEach, ComesBefore, IsStartOf, IsTargetOf, IsEdgeOf, IsNumbered, IsNaming}
+use Rattle.bt_model.specs.Shown.{Naming, ListsEach, ComesBefore, IsStartOf, IsTargetOf, IsNumbered, IsNaming}
 use Rattle.bt_model.proofs.Orders.{sources_asymmetric}
 use Rattle.bt_parts.proofs.Places.{same_part}
-use Rattle.bt_recover.specs.inner.Edges.{AreNames, HasMany, AreNumbered, AreNumbers, target_at, LeadsTo, LeadsFrom, StartsNone, edge_to, AddsEdge, AddsHalves, AreEdges, HasEdges, AllDone, net_with}
+use Rattle.bt_recover.specs.inner.Edges.{AreNames, HasMany, KeepsOthers, AreNumbered, AreNumbers, target_at, LeadsTo, LeadsFrom, edge_to, AddsEdge, AddsHalves, HasEdges, AllDone, net_with}
 use Rattle.bt_recover.specs.inner.Refused.{size_fault, IsNetTold}
 use Rattle.bt_recover.proofs.Done.{InputsDone, SplittersDone}
 use Rattle.bt_recover.proofs.ChainLemmas.{orderly_of, no_link}
@@ -55,7 +54,7 @@ no_output : (parts : List Part) (i : ℕ) → IsSplitter parts i → IsOutput pa
 no_output parts i splitter output = no_link parts i splitter (output_link parts i output)
 
 pub numbers_stay : (parts : List Part) (naming : Naming) (old new : List ℕ) → AreNames parts naming → AreNumbered old naming.splitters
-    → ((i : ℕ) → (Contains naming.outputs i → ⊥) → get_or new i 0 ≡ get_or old i 0) → AreNumbered new naming.splitters
+    → KeepsOthers naming.outputs old new → AreNumbered new naming.splitters
 numbers_stay parts naming old new names numbered others k i at =
     others i (λ there. no_output parts i
     (names.splitters.only i (k, slice_get_within naming.splitters k i at, same_Some _ _ (sym (slice_get-get_or naming.splitters k i (slice_get_within naming.splitters k i at)) ∙ at)))
@@ -101,7 +100,7 @@ edge_from parts naming numbers names are source start target starts way = record
 }
 
 adds_from : (parts : List Part) (naming : Naming) (numbers : List ℕ) → AreNames parts naming → AreNumbers parts naming numbers → (source : Source) (start : Start) (old new : List Edge)
-    → IsStartOf naming source start → AddsEdge parts numbers old new start source → AddsEdgeFrom parts naming source old new
+    → IsStartOf naming source start → AddsEdge parts numbers source start old new → AddsEdgeFrom parts naming source old new
 adds_from parts naming numbers names are source start old new starts (inl none) = inl none
 adds_from parts naming numbers names are source start old new starts (inr some) =
     inr (edge_to start some.0, edge_from parts naming numbers names are source start some.0 starts some.1, some.2)
@@ -119,7 +118,7 @@ input_step parts clean naming numbers names are k edges target lt way has =
     (edge_from parts naming numbers names are (begins i input.part.cell) (from.Input k) target at (leads_from_input parts clean numbers i target input way)) has
 
 pub halves_step : (parts : List Part) → IsClean parts → (naming : Naming) (numbers : List ℕ) → AreNames parts naming → AreNumbers parts naming numbers → (k : ℕ) (old new : List Edge)
-    → k < length naming.splitters → AddsHalves parts numbers old new (from.Split k) (get_or naming.splitters k 0) → HasEdges parts naming (SplittersDone naming.splitters k) old
+    → k < length naming.splitters → AddsHalves parts numbers (get_or naming.splitters k 0) (from.Split k) old new → HasEdges parts naming (SplittersDone naming.splitters k) old
     → HasEdges parts naming (SplittersDone naming.splitters (k + 1)) new
 halves_step parts clean naming numbers names are k old new lt adds has =
     let s = get_or naming.splitters k 0 in
@@ -130,14 +129,14 @@ halves_step parts clean naming numbers names are k old new lt adds has =
 
 -- the edges from both halves
 pub adds_both : (parts : List Part) (numbers : List ℕ) (old mid new : List Edge) (start : Start) (s : ℕ) (part : Part) (first half : Cell) (second : Option Cell) → HasPart parts s part → first ≡ part.cell
-    → ((c : Cell) → (second ≡ Some c) ↔ IsGreaterHalf part c) → second ≡ Some half → AddsEdge parts numbers old mid start (leaves s first) → AddsEdge parts numbers mid new start (leaves s half)
-    → AddsHalves parts numbers old new start s
+    → ((c : Cell) → (second ≡ Some c) ↔ IsGreaterHalf part c) → second ≡ Some half → AddsEdge parts numbers (leaves s first) start old mid → AddsEdge parts numbers (leaves s half) start mid new
+    → AddsHalves parts numbers s start old new
 adds_both parts numbers old mid new start s part first half second is_s e is_second some lesser greater = record {
   part = part;
   is_s = is_s;
   mid = mid;
-  lesser = subst (λ c. AddsEdge parts numbers old mid start (leaves s c)) e lesser;
-  greater = subst (λ c. AddsEdge parts numbers mid new start (leaves s c)) ((is_second half).0 some).1 greater;
+  lesser = subst (λ c. AddsEdge parts numbers (leaves s c) start old mid) e lesser;
+  greater = subst (λ c. AddsEdge parts numbers (leaves s c) start mid new) ((is_second half).0 some).1 greater;
 }
 
 pub no_second : (parts : List Part) (s : ℕ) (part : Part) (second : Option Cell) → HasPart parts s part → IsSplitter parts s → ((c : Cell) → (second ≡ Some c) ↔ IsGreaterHalf part c) → second ≡ None → ⊥

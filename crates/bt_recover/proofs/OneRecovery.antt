@@ -7,7 +7,7 @@ use Rattle.bt_answers.proofs.OneAnswer.{answers_of}
 use Rattle.bt_parts.specs.declared.part.Part.{Part}
 use Rattle.bt_parts.specs.Layouts.{IsUnpaired}
 use Rattle.bt_net.specs.Network.{Network, IsNetwork, IsLarge, LacksEnds}
-use Rattle.bt_model.specs.Clean.{IsSideLoaded, IsBlocked, IsOnRing, IsClean}
+use Rattle.bt_model.specs.Clean.{IsSideLoaded, IsBlocked, IsOnRing}
 use Rattle.bt_model.specs.Shown.{Naming, IsNumbered}
 use Rattle.bt_model.proofs.OneNetwork.{same_network, same_naming}
 use Rattle.bt_recover.specs.declared.fault.RecoverFault.{RecoverFault}

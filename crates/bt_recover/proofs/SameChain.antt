@@ -1,10 +1,5 @@
 -- Which chains are the same: those with one input, with one output, from one half, or to one half of a splitter.
-use Rattle.std.proofs.Common.{◌≡◌, ◌≢◌, ◌⊎◌, ℕ, zero, suc, ◌+◌, ◌<◌, ◌≤◌, List, [], ◌∷◌, ◌++◌, length, get_or, pos, Some, Bool, true, false, cond, refl, sym, ◌∙◌, ap, subst, inl, inr, ⊎_elim, arith}
-use Rattle.std.specs.List.{slice_get, AllPairs, AllZip, Contains, count_by}
-use Rattle.std.proofs.lemmas.Option.{same_Some, slice_get_within, slice_get-get_or}
-use Rattle.std.proofs.lemmas.Bool.{eqb-true, eq-eqb, false≢true}
-use Rattle.std.proofs.lemmas.List.{get_or_default}
-use Rattle.std.proofs.lemmas.List.Sums.{sum_by-cons}
+use Rattle.std.proofs.Common.{◌≡◌, ◌⊎◌, ℕ, List, refl, sym, ◌∙◌, ap, subst, inl, inr, ⊎_elim}
 use Rattle.bt_parts.specs.declared.part.Cell.{Cell}
 use Rattle.bt_parts.specs.declared.part.Kind.TheVariants.{Splitter}
 use Rattle.bt_parts.specs.declared.part.Part.{Part}
@@ -13,23 +8,14 @@ use Rattle.bt_parts.specs.Cells.{Covers, beside, step, opposite}
 use Rattle.bt_parts.specs.Handing.{ComesFrom, TakesFrom}
 use Rattle.bt_parts.specs.Layouts.{HasPart, IsAt}
 use Rattle.bt_parts.proofs.Steps.{near_end}
-use Rattle.bt_net.specs.declared.network.Edge.{Edge}
-use Rattle.bt_net.specs.declared.network.Start.{Start}
-use Rattle.bt_net.specs.declared.network.Start.TheVariants as from
-use Rattle.bt_net.specs.declared.network.Target.{Target}
-use Rattle.bt_net.specs.declared.network.Target.TheVariants as to
-use Rattle.bt_net.specs.Network.{Network, IsWired, leaves as leaves_from, enters as enters_to, is_input, is_output, StartsIn, EndsIn}
 use Rattle.bt_model.specs.Handing.{FeedsFrom, Feeds, Hands}
-use Rattle.bt_model.specs.Chains.{IsSplitter, IsLink, Path, IsInput, IsOutput, Source, begins, leaves, Sink, ends, enters, Chain, StartsAs, EndsAs, IsLongest, IsEmptyChain, IsChain}
-use Rattle.bt_model.specs.Clean.{IsOnRing}
-use Rattle.bt_model.specs.Shown.{Naming, ListsEach, IsNaming, IsStartOf, IsTargetOf, IsEdgeOf}
+use Rattle.bt_model.specs.Chains.{IsSplitter, IsLink, Path, Source, begins, leaves, ends, enters, Chain, StartsAs, EndsAs, IsLongest, IsEmptyChain, IsChain}
 use Rattle.bt_parts.proofs.Places.{same_part, own_cell, one_there, covers_at}
 use Rattle.bt_model.proofs.PathLemmas.{path_start}
-use Rattle.bt_model.proofs.Sorted.{one_place}
-use Rattle.bt_recover.specs.Recovered.{Never, IsOrderly}
+use Rattle.bt_recover.specs.Recovered.{IsOrderly}
 use Rattle.bt_recover.proofs.HandLaws.{takes_at, comes_at, one_giver, pair_leaves}
 use Rattle.bt_recover.proofs.ChainLemmas.{no_link, chain_from, same_first, longest_same, no_links_before, path_stop}
-use Rattle.bt_recover.proofs.ExistLemmas.{from_input, to_output, input_no_splitter}
+use Rattle.bt_recover.proofs.ExistLemmas.{input_no_splitter}
 
 -- a chain's cell of its input is the part's
 pub begins_cell : (parts : List Part) (chain : Chain) (a : ℕ) (cell : Cell) → IsChain parts chain → chain.source ≡ begins a cell → (part : Part) × HasPart parts a part × (cell ≡ part.cell)
@@ -158,4 +144,3 @@ leaves_half parts chain s half part is_s (inr h) e =
     let halves : h.half ≡ half = cc in
     ⊎_elim (λ own. inl own) (λ greater. inr greater.1)
     (covers_at parts s part half is_s (subst (λ x. IsAt parts x half) splitters (subst (λ x. IsAt parts h.from x) halves h.feeds.look.giver)))
-

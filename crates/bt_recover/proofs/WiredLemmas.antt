@@ -1,33 +1,21 @@
 -- The edges of a numbered network are wired.
-use Rattle.std.proofs.Common.{◌≡◌, ◌≢◌, ◌⊎◌, ℕ, zero, suc, ◌+◌, ◌<◌, ◌≤◌, List, [], ◌∷◌, ◌++◌, length, get_or, pos, Some, Bool, true, false, cond, refl, sym, ◌∙◌, ap, subst, inl, inr, ⊎_elim, arith}
-use Rattle.std.specs.List.{slice_get, AllPairs, AllZip, Contains, count_by}
+use Rattle.std.proofs.Common.{◌≡◌, ◌≢◌, ◌⊎◌, ℕ, ◌<◌, ◌≤◌, List, [], length, get_or, pos, Some, Bool, true, refl, sym, ◌∙◌, ap, subst, ⊎_elim, arith}
+use Rattle.std.specs.List.{slice_get, AllPairs, Contains, count_by}
 use Rattle.std.proofs.lemmas.Option.{same_Some, slice_get_within, slice_get-get_or}
 use Rattle.std.proofs.lemmas.Bool.{eqb-true, eq-eqb, false≢true}
 use Rattle.std.proofs.lemmas.List.{get_or_default}
-use Rattle.std.proofs.lemmas.List.Sums.{sum_by-cons}
 use Rattle.bt_parts.specs.declared.part.Cell.{Cell}
-use Rattle.bt_parts.specs.declared.part.Kind.TheVariants.{Splitter}
 use Rattle.bt_parts.specs.declared.part.Part.{Part}
-use Rattle.bt_parts.specs.declared.part.Side.TheVariants.{Behind}
-use Rattle.bt_parts.specs.Cells.{Covers, beside, step, opposite}
-use Rattle.bt_parts.specs.Handing.{ComesFrom, TakesFrom}
-use Rattle.bt_parts.specs.Layouts.{HasPart, IsAt}
-use Rattle.bt_parts.proofs.Steps.{near_end}
+use Rattle.bt_parts.specs.Cells.{beside, step, opposite}
 use Rattle.bt_net.specs.declared.network.Edge.{Edge}
 use Rattle.bt_net.specs.declared.network.Start.{Start}
 use Rattle.bt_net.specs.declared.network.Start.TheVariants as from
 use Rattle.bt_net.specs.declared.network.Target.{Target}
 use Rattle.bt_net.specs.declared.network.Target.TheVariants as to
 use Rattle.bt_net.specs.Network.{Network, IsWired, leaves as leaves_from, enters as enters_to, is_input, is_output, StartsIn, EndsIn}
-use Rattle.bt_model.specs.Handing.{FeedsFrom, Feeds, Hands}
-use Rattle.bt_model.specs.Chains.{IsSplitter, IsLink, Path, IsInput, IsOutput, Source, begins, leaves, Sink, ends, enters, Chain, StartsAs, EndsAs, IsLongest, IsEmptyChain, IsChain}
-use Rattle.bt_model.specs.Clean.{IsOnRing}
+use Rattle.bt_model.specs.Chains.{IsSplitter, IsInput, IsOutput, Source, begins, leaves, Sink, ends, enters, Chain, IsChain}
 use Rattle.bt_model.specs.Shown.{Naming, IsNaming, IsStartOf, IsTargetOf, IsEdgeOf, IsNumbered}
-use Rattle.bt_parts.proofs.Places.{same_part, own_cell, one_there, covers_at}
-use Rattle.bt_model.proofs.PathLemmas.{path_start}
 use Rattle.bt_model.proofs.Sorted.{one_place}
-use Rattle.bt_recover.specs.Recovered.{Never, IsOrderly}
-use Rattle.bt_recover.proofs.HandLaws.{takes_at, comes_at, one_giver, pair_leaves}
 use Rattle.bt_recover.proofs.ChainLemmas.{orderly_of, chain_from}
 use Rattle.bt_recover.proofs.ExistLemmas.{from_input, to_output}
 use Rattle.bt_recover.proofs.SameChain.{same_begins, same_ends, leaves_half, Hop, hop_of, hop_half, same_hop}

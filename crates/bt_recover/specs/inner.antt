@@ -4,3 +4,4 @@ pub mod Ends
 pub mod Marks
 pub mod Refused
 pub mod Sight
+pub mod Told

@@ -1,3 +1,6 @@
+//! What is wrong with a layout, in the order of the refusals.
+//!
+//! Rings are looked for last, since chains can be followed only where each part has one giver.
 ghost use Rattle.std.specs.Prelude.{◌≡◌, IfOk, IfErr};
 ghost use Rattle.bt_grid.specs.Pairing.{ArePartners};
 ghost use Rattle.bt_model.specs.Clean.{IsClean};

@@ -7,11 +7,12 @@ ghost use Rattle.bt_parts.specs.Layouts.{IsAt};
 ghost use Rattle.bt_grid.specs.Pairing.{ArePartners};
 ghost use Rattle.bt_model.specs.Chains.{IsLink, IsSplitter, leaves};
 ghost use Rattle.bt_model.specs.Clean.{IsClean};
-ghost use Rattle.bt_recover.specs.inner.Edges.{naming_of, AreNames, HasMany, AreNumbered, AreNumbers, LeadsTo, LeadsFrom, StartsNone, AddsEdge, AddsHalves, HasEdges, AllDone};
+ghost use Rattle.bt_recover.specs.inner.Edges.{naming_of, AreNames, HasMany, AreNumbered, AreNumbers, KeepsOthers, LeadsTo, LeadsIfAny, AddsEdge, AddsHalves, HasEdges, AllDone};
 
 use crate::ends::Names;
-use crate::following::{is_kind, taker};
+use crate::following::taker;
 use bt_grid::{Grid, Pairs};
+use bt_model::is_kind;
 use bt_net::{Edge, MOST_OF_EACH, Start, Target};
 use bt_parts::{Cell, Kind, cells_of, front};
 use std::alloc::{AllocError, Global};
@@ -23,7 +24,7 @@ fn write_places(numbers: &mut Vec<u32>, list: &[usize])
     requires few { length list.now ≤ MOST_OF_EACH }
     ensures count { length numbers.new.items ≡ length numbers.old.items }
     ensures numbered { AreNumbered numbers.new.items list.now }
-    ensures others { (i : ℕ) → (Contains list.now i → ⊥) → slice_index_or numbers.new.items i 0 ≡ slice_index_or numbers.old.items i 0 }
+    ensures others { KeepsOthers list.now numbers.old.items numbers.new.items }
 {
     for (k, i) in list.iter().enumerate() {
         numbers[*i] = k as u32;
@@ -65,14 +66,20 @@ fn target_from(grid: &Grid, pairs: &Pairs, numbers: &[u32], first: usize) -> Tar
 }
 
 /// Where the chain from this half of a splitter ends, if the half hands on.
-fn target_from_half(grid: &Grid, pairs: &Pairs, numbers: &[u32], s: usize, half: Cell) -> Option<Target>
+fn target_from_half(
+    grid: &Grid,
+    pairs: &Pairs,
+    numbers: &[u32],
+    s: usize,
+    half: Cell,
+) -> Option<Target>
     requires splitter { IsSplitter grid.now s }
     requires half { IsAt grid.now s half }
     requires within { s < length grid.now }
     requires partners { ArePartners grid.now pairs.now }
     requires clean { IsClean grid.now }
     requires count { length numbers.now ≡ length grid.now }
-    ensures { MatchOption result (StartsNone grid.now (leaves s half)) (LeadsFrom grid.now numbers.now (leaves s half)) }
+    ensures { LeadsIfAny grid.now numbers.now (leaves s half) result }
 {
     let Some(next) = grid.at(front(grid.part(s), half)) else {
         return None;
@@ -100,7 +107,7 @@ fn push_half(
     requires partners { ArePartners grid.now pairs.now }
     requires clean { IsClean grid.now }
     requires count { length numbers.now ≡ length grid.now }
-    ensures { OnOk result (AddsEdge grid.now numbers.now edges.old.items edges.new.items start (leaves s half)) }
+    ensures { OnOk result (AddsEdge grid.now numbers.now (leaves s half) start edges.old.items edges.new.items) }
 {
     let Some(target) = target_from_half(grid, pairs, numbers, s, half) else {
         return Ok(());
@@ -127,7 +134,7 @@ fn push_halves(
     requires partners { ArePartners grid.now pairs.now }
     requires clean { IsClean grid.now }
     requires count { length numbers.now ≡ length grid.now }
-    ensures { OnOk result (AddsHalves grid.now numbers.now edges.old.items edges.new.items start s) }
+    ensures { OnOk result (AddsHalves grid.now numbers.now s start edges.old.items edges.new.items) }
 {
     let (lesser, greater) = cells_of(grid.part(s));
     push_half(edges, grid, pairs, numbers, start, s, lesser)?;
@@ -161,7 +168,14 @@ pub(crate) fn edges_of(
         })?;
     }
     for (k, s) in names.splitters.iter().enumerate() {
-        push_halves(&mut edges, grid, pairs, &numbers, Start::Split(k as u32), *s)?;
+        push_halves(
+            &mut edges,
+            grid,
+            pairs,
+            &numbers,
+            Start::Split(k as u32),
+            *s,
+        )?;
     }
     Ok(edges)
 }

@@ -9,8 +9,9 @@ ghost use Rattle.bt_model.specs.Shown.{IsPlacedBefore};
 ghost use Rattle.bt_recover.specs.inner.Edges.{naming_of, AreNames, HasMany};
 ghost use Rattle.bt_recover.specs.inner.Ends.{AreListed, AreKeyed};
 
-use crate::following::{giver, is_kind};
+use crate::following::giver;
 use bt_grid::{Grid, Pairs};
+use bt_model::is_kind;
 use bt_net::MOST_OF_EACH;
 use bt_parts::{Cell, Kind, Part, front};
 use std::alloc::{AllocError, Global};
@@ -92,11 +93,7 @@ fn listed(alloc: Global, grid: &Grid, pairs: &Pairs) -> Result<Names, AllocError
 }
 
 /// The parts with their cells.
-fn keyed(
-    alloc: Global,
-    parts: &[Part],
-    indices: &[usize],
-) -> Result<Vec<(Cell, usize)>, AllocError>
+fn keyed(alloc: Global, parts: &[Part], indices: &[usize]) -> Result<Vec<(Cell, usize)>, AllocError>
     requires { All (λ i. i < length parts.now) indices.now }
     ensures { IfOk result (λ list. AreKeyed parts.now indices.now list.items) }
 {
@@ -145,5 +142,7 @@ pub(crate) fn names_of(alloc: Global, grid: &Grid, pairs: &Pairs) -> Result<Name
 pub(crate) fn has_many(names: &Names) -> bool
     ensures { IsTrue result ↔ HasMany (naming_of names.now) }
 {
-    names.inputs.len() > MOST_OF_EACH || names.outputs.len() > MOST_OF_EACH || names.splitters.len() > MOST_OF_EACH
+    names.inputs.len() > MOST_OF_EACH
+        || names.outputs.len() > MOST_OF_EACH
+        || names.splitters.len() > MOST_OF_EACH
 }

@@ -1,4 +1,7 @@
-//! The network of splitters that a layout of belts shows.
+//! The network of splitters that a layout of belts shows, or why there is none.
+//!
+//! A layout is refused where it isn't clean, since only in a clean one is each chain of belts one edge of a
+//! network in the sense of Couëtoux, Gastaldi and Naves.
 #![tactic(auto)]
 
 mod clean;

@@ -20,7 +20,7 @@ use std::alloc::Global;
 ///
 /// Each list has the index of a part at the place of its number: a splitter, the first part of an
 /// input, or the last part of an output.
-#[derive(Debug, Drop)]
+#[derive(Drop)]
 pub struct Traced {
     pub net: Net,
     pub splitters: Vec<usize>,
@@ -59,7 +59,8 @@ fn net_of(names: &Names, edges: Vec<Edge>) -> Result<Net, RecoverFault>
 /// Splitters are numbered in the order of the parts, inputs by the cells of their first parts and
 /// outputs by the cells of their last, by x and then by y. Edges come in the order of their starts:
 /// the inputs, then the splitters, and of a splitter the lesser half first. The work grows as that of
-/// sorting the parts.
+/// sorting the parts. The lists have indices of parts, and an edge's cap is 1, one belt of the slowest
+/// tier.
 ///
 /// # Errors
 ///

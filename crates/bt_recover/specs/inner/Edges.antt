@@ -1,7 +1,6 @@
 -- Which part bears each number, and the edges for the chains, on the way to the network.
-use Rattle.std.specs.Prelude.{◌≡◌, ℕ, ◌<◌, List, [], ◌∷◌, ◌++◌, length, slice_get, slice_index_or, Some, Contains, AllPairs, ◌⊎◌, ⊤}
+use Rattle.std.specs.Prelude.{◌≡◌, ℕ, ◌<◌, List, [], ◌∷◌, ◌++◌, length, slice_get, slice_index_or, Option, Some, MatchOption, Contains, AllPairs, ◌⊎◌, ⊤}
 use Rattle.std.specs.List.{AllZip}
-use Rattle.bt_parts.specs.declared.part.Cell.{Cell}
 use Rattle.bt_parts.specs.declared.part.Part.{Part}
 use Rattle.bt_parts.specs.Cells.{beside}
 use Rattle.bt_parts.specs.Layouts.{HasPart}
@@ -34,6 +33,10 @@ HasMany naming = (MOST_OF_EACH < length naming.inputs) ⊎ (MOST_OF_EACH < lengt
 abbrev pub AreNumbered : List ℕ → List ℕ → Type 0
 AreNumbered numbers list = (k i : ℕ) → slice_get list k ≡ Some i → slice_index_or numbers i 0 ≡ k
 
+-- the table keeps its entries but for the listed parts
+abbrev pub KeepsOthers : List ℕ → List ℕ → List ℕ → Type 0
+KeepsOthers list old new = (i : ℕ) → (Contains list i → ⊥) → slice_index_or new i 0 ≡ slice_index_or old i 0
+
 -- the table has the number of each splitter and of each output, by its part
 pub record AreNumbers (parts : List Part) (naming : Naming) (numbers : List ℕ) : Type 0 where
   pub count : length numbers ≡ length parts
@@ -65,23 +68,27 @@ pub record LeadsFrom (parts : List Part) (numbers : List ℕ) (source : Source) 
 abbrev pub StartsNone : List Part → Source → Type 0
 StartsNone parts source = (chain : Chain) → IsChain parts chain → chain.source ≡ source → ⊥
 
+-- the target to which the chain that starts here leads is told, or no chain starts here
+abbrev pub LeadsIfAny : List Part → List ℕ → Source → Option Target → Type 0
+LeadsIfAny parts numbers source told = MatchOption told (StartsNone parts source) (LeadsFrom parts numbers source)
+
 -- the edge of this start and this target
 abbrev pub edge_to : Start → Target → Edge
 edge_to start target = record { start = start; target = target; cap = 1 }
 
 -- the edge of the chain that starts here is added, if one does
-abbrev pub AddsEdge : List Part → List ℕ → List Edge → List Edge → Start → Source → Type 0
-AddsEdge parts numbers old new start source =
+abbrev pub AddsEdge : List Part → List ℕ → Source → Start → List Edge → List Edge → Type 0
+AddsEdge parts numbers source start old new =
     (StartsNone parts source × (new ≡ old))
     ⊎ ((target : Target) × LeadsFrom parts numbers source target × (new ≡ old ++ edge_to start target ∷ []))
 
 -- the edges of the chains from both halves of a splitter are added, that of the lesser half first
-pub record AddsHalves (parts : List Part) (numbers : List ℕ) (old new : List Edge) (start : Start) (s : ℕ) : Type 0 where
+pub record AddsHalves (parts : List Part) (numbers : List ℕ) (s : ℕ) (start : Start) (old new : List Edge) : Type 0 where
   pub part : Part
   pub is_s : HasPart parts s part
   pub mid : List Edge
-  pub lesser : AddsEdge parts numbers old mid start (leaves s part.cell)
-  pub greater : AddsEdge parts numbers mid new start (leaves s (beside part.dir part.cell))
+  pub lesser : AddsEdge parts numbers (leaves s part.cell) start old mid
+  pub greater : AddsEdge parts numbers (leaves s (beside part.dir part.cell)) start mid new
 
 -- the edges stand for the chains of these sources, in their order, each once
 pub record AreEdges (parts : List Part) (naming : Naming) (done : Source → Type 0) (chains : List Chain) (edges : List Edge) : Type 0 where

@@ -29,10 +29,14 @@ IsSeen parts cell dir = (p : ℕ) × LooksToward parts cell dir p
 abbrev pub IsSeenAside : List Part → Cell → Dir → Type 0
 IsSeenAside parts cell dir = IsSeen parts cell (left dir) ⊎ IsSeen parts cell (opposite (left dir))
 
+-- parts look at the cell from both sides of this direction
+abbrev pub IsSeenOnBoth : List Part → Cell → Dir → Type 0
+IsSeenOnBoth parts cell dir = IsSeen parts cell (left dir) × IsSeen parts cell (opposite (left dir))
+
 -- parts look at the cell from two of the three sides that aren't ahead of this direction
 abbrev pub IsSeenTwice : List Part → Cell → Dir → Type 0
 IsSeenTwice parts cell dir =
-    (IsSeen parts cell dir × IsSeenAside parts cell dir) ⊎ (IsSeen parts cell (left dir) × IsSeen parts cell (opposite (left dir)))
+    (IsSeen parts cell dir × IsSeenAside parts cell dir) ⊎ IsSeenOnBoth parts cell dir
 
 -- the part looks at the cell of this belt, and not from ahead
 abbrev pub IsBeltFeeder : List Part → Part → ℕ → Type 0

@@ -52,8 +52,8 @@ pub loop-k-2-preserved : goal.loop-k-2-preserved
 loop-k-2-preserved c =
     halves_step c.args.grid.now c.requires.clean (naming_of c.args.names.now) c.in_ok-numbers.numbers.items c.requires.names c.in_ok-numbers.ensures c.loop-k-2.k c.loop-k-2.edges.items c.push_halves.new.edges.items
     (omega (arith, ap length c.deref-s-items.ensures.value))
-    (subst (λ xs. AddsHalves c.args.grid.now c.in_ok-numbers.numbers.items c.loop-k-2.edges.items c.push_halves.new.edges.items (from.Split c.loop-k-2.k) (get_or xs c.loop-k-2.k 0)) c.deref-s-items.ensures.value
-    (subst (λ ns. AddsHalves c.args.grid.now ns c.loop-k-2.edges.items c.push_halves.new.edges.items (from.Split c.loop-k-2.k) (get_or c.deref-s-items.result.now c.loop-k-2.k 0)) c.deref-in-loop-k-2.ensures.value c.in_ok-push_halves.ensures))
+    (subst (λ xs. AddsHalves c.args.grid.now c.in_ok-numbers.numbers.items (get_or xs c.loop-k-2.k 0) (from.Split c.loop-k-2.k) c.loop-k-2.edges.items c.push_halves.new.edges.items) c.deref-s-items.ensures.value
+    (subst (λ ns. AddsHalves c.args.grid.now ns (get_or c.deref-s-items.result.now c.loop-k-2.k 0) (from.Split c.loop-k-2.k) c.loop-k-2.edges.items c.push_halves.new.edges.items) c.deref-in-loop-k-2.ensures.value c.in_ok-push_halves.ensures))
     c.loop-k-2.invariant
 
 pub returns : goal.returns

@@ -1,6 +1,6 @@
-use Rattle.std.proofs.Common.{◌≡◌, subst, sym, ap, arith}
+use Rattle.std.proofs.Common.{subst, sym, arith}
 use Rattle.std.specs.Prelude.{Ok, Err}
-use Rattle.bt_net.specs.Network.{network_of, IsNetOf, IsWired}
+use Rattle.bt_net.specs.Network.{IsNetOf, IsWired}
 use Rattle.bt_recover.specs.inner.Edges.{naming_of, net_with}
 use Rattle.bt_recover.specs.inner.Refused.{IsNetTold}
 use Rattle.bt_recover.proofs.NetworkLemmas.{net_same, size_told}

@@ -1,6 +1,5 @@
 use Rattle.std.proofs.Common.{inl}
 use Rattle.std.specs.Prelude.{Ok, Err}
-use Rattle.std.proofs.lemmas.Bool.{iff_false}
 use Rattle.std.proofs.lemmas.Result.{err_from_is_err_and}
 use Rattle.bt_recover.specs.declared.fault.RecoverFault.TheVariants.{TooLarge}
 use Rattle.bt_recover.specs.inner.Edges.{naming_of, net_with}
