@@ -1,7 +1,6 @@
 -- From the numbers of the parts and the edges of the chains to the numbered network.
 use Rattle.std.proofs.Common.{◌≡◌, ℕ, zero, suc, ◌+◌, ◌<◌, ◌≤◌, List, [], ◌∷◌, ◌++◌, length, get_or, Option, Some, None, ◌↔◌, Result, Ok, Err, refl, sym, ◌∙◌, ap, subst, inl, inr, ◌⊎◌, ⊎_elim, arith}
 use Rattle.std.specs.List.{slice_get, All}
-use Rattle.std.specs.Result.{OnOk}
 use Rattle.std.proofs.lemmas.Option.{same_Some, none-some, slice_get_within, slice_get-get_or}
 use Rattle.std.proofs.lemmas.List.{get_or_default}
 use Rattle.bt_parts.specs.declared.part.Cell.{Cell}
@@ -143,11 +142,6 @@ pub no_second : (parts : List Part) (s : ℕ) (part : Part) (second : Option Cel
 no_second parts s part second is_s splitter is_second none =
     none-some (beside part.dir part.cell) (sym none ∙ (is_second (beside part.dir part.cell)).1
     (subst (λ p. p.kind ≡ Splitter) (same_part parts s splitter.0 part splitter.1 is_s) splitter.2, refl))
-
--- what follows where a result is `Ok`
-pub on_ok_then : {X E : Type 0} (r : Result X E) {P Q : Type 0} → OnOk r P → (P → Q) → OnOk r Q
-on_ok_then (Ok x) h f = f h
-on_ok_then (Err e) h f = h
 
 -- ---- there are edges for all chains, also where they are too many for a table of numbers
 
