@@ -1,4 +1,7 @@
+//! An entity as its members tell it, before its cell is known, which depends on entity 0.
+
 ghost use Rattle.std.specs.Prelude.{◌≡◌, ◌≢◌, ℕ, ℤ, codes, MatchOption, MatchResult};
+ghost use Rattle.bt_answers.specs.Answers.{UnlessMemory};
 ghost use Rattle.bt_json.specs.Json.{Json, Number};
 ghost use Rattle.bt_json.specs.Stands.{json_of, number_of};
 ghost use Rattle.bt_parts.specs.declared.part.Dir.{Dir};
@@ -7,11 +10,13 @@ ghost use Rattle.bt_entities.specs.declared.name.Family.TheVariants.{Underground
 ghost use Rattle.bt_entities.specs.declared.shift.Shift.{Shift};
 ghost use Rattle.bt_entities.specs.Members.{HasText};
 ghost use Rattle.bt_entities.specs.Names.{name_of};
-ghost use Rattle.bt_entities.specs.Entities.{HasFamily, HasKind, HasDirection, HasPosition, IsHalves, IsEven, IsSided, direction_value};
+ghost use Rattle.bt_entities.specs.declared.fault.EntityFault.TheVariants.{Memory};
+ghost use Rattle.bt_entities.specs.Entities.{HasFamily, HasKind, HasDirection, HasPosition, direction_value};
+ghost use Rattle.bt_entities.specs.Entities.{IsEven, IsSided};
 ghost use Rattle.bt_entities.specs.Refusals.{IsBadMember};
-ghost use Rattle.bt_entities.specs.Pieces.{AreHalves, IsPriority, IsPiece, IsOn, IsTold};
+ghost use Rattle.bt_entities.specs.inner.Pieces.{AreHalves, IsPriority, IsPiece, IsOn, IsNameRead, IsPieceRead};
 
-use crate::fault::{EntityFault, Member};
+use crate::fault::{EntityFault, EntityName, Member};
 use crate::member::{
     as_number, as_text, has_member, is_object, member, number_member, text_member,
 };
@@ -175,8 +180,7 @@ fn with_members(major: u64, family: Family, tier: Tier, entity: &Tree) -> Result
 
 /// The family and the tier of the entity with this index.
 fn name_of(alloc: Global, place: usize, entity: &Tree) -> Result<(Family, Tier), EntityFault>
-    ensures { MatchResult result (λ r. HasText (json_of entity.now) (codes "name") (name_of r.0 r.1))
-        (λ e. (major : ℕ) (first : Json) → IsTold major first place (json_of entity.now) e) }
+    ensures { UnlessMemory Memory (IsNameRead place (json_of entity.now)) result }
 {
     if !is_object(entity) {
         return Err(EntityFault::BadMember(place, Member::Entity));
@@ -188,7 +192,7 @@ fn name_of(alloc: Global, place: usize, entity: &Tree) -> Result<(Family, Tier),
         Some(found) => Ok(found),
         None => {
             let name = String::from_str(alloc, name)?;
-            Err(EntityFault::Unsupported(place, name))
+            Err(EntityFault::Unsupported(place, EntityName::new(name)))
         }
     }
 }
@@ -200,7 +204,7 @@ pub fn piece_of(
     place: usize,
     entity: &Tree,
 ) -> Result<Piece, EntityFault>
-    ensures { MatchResult result (IsPiece major (json_of entity.now)) (λ e. (first : Json) → IsTold major first place (json_of entity.now) e) }
+    ensures { UnlessMemory Memory (IsPieceRead major place (json_of entity.now)) result }
 {
     let (family, tier) = name_of(alloc, place, entity)?;
     match with_members(major, family, tier, entity) {
@@ -223,8 +227,9 @@ impl Piece {
 }
 
 impl Piece {
+    ghost use Rattle.bt_entities.specs.Entities.{IsPlain};
     ghost use Rattle.bt_entities.specs.Refusals.{IsFirstSpecial};
-    ghost use Rattle.bt_entities.specs.Pieces.{IsPlain, HasShift};
+    ghost use Rattle.bt_entities.specs.inner.Pieces.{HasShift};
 
     /// The shift of the grid that it stands on.
     pub fn shift(&self) -> Option<Shift>

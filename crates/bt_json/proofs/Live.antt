@@ -6,8 +6,8 @@ use Rattle.bt_json.specs.Json.{Json, number, text, list, object, no_items, no_me
 use Rattle.bt_json.specs.Stands.{items_of, members_of}
 use Rattle.bt_json.specs.Grammar.{IsText}
 use Rattle.bt_json.specs.Answers.{HasValue}
-use Rattle.bt_json.specs.Bytes.{kind_of}
-use Rattle.bt_json.specs.Reading.{State, go, stop, found, step, run, Frame, in_list, in_object, Role, as_value, as_name, Place, between, escape, hex, tail, no_text, Numeral, numeral_value, with_whole, with_fraction, with_power, goes_on, may_end, due, opened_list, behind, opened_object, name_due, colon_due, in_text, in_number, in_word, deliver, flushed, with_unit, step_text, step_over, step_number, step_in_number, step_past}
+use Rattle.bt_json.specs.inner.Bytes.{kind_of}
+use Rattle.bt_json.specs.inner.Reading.{State, go, stop, found, step, run, Frame, in_list, in_object, Role, as_value, as_name, Place, between, escape, hex, tail, no_text, Numeral, numeral_value, with_whole, with_fraction, with_power, goes_on, may_end, due, opened_list, behind, opened_object, name_due, colon_due, in_text, in_number, in_word, deliver, flushed, with_unit, step_text, step_over, step_number, step_in_number, step_past}
 use Rattle.bt_json.specs.declared.kind.Kind.TheVariants.{Blank}
 use Rattle.bt_json.specs.declared.kind.Mark.TheVariants.{Figure}
 use Rattle.bt_json.specs.declared.kind.Phase.{Phase}

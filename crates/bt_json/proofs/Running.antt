@@ -4,12 +4,12 @@ use Rattle.std.proofs.lemmas.Bool.{cases_lt, false_from_ne_true, eqb-true}
 use Rattle.bt_json.specs.Json.{Json, number}
 use Rattle.std.proofs.lemmas.List.{drop_all}
 use Rattle.bt_json.specs.Grammar.{is_blank}
-use Rattle.bt_json.specs.Reading.{State, go, Stop, bad, step, after_step, run, finish, Frame, in_word, word_left, deliver, stop, Numeral, in_number, goes_on, ends, wrong, step_number, step_in_number, step_past, behind, numeral_value, finish_number, may_end, due, step_due, numeral, first_phase}
+use Rattle.bt_json.specs.inner.Reading.{State, go, Stop, bad, step, after_step, run, finish, Frame, in_word, word_left, deliver, stop, Numeral, in_number, goes_on, ends, wrong, step_number, step_in_number, step_past, behind, numeral_value, finish_number, may_end, due, step_due, numeral, first_phase}
 use Rattle.bt_json.specs.declared.kind.Kind.TheVariants.{Minus, Digit}
 use Rattle.bt_json.specs.declared.kind.Phase.TheVariants.{AfterMinus}
-use Rattle.bt_json.specs.Bytes.{kind_of, mark_of}
+use Rattle.bt_json.specs.inner.Bytes.{kind_of, mark_of}
 use Rattle.bt_json.specs.declared.kind.Phase.{Phase}
-use Rattle.bt_json.specs.Running.{SkipsBlanks, rest_of, rest_after, Faults}
+use Rattle.bt_json.specs.inner.Running.{SkipsBlanks, rest_of, rest_after, Faults}
 use Rattle.std.specs.Prelude.{IfOk, IfErr, Result, Ok, Err}
 use Rattle.bt_json.specs.declared.fault.JsonFault.{JsonFault}
 

@@ -7,15 +7,16 @@ use Rattle.std.proofs.lemmas.Int.Digits.{number_push}
 use Rattle.std.proofs.lemmas.List.{append-nil, map_push, length-append}
 use Rattle.std.proofs.lemmas.Bool.{cases_eq, eqb-true}
 use Rattle.std.proofs.lemmas.Bool.Decides.{nat_tests}
-use Rattle.bt_json.specs.Grammar.{Texts, limit, ◌▸◌, Byte, Digits, Sign, Whole, Fraction, ExponentSign, Letter, Exponent, IsNumber}
+use Rattle.bt_json.specs.Grammar.{Texts, ◌▸◌, Byte, Digits, Sign, Whole, Fraction, ExponentSign, Letter, Exponent, IsNumber}
 use Rattle.bt_json.specs.Answers.{is_number_byte}
-use Rattle.bt_json.specs.Bytes.{mark_of}
-use Rattle.bt_json.specs.Reading.{Numeral, numeral, numeral_value, with_whole, with_fraction, with_power, first_phase, InNumber, goes_on, ends, wrong, step_number, may_end}
+use Rattle.bt_json.specs.inner.Bytes.{mark_of}
+use Rattle.bt_json.specs.inner.Reading.{Numeral, numeral, numeral_value, with_whole, with_fraction, with_power, first_phase, InNumber, goes_on, ends, wrong, step_number, may_end}
 use Rattle.bt_json.specs.declared.kind.Mark.{Mark}
 use Rattle.bt_json.specs.declared.kind.Mark.TheVariants.{Figure, Point, LetterE, PlusSign, MinusSign, Over}
 use Rattle.bt_json.specs.declared.kind.Phase.{Phase}
 use Rattle.bt_json.specs.declared.kind.Phase.TheVariants.{AfterMinus, AfterZero, InWhole, AfterPoint, InFraction, AfterLetter, AfterSign, InPower}
 use Rattle.bt_json.proofs.Joins.{join, extend, behind_both, assoc, second_as, and_nothing}
+use Rattle.bt_json.specs.declared.limits.TheConstants.{MOST_EXPONENT}
 
 -- ---- what a byte is, from its mark
 
@@ -109,7 +110,7 @@ pub record WithPower (n : Numeral) (t : List ℕ) : Type 0 where
   pub below : Bool
   pub first : ℕ
   pub power : List ℕ
-  pub is : n ≡ record (with_fractions negative whole fraction) { below = below; power = min (number_from_digits 10 (first ∷ power)) limit }
+  pub is : n ≡ record (with_fractions negative whole fraction) { below = below; power = min (number_from_digits 10 (first ∷ power)) MOST_EXPONENT }
   pub spelled : (WholePart negative whole ▸ (Fraction fraction ▸ (Letter ▸ (ExponentSign below ▸ Digits (first ∷ power))))) t
 
 abbrev pub Written : Phase → Numeral → Texts
@@ -138,7 +139,7 @@ whole_push : (d : ℕ) (ds : List ℕ) (e : ℕ) (t : List ℕ) → d ≢ 0 → 
 whole_push d [] e t ne lt w = (ne, digits_push (d ∷ []) e t lt w)
 whole_push d (c ∷ ds) e t ne lt w = (ne, digits_push (d ∷ c ∷ ds) e t lt w.1)
 
-power_push : (ds : List ℕ) (d : ℕ) → min (min (number_from_digits 10 ds) limit * 10 + d) limit ≡ min (number_from_digits 10 (ds ++ d ∷ [])) limit
+power_push : (ds : List ℕ) (d : ℕ) → min (min (number_from_digits 10 ds) MOST_EXPONENT * 10 + d) MOST_EXPONENT ≡ min (number_from_digits 10 (ds ++ d ∷ [])) MOST_EXPONENT
 power_push ds d = rw (number_push 10 ds d) (omega arith)
 
 -- ---- ends
@@ -153,7 +154,7 @@ fraction_number : (negative : Bool) (ds : List ℕ) (f : ℕ) (fs t : List ℕ) 
 fraction_number negative ds f fs t w = record { whole = ds; fraction = f ∷ fs; below = false; power = []; spelled = second_as t (λ u. second_as u (λ v b. and_nothing v (refl, refl) b)) (assoc t w); digits = refl; exponent = refl }
 
 power_number : (negative : Bool) (ds fs : List ℕ) (below : Bool) (e : ℕ) (es t : List ℕ) → (WholePart negative ds ▸ (Fraction fs ▸ (Letter ▸ (ExponentSign below ▸ Digits (e ∷ es))))) t
-    → IsNumber (numeral_value (record (with_fractions negative ds fs) { below = below; power = min (number_from_digits 10 (e ∷ es)) limit })) t
+    → IsNumber (numeral_value (record (with_fractions negative ds fs) { below = below; power = min (number_from_digits 10 (e ∷ es)) MOST_EXPONENT })) t
 power_number negative ds fs below e es t w = record { whole = ds; fraction = fs; below = below; power = e ∷ es; spelled = assoc t w; digits = refl; exponent = refl }
 
 -- a number that may end there is whole

@@ -1,15 +1,13 @@
 ghost use Rattle.std.specs.Prelude.{◌≡◌, ◌≤◌, ◌<◌, ◌+◌, ◌*◌, ◌^◌, [], length, slice_index, drop, false, true, IfOk, IfErr, IfSome, IfNone, OnOk, OnErr, List, ℕ, All, MatchOption};
-ghost use Rattle.bt_json.specs.Grammar.{limit};
-ghost use Rattle.bt_json.specs.Reading.{first_phase};
+ghost use Rattle.bt_json.specs.inner.Reading.{first_phase};
+ghost use Rattle.bt_json.specs.declared.limits.TheConstants.{MOST_EXPONENT};
 
 use crate::decimal::Decimal;
 use crate::fault::JsonFault;
 use crate::kind::{Mark, Phase, mark_of, may_end};
+use crate::limits::MOST_EXPONENT;
 use smallvec::SmallVec;
 use std::alloc::{AllocError, Global};
-
-/// The greatest exponent that is kept.
-const LIMIT: u64 = 1 << 62;
 
 /// A number as far as it is written.
 #[derive(Drop)]
@@ -23,7 +21,7 @@ pub struct Numeral {
     power: u64,
     ghost below_ten: { All (λ d. d < 10) digits.items },
     ghost counted: { places ≤ length digits.items },
-    ghost limited: { power ≤ limit },
+    ghost limited: { power ≤ MOST_EXPONENT },
 }
 
 /// How a number goes on at a byte.
@@ -36,13 +34,13 @@ pub enum Next {
 }
 
 impl Numeral {
-    ghost use Rattle.bt_json.specs.Numerals.{view, shown};
-    ghost use Rattle.bt_json.specs.Reading.{with_whole, with_fraction, with_power, step_digit, step_number, step_sign, numeral_value};
+    ghost use Rattle.bt_json.specs.inner.Numerals.{view, shown};
+    ghost use Rattle.bt_json.specs.inner.Reading.{with_whole, with_fraction, with_power, step_digit, step_number, step_sign, numeral_value};
     ghost use Rattle.bt_json.specs.Stands.{number_of};
     ghost use Rattle.bt_json.specs.Json.{number};
-    ghost use Rattle.bt_json.specs.Reading.{Frame, due, in_number, numeral, deliver};
-    ghost use Rattle.bt_json.specs.Running.{IsLater, rest_of, rest_after, Faults};
-    ghost use Rattle.bt_json.specs.Bytes.{mark_of, kind_of};
+    ghost use Rattle.bt_json.specs.inner.Reading.{Frame, due, in_number, numeral, deliver};
+    ghost use Rattle.bt_json.specs.inner.Running.{IsLater, rest_of, rest_after, Faults};
+    ghost use Rattle.bt_json.specs.inner.Bytes.{mark_of, kind_of};
     ghost use Rattle.bt_json.specs.declared.fault.JsonFault.TheVariants.{Memory};
     ghost use Rattle.bt_json.specs.declared.kind.Kind.TheVariants.{Minus, Digit};
 
@@ -68,10 +66,10 @@ impl Numeral {
         requires { digit < 10 }
         ensures { view self.new ≡ with_power (view self.old) digit }
     {
-        self.power = if self.power > LIMIT / 10 {
-            LIMIT
+        self.power = if self.power > MOST_EXPONENT / 10 {
+            MOST_EXPONENT
         } else {
-            (self.power * 10 + u64::from(digit)).min(LIMIT)
+            (self.power * 10 + u64::from(digit)).min(MOST_EXPONENT)
         };
     }
 
@@ -149,7 +147,7 @@ impl Numeral {
             below,
             power,
         } = self;
-        if places as u64 > LIMIT {
+        if places as u64 > MOST_EXPONENT {
             return Err(JsonFault::Memory);
         }
         let power = power as i64;

@@ -1,26 +1,25 @@
 ghost use Rattle.std.specs.Prelude.{◌≡◌, ◌≢◌, ◌≤◌, ◌<◌, ◌-◌, ◌+◌, [], ◌∷◌, ◌++◌, length, slice_index, true, false, IsTrue, IfOk, IfErr, OnOk, List, None, ℕ, map, string_bytes};
 ghost use Rattle.bt_json.specs.Json.{Json as JsonValue, number, text};
-ghost use Rattle.bt_json.specs.Stands.{json_of, is_full};
-ghost use Rattle.bt_json.specs.Bytes.{kind_of};
-ghost use Rattle.bt_json.specs.Reading.{Frame, Role, in_text, between, in_list, in_object, due, opened_list, opened_object, behind, name_due, deliver, reading, found};
-ghost use Rattle.bt_json.specs.Answers.{depth_of, HasDistinctNames, IsFront, IsFirst, IsReadAs, IsRefusedAs};
+ghost use Rattle.bt_json.specs.Stands.{json_of, value_and_place, is_full};
+ghost use Rattle.bt_json.specs.inner.Bytes.{kind_of};
+ghost use Rattle.bt_json.specs.inner.Reading.{Frame, Role, in_text, between, in_list, in_object, due, opened_list, opened_object, behind, name_due, deliver};
+ghost use Rattle.bt_answers.specs.Answers.{seen, Answers};
+ghost use Rattle.bt_json.specs.Answers.{IsRead};
 ghost use Rattle.bt_json.specs.declared.fault.JsonFault.{JsonFault};
 ghost use Rattle.bt_json.specs.declared.fault.JsonFault.TheVariants.{Memory};
-ghost use Rattle.bt_json.specs.Names.{names_of, TakesName};
-ghost use Rattle.bt_json.specs.Running.{IsLater, rest_of, rest_after, Faults};
+ghost use Rattle.bt_json.specs.inner.Names.{names_of, TakesName};
+ghost use Rattle.bt_json.specs.inner.Running.{IsLater, rest_of, rest_after, Faults};
 
 use crate::decimal::Decimal;
 use crate::fault::JsonFault;
 use crate::kind::{Kind, kind_of};
+use crate::limits::MOST_LEVELS;
 use crate::names::{KnownNames, NamesSoFar};
 use crate::number::Numeral;
 use crate::scan::{expect_byte, skip_blanks, skip_word, stands_at};
 use crate::text::{Unescaped, plain_text};
 use crate::tree::Tree;
 use std::alloc::{AllocError, Global};
-
-/// How many levels of lists and objects there may be.
-const LEVELS: usize = 64;
 
 /// The value from a place on, within that many open lists and objects, and the place behind it.
 #[cycle(reading)]
@@ -32,7 +31,7 @@ fn read_value(
     known: &mut KnownNames,
 ) -> Result<(Tree, usize), JsonFault>
     requires within { start ≤ length bytes.now }
-    requires shallow { depth ≤ 64 }
+    requires shallow { depth ≤ MOST_LEVELS }
     ensures later { IfOk result (λ r. IsLater bytes.now start r.1) }
     ensures full { IfOk result (λ r. IsTrue (is_full r.0)) }
     ensures ok { IfOk result (λ r. (k : List Frame) → length k ≡ depth → rest_of bytes.now start (due k) ≡ rest_after bytes.now r.1 (deliver (json_of r.0) k r.1)) }
@@ -44,13 +43,13 @@ fn read_value(
     }
     match kind_of(bytes[at]) {
         Kind::ListOpens => {
-            if depth >= LEVELS {
+            if depth >= MOST_LEVELS {
                 return Err(JsonFault::Deep(at));
             }
             read_list(alloc, bytes, at + 1, depth + 1, known)
         }
         Kind::ObjectOpens => {
-            if depth >= LEVELS {
+            if depth >= MOST_LEVELS {
                 return Err(JsonFault::Deep(at));
             }
             read_object(alloc, bytes, at + 1, depth + 1, known)
@@ -93,7 +92,7 @@ fn read_list(
     known: &mut KnownNames,
 ) -> Result<(Tree, usize), JsonFault>
     requires within { start ≤ length bytes.now }
-    requires shallow { depth ≤ 64 }
+    requires shallow { depth ≤ MOST_LEVELS }
     requires inside { 0 < depth }
     ensures later { IfOk result (λ r. IsLater bytes.now start r.1) }
     ensures full { IfOk result (λ r. IsTrue (is_full r.0)) }
@@ -189,7 +188,7 @@ fn read_object(
     known: &mut KnownNames,
 ) -> Result<(Tree, usize), JsonFault>
     requires within { start ≤ length bytes.now }
-    requires shallow { depth ≤ 64 }
+    requires shallow { depth ≤ MOST_LEVELS }
     requires inside { 0 < depth }
     ensures later { IfOk result (λ r. IsLater bytes.now start r.1) }
     ensures full { IfOk result (λ r. IsTrue (is_full r.0)) }
@@ -219,35 +218,16 @@ fn read_object(
     }
 }
 
-/// What reading byte by byte gives.
-fn read_front(alloc: Global, bytes: &[u8]) -> Result<(Tree, usize), JsonFault>
-    ensures full { IfOk result (λ r. IsTrue (is_full r.0)) }
-    ensures ok { IfOk result (λ r. reading bytes.now ≡ found (json_of r.0) r.1) }
-    ensures err { IfErr result (λ f. Faults f (reading bytes.now)) }
-{
-    let mut known = KnownNames::new(alloc)?;
-    read_value(alloc, bytes, 0, 0, &mut known)
-}
-
 /// Reads blanks and the JSON value behind them (RFC 8259) at the front of the bytes, and gives the
 /// value with the place after it. A number goes on as long as its characters do.
 ///
 /// # Errors
 ///
-/// The first thing that is wrong, in reading order.
+/// The first thing that is wrong, in reading order; `JsonFault::Memory` where memory runs out.
 pub fn read(alloc: Global, bytes: &[u8]) -> Result<(Tree, usize), JsonFault>
-    // What is read is in the grammar.
-    ensures found { IfOk result (λ r. IsFront bytes.now (json_of r.0) r.1) }
-    ensures levels { IfOk result (λ r. depth_of (json_of r.0) ≤ 64) }
-    ensures names { IfOk result (λ r. HasDistinctNames (json_of r.0)) }
-    ensures full { IfOk result (λ r. IsTrue (is_full r.0)) }
-
-    // What is in the grammar is read.
-    ensures reads { (v : JsonValue) (after : ℕ) → IsFront bytes.now v after → depth_of v ≤ 64 → HasDistinctNames v → IsReadAs v after result }
-
-    // Which fault comes, and when.
-    ensures refused { IfErr result (λ f. f ≢ Memory → IsFirst bytes.now f) }
-    ensures first { (f : JsonFault) → IsFirst bytes.now f → IsRefusedAs f result }
+    ensures answer { Answers Memory (IsRead bytes.now) (seen value_and_place result) }
+    ensures full { IfOk result (λ read. IsTrue (is_full read.0)) }
 {
-    read_front(alloc, bytes)
+    let mut known = KnownNames::new(alloc)?;
+    read_value(alloc, bytes, 0, 0, &mut known)
 }

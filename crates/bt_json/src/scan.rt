@@ -1,8 +1,8 @@
 ghost use Rattle.std.specs.Prelude.{◌≡◌, ◌≢◌, OnOk, IsTrue, ◌≤◌, ◌<◌, length, slice_index, false, IfOk, IfErr, List, ℕ};
 ghost use Rattle.bt_json.specs.Json.{Json};
 ghost use Rattle.bt_json.specs.Grammar.{is_blank};
-ghost use Rattle.bt_json.specs.Reading.{State, Frame, in_word, deliver};
-ghost use Rattle.bt_json.specs.Running.{SkipsBlanks, IsLater, rest_of, rest_after, Faults};
+ghost use Rattle.bt_json.specs.inner.Reading.{State, Frame, in_word, deliver};
+ghost use Rattle.bt_json.specs.inner.Running.{SkipsBlanks, IsLater, rest_of, rest_after, Faults};
 ghost use Rattle.bt_json.specs.declared.fault.JsonFault.TheVariants.{Json as JsonAt};
 
 use crate::fault::JsonFault;

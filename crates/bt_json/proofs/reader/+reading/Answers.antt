@@ -2,13 +2,13 @@ use Rattle.std.proofs.Common.{arith, true, false, List, ◌≡◌, ◌<◌, ◌+
 use Rattle.std.specs.Prelude.{string_bytes}
 use Rattle.std.proofs.lemmas.Result.{err_from_is_err_and}
 use Rattle.std.proofs.lemmas.List.{map_push, length-append}
-use Rattle.bt_json.specs.Names.{names_of, keys_of}
+use Rattle.bt_json.specs.inner.Names.{names_of, keys_of}
 use Rattle.bt_json.specs.Json.{Json, null, boolean, text, list, object}
 use Rattle.std.specs.List.{list_all}
 use Rattle.bt_json.specs.Stands.{json_of, items_of, members_of, is_full}
-use Rattle.bt_json.specs.Bytes.{kind_of}
-use Rattle.bt_json.specs.Reading.{due, opened_list, opened_object, behind, name_due, in_list, in_object, deliver, as_value}
-use Rattle.bt_json.specs.Running.{Faults, rest_of, rest_after}
+use Rattle.bt_json.specs.inner.Bytes.{kind_of}
+use Rattle.bt_json.specs.inner.Reading.{due, opened_list, opened_object, behind, name_due, in_list, in_object, deliver, as_value}
+use Rattle.bt_json.specs.inner.Running.{Faults, rest_of, rest_after}
 use Rattle.bt_json.specs.declared.tree.Tree.TheViews as views
 use Rattle.bt_json.specs.declared.kind.Kind.TheVariants.{ListOpens, ObjectOpens, Quote, LetterT, LetterF, LetterN}
 use Rattle.bt_json.proofs.Trees.{json-List, json-Object, json-Text, json-Num, json-Bool, json-Null, full_none, full_more}
@@ -160,48 +160,48 @@ read_object-loop-values-preserved t c =
 pub read_value-returns-then-at-bytes-clause-err : goal.read_value-returns-then-at-bytes-clause-err
 read_value-returns-then-at-bytes-clause-err t c = λ k e. c.skip_blanks-at.ensures.blanks (due k) (skips_due k) ∙ due_cut c.args.bytes.now c.skip_blanks-at.result k c.if-at-bytes.true
 
-pub read_value-returns-then-depth-ge-LEVELS-clause-err : goal.read_value-returns-then-depth-ge-LEVELS-clause-err
-read_value-returns-then-depth-ge-LEVELS-clause-err t c = λ k e.
+pub read_value-returns-then-depth-ge-MOST_LEVELS-clause-err : goal.read_value-returns-then-depth-ge-MOST_LEVELS-clause-err
+read_value-returns-then-depth-ge-MOST_LEVELS-clause-err t c = λ k e.
     let bs = c.args.bytes.now in
     let at = c.skip_blanks-at.result in
     let lt : at < length bs = omega arith in
     let kd : kind_of (get_or bs at 0) ≡ ListOpens = sym c.kind_of.ensures ∙ c.in-ListOpens.is in
     c.skip_blanks-at.ensures.blanks (due k) (skips_due k) ∙ due_at bs at k ListOpens lt kd ∙ ap (rest_after bs (at + 1)) (opens_deep k at (opened_list k) (omega arith))
 
-pub read_value-returns-else-depth-ge-LEVELS-clause-ok : goal.read_value-returns-else-depth-ge-LEVELS-clause-ok
-read_value-returns-else-depth-ge-LEVELS-clause-ok t c =
+pub read_value-returns-else-depth-ge-MOST_LEVELS-clause-ok : goal.read_value-returns-else-depth-ge-MOST_LEVELS-clause-ok
+read_value-returns-else-depth-ge-MOST_LEVELS-clause-ok t c =
     let bs = c.args.bytes.now in
     let at = c.skip_blanks-at.result in
     let lt : at < length bs = omega arith in
     let kd : kind_of (get_or bs at 0) ≡ ListOpens = sym c.kind_of.ensures ∙ c.in-ListOpens.is in
     moved_if c.read_list.result (length_is c.args.depth) (length_more c.args.depth) _ _ (λ k. k) _ (λ k e. (omega arith, c.skip_blanks-at.ensures.blanks (due k) (skips_due k) ∙ due_at bs at k ListOpens lt kd ∙ ap (rest_after bs (at + 1)) (opens_inside k at (opened_list k) (omega arith)))) c.read_list.ensures.ok
 
-pub read_value-returns-else-depth-ge-LEVELS-clause-err : goal.read_value-returns-else-depth-ge-LEVELS-clause-err
-read_value-returns-else-depth-ge-LEVELS-clause-err t c =
+pub read_value-returns-else-depth-ge-MOST_LEVELS-clause-err : goal.read_value-returns-else-depth-ge-MOST_LEVELS-clause-err
+read_value-returns-else-depth-ge-MOST_LEVELS-clause-err t c =
     let bs = c.args.bytes.now in
     let at = c.skip_blanks-at.result in
     let lt : at < length bs = omega arith in
     let kd : kind_of (get_or bs at 0) ≡ ListOpens = sym c.kind_of.ensures ∙ c.in-ListOpens.is in
     moved_if_err c.read_list.result (length_is c.args.depth) (length_more c.args.depth) _ _ (λ k e. (omega arith, c.skip_blanks-at.ensures.blanks (due k) (skips_due k) ∙ due_at bs at k ListOpens lt kd ∙ ap (rest_after bs (at + 1)) (opens_inside k at (opened_list k) (omega arith)))) c.read_list.ensures.err
 
-pub read_value-returns-then-depth-ge-LEVELS-2-clause-err : goal.read_value-returns-then-depth-ge-LEVELS-2-clause-err
-read_value-returns-then-depth-ge-LEVELS-2-clause-err t c = λ k e.
+pub read_value-returns-then-depth-ge-MOST_LEVELS-2-clause-err : goal.read_value-returns-then-depth-ge-MOST_LEVELS-2-clause-err
+read_value-returns-then-depth-ge-MOST_LEVELS-2-clause-err t c = λ k e.
     let bs = c.args.bytes.now in
     let at = c.skip_blanks-at.result in
     let lt : at < length bs = omega arith in
     let kd : kind_of (get_or bs at 0) ≡ ObjectOpens = sym c.kind_of.ensures ∙ c.in-ObjectOpens.is in
     c.skip_blanks-at.ensures.blanks (due k) (skips_due k) ∙ due_at bs at k ObjectOpens lt kd ∙ ap (rest_after bs (at + 1)) (opens_deep k at (opened_object k) (omega arith))
 
-pub read_value-returns-else-depth-ge-LEVELS-2-clause-ok : goal.read_value-returns-else-depth-ge-LEVELS-2-clause-ok
-read_value-returns-else-depth-ge-LEVELS-2-clause-ok t c =
+pub read_value-returns-else-depth-ge-MOST_LEVELS-2-clause-ok : goal.read_value-returns-else-depth-ge-MOST_LEVELS-2-clause-ok
+read_value-returns-else-depth-ge-MOST_LEVELS-2-clause-ok t c =
     let bs = c.args.bytes.now in
     let at = c.skip_blanks-at.result in
     let lt : at < length bs = omega arith in
     let kd : kind_of (get_or bs at 0) ≡ ObjectOpens = sym c.kind_of.ensures ∙ c.in-ObjectOpens.is in
     moved_if c.read_object.result (length_is c.args.depth) (length_more c.args.depth) _ _ (λ k. k) _ (λ k e. (omega arith, c.skip_blanks-at.ensures.blanks (due k) (skips_due k) ∙ due_at bs at k ObjectOpens lt kd ∙ ap (rest_after bs (at + 1)) (opens_inside k at (opened_object k) (omega arith)))) c.read_object.ensures.ok
 
-pub read_value-returns-else-depth-ge-LEVELS-2-clause-err : goal.read_value-returns-else-depth-ge-LEVELS-2-clause-err
-read_value-returns-else-depth-ge-LEVELS-2-clause-err t c =
+pub read_value-returns-else-depth-ge-MOST_LEVELS-2-clause-err : goal.read_value-returns-else-depth-ge-MOST_LEVELS-2-clause-err
+read_value-returns-else-depth-ge-MOST_LEVELS-2-clause-err t c =
     let bs = c.args.bytes.now in
     let at = c.skip_blanks-at.result in
     let lt : at < length bs = omega arith in

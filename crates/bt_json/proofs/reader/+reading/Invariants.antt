@@ -1,20 +1,21 @@
 use Rattle.std.proofs.Common.{◌≡◌, true, ◌≤◌, ◌+◌, ◌-◌, ◌*◌, ◌∷◌, List, map, length}
-use Rattle.bt_json.specs.Names.{names_of}
+use Rattle.bt_json.specs.inner.Names.{names_of}
 use Rattle.std.specs.List.{list_all}
 use Rattle.bt_json.specs.Stands.{json_of, is_full}
-use Rattle.bt_json.specs.Reading.{Frame, in_list, due, opened_list, opened_object, name_due}
-use Rattle.bt_json.specs.Running.{rest_of}
+use Rattle.bt_json.specs.inner.Reading.{Frame, in_list, due, opened_list, opened_object, name_due}
+use Rattle.bt_json.specs.inner.Running.{rest_of}
 use Rattle.bt_json.proofs.reader.+reading.Given as goal
+use Rattle.bt_json.specs.declared.limits.TheConstants.{MOST_LEVELS}
 
 -- a level more is nearer to the last one, and a value is within its list or object
 abbrev pub decreases-read_value : goal.decreases-read_value
-decreases-read_value l = 3 * (64 - l.depth)
+decreases-read_value l = 3 * (MOST_LEVELS - l.depth)
 
 abbrev pub decreases-read_list : goal.decreases-read_list
-decreases-read_list l = 3 * (64 - l.depth) + 1
+decreases-read_list l = 3 * (MOST_LEVELS - l.depth) + 1
 
 abbrev pub decreases-read_object : goal.decreases-read_object
-decreases-read_object l = 3 * (64 - l.depth) + 1
+decreases-read_object l = 3 * (MOST_LEVELS - l.depth) + 1
 
 abbrev pub invariant-read_list-loop-items : goal.invariant-read_list-loop-items
 invariant-read_list-loop-items l = record {

@@ -1,8 +1,8 @@
 use Rattle.std.proofs.Common.{List, ℕ, ◌+◌, ◌-◌, ◌∷◌, sym, ap, ◌∙◌, subst}
 use Rattle.std.proofs.lemmas.Result.{err_from_is_err_and}
-use Rattle.bt_json.specs.Names.{names_of}
-use Rattle.bt_json.specs.Reading.{has_name, name_due, colon_due, as_name, due, in_object}
-use Rattle.bt_json.specs.Running.{Faults, rest_of}
+use Rattle.bt_json.specs.inner.Names.{names_of}
+use Rattle.bt_json.specs.inner.Reading.{has_name, name_due, colon_due, as_name, due, in_object}
+use Rattle.bt_json.specs.inner.Running.{Faults, rest_of}
 use Rattle.bt_json.proofs.Levels.{skips_name_due, skips_colon_due, quote_opens, name_breaks, colon_goes_on, colon_breaks, name_twice, name_new}
 use Rattle.bt_json.proofs.NameLemmas.{taken_before, taken_first}
 use Rattle.bt_json.proofs.reader.read_name.Goals as goal

@@ -1,6 +1,6 @@
 use Rattle.std.proofs.Common.{◌+◌, sym, ap, ◌∙◌}
-use Rattle.bt_json.specs.Reading.{in_number}
-use Rattle.bt_json.specs.Running.{rest_of}
+use Rattle.bt_json.specs.inner.Reading.{in_number}
+use Rattle.bt_json.specs.inner.Running.{rest_of}
 use Rattle.bt_json.specs.declared.kind.Phase.TheVariants.{AfterMinus}
 use Rattle.bt_json.proofs.Running.{begins_negative, moved, moved_err}
 use Rattle.bt_json.proofs.number.Numeral.read_negative.Goals as goal

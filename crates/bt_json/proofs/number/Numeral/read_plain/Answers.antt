@@ -1,7 +1,7 @@
 use Rattle.std.proofs.Common.{◌+◌, ◌-◌, get_or, sym, ap, ◌∙◌, arith}
-use Rattle.bt_json.specs.Reading.{in_number, first_phase, with_whole}
-use Rattle.bt_json.specs.Numerals.{view}
-use Rattle.bt_json.specs.Running.{rest_of}
+use Rattle.bt_json.specs.inner.Reading.{in_number, first_phase, with_whole}
+use Rattle.bt_json.specs.inner.Numerals.{view}
+use Rattle.bt_json.specs.inner.Running.{rest_of}
 use Rattle.bt_json.proofs.ByteKinds.{kind-Digit}
 use Rattle.bt_json.proofs.Running.{begins_plain, moved, moved_err}
 use Rattle.bt_json.proofs.number.Numeral.read_plain.Goals as goal

@@ -1,8 +1,8 @@
 use Rattle.std.proofs.Common.{arith, ◌≡◌, sym, ◌∙◌, ap, false, true}
 use Rattle.bt_json.specs.Json.{number}
-use Rattle.bt_json.specs.Numerals.{view, shown}
-use Rattle.bt_json.specs.Reading.{deliver, may_end}
-use Rattle.bt_json.specs.Running.{rest_after}
+use Rattle.bt_json.specs.inner.Numerals.{view, shown}
+use Rattle.bt_json.specs.inner.Reading.{deliver, may_end}
+use Rattle.bt_json.specs.inner.Running.{rest_after}
 use Rattle.bt_json.proofs.Running.{number_goes_on, number_ends, number_breaks, number_at_end, number_cut}
 use Rattle.bt_json.proofs.number.Numeral.rest.Goals as goal
 

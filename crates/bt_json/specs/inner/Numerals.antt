@@ -1,5 +1,5 @@
 -- What a number as far as it is written shows of the reader's own.
-use Rattle.bt_json.specs.Reading.{Numeral, InNumber, goes_on, ends, wrong}
+use Rattle.bt_json.specs.inner.Reading.{Numeral, InNumber, goes_on, ends, wrong}
 use Rattle.bt_json.specs.declared.number.Numeral.{Numeral as Held}
 use Rattle.bt_json.specs.declared.number.Next.{Next}
 use Rattle.bt_json.specs.declared.number.Next.TheVariants.{GoesOn, Ends, Wrong}

@@ -1,21 +1,23 @@
 -- What is read of an entity before its cell is.
-use Rattle.std.specs.Prelude.{◌≡◌, ◌<◌, ℕ, ℤ, List, Option, Some, MatchOption, length, slice_get, codes, ◌⊎◌}
+use Rattle.std.specs.Prelude.{◌≡◌, ◌<◌, ℕ, ℤ, List, Option, Some, None, Result, Ok, Err, MatchOption, codes}
 use Rattle.bt_json.specs.Json.{Json, Number}
 use Rattle.bt_parts.specs.declared.part.Cell.{Cell}
 use Rattle.bt_parts.specs.declared.part.Part.{Part}
+use Rattle.bt_parts.specs.declared.part.Tier.{Tier}
 use Rattle.bt_entities.specs.declared.fault.EntityFault.{EntityFault}
-use Rattle.bt_entities.specs.declared.fault.EntityFault.TheVariants.{Memory}
+use Rattle.bt_entities.specs.declared.name.Family.{Family}
 use Rattle.bt_entities.specs.declared.name.Family.TheVariants.{Splitters}
 use Rattle.bt_entities.specs.declared.blueprint.Frame.{Frame}
 use Rattle.bt_entities.specs.declared.piece.Piece.{Piece}
 use Rattle.bt_entities.specs.declared.piece.Priority.{Priority}
 use Rattle.bt_entities.specs.declared.piece.Priority.TheVariants.{Even, Sided}
 use Rattle.bt_entities.specs.declared.shift.Shift.{Shift}
-use Rattle.bt_entities.specs.Members.{Lacks}
-use Rattle.bt_entities.specs.Blueprints.{HasEntity}
+use Rattle.bt_entities.specs.Members.{HasText}
+use Rattle.bt_entities.specs.Names.{name_of}
+use Rattle.bt_entities.specs.Blueprints.{AreParts}
 use Rattle.bt_entities.specs.Entities.{HasFamily, HasKind, HasTier, HasDirection, HasPosition, IsHalves, IsEven, IsSided, SetsShift, IsEntity}
 use Rattle.bt_entities.specs.Places.{width_of, height_of, IsMiddle}
-use Rattle.bt_entities.specs.Refusals.{IsFault, IsLowest}
+use Rattle.bt_entities.specs.Refusals.{IsLowest, IsFirstOf}
 
 -- the number's halves, where it has some
 abbrev pub AreHalves : Number → Option ℤ → Type 0
@@ -55,30 +57,31 @@ pub record HasShift (piece : Piece) (shift : Shift) : Type 0 where
   pub cell : Cell
   pub on : IsOn piece shift cell
 
--- the entity has nothing that no layout has
-pub record IsPlain (v : Json) : Type 0 where
-  pub even_input : HasFamily v Splitters → IsEven v (codes "input_priority")
-  pub even_output : HasFamily v Splitters → IsEven v (codes "output_priority")
-  pub no_condition : Lacks v (codes "control_behavior")
-  pub no_filter : Lacks v (codes "filter")
-
 -- entity 0 has this shift and this tier
 abbrev pub IsFrame : ℕ → Json → Frame → Type 0
 IsFrame major first frame = SetsShift major first frame.shift × HasTier first frame.tier
 
--- memory ran out, or the fault is the entity's lowest
-abbrev pub IsTold : ℕ → Json → ℕ → Json → EntityFault → Type 0
-IsTold major first i v fault = (fault ≡ Memory) ⊎ IsLowest major first i v fault
+-- the frame is that of entity 0, and is missing at entity 0 alone
+abbrev pub HasFrame : ℕ → Json → Json → Option Frame → Type 0
+HasFrame major first v None = v ≡ first
+HasFrame major first v (Some frame) = IsFrame major first frame
 
--- the parts are those of the entities, in their order
-pub record AreParts (major : ℕ) (first : Json) (entities : List Json) (parts : List Part) : Type 0 where
-  pub same_length : length parts ≡ length entities
-  pub each : (v : Json) (part : Part) (i : ℕ) → HasEntity entities i v → slice_get parts i ≡ Some part → IsEntity major first v part
+-- the family and the tier of the entity's name, or its lowest fault, whatever the rest of the blueprint is
+abbrev pub IsNameRead : ℕ → Json → Result (Family × Tier) EntityFault → Type 0
+IsNameRead i v (Ok named) = HasText v (codes "name") (name_of named.0 named.1)
+IsNameRead i v (Err fault) = (major : ℕ) (first : Json) → IsLowest major first i v fault
 
--- the fault is the lowest of the first entity that has one
-pub record IsFirstOf (major : ℕ) (first : Json) (entities : List Json) (fault : EntityFault) : Type 0 where
-  pub index : ℕ
-  pub v : Json
-  pub is_v : HasEntity entities index v
-  pub lowest : IsLowest major first index v fault
-  pub none_before : (i : ℕ) (w : Json) (other : EntityFault) → i < index → HasEntity entities i w → ¬ IsFault major first i w other
+-- the entity is this piece, or has this lowest fault, whatever entity 0 is
+abbrev pub IsPieceRead : ℕ → ℕ → Json → Result Piece EntityFault → Type 0
+IsPieceRead major i v (Ok piece) = IsPiece major v piece
+IsPieceRead major i v (Err fault) = (first : Json) → IsLowest major first i v fault
+
+-- the entity stands for this part, where entity 0 sets this frame, or has this lowest fault
+abbrev pub IsEntityRead : ℕ → Json → ℕ → Json → Result (Frame × Part) EntityFault → Type 0
+IsEntityRead major first i v (Ok read) = IsFrame major first read.0 × IsEntity major first v read.1
+IsEntityRead major first i v (Err fault) = IsLowest major first i v fault
+
+-- the entities stand for these parts, or have this first fault
+abbrev pub AreRead : ℕ → List Json → Result (List Part) EntityFault → Type 0
+AreRead major entities (Ok parts) = AreParts major entities parts
+AreRead major entities (Err fault) = IsFirstOf major entities fault

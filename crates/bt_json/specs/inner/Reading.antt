@@ -6,16 +6,17 @@ use Rattle.std.specs.Char.{encode_utf8, is_digit, digit_value}
 use Rattle.std.specs.Char.Utf16.{is_high_surrogate, is_low_surrogate, surrogate_pair_char}
 use Rattle.bt_json.specs.Json.{Number, Json, null, boolean, number, text, list, object}
 use Rattle.bt_json.specs.Stands.{items_of, members_of}
-use Rattle.bt_json.specs.Grammar.{short_escape, alone, limit}
+use Rattle.bt_json.specs.Grammar.{short_escape, alone}
 use Rattle.bt_json.specs.Value.{signed}
 pub use Rattle.bt_json.specs.Places.{Frame, in_list, in_object}
-use Rattle.bt_json.specs.Bytes.{kind_of, mark_of}
+use Rattle.bt_json.specs.inner.Bytes.{kind_of, mark_of}
 use Rattle.bt_json.specs.declared.kind.Kind.{Kind}
 use Rattle.bt_json.specs.declared.kind.Kind.TheVariants.{Blank, ListOpens, ListCloses, ObjectOpens, ObjectCloses, Comma, Colon, Quote, Minus, Digit, LetterT, LetterF, LetterN}
 use Rattle.bt_json.specs.declared.kind.Mark.{Mark}
 use Rattle.bt_json.specs.declared.kind.Mark.TheVariants.{Figure, Point, LetterE, PlusSign, MinusSign, Over}
 use Rattle.bt_json.specs.declared.kind.Phase.{Phase}
 use Rattle.bt_json.specs.declared.kind.Phase.TheVariants.{AfterMinus, AfterZero, InWhole, AfterPoint, InFraction, AfterLetter, AfterSign, InPower}
+use Rattle.bt_json.specs.declared.limits.TheConstants.{MOST_LEVELS, MOST_EXPONENT}
 
 -- ---- numbers
 
@@ -41,7 +42,7 @@ with_fraction n d = record n { digits = n.digits ++ d ∷ []; places = n.places 
 
 -- one more digit of the exponent, which stays at its limit
 abbrev pub with_power : Numeral → ℕ → Numeral
-with_power n d = record n { power = min (n.power * 10 + d) limit }
+with_power n d = record n { power = min (n.power * 10 + d) MOST_EXPONENT }
 
 -- the number goes on; it ends before this byte; or this byte can't stand there
 pub data InNumber : Type 0 where
@@ -221,7 +222,7 @@ deliver v (f ∷ frames) at = go (behind v f frames)
 
 -- a level more, unless there are as many as may be
 abbrev pub opens_level : Bool → List Frame → ℕ → State → Step
-opens_level strict frames at inside = if strict && (length frames == 64) then stop (deep at) else go inside
+opens_level strict frames at inside = if strict && (length frames == MOST_LEVELS) then stop (deep at) else go inside
 
 -- the name is among these
 abbrev pub has_name : List (List ℕ) → List ℕ → Bool

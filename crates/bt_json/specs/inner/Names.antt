@@ -5,8 +5,8 @@ use Rattle.std.specs.Prelude.{String}
 use Rattle.indexmap.specs.IndexSet.{IndexSet}
 use Rattle.std.specs.declared.hash.FoldHasher.{FoldHasher}
 use Rattle.std.specs.declared.hash.BuildHasherDefault.{BuildHasherDefault}
-use Rattle.bt_json.specs.Reading.{Role, Frame, has_name, in_text, between, finish_text}
-use Rattle.bt_json.specs.Running.{rest_of, rest_after}
+use Rattle.bt_json.specs.inner.Reading.{Role, Frame, has_name, in_text, between, finish_text}
+use Rattle.bt_json.specs.inner.Running.{rest_of, rest_after}
 use Rattle.bt_json.specs.declared.names.NamesSoFar.{NamesSoFar}
 use Rattle.bt_json.specs.declared.names.NamesSoFar.TheVariants.{Front, Own}
 
