@@ -1,5 +1,5 @@
 -- Lists of the parts of a kind, and their order by cells.
-use Rattle.std.proofs.Common.{◌≡◌, ◌≢◌, ◌⊎◌, ◌↔◌, ℕ, zero, suc, ◌+◌, ◌<◌, ℤ, pos, negsuc, ◌<ℤ◌, cond, List, [], ◌∷◌, ◌++◌, length, get_or, map, Option, Some, None, Result, Ok, Err, Bool, true, false, not, IsTrue, eqb, Ordering, refl, sym, ◌∙◌, ap, subst, inl, inr, ⊎_elim, arith}
+use Rattle.std.proofs.Common.{◌≡◌, ◌≢◌, ◌⊎◌, ◌↔◌, ℕ, zero, suc, ◌+◌, ◌<◌, ℤ, pos, negsuc, ◌<ℤ◌, cond, List, [], ◌∷◌, ◌++◌, length, get_or, map, Option, Some, None, Bool, true, false, not, IsTrue, eqb, Ordering, refl, sym, ◌∙◌, ap, subst, inl, inr, ⊎_elim, arith}
 use Rattle.std.specs.List.{All, AllPairs, Contains, IsDistinct}
 use Rattle.std.specs.List.Sorted.{IsPermutation, IsSortedBy}
 use Rattle.std.specs.Option.{MatchOption, is_some}
