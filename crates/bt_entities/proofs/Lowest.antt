@@ -7,12 +7,13 @@ use Rattle.bt_parts.specs.declared.part.Tier.{Tier}
 use Rattle.bt_entities.specs.declared.fault.EntityFault.{EntityFault}
 use Rattle.bt_entities.specs.declared.fault.EntityFault.TheVariants.{Unsupported, BadMember, OffGrid, MixedTier, Special}
 use Rattle.bt_entities.specs.declared.fault.Member.{Member}
-use Rattle.bt_entities.specs.declared.fault.Member.TheVariants.{Entity, Name, Position, Direction, PieceType, InputPriority, OutputPriority}
+use Rattle.bt_entities.specs.declared.fault.Member.TheVariants.{Entity, Name, Position, Direction, PieceType}
 use Rattle.bt_entities.specs.declared.name.Family.{Family}
 use Rattle.bt_entities.specs.Members.{HasText}
 use Rattle.bt_entities.specs.Names.{name_of}
 use Rattle.bt_entities.specs.Entities.{HasDirection, HasPosition}
 use Rattle.bt_entities.specs.Refusals.{IsFault, IsLowest, IsUnsupported, IsWrong, IsSpecial, IsFirst, IsBadMember, IsOffGrid, IsMixed, IsFirstSpecial, tested_members, special_members, number_of_fault}
+use Rattle.bt_entities.specs.inner.Pieces.{IsWrongPriority}
 use Rattle.bt_entities.proofs.Unique.{object_of, same_text}
 
 pub none_first : (P : Member → Type 0) (ms : List Member) (member : Member) → ((m : Member) → ¬ P m) → IsFirst P ms member → ⊥
@@ -125,8 +126,5 @@ begun major v name x y dir at p d = record {
 pub bad_type : (major : ℕ) (v : Json) → IsBegun major v → IsWrong major v PieceType → IsBadMember major v PieceType
 bad_type major v b wrong = inr (b.entity, inr (b.name, inr (b.position, inr (b.direction, inl (wrong, refl)))))
 
-pub bad_input : (major : ℕ) (v : Json) → IsBegun major v → ¬ IsWrong major v PieceType → IsWrong major v InputPriority → IsBadMember major v InputPriority
-bad_input major v b t wrong = inr (b.entity, inr (b.name, inr (b.position, inr (b.direction, inr (t, inl (wrong, refl))))))
-
-pub bad_output : (major : ℕ) (v : Json) → IsBegun major v → ¬ IsWrong major v PieceType → ¬ IsWrong major v InputPriority → IsWrong major v OutputPriority → IsBadMember major v OutputPriority
-bad_output major v b t input wrong = inr (b.entity, inr (b.name, inr (b.position, inr (b.direction, inr (t, inr (input, inl (wrong, refl)))))))
+pub bad_priority : (major : ℕ) (v : Json) (member : Member) → IsBegun major v → ¬ IsWrong major v PieceType → IsWrongPriority v member → IsBadMember major v member
+bad_priority major v member b t wrong = inr (b.entity, inr (b.name, inr (b.position, inr (b.direction, inr (t, wrong major)))))

@@ -21,13 +21,15 @@ use bt_json::Tree;
 use bt_parts::{Part, Tier};
 use std::alloc::Global;
 
-/// The most entities of a blueprint.
+/// The most entities of a blueprint that is read.
 pub const MOST_ENTITIES: usize = 4096;
 
 /// What entity 0 sets for all entities.
 #[derive(Clone, Copy)]
 pub struct Frame {
+    /// The shift of the grid of cells.
     pub shift: Shift,
+    /// The one tier.
     pub tier: Tier,
 }
 
@@ -126,8 +128,11 @@ fn frame_by(set: Option<Frame>, place: usize, piece: &Piece) -> Result<Frame, En
 
 /// The part of the entity with this index, which was read as this piece.
 fn part_of(frame: &Frame, place: usize, entity: &Tree, piece: &Piece) -> Result<Part, EntityFault>
-    ensures { (major : ℕ) (first : Json) → IsPiece major (json_of entity.now) piece.now → IsFrame major first frame.now
-        → MatchResult result (IsEntity major first (json_of entity.now)) (IsLowest major first place (json_of entity.now)) }
+    ensures { (major : ℕ) (first : Json) → IsPiece major (json_of entity.now) piece.now
+        → IsFrame major first frame.now
+        → MatchResult result
+        (IsEntity major first (json_of entity.now))
+        (IsLowest major first place (json_of entity.now)) }
 {
     let Some(cell) = piece.cell(frame.shift) else {
         return Err(EntityFault::OffGrid(place));

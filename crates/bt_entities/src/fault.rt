@@ -1,3 +1,5 @@
+//! Why a JSON value is no blueprint of parts: the numbers 20 to 27, of which the lowest is told.
+
 ghost use Rattle.std.specs.Prelude.{◌≡◌};
 ghost use Rattle.bt_entities.specs.declared.fault.EntityFault.TheVariants.{Memory};
 
@@ -77,7 +79,7 @@ pub enum EntityFault {
     NotBlueprint,
     /// The root has a `blueprint_book` and no `blueprint`.
     Book,
-    /// There are more entities than [`MOST_ENTITIES`](crate::MOST_ENTITIES).
+    /// There are more entities than `MOST_ENTITIES`.
     TooMany,
     /// The entity's name, given here, is of no part.
     Unsupported(usize, EntityName),
@@ -86,8 +88,8 @@ pub enum EntityFault {
     /// underground piece's `type` isn't `input` or `output`, or a splitter has a priority that isn't
     /// `none`, `left` or `right`.
     BadMember(usize, Member),
-    /// A coordinate isn't a multiple of a half of magnitude at most 524288, or the entity isn't on the
-    /// grid of entity 0.
+    /// A coordinate isn't a multiple of a half, or is more than `bt_json::MOST_HALVES` of them, or the
+    /// entity isn't on the grid of entity 0.
     OffGrid(usize),
     /// The entity's tier isn't that of entity 0.
     MixedTier(usize),

@@ -14,7 +14,8 @@ ghost use Rattle.bt_entities.specs.declared.fault.EntityFault.TheVariants.{Memor
 ghost use Rattle.bt_entities.specs.Entities.{HasFamily, HasKind, HasDirection, HasPosition, direction_value};
 ghost use Rattle.bt_entities.specs.Entities.{IsEven, IsSided};
 ghost use Rattle.bt_entities.specs.Refusals.{IsBadMember};
-ghost use Rattle.bt_entities.specs.inner.Pieces.{AreHalves, IsPriority, IsPiece, IsOn, IsNameRead, IsPieceRead};
+ghost use Rattle.bt_entities.specs.inner.Pieces.{AreHalves, IsPriority, ArePriorities, IsWrongPriority};
+ghost use Rattle.bt_entities.specs.inner.Pieces.{IsPiece, IsOn, IsNameRead, IsPieceRead};
 
 use crate::fault::{EntityFault, EntityName, Member};
 use crate::member::{
@@ -31,24 +32,33 @@ use std::alloc::Global;
 pub enum Priority {
     /// None of them.
     Even,
+    /// One of them.
     Sided,
 }
 
 /// An entity as its members tell it.
 #[derive(Clone, Copy)]
 pub struct Piece {
+    /// What its part is.
     pub kind: Kind,
+    /// Its part's speed class.
     pub tier: Tier,
+    /// The direction in which its part moves items.
     pub dir: Dir,
     /// Twice the centre's x, where that is a whole number in range.
     pub x: Option<i32>,
+    /// Twice the centre's y, where that is a whole number in range.
     pub y: Option<i32>,
+    /// Which side a splitter takes from first.
     pub input: Priority,
+    /// Which side a splitter gives to first.
     pub output: Priority,
 }
 
+/// The coordinates of the centre, in tiles.
 fn position(entity: &Tree) -> Option<(&Decimal, &Decimal)>
-    ensures { MatchOption result ((x y : Number) → ¬ HasPosition (json_of entity.now) x y)
+    ensures { MatchOption result
+        ((x y : Number) → ¬ HasPosition (json_of entity.now) x y)
         (λ p. HasPosition (json_of entity.now) (number_of p.0.now) (number_of p.1.now)) }
 {
     let position = member(entity, "position")?;
@@ -57,6 +67,7 @@ fn position(entity: &Tree) -> Option<(&Decimal, &Decimal)>
     Some((x, y))
 }
 
+/// Twice the number, where that is a whole number in range: no other is rounded to one.
 fn halves(number: &Decimal) -> Option<i32>
     ensures { AreHalves (number_of number.now) result }
 {
@@ -65,7 +76,9 @@ fn halves(number: &Decimal) -> Option<i32>
 
 /// The direction with this value, in eighths of a turn below major version 2, else in sixteenths.
 fn direction_of(major: u64, value: u64) -> Option<Dir>
-    ensures { MatchOption result ((dir : Dir) → value ≢ direction_value major dir) (λ dir. value ≡ direction_value major dir) }
+    ensures { MatchOption result
+        ((dir : Dir) → value ≢ direction_value major dir)
+        (λ dir. value ≡ direction_value major dir) }
 {
     if major < 2 {
         match value {
@@ -86,8 +99,11 @@ fn direction_of(major: u64, value: u64) -> Option<Dir>
     }
 }
 
+/// The direction of an entity: north, where it names none.
 fn direction(major: u64, entity: &Tree) -> Option<Dir>
-    ensures { MatchOption result ((dir : Dir) → ¬ HasDirection major (json_of entity.now) dir) (HasDirection major (json_of entity.now)) }
+    ensures { MatchOption result
+        ((dir : Dir) → ¬ HasDirection major (json_of entity.now) dir)
+        (HasDirection major (json_of entity.now)) }
 {
     let Some(direction) = member(entity, "direction") else {
         return Some(Dir::North);
@@ -119,9 +135,11 @@ fn kind_of(family: Family, entity: &Tree) -> Option<Kind>
     }
 }
 
+/// The priority of that name of a splitter.
 fn side_of(entity: &Tree, name: &str) -> Option<Priority>
     requires { HasFamily (json_of entity.now) Splitters }
-    ensures { MatchOption result ((¬ IsEven (json_of entity.now) name.now) × (¬ IsSided (json_of entity.now) name.now))
+    ensures { MatchOption result
+        ((¬ IsEven (json_of entity.now) name.now) × (¬ IsSided (json_of entity.now) name.now))
         (IsPriority (json_of entity.now) name.now) }
 {
     let Some(side) = member(entity, name) else {
@@ -138,7 +156,9 @@ fn side_of(entity: &Tree, name: &str) -> Option<Priority>
 fn priority_of(family: Family, entity: &Tree, name: &str) -> Option<Priority>
     requires { HasFamily (json_of entity.now) family }
     ensures { MatchOption result
-        (HasFamily (json_of entity.now) Splitters × (¬ IsEven (json_of entity.now) name.now) × (¬ IsSided (json_of entity.now) name.now))
+        (HasFamily (json_of entity.now) Splitters
+        × (¬ IsEven (json_of entity.now) name.now)
+        × (¬ IsSided (json_of entity.now) name.now))
         (IsPriority (json_of entity.now) name.now) }
 {
     match family {
@@ -147,10 +167,28 @@ fn priority_of(family: Family, entity: &Tree, name: &str) -> Option<Priority>
     }
 }
 
+/// The priorities of an entity of this family, or the first wrong one.
+fn priorities(family: Family, entity: &Tree) -> Result<(Priority, Priority), Member>
+    requires { HasFamily (json_of entity.now) family }
+    ensures { MatchResult result
+        (λ told. ArePriorities (json_of entity.now) told.0 told.1)
+        (IsWrongPriority (json_of entity.now)) }
+{
+    let Some(input) = priority_of(family, entity, "input_priority") else {
+        return Err(Member::InputPriority);
+    };
+    let Some(output) = priority_of(family, entity, "output_priority") else {
+        return Err(Member::OutputPriority);
+    };
+    Ok((input, output))
+}
+
 /// The entity of this family and tier, or its first wrong member.
 fn with_members(major: u64, family: Family, tier: Tier, entity: &Tree) -> Result<Piece, Member>
     requires { HasText (json_of entity.now) (codes "name") (name_of family tier) }
-    ensures { MatchResult result (IsPiece major (json_of entity.now)) (IsBadMember major (json_of entity.now)) }
+    ensures { MatchResult result
+        (IsPiece major (json_of entity.now))
+        (IsBadMember major (json_of entity.now)) }
 {
     let Some((x, y)) = position(entity) else {
         return Err(Member::Position);
@@ -161,12 +199,7 @@ fn with_members(major: u64, family: Family, tier: Tier, entity: &Tree) -> Result
     let Some(kind) = kind_of(family, entity) else {
         return Err(Member::PieceType);
     };
-    let Some(input) = priority_of(family, entity, "input_priority") else {
-        return Err(Member::InputPriority);
-    };
-    let Some(output) = priority_of(family, entity, "output_priority") else {
-        return Err(Member::OutputPriority);
-    };
+    let (input, output) = priorities(family, entity)?;
     Ok(Piece {
         kind,
         tier,
@@ -233,7 +266,9 @@ impl Piece {
 
     /// The shift of the grid that it stands on.
     pub fn shift(&self) -> Option<Shift>
-        ensures { MatchOption result ((shift : Shift) (cell : Cell) → ¬ IsOn self.now shift cell) (HasShift self.now) }
+        ensures { MatchOption result
+            ((shift : Shift) (cell : Cell) → ¬ IsOn self.now shift cell)
+            (HasShift self.now) }
     {
         let twice_x = self.x?;
         let twice_y = self.y?;

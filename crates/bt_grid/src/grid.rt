@@ -1,3 +1,8 @@
+//! Parts on their cells: a list of which no two share a cell, and an ordered map to look a cell up.
+//!
+//! The map takes its place in memory once, so that the pairs, and later the feeders, of n parts are found
+//! in O(n log n) steps in place of n times n.
+
 ghost use Rattle.std.specs.Prelude.{◌≡◌, ◌↔◌, ℕ, ◌<◌, length, MatchOption, OnOk};
 ghost use Rattle.bt_answers.specs.Answers.{Answers};
 ghost use Rattle.bt_parts.specs.Cells.{IsInRange};
@@ -95,10 +100,12 @@ impl Model for Grid {
 }
 
 impl Grid {
-    /// Places the parts. A part's index is its place in the list.
+    /// Places the parts. A part's index is its place in the list. It takes O(n log n) steps for n parts.
     ///
-    /// It refuses the first overlap: the least index that shares a cell with an earlier part, and the
-    /// least such earlier one. It takes O(n log n) steps for n parts.
+    /// # Errors
+    ///
+    /// The first overlap: the least index that shares a cell with an earlier part, and the least such
+    /// earlier one.
     #[tactic(auto, using(crate::proofs::OneAnswer::placed_answers))]
     pub fn place(alloc: Global, parts: Vec<Part>) -> Result<Grid, GridFault>
         requires { AreInRange parts.items }

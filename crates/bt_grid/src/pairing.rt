@@ -1,3 +1,5 @@
+//! The pairs of a grid's underground pieces, or the first piece that is in none.
+
 ghost use Rattle.std.specs.Prelude.{◌≡◌, ◌↔◌, IsTrue};
 ghost use Rattle.bt_answers.specs.Answers.{Answers};
 ghost use Rattle.bt_parts.specs.Layouts.{IsUnderground};
@@ -10,7 +12,7 @@ use bt_parts::{Part, is_underground, other_end};
 use std::alloc::{AllocError, Global};
 
 /// Why the underground pieces can't all be paired. The number is a place in the list of parts.
-#[derive(Clone, Copy, Debug, PartialEq, Eq)]
+#[derive(Clone, Copy, PartialEq, Eq)]
 pub enum PairFault {
     /// The underground piece with this index is in no pair, and each one before it is in one.
     Unpaired(usize),
@@ -37,11 +39,13 @@ fn is_alone(part: &Part, partner: Option<usize>) -> bool
     partner.is_none() && is_underground(part)
 }
 
-/// Finds the other end of each underground piece's pair (Factorio Wiki, underground belts).
+/// Finds the other end of each underground piece's pair, as `bt_parts::other_end` says what one is.
 ///
-/// An entrance and an exit of one tier and direction are a pair where the exit lies ahead within
-/// reach and no piece of that tier and axis lies between. It refuses the first underground piece
-/// that is in no pair. It takes O(n log n) steps for n parts.
+/// It takes O(n log n) steps for n parts.
+///
+/// # Errors
+///
+/// The first underground piece that is in no pair.
 #[tactic(auto, using(crate::proofs::OneAnswer::paired_answers))]
 pub fn pairs(alloc: Global, grid: &Grid) -> Result<Pairs, PairFault>
     ensures { Answers Memory (ArePairedAs grid.now) result }

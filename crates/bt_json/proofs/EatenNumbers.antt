@@ -15,7 +15,7 @@ use Rattle.bt_json.specs.declared.kind.Kind.TheVariants.{Minus, Digit}
 use Rattle.bt_json.specs.declared.kind.Mark.{Mark}
 use Rattle.bt_json.specs.declared.kind.Mark.TheVariants.{Figure, Point, LetterE, PlusSign, MinusSign, Over}
 use Rattle.bt_json.specs.declared.kind.Phase.{Phase}
-use Rattle.bt_json.specs.declared.kind.Phase.TheVariants.{AfterMinus, AfterZero, InWhole, AfterPoint, InFraction, AfterLetter, AfterSign, InPower}
+use Rattle.bt_json.specs.declared.kind.Phase.TheVariants.{BeforeWhole, AfterZero, InWhole, AfterPoint, InFraction, AfterLetter, AfterSign, InPower}
 use Rattle.bt_json.proofs.Eating.{after, settle_number, walk, Eats, eats_byte, eats_then, eats_none, eats_same, eats_next, Anything}
 use Rattle.bt_json.specs.declared.limits.TheConstants.{MOST_EXPONENT}
 
@@ -134,12 +134,12 @@ eats_whole : (strict negative : Bool) (k : List Frame) (d : ℕ) (ds sign t : Li
 unfolding step
 eats_whole strict true k d ds sign t s w =
     let q = whole_digits d ds t w in
-    let whole : Eats strict (in_number AfterMinus (numeral true []) k) ((d + 48) ∷ map (λ x. x + 48) ds) (λ x. go (in_number (first_phase d) (numeral true (d ∷ ds)) k)) Anything =
-    eats_then strict (in_number AfterMinus (numeral true []) k) (in_number (first_phase d) (numeral true (d ∷ [])) k) ((d + 48) ∷ []) (map (λ x. x + 48) ds) _ Anything
-    (eats_mark strict AfterMinus (first_phase d) (numeral true []) (numeral true (d ∷ [])) k (d + 48) (Figure d) (mark-digit d q.0) refl) (eats_rest strict true k d ds t w) in
-    let minus : Eats strict (due k) (45 ∷ []) (λ x. go (in_number AfterMinus (numeral true []) k)) Anything =
-    eats_byte strict (due k) 45 (λ x. go (in_number AfterMinus (numeral true []) k)) (λ at. ap (step_due strict at k 45) kind-minus) in
-    let both = eats_then strict (due k) (in_number AfterMinus (numeral true []) k) (45 ∷ []) ((d + 48) ∷ map (λ x. x + 48) ds) (λ x. go (in_number (first_phase d) (numeral true (d ∷ ds)) k)) Anything minus whole in
+    let whole : Eats strict (in_number BeforeWhole (numeral true []) k) ((d + 48) ∷ map (λ x. x + 48) ds) (λ x. go (in_number (first_phase d) (numeral true (d ∷ ds)) k)) Anything =
+    eats_then strict (in_number BeforeWhole (numeral true []) k) (in_number (first_phase d) (numeral true (d ∷ [])) k) ((d + 48) ∷ []) (map (λ x. x + 48) ds) _ Anything
+    (eats_mark strict BeforeWhole (first_phase d) (numeral true []) (numeral true (d ∷ [])) k (d + 48) (Figure d) (mark-digit d q.0) refl) (eats_rest strict true k d ds t w) in
+    let minus : Eats strict (due k) (45 ∷ []) (λ x. go (in_number BeforeWhole (numeral true []) k)) Anything =
+    eats_byte strict (due k) 45 (λ x. go (in_number BeforeWhole (numeral true []) k)) (λ at. ap (step_due strict at k 45) kind-minus) in
+    let both = eats_then strict (due k) (in_number BeforeWhole (numeral true []) k) (45 ∷ []) ((d + 48) ∷ map (λ x. x + 48) ds) (λ x. go (in_number (first_phase d) (numeral true (d ∷ ds)) k)) Anything minus whole in
     eats_same strict (due k) _ (sign ++ t) _ Anything (sym (ap₂ (λ (x y : List ℕ). x ++ y) s q.1)) both
 eats_whole strict false k d ds sign t s w =
     let q = whole_digits d ds t w in

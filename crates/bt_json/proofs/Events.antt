@@ -255,9 +255,7 @@ found_there bytes (twice from n) f place e s = subst (λ g. FoundAt bytes g plac
 
 one_place : (e : Stop) (f g : JsonFault) (a b : ℕ) → StopsBy e f a → StopsBy e g b → a ≡ b
 one_place (found v n) f g a b p q = absurd p
-one_place (bad n) f g a b p q = p.1 ∙ sym q.1
-one_place (deep n) f g a b p q = p.1 ∙ sym q.1
-one_place (twice from n) f g a b p q = p.1 ∙ sym q.1
+one_place s f g a b p q = p.1 ∙ sym q.1
 
 pub stops_first : (bytes : List ℕ) (f : JsonFault) (place : ℕ) → StopsBy (reading bytes) f place → IsFirst bytes f
 stops_first bytes f place s = record {

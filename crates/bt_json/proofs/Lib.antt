@@ -3,6 +3,7 @@ pub mod Digits
 pub mod Halves
 pub mod Scaled
 pub mod ByteKinds
+pub mod Blanks
 pub mod Characters
 pub mod Running
 pub mod Texts
@@ -23,3 +24,4 @@ pub mod Dues
 pub mod Events
 pub mod OneRead
 pub mod NameLemmas
+pub mod FrameSteps

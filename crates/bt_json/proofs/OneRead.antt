@@ -5,6 +5,7 @@ use Rattle.bt_answers.specs.Answers.{seen, UnlessMemory, Answers, HasOneAnswer}
 use Rattle.bt_answers.proofs.OneAnswer.{answers_of}
 use Rattle.bt_json.specs.Json.{Json}
 use Rattle.bt_json.specs.Stands.{json_of, value_and_place}
+use Rattle.bt_json.specs.inner.Nested.{ReadsValue}
 use Rattle.bt_json.specs.declared.tree.Tree.{Tree}
 use Rattle.bt_json.specs.Answers.{IsRead, IsFirst}
 use Rattle.bt_json.specs.inner.Reading.{Frame, due, deliver, Stop, found, bad, deep, twice, reading}
@@ -26,9 +27,7 @@ end_is_right bytes (twice from n) e = stops_first bytes (faults.DuplicateKey fro
 
 as_told : (e : Stop) (f : JsonFault) (place : ℕ) → StopsBy e f place → ends_as e ≡ Err f
 as_told (found v n) f place s = absurd s
-as_told (bad n) f place s = ap Err (sym s.0)
-as_told (deep n) f place s = ap Err (sym s.0)
-as_told (twice from n) f place s = ap Err (sym s.0)
+as_told state f place s = ap Err (sym s.0)
 
 -- a right answer is how reading ends
 right_is_end : (bytes : List ℕ) (answer : Result (Json × ℕ) JsonFault) → IsRead bytes answer → ends_as (reading bytes) ≡ answer
@@ -57,7 +56,6 @@ fault_told (faults.DuplicateKey at) e h = inl (sym (ap ends_as h.1))
 fault_told faults.Memory e h = inr refl
 
 -- what the reader of values gives at the front is how reading ends
-pub front_told : (bytes : List ℕ) (r : Result (Tree × ℕ) JsonFault) → IfOk r (λ x. (k : List Frame) → length k ≡ 0 → rest_of bytes 0 (due k) ≡ rest_after bytes x.1 (deliver (json_of x.0) k x.1))
-    → IfErr r (λ f. (k : List Frame) → length k ≡ 0 → Faults f (rest_of bytes 0 (due k))) → UnlessMemory faults.Memory (λ t. t ≡ ends_as (reading bytes)) (seen value_and_place r)
-front_told bytes (Ok x) ok err = sym (ap ends_as (ok [] refl))
-front_told bytes (Err f) ok err = fault_told f (reading bytes) (err [] refl)
+pub front_told : (bytes : List ℕ) (r : Result (Tree × ℕ) JsonFault) → ReadsValue bytes 0 0 r → UnlessMemory faults.Memory (λ t. t ≡ ends_as (reading bytes)) (seen value_and_place r)
+front_told bytes (Ok x) h = sym (ap ends_as (h.1 (record { frames = []; count = refl })))
+front_told bytes (Err f) h = fault_told f (reading bytes) (h (record { frames = []; count = refl }))

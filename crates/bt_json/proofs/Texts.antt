@@ -15,9 +15,6 @@ use Rattle.bt_json.specs.inner.Reading.{bad, Stop, step, Place, hex, tail, betwe
 use Rattle.bt_json.specs.inner.Running.{rest_of, rest_after, Around, within, step_within, with_plain, after_plain, is_plain}
 use Rattle.bt_json.proofs.Running.{rest_more, rest_end}
 
-pub digit_small : (b : ℕ) → is_digit b 16 ≡ true → digit_value b < 16
-digit_small b e = ltb-true _ _ e
-
 pub hex_grows : (u d i : ℕ) → i < 4 → u < 16 ^ i → d < 16 → (u * 16 + d < 16 ^ (i + 1)) × (u * 16 + d < 65536)
 hex_grows u d i lt small below =
     let e : 16 ^ (i + 1) ≡ 16 ^ i * 16 = pow-add 16 i 1 in

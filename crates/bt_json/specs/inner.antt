@@ -3,6 +3,11 @@ pub mod Bytes
 pub mod Reading
 pub mod Running
 pub mod Numerals
+pub mod Halves
+pub mod Words
 pub mod Tails
 pub mod Unescaping
 pub mod Names
+pub mod Frames
+pub mod Ahead
+pub mod Nested

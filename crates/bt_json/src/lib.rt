@@ -6,6 +6,7 @@ mod fault;
 mod kind;
 mod limits;
 mod names;
+mod nested;
 mod number;
 mod reader;
 mod scan;

@@ -1,4 +1,5 @@
-//! Cells, directions and the parts of a belt layout, after the Factorio Wiki.
+//! Cells, directions and the parts of a belt layout, and the pairs of its underground pieces, after the
+//! Factorio Wiki. All that reads or judges a layout stands on these tables.
 #![tactic(auto)]
 
 mod handing;

@@ -1,3 +1,5 @@
+//! Cells, directions, tiers and parts, and the cells that a part covers, faces and turns its back to.
+
 ghost use Rattle.std.specs.Prelude.{◌≡◌, ◌↔◌, ◌≤◌, ◌+◌, unsigned_abs, IsTrue};
 ghost use Rattle.bt_parts.specs.Cells.{step, steps, opposite, Covers, IsGreaterHalf, IsInRange, IsInside};
 ghost use Rattle.bt_parts.specs.Tiers.{reach_of, speed_of};
@@ -11,7 +13,10 @@ pub const MOST_COORDINATE: u32 = 1 << 20;
 /// x grows to the east and y to the south. Cells are ordered by x and then by y.
 #[derive(Clone, Copy, PartialEq, Eq, PartialOrd, Ord)]
 pub struct Cell {
+    /// Tiles to the east.
     pub x: i32,
+
+    /// Tiles to the south.
     pub y: i32,
 }
 
@@ -37,9 +42,13 @@ impl Cell {
 /// The direction in which a part moves its items.
 #[derive(Clone, Copy, PartialEq, Eq)]
 pub enum Dir {
+    /// Towards lesser y.
     North,
+    /// Towards greater x.
     East,
+    /// Towards greater y.
     South,
+    /// Towards lesser x.
     West,
 }
 
@@ -57,12 +66,16 @@ impl Dir {
     }
 }
 
-/// The speed class of a part.
+/// The speed class of a part (Factorio Wiki, belt transport system).
 #[derive(Clone, Copy, PartialEq, Eq)]
 pub enum Tier {
+    /// The yellow belts, 15 items a second.
     Basic,
+    /// The red belts, 30 items a second.
     Fast,
+    /// The blue belts, 45 items a second.
     Express,
+    /// The green belts, 60 items a second.
     Turbo,
 }
 
@@ -95,17 +108,26 @@ impl Tier {
 /// What a part is. An entrance and an exit are the two underground pieces.
 #[derive(Clone, Copy, PartialEq, Eq)]
 pub enum Kind {
+    /// A transport belt.
     Belt,
+    /// An underground piece that takes items down.
     Entrance,
+    /// An underground piece that brings items up.
     Exit,
+    /// A splitter, which covers two cells across its direction.
     Splitter,
 }
 
 /// A part of a layout.
 #[derive(Clone, Copy, PartialEq, Eq)]
 pub struct Part {
+    /// What it is.
     pub kind: Kind,
+
+    /// Its speed class.
     pub tier: Tier,
+
+    /// The direction in which it moves its items.
     pub dir: Dir,
 
     /// The part's cell; of a splitter its lesser half, the one further to the west or the north.
@@ -115,15 +137,21 @@ pub struct Part {
 /// From where a part comes upon another one.
 #[derive(Clone, Copy, PartialEq, Eq)]
 pub enum Side {
+    /// In the other's direction.
     Behind,
+    /// Across the other's direction, from either side.
     Across,
+    /// Against the other's direction.
     Ahead,
 }
 
 /// The cells from (0, 0) on, so many to the east and so many to the south.
 #[derive(Clone, Copy, PartialEq, Eq)]
 pub struct Rect {
+    /// In tiles, from west to east.
     pub width: u32,
+
+    /// In tiles, from north to south.
     pub height: u32,
 }
 

@@ -5,15 +5,17 @@
 
 ghost use Rattle.std.specs.Prelude.{◌≡◌, ◌↔◌, ℕ, ◌+◌, ◌<◌, List, length, IsTrue, MatchOption};
 ghost use Rattle.bt_parts.specs.Cells.{IsInRange};
-ghost use Rattle.bt_parts.specs.Layouts.{AreInRange, IsWellPlaced, HasPart, IsAt, IsUnderground, IsPieceOn, ArePaired};
+ghost use Rattle.bt_parts.specs.Layouts.{AreInRange, IsWellPlaced, HasPart, IsAt};
+ghost use Rattle.bt_parts.specs.Layouts.{IsUnderground, IsPieceOn, ArePaired};
 ghost use Rattle.bt_parts.specs.Tiers.{reach_of};
 ghost use Rattle.bt_parts.specs.inner.Looking.{IsPieceThere, NoneNearer, IsFirstPiece, IsFarEnd, IsEndFor};
 ghost use Rattle.bt_parts.specs.declared.part.Part.{Part};
 
 use crate::part::{Cell, Dir, Kind, Part, Tier};
 
-/// Parts in the plane. A part's index is its place in their list.
+/// Parts in the plane. A part's index is its place in their list, which contracts see.
 pub trait Layout {
+    /// The parts, in the order of their indices.
     ghost parts: { Self → List Part };
 
     /// The part with this index.
@@ -24,7 +26,9 @@ pub trait Layout {
     /// The index of a part that covers the cell, if there is one.
     fn at(&self, cell: Cell) -> Option<usize>
         requires { AreInRange (parts self.now) }
-        ensures { MatchOption result ((i : ℕ) → IsAt (parts self.now) i cell → ⊥) (λ i. IsAt (parts self.now) i cell) };
+        ensures { MatchOption result
+            ((i : ℕ) → IsAt (parts self.now) i cell → ⊥)
+            (λ i. IsAt (parts self.now) i cell) };
 }
 
 /// Whether the part is an underground piece.
@@ -56,7 +60,8 @@ fn far_end(part: &Part) -> Option<(Dir, Kind)>
 fn piece_at<L: Layout>(layout: &L, cell: Cell, tier: Tier, dir: Dir) -> Option<usize>
     requires in_range { AreInRange (L.parts layout.now) }
     requires well_placed { IsWellPlaced (L.parts layout.now) }
-    ensures { MatchOption result ((i : ℕ) → IsPieceThere (L.parts layout.now) tier dir cell i → ⊥)
+    ensures { MatchOption result
+        ((i : ℕ) → IsPieceThere (L.parts layout.now) tier dir cell i → ⊥)
         (IsPieceThere (L.parts layout.now) tier dir cell) }
 {
     let Some(i) = layout.at(cell) else {
@@ -74,7 +79,8 @@ fn first_piece<L: Layout>(layout: &L, from: &Part, toward: Dir) -> Option<usize>
     requires in_range { AreInRange (L.parts layout.now) }
     requires well_placed { IsWellPlaced (L.parts layout.now) }
     requires from { IsInRange from.now.cell }
-    ensures { MatchOption result (NoneNearer (L.parts layout.now) from.now toward (reach_of from.now.tier + 2))
+    ensures { MatchOption result
+        (NoneNearer (L.parts layout.now) from.now toward (reach_of from.now.tier + 2))
         (IsFirstPiece (L.parts layout.now) from.now toward) }
 {
     for distance in 1..from.tier.reach() + 2 {
@@ -96,8 +102,8 @@ fn is_end_for(other: &Part, kind: Kind, part: &Part) -> bool
 /// The other end of the pair of the part with this index (Factorio Wiki, underground belts).
 ///
 /// An entrance and an exit of one tier and direction are a pair where the exit lies ahead within
-/// reach and no piece of that tier and axis lies between. From either end on toward the other, the
-/// other one is thus the first such piece.
+/// reach and no piece of that tier and axis lies between. So from either end on toward the other, the
+/// other one is the first such piece, and it is looked up at no more than reach + 1 cells.
 pub fn other_end<L: Layout>(layout: &L, i: usize) -> Option<usize>
     requires within { i < length (L.parts layout.now) }
     requires in_range { AreInRange (L.parts layout.now) }

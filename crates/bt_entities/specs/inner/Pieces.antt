@@ -1,10 +1,12 @@
 -- What is read of an entity before its cell is.
-use Rattle.std.specs.Prelude.{◌≡◌, ◌<◌, ℕ, ℤ, List, Option, Some, None, Result, Ok, Err, MatchOption, codes}
+use Rattle.std.specs.Prelude.{◌≡◌, ◌<◌, ℕ, ℤ, List, Option, Some, None, Result, Ok, Err, [], ◌∷◌, MatchOption, codes}
 use Rattle.bt_json.specs.Json.{Json, Number}
 use Rattle.bt_parts.specs.declared.part.Cell.{Cell}
 use Rattle.bt_parts.specs.declared.part.Part.{Part}
 use Rattle.bt_parts.specs.declared.part.Tier.{Tier}
 use Rattle.bt_entities.specs.declared.fault.EntityFault.{EntityFault}
+use Rattle.bt_entities.specs.declared.fault.Member.{Member}
+use Rattle.bt_entities.specs.declared.fault.Member.TheVariants.{InputPriority, OutputPriority}
 use Rattle.bt_entities.specs.declared.name.Family.{Family}
 use Rattle.bt_entities.specs.declared.name.Family.TheVariants.{Splitters}
 use Rattle.bt_entities.specs.declared.blueprint.Frame.{Frame}
@@ -17,7 +19,7 @@ use Rattle.bt_entities.specs.Names.{name_of}
 use Rattle.bt_entities.specs.Blueprints.{AreParts}
 use Rattle.bt_entities.specs.Entities.{HasFamily, HasKind, HasTier, HasDirection, HasPosition, IsHalves, IsEven, IsSided, SetsShift, IsEntity}
 use Rattle.bt_entities.specs.Places.{width_of, height_of, IsMiddle}
-use Rattle.bt_entities.specs.Refusals.{IsLowest, IsFirstOf}
+use Rattle.bt_entities.specs.Refusals.{IsWrong, IsFirst, IsLowest, IsFirstOf}
 
 -- the number's halves, where it has some
 abbrev pub AreHalves : Number → Option ℤ → Type 0
@@ -27,6 +29,14 @@ AreHalves n halves = MatchOption halves ((z : ℤ) → ¬ IsHalves n z) (IsHalve
 abbrev pub IsPriority : Json → List ℕ → Priority → Type 0
 IsPriority v name Even = HasFamily v Splitters → IsEven v name
 IsPriority v name Sided = HasFamily v Splitters × IsSided v name
+
+-- the entity has these two priorities
+abbrev pub ArePriorities : Json → Priority → Priority → Type 0
+ArePriorities v input output = IsPriority v (codes "input_priority") input × IsPriority v (codes "output_priority") output
+
+-- the member is the first of the two priorities that is wrong, in every version
+abbrev pub IsWrongPriority : Json → Member → Type 0
+IsWrongPriority v member = (major : ℕ) → IsFirst (IsWrong major v) (InputPriority ∷ OutputPriority ∷ []) member
 
 -- the entity is such a piece
 pub record IsPiece (major : ℕ) (v : Json) (piece : Piece) : Type 0 where

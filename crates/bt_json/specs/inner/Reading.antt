@@ -15,7 +15,7 @@ use Rattle.bt_json.specs.declared.kind.Kind.TheVariants.{Blank, ListOpens, ListC
 use Rattle.bt_json.specs.declared.kind.Mark.{Mark}
 use Rattle.bt_json.specs.declared.kind.Mark.TheVariants.{Figure, Point, LetterE, PlusSign, MinusSign, Over}
 use Rattle.bt_json.specs.declared.kind.Phase.{Phase}
-use Rattle.bt_json.specs.declared.kind.Phase.TheVariants.{AfterMinus, AfterZero, InWhole, AfterPoint, InFraction, AfterLetter, AfterSign, InPower}
+use Rattle.bt_json.specs.declared.kind.Phase.TheVariants.{BeforeWhole, AfterZero, InWhole, AfterPoint, InFraction, AfterLetter, AfterSign, InPower}
 use Rattle.bt_json.specs.declared.limits.TheConstants.{MOST_LEVELS, MOST_EXPONENT}
 
 -- ---- numbers
@@ -56,7 +56,7 @@ first_phase d = if d == 0 then AfterZero else InWhole
 
 -- a digit
 abbrev pub step_digit : Phase → Numeral → ℕ → InNumber
-step_digit AfterMinus n d = goes_on (first_phase d) (with_whole n d)
+step_digit BeforeWhole n d = goes_on (first_phase d) (with_whole n d)
 step_digit AfterZero n d = wrong
 step_digit InWhole n d = goes_on InWhole (with_whole n d)
 step_digit AfterPoint n d = goes_on InFraction (with_fraction n d)
@@ -85,7 +85,7 @@ step_sign minus _ n = wrong
 
 -- a number may end there
 abbrev pub may_end : Phase → Bool
-may_end AfterMinus = false
+may_end BeforeWhole = false
 may_end AfterZero = true
 may_end InWhole = true
 may_end AfterPoint = false
@@ -234,7 +234,7 @@ step_due strict at k b Blank = go (due k)
 step_due strict at k b ListOpens = opens_level strict k at (opened_list k)
 step_due strict at k b ObjectOpens = opens_level strict k at (opened_object k)
 step_due strict at k b Quote = go (in_text [] None between as_value k)
-step_due strict at k b Minus = go (in_number AfterMinus (numeral true []) k)
+step_due strict at k b Minus = go (in_number BeforeWhole (numeral true []) k)
 step_due strict at k b Digit = go (in_number (first_phase (b - 48)) (numeral false ((b - 48) ∷ [])) k)
 step_due strict at k b LetterT = go (in_word (114 ∷ 117 ∷ 101 ∷ []) (boolean true) k)
 step_due strict at k b LetterF = go (in_word (97 ∷ 108 ∷ 115 ∷ 101 ∷ []) (boolean false) k)
