@@ -7,12 +7,12 @@ use Rattle.bt_flow.specs.declared.judgement.Test.{Test}
 use Rattle.bt_flow.specs.declared.judgement.WideSum.{WideSum}
 use Rattle.bt_flow.specs.declared.state.State.{State}
 use Rattle.bt_flow.specs.States.{Flows, StandsFor}
-use Rattle.bt_flow.specs.Tests.{order_of, places, Passes, IsAmong, IsEarlier, FailsFirst}
+use Rattle.bt_flow.specs.Tests.{order_of, places, PassesAt, IsAmong, IsEarlier, FailsFirst}
 use Rattle.bt_flow.specs.Sums.{sums_of, AllFit, IsFirstWide}
 use Rattle.bt_flow.specs.Judging.{IsClear, FailsAt, IsWideAt, IsWideSum, Judges, JudgesSteady, JudgesBreaking, NeedsFit}
 use Rattle.bt_flow.specs.declared.judgement.Test.TheVariants as test
 use Rattle.bt_flow.specs.declared.judgement.Judgement.{Judgement}
-use Rattle.bt_flow.specs.declared.judgement.Judgement.TheVariants.{Holds, Fails}
+use Rattle.bt_flow.specs.declared.judgement.Judgement.TheVariants.{Passes, Fails}
 use Rattle.bt_flow.specs.Steady.{IsSteady}
 use Rattle.bt_flow.specs.Properties.{Breaks}
 
@@ -21,12 +21,12 @@ pub clear_more : (n : Network) (p : Property) (t : State) (u : Test) (place : �
 clear_more n p t u place h k a l =
     elim (cases_eq a place) [ inl e ↦ subst (IsClear n p t u) (sym e) k | inr o ↦ h a (omega (arith, l, o)) ]
 
-pub clear_here : (n : Network) (p : Property) (t : State) (u : Test) (place : ℕ) (b : Bool) → b ≡ true → ((s : Flows) → StandsFor n t s → IsTrue b ↔ Passes n p s u place)
+pub clear_here : (n : Network) (p : Property) (t : State) (u : Test) (place : ℕ) (b : Bool) → b ≡ true → ((s : Flows) → StandsFor n t s → IsTrue b ↔ PassesAt n p s u place)
     → AllFit (sums_of n p t u place) → IsClear n p t u place
 clear_here n p t u place b e h k = record { passes = λ s g. (h s g).0 e; fit = k }
 
 pub fails_here : (n : Network) (p : Property) (t : State) (u : Test) (place : ℕ) (b : Bool) → b ≡ false → place < places n u
-    → ((s : Flows) → StandsFor n t s → IsTrue b ↔ Passes n p s u place) → AllFit (sums_of n p t u place) → ((a : ℕ) → a < place → IsClear n p t u a) → FailsAt n p t u place
+    → ((s : Flows) → StandsFor n t s → IsTrue b ↔ PassesAt n p s u place) → AllFit (sums_of n p t u place) → ((a : ℕ) → a < place → IsClear n p t u a) → FailsAt n p t u place
 fails_here n p t u place b e l h k before =
     record { place = l; fails = λ s g q. false≢true (sym e ∙ (h s g).1 q); fit = k; earlier = before }
 
@@ -50,7 +50,7 @@ test_at (suc (suc (suc (suc (suc zero))))) = test.EvenIn
 test_at (suc (suc (suc (suc (suc (suc zero)))))) = test.Backing
 test_at (suc (suc (suc (suc (suc (suc (suc zero))))))) = test.Input
 test_at (suc (suc (suc (suc (suc (suc (suc (suc zero)))))))) = test.Output
-test_at (suc (suc (suc (suc (suc (suc (suc (suc (suc n))))))))) = test.Kept
+test_at (suc (suc (suc (suc (suc (suc (suc (suc (suc n))))))))) = test.Conclusion
 
 at_order : (u : Test) → test_at (order_of u) ≡ u
 unfolding test_at
@@ -63,11 +63,11 @@ at_order test.EvenIn = refl
 at_order test.Backing = refl
 at_order test.Input = refl
 at_order test.Output = refl
-at_order test.Kept = refl
+at_order test.Conclusion = refl
 
 -- all tests, in their order
 abbrev pub all_tests : List Test
-all_tests = test.Load ∷ test.Room ∷ test.Range ∷ test.Conserve ∷ test.EvenOut ∷ test.EvenIn ∷ test.Backing ∷ test.Input ∷ test.Output ∷ test.Kept ∷ []
+all_tests = test.Load ∷ test.Room ∷ test.Range ∷ test.Conserve ∷ test.EvenOut ∷ test.EvenIn ∷ test.Backing ∷ test.Input ∷ test.Output ∷ test.Conclusion ∷ []
 
 pub order_at : (i : ℕ) (d : Test) → i < 10 → order_of (get_or all_tests i d) ≡ i
 order_at zero d h = refl
@@ -108,8 +108,8 @@ judges_failed n p t first last next v a e low l h k = (
   λ u b m q o. h u b m.0 (let x : order_of u < next = omega (arith, e, o) in x) q,
 )
 
-pub judges_holds : (n : Network) (p : Property) (t : State) (first last next : ℕ) → last < next → ClearFrom n p t first next → Judges n p t first last Holds
-judges_holds n p t first last next l h = λ u b m q. h u b m.0 (let x : order_of u < next = let y = m.1 in omega (arith, l, y) in x) q
+pub judges_passed : (n : Network) (p : Property) (t : State) (first last next : ℕ) → last < next → ClearFrom n p t first next → Judges n p t first last Passes
+judges_passed n p t first last next l h = λ u b m q. h u b m.0 (let x : order_of u < next = let y = m.1 in omega (arith, l, y) in x) q
 
 pub wide_sum : (n : Network) (p : Property) (t : State) (first last next : ℕ) (v : Test) (w : WideSum) → order_of v ≡ next → first ≤ next → next ≤ last
     → ClearFrom n p t first next → IsWideAt n p t v w → IsWideSum n p t first last w
@@ -141,12 +141,12 @@ first_fails n p t s first last v a g h =
         | inl y ↦ (h.2 u b m q y).passes s g
         | inr y ↦
             let same : u ≡ v = same_order u v y.0 in
-            subst (λ x. Passes n p s x b) (sym same) ((h.1.earlier b y.1).passes s g)
+            subst (λ x. PassesAt n p s x b) (sym same) ((h.1.earlier b y.1).passes s g)
       ];
     }
 
 pub needs_fit : (n : Network) (p : Property) (t : State) (first last : ℕ) (j : Judgement) → Judges n p t first last j → NeedsFit n p t first last j
-needs_fit n p t first last Holds h = λ u b m q x. (h u b m q).fit
+needs_fit n p t first last Passes h = λ u b m q x. (h u b m q).fit
 needs_fit n p t first last (Fails v a) h = λ u b m q x. elim x [
   | inl y ↦ elim y [
     | inl z ↦ (h.2 u b m q z).fit
@@ -157,7 +157,7 @@ needs_fit n p t first last (Fails v a) h = λ u b m q x. elim x [
   | inr y ↦ subst (λ x. AllFit (sums_of n p t x b)) (sym y.0) (subst (λ c. AllFit (sums_of n p t v c)) (sym y.1) h.1.fit)
 ]
 
-steady_from : (n : Network) (p : Property) (s : Flows) → ((u : Test) (b : ℕ) → 2 ≤ order_of u → order_of u ≤ 8 → b < places n u → Passes n p s u b) → IsSteady n s
+steady_from : (n : Network) (p : Property) (s : Flows) → ((u : Test) (b : ℕ) → 2 ≤ order_of u → order_of u ≤ 8 → b < places n u → PassesAt n p s u b) → IsSteady n s
 steady_from n p s f =
     record {
       range = λ a l. f test.Range a (lit≤ tt) (lit≤ tt) l;
@@ -169,26 +169,26 @@ steady_from n p s f =
       output = λ a l. f test.Output a (lit≤ tt) (lit≤ tt) l;
     }
 
-pub holds_breaks : (n : Network) (p : Property) (t : State) (s : Flows) → StandsFor n t s → Judges n p t 0 9 Holds → Breaks n p s
-holds_breaks n p t s g h =
-    let passes : (u : Test) (b : ℕ) → order_of u ≤ 9 → b < places n u → Passes n p s u b = λ u b l q. (h u b (omega arith, l) q).passes s g in
+pub passed_breaks : (n : Network) (p : Property) (t : State) (s : Flows) → StandsFor n t s → Judges n p t 0 9 Passes → Breaks n p s
+passed_breaks n p t s g h =
+    let passes : (u : Test) (b : ℕ) → order_of u ≤ 9 → b < places n u → PassesAt n p s u b = λ u b l q. (h u b (omega arith, l) q).passes s g in
     record {
       state = g.is_state;
       admissible = record { loads = λ i l. (passes test.Load i (lit≤ tt) l).0; rooms = λ i l. (passes test.Room i (lit≤ tt) l).0 };
       meets = record { loads = λ a i l. (passes test.Load i (lit≤ tt) l).1 a; rooms = λ a i l. (passes test.Room i (lit≤ tt) l).1 a };
       steady = steady_from n p s (λ u b low high q. passes u b (omega (arith, high)) q);
-      fails = passes test.Kept 0 (lit≤ tt) (lit< tt);
+      fails = passes test.Conclusion 0 (lit≤ tt) (lit< tt);
     }
 
-pub holds_steady : (n : Network) (p : Property) (t : State) (s : Flows) → StandsFor n t s → Judges n p t 2 8 Holds → IsSteady n s
-holds_steady n p t s g h = steady_from n p s (λ u b low high q. (h u b (low, high) q).passes s g)
+pub passed_steady : (n : Network) (p : Property) (t : State) (s : Flows) → StandsFor n t s → Judges n p t 2 8 Passes → IsSteady n s
+passed_steady n p t s g h = steady_from n p s (λ u b low high q. (h u b (low, high) q).passes s g)
 
 pub judges_breaking : (n : Network) (p : Property) (t : State) (j : Judgement) → Judges n p t 0 9 j → (s : Flows) → StandsFor n t s → JudgesBreaking n p s j
-judges_breaking n p t Holds h s g = holds_breaks n p t s g h
+judges_breaking n p t Passes h s g = passed_breaks n p t s g h
 judges_breaking n p t (Fails v a) h s g = first_fails n p t s 0 9 v a g h
 
 -- a law speaks of no property
-law_alone : (n : Network) (p q : Property) (s : Flows) (u : Test) (b : ℕ) → 2 ≤ order_of u → order_of u ≤ 8 → Passes n p s u b → Passes n q s u b
+law_alone : (n : Network) (p q : Property) (s : Flows) (u : Test) (b : ℕ) → 2 ≤ order_of u → order_of u ≤ 8 → PassesAt n p s u b → PassesAt n q s u b
 law_alone n p q s test.Load b low high h = absurd (omega (arith, low))
 law_alone n p q s test.Room b low high h = absurd (omega (arith, low))
 law_alone n p q s test.Range b low high h = h
@@ -198,7 +198,7 @@ law_alone n p q s test.EvenIn b low high h = h
 law_alone n p q s test.Backing b low high h = h
 law_alone n p q s test.Input b low high h = h
 law_alone n p q s test.Output b low high h = h
-law_alone n p q s test.Kept b low high h = absurd (omega (arith, high))
+law_alone n p q s test.Conclusion b low high h = absurd (omega (arith, high))
 
 sums_alone : (n : Network) (p q : Property) (t : State) (u : Test) (b : ℕ) → 2 ≤ order_of u → order_of u ≤ 8 → sums_of n p t u b ≡ sums_of n q t u b
 sums_alone n p q t test.Load b low high = refl
@@ -210,7 +210,7 @@ sums_alone n p q t test.EvenIn b low high = refl
 sums_alone n p q t test.Backing b low high = refl
 sums_alone n p q t test.Input b low high = refl
 sums_alone n p q t test.Output b low high = refl
-sums_alone n p q t test.Kept b low high = absurd (omega (arith, high))
+sums_alone n p q t test.Conclusion b low high = absurd (omega (arith, high))
 
 pub fails_alone : (n : Network) (p q : Property) (s : Flows) (v : Test) (a : ℕ) → FailsFirst n p s 2 8 v a → FailsFirst n q s 2 8 v a
 fails_alone n p q s v a h =
@@ -222,7 +222,7 @@ fails_alone n p q s v a h =
     }
 
 pub judges_steady : (n : Network) (p : Property) (t : State) (j : Judgement) → Judges n p t 2 8 j → (s : Flows) → StandsFor n t s → JudgesSteady n s j
-judges_steady n p t Holds h s g = holds_steady n p t s g h
+judges_steady n p t Passes h s g = passed_steady n p t s g h
 judges_steady n p t (Fails v a) h s g = λ q. fails_alone n p q s v a (first_fails n p t s 2 8 v a g h)
 
 pub fit_alone : (n : Network) (p q : Property) (t : State) (j : Judgement) → NeedsFit n p t 2 8 j → NeedsFit n q t 2 8 j

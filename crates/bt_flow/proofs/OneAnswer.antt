@@ -7,13 +7,13 @@ use Rattle.bt_flow.specs.declared.property.Property.TheVariants.{Unlimited}
 use Rattle.bt_flow.specs.declared.judgement.Test.{Test}
 use Rattle.bt_flow.specs.declared.judgement.Test.TheVariants as test
 use Rattle.bt_flow.specs.declared.judgement.Judgement.{Judgement}
-use Rattle.bt_flow.specs.declared.judgement.Judgement.TheVariants.{Holds, Fails}
+use Rattle.bt_flow.specs.declared.judgement.Judgement.TheVariants.{Passes, Fails}
 use Rattle.bt_flow.specs.declared.judgement.WideSum.{WideSum}
 use Rattle.bt_flow.specs.declared.state.State.{State}
 use Rattle.bt_flow.specs.States.{Flows, StandsFor}
 use Rattle.bt_flow.specs.Steady.{IsSteady}
 use Rattle.bt_flow.specs.Properties.{Breaks}
-use Rattle.bt_flow.specs.Tests.{order_of, places, Passes, IsAmong, IsEarlier, FailsFirst}
+use Rattle.bt_flow.specs.Tests.{order_of, places, PassesAt, IsAmong, IsEarlier, FailsFirst}
 use Rattle.std.specs.Result.{IfOk, IfErr}
 use Rattle.bt_flow.specs.Sums.{sums_of, IsFirstWide}
 use Rattle.bt_flow.specs.Judging.{JudgesBreaking, JudgesSteady, NeedsFit, IsWideSum, IsBreakingAnswer, IsSteadyAnswer}
@@ -33,7 +33,7 @@ compared t u a b =
 
 -- what a judgement says of one state, where it holds by this fact
 abbrev pub Says : Network → Property → Flows → ℕ → ℕ → Judgement → Type 0
-Says n p s first last Holds = (u : Test) (b : ℕ) → IsAmong first last u → b < places n u → Passes n p s u b
+Says n p s first last Passes = (u : Test) (b : ℕ) → IsAmong first last u → b < places n u → PassesAt n p s u b
 Says n p s first last (Fails t a) = FailsFirst n p s first last t a
 
 abbrev pub Answers : Network → Property → State → Flows → ℕ → ℕ → Result Judgement WideSum → Type 0
@@ -49,9 +49,9 @@ same_wide w v p q r x =
 
 module _ (n : Network) (p : Property) (t : State) (s : Flows) (g : StandsFor n t s) (first last : ℕ) where
   one_judgement : (j k : Judgement) → Says n p s first last j → Says n p s first last k → j ≡ k
-  one_judgement Holds Holds h f = refl
-  one_judgement Holds (Fails u a) h f = absurd (f.fails (h u a f.among f.place))
-  one_judgement (Fails u a) Holds h f = absurd (h.fails (f u a h.among h.place))
+  one_judgement Passes Passes h f = refl
+  one_judgement Passes (Fails u a) h f = absurd (f.fails (h u a f.among f.place))
+  one_judgement (Fails u a) Passes h f = absurd (h.fails (f u a h.among h.place))
   one_judgement (Fails u a) (Fails v b) h f =
       elim (compared u v a b) [
         | inl e ↦ absurd (h.fails (f.earlier u a h.among h.place e))
@@ -62,7 +62,7 @@ module _ (n : Network) (p : Property) (t : State) (s : Flows) (g : StandsFor n t
       ]
 
   judged_or_wide : (j : Judgement) (w : WideSum) → Says n p s first last j → NeedsFit n p t first last j → IsWideSum n p t first last w → ⊥
-  judged_or_wide Holds w h f k = all_fit_or_wide w.left w.right _ (f w.test w.place k.among k.place tt) k.first_wide
+  judged_or_wide Passes w h f k = all_fit_or_wide w.left w.right _ (f w.test w.place k.among k.place tt) k.first_wide
   judged_or_wide (Fails u a) w h f k =
       elim (compared u w.test a w.place) [
         | inl e ↦ h.fails (k.earlier s g u a h.among h.place e)
@@ -91,7 +91,7 @@ module _ (n : Network) (p : Property) (t : State) (s : Flows) (g : StandsFor n t
   one_answer (Err w) (Ok k) h f = absurd (judged_or_wide k w f.0 f.1 h)
   one_answer (Err w) (Err v) h f = ap Err (one_wide w v h f)
 
-laws_pass : (n : Network) (p : Property) (s : Flows) → IsSteady n s → (u : Test) (b : ℕ) → 2 ≤ order_of u → order_of u ≤ 8 → b < places n u → Passes n p s u b
+laws_pass : (n : Network) (p : Property) (s : Flows) → IsSteady n s → (u : Test) (b : ℕ) → 2 ≤ order_of u → order_of u ≤ 8 → b < places n u → PassesAt n p s u b
 laws_pass n p s h test.Load b low high l = absurd (omega (arith, low))
 laws_pass n p s h test.Room b low high l = absurd (omega (arith, low))
 laws_pass n p s h test.Range b low high l = h.range b l
@@ -101,9 +101,9 @@ laws_pass n p s h test.EvenIn b low high l = h.even_in b l
 laws_pass n p s h test.Backing b low high l = h.backing b l
 laws_pass n p s h test.Input b low high l = h.input b l
 laws_pass n p s h test.Output b low high l = h.output b l
-laws_pass n p s h test.Kept b low high l = absurd (omega (arith, high))
+laws_pass n p s h test.Conclusion b low high l = absurd (omega (arith, high))
 
-breaks_pass : (n : Network) (p : Property) (s : Flows) → Breaks n p s → (u : Test) (b : ℕ) → b < places n u → Passes n p s u b
+breaks_pass : (n : Network) (p : Property) (s : Flows) → Breaks n p s → (u : Test) (b : ℕ) → b < places n u → PassesAt n p s u b
 breaks_pass n p s h test.Load b l = (h.admissible.loads b l, λ a. h.meets.loads a b l)
 breaks_pass n p s h test.Room b l = (h.admissible.rooms b l, λ a. h.meets.rooms a b l)
 breaks_pass n p s h test.Range b l = h.steady.range b l
@@ -113,14 +113,14 @@ breaks_pass n p s h test.EvenIn b l = h.steady.even_in b l
 breaks_pass n p s h test.Backing b l = h.steady.backing b l
 breaks_pass n p s h test.Input b l = h.steady.input b l
 breaks_pass n p s h test.Output b l = h.steady.output b l
-breaks_pass n p s h test.Kept b l = h.fails
+breaks_pass n p s h test.Conclusion b l = h.fails
 
 breaking_says : (n : Network) (p : Property) (s : Flows) (j : Judgement) → JudgesBreaking n p s j → Says n p s 0 9 j
-breaking_says n p s Holds h = λ u b m l. breaks_pass n p s h u b l
+breaking_says n p s Passes h = λ u b m l. breaks_pass n p s h u b l
 breaking_says n p s (Fails t a) h = h
 
 steady_says : (n : Network) (p : Property) (s : Flows) (j : Judgement) → JudgesSteady n s j → Says n p s 2 8 j
-steady_says n p s Holds h = λ u b m l. laws_pass n p s h u b m.0 m.1 l
+steady_says n p s Passes h = λ u b m l. laws_pass n p s h u b m.0 m.1 l
 steady_says n p s (Fails t a) h = h p
 
 breaking_answers : (n : Network) (p : Property) (t : State) (s : Flows) (x : Result Judgement WideSum) → IsBreakingAnswer n p t s x → Answers n p t s 0 9 x

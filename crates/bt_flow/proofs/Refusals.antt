@@ -5,7 +5,7 @@ use Rattle.bt_net.specs.Network.{Network}
 use Rattle.bt_flow.specs.declared.property.Property.{Property}
 use Rattle.bt_flow.specs.declared.fault.StateFault.{StateFault}
 use Rattle.bt_flow.specs.Pieces.{CutsAt, LeadsTo}
-use Rattle.bt_flow.specs.StateText.{property_name}
+use Rattle.bt_flow.specs.Names.{property_name}
 use Rattle.bt_flow.specs.StateLines.{Form, just, numbers, marks, Fills, SpellsFractions, SpellsMarks, Follows, IsWrongLine}
 use Rattle.bt_flow.specs.StateFaults.{IsFault, IsLineFault}
 use Rattle.bt_flow.proofs.Faults.{fault_weaker}

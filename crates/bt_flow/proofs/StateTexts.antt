@@ -17,7 +17,8 @@ use Rattle.bt_flow.specs.declared.property.Property.TheVariants.{Balanced, Drawn
 use Rattle.bt_flow.specs.declared.state.State.{State}
 use Rattle.bt_flow.specs.States.{Fits}
 use Rattle.bt_flow.specs.Pieces.{CutsAt, LeadsTo}
-use Rattle.bt_flow.specs.StateText.{property_name, mark_text, spaced, state_text, IsStateText}
+use Rattle.bt_flow.specs.Names.{property_name}
+use Rattle.bt_flow.specs.StateText.{mark_text, spaced, state_text, IsStateText}
 use Rattle.bt_flow.specs.StateLines.{SpellsFractions, SpellsMarks, Follows, just, numbers, marks, Fills, forms, lines_of, IsWrongLine}
 use Rattle.bt_flow.specs.declared.fault.StateFault.{StateFault}
 use Rattle.bt_flow.specs.declared.fault.StateFault.TheVariants.{CertLine, Memory}

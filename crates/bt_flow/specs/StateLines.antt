@@ -6,7 +6,8 @@ use Rattle.bt_frac.specs.Ratio.{Ratio, IsLowest}
 use Rattle.bt_frac.specs.Texts.{frac_text}
 use Rattle.bt_net.specs.Network.{Network}
 use Rattle.bt_flow.specs.declared.property.Property.{Property}
-use Rattle.bt_flow.specs.StateText.{property_name, mark_text, spaced}
+use Rattle.bt_flow.specs.Names.{property_name}
+use Rattle.bt_flow.specs.StateText.{mark_text, spaced}
 
 -- what a line has to be: these bytes; a word and so many fractions; `mark` and so many marks; or blanks
 pub data Form : Type 0 where

@@ -4,17 +4,10 @@ use Rattle.std.specs.List.{flat_map}
 use Rattle.bt_text.specs.Blanks.{IsBlank}
 use Rattle.bt_text.specs.Lines.{line}
 use Rattle.bt_flow.specs.declared.property.Property.{Property}
-use Rattle.bt_flow.specs.declared.property.Property.TheVariants.{Balanced, DrawnEvenly, Unlimited, Full}
 use Rattle.bt_flow.specs.declared.state.State.{State}
+use Rattle.bt_flow.specs.Names.{property_name}
 use Rattle.bt_frac.specs.Ratio.{IsLowest}
 use Rattle.bt_frac.specs.Texts.{frac_text}
-
--- the name of a property
-abbrev pub property_name : Property → List ℕ
-property_name Balanced = codes "balanced"
-property_name DrawnEvenly = codes "drawn-evenly"
-property_name Unlimited = codes "unlimited"
-property_name Full = codes "full"
 
 -- `f` for a free edge and `b` for a backed one
 abbrev pub mark_text : Bool → List ℕ

@@ -49,7 +49,7 @@ concluding_sums Full n t = fractions_where is_last n.edges t.flows.items ∷ t.l
 -- those of the conclusion
 abbrev pub sums_of : Network → Property → State → Test → ℕ → List (List Ratio)
 sums_of n p t test.Conserve k = fractions_where (enters k) n.edges t.flows.items ∷ fractions_where (leaves k) n.edges t.flows.items ∷ []
-sums_of n p t test.Kept a = concluding_sums p n t
+sums_of n p t test.Conclusion a = concluding_sums p n t
 sums_of n p t u a = []
 
 -- every addition of these sums fits

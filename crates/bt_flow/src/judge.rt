@@ -23,7 +23,7 @@ const TESTS: [Test; 10] = [
     Test::Backing,
     Test::Input,
     Test::Output,
-    Test::Kept,
+    Test::Conclusion,
 ];
 
 /// The first failed test among those with the places from `first` to `last` in the order.
@@ -48,7 +48,7 @@ fn judge(
             return Ok(Judgement::Fails { test, place });
         }
     }
-    Ok(Judgement::Holds)
+    Ok(Judgement::Passes)
 }
 
 /// Whether a state is steady, or the first law that fails and its first place. A sum that leaves 128
@@ -107,13 +107,13 @@ mod tests {
 
     #[test]
     fn judges(rt: HostRuntime) -> Result<(), Fail> {
-        let holds = Ok(Judgement::Holds);
+        let passes = Ok(Judgement::Passes);
         let half =
             b"no unlimited\nload 1\nroom 0 0 1\nflow 1/2 0 1 0 0 1/2 1/2\nmark b b f b b f f\nend";
-        assert_eq!(rt; answers(&rt, LOOP, half)?, (holds, holds));
+        assert_eq!(rt; answers(&rt, LOOP, half)?, (passes, passes));
         let bottleneck =
             b"no unlimited\nload 1 1 0 0\nroom 1 1 0 0\nflow 1/2 1/2 0 0 1 0 0 0 1/2 1/2 0 0\nmark b b f f f b f b f f b b\nend";
-        assert_eq!(rt; answers(&rt, BUTTERFLY, bottleneck)?, (holds, holds));
+        assert_eq!(rt; answers(&rt, BUTTERFLY, bottleneck)?, (passes, passes));
         let unmarked =
             b"no unlimited\nload 1 1 0 0\nroom 1 1 0 0\nflow 1/2 1/2 0 0 1 0 0 0 1/2 1/2 0 0\nmark f f f f f b f b f f b b\nend";
         let fails = Ok(Judgement::Fails {
@@ -123,10 +123,10 @@ mod tests {
         assert_eq!(rt; answers(&rt, BUTTERFLY, unmarked)?, (fails, fails));
         let kept = b"no unlimited\nload 1 1\nroom 1 1\nflow 1 1 1 1\nmark f f f f\nend";
         let whole = Ok(Judgement::Fails {
-            test: Test::Kept,
+            test: Test::Conclusion,
             place: 0,
         });
-        assert_eq!(rt; answers(&rt, SPLITTER, kept)?, (whole, holds));
+        assert_eq!(rt; answers(&rt, SPLITTER, kept)?, (whole, passes));
         Ok(())
     }
 

@@ -2,7 +2,7 @@ ghost use Rattle.std.specs.Prelude.{◌≡◌, ◌<◌, ℕ, ◌↔◌, IsTrue, 
 ghost use Rattle.bt_flow.specs.Judging.{IsClear, FailsAt, IsWideAt};
 ghost use Rattle.bt_flow.specs.Ports.{ArePorts};
 ghost use Rattle.bt_flow.specs.States.{Flows, StandsFor, Fits};
-ghost use Rattle.bt_flow.specs.Tests.{Passes, places};
+ghost use Rattle.bt_flow.specs.Tests.{PassesAt, places};
 ghost use Rattle.bt_flow.specs.Sums.{sums_of, AllFit, IsFirstWide};
 
 use crate::compare::is_same;
@@ -19,7 +19,7 @@ fn passes_load(net: &Net, ports: &Ports, property: Property, state: &State, inpu
     requires ports { ArePorts net.now ports.now }
     requires fits { Fits net.now state.now }
     requires place { input < net.now.inputs }
-    ensures { (s : Flows) → StandsFor net.now state.now s → IsTrue result ↔ Passes net.now property s Test.Load input }
+    ensures { (s : Flows) → StandsFor net.now state.now s → IsTrue result ↔ PassesAt net.now property s Test.Load input }
 {
     admits(
         net,
@@ -33,7 +33,7 @@ fn passes_room(net: &Net, ports: &Ports, property: Property, state: &State, outp
     requires ports { ArePorts net.now ports.now }
     requires fits { Fits net.now state.now }
     requires place { output < net.now.outputs }
-    ensures { (s : Flows) → StandsFor net.now state.now s → IsTrue result ↔ Passes net.now property s Test.Room output }
+    ensures { (s : Flows) → StandsFor net.now state.now s → IsTrue result ↔ PassesAt net.now property s Test.Room output }
 {
     admits(
         net,
@@ -53,7 +53,7 @@ fn conserves(
     requires ports { ArePorts net.now ports.now }
     requires fits { Fits net.now state.now }
     requires place { splitter < net.now.splitters }
-    ensures passes { IfOk result (λ b. (s : Flows) → StandsFor net.now state.now s → IsTrue b ↔ Passes net.now property s Test.Conserve splitter) }
+    ensures passes { IfOk result (λ b. (s : Flows) → StandsFor net.now state.now s → IsTrue b ↔ PassesAt net.now property s Test.Conserve splitter) }
     ensures fit { OnOk result (AllFit (sums_of net.now property state.now Test.Conserve splitter)) }
     ensures wide { IfErr result (λ w. IsFirstWide w.left w.right (sums_of net.now property state.now Test.Conserve splitter)) }
 {
@@ -66,7 +66,7 @@ fn passes_even_out(net: &Net, ports: &Ports, property: Property, state: &State, 
     requires ports { ArePorts net.now ports.now }
     requires fits { Fits net.now state.now }
     requires place { edge < length net.now.edges }
-    ensures { (s : Flows) → StandsFor net.now state.now s → IsTrue result ↔ Passes net.now property s Test.EvenOut edge }
+    ensures { (s : Flows) → StandsFor net.now state.now s → IsTrue result ↔ PassesAt net.now property s Test.EvenOut edge }
 {
     match net.edges()[edge].start {
         Start::Split(splitter) => state.backed[edge]
@@ -79,7 +79,7 @@ fn passes_even_in(net: &Net, ports: &Ports, property: Property, state: &State, e
     requires ports { ArePorts net.now ports.now }
     requires fits { Fits net.now state.now }
     requires place { edge < length net.now.edges }
-    ensures { (s : Flows) → StandsFor net.now state.now s → IsTrue result ↔ Passes net.now property s Test.EvenIn edge }
+    ensures { (s : Flows) → StandsFor net.now state.now s → IsTrue result ↔ PassesAt net.now property s Test.EvenIn edge }
 {
     match net.edges()[edge].target {
         Target::Split(splitter) => !state.backed[edge]
@@ -92,7 +92,7 @@ fn passes_backing(net: &Net, ports: &Ports, property: Property, state: &State, e
     requires ports { ArePorts net.now ports.now }
     requires fits { Fits net.now state.now }
     requires place { edge < length net.now.edges }
-    ensures { (s : Flows) → StandsFor net.now state.now s → IsTrue result ↔ Passes net.now property s Test.Backing edge }
+    ensures { (s : Flows) → StandsFor net.now state.now s → IsTrue result ↔ PassesAt net.now property s Test.Backing edge }
 {
     match net.edges()[edge].target {
         Target::Split(splitter) => !state.backed[edge]
@@ -105,7 +105,7 @@ fn passes_input(net: &Net, ports: &Ports, property: Property, state: &State, inp
     requires ports { ArePorts net.now ports.now }
     requires fits { Fits net.now state.now }
     requires place { input < net.now.inputs }
-    ensures { (s : Flows) → StandsFor net.now state.now s → IsTrue result ↔ Passes net.now property s Test.Input input }
+    ensures { (s : Flows) → StandsFor net.now state.now s → IsTrue result ↔ PassesAt net.now property s Test.Input input }
 {
     meets(state, ports.inputs[input], &state.loads[input], false)
 }
@@ -114,19 +114,19 @@ fn passes_output(net: &Net, ports: &Ports, property: Property, state: &State, ou
     requires ports { ArePorts net.now ports.now }
     requires fits { Fits net.now state.now }
     requires place { output < net.now.outputs }
-    ensures { (s : Flows) → StandsFor net.now state.now s → IsTrue result ↔ Passes net.now property s Test.Output output }
+    ensures { (s : Flows) → StandsFor net.now state.now s → IsTrue result ↔ PassesAt net.now property s Test.Output output }
 {
     meets(state, ports.outputs[output], &state.rooms[output], true)
 }
 
-fn fails_kept(net: &Net, property: Property, state: &State) -> Result<bool, Wide>
+fn fails_conclusion(net: &Net, property: Property, state: &State) -> Result<bool, Wide>
     requires fits { Fits net.now state.now }
-    ensures passes { IfOk result (λ b. (s : Flows) → StandsFor net.now state.now s → IsTrue b ↔ Passes net.now property s Test.Kept 0) }
-    ensures fit { OnOk result (AllFit (sums_of net.now property state.now Test.Kept 0)) }
-    ensures wide { IfErr result (λ w. IsFirstWide w.left w.right (sums_of net.now property state.now Test.Kept 0)) }
+    ensures passes { IfOk result (λ b. (s : Flows) → StandsFor net.now state.now s → IsTrue b ↔ PassesAt net.now property s Test.Conclusion 0) }
+    ensures fit { OnOk result (AllFit (sums_of net.now property state.now Test.Conclusion 0)) }
+    ensures wide { IfErr result (λ w. IsFirstWide w.left w.right (sums_of net.now property state.now Test.Conclusion 0)) }
 {
-    let kept = concludes(net, property, state)?;
-    Ok(!kept)
+    let concluded = concludes(net, property, state)?;
+    Ok(!concluded)
 }
 
 /// A wide sum of a test at a place.
@@ -157,7 +157,7 @@ fn passes(
     requires ports { ArePorts net.now ports.now }
     requires fits { Fits net.now state.now }
     requires place { place < places net.now test }
-    ensures passes { IfOk result (λ b. (s : Flows) → StandsFor net.now state.now s → IsTrue b ↔ Passes net.now property s test place) }
+    ensures passes { IfOk result (λ b. (s : Flows) → StandsFor net.now state.now s → IsTrue b ↔ PassesAt net.now property s test place) }
     ensures fit { OnOk result (AllFit (sums_of net.now property state.now test place)) }
     ensures wide { IfErr result (λ w. (w.test ≡ test) × (w.place ≡ place) × IsFirstWide w.left w.right (sums_of net.now property state.now test place)) }
 {
@@ -171,7 +171,7 @@ fn passes(
         Test::Backing => Ok(passes_backing(net, ports, property, state, place)),
         Test::Input => Ok(passes_input(net, ports, property, state, place)),
         Test::Output => Ok(passes_output(net, ports, property, state, place)),
-        Test::Kept => named(test, place, fails_kept(net, property, state)),
+        Test::Conclusion => named(test, place, fails_conclusion(net, property, state)),
     }
 }
 
@@ -184,7 +184,7 @@ fn places(net: &Net, test: Test) -> usize
         Test::Room | Test::Output => net.outputs() as usize,
         Test::Conserve => net.splitters() as usize,
         Test::Range | Test::EvenOut | Test::EvenIn | Test::Backing => net.edges().len(),
-        Test::Kept => 1,
+        Test::Conclusion => 1,
     }
 }
 

@@ -1,7 +1,7 @@
 // The lines of a state's text that hold no list.
 ghost use Rattle.std.specs.Prelude.{◌≡◌, ℕ, List, ◌∷◌, ◌++◌, ◌↔◌, IsTrue, IfOk, IfErr, codes};
 ghost use Rattle.bt_flow.specs.Pieces.{LeadsTo};
-ghost use Rattle.bt_flow.specs.StateText.{property_name};
+ghost use Rattle.bt_flow.specs.Names.{property_name};
 ghost use Rattle.bt_flow.specs.StateFaults.{IsLineFault};
 
 use crate::fault::StateFault;

@@ -4,7 +4,7 @@ use Rattle.bt_flow.specs.declared.judgement.Test.TheVariants.{Load}
 use Rattle.std.specs.Option.{IfSome, IfNone}
 use Rattle.bt_flow.specs.Tests.{places}
 use Rattle.bt_flow.specs.Judging.{FailsAt, IsClear}
-use Rattle.bt_flow.proofs.Judged.{wide_sum, judges_failed, judges_holds, clear_test, order_at, all_tests}
+use Rattle.bt_flow.proofs.Judged.{wide_sum, judges_failed, judges_passed, clear_test, order_at, all_tests}
 use Rattle.bt_flow.proofs.judge.judge.Goals as goal
 
 pub returns-in_err-failed-clause-wide : goal.returns-in_err-failed-clause-wide
@@ -36,4 +36,4 @@ loop-order-preserved c =
 
 pub returns-clause-judges : goal.returns-clause-judges
 returns-clause-judges c =
-    judges_holds c.args.net.now c.args.property c.args.state.now c.args.first c.args.last c.loop-order.order (let l = c.loop-order-test.false in omega (arith, l)) c.loop-order.invariant
+    judges_passed c.args.net.now c.args.property c.args.state.now c.args.first c.args.last c.loop-order.order (let l = c.loop-order-test.false in omega (arith, l)) c.loop-order.invariant
