@@ -1,10 +1,11 @@
 // Fractions as texts spell them.
-ghost use Rattle.std.specs.Prelude.{◌≡◌, ◌≢◌, ℕ, ◌+◌, ◌-◌, ◌∷◌, ◌^◌, List, min, IfSome, IfNone, IsTrue, ◌⊎◌};
+ghost use Rattle.std.specs.Prelude.{◌≡◌, ◌≢◌, ℕ, ◌+◌, ◌∷◌, List, IfSome, IfNone, IsTrue, ◌⊎◌};
 ghost use Rattle.bt_frac.specs.Ratio.{Ratio, IsLowest};
-ghost use Rattle.bt_frac.specs.Texts.{frac_text, WordOf, IsSigned};
+ghost use Rattle.bt_frac.specs.Texts.{frac_text};
+ghost use Rattle.bt_frac.specs.inner.Words.{HasNoSlash, IsCutAtSlash, WordOf, HasRead, IsSigned};
 
 use crate::frac::Frac;
-use bt_text::{read_whole, split_once};
+use crate::whole::read_whole;
 
 impl Frac {
     /// The fraction that the text spells: the numerator, with a minus where it is negative, and
@@ -36,10 +37,10 @@ fn split_sign(text: &[u8]) -> (bool, &[u8])
 
 /// The numbers of a word without sign, each at most `u128::MAX`.
 fn read_parts(word: &[u8]) -> Option<(u128, u128)>
-    ensures some { IfSome result (λ parts. (m : ℕ) × ((n : ℕ) × WordOf word.now m n × (parts.0 ≡ min m (2 ^ 128 - 1)) × (parts.1 ≡ min n (2 ^ 128 - 1)))) }
+    ensures some { IfSome result (λ parts. HasRead word.now parts.0 parts.1) }
     ensures none { IfNone result ((m n : ℕ) → WordOf word.now m n → ⊥) }
 {
-    let Some((front, back)) = split_once(word, b'/') else {
+    let Some((front, back)) = split_slash(word) else {
         let Some(size) = read_whole(word) else {
             return None;
         };
@@ -55,4 +56,13 @@ fn read_parts(word: &[u8]) -> Option<(u128, u128)>
         return None;
     }
     Some((size, under))
+}
+
+/// What stands before the first slash of a word, and what stands after it.
+fn split_slash(word: &[u8]) -> Option<(&[u8], &[u8])>
+    ensures some { IfSome result (λ parts. IsCutAtSlash word.now parts.0.now parts.1.now) }
+    ensures none { IfNone result (HasNoSlash word.now) }
+{
+    let at = word.iter().position(|byte| *byte == b'/')?;
+    Some((&word[..at], &word[at + 1..]))
 }

@@ -8,7 +8,7 @@ use Rattle.std.proofs.lemmas.List.Elements.{All-nil, All-cons, All-head, All-tai
 use Rattle.std.proofs.lemmas.List.Sums.{sum_by-append, AllPass-from_list_all}
 use Rattle.bt_text.specs.Lines.{Lacks, SplitsAt, line, IsFirstLine, BeginsWithLines}
 use Rattle.bt_text.proofs.FirstLines.{fork, BeginsWithLines-tail, BeginsWithLines-nil, BeginsWithLines-cons, BeginsWithLines-push, BeginsWithLines-used}
-use Rattle.bt_text.proofs.Numerals.{decimal-lacks, decimal_apart}
+use Rattle.bt_frac.proofs.Numerals.{decimal-lacks, decimal_apart}
 use Rattle.bt_net.specs.declared.fault.NetFault.{NetFault}
 use Rattle.bt_net.specs.declared.fault.NetFault.TheVariants.{NetLine, TooLarge, NoEnds, Memory}
 use Rattle.bt_net.specs.declared.network.Edge.{Edge}

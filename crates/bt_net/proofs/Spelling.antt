@@ -5,8 +5,8 @@ use Rattle.std.specs.Int.{IsInRange}
 use Rattle.std.proofs.lemmas.List.{append_assoc}
 use Rattle.std.proofs.lemmas.List.Elements.{All-cons}
 use Rattle.bt_text.specs.Lines.{Lacks, SplitsAt}
-use Rattle.bt_text.specs.Numbers.{Spells}
-use Rattle.bt_text.proofs.Numerals.{Spells-decimal, Spells-unique, Spells-lacks, decimal-from_spells, decimal-lacks}
+use Rattle.bt_frac.specs.Numbers.{Spells}
+use Rattle.bt_frac.proofs.Numerals.{Spells-decimal, Spells-unique, Spells-lacks, decimal-from_spells, decimal-lacks}
 use Rattle.bt_text.proofs.FirstLines.{split_apart, SplitsAt-lacks}
 use Rattle.bt_net.specs.declared.network.Edge.{Edge}
 use Rattle.bt_net.specs.declared.network.Start.{Start}

@@ -1,7 +1,7 @@
 -- Where a text stops to be the text of a network.
 use Rattle.std.specs.Prelude.{◌≡◌, ℕ, ◌+◌, ◌<◌, ◌≤◌, ◌⊎◌, List, ◌++◌, length, map, codes}
 use Rattle.bt_text.specs.Lines.{IsFirstLine, BeginsWithLines}
-use Rattle.bt_text.specs.Numbers.{Spells}
+use Rattle.bt_frac.specs.Numbers.{Spells}
 use Rattle.bt_net.specs.declared.fault.NetFault.{NetFault}
 use Rattle.bt_net.specs.declared.fault.NetFault.TheVariants.{NetLine, TooLarge, NoEnds, Memory}
 use Rattle.bt_net.specs.declared.network.Edge.{Edge}

@@ -4,7 +4,8 @@ ghost use Rattle.bt_net.specs.Wiring.{IsStarted};
 
 use crate::fault::NetFault;
 use crate::wiring::Wiring;
-use bt_text::{read_whole, split_once};
+use bt_frac::read_whole;
+use bt_text::split_once;
 use std::alloc::Global;
 
 /// The network that the first line of a text begins, without edges yet.

@@ -6,7 +6,8 @@ ghost use Rattle.bt_net.specs.declared.network.Start.{Start};
 ghost use Rattle.bt_net.specs.declared.network.Target.{Target};
 
 use crate::network::{Edge, Start, Target};
-use bt_text::{read_whole, split_once};
+use bt_frac::read_whole;
+use bt_text::split_once;
 
 /// The edge of an edge line, with cap 1.
 pub fn read_edge(line: &[u8]) -> Option<Edge>

@@ -1,6 +1,6 @@
 ghost use Rattle.std.specs.Prelude.{◌≡◌, ℕ, ◌+◌, ◌-◌, ◌*◌, ◌^◌, ◌<◌, min, IfSome, IfNone};
 ghost use Rattle.std.specs.Str.Parse.{AllDigits, digits_value};
-ghost use Rattle.bt_text.specs.Numbers.{Spells};
+ghost use Rattle.bt_frac.specs.Numbers.{Spells};
 
 /// The whole number that the word spells, which is decimal digits without a leading zero, but for
 /// `0` itself. Numbers past `u128::MAX` are read as that.
