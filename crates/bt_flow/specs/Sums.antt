@@ -8,7 +8,7 @@ use Rattle.bt_flow.specs.declared.property.Property.{Property}
 use Rattle.bt_flow.specs.declared.property.Property.TheVariants.{Balanced, DrawnEvenly, Unlimited, Full}
 use Rattle.bt_flow.specs.declared.judgement.Test.{Test}
 use Rattle.bt_flow.specs.declared.judgement.Test.TheVariants as test
-use Rattle.bt_flow.specs.declared.state.State.{State}
+use Rattle.bt_flow.specs.States.{Fractions}
 use Rattle.bt_flow.specs.Properties.{is_last}
 
 -- the fraction 0
@@ -39,16 +39,16 @@ fractions_where p (e ∷ edges) [] = []
 fractions_where p (e ∷ edges) (f ∷ flows) = if p e then f ∷ fractions_where p edges flows else fractions_where p edges flows
 
 -- the sums that the conclusion of a property forms: all output flows, all loads and all rooms
-abbrev pub concluding_sums : Property → Network → State → List (List Ratio)
+abbrev pub concluding_sums : Property → Network → Fractions → List (List Ratio)
 concluding_sums Balanced n t = []
 concluding_sums DrawnEvenly n t = []
-concluding_sums Unlimited n t = fractions_where is_last n.edges t.flows.items ∷ t.loads.items ∷ t.rooms.items ∷ []
-concluding_sums Full n t = fractions_where is_last n.edges t.flows.items ∷ t.loads.items ∷ t.rooms.items ∷ []
+concluding_sums Unlimited n t = fractions_where is_last n.edges t.flows ∷ t.loads ∷ t.rooms ∷ []
+concluding_sums Full n t = fractions_where is_last n.edges t.flows ∷ t.loads ∷ t.rooms ∷ []
 
 -- the sums that a test at a place forms, each from 0 on: in flows and then out flows of a splitter, or
 -- those of the conclusion
-abbrev pub sums_of : Network → Property → State → Test → ℕ → List (List Ratio)
-sums_of n p t test.Conserve k = fractions_where (enters k) n.edges t.flows.items ∷ fractions_where (leaves k) n.edges t.flows.items ∷ []
+abbrev pub sums_of : Network → Property → Fractions → Test → ℕ → List (List Ratio)
+sums_of n p t test.Conserve k = fractions_where (enters k) n.edges t.flows ∷ fractions_where (leaves k) n.edges t.flows ∷ []
 sums_of n p t test.Conclusion a = concluding_sums p n t
 sums_of n p t u a = []
 

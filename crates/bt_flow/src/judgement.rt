@@ -31,6 +31,29 @@ pub enum Test {
     Conclusion,
 }
 
+/// All tests, in their order.
+pub const TESTS: [Test; 10] = [
+    Test::Load,
+    Test::Room,
+    Test::Range,
+    Test::Conserve,
+    Test::EvenOut,
+    Test::EvenIn,
+    Test::Backing,
+    Test::Input,
+    Test::Output,
+    Test::Conclusion,
+];
+
+/// The place in the order of the first of the seven laws, which the tests of loads and rooms precede.
+pub const FIRST_LAW: usize = 2;
+
+/// The place in the order of the last of the seven laws, which only the test of the conclusion follows.
+pub const LAST_LAW: usize = 8;
+
+/// The place in the order of the last test.
+pub const LAST_TEST: usize = 9;
+
 impl Test {
     /// The name of the test, as answers write it. That of the conclusion is `kept`, since it fails
     /// where the state keeps the property.

@@ -1,6 +1,6 @@
 ghost use Rattle.std.specs.Prelude.{◌≡◌, ℕ, ◌+◌, ◌==◌, ◌<◌, ◌≤◌, ◌++◌, ◌∷◌, [], false, IfSome, IfNone, IsTrue, length, count_by, All, slice_index_or};
 ghost use Rattle.bt_net.specs.Network.{IsNetwork};
-ghost use Rattle.bt_flow.specs.Ports.{numbers_of, plays, AreAt, ArePorts};
+ghost use Rattle.bt_flow.specs.inner.Ports.{numbers_of, plays, AreAt, ArePorts};
 
 use bt_net::{Edge, Net, Start, Target};
 

@@ -1,7 +1,7 @@
 ghost use Rattle.std.specs.Prelude.{◌≡◌, ◌<◌, ℕ, List, IfOk, IfErr, length, map, slice_index_or};
 ghost use Rattle.std.specs.List.{AllByRecursion};
 ghost use Rattle.bt_flow.specs.Sums.{nothing, AddsTo, IsWide, RunsTo, IsWideIn, fractions_where};
-ghost use Rattle.bt_flow.specs.Ports.{numbers_of};
+ghost use Rattle.bt_flow.specs.inner.Ports.{numbers_of};
 ghost use Rattle.bt_flow.specs.Properties.{is_last};
 
 use crate::ports::Port;
