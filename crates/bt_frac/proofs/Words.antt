@@ -10,7 +10,7 @@ use Rattle.bt_frac.specs.Numbers.{Spells}
 use Rattle.bt_frac.proofs.Numerals.{Spells-decimal, Spells-unique, Spells-lacks, decimal-from_spells}
 use Rattle.bt_frac.specs.Ratio.{Ratio, IsLowest, parts_ratio}
 use Rattle.bt_frac.specs.Texts.{frac_text}
-use Rattle.bt_frac.specs.inner.Words.{HasNoSlash, IsCutAtSlash, WordOf, HasRead, IsSigned}
+use Rattle.bt_frac.specs.inner.Words.{HasNoSlash, IsCutAtSlash, WordOf, AroundSlash, HasRead, AreRead, IsSigned}
 use Rattle.bt_frac.proofs.Quotients.{parts_size}
 
 not_digit : (b : ℕ) → b < 48 → ¬ IsInRange 48 57 b
@@ -48,8 +48,8 @@ WordOf-unique word m n m' n' (inl p) (inr q) =
 WordOf-unique word m n m' n' (inr p) (inl q) =
     absurd (lacks_split 47 p.0 p.1.0 (subst HasNoSlash p.1.1 (Spells-lacks word m' 47 q.0 slash)))
 WordOf-unique word m n m' n' (inr p) (inr q) =
-    let both = split_unique 47 p.0 q.0 p.1.0 q.1.0 (Spells-lacks p.0 m 47 p.1.2 slash) (Spells-lacks q.0 m' 47 q.1.2 slash) (sym p.1.1 ∙ q.1.1) in
-    (Spells-unique (subst (λ w. Spells w m) both.0 p.1.2) q.1.2, Spells-unique (subst (λ w. Spells w n) both.1 p.1.3) q.1.3)
+    let both = split_unique 47 p.0 q.0 p.1.0 q.1.0 (Spells-lacks p.0 m 47 p.1.2.0 slash) (Spells-lacks q.0 m' 47 q.1.2.0 slash) (sym p.1.1 ∙ q.1.1) in
+    (Spells-unique (subst (λ w. Spells w m) both.0 p.1.2.0) q.1.2.0, Spells-unique (subst (λ w. Spells w n) both.1 p.1.2.1) q.1.2.1)
 
 -- the word of a fraction without its sign
 pub word_text : ℕ → ℕ → List ℕ
@@ -69,7 +69,7 @@ wide n h = omega arith
 
 word_at : (m n : ℕ) (t : Bool) → m < 2 ^ 127 → n < 2 ^ 127 → (n == 1) ≡ t → WordOf (cond t (decimal m) (decimal m ++ 47 ∷ decimal n)) m n
 word_at m n true h k e = inl (Spells-decimal m (wide m h), eq_test n e)
-word_at m n false h k e = inr (decimal m, (decimal n, refl, Spells-decimal m (wide m h), Spells-decimal n (wide n k), not_eq_test n e))
+word_at m n false h k e = inr (decimal m, (decimal n, refl, (Spells-decimal m (wide m h), Spells-decimal n (wide n k), not_eq_test n e)))
 
 pub WordOf-text : (m n : ℕ) → m < 2 ^ 127 → n < 2 ^ 127 → WordOf (word_text m n) m n
 unfolding word_text
@@ -80,8 +80,8 @@ pub WordOf-is : (word : List ℕ) (m n : ℕ) → m < 2 ^ 127 → n < 2 ^ 127 �
 unfolding word_text
 WordOf-is word m n h k (inl p) = decimal-from_spells word m p.0 (wide m h) ∙ sym (ap (λ j. word_text m j) p.1)
 WordOf-is word m n h k (inr p) =
-    p.1.1 ∙ ap (λ w. w ++ 47 ∷ p.1.0) (decimal-from_spells p.0 m p.1.2 (wide m h)) ∙ ap (λ w. decimal m ++ 47 ∷ w) (decimal-from_spells p.1.0 n p.1.3 (wide n k))
-    ∙ sym (ap (λ t. cond t (decimal m) (decimal m ++ 47 ∷ decimal n)) (ne_test n p.1.4))
+    p.1.1 ∙ ap (λ w. w ++ 47 ∷ p.1.0) (decimal-from_spells p.0 m p.1.2.0 (wide m h)) ∙ ap (λ w. decimal m ++ 47 ∷ w) (decimal-from_spells p.1.0 n p.1.2.1 (wide n k))
+    ∙ sym (ap (λ t. cond t (decimal m) (decimal m ++ 47 ∷ decimal n)) (ne_test n p.1.2.2))
 
 minus : ¬ IsInRange 48 57 45
 minus = not_digit 45 (lit< tt)
@@ -93,7 +93,7 @@ first_lacks (x ∷ front) back word some h e = let same : x ≡ 45 = cc in All-h
 -- no word begins with a minus
 WordOf-unsigned : (rest : List ℕ) (m n : ℕ) → WordOf (45 ∷ rest) m n → ⊥
 WordOf-unsigned rest m n (inl p) = lacks_split 45 [] rest (Spells-lacks (45 ∷ rest) m 45 p.0 minus)
-WordOf-unsigned rest m n (inr p) = first_lacks p.0 (47 ∷ p.1.0) rest p.1.2.some_digit (Spells-lacks p.0 m 45 p.1.2 minus) (sym p.1.1)
+WordOf-unsigned rest m n (inr p) = first_lacks p.0 (47 ∷ p.1.0) rest p.1.2.0.some_digit (Spells-lacks p.0 m 45 p.1.2.0 minus) (sym p.1.1)
 
 -- the text of parts is their sign and their word
 signed_at : (k n : ℕ) (t : Bool) → cond t (45 ∷ decimal (suc k)) ((45 ∷ decimal (suc k)) ++ 47 ∷ decimal n) ≡ 45 ∷ cond t (decimal (suc k)) (decimal (suc k) ++ 47 ∷ decimal n)
@@ -177,25 +177,19 @@ no_word_whole word lacks none m n (inl p) = none m p.0
 no_word_whole word lacks none m n (inr p) = lacks_split 47 p.0 p.1.0 (subst HasNoSlash p.1.1 lacks)
 
 -- a word with a slash is of the numbers around the first one
-around : (word front back : List ℕ) (m n : ℕ) → IsCutAtSlash word front back → WordOf word m n → Spells front m × Spells back n × (n ≢ 1)
+around : (word front back : List ℕ) (m n : ℕ) → IsCutAtSlash word front back → WordOf word m n → AroundSlash front back m n
 around word front back m n s (inl p) = absurd (lacks_split 47 front back (subst HasNoSlash s.word_is (Spells-lacks word m 47 p.0 slash)))
 around word front back m n s (inr p) =
-    let both = split_unique 47 p.0 front p.1.0 back (Spells-lacks p.0 m 47 p.1.2 slash) s.first (sym p.1.1 ∙ s.word_is) in
-    (subst (λ w. Spells w m) both.0 p.1.2, subst (λ w. Spells w n) both.1 p.1.3, p.1.4)
+    let both = split_unique 47 p.0 front p.1.0 back (Spells-lacks p.0 m 47 p.1.2.0 slash) s.first (sym p.1.1 ∙ s.word_is) in
+    (subst (λ w. Spells w m) both.0 p.1.2.0, subst (λ w. Spells w n) both.1 p.1.2.1, p.1.2.2)
 
-pub no_word_front : (word front back : List ℕ) → IsCutAtSlash word front back → ((k : ℕ) → Spells front k → ⊥) → (m n : ℕ) → WordOf word m n → ⊥
-no_word_front word front back s none m n w = none m (around word front back m n s w).0
+-- a word with a slash is of no numbers where its two sides are not
+pub no_word_around : (word front back : List ℕ) → IsCutAtSlash word front back → ((m n : ℕ) → AroundSlash front back m n → ⊥) → (m n : ℕ) → WordOf word m n → ⊥
+no_word_around word front back s none m n w = none m n (around word front back m n s w)
 
-pub no_word_back : (word front back : List ℕ) → IsCutAtSlash word front back → ((k : ℕ) → Spells back k → ⊥) → (m n : ℕ) → WordOf word m n → ⊥
-no_word_back word front back s none m n w = none n (around word front back m n s w).1
-
-one_is : (n v : ℕ) → v ≡ min n (2 ^ 128 - 1) → v ≡ 1 → n ≡ 1
-one_is n v r e = omega arith
-
-pub no_word_one : (word front back : List ℕ) (v : ℕ) → IsCutAtSlash word front back → ((k : ℕ) × Spells back k × (v ≡ min k (2 ^ 128 - 1))) → v ≡ 1 → (m n : ℕ) → WordOf word m n → ⊥
-no_word_one word front back v s read e m n w =
-    let parts = around word front back m n s w in
-    parts.2 (Spells-unique parts.1 read.1 ∙ one_is read.0 v read.2 e)
+pub none_around : (word front back : List ℕ) (o : Option (ℕ × ℕ)) → IsCutAtSlash word front back → IfNone o ((m n : ℕ) → AroundSlash front back m n → ⊥) → IfNone o ((m n : ℕ) → WordOf word m n → ⊥)
+none_around word front back None s p = no_word_around word front back s p
+none_around word front back (Some parts) s p = tt
 
 pub some_is : (text word : List ℕ) (negative : Bool) (size under : ℕ) (o : Option Ratio) → IsSigned text negative word → HasRead word size under
     → IfSome o (λ f. (f ≡ parts_ratio negative size under) × (IsTrue negative → 0 < size)) → IfSome o IsLowest → IfSome o (λ f. text ≡ frac_text f)

@@ -1,8 +1,8 @@
-// Fractions as texts spell them.
+//! Fractions as texts spell them, each in one way.
 ghost use Rattle.std.specs.Prelude.{◌≡◌, ◌≢◌, ℕ, ◌+◌, ◌∷◌, List, IfSome, IfNone, IsTrue, ◌⊎◌};
 ghost use Rattle.bt_frac.specs.Ratio.{Ratio, IsLowest};
 ghost use Rattle.bt_frac.specs.Texts.{frac_text};
-ghost use Rattle.bt_frac.specs.inner.Words.{HasNoSlash, IsCutAtSlash, WordOf, HasRead, IsSigned};
+ghost use Rattle.bt_frac.specs.inner.Words.{HasNoSlash, IsCutAtSlash, WordOf, AroundSlash, HasRead, AreRead, IsSigned};
 
 use crate::frac::Frac;
 use crate::whole::read_whole;
@@ -40,18 +40,19 @@ fn read_parts(word: &[u8]) -> Option<(u128, u128)>
     ensures some { IfSome result (λ parts. HasRead word.now parts.0 parts.1) }
     ensures none { IfNone result ((m n : ℕ) → WordOf word.now m n → ⊥) }
 {
-    let Some((front, back)) = split_slash(word) else {
-        let Some(size) = read_whole(word) else {
-            return None;
-        };
-        return Some((size, 1));
-    };
-    let Some(size) = read_whole(front) else {
-        return None;
-    };
-    let Some(under) = read_whole(back) else {
-        return None;
-    };
+    match split_slash(word) {
+        Some((front, back)) => read_both(front, back),
+        None => Some((read_whole(word)?, 1)),
+    }
+}
+
+/// The numbers before and after a slash, of which the second is not 1.
+fn read_both(front: &[u8], back: &[u8]) -> Option<(u128, u128)>
+    ensures some { IfSome result (λ parts. AreRead front.now back.now parts.0 parts.1) }
+    ensures none { IfNone result ((m n : ℕ) → AroundSlash front.now back.now m n → ⊥) }
+{
+    let size = read_whole(front)?;
+    let under = read_whole(back)?;
     if under == 1 {
         return None;
     }

@@ -16,7 +16,9 @@ use Rattle.bt_net.specs.declared.network.Target.TheVariants as to
 use Rattle.bt_net.specs.Network.{Network}
 use Rattle.bt_net.specs.NetText.{start_text, target_text, header, edge_text}
 use Rattle.bt_net.specs.Refusals.{IsHeader}
-use Rattle.bt_net.specs.Wiring.{HasSmallSizes, StartFits, TargetFits, EdgeFits}
+use Rattle.bt_net.specs.declared.network.TheConstants.{MOST_OF_EACH}
+use Rattle.bt_net.specs.Wiring.{HasSmallSizes}
+use Rattle.bt_net.specs.inner.Lines.{StartFits, TargetFits, EdgeFits}
 
 -- a number that is read, and limited, and is small, is the one written
 pub small_number : (w : List ℕ) (v n : ℕ) → Spells w n → v ≡ min n (2 ^ 128 - 1) → v < 2 ^ 32 → w ≡ decimal v
@@ -44,23 +46,23 @@ ends_of ends front back e fits splits is =
     (sym splits.text_is ∙ is)
 
 -- what follows the first word of an edge line
-pub after_edge : (text front rest : List ℕ) (e : Edge) → rest ≡ drop (length front) text → front ≡ codes "edge " → text ≡ edge_text e → rest ≡ start_text e.start ++ 32 ∷ target_text e.target
+pub after_edge : (text front rest : List ℕ) (e : Edge) → text ≡ front ++ rest → front ≡ codes "edge " → text ≡ edge_text e → rest ≡ start_text e.start ++ 32 ∷ target_text e.target
 after_edge text front rest e cut is all =
-    cut ∙ ap (λ f. drop (length f) text) is ∙ ap (drop 5) all ∙ append_assoc (start_text e.start) (32 ∷ []) (target_text e.target)
+    ap (drop 5) (sym (cut ∙ ap (λ f. f ++ rest) is) ∙ all) ∙ append_assoc (start_text e.start) (32 ∷ []) (target_text e.target)
 
 three_words : (a b c : List ℕ) → a ++ 32 ∷ [] ++ b ++ 32 ∷ [] ++ c ≡ a ++ 32 ∷ (b ++ 32 ∷ c)
 three_words a b c = simp append_assoc
 
 -- what follows the first word of a header
-after_net : (text front rest : List ℕ) (i o s : ℕ) (h : IsHeader text i o s) → rest ≡ drop (length front) text → front ≡ codes "net " → rest ≡ h.inputs_word ++ 32 ∷ (h.outputs_word ++ 32 ∷ h.splitters_word)
+after_net : (text front rest : List ℕ) (i o s : ℕ) (h : IsHeader text i o s) → text ≡ front ++ rest → front ≡ codes "net " → rest ≡ h.inputs_word ++ 32 ∷ (h.outputs_word ++ 32 ∷ h.splitters_word)
 after_net text front rest i o s h cut is =
-    cut ∙ ap (λ f. drop (length f) text) is ∙ ap (drop 4) h.bytes_are ∙ three_words h.inputs_word h.outputs_word h.splitters_word
+    ap (drop 4) (sym (cut ∙ ap (λ f. f ++ rest) is) ∙ h.bytes_are) ∙ three_words h.inputs_word h.outputs_word h.splitters_word
 
 word-lacks : (w : List ℕ) (n : ℕ) → Spells w n → Lacks 32 w
 word-lacks w n s = Spells-lacks w n 32 s (λ r. omega (arith, r.0))
 
 -- the numbers of a header, by its three words
-pub header_words : (text front rest f back g d : List ℕ) (i o s : ℕ) → rest ≡ drop (length front) text → front ≡ codes "net " → SplitsAt 32 rest f back → SplitsAt 32 back g d → IsHeader text i o s → Spells f i × Spells g o × Spells d s
+pub header_words : (text front rest f back g d : List ℕ) (i o s : ℕ) → text ≡ front ++ rest → front ≡ codes "net " → SplitsAt 32 rest f back → SplitsAt 32 back g d → IsHeader text i o s → Spells f i × Spells g o × Spells d s
 header_words text front rest f back g d i o s cut is one two h =
     let all = after_net text front rest i o s h cut is in
     let first = split_apart 32 f h.inputs_word back (h.outputs_word ++ 32 ∷ h.splitters_word) one.first (word-lacks h.inputs_word i h.inputs_spelled) (sym one.text_is ∙ all) in
@@ -68,7 +70,7 @@ header_words text front rest f back g d i o s cut is one two h =
     (rw first.0 h.inputs_spelled, rw second.0 h.outputs_spelled, rw second.1 h.splitters_spelled)
 
 -- a header has a second space
-pub header_spaces : (text front rest f back : List ℕ) (i o s : ℕ) → rest ≡ drop (length front) text → front ≡ codes "net " → SplitsAt 32 rest f back → Lacks 32 back → IsHeader text i o s → ⊥
+pub header_spaces : (text front rest f back : List ℕ) (i o s : ℕ) → text ≡ front ++ rest → front ≡ codes "net " → SplitsAt 32 rest f back → Lacks 32 back → IsHeader text i o s → ⊥
 header_spaces text front rest f back i o s cut is one none h =
     let all = after_net text front rest i o s h cut is in
     let first = split_apart 32 f h.inputs_word back (h.outputs_word ++ 32 ∷ h.splitters_word) one.first (word-lacks h.inputs_word i h.inputs_spelled) (sym one.text_is ∙ all) in
@@ -88,7 +90,7 @@ header_of text front rest f back g d i o s all is one two a b c = record {
 }
 
 -- the header of small numbers is the one that is written
-pub header_is : (text : List ℕ) (i o s : ℕ) → IsHeader text i o s → i ≤ 2048 → o ≤ 2048 → s ≤ 2048 → text ≡ codes "net " ++ decimal i ++ codes " " ++ decimal o ++ codes " " ++ decimal s
+pub header_is : (text : List ℕ) (i o s : ℕ) → IsHeader text i o s → i ≤ MOST_OF_EACH → o ≤ MOST_OF_EACH → s ≤ MOST_OF_EACH → text ≡ codes "net " ++ decimal i ++ codes " " ++ decimal o ++ codes " " ++ decimal s
 header_is text i o s h a b c =
     let p = decimal-from_spells h.inputs_word i h.inputs_spelled (omega arith) in
     let q = decimal-from_spells h.outputs_word o h.outputs_spelled (omega arith) in
@@ -110,8 +112,7 @@ IsHeader-header n small = record {
 -- a line is the header of one triple of numbers
 pub header_unique : (text : List ℕ) (i o s j p t : ℕ) → IsHeader text i o s → IsHeader text j p t → (i ≡ j) × (o ≡ p) × (s ≡ t)
 header_unique text i o s j p t h g =
-    let words = three_words g.inputs_word g.outputs_word g.splitters_word in
-    let cut = sym (ap (drop 4) g.bytes_are ∙ words) in
+    let cut = g.bytes_are ∙ ap (λ x. codes "net " ++ x) (three_words g.inputs_word g.outputs_word g.splitters_word) in
     let one : SplitsAt 32 (g.inputs_word ++ 32 ∷ (g.outputs_word ++ 32 ∷ g.splitters_word)) g.inputs_word (g.outputs_word ++ 32 ∷ g.splitters_word) = record { first = word-lacks g.inputs_word j g.inputs_spelled; text_is = refl } in
     let two : SplitsAt 32 (g.outputs_word ++ 32 ∷ g.splitters_word) g.outputs_word g.splitters_word = record { first = word-lacks g.outputs_word p g.outputs_spelled; text_is = refl } in
     let spelled = header_words text (codes "net ") (g.inputs_word ++ 32 ∷ (g.outputs_word ++ 32 ∷ g.splitters_word)) g.inputs_word (g.outputs_word ++ 32 ∷ g.splitters_word) g.outputs_word g.splitters_word i o s cut refl one two h in

@@ -1,3 +1,4 @@
+//! A line of text in a buffer of its own, so that printing takes no memory.
 ghost use Rattle.std.specs.Prelude.{◌≡◌, ◌+◌, ◌≤◌, ◌++◌, [], length, decimal};
 ghost use Rattle.bt_net.specs.NetText.{start_text, target_text};
 
@@ -23,6 +24,7 @@ impl Model for LineBuffer {
 }
 
 impl LineBuffer {
+    /// A line without bytes yet.
     pub fn new() -> Self
         ensures { result ≡ [] }
     {
@@ -32,12 +34,14 @@ impl LineBuffer {
         }
     }
 
+    /// What was written so far.
     pub fn as_bytes(&self) -> &[u8]
         ensures { result.now ≡ self.now }
     {
         &self.bytes[..self.len]
     }
 
+    /// Adds some bytes.
     pub fn push(&mut self, piece: &[u8])
         requires { length self.old + length piece.now ≤ 48 }
         ensures { self.new ≡ self.old ++ piece.now }
@@ -47,6 +51,7 @@ impl LineBuffer {
         self.len = end;
     }
 
+    /// Adds a number in decimal digits, which are 10 at most.
     pub fn push_number(&mut self, number: u32)
         requires { length self.old + 10 ≤ 48 }
         ensures number { self.new ≡ self.old ++ decimal number }
@@ -57,6 +62,7 @@ impl LineBuffer {
         self.push(digits);
     }
 
+    /// Adds the letter and the number of a start.
     pub fn push_start(&mut self, start: Start)
         requires { length self.old + 11 ≤ 48 }
         ensures start { self.new ≡ self.old ++ start_text start }
@@ -74,6 +80,7 @@ impl LineBuffer {
         }
     }
 
+    /// Adds the letter and the number of a target.
     pub fn push_target(&mut self, target: Target)
         requires { length self.old + 11 ≤ 48 }
         ensures target { self.new ≡ self.old ++ target_text target }

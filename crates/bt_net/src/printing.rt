@@ -1,3 +1,4 @@
+//! Writing the text of a network, line by line, without memory.
 ghost use Rattle.std.specs.Prelude.{◌≡◌};
 ghost use Rattle.bt_io.specs.Bytes.{WritesText};
 ghost use Rattle.bt_io.specs.Passages.{passage};
