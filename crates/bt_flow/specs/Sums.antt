@@ -1,7 +1,7 @@
 -- The sums that tests form, one addition of fractions after another, and additions that leave 128 bits.
 use Rattle.std.specs.Prelude.{◌≡◌, ◌⊎◌, ℕ, Bool, List, [], ◌∷◌, ◌++◌, if◌then◌else◌, pos}
 use Rattle.std.specs.List.{AllByRecursion}
-use Rattle.bt_frac.specs.Ratio.{Ratio, IsLowest, IsSum, AddNumbers, AddFits}
+use Rattle.bt_frac.specs.Ratio.{Ratio, IsLowest, IsSum, CanAdd, IsWide}
 use Rattle.bt_net.specs.declared.network.Edge.{Edge}
 use Rattle.bt_net.specs.Network.{Network, leaves, enters}
 use Rattle.bt_flow.specs.declared.property.Property.{Property}
@@ -15,17 +15,13 @@ use Rattle.bt_flow.specs.Properties.{is_last}
 abbrev pub nothing : Ratio
 nothing = record { over = pos 0; under = 1 }
 
--- the numbers of an addition don't all fit
-abbrev pub IsWide : Ratio → Ratio → Type 0
-IsWide a b = (n : AddNumbers a b) × (AddFits n → ⊥)
-
 -- the exact sum of two fractions, all three in lowest terms, whose numbers fit
 pub record AddsTo (a b r : Ratio) : Type 0 where
   pub left : IsLowest a
   pub right : IsLowest b
   pub lowest : IsLowest r
   pub sum : IsSum a b r
-  pub fits : (n : AddNumbers a b) × AddFits n
+  pub fits : CanAdd a b
 
 -- adding these fractions in order to a number leads to another, and every addition fits
 abbrev pub RunsTo : Ratio → List Ratio → Ratio → Type 0

@@ -196,10 +196,11 @@ impl<'a> Trial<'a> {
     }
 }
 
-/// A wide sum of a test at a place.
+/// The outcome of a test at a place, which a wide sum names.
 fn named(test: Test, place: usize, outcome: Result<bool, Wide>) -> Result<bool, WideSum>
     ensures ok { IfOk result (λ b. outcome ≡ Ok b) }
-    ensures wide { IfErr result (λ w. (w.test ≡ test) × (w.place ≡ place) × (outcome ≡ Err (record { left = w.left; right = w.right }))) }
+    ensures wide { IfErr result (λ w. (w.test ≡ test) × (w.place ≡ place)
+        × (outcome ≡ Err (record { left = w.left; right = w.right }))) }
 {
     outcome.map_err(|wide| WideSum {
         test,

@@ -1,9 +1,11 @@
 //! The lines of a state's text: their numbers, and those that hold no list, the first and the last.
-ghost use Rattle.std.specs.Prelude.{◌≡◌, ◌≤◌, ℕ, List, ◌∷◌, ◌++◌, ◌↔◌, IsTrue, IfOk, IfErr, IfSome, IfNone, All, codes, length};
+ghost use Rattle.std.specs.Prelude.{◌≡◌, ◌≤◌, ◌∷◌, ◌++◌, ◌↔◌, ℕ, List, IsTrue, IfOk, IfErr, IfSome, IfNone};
+ghost use Rattle.std.specs.Prelude.{All, codes, length};
 ghost use Rattle.bt_text.specs.Blanks.{IsBlank};
 ghost use Rattle.bt_text.specs.Pieces.{LeadsTo};
 ghost use Rattle.bt_flow.specs.Names.{property_name};
-ghost use Rattle.bt_flow.specs.inner.Lines.{IsLineFault, IsFault, IsTitled, StopsAtTitle, Closes, StopsAtEnd, HasByteAfter};
+ghost use Rattle.bt_flow.specs.inner.Lines.{IsLineFault, IsFault, IsTitled, StopsAtTitle};
+ghost use Rattle.bt_flow.specs.inner.Lines.{Closes, StopsAtEnd, HasByteAfter};
 
 use crate::fault::StateFault;
 use crate::property::Property;

@@ -77,7 +77,8 @@ fn read_items<T: Item>(
 /// The item whose word comes next, and what follows the word.
 fn next_item<T: Item>(text: &[u8]) -> Option<(T, &[u8])>
     ensures some { IfSome result (λ parts. LeadsToItem T.can_stand T.word text.now parts.0 parts.1.now) }
-    ensures none { IfNone result ((x : T) (rest : List ℕ) → LeadsToItem T.can_stand T.word text.now x rest → ⊥) }
+    ensures none { IfNone result ((x : T) (rest : List ℕ) →
+        LeadsToItem T.can_stand T.word text.now x rest → ⊥) }
 {
     let (word, rest) = next_piece(text, b' ')?;
     let item = T::read(word)?;
