@@ -45,7 +45,7 @@ pub record StandsFor (n : Network) (t : Fractions) (s : Flows) : Type 0 where
   pub loads : AreOver t.loads s.loads s.denominator
   pub rooms : AreOver t.rooms s.rooms s.denominator
 
--- the fractions stand for whole numbers, and this is true of them, whatever the denominator
+-- the fractions stand for some whole numbers, and the claim is true of all for which they stand
 pub record IsTrueOf (n : Network) (t : Fractions) (Claim : Flows → Type 0) : Type 0 where
   pub some : (s : Flows) × StandsFor n t s
   pub each : (s : Flows) → StandsFor n t s → Claim s

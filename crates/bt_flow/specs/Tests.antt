@@ -34,7 +34,7 @@ places n test.Input = n.inputs
 places n test.Output = n.outputs
 places n test.Conclusion = 1
 
--- the state passes the test at the place
+-- the state passes the test at the place: the last one where the conclusion of the property is false
 abbrev pub PassesAt : Network → Property → Flows → Test → ℕ → Type 0
 PassesAt n p s test.Load i = AdmitsLoad n s i × (IsTrue (asks_loads p) → IsLoaded n s i)
 PassesAt n p s test.Room o = AdmitsRoom n s o × (IsTrue (asks_rooms p) → IsOpen n s o)

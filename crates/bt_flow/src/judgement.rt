@@ -89,8 +89,12 @@ pub enum Judgement {
 /// Two numbers whose sum a test at a place needs, and whose addition leaves 128 bits.
 #[derive(Clone, Copy, Debug, PartialEq, Eq)]
 pub struct WideSum {
+    /// The test that needs the sum.
     pub test: Test,
+    /// The place of the test, from 0.
     pub place: usize,
+    /// What was summed before.
     pub left: Frac,
+    /// The number that can't be added.
     pub right: Frac,
 }

@@ -16,7 +16,7 @@ use Rattle.bt_flow.specs.Judging.{IsWideSum}
 use Rattle.bt_flow.specs.inner.Ports.{ArePorts}
 use Rattle.bt_flow.specs.inner.AtPorts.{Tells, TellsBySums}
 
--- what is on trial: a state of a network, for a property
+-- what a trial is of: a state of a network, for a property
 pub record Subject : Type 0 where
   pub network : Network
   pub property : Property

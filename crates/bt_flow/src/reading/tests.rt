@@ -8,7 +8,8 @@ use std::test::Fail;
 
 // One belt from the only input to the only output.
 fn one_belt(alloc: Global) -> Result<Vec<Edge>, AllocError>
-    ensures { IfOk result (λ v. v.items ≡ record { start = Start.Input 0; target = Target.Output 0; cap = 1 } ∷ []) }
+    ensures { IfOk result (λ v. v.items ≡
+        record { start = Start.Input 0; target = Target.Output 0; cap = 1 } ∷ []) }
 {
     let mut edges = Vec::new(alloc);
     edges.push(Edge {
