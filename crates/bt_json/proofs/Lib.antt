@@ -3,6 +3,7 @@ pub mod Digits
 pub mod Halves
 pub mod Scaled
 pub mod ByteKinds
+pub mod Blanks
 pub mod Characters
 pub mod Running
 pub mod Texts
@@ -18,8 +19,9 @@ pub mod Sound
 pub mod Kept
 pub mod Whole
 pub mod Live
-pub mod Limits
+pub mod Lenient
 pub mod Dues
 pub mod Events
-pub mod Results
+pub mod OneRead
 pub mod NameLemmas
+pub mod FrameSteps

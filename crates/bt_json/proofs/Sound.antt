@@ -7,8 +7,8 @@ use Rattle.bt_json.specs.Stands.{items_of, members_of}
 use Rattle.bt_json.specs.Grammar.{Texts, ◌▸◌, Byte, Blanks, is_blank, IsText, IsValue}
 use Rattle.bt_json.specs.Places.{Frame, in_list, in_object, Due, NameDue}
 use Rattle.bt_json.specs.Answers.{EndsBefore}
-use Rattle.bt_json.specs.Bytes.{kind_of, mark_of}
-use Rattle.bt_json.specs.Reading.{State, Step, go, stop, found, bad, deep, twice, step, Role, as_value, as_name, Place, between, InText, reads, closes, no_text, Numeral, numeral_value, InNumber, goes_on, ends, wrong, due, opened_list, behind, opened_object, name_due, colon_due, in_text, in_number, in_word, deliver, opens_level, has_name, finish_text, step_due, step_opened_list, step_behind, step_opened_object, step_name_due, step_colon_due, step_in_text, step_in_number, step_past, step_in_word, step_text, step_number}
+use Rattle.bt_json.specs.inner.Bytes.{kind_of, mark_of}
+use Rattle.bt_json.specs.inner.Reading.{State, Step, go, stop, found, bad, deep, twice, step, Role, as_value, as_name, Place, between, InText, reads, closes, no_text, Numeral, numeral_value, InNumber, goes_on, ends, wrong, due, opened_list, behind, opened_object, name_due, colon_due, in_text, in_number, in_word, deliver, opens_level, has_name, finish_text, step_due, step_opened_list, step_behind, step_opened_object, step_name_due, step_colon_due, step_in_text, step_in_number, step_past, step_in_word, step_text, step_number}
 use Rattle.bt_json.specs.declared.kind.Kind.{Kind}
 use Rattle.bt_json.specs.declared.kind.Kind.TheVariants.{Blank, ListOpens, ListCloses, ObjectOpens, ObjectCloses, Comma, Colon, Quote, Minus, Digit, LetterT, LetterF, LetterN, Other}
 use Rattle.bt_json.specs.declared.kind.Phase.{Phase}
@@ -16,6 +16,7 @@ use Rattle.bt_json.proofs.ByteKinds.{kind-Blank, kind-ListOpens, kind-ListCloses
 use Rattle.bt_json.proofs.Joins.{join, extend, no_blanks, blanks_more, due_blank, name_due_blank, list_goes_on, list_closed, empty_list_closed, colon_stands, object_goes_on, object_closed, empty_object_closed}
 use Rattle.bt_json.proofs.SoundNumbers.{Written, Onwards, written_step, mark_is, minus_first, digit_first}
 use Rattle.bt_json.proofs.SoundTexts.{Half, TextOnwards, text_step, nothing_read}
+use Rattle.bt_json.specs.declared.limits.TheConstants.{MOST_LEVELS}
 
 -- the text before the opening quote of a text
 abbrev pub Opening : Role → List Frame → Texts
@@ -57,7 +58,7 @@ pub record NameTwice (from : ℕ) (t : List ℕ) : Type 0 where
 
 pub record DeepThere (b : ℕ) (p : List ℕ) : Type 0 where
   pub frames : List Frame
-  pub levels : length frames ≡ 64
+  pub levels : length frames ≡ MOST_LEVELS
   pub due_value : Due frames p
   pub opens : (b ≡ 91) ⊎ (b ≡ 123)
 
@@ -89,8 +90,8 @@ both_true false y e = absurd cc
 
 level_opens : (strict : Bool) (k : List Frame) (at b : ℕ) (p : List ℕ) (inside : State) → (b ≡ 91) ⊎ (b ≡ 123) → Due k p → Reached inside (p ++ b ∷ []) → Good at b p (opens_level strict k at inside)
 level_opens strict k at b p inside bracket h r =
-    chosen (strict && (length k == 64)) (stop (deep at)) (go inside) at b p
-    (λ e. let t = both_true strict (length k == 64) e in (refl, record { frames = k; levels = eqb-true (length k) 64 t.1; due_value = h; opens = bracket })) (λ e. r)
+    chosen (strict && (length k == MOST_LEVELS)) (stop (deep at)) (go inside) at b p
+    (λ e. let t = both_true strict (length k == MOST_LEVELS) e in (refl, record { frames = k; levels = eqb-true (length k) MOST_LEVELS t.1; due_value = h; opens = bracket })) (λ e. r)
 
 alone_first : (c b : ℕ) → b ≡ c → (Byte c ▸ Blanks) (b ∷ [])
 alone_first c b e = record { front = b ∷ []; back = []; first = ap (λ x. x ∷ []) e; second = tt; whole = refl }
@@ -105,11 +106,7 @@ due_step strict at k b p Digit e h = let d = kind-Digit b e in join p (b ∷ [])
 due_step strict at k b p LetterT e h = join p (b ∷ []) h ((λ rest. tt), omega arith, ap (λ x. x ∷ 114 ∷ 117 ∷ 101 ∷ []) (kind-LetterT b e))
 due_step strict at k b p LetterF e h = join p (b ∷ []) h ((λ rest. tt), omega arith, ap (λ x. x ∷ 97 ∷ 108 ∷ 115 ∷ 101 ∷ []) (kind-LetterF b e))
 due_step strict at k b p LetterN e h = join p (b ∷ []) h ((λ rest. tt), omega arith, ap (λ x. x ∷ 117 ∷ 108 ∷ 108 ∷ []) (kind-LetterN b e))
-due_step strict at k b p ListCloses e h = refl
-due_step strict at k b p ObjectCloses e h = refl
-due_step strict at k b p Comma e h = refl
-due_step strict at k b p Colon e h = refl
-due_step strict at k b p Other e h = refl
+due_step strict at k b p kind e h = refl
 
 blank_behind : {A B : Texts} (b : ℕ) (p : List ℕ) → is_blank b ≡ true → (A ▸ (B ▸ Blanks)) p → (A ▸ (B ▸ Blanks)) (p ++ b ∷ [])
 blank_behind b p e j = extend (b ∷ []) p (λ u. extend (b ∷ []) u (λ u. blanks_more b u e)) j
@@ -118,18 +115,11 @@ opened_list_step : (strict : Bool) (at : ℕ) (k : List Frame) (b : ℕ) (p : Li
 opened_list_step strict at k b p Blank e h = blank_behind b p (kind-Blank b e) h
 opened_list_step strict at k b p ListCloses e h =
     delivered (list no_items) k at b p (λ rest. tt) (subst (λ x. (Due k ▸ IsValue (list no_items)) (p ++ x ∷ [])) (sym (kind-ListCloses b e)) (empty_list_closed k p h))
-opened_list_step strict at k b p ListOpens e h = due_step strict at (in_list [] ∷ k) b p ListOpens e h
-opened_list_step strict at k b p ObjectOpens e h = due_step strict at (in_list [] ∷ k) b p ObjectOpens e h
-opened_list_step strict at k b p Quote e h = due_step strict at (in_list [] ∷ k) b p Quote e h
-opened_list_step strict at k b p Minus e h = due_step strict at (in_list [] ∷ k) b p Minus e h
-opened_list_step strict at k b p Digit e h = due_step strict at (in_list [] ∷ k) b p Digit e h
-opened_list_step strict at k b p LetterT e h = due_step strict at (in_list [] ∷ k) b p LetterT e h
-opened_list_step strict at k b p LetterF e h = due_step strict at (in_list [] ∷ k) b p LetterF e h
-opened_list_step strict at k b p LetterN e h = due_step strict at (in_list [] ∷ k) b p LetterN e h
 opened_list_step strict at k b p ObjectCloses e h = refl
 opened_list_step strict at k b p Comma e h = refl
 opened_list_step strict at k b p Colon e h = refl
 opened_list_step strict at k b p Other e h = refl
+opened_list_step strict at k b p kind e h = due_step strict at (in_list [] ∷ k) b p kind e h
 
 behind_step : (at : ℕ) (v : Json) (f : Frame) (k : List Frame) (b : ℕ) (p : List ℕ) (kind : Kind) → kind_of b ≡ kind → (Due (f ∷ k) ▸ (IsValue v ▸ Blanks)) p → Good at b p (step_behind at v f k kind)
 behind_step at v (in_list vs) k b p Blank e h = blank_behind b p (kind-Blank b e) h
@@ -140,28 +130,8 @@ behind_step at v (in_list vs) k b p ListCloses e h =
 behind_step at v (in_object names vs) k b p Comma e h = subst (λ x. NameDue names (vs ++ v ∷ []) k (p ++ x ∷ [])) (sym (kind-Comma b e)) (object_goes_on names vs v k p h)
 behind_step at v (in_object names vs) k b p ObjectCloses e h =
     delivered (object (members_of names (vs ++ v ∷ []))) k at b p (λ rest. tt) (subst (λ x. (Due k ▸ IsValue (object (members_of names (vs ++ v ∷ [])))) (p ++ x ∷ [])) (sym (kind-ObjectCloses b e)) (object_closed names vs v k p h))
-behind_step at v (in_list vs) k b p ListOpens e h = refl
-behind_step at v (in_list vs) k b p ObjectOpens e h = refl
-behind_step at v (in_list vs) k b p ObjectCloses e h = refl
-behind_step at v (in_list vs) k b p Colon e h = refl
-behind_step at v (in_list vs) k b p Quote e h = refl
-behind_step at v (in_list vs) k b p Minus e h = refl
-behind_step at v (in_list vs) k b p Digit e h = refl
-behind_step at v (in_list vs) k b p LetterT e h = refl
-behind_step at v (in_list vs) k b p LetterF e h = refl
-behind_step at v (in_list vs) k b p LetterN e h = refl
-behind_step at v (in_list vs) k b p Other e h = refl
-behind_step at v (in_object names vs) k b p ListOpens e h = refl
-behind_step at v (in_object names vs) k b p ListCloses e h = refl
-behind_step at v (in_object names vs) k b p ObjectOpens e h = refl
-behind_step at v (in_object names vs) k b p Colon e h = refl
-behind_step at v (in_object names vs) k b p Quote e h = refl
-behind_step at v (in_object names vs) k b p Minus e h = refl
-behind_step at v (in_object names vs) k b p Digit e h = refl
-behind_step at v (in_object names vs) k b p LetterT e h = refl
-behind_step at v (in_object names vs) k b p LetterF e h = refl
-behind_step at v (in_object names vs) k b p LetterN e h = refl
-behind_step at v (in_object names vs) k b p Other e h = refl
+behind_step at v (in_list vs) k b p kind e h = refl
+behind_step at v (in_object names vs) k b p kind e h = refl
 
 -- ---- names
 
@@ -173,49 +143,17 @@ opened_object_step at k b p Blank len e h = blank_behind b p (kind-Blank b e) h
 opened_object_step at k b p ObjectCloses len e h =
     delivered (object no_members) k at b p (λ rest. tt) (subst (λ x. (Due k ▸ IsValue (object no_members)) (p ++ x ∷ [])) (sym (kind-ObjectCloses b e)) (empty_object_closed k p h))
 opened_object_step at k b p Quote len e h = name_opens [] [] k at b p len (kind-Quote b e) (refl, h)
-opened_object_step at k b p ListOpens len e h = refl
-opened_object_step at k b p ListCloses len e h = refl
-opened_object_step at k b p ObjectOpens len e h = refl
-opened_object_step at k b p Comma len e h = refl
-opened_object_step at k b p Colon len e h = refl
-opened_object_step at k b p Minus len e h = refl
-opened_object_step at k b p Digit len e h = refl
-opened_object_step at k b p LetterT len e h = refl
-opened_object_step at k b p LetterF len e h = refl
-opened_object_step at k b p LetterN len e h = refl
-opened_object_step at k b p Other len e h = refl
+opened_object_step at k b p kind len e h = refl
 
 name_due_step : (at : ℕ) (names : List (List ℕ)) (vs : List Json) (k : List Frame) (b : ℕ) (p : List ℕ) (kind : Kind) → at ≡ length p → kind_of b ≡ kind → NameDue names vs k p → Good at b p (step_name_due at names vs k kind)
 name_due_step at names vs k b p Blank len e h = name_due_blank b names vs k p (kind-Blank b e) h
 name_due_step at names vs k b p Quote len e h = name_opens names vs k at b p len (kind-Quote b e) h
-name_due_step at names vs k b p ListOpens len e h = refl
-name_due_step at names vs k b p ListCloses len e h = refl
-name_due_step at names vs k b p ObjectOpens len e h = refl
-name_due_step at names vs k b p ObjectCloses len e h = refl
-name_due_step at names vs k b p Comma len e h = refl
-name_due_step at names vs k b p Colon len e h = refl
-name_due_step at names vs k b p Minus len e h = refl
-name_due_step at names vs k b p Digit len e h = refl
-name_due_step at names vs k b p LetterT len e h = refl
-name_due_step at names vs k b p LetterF len e h = refl
-name_due_step at names vs k b p LetterN len e h = refl
-name_due_step at names vs k b p Other len e h = refl
+name_due_step at names vs k b p kind len e h = refl
 
 colon_due_step : (at : ℕ) (names : List (List ℕ)) (vs : List Json) (n : List ℕ) (k : List Frame) (b : ℕ) (p : List ℕ) (kind : Kind) → kind_of b ≡ kind → (NameDue names vs k ▸ (IsText n ▸ Blanks)) p → Good at b p (step_colon_due at names vs n k kind)
 colon_due_step at names vs n k b p Blank e h = blank_behind b p (kind-Blank b e) h
 colon_due_step at names vs n k b p Colon e h = subst (λ x. Due (in_object (names ++ n ∷ []) vs ∷ k) (p ++ x ∷ [])) (sym (kind-Colon b e)) (colon_stands names vs n k p h)
-colon_due_step at names vs n k b p ListOpens e h = refl
-colon_due_step at names vs n k b p ListCloses e h = refl
-colon_due_step at names vs n k b p ObjectOpens e h = refl
-colon_due_step at names vs n k b p ObjectCloses e h = refl
-colon_due_step at names vs n k b p Comma e h = refl
-colon_due_step at names vs n k b p Quote e h = refl
-colon_due_step at names vs n k b p Minus e h = refl
-colon_due_step at names vs n k b p Digit e h = refl
-colon_due_step at names vs n k b p LetterT e h = refl
-colon_due_step at names vs n k b p LetterF e h = refl
-colon_due_step at names vs n k b p LetterN e h = refl
-colon_due_step at names vs n k b p Other e h = refl
+colon_due_step at names vs n k b p kind e h = refl
 
 -- ---- texts
 

@@ -1,7 +1,9 @@
 -- The value of a written number.
-use Rattle.std.specs.Prelude.{◌≡◌, ℕ, ◌+◌, ◌*◌, ◌^◌, ℤ, pos, negsuc, neg_ℤ, Bool, true, false, IsTrue, if◌then◌else◌}
+use Rattle.std.specs.Prelude.{◌≡◌, ℕ, ◌+◌, ◌*◌, ◌^◌, ◌<◌, ◌≤◌, ℤ, pos, negsuc, neg_ℤ, Bool, if◌then◌else◌}
 use Rattle.std.specs.Int.Digits.{number_from_digits}
+use Rattle.std.specs.Int.RustNames.{unsigned_abs}
 use Rattle.bt_json.specs.Json.{Number}
+use Rattle.bt_json.specs.declared.limits.TheConstants.{MOST_HALVES}
 
 -- m is n times ten to the power of z
 abbrev pub IsScaled : ℕ → ℕ → ℤ → Type 0
@@ -16,11 +18,10 @@ signed negative m = if negative then neg_ℤ (pos m) else pos m
 abbrev pub IsTimes : ℕ → Number → ℤ → Type 0
 IsTimes k n z = (m : ℕ) × IsScaled m (k * number_from_digits 10 n.digits) n.exponent × (z ≡ signed n.negative m)
 
--- twice a whole number with or without a half behind it
-abbrev pub twice : ℕ × Bool → ℕ
-twice r = 2 * r.0 + (if r.1 then 1 else 0)
+-- twice the number is no whole number of a magnitude that is told in halves
+abbrev pub HasNoHalves : Number → Type 0
+HasNoHalves n = (z : ℤ) → unsigned_abs z ≤ MOST_HALVES → IsTimes 2 n z → ⊥
 
--- the digits behind a point, of which there are as many as the power has zeros, write a half of it, or nothing
-abbrev pub IsHalfOf : Bool → Bool → ℕ → ℕ → Type 0
-IsHalfOf true full digits power = IsTrue full × (2 * digits ≡ power)
-IsHalfOf false full digits power = digits ≡ 0
+-- the number is no whole number of 64 bits
+abbrev pub HasNoWhole : Number → Type 0
+HasNoWhole n = (m : ℕ) → m < 2 ^ 64 → IsTimes 1 n (pos m) → ⊥

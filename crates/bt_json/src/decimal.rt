@@ -1,12 +1,17 @@
+//! Numbers as they are written, exactly: no digit is lost, so what is told of the value is no
+//! rounding. Told are the value where it is whole, and twice the value, since a layout has halves.
 ghost use Rattle.std.specs.Prelude.{◌≡◌, ◌≢◌, ◌<◌, ◌≤◌, ◌+◌, ◌*◌, ◌^◌, ℕ, ℤ, pos, All, length, take, drop, IsTrue, ◌↔◌, IfSome, IfNone, MatchOption, Some, None, ◌<ℤ◌, ◌≤ℤ◌, neg_ℤ, Bool, if◌then◌else◌};
 ghost use Rattle.std.specs.Int.Digits.{number_from_digits};
 ghost use Rattle.std.specs.Int.RustNames.{unsigned_abs};
-ghost use Rattle.bt_json.specs.Value.{IsScaled, IsTimes, twice, signed, IsHalfOf};
+ghost use Rattle.bt_json.specs.Value.{IsTimes, HasNoHalves, HasNoWhole, signed};
+ghost use Rattle.bt_json.specs.inner.Halves.{IsIfFits, twice_digits, twice, IsMagnitude, IsHalfOf, IsNoHalfOf, HasNoSmallShare, HasNoSmallValue};
 
+use crate::limits::MOST_HALVES;
 use smallvec::SmallVec;
 
-/// A number of a JSON text as it is written: its value is the digits, as one whole number, times ten to the power of the exponent.
-#[derive(Debug, Drop)]
+/// A number of a JSON text as it is written: its value is the digits, as one whole number, times ten
+/// to the power of the exponent.
+#[derive(Drop)]
 pub struct Decimal {
     /// Whether a minus sign stands in front.
     pub negative: bool,
@@ -19,7 +24,7 @@ pub struct Decimal {
 
 /// The whole number that the digits write, where it fits.
 fn number_of_digits(digits: &[u8]) -> Option<u64>
-    ensures { MatchOption result (2 ^ 64 ≤ number_from_digits 10 digits.now) (λ n. n ≡ number_from_digits 10 digits.now) }
+    ensures { IsIfFits result (number_from_digits 10 digits.now) }
 {
     let mut number: u64 = 0;
     for digit in digits {
@@ -36,7 +41,7 @@ fn number_of_digits(digits: &[u8]) -> Option<u64>
 
 /// The number with that many zeros behind it, where it fits.
 fn with_zeros(number: u64, zeros: u64) -> Option<u64>
-    ensures { MatchOption result (2 ^ 64 ≤ number * 10 ^ zeros) (λ n. n ≡ number * 10 ^ zeros) }
+    ensures { IsIfFits result (number * 10 ^ zeros) }
 {
     if number == 0 {
         return Some(0);
@@ -81,7 +86,7 @@ fn is_half(fraction: &[u8]) -> bool
 fn half_of(fraction: &[u8], full: bool) -> Option<bool>
     requires { All (λ d. d < 10) fraction.now }
     ensures { MatchOption result
-        ((0 < number_from_digits 10 fraction.now) × (IsTrue full → 2 * number_from_digits 10 fraction.now ≢ 10 ^ length fraction.now))
+        (IsNoHalfOf full (number_from_digits 10 fraction.now) (10 ^ length fraction.now))
         (λ half. IsHalfOf half full (number_from_digits 10 fraction.now) (10 ^ length fraction.now)) }
 {
     if are_zeros(fraction) {
@@ -98,7 +103,7 @@ fn half_of(fraction: &[u8], full: bool) -> Option<bool>
 fn whole_and_half(digits: &[u8], places: u64) -> Option<(u64, bool)>
     requires { All (λ d. d < 10) digits.now }
     ensures some { IfSome result (λ r. twice r * 10 ^ places ≡ 2 * number_from_digits 10 digits.now) }
-    ensures none { IfNone result ((m : ℕ) → m * 10 ^ places ≡ 2 * number_from_digits 10 digits.now → 2 ^ 65 ≤ m) }
+    ensures none { IfNone result (HasNoSmallShare (2 * number_from_digits 10 digits.now) places) }
 {
     let places = places as usize;
     let full = places <= digits.len();
@@ -112,8 +117,8 @@ fn whole_and_half(digits: &[u8], places: u64) -> Option<(u64, bool)>
     Some((number, half))
 }
 
-fn with_sign(negative: bool, magnitude: u32) -> i32
-    requires { magnitude ≤ 1048576 }
+fn with_sign(negative: bool, magnitude: u64) -> i32
+    requires { magnitude ≤ MOST_HALVES }
     ensures { result ≡ signed negative magnitude }
 {
     let value = magnitude as i32;
@@ -126,8 +131,8 @@ impl Decimal {
     /// The whole part of the magnitude and whether a half follows it, where twice the magnitude is a
     /// whole number and its half fits.
     fn magnitude(&self) -> Option<(u64, bool)>
-        ensures some { IfSome result (λ r. IsScaled (twice r) (2 * number_from_digits 10 self.now.digits.items) self.now.exponent) }
-        ensures none { IfNone result ((m : ℕ) → IsScaled m (2 * number_from_digits 10 self.now.digits.items) self.now.exponent → 2 ^ 65 ≤ m) }
+        ensures some { IfSome result (IsMagnitude (twice_digits (number_of self.now)) self.now.exponent) }
+        ensures none { IfNone result (HasNoSmallValue (twice_digits (number_of self.now)) self.now.exponent) }
     {
         let places = self.exponent.unsigned_abs();
         if self.exponent < 0 {
@@ -142,29 +147,30 @@ impl Decimal {
         Some((scaled, false))
     }
 
-    /// Twice the value. `None` exactly where that is no whole number of magnitude at most 1048576.
+    /// Twice the value. `None` exactly where that is no whole number of magnitude at most
+    /// `MOST_HALVES`.
     pub fn halves(&self) -> Option<i32>
         ensures found { IfSome result (λ z. IsTimes 2 (number_of self.now) z) }
-        ensures bounds { IfSome result (λ z. unsigned_abs z ≤ 1048576) }
-        ensures none { IfNone result ((z : ℤ) → unsigned_abs z ≤ 1048576 → IsTimes 2 (number_of self.now) z → ⊥) }
+        ensures bounds { IfSome result (λ z. unsigned_abs z ≤ MOST_HALVES) }
+        ensures none { IfNone result (HasNoHalves (number_of self.now)) }
     {
         let Some((whole, half)) = self.magnitude() else {
             return None;
         };
-        if whole > 524_288 {
+        if whole > MOST_HALVES {
             return None;
         }
         let twice = 2 * whole + u64::from(half);
-        if twice > 1_048_576 {
+        if twice > MOST_HALVES {
             return None;
         }
-        Some(with_sign(self.negative, twice as u32))
+        Some(with_sign(self.negative, twice))
     }
 
     /// The value. `None` exactly where it is no whole number that fits.
     pub fn whole(&self) -> Option<u64>
         ensures found { IfSome result (λ n. IsTimes 1 (number_of self.now) (pos n)) }
-        ensures none { IfNone result ((n : ℕ) → n < 2 ^ 64 → IsTimes 1 (number_of self.now) (pos n) → ⊥) }
+        ensures none { IfNone result (HasNoWhole (number_of self.now)) }
     {
         let Some((whole, half)) = self.magnitude() else {
             return None;

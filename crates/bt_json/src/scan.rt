@@ -1,8 +1,9 @@
-ghost use Rattle.std.specs.Prelude.{◌≡◌, ◌≢◌, OnOk, IsTrue, ◌≤◌, ◌<◌, length, slice_index, false, IfOk, IfErr, List, ℕ};
-ghost use Rattle.bt_json.specs.Json.{Json};
+//! Small steps over bytes: blanks, the letters of a word, one byte.
+ghost use Rattle.std.specs.Prelude.{◌≡◌, ◌≢◌, OnOk, IsTrue, ◌≤◌, ◌<◌, length, slice_index, true, false, IfOk, IfErr, List, ℕ};
 ghost use Rattle.bt_json.specs.Grammar.{is_blank};
-ghost use Rattle.bt_json.specs.Reading.{State, Frame, in_word, deliver};
-ghost use Rattle.bt_json.specs.Running.{SkipsBlanks, IsLater, rest_of, rest_after, Faults};
+ghost use Rattle.bt_json.specs.inner.Bytes.{HasByte, LacksByte};
+ghost use Rattle.bt_json.specs.inner.Running.{SkipsTo, IsLater};
+ghost use Rattle.bt_json.specs.inner.Words.{SkipsWord};
 ghost use Rattle.bt_json.specs.declared.fault.JsonFault.TheVariants.{Json as JsonAt};
 
 use crate::fault::JsonFault;
@@ -12,7 +13,7 @@ use crate::kind::is_blank;
 pub fn skip_blanks(bytes: &[u8], start: usize) -> usize
     requires { start ≤ length bytes.now }
     ensures later { IsLater bytes.now start result }
-    ensures blanks { (s : State) → SkipsBlanks s → rest_of bytes.now start s ≡ rest_of bytes.now result s }
+    ensures blanks { SkipsTo bytes.now start result }
     ensures ends { result < length bytes.now → is_blank (slice_index bytes.now result) ≡ false }
 {
     let mut at = start;
@@ -26,9 +27,7 @@ pub fn skip_blanks(bytes: &[u8], start: usize) -> usize
 pub fn skip_word(bytes: &[u8], start: usize, letters: &[u8]) -> Result<usize, JsonFault>
     requires within { start ≤ length bytes.now }
     requires some { 0 < length letters.now }
-    ensures later { IfOk result (λ n. IsLater bytes.now start n) }
-    ensures ok { IfOk result (λ n. (v : Json) (k : List Frame) → rest_of bytes.now start (in_word letters.now v k) ≡ rest_after bytes.now n (deliver v k n)) }
-    ensures err { IfErr result (λ f. (v : Json) (k : List Frame) → Faults f (rest_of bytes.now start (in_word letters.now v k))) }
+    ensures { SkipsWord bytes.now start letters.now result }
 {
     let mut at = start;
     for letter in letters {
@@ -42,8 +41,8 @@ pub fn skip_word(bytes: &[u8], start: usize, letters: &[u8]) -> Result<usize, Js
 
 /// That this byte stands there.
 pub fn expect_byte(bytes: &[u8], at: usize, byte: u8) -> Result<(), JsonFault>
-    ensures ok { OnOk result ((at < length bytes.now) × (slice_index bytes.now at ≡ byte)) }
-    ensures err { IfErr result (λ f. (f ≡ JsonAt at) × (at < length bytes.now → slice_index bytes.now at ≢ byte)) }
+    ensures ok { OnOk result (HasByte bytes.now at byte) }
+    ensures err { IfErr result (λ f. (f ≡ JsonAt at) × LacksByte bytes.now at byte) }
 {
     if at >= bytes.len() {
         return Err(JsonFault::Json(at));
@@ -56,8 +55,8 @@ pub fn expect_byte(bytes: &[u8], at: usize, byte: u8) -> Result<(), JsonFault>
 
 /// Whether this byte stands there.
 pub fn stands_at(bytes: &[u8], at: usize, byte: u8) -> bool
-    ensures yes { IsTrue result → (at < length bytes.now) × (slice_index bytes.now at ≡ byte) }
-    ensures no { result ≡ false → at < length bytes.now → slice_index bytes.now at ≢ byte }
+    ensures yes { IsTrue result → HasByte bytes.now at byte }
+    ensures no { result ≡ false → LacksByte bytes.now at byte }
 {
     if at < bytes.len() {
         bytes[at] == byte
