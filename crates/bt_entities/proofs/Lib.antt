@@ -3,4 +3,4 @@ pub mod Middles
 pub mod Placed
 pub mod Lowest
 pub mod Whole
-pub mod Once
+pub mod OneAnswer

@@ -1,8 +1,10 @@
 -- Middles of tiles on a shifted grid.
-use Rattle.std.proofs.Common.{◌≡◌, ℕ, ◌+◌, ◌/◌, ◌%◌, ◌<◌, ◌≤◌, ◌^◌, ℤ, pos, negsuc, ◌+ℤ◌, ◌-ℤ◌, ◌*ℤ◌, arith, inl, inr, ◌⊎◌}
+use Rattle.std.proofs.Common.{◌≡◌, ℕ, ◌+◌, ◌/◌, ◌%◌, ◌<◌, ◌≤◌, ℤ, pos, negsuc, ◌+ℤ◌, ◌-ℤ◌, ◌*ℤ◌, arith, inl, inr, ◌⊎◌}
 use Rattle.std.specs.Prelude.{unsigned_abs}
 use Rattle.std.proofs.lemmas.Bool.{cases_lt}
 use Rattle.std.proofs.lemmas.Int.{ints}
+use Rattle.bt_json.specs.declared.limits.TheConstants.{MOST_HALVES}
+use Rattle.bt_parts.specs.declared.part.TheConstants.{MOST_COORDINATE}
 use Rattle.bt_entities.specs.Places.{IsMiddle}
 
 abbrev IsDouble : ℤ → ℕ → Type 0
@@ -36,7 +38,7 @@ same_middle z size a b c d lt lt2 h k =
     let g : (pos 2 *ℤ c) +ℤ pos a ≡ (pos 2 *ℤ d) +ℤ pos b = omega (arith, ints) in
     record { same_shift = omega (arith, ints); same_first = omega (arith, ints) }
 
-pub middle_near : (z : ℤ) (size a : ℕ) (c : ℤ) → size ≤ 2 → a < 2 → unsigned_abs z ≤ 2 ^ 20 → IsMiddle z size a c → unsigned_abs c ≤ 2 ^ 20
+pub middle_near : (z : ℤ) (size a : ℕ) (c : ℤ) → size ≤ 2 → a < 2 → unsigned_abs z ≤ MOST_HALVES → IsMiddle z size a c → unsigned_abs c ≤ MOST_COORDINATE
 middle_near z size a c few small near h =
     let e : z ≡ (pos 2 *ℤ c) +ℤ pos (size + a) = h in
     omega (arith, ints)

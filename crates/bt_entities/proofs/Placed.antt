@@ -1,10 +1,10 @@
 -- Pieces and the cells that they have.
-use Rattle.std.proofs.Common.{◌≡◌, ◌≢◌, ℕ, ◌<◌, ◌≤◌, ℤ, List, length, get_or, Option, Some, None, refl, ap, ◌∙◌, sym, arith, inl, inr}
+use Rattle.std.proofs.Common.{◌≡◌, ◌≢◌, ℕ, ◌<◌, ◌≤◌, ℤ, List, length, get_or, Option, Some, None, refl, ap, ◌∙◌, sym, subst, arith, inl, inr}
 use Rattle.std.specs.Prelude.{codes}
 use Rattle.bt_json.specs.Json.{Json, Number}
 use Rattle.bt_parts.specs.declared.part.Cell.{Cell}
 use Rattle.bt_parts.specs.declared.part.Dir.{Dir}
-use Rattle.bt_parts.specs.declared.part.Dir.TheVariants.{North, East, South, West}
+use Rattle.bt_parts.specs.declared.part.Dir.TheVariants.{North, East}
 use Rattle.bt_parts.specs.declared.part.Kind.{Kind}
 use Rattle.bt_parts.specs.declared.part.Kind.TheVariants.{Belt, Entrance, Exit, Splitter}
 use Rattle.bt_parts.specs.declared.part.Part.{Part}
@@ -12,10 +12,9 @@ use Rattle.bt_parts.specs.declared.part.Tier.{Tier}
 use Rattle.bt_parts.specs.Cells.{IsInRange}
 use Rattle.bt_entities.specs.declared.blueprint.Frame.{Frame}
 use Rattle.bt_entities.specs.declared.fault.EntityFault.{EntityFault}
-use Rattle.bt_entities.specs.declared.fault.EntityFault.TheVariants.{NotBlueprint, Book, TooMany, Unsupported, BadMember, OffGrid, MixedTier, Special, Memory}
+use Rattle.bt_entities.specs.declared.fault.EntityFault.TheVariants.{NotBlueprint, OffGrid, MixedTier, Special}
 use Rattle.bt_entities.specs.declared.fault.Member.{Member}
 use Rattle.bt_entities.specs.declared.fault.Member.TheVariants.{Entity, Name, Position, Direction, PieceType, InputPriority, OutputPriority, ControlBehavior, Filter}
-use Rattle.bt_entities.specs.declared.name.Family.{Family}
 use Rattle.bt_entities.specs.declared.name.Family.TheVariants.{Belts, Undergrounds, Splitters}
 use Rattle.bt_entities.specs.declared.piece.Piece.{Piece}
 use Rattle.bt_entities.specs.declared.piece.Priority.{Priority}
@@ -24,12 +23,12 @@ use Rattle.bt_entities.specs.declared.shift.Shift.{Shift}
 use Rattle.bt_entities.specs.Members.{Lacks, HasMember, HasText}
 use Rattle.bt_entities.specs.Names.{name_of}
 use Rattle.bt_entities.specs.Places.{width_of, height_of, IsMiddle}
-use Rattle.bt_entities.specs.Entities.{HasFamily, HasTier, HasKind, IsHalves, IsPlaced, SetsShift, IsEven, IsSided, IsEntity}
-use Rattle.bt_entities.specs.Refusals.{IsFault, IsWrong, IsSpecial, IsOffGrid, IsMixed, IsFirstSpecial, IsLowest, tested_members, special_members}
-use Rattle.bt_entities.specs.Pieces.{AreHalves, IsPriority, IsPiece, IsOn, HasShift, IsPlain, IsFrame}
+use Rattle.bt_entities.specs.Entities.{HasFamily, HasTier, HasKind, IsHalves, IsPlaced, SetsShift, IsInCell, IsEven, IsSided, IsPlain, IsEntity}
+use Rattle.bt_entities.specs.Refusals.{IsFault, IsWrong, IsSpecial, IsOffGrid, IsMixed, IsFirstSpecial, IsLowest, number_of_fault}
+use Rattle.bt_entities.specs.inner.Pieces.{AreHalves, IsPriority, IsPiece, IsOn, HasShift, IsFrame, HasFrame}
 use Rattle.bt_entities.proofs.Unique.{object_of, same_text, same_kind, same_dir, same_tier, same_family, same_position, same_times, lacks_or_has}
 use Rattle.bt_entities.proofs.Middles.{same_middle, middle_near}
-use Rattle.bt_entities.proofs.Lowest.{none_first, IsNamed, named, lowest_off, lowest_mixed, lowest_special}
+use Rattle.bt_entities.proofs.Lowest.{IsNamed, named, IsRight, none_below, lowest_off, lowest_mixed, lowest_special}
 
 halves_some : (n : Number) (o : Option ℤ) (z : ℤ) → AreHalves n o → IsHalves n z → o ≡ Some z
 halves_some n None z h i = absurd (h z i)
@@ -105,37 +104,20 @@ pub same_shift : (major : ℕ) (v : Json) (s t : Shift) → SetsShift major v s 
 same_shift major v s t a b = (same_place major v s t a.cell b.cell a.small_x a.small_y b.small_x b.small_y a.placed b.placed).same_shift
 
 width_few : (kind : Kind) (dir : Dir) → width_of kind dir ≤ 2
-width_few Belt dir = omega arith
-width_few Entrance dir = omega arith
-width_few Exit dir = omega arith
 width_few Splitter North = omega arith
-width_few Splitter East = omega arith
-width_few Splitter South = omega arith
-width_few Splitter West = omega arith
+width_few kind dir = omega arith
 
 height_few : (kind : Kind) (dir : Dir) → height_of kind dir ≤ 2
-height_few Belt dir = omega arith
-height_few Entrance dir = omega arith
-height_few Exit dir = omega arith
-height_few Splitter North = omega arith
 height_few Splitter East = omega arith
-height_few Splitter South = omega arith
-height_few Splitter West = omega arith
+height_few kind dir = omega arith
 
 -- each part's cell is in range
 pub entity_in_range : (major : ℕ) (first v : Json) (part : Part) → IsEntity major first v part → IsInRange part.cell
 entity_in_range major first v part e =
-    let p = e.placed in (
-      middle_near p.twice_x _ e.shift.x part.cell.x (width_few p.kind p.dir) e.first_shift.small_x p.halves_x.1 p.middle_x,
-      middle_near p.twice_y _ e.shift.y part.cell.y (height_few p.kind p.dir) e.first_shift.small_y p.halves_y.1 p.middle_y,
+    let at = e.in_cell in let p = at.placed in (
+      middle_near p.twice_x _ at.shift.x part.cell.x (width_few p.kind p.dir) at.sets.small_x p.halves_x.1 p.middle_x,
+      middle_near p.twice_y _ at.shift.y part.cell.y (height_few p.kind p.dir) at.sets.small_y p.halves_y.1 p.middle_y,
     )
-
--- of a name's family there is a tier
-kind_family : (v : Json) (kind : Kind) → HasKind v kind → (family : Family) × HasFamily v family
-kind_family v Belt h = (Belts, h)
-kind_family v Entrance h = (Undergrounds, h.0)
-kind_family v Exit h = (Undergrounds, h.0)
-kind_family v Splitter h = (Splitters, h)
 
 pub tier_named : (v : Json) (tier : Tier) → HasTier v tier → IsNamed v
 tier_named v tier h = named v h.0 tier h.1
@@ -173,7 +155,7 @@ priority_right v name Even p wrong = wrong.1 (p wrong.0)
 priority_right v name Sided p wrong = wrong.2 p.1
 
 -- a piece has no wrong member
-pub piece_right : (major : ℕ) (v : Json) (piece : Piece) → IsPiece major v piece → (m : Member) → ¬ IsWrong major v m
+piece_right : (major : ℕ) (v : Json) (piece : Piece) → IsPiece major v piece → (m : Member) → ¬ IsWrong major v m
 piece_right major v piece p Entity wrong = tier_object major v piece.tier p.has_tier wrong
 piece_right major v piece p Name wrong = tier_name major v piece.tier p.has_tier wrong
 piece_right major v piece p Position wrong = wrong p.x p.y p.has_position
@@ -181,46 +163,55 @@ piece_right major v piece p Direction wrong = wrong piece.dir p.has_dir
 piece_right major v piece p PieceType wrong = kind_typed major v piece.kind p.has_kind wrong
 piece_right major v piece p InputPriority wrong = priority_right v (codes "input_priority") piece.input p.input wrong
 piece_right major v piece p OutputPriority wrong = priority_right v (codes "output_priority") piece.output p.output wrong
-piece_right major v piece p ControlBehavior wrong = wrong
-piece_right major v piece p Filter wrong = wrong
+piece_right major v piece p other wrong = wrong
 
--- nor has an entity that stands for a part
-pub entity_right : (major : ℕ) (first v : Json) (part : Part) → IsEntity major first v part → (m : Member) → ¬ IsWrong major v m
-entity_right major first v part p Entity wrong = tier_object major v part.tier p.has_tier wrong
-entity_right major first v part p Name wrong = tier_name major v part.tier p.has_tier wrong
-entity_right major first v part p Position wrong = wrong p.placed.x p.placed.y p.placed.has_position
-entity_right major first v part p Direction wrong = wrong part.dir p.has_dir
-entity_right major first v part p PieceType wrong = kind_typed major v part.kind p.has_kind wrong
-entity_right major first v part p InputPriority wrong = wrong.1 (p.even_input wrong.0)
-entity_right major first v part p OutputPriority wrong = wrong.1 (p.even_output wrong.0)
-entity_right major first v part p ControlBehavior wrong = wrong
-entity_right major first v part p Filter wrong = wrong
+right_of : (major : ℕ) (v : Json) (piece : Piece) → IsPiece major v piece → IsRight major v
+right_of major v piece p = record { named = tier_named v piece.tier p.has_tier; right = piece_right major v piece p }
 
-pub plain_special : (v : Json) → IsPlain v → (m : Member) → ¬ IsSpecial v m
-plain_special v p Entity s = s
-plain_special v p Name s = s
-plain_special v p Position s = s
-plain_special v p Direction s = s
-plain_special v p PieceType s = s
+-- an entity that stands for a part is a piece that prefers no side
+piece_of : (major : ℕ) (first v : Json) (part : Part) → IsEntity major first v part → (piece : Piece) × IsPiece major v piece
+piece_of major first v part e =
+    let p = e.in_cell.placed in (
+      record { kind = part.kind; tier = part.tier; dir = part.dir; x = Some p.twice_x; y = Some p.twice_y; input = Even; output = Even },
+      record {
+        has_kind = e.has_kind;
+        has_tier = e.has_tier;
+        has_dir = e.has_dir;
+        x = p.x;
+        y = p.y;
+        has_position = p.has_position;
+        halves_x = p.halves_x;
+        halves_y = p.halves_y;
+        input = e.plain.even_input;
+        output = e.plain.even_output;
+      },
+    )
+
+plain_special : (v : Json) → IsPlain v → (m : Member) → ¬ IsSpecial v m
 plain_special v p InputPriority s = even_or_sided v (codes "input_priority") (p.even_input s.0) s.1
 plain_special v p OutputPriority s = even_or_sided v (codes "output_priority") (p.even_output s.0) s.1
 plain_special v p ControlBehavior s = lacks_or_has v (codes "control_behavior") s.0 p.no_condition s.1
 plain_special v p Filter s = lacks_or_has v (codes "filter") s.0 p.no_filter s.1
+plain_special v p other s = s
 
-entity_plain : (major : ℕ) (first v : Json) (part : Part) → IsEntity major first v part → IsPlain v
-entity_plain major first v part p = record { even_input = p.even_input; even_output = p.even_output; no_condition = p.no_condition; no_filter = p.no_filter }
+one_tier : (first v : Json) (tier of_first : Tier) → HasTier v tier → HasTier first of_first → tier ≡ of_first → ¬ IsMixed first v
+one_tier first v tier of_first a b e m = m.4 (same_tier v m.0 tier m.2 a ∙ e ∙ sym (same_tier first m.1 of_first m.3 b))
+
+number_small : (fault : EntityFault) → number_of_fault fault < 29
+number_small NotBlueprint = omega arith
+number_small other = omega arith
 
 -- an entity that stands for a part has no fault
 pub entity_sound : (major : ℕ) (first : Json) (i : ℕ) (v : Json) (part : Part) → IsEntity major first v part → (fault : EntityFault) → ¬ IsFault major first i v fault
-entity_sound major first i v part p NotBlueprint f = f
-entity_sound major first i v part p Book f = f
-entity_sound major first i v part p TooMany f = f
-entity_sound major first i v part p (Unsupported at name) f = tier_named v part.tier p.has_tier _ f.1
-entity_sound major first i v part p (BadMember at member) f = none_first (IsWrong major v) tested_members member (entity_right major first v part p) f.1
-entity_sound major first i v part p (OffGrid at) f = f.1 p.shift part.cell p.first_shift p.placed
-entity_sound major first i v part p (MixedTier at) f = let m = f.1 in m.4 (same_tier v m.0 part.tier m.2 p.has_tier ∙ sym (same_tier first m.1 part.tier m.3 p.first_tier))
-entity_sound major first i v part p (Special at member) f = none_first (IsSpecial v) special_members member (plain_special v (entity_plain major first v part p)) f.1
-entity_sound major first i v part p Memory f = f
+entity_sound major first i v part e fault =
+    let p = piece_of major first v part e in
+    none_below major first i v 29 (record {
+      named = λ _. tier_named v part.tier e.has_tier;
+      right = λ _. piece_right major v p.0 p.1;
+      on_grid = λ _ off. off part.cell e.in_cell;
+      same_tier = λ _. one_tier first v part.tier part.tier e.has_tier e.first_tier refl;
+      plain = λ _. plain_special v e.plain;
+    }) fault (number_small fault)
 
 -- a piece with a shift stands on the grid
 pub sets_shift : (major : ℕ) (v : Json) (piece : Piece) (shift : Shift) → IsPiece major v piece → HasShift piece shift → SetsShift major v shift
@@ -235,39 +226,47 @@ has_shift piece x y w h s t c d ex ey ew eh ls lt mx my = record {
   on = record { twice_x = x; has_x = ex; middle_x = rw ew at mx; twice_y = y; has_y = ey; middle_y = rw eh at my };
 }
 
-pub first_off : (major : ℕ) (v : Json) (piece : Piece) → IsPiece major v piece → ((shift : Shift) (cell : Cell) → ¬ IsOn piece shift cell) → IsOffGrid major v v
-first_off major v piece p none shift cell sets placed = none shift cell (placed_on major v piece shift cell p placed)
+first_off : (major : ℕ) (v : Json) (piece : Piece) → IsPiece major v piece → ((shift : Shift) (cell : Cell) → ¬ IsOn piece shift cell) → IsOffGrid major v v
+first_off major v piece p none cell at = none at.shift cell (placed_on major v piece at.shift cell p at.placed)
 
 off_grid : (major : ℕ) (first v : Json) (piece : Piece) (shift : Shift) → IsPiece major v piece → SetsShift major first shift
     → ((cell : Cell) → ¬ IsOn piece shift cell) → IsOffGrid major first v
-off_grid major first v piece shift p sets none other cell also placed =
-    none cell (rw (same_shift major first shift other sets also) (placed_on major v piece other cell p placed))
+off_grid major first v piece shift p sets none cell at =
+    none cell (rw (same_shift major first shift at.shift sets at.sets) (placed_on major v piece at.shift cell p at.placed))
 
-on_grid : (major : ℕ) (first v : Json) (piece : Piece) (shift : Shift) (cell : Cell) → IsPiece major v piece → SetsShift major first shift
-    → IsOn piece shift cell → ¬ IsOffGrid major first v
-on_grid major first v piece shift cell p sets on off = off shift cell sets (on_placed major v piece shift cell p on)
+in_cell : (major : ℕ) (first v : Json) (piece : Piece) (shift : Shift) (cell : Cell) → IsPiece major v piece → SetsShift major first shift
+    → IsOn piece shift cell → IsInCell major first v cell
+in_cell major first v piece shift cell p sets on = record { shift = shift; sets = sets; placed = on_placed major v piece shift cell p on }
 
-one_tier : (first v : Json) (tier of_first : Tier) → HasTier v tier → HasTier first of_first → tier ≡ of_first → ¬ IsMixed first v
-one_tier first v tier of_first a b e m = m.4 (same_tier v m.0 tier m.2 a ∙ e ∙ sym (same_tier first m.1 of_first m.3 b))
+frame_none : (major : ℕ) (first v : Json) (set : Option Frame) → set ≡ None → HasFrame major first v set → v ≡ first
+frame_none major first v set e h = rw e at h
 
-pub told_first_off : (major : ℕ) (v : Json) (piece : Piece) → IsPiece major v piece → ((shift : Shift) (cell : Cell) → ¬ IsOn piece shift cell) → IsLowest major v 0 v (OffGrid 0)
-told_first_off major v piece p none = lowest_off major v 0 v (tier_named v piece.tier p.has_tier) (piece_right major v piece p) (first_off major v piece p none)
+-- entity 0 sets the frame
+pub first_frame : (major : ℕ) (first v : Json) (set : Option Frame) (piece : Piece) (shift : Shift) → set ≡ None → HasFrame major first v set
+    → IsPiece major v piece → HasShift piece shift → SetsShift major first shift × HasTier first piece.tier
+first_frame major first v set piece shift e h p s =
+    subst (λ w. SetsShift major w shift × HasTier w piece.tier) (frame_none major first v set e h) (sets_shift major v piece shift p s, p.has_tier)
+
+pub told_first_off : (major : ℕ) (first : Json) (i : ℕ) (v : Json) (set : Option Frame) (piece : Piece) → set ≡ None → HasFrame major first v set
+    → IsPiece major v piece → ((shift : Shift) (cell : Cell) → ¬ IsOn piece shift cell) → IsLowest major first i v (OffGrid i)
+told_first_off major first i v set piece e h p none =
+    subst (λ w. IsLowest major w i v (OffGrid i)) (frame_none major first v set e h) (lowest_off major v i v (right_of major v piece p) (first_off major v piece p none))
 
 pub told_off : (major : ℕ) (first : Json) (i : ℕ) (v : Json) (piece : Piece) (frame : Frame) → IsPiece major v piece → IsFrame major first frame
     → ((cell : Cell) → ¬ IsOn piece frame.shift cell) → IsLowest major first i v (OffGrid i)
 told_off major first i v piece frame p f none =
-    lowest_off major first i v (tier_named v piece.tier p.has_tier) (piece_right major v piece p) (off_grid major first v piece frame.shift p f.0 none)
+    lowest_off major first i v (right_of major v piece p) (off_grid major first v piece frame.shift p f.0 none)
 
 pub told_mixed : (major : ℕ) (first : Json) (i : ℕ) (v : Json) (piece : Piece) (frame : Frame) (cell : Cell) → IsPiece major v piece → IsFrame major first frame
     → IsOn piece frame.shift cell → piece.tier ≢ frame.tier → IsLowest major first i v (MixedTier i)
 told_mixed major first i v piece frame cell p f on ne =
-    lowest_mixed major first i v (tier_named v piece.tier p.has_tier) (piece_right major v piece p) (on_grid major first v piece frame.shift cell p f.0 on)
+    lowest_mixed major first i v (right_of major v piece p) (λ off. off cell (in_cell major first v piece frame.shift cell p f.0 on))
     (piece.tier, frame.tier, p.has_tier, f.1, ne)
 
 pub told_special : (major : ℕ) (first : Json) (i : ℕ) (v : Json) (piece : Piece) (frame : Frame) (cell : Cell) (member : Member) → IsPiece major v piece → IsFrame major first frame
     → IsOn piece frame.shift cell → piece.tier ≡ frame.tier → IsFirstSpecial v member → IsLowest major first i v (Special i member)
 told_special major first i v piece frame cell member p f on e s =
-    lowest_special major first i v member (tier_named v piece.tier p.has_tier) (piece_right major v piece p) (on_grid major first v piece frame.shift cell p f.0 on)
+    lowest_special major first i v member (right_of major v piece p) (λ off. off cell (in_cell major first v piece frame.shift cell p f.0 on))
     (one_tier first v piece.tier frame.tier p.has_tier f.1 e) s
 
 pub is_entity : (major : ℕ) (first v : Json) (piece : Piece) (frame : Frame) (part : Part) → IsPiece major v piece → IsFrame major first frame
@@ -276,14 +275,9 @@ is_entity major first v piece frame part p f on k t d e plain = record {
   has_kind = rw k p.has_kind;
   has_tier = rw t p.has_tier;
   has_dir = rw d p.has_dir;
-  shift = frame.shift;
-  first_shift = f.0;
-  placed = on_placed major v piece frame.shift part.cell p on;
+  in_cell = in_cell major first v piece frame.shift part.cell p f.0 on;
   first_tier = rw (t, e) f.1;
-  even_input = plain.even_input;
-  even_output = plain.even_output;
-  no_condition = plain.no_condition;
-  no_filter = plain.no_filter;
+  plain = plain;
 }
 
 has_none : (v : Json) (name : List ℕ) → Lacks v name → ¬ ((m : Json) × HasMember v name m)

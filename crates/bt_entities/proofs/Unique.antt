@@ -84,42 +84,38 @@ same_tier v t u a b = (same_name a.0 b.0 t u (same_text v (codes "name") _ _ a.1
 input_or_output : (v : Json) → HasText v (codes "type") (codes "input") → HasText v (codes "type") (codes "output") → ⊥
 input_or_output v a b = let e : length (codes "input") ≡ length (codes "output") = ap length (same_text v (codes "type") _ _ a b) in absurd (omega arith)
 
+-- the family of a kind
+abbrev family_of : Kind → Family
+family_of Belt = Belts
+family_of Entrance = Undergrounds
+family_of Exit = Undergrounds
+family_of Splitter = Splitters
+
+kind_family : (v : Json) (kind : Kind) → HasKind v kind → HasFamily v (family_of kind)
+kind_family v Belt h = h
+kind_family v Entrance h = h.0
+kind_family v Exit h = h.0
+kind_family v Splitter h = h
+
+one_kind : (v : Json) (k l : Kind) → HasKind v k → HasKind v l → family_of k ≡ family_of l → k ≡ l
+one_kind v Belt Belt a b e = refl
+one_kind v Entrance Entrance a b e = refl
+one_kind v Entrance Exit a b e = absurd (input_or_output v a.1 b.1)
+one_kind v Exit Entrance a b e = absurd (input_or_output v b.1 a.1)
+one_kind v Exit Exit a b e = refl
+one_kind v Splitter Splitter a b e = refl
+one_kind v k l a b e = absurd cc
+
 -- an entity has one kind
 pub same_kind : (v : Json) (k l : Kind) → HasKind v k → HasKind v l → k ≡ l
-same_kind v Belt Belt a b = refl
-same_kind v Belt Entrance a b = let e : Belts ≡ Undergrounds = same_family v _ _ a b.0 in absurd cc
-same_kind v Belt Exit a b = let e : Belts ≡ Undergrounds = same_family v _ _ a b.0 in absurd cc
-same_kind v Belt Splitter a b = let e : Belts ≡ Splitters = same_family v _ _ a b in absurd cc
-same_kind v Entrance Belt a b = let e : Undergrounds ≡ Belts = same_family v _ _ a.0 b in absurd cc
-same_kind v Entrance Entrance a b = refl
-same_kind v Entrance Exit a b = absurd (input_or_output v a.1 b.1)
-same_kind v Entrance Splitter a b = let e : Undergrounds ≡ Splitters = same_family v _ _ a.0 b in absurd cc
-same_kind v Exit Belt a b = let e : Undergrounds ≡ Belts = same_family v _ _ a.0 b in absurd cc
-same_kind v Exit Entrance a b = absurd (input_or_output v b.1 a.1)
-same_kind v Exit Exit a b = refl
-same_kind v Exit Splitter a b = let e : Undergrounds ≡ Splitters = same_family v _ _ a.0 b in absurd cc
-same_kind v Splitter Belt a b = let e : Splitters ≡ Belts = same_family v _ _ a b in absurd cc
-same_kind v Splitter Entrance a b = let e : Splitters ≡ Undergrounds = same_family v _ _ a b.0 in absurd cc
-same_kind v Splitter Exit a b = let e : Splitters ≡ Undergrounds = same_family v _ _ a b.0 in absurd cc
-same_kind v Splitter Splitter a b = refl
+same_kind v k l a b = one_kind v k l a b (same_family v _ _ (kind_family v k a) (kind_family v l b))
 
 same_quarters : (c : ℕ) (d e : Dir) → 0 < c → quarters_of d * c ≡ quarters_of e * c → d ≡ e
 same_quarters c North North lt h = refl
-same_quarters c North East lt h = absurd (omega arith)
-same_quarters c North South lt h = absurd (omega arith)
-same_quarters c North West lt h = absurd (omega arith)
-same_quarters c East North lt h = absurd (omega arith)
 same_quarters c East East lt h = refl
-same_quarters c East South lt h = absurd (omega arith)
-same_quarters c East West lt h = absurd (omega arith)
-same_quarters c South North lt h = absurd (omega arith)
-same_quarters c South East lt h = absurd (omega arith)
 same_quarters c South South lt h = refl
-same_quarters c South West lt h = absurd (omega arith)
-same_quarters c West North lt h = absurd (omega arith)
-same_quarters c West East lt h = absurd (omega arith)
-same_quarters c West South lt h = absurd (omega arith)
 same_quarters c West West lt h = refl
+same_quarters c d e lt h = absurd (omega arith)
 
 scale_positive : (b : Bool) → 0 < cond b 2 4
 scale_positive true = omega arith
@@ -127,13 +123,8 @@ scale_positive false = omega arith
 
 scale_small : (b : Bool) (d : Dir) → quarters_of d * cond b 2 4 < 2 ^ 64
 scale_small true North = omega arith
-scale_small true East = omega arith
-scale_small true South = omega arith
-scale_small true West = omega arith
 scale_small false North = omega arith
-scale_small false East = omega arith
-scale_small false South = omega arith
-scale_small false West = omega arith
+scale_small b d = omega arith
 
 pub direction_value_fits : (major : ℕ) (d : Dir) → direction_value major d < 2 ^ 64
 direction_value_fits major d = scale_small (nat_lt major 2) d

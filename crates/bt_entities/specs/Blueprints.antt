@@ -3,6 +3,7 @@ use Rattle.std.specs.Prelude.{◌≡◌, ℕ, ◌<◌, ◌≤◌, ◌/◌, ◌^�
 use Rattle.bt_json.specs.Json.{Json, list}
 use Rattle.bt_json.specs.Stands.{items_of}
 use Rattle.bt_parts.specs.declared.part.Part.{Part}
+use Rattle.bt_entities.specs.declared.blueprint.TheConstants.{MOST_ENTITIES}
 use Rattle.bt_entities.specs.Members.{HasMember, Lacks, IsObject, IsWhole}
 use Rattle.bt_entities.specs.Entities.{IsEntity}
 
@@ -32,12 +33,16 @@ pub record IsBlueprint (root : Json) (major : ℕ) (entities : List Json) : Type
 abbrev pub HasEntity : List Json → ℕ → Json → Type 0
 HasEntity entities i v = slice_get entities i ≡ Some v
 
--- the root has a blueprint of at most 4096 entities, which stand for these parts in their order
+-- the entities stand for these parts, in their order, and the first of them sets the grid and the tier of all
+pub record AreParts (major : ℕ) (entities : List Json) (parts : List Part) : Type 0 where
+  pub same_length : length parts ≡ length entities
+  pub each : (first v : Json) (part : Part) (i : ℕ) → HasEntity entities 0 first → HasEntity entities i v
+      → slice_get parts i ≡ Some part → IsEntity major first v part
+
+-- the root has a blueprint of no more than the most entities, which stand for these parts
 pub record IsBlueprintOf (root : Json) (parts : List Part) : Type 0 where
   pub major : ℕ
   pub entities : List Json
   pub is_blueprint : IsBlueprint root major entities
-  pub few : length entities ≤ 4096
-  pub same_length : length parts ≡ length entities
-  pub each : (first v : Json) (part : Part) (i : ℕ) → HasEntity entities 0 first → HasEntity entities i v
-      → slice_get parts i ≡ Some part → IsEntity major first v part
+  pub few : length entities ≤ MOST_ENTITIES
+  pub are_parts : AreParts major entities parts

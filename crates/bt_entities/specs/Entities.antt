@@ -1,5 +1,6 @@
 -- Which part an entity of a blueprint stands for.
-use Rattle.std.specs.Prelude.{◌≡◌, ℕ, ◌*◌, ◌<◌, ◌≤◌, ◌^◌, ℤ, unsigned_abs, List, codes, ◌⊎◌, if◌then◌else◌, nat_lt}
+use Rattle.std.specs.Prelude.{◌≡◌, ℕ, ◌*◌, ◌<◌, ◌≤◌, ℤ, unsigned_abs, List, codes, ◌⊎◌, if◌then◌else◌, nat_lt}
+use Rattle.bt_json.specs.declared.limits.TheConstants.{MOST_HALVES}
 use Rattle.bt_json.specs.Json.{Json, Number}
 use Rattle.bt_json.specs.Value.{IsTimes}
 use Rattle.bt_parts.specs.declared.part.Cell.{Cell}
@@ -54,9 +55,9 @@ pub record HasPosition (v : Json) (x y : Number) : Type 0 where
   pub has_x : HasNumber position (codes "x") x
   pub has_y : HasNumber position (codes "y") y
 
--- twice the number is this whole number, of magnitude at most 2^20
+-- twice the number is this whole number, of at most the magnitude that is told in halves
 abbrev pub IsHalves : Number → ℤ → Type 0
-IsHalves n z = IsTimes 2 n z × (unsigned_abs z ≤ 2 ^ 20)
+IsHalves n z = IsTimes 2 n z × (unsigned_abs z ≤ MOST_HALVES)
 
 -- the entity's position is the centre of its part with this cell, on the shifted grid
 pub record IsPlaced (major : ℕ) (shift : Shift) (v : Json) (cell : Cell) : Type 0 where
@@ -81,6 +82,12 @@ pub record SetsShift (major : ℕ) (v : Json) (shift : Shift) : Type 0 where
   pub cell : Cell
   pub placed : IsPlaced major shift v cell
 
+-- this is the entity's cell on the grid of entity 0: both stand on the grid with one shift
+pub record IsInCell (major : ℕ) (first v : Json) (cell : Cell) : Type 0 where
+  pub shift : Shift
+  pub sets : SetsShift major first shift
+  pub placed : IsPlaced major shift v cell
+
 -- the priority of that name is absent or `none`
 abbrev pub IsEven : Json → List ℕ → Type 0
 IsEven v name = Lacks v name ⊎ HasText v name (codes "none")
@@ -89,16 +96,18 @@ IsEven v name = Lacks v name ⊎ HasText v name (codes "none")
 abbrev pub IsSided : Json → List ℕ → Type 0
 IsSided v name = HasText v name (codes "left") ⊎ HasText v name (codes "right")
 
+-- the entity has nothing that no layout has: no condition, no filter and no preferred side of a splitter
+pub record IsPlain (v : Json) : Type 0 where
+  pub even_input : HasFamily v Splitters → IsEven v (codes "input_priority")
+  pub even_output : HasFamily v Splitters → IsEven v (codes "output_priority")
+  pub no_condition : Lacks v (codes "control_behavior")
+  pub no_filter : Lacks v (codes "filter")
+
 -- the value is an entity that stands for this part, in a blueprint whose entity 0 is the first
 pub record IsEntity (major : ℕ) (first v : Json) (part : Part) : Type 0 where
   pub has_kind : HasKind v part.kind
   pub has_tier : HasTier v part.tier
   pub has_dir : HasDirection major v part.dir
-  pub shift : Shift
-  pub first_shift : SetsShift major first shift
-  pub placed : IsPlaced major shift v part.cell
+  pub in_cell : IsInCell major first v part.cell
   pub first_tier : HasTier first part.tier
-  pub even_input : HasFamily v Splitters → IsEven v (codes "input_priority")
-  pub even_output : HasFamily v Splitters → IsEven v (codes "output_priority")
-  pub no_condition : Lacks v (codes "control_behavior")
-  pub no_filter : Lacks v (codes "filter")
+  pub plain : IsPlain v

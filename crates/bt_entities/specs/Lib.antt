@@ -4,4 +4,5 @@ pub mod Places
 pub mod Entities
 pub mod Blueprints
 pub mod Refusals
-pub mod Pieces
+pub mod Answers
+pub mod inner

@@ -3,27 +3,19 @@ use Rattle.std.specs.Prelude.{◌≡◌, ℕ, ◌+◌, ℤ, pos, ◌+ℤ◌, ◌
 use Rattle.bt_parts.specs.declared.part.Dir.{Dir}
 use Rattle.bt_parts.specs.declared.part.Dir.TheVariants.{North, East, South, West}
 use Rattle.bt_parts.specs.declared.part.Kind.{Kind}
-use Rattle.bt_parts.specs.declared.part.Kind.TheVariants.{Belt, Entrance, Exit, Splitter}
+use Rattle.bt_parts.specs.declared.part.Kind.TheVariants.{Splitter}
 
 -- how many tiles a part takes from west to east; a splitter lies across its direction
 abbrev pub width_of : Kind → Dir → ℕ
-width_of Belt dir = 1
-width_of Entrance dir = 1
-width_of Exit dir = 1
 width_of Splitter North = 2
-width_of Splitter East = 1
 width_of Splitter South = 2
-width_of Splitter West = 1
+width_of kind dir = 1
 
 -- how many tiles a part takes from north to south
 abbrev pub height_of : Kind → Dir → ℕ
-height_of Belt dir = 1
-height_of Entrance dir = 1
-height_of Exit dir = 1
-height_of Splitter North = 1
 height_of Splitter East = 2
-height_of Splitter South = 1
 height_of Splitter West = 2
+height_of kind dir = 1
 
 -- twice the middle of so many tiles, of which the first begins at this coordinate, moved by so many halves of a tile
 abbrev pub IsMiddle : ℤ → ℕ → ℕ → ℤ → Type 0

@@ -1,20 +1,19 @@
 -- When a text that is JSON is refused as a blueprint, and for what.
-use Rattle.std.specs.Prelude.{◌≡◌, ◌≢◌, ℕ, ◌<◌, ◌≤◌, List, [], ◌∷◌, length, String, string_bytes, codes, ◌⊎◌}
-use Rattle.std.specs.Global.{Global}
+use Rattle.std.specs.Prelude.{◌≡◌, ◌≢◌, ℕ, ◌<◌, ◌≤◌, List, [], ◌∷◌, length, codes, ◌⊎◌}
 use Rattle.bt_json.specs.Json.{Json, Number, Items, list}
 use Rattle.bt_parts.specs.declared.part.Cell.{Cell}
 use Rattle.bt_parts.specs.declared.part.Dir.{Dir}
 use Rattle.bt_parts.specs.declared.part.Tier.{Tier}
+use Rattle.bt_entities.specs.declared.blueprint.TheConstants.{MOST_ENTITIES}
 use Rattle.bt_entities.specs.declared.fault.EntityFault.{EntityFault}
 use Rattle.bt_entities.specs.declared.fault.EntityFault.TheVariants.{NotBlueprint, Book, TooMany, Unsupported, BadMember, OffGrid, MixedTier, Special, Memory}
 use Rattle.bt_entities.specs.declared.fault.Member.{Member}
 use Rattle.bt_entities.specs.declared.fault.Member.TheVariants.{Entity, Name, Position, Direction, PieceType, InputPriority, OutputPriority, ControlBehavior, Filter}
 use Rattle.bt_entities.specs.declared.name.Family.{Family}
 use Rattle.bt_entities.specs.declared.name.Family.TheVariants.{Undergrounds, Splitters}
-use Rattle.bt_entities.specs.declared.shift.Shift.{Shift}
 use Rattle.bt_entities.specs.Members.{HasMember, Lacks, HasText, IsObject}
 use Rattle.bt_entities.specs.Names.{name_of}
-use Rattle.bt_entities.specs.Entities.{HasFamily, HasTier, HasPosition, HasDirection, IsPlaced, SetsShift, IsEven, IsSided}
+use Rattle.bt_entities.specs.Entities.{HasFamily, HasTier, HasPosition, HasDirection, IsInCell, IsEven, IsSided}
 use Rattle.bt_entities.specs.Blueprints.{IsVersion, IsBlueprint, HasEntity}
 
 -- a member of that name is there and isn't what it has to be
@@ -37,9 +36,9 @@ IsNotBlueprint root = (¬ IsObject root)
 abbrev pub IsBook : Json → Type 0
 IsBook root = Lacks root (codes "blueprint") × ((book : Json) × HasMember root (codes "blueprint_book") book)
 
--- the blueprint has more than 4096 entities
+-- the blueprint has more than the most entities
 abbrev pub HasTooMany : Json → Type 0
-HasTooMany root = (major : ℕ) × (entities : List Json) × IsBlueprint root major entities × (4096 < length entities)
+HasTooMany root = (major : ℕ) × (entities : List Json) × IsBlueprint root major entities × (MOST_ENTITIES < length entities)
 
 -- the entity's name is this text, which names no part
 abbrev pub IsUnsupported : Json → List ℕ → Type 0
@@ -90,9 +89,10 @@ IsBadMember major v member = IsFirst (IsWrong major v) tested_members member
 abbrev pub IsFirstSpecial : Json → Member → Type 0
 IsFirstSpecial v member = IsFirst (IsSpecial v) special_members member
 
--- no cell is the entity's on the grid that entity 0 stands on: a coordinate is no multiple of a half or too great, or the halves don't agree with entity 0's
+-- no cell is the entity's on the grid of entity 0: a coordinate is no multiple of a half or too great, or the halves don't
+-- agree with entity 0's, or entity 0 stands on no grid
 abbrev pub IsOffGrid : ℕ → Json → Json → Type 0
-IsOffGrid major first v = (shift : Shift) (cell : Cell) → SetsShift major first shift → ¬ IsPlaced major shift v cell
+IsOffGrid major first v = (cell : Cell) → ¬ IsInCell major first v cell
 
 -- the entity's tier isn't that of entity 0
 abbrev pub IsMixed : Json → Json → Type 0
@@ -100,15 +100,12 @@ IsMixed first v = (tier of_first : Tier) × HasTier v tier × HasTier first of_f
 
 -- the fault is one of the entity with this index
 abbrev pub IsFault : ℕ → Json → ℕ → Json → EntityFault → Type 0
-IsFault major first i v NotBlueprint = ⊥
-IsFault major first i v Book = ⊥
-IsFault major first i v TooMany = ⊥
-IsFault major first i v (Unsupported at name) = (at ≡ i) × IsUnsupported v (string_bytes name)
+IsFault major first i v (Unsupported at name) = (at ≡ i) × IsUnsupported v name
 IsFault major first i v (BadMember at member) = (at ≡ i) × IsBadMember major v member
 IsFault major first i v (OffGrid at) = (at ≡ i) × IsOffGrid major first v
 IsFault major first i v (MixedTier at) = (at ≡ i) × IsMixed first v
 IsFault major first i v (Special at member) = (at ≡ i) × IsFirstSpecial v member
-IsFault major first i v Memory = ⊥
+IsFault major first i v other = ⊥
 
 -- the numbers by which faults go before one another
 abbrev pub number_of_fault : EntityFault → ℕ
@@ -127,12 +124,8 @@ pub record IsLowest (major : ℕ) (first : Json) (i : ℕ) (v : Json) (fault : E
   pub is_fault : IsFault major first i v fault
   pub no_lower : (other : EntityFault) → number_of_fault other < number_of_fault fault → ¬ IsFault major first i v other
 
--- the fault is the one of the lowest entity that has one, with the lowest number
-pub record IsFirstFault (root : Json) (fault : EntityFault) : Type 0 where
-  pub major : ℕ
-  pub entities : List Json
-  pub is_blueprint : IsBlueprint root major entities
-  pub few : length entities ≤ 4096
+-- the fault is the lowest of the first entity that has one
+pub record IsFirstOf (major : ℕ) (entities : List Json) (fault : EntityFault) : Type 0 where
   pub first : Json
   pub is_first : HasEntity entities 0 first
   pub index : ℕ
@@ -141,26 +134,17 @@ pub record IsFirstFault (root : Json) (fault : EntityFault) : Type 0 where
   pub lowest : IsLowest major first index v fault
   pub none_before : (i : ℕ) (w : Json) (other : EntityFault) → i < index → HasEntity entities i w → ¬ IsFault major first i w other
 
--- the root is refused with this fault; want of memory refuses nothing
+-- the root has a blueprint of no more than the most entities, and the fault is their first
+pub record IsFirstFault (root : Json) (fault : EntityFault) : Type 0 where
+  pub major : ℕ
+  pub entities : List Json
+  pub is_blueprint : IsBlueprint root major entities
+  pub few : length entities ≤ MOST_ENTITIES
+  pub first : IsFirstOf major entities fault
+
+-- the root is refused with this fault; want of memory refuses nothing, since no entity has it
 abbrev pub IsRefused : Json → EntityFault → Type 0
 IsRefused root NotBlueprint = IsNotBlueprint root
 IsRefused root Book = IsBook root
 IsRefused root TooMany = HasTooMany root
-IsRefused root (Unsupported at name) = IsFirstFault root (Unsupported at name)
-IsRefused root (BadMember at member) = IsFirstFault root (BadMember at member)
-IsRefused root (OffGrid at) = IsFirstFault root (OffGrid at)
-IsRefused root (MixedTier at) = IsFirstFault root (MixedTier at)
-IsRefused root (Special at member) = IsFirstFault root (Special at member)
-IsRefused root Memory = ⊥
-
--- the same fault, where the text of a name may stand elsewhere in memory
-abbrev pub IsSameFault : EntityFault → EntityFault → Type 0
-IsSameFault NotBlueprint other = other ≡ NotBlueprint
-IsSameFault Book other = other ≡ Book
-IsSameFault TooMany other = other ≡ TooMany
-IsSameFault (Unsupported at name) other = (text : String Global) × (other ≡ Unsupported at text) × (string_bytes name ≡ string_bytes text)
-IsSameFault (BadMember at member) other = other ≡ BadMember at member
-IsSameFault (OffGrid at) other = other ≡ OffGrid at
-IsSameFault (MixedTier at) other = other ≡ MixedTier at
-IsSameFault (Special at member) other = other ≡ Special at member
-IsSameFault Memory other = other ≡ Memory
+IsRefused root other = IsFirstFault root other

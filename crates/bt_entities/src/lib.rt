@@ -8,8 +8,9 @@ mod name;
 mod piece;
 mod shift;
 
-pub use blueprint::parts_of;
-pub use fault::{EntityFault, Member};
+pub use blueprint::{MOST_ENTITIES, parts_of};
+pub use fault::{EntityFault, EntityName, Member};
+pub use std::alloc::AllocError as Memory;
 
 #[cfg(test)]
 mod tests;

@@ -1,3 +1,5 @@
+//! What an entity's name tells: the game's twelve names of belts, undergrounds and splitters.
+
 ghost use Rattle.std.specs.Prelude.{◌≡◌, ◌≢◌, MatchOption};
 ghost use Rattle.bt_parts.specs.declared.part.Tier.{Tier};
 ghost use Rattle.bt_entities.specs.Names.{name_of};
@@ -5,17 +7,22 @@ ghost use Rattle.bt_entities.specs.declared.name.Family.{Family};
 
 use bt_parts::Tier;
 
-/// What an entity's name says of its kind.
-#[derive(Clone, Copy, Debug, PartialEq, Eq)]
+/// What an entity's name says of its kind. Of an underground piece its `type` says the rest.
+#[derive(Clone, Copy)]
 pub enum Family {
+    /// Transport belts.
     Belts,
+    /// Underground belts, entrances and exits alike.
     Undergrounds,
+    /// Splitters.
     Splitters,
 }
 
-/// The family and the tier that a name tells.
+/// The family and the tier that a name tells (Factorio Wiki, belt transport system).
 pub fn named(name: &str) -> Option<(Family, Tier)>
-    ensures { MatchOption result ((family : Family) (tier : Tier) → name.now ≢ name_of family tier) (λ r. name.now ≡ name_of r.0 r.1) }
+    ensures { MatchOption result
+        ((family : Family) (tier : Tier) → name.now ≢ name_of family tier)
+        (λ named. name.now ≡ name_of named.0 named.1) }
 {
     match name {
         "transport-belt" => Some((Family::Belts, Tier::Basic)),

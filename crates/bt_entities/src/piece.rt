@@ -1,4 +1,7 @@
+//! An entity as its members tell it, before its cell is known, which depends on entity 0.
+
 ghost use Rattle.std.specs.Prelude.{◌≡◌, ◌≢◌, ℕ, ℤ, codes, MatchOption, MatchResult};
+ghost use Rattle.bt_answers.specs.Answers.{UnlessMemory};
 ghost use Rattle.bt_json.specs.Json.{Json, Number};
 ghost use Rattle.bt_json.specs.Stands.{json_of, number_of};
 ghost use Rattle.bt_parts.specs.declared.part.Dir.{Dir};
@@ -7,11 +10,14 @@ ghost use Rattle.bt_entities.specs.declared.name.Family.TheVariants.{Underground
 ghost use Rattle.bt_entities.specs.declared.shift.Shift.{Shift};
 ghost use Rattle.bt_entities.specs.Members.{HasText};
 ghost use Rattle.bt_entities.specs.Names.{name_of};
-ghost use Rattle.bt_entities.specs.Entities.{HasFamily, HasKind, HasDirection, HasPosition, IsHalves, IsEven, IsSided, direction_value};
+ghost use Rattle.bt_entities.specs.declared.fault.EntityFault.TheVariants.{Memory};
+ghost use Rattle.bt_entities.specs.Entities.{HasFamily, HasKind, HasDirection, HasPosition, direction_value};
+ghost use Rattle.bt_entities.specs.Entities.{IsEven, IsSided};
 ghost use Rattle.bt_entities.specs.Refusals.{IsBadMember};
-ghost use Rattle.bt_entities.specs.Pieces.{AreHalves, IsPriority, IsPiece, IsOn, IsTold};
+ghost use Rattle.bt_entities.specs.inner.Pieces.{AreHalves, IsPriority, ArePriorities, IsWrongPriority};
+ghost use Rattle.bt_entities.specs.inner.Pieces.{IsPiece, IsOn, IsNameRead, IsPieceRead};
 
-use crate::fault::{EntityFault, Member};
+use crate::fault::{EntityFault, EntityName, Member};
 use crate::member::{
     as_number, as_text, has_member, is_object, member, number_member, text_member,
 };
@@ -22,28 +28,37 @@ use bt_parts::{Cell, Dir, Kind, Tier};
 use std::alloc::Global;
 
 /// Which of its two sides a splitter prefers.
-#[derive(Clone, Copy, Debug, PartialEq, Eq)]
+#[derive(Clone, Copy)]
 pub enum Priority {
     /// None of them.
     Even,
+    /// One of them.
     Sided,
 }
 
 /// An entity as its members tell it.
-#[derive(Clone, Copy, Debug)]
+#[derive(Clone, Copy)]
 pub struct Piece {
+    /// What its part is.
     pub kind: Kind,
+    /// Its part's speed class.
     pub tier: Tier,
+    /// The direction in which its part moves items.
     pub dir: Dir,
     /// Twice the centre's x, where that is a whole number in range.
     pub x: Option<i32>,
+    /// Twice the centre's y, where that is a whole number in range.
     pub y: Option<i32>,
+    /// Which side a splitter takes from first.
     pub input: Priority,
+    /// Which side a splitter gives to first.
     pub output: Priority,
 }
 
+/// The coordinates of the centre, in tiles.
 fn position(entity: &Tree) -> Option<(&Decimal, &Decimal)>
-    ensures { MatchOption result ((x y : Number) → ¬ HasPosition (json_of entity.now) x y)
+    ensures { MatchOption result
+        ((x y : Number) → ¬ HasPosition (json_of entity.now) x y)
         (λ p. HasPosition (json_of entity.now) (number_of p.0.now) (number_of p.1.now)) }
 {
     let position = member(entity, "position")?;
@@ -52,6 +67,7 @@ fn position(entity: &Tree) -> Option<(&Decimal, &Decimal)>
     Some((x, y))
 }
 
+/// Twice the number, where that is a whole number in range: no other is rounded to one.
 fn halves(number: &Decimal) -> Option<i32>
     ensures { AreHalves (number_of number.now) result }
 {
@@ -60,7 +76,9 @@ fn halves(number: &Decimal) -> Option<i32>
 
 /// The direction with this value, in eighths of a turn below major version 2, else in sixteenths.
 fn direction_of(major: u64, value: u64) -> Option<Dir>
-    ensures { MatchOption result ((dir : Dir) → value ≢ direction_value major dir) (λ dir. value ≡ direction_value major dir) }
+    ensures { MatchOption result
+        ((dir : Dir) → value ≢ direction_value major dir)
+        (λ dir. value ≡ direction_value major dir) }
 {
     if major < 2 {
         match value {
@@ -81,8 +99,11 @@ fn direction_of(major: u64, value: u64) -> Option<Dir>
     }
 }
 
+/// The direction of an entity: north, where it names none.
 fn direction(major: u64, entity: &Tree) -> Option<Dir>
-    ensures { MatchOption result ((dir : Dir) → ¬ HasDirection major (json_of entity.now) dir) (HasDirection major (json_of entity.now)) }
+    ensures { MatchOption result
+        ((dir : Dir) → ¬ HasDirection major (json_of entity.now) dir)
+        (HasDirection major (json_of entity.now)) }
 {
     let Some(direction) = member(entity, "direction") else {
         return Some(Dir::North);
@@ -114,9 +135,11 @@ fn kind_of(family: Family, entity: &Tree) -> Option<Kind>
     }
 }
 
+/// The priority of that name of a splitter.
 fn side_of(entity: &Tree, name: &str) -> Option<Priority>
     requires { HasFamily (json_of entity.now) Splitters }
-    ensures { MatchOption result ((¬ IsEven (json_of entity.now) name.now) × (¬ IsSided (json_of entity.now) name.now))
+    ensures { MatchOption result
+        ((¬ IsEven (json_of entity.now) name.now) × (¬ IsSided (json_of entity.now) name.now))
         (IsPriority (json_of entity.now) name.now) }
 {
     let Some(side) = member(entity, name) else {
@@ -133,7 +156,9 @@ fn side_of(entity: &Tree, name: &str) -> Option<Priority>
 fn priority_of(family: Family, entity: &Tree, name: &str) -> Option<Priority>
     requires { HasFamily (json_of entity.now) family }
     ensures { MatchOption result
-        (HasFamily (json_of entity.now) Splitters × (¬ IsEven (json_of entity.now) name.now) × (¬ IsSided (json_of entity.now) name.now))
+        (HasFamily (json_of entity.now) Splitters
+        × (¬ IsEven (json_of entity.now) name.now)
+        × (¬ IsSided (json_of entity.now) name.now))
         (IsPriority (json_of entity.now) name.now) }
 {
     match family {
@@ -142,10 +167,28 @@ fn priority_of(family: Family, entity: &Tree, name: &str) -> Option<Priority>
     }
 }
 
+/// The priorities of an entity of this family, or the first wrong one.
+fn priorities(family: Family, entity: &Tree) -> Result<(Priority, Priority), Member>
+    requires { HasFamily (json_of entity.now) family }
+    ensures { MatchResult result
+        (λ told. ArePriorities (json_of entity.now) told.0 told.1)
+        (IsWrongPriority (json_of entity.now)) }
+{
+    let Some(input) = priority_of(family, entity, "input_priority") else {
+        return Err(Member::InputPriority);
+    };
+    let Some(output) = priority_of(family, entity, "output_priority") else {
+        return Err(Member::OutputPriority);
+    };
+    Ok((input, output))
+}
+
 /// The entity of this family and tier, or its first wrong member.
 fn with_members(major: u64, family: Family, tier: Tier, entity: &Tree) -> Result<Piece, Member>
     requires { HasText (json_of entity.now) (codes "name") (name_of family tier) }
-    ensures { MatchResult result (IsPiece major (json_of entity.now)) (IsBadMember major (json_of entity.now)) }
+    ensures { MatchResult result
+        (IsPiece major (json_of entity.now))
+        (IsBadMember major (json_of entity.now)) }
 {
     let Some((x, y)) = position(entity) else {
         return Err(Member::Position);
@@ -156,12 +199,7 @@ fn with_members(major: u64, family: Family, tier: Tier, entity: &Tree) -> Result
     let Some(kind) = kind_of(family, entity) else {
         return Err(Member::PieceType);
     };
-    let Some(input) = priority_of(family, entity, "input_priority") else {
-        return Err(Member::InputPriority);
-    };
-    let Some(output) = priority_of(family, entity, "output_priority") else {
-        return Err(Member::OutputPriority);
-    };
+    let (input, output) = priorities(family, entity)?;
     Ok(Piece {
         kind,
         tier,
@@ -175,8 +213,7 @@ fn with_members(major: u64, family: Family, tier: Tier, entity: &Tree) -> Result
 
 /// The family and the tier of the entity with this index.
 fn name_of(alloc: Global, place: usize, entity: &Tree) -> Result<(Family, Tier), EntityFault>
-    ensures { MatchResult result (λ r. HasText (json_of entity.now) (codes "name") (name_of r.0 r.1))
-        (λ e. (major : ℕ) (first : Json) → IsTold major first place (json_of entity.now) e) }
+    ensures { UnlessMemory Memory (IsNameRead place (json_of entity.now)) result }
 {
     if !is_object(entity) {
         return Err(EntityFault::BadMember(place, Member::Entity));
@@ -188,7 +225,7 @@ fn name_of(alloc: Global, place: usize, entity: &Tree) -> Result<(Family, Tier),
         Some(found) => Ok(found),
         None => {
             let name = String::from_str(alloc, name)?;
-            Err(EntityFault::Unsupported(place, name))
+            Err(EntityFault::Unsupported(place, EntityName::new(name)))
         }
     }
 }
@@ -200,7 +237,7 @@ pub fn piece_of(
     place: usize,
     entity: &Tree,
 ) -> Result<Piece, EntityFault>
-    ensures { MatchResult result (IsPiece major (json_of entity.now)) (λ e. (first : Json) → IsTold major first place (json_of entity.now) e) }
+    ensures { UnlessMemory Memory (IsPieceRead major place (json_of entity.now)) result }
 {
     let (family, tier) = name_of(alloc, place, entity)?;
     match with_members(major, family, tier, entity) {
@@ -223,12 +260,15 @@ impl Piece {
 }
 
 impl Piece {
+    ghost use Rattle.bt_entities.specs.Entities.{IsPlain};
     ghost use Rattle.bt_entities.specs.Refusals.{IsFirstSpecial};
-    ghost use Rattle.bt_entities.specs.Pieces.{IsPlain, HasShift};
+    ghost use Rattle.bt_entities.specs.inner.Pieces.{HasShift};
 
     /// The shift of the grid that it stands on.
     pub fn shift(&self) -> Option<Shift>
-        ensures { MatchOption result ((shift : Shift) (cell : Cell) → ¬ IsOn self.now shift cell) (HasShift self.now) }
+        ensures { MatchOption result
+            ((shift : Shift) (cell : Cell) → ¬ IsOn self.now shift cell)
+            (HasShift self.now) }
     {
         let twice_x = self.x?;
         let twice_y = self.y?;

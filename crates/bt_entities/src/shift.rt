@@ -1,12 +1,18 @@
-ghost use Rattle.std.specs.Prelude.{◌≡◌, ◌<◌, ◌^◌, ℤ, ◌*ℤ◌, unsigned_abs, pos, neg_ℤ, if◌then◌else◌, MatchOption};
+//! From the middle of a part, in halves of a tile, to its first cell. A blueprint's positions are relative
+//! to a point of its own, so its parts may all stand off whole tiles by half a tile, each way.
+
+ghost use Rattle.std.specs.Prelude.{◌≡◌, ◌<◌, ◌^◌, ℤ, ◌*ℤ◌, pos, neg_ℤ, unsigned_abs};
+ghost use Rattle.std.specs.Prelude.{if◌then◌else◌, MatchOption};
 ghost use Rattle.bt_entities.specs.Places.{width_of, height_of, IsMiddle};
 
 use bt_parts::{Dir, Kind};
 
 /// By how many halves of a tile, 0 or 1, a blueprint's parts stand off the grid of cells.
-#[derive(Clone, Copy, Debug, PartialEq, Eq)]
+#[derive(Clone, Copy)]
 pub struct Shift {
+    /// To the east.
     pub x: u8,
+    /// To the south.
     pub y: u8,
 }
 
@@ -30,6 +36,7 @@ pub fn height(kind: Kind, dir: Dir) -> u8
     }
 }
 
+/// The whole number of this magnitude, negative or not.
 fn with_sign(negative: bool, magnitude: u64) -> i32
     requires { magnitude < 2 ^ 31 }
     ensures { result ≡ (if negative then neg_ℤ (pos magnitude) else pos magnitude) }
@@ -38,9 +45,12 @@ fn with_sign(negative: bool, magnitude: u64) -> i32
     if negative { -value } else { value }
 }
 
+/// The half of an even number.
 fn half(twice: i64) -> Option<i32>
     requires { unsigned_abs twice < 2 ^ 32 }
-    ensures { MatchOption result ((half : ℤ) → ¬ (twice ≡ pos 2 *ℤ half)) (λ half. twice ≡ pos 2 *ℤ half) }
+    ensures { MatchOption result
+        ((half : ℤ) → ¬ (twice ≡ pos 2 *ℤ half))
+        (λ half. twice ≡ pos 2 *ℤ half) }
 {
     let magnitude = twice.unsigned_abs();
     if magnitude % 2 != 0 {
@@ -51,7 +61,9 @@ fn half(twice: i64) -> Option<i32>
 
 /// The first of so many tiles with this middle, which is told in halves of a tile and shifted.
 pub fn first_tile(middle: i32, size: u8, shift: u8) -> Option<i32>
-    ensures { MatchOption result ((first : ℤ) → ¬ IsMiddle middle size shift first) (IsMiddle middle size shift) }
+    ensures { MatchOption result
+        ((first : ℤ) → ¬ IsMiddle middle size shift first)
+        (IsMiddle middle size shift) }
 {
     half(i64::from(middle) - i64::from(size) - i64::from(shift))
 }

@@ -12,8 +12,9 @@ use Rattle.bt_parts.specs.Cells.{Covers, IsGreaterHalf, beside}
 use Rattle.bt_parts.specs.Layouts.{HasPart, IsAt, IsWellPlaced}
 use Rattle.bt_parts.specs.Order.{cell_order}
 use Rattle.bt_parts.proofs.CellOrder.{cell_cases}
-use Rattle.bt_grid.specs.Index.{index_at, IsIndexOf, IsLesser, IsFreeFor, IsLeastOn, Adds}
-use Rattle.bt_grid.specs.Overlap.{IsFirstOverlap}
+use Rattle.bt_parts.proofs.Places.{covers_at}
+use Rattle.bt_grid.specs.inner.Index.{index_at, IsIndexOf, IsLesser, IsFreeFor, IsLeastOn, Adds}
+use Rattle.bt_grid.specs.Placing.{IsFirstOverlap}
 
 -- the second cell is the greater half, where there is one
 abbrev pub IsSecond : Part → Option Cell → Type 0
@@ -140,13 +141,6 @@ pub adds_both : (old mid new : BTreeMap Cell ℕ) (part : Part) (first : Cell) (
 adds_both old mid new part first second cell i e is_second f u v =
     adds_two old mid new part cell i (subst (λ o. IsSecond part o) f is_second) (subst (λ c. Updates cell_order old mid c (Some i)) e u) v
 
-pub same_part : (parts : List Part) (i : ℕ) (p q : Part) → HasPart parts i p → HasPart parts i q → p ≡ q
-same_part parts i p q h k = same_Some p q (sym h ∙ k)
-
--- the part at this cell is the one with this index
-pub covers_at : (parts : List Part) (i : ℕ) (part : Part) (cell : Cell) → HasPart parts i part → IsAt parts i cell → Covers part cell
-covers_at parts i part cell h at = subst (λ p. Covers p cell) (same_part parts i at.part part at.is_i h) at.covers
-
 -- the map of the first n parts with the next one added
 pub index_more : (parts : List Part) (n : ℕ) (part : Part) (old new : BTreeMap Cell ℕ) → HasPart parts n part
     → IsIndexOf parts n old → IsFreeFor old part → Adds old new part n → IsIndexOf parts (n + 1) new
@@ -206,3 +200,9 @@ empty_there parts cells cell there index e = (
   λ none i at. none-some i (sym none ∙ (found_there parts cells cell there index e i).1 at),
   λ none. none_found there (λ i f. none i ((found_there parts cells cell there index e i).0 f)),
 )
+
+-- what is told of a cell is the part on it, or that there is none
+pub at_told : (parts : List Part) (cell : Cell) (there : Option ℕ) → ((i : ℕ) → (there ≡ Some i) ↔ IsAt parts i cell)
+    → ((there ≡ None) ↔ ((i : ℕ) → IsAt parts i cell → ⊥)) → MatchOption there ((i : ℕ) → IsAt parts i cell → ⊥) (λ i. IsAt parts i cell)
+at_told parts cell None found empty = empty.0 refl
+at_told parts cell (Some i) found empty = (found i).0 refl

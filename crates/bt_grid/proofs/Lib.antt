@@ -1,2 +1,3 @@
 pub mod IndexLemmas
-pub mod PairLemmas
+pub mod PartnerLemmas
+pub mod OneAnswer

@@ -1,3 +1,3 @@
-pub mod Index
-pub mod Overlap
+pub mod Placing
 pub mod Pairing
+pub mod inner

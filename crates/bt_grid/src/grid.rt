@@ -1,10 +1,17 @@
-ghost use Rattle.std.specs.Prelude.{◌≡◌, ◌↔◌, ℕ, ◌<◌, length, IfOk, IfErr, MatchOption, OnOk};
+//! Parts on their cells: a list of which no two share a cell, and an ordered map to look a cell up.
+//!
+//! The map takes its place in memory once, so that the pairs, and later the feeders, of n parts are found
+//! in O(n log n) steps in place of n times n.
+
+ghost use Rattle.std.specs.Prelude.{◌≡◌, ◌↔◌, ℕ, ◌<◌, length, MatchOption, OnOk};
+ghost use Rattle.bt_answers.specs.Answers.{Answers};
 ghost use Rattle.bt_parts.specs.Cells.{IsInRange};
 ghost use Rattle.bt_parts.specs.Layouts.{AreInRange, HasPart, IsAt, IsWellPlaced};
-ghost use Rattle.bt_grid.specs.Overlap.{IsPlaceFault};
-ghost use Rattle.bt_grid.specs.Index.{index_at, IsLesser, IsFreeFor, IsLeastOn, Adds};
+ghost use Rattle.bt_grid.specs.Placing.{IsPlaced};
+ghost use Rattle.bt_grid.specs.inner.Index.{index_at, IsLesser, IsFreeFor, IsLeastOn, Adds};
+ghost use Rattle.bt_grid.specs.declared.grid.GridFault.TheVariants.{Memory};
 
-use bt_parts::{Cell, Part, cells_of};
+use bt_parts::{Cell, Layout, Part, cells_of};
 use std::alloc::{AllocError, Global};
 use std::collections::BTreeMap;
 use std::marker::Model;
@@ -83,7 +90,7 @@ pub struct Grid {
 impl Model for Grid {
     ghost use Rattle.std.specs.Prelude.{List};
     ghost use Rattle.bt_parts.specs.declared.part.Part.{Part};
-    ghost use Rattle.bt_grid.specs.Index.{Indexes};
+    ghost use Rattle.bt_grid.specs.inner.Index.{Indexes};
 
     ghost Value = { List Part };
 
@@ -93,14 +100,16 @@ impl Model for Grid {
 }
 
 impl Grid {
-    /// Places the parts. A part's index is its place in the list.
+    /// Places the parts. A part's index is its place in the list. It takes O(n log n) steps for n parts.
     ///
-    /// It refuses the first overlap: the least index that shares a cell with an earlier part, and the
-    /// least such earlier one. It takes O(n log n) steps for n parts.
+    /// # Errors
+    ///
+    /// The first overlap: the least index that shares a cell with an earlier part, and the least such
+    /// earlier one.
+    #[tactic(auto, using(crate::proofs::OneAnswer::placed_answers))]
     pub fn place(alloc: Global, parts: Vec<Part>) -> Result<Grid, GridFault>
         requires { AreInRange parts.items }
-        ensures placed { IfOk result (λ grid. (grid ≡ parts.items) × IsWellPlaced parts.items) }
-        ensures refused { IfErr result (IsPlaceFault parts.items) }
+        ensures { Answers Memory (IsPlaced parts.items) result }
     {
         let mut cells = BTreeMap::new(alloc);
         for (i, part) in parts.iter().enumerate() {
@@ -136,5 +145,17 @@ impl Grid {
         ensures empty { (result ≡ None) ↔ ((i : ℕ) → IsAt self.now i cell → ⊥) }
     {
         index_at(&self.cells, cell)
+    }
+}
+
+impl Layout for Grid {
+    ghost parts = { λ grid. grid };
+
+    fn part(&self, i: usize) -> &Part {
+        Grid::part(self, i)
+    }
+
+    fn at(&self, cell: Cell) -> Option<usize> {
+        Grid::at(self, cell)
     }
 }

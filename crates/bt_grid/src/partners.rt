@@ -1,3 +1,5 @@
+//! What the pairs are told as: for each part's index the index of the other end.
+
 ghost use Rattle.std.specs.Prelude.{◌≡◌};
 ghost use Rattle.bt_grid.specs.Pairing.{partner_of};
 

@@ -1,3 +1,5 @@
+//! Overlaps, cells and pairs of small rows, with the reach of the Factorio Wiki.
+
 ghost use Rattle.std.specs.Prelude.{IfOk};
 ghost use Rattle.bt_parts.specs.Cells.{IsInRange};
 ghost use Rattle.bt_parts.specs.Layouts.{AreInRange};
@@ -32,25 +34,40 @@ fn row(alloc: Global, places: &[(Kind, u8)]) -> Result<Vec<Part>, Memory>
 
 #[test]
 fn the_first_overlap_is_refused(rt: HostRuntime) -> Result<(), Fail> {
-    let same = row(rt.alloc(), &[(Kind::Belt, 0), (Kind::Belt, 0)])?;
-    assert_eq!(rt;
-        Grid::place(rt.alloc(), same).err(),
-        Some(GridFault::Overlap(0, 1))
-    );
-    let several = row(
-        rt.alloc(),
-        &[
-            (Kind::Belt, 2),
-            (Kind::Belt, 0),
-            (Kind::Belt, 1),
-            (Kind::Belt, 0),
-            (Kind::Belt, 2),
-        ],
-    )?;
-    assert_eq!(rt;
-        Grid::place(rt.alloc(), several).err(),
-        Some(GridFault::Overlap(1, 3))
-    );
+    let table = [
+        (
+            [
+                (Kind::Belt, 0),
+                (Kind::Belt, 0),
+                (Kind::Belt, 0),
+                (Kind::Belt, 2),
+            ],
+            (0, 1),
+        ),
+        (
+            [
+                (Kind::Belt, 2),
+                (Kind::Belt, 0),
+                (Kind::Belt, 0),
+                (Kind::Belt, 2),
+            ],
+            (1, 2),
+        ),
+        (
+            [
+                (Kind::Splitter, 2),
+                (Kind::Exit, 0),
+                (Kind::Belt, 1),
+                (Kind::Belt, 2),
+            ],
+            (0, 3),
+        ),
+    ];
+    for (places, (first, second)) in table {
+        let parts = row(rt.alloc(), &places)?;
+        let fault = Grid::place(rt.alloc(), parts).err();
+        assert!(rt; fault == Some(GridFault::Overlap(first, second)));
+    }
     Ok(())
 }
 
@@ -59,46 +76,53 @@ fn a_grid_tells_which_part_is_on_a_cell(rt: HostRuntime) -> Result<(), Fail> {
     let parts = row(rt.alloc(), &[(Kind::Belt, 3), (Kind::Splitter, 1)])?;
     let grid = Grid::place(rt.alloc(), parts).expect(&rt, "no two parts share a cell");
     let table = [
-        (Cell { x: 3, y: 0 }, Some(0)),
-        (Cell { x: 1, y: 0 }, Some(1)),
-        (Cell { x: 1, y: 1 }, Some(1)),
-        (Cell { x: 2, y: 0 }, None),
-        (Cell { x: 3, y: 1 }, None),
+        (3, 0, Some(0)),
+        (1, 0, Some(1)),
+        (1, 1, Some(1)),
+        (2, 0, None),
+        (3, 1, None),
     ];
-    for (cell, part) in table {
-        assert_eq!(rt; grid.at(cell), part);
+    for (x, y, part) in table {
+        assert!(rt; grid.at(Cell { x, y }) == part);
     }
-    assert_eq!(rt; grid.parts().len(), 2);
     Ok(())
 }
 
 #[test]
-fn an_entrance_and_an_exit_within_reach_are_a_pair(rt: HostRuntime) -> Result<(), Fail> {
-    let parts = row(
-        rt.alloc(),
-        &[(Kind::Entrance, 0), (Kind::Belt, 2), (Kind::Exit, 5)],
-    )?;
-    let grid = Grid::place(rt.alloc(), parts).expect(&rt, "no two parts share a cell");
-    let found = pairs(rt.alloc(), &grid).expect(&rt, "four tiles lie between the ends");
-    assert_eq!(rt; found.partner(0), Some(2));
-    assert_eq!(rt; found.partner(1), None);
-    assert_eq!(rt; found.partner(2), Some(0));
-    Ok(())
-}
-
-#[test]
-fn the_first_piece_without_a_pair_is_refused(rt: HostRuntime) -> Result<(), Fail> {
-    let far = row(rt.alloc(), &[(Kind::Entrance, 0), (Kind::Exit, 6)])?;
-    let far = Grid::place(rt.alloc(), far).expect(&rt, "no two parts share a cell");
-    assert_eq!(rt; pairs(rt.alloc(), &far).err(), Some(PairFault::Unpaired(0)));
-    let nearer = row(
-        rt.alloc(),
-        &[(Kind::Entrance, 0), (Kind::Entrance, 1), (Kind::Exit, 3)],
-    )?;
-    let nearer = Grid::place(rt.alloc(), nearer).expect(&rt, "no two parts share a cell");
-    assert_eq!(rt;
-        pairs(rt.alloc(), &nearer).err(),
-        Some(PairFault::Unpaired(0))
-    );
+fn pieces_are_paired_within_reach(rt: HostRuntime) -> Result<(), Fail> {
+    let table = [
+        (
+            [(Kind::Entrance, 0), (Kind::Belt, 2), (Kind::Exit, 5)],
+            Some([Some(2), None, Some(0)]),
+        ),
+        (
+            [(Kind::Exit, 4), (Kind::Entrance, 1), (Kind::Belt, 3)],
+            Some([Some(1), Some(0), None]),
+        ),
+        (
+            [(Kind::Belt, 2), (Kind::Belt, 0), (Kind::Belt, 1)],
+            Some([None, None, None]),
+        ),
+        (
+            [(Kind::Entrance, 0), (Kind::Exit, 6), (Kind::Belt, 1)],
+            None,
+        ),
+        (
+            [(Kind::Entrance, 0), (Kind::Entrance, 1), (Kind::Exit, 3)],
+            None,
+        ),
+    ];
+    for (places, wanted) in table {
+        let parts = row(rt.alloc(), &places)?;
+        let grid = Grid::place(rt.alloc(), parts).expect(&rt, "no two parts share a cell");
+        let found = match pairs(rt.alloc(), &grid) {
+            Ok(found) => Some([found.partner(0), found.partner(1), found.partner(2)]),
+            Err(fault) => {
+                assert!(rt; fault == PairFault::Unpaired(0));
+                None
+            }
+        };
+        assert!(rt; found == wanted);
+    }
     Ok(())
 }

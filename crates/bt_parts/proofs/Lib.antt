@@ -1,2 +1,4 @@
 pub mod CellOrder
 pub mod Steps
+pub mod Places
+pub mod Pieces

@@ -1,5 +1,6 @@
 -- Cells, directions as steps, and the cells that a part covers.
-use Rattle.std.specs.Prelude.{◌≡◌, ℕ, ◌^◌, ◌≤◌, pos, ◌+ℤ◌, ◌-ℤ◌, ◌≤ℤ◌, ◌<ℤ◌, unsigned_abs, ◌⊎◌}
+use Rattle.std.specs.Prelude.{◌≡◌, ℕ, ◌≤◌, pos, ◌+ℤ◌, ◌-ℤ◌, ◌≤ℤ◌, ◌<ℤ◌, unsigned_abs, ◌⊎◌}
+use Rattle.bt_parts.specs.declared.part.TheConstants.{MOST_COORDINATE}
 use Rattle.bt_parts.specs.declared.part.Cell.{Cell}
 use Rattle.bt_parts.specs.declared.part.Dir.{Dir}
 use Rattle.bt_parts.specs.declared.part.Dir.TheVariants.{North, East, South, West}
@@ -40,9 +41,9 @@ IsGreaterHalf part c = (part.kind ≡ Splitter) × (c ≡ beside part.dir part.c
 abbrev pub Covers : Part → Cell → Type 0
 Covers part c = (c ≡ part.cell) ⊎ IsGreaterHalf part c
 
--- each coordinate has magnitude at most 2^20
+-- each coordinate has at most the greatest magnitude
 abbrev pub IsInRange : Cell → Type 0
-IsInRange c = (unsigned_abs c.x ≤ 2 ^ 20) × (unsigned_abs c.y ≤ 2 ^ 20)
+IsInRange c = (unsigned_abs c.x ≤ MOST_COORDINATE) × (unsigned_abs c.y ≤ MOST_COORDINATE)
 
 -- the cell is one of the rectangle's
 abbrev pub IsInside : Rect → Cell → Type 0

@@ -3,3 +3,4 @@ pub mod Handing
 pub mod Layouts
 pub mod Order
 pub mod Tiers
+pub mod inner

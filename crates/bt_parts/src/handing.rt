@@ -1,3 +1,5 @@
+//! From where one part comes upon another, and which kinds take from there (Factorio Wiki, belts).
+
 ghost use Rattle.std.specs.Prelude.{◌↔◌, IsTrue};
 ghost use Rattle.bt_parts.specs.Handing.{ComesFrom, TakesFrom};
 

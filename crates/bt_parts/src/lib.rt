@@ -1,11 +1,16 @@
-//! Cells, directions and the parts of a belt layout, after the Factorio Wiki.
+//! Cells, directions and the parts of a belt layout, and the pairs of its underground pieces, after the
+//! Factorio Wiki. All that reads or judges a layout stands on these tables.
 #![tactic(auto)]
 
 mod handing;
 mod part;
+mod piece;
 
 pub use handing::{accepts, side};
-pub use part::{Cell, Dir, Kind, Part, Rect, Side, Tier, back, cells_of, front, inside};
+pub use part::{
+    Cell, Dir, Kind, MOST_COORDINATE, Part, Rect, Side, Tier, back, cells_of, front, inside,
+};
+pub use piece::{Layout, is_underground, other_end};
 
 #[cfg(test)]
 mod tests;

@@ -1,22 +1,31 @@
-ghost use Rattle.std.specs.Prelude.{◌≡◌, ◌↔◌, ◌≤◌, ◌+◌, ◌^◌, unsigned_abs, IsTrue};
+//! Cells, directions, tiers and parts, and the cells that a part covers, faces and turns its back to.
+
+ghost use Rattle.std.specs.Prelude.{◌≡◌, ◌↔◌, ◌≤◌, ◌+◌, unsigned_abs, IsTrue};
 ghost use Rattle.bt_parts.specs.Cells.{step, steps, opposite, Covers, IsGreaterHalf, IsInRange, IsInside};
 ghost use Rattle.bt_parts.specs.Tiers.{reach_of, speed_of};
+
+/// The greatest magnitude of a coordinate of a part's cell, in tiles: far more than a map of the game
+/// has, and so little that a sum of a few coordinates always fits.
+pub const MOST_COORDINATE: u32 = 1 << 20;
 
 /// A unit square of the plane, whose centre is at (x + 1/2, y + 1/2).
 ///
 /// x grows to the east and y to the south. Cells are ordered by x and then by y.
-#[derive(Clone, Copy, Debug, PartialEq, Eq, PartialOrd, Ord)]
+#[derive(Clone, Copy, PartialEq, Eq, PartialOrd, Ord)]
 pub struct Cell {
+    /// Tiles to the east.
     pub x: i32,
+
+    /// Tiles to the south.
     pub y: i32,
 }
 
 impl Cell {
     /// The cell so many steps on in a direction.
     pub fn ahead(self, dir: Dir, distance: u32) -> Cell
-        requires x_small { unsigned_abs self.x ≤ 2 ^ 20 + 1 }
-        requires y_small { unsigned_abs self.y ≤ 2 ^ 20 + 1 }
-        requires near { distance ≤ 2 ^ 20 }
+        requires x_small { unsigned_abs self.x ≤ MOST_COORDINATE + 1 }
+        requires y_small { unsigned_abs self.y ≤ MOST_COORDINATE + 1 }
+        requires near { distance ≤ MOST_COORDINATE }
         ensures { result ≡ steps distance dir self }
     {
         let Cell { x, y } = self;
@@ -31,11 +40,15 @@ impl Cell {
 }
 
 /// The direction in which a part moves its items.
-#[derive(Clone, Copy, Debug, PartialEq, Eq)]
+#[derive(Clone, Copy, PartialEq, Eq)]
 pub enum Dir {
+    /// Towards lesser y.
     North,
+    /// Towards greater x.
     East,
+    /// Towards greater y.
     South,
+    /// Towards lesser x.
     West,
 }
 
@@ -53,12 +66,16 @@ impl Dir {
     }
 }
 
-/// The speed class of a part.
-#[derive(Clone, Copy, Debug, PartialEq, Eq)]
+/// The speed class of a part (Factorio Wiki, belt transport system).
+#[derive(Clone, Copy, PartialEq, Eq)]
 pub enum Tier {
+    /// The yellow belts, 15 items a second.
     Basic,
+    /// The red belts, 30 items a second.
     Fast,
+    /// The blue belts, 45 items a second.
     Express,
+    /// The green belts, 60 items a second.
     Turbo,
 }
 
@@ -89,19 +106,28 @@ impl Tier {
 }
 
 /// What a part is. An entrance and an exit are the two underground pieces.
-#[derive(Clone, Copy, Debug, PartialEq, Eq)]
+#[derive(Clone, Copy, PartialEq, Eq)]
 pub enum Kind {
+    /// A transport belt.
     Belt,
+    /// An underground piece that takes items down.
     Entrance,
+    /// An underground piece that brings items up.
     Exit,
+    /// A splitter, which covers two cells across its direction.
     Splitter,
 }
 
 /// A part of a layout.
-#[derive(Clone, Copy, Debug, PartialEq, Eq)]
+#[derive(Clone, Copy, PartialEq, Eq)]
 pub struct Part {
+    /// What it is.
     pub kind: Kind,
+
+    /// Its speed class.
     pub tier: Tier,
+
+    /// The direction in which it moves its items.
     pub dir: Dir,
 
     /// The part's cell; of a splitter its lesser half, the one further to the west or the north.
@@ -109,17 +135,23 @@ pub struct Part {
 }
 
 /// From where a part comes upon another one.
-#[derive(Clone, Copy, Debug, PartialEq, Eq)]
+#[derive(Clone, Copy, PartialEq, Eq)]
 pub enum Side {
+    /// In the other's direction.
     Behind,
+    /// Across the other's direction, from either side.
     Across,
+    /// Against the other's direction.
     Ahead,
 }
 
 /// The cells from (0, 0) on, so many to the east and so many to the south.
-#[derive(Clone, Copy, Debug, PartialEq, Eq)]
+#[derive(Clone, Copy, PartialEq, Eq)]
 pub struct Rect {
+    /// In tiles, from west to east.
     pub width: u32,
+
+    /// In tiles, from north to south.
     pub height: u32,
 }
 

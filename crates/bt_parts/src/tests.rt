@@ -1,13 +1,12 @@
+//! Outside values for the tables: reach, speed and what takes from where are those of the Factorio Wiki.
+
 ghost use Rattle.bt_parts.specs.Cells.{IsInRange};
 
 use crate::{
     Cell, Dir, Kind, Part, Rect, Side, Tier, accepts, back, cells_of, front, inside, side,
 };
-use std::test::Fail;
 
-const DIRS: [Dir; 4] = [Dir::North, Dir::East, Dir::South, Dir::West];
-
-/// A basic part at the cell (3, 5).
+/// The basic part at the cell (3, 5).
 fn part_at(kind: Kind, dir: Dir) -> Part
     ensures { IsInRange result.cell }
 {
@@ -20,7 +19,7 @@ fn part_at(kind: Kind, dir: Dir) -> Part
 }
 
 #[test]
-fn tiers_have_the_reach_and_speed_of_the_wiki(rt: HostRuntime) -> Result<(), Fail> {
+fn tiers_have_the_reach_and_speed_of_the_wiki(rt: HostRuntime) {
     let table = [
         (Tier::Basic, 4, 1),
         (Tier::Fast, 6, 2),
@@ -28,66 +27,45 @@ fn tiers_have_the_reach_and_speed_of_the_wiki(rt: HostRuntime) -> Result<(), Fai
         (Tier::Turbo, 10, 4),
     ];
     for (tier, reach, speed) in table {
-        assert_eq!(rt; tier.reach(), reach);
-        assert_eq!(rt; tier.speed(), speed);
+        assert!(rt; (tier.reach(), tier.speed()) == (reach, speed));
     }
-    Ok(())
 }
 
 #[test]
-fn a_splitter_has_two_cells_across_its_direction(rt: HostRuntime) -> Result<(), Fail> {
+fn parts_lie_by_their_direction(rt: HostRuntime) {
     let table = [
-        (Dir::North, Cell { x: 4, y: 5 }),
-        (Dir::East, Cell { x: 3, y: 6 }),
-        (Dir::South, Cell { x: 4, y: 5 }),
-        (Dir::West, Cell { x: 3, y: 6 }),
+        (Dir::North, (4, 5), (3, 4), (3, 6)),
+        (Dir::East, (3, 6), (4, 5), (2, 5)),
+        (Dir::South, (4, 5), (3, 6), (3, 4)),
+        (Dir::West, (3, 6), (2, 5), (4, 5)),
     ];
-    for (dir, greater) in table {
-        let splitter = cells_of(&part_at(Kind::Splitter, dir));
-        assert_eq!(rt; splitter, (Cell { x: 3, y: 5 }, Some(greater)));
-        assert_eq!(rt; cells_of(&part_at(Kind::Belt, dir)).1, None);
+    for (dir, greater, ahead, behind) in table {
+        let part = part_at(Kind::Splitter, dir);
+        let (lesser, second) = cells_of(&part);
+        assert!(rt; lesser == part.cell);
+        assert!(rt; second.map(|cell| (cell.x, cell.y)) == Some(greater));
+        let (front, back) = (front(&part, lesser), back(&part, lesser));
+        assert!(rt; [(front.x, front.y), (back.x, back.y)] == [ahead, behind]);
     }
-    Ok(())
 }
 
 #[test]
-fn a_part_faces_its_front_and_turns_its_back(rt: HostRuntime) -> Result<(), Fail> {
+fn kinds_take_from_the_sides_of_the_table(rt: HostRuntime) {
     let table = [
-        (Dir::North, Cell { x: 3, y: 4 }, Cell { x: 3, y: 6 }),
-        (Dir::East, Cell { x: 4, y: 5 }, Cell { x: 2, y: 5 }),
-        (Dir::South, Cell { x: 3, y: 6 }, Cell { x: 3, y: 4 }),
-        (Dir::West, Cell { x: 2, y: 5 }, Cell { x: 4, y: 5 }),
+        (Dir::North, Side::Behind, [true, true, false, true]),
+        (Dir::East, Side::Across, [true, false, false, false]),
+        (Dir::South, Side::Ahead, [false, false, false, false]),
+        (Dir::West, Side::Across, [true, false, false, false]),
     ];
-    for (dir, ahead, behind) in table {
-        let belt = part_at(Kind::Belt, dir);
-        assert_eq!(rt; front(&belt, belt.cell), ahead);
-        assert_eq!(rt; back(&belt, belt.cell), behind);
+    for (giver, from, [belt, entrance, exit, splitter]) in table {
+        assert!(rt; side(giver, Dir::North) == from);
+        assert!(rt; [accepts(Kind::Belt, from), accepts(Kind::Entrance, from)] == [belt, entrance]);
+        assert!(rt; [accepts(Kind::Exit, from), accepts(Kind::Splitter, from)] == [exit, splitter]);
     }
-    Ok(())
 }
 
 #[test]
-fn kinds_take_from_the_sides_of_the_table(rt: HostRuntime) -> Result<(), Fail> {
-    let sides = [Side::Behind, Side::Across, Side::Ahead, Side::Across];
-    for (giver, from) in DIRS.into_iter().zip(sides) {
-        assert_eq!(rt; side(giver, Dir::North), from);
-    }
-    let table = [
-        (Kind::Belt, [true, true, false]),
-        (Kind::Entrance, [true, false, false]),
-        (Kind::Exit, [false, false, false]),
-        (Kind::Splitter, [true, false, false]),
-    ];
-    for (kind, [behind, across, ahead]) in table {
-        assert_eq!(rt; accepts(kind, Side::Behind), behind);
-        assert_eq!(rt; accepts(kind, Side::Across), across);
-        assert_eq!(rt; accepts(kind, Side::Ahead), ahead);
-    }
-    Ok(())
-}
-
-#[test]
-fn a_rectangle_begins_at_the_origin(rt: HostRuntime) -> Result<(), Fail> {
+fn a_rectangle_begins_at_the_origin(rt: HostRuntime) {
     let rect = Rect {
         width: 2,
         height: 3,
@@ -101,7 +79,6 @@ fn a_rectangle_begins_at_the_origin(rt: HostRuntime) -> Result<(), Fail> {
         (0, -1, false),
     ];
     for (x, y, within) in table {
-        assert_eq!(rt; inside(&rect, Cell { x, y }), within);
+        assert!(rt; inside(&rect, Cell { x, y }) == within);
     }
-    Ok(())
 }

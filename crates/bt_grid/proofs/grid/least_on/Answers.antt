@@ -1,6 +1,6 @@
 use Rattle.std.proofs.Common.{◌≡◌, ◌∙◌, ap, rules, None}
 use Rattle.std.specs.Option.{MatchOption}
-use Rattle.bt_grid.specs.Index.{index_at}
+use Rattle.bt_grid.specs.inner.Index.{index_at}
 use Rattle.bt_grid.proofs.IndexLemmas.{least_on_part}
 use Rattle.bt_grid.proofs.grid.least_on.Goals as goal
 

@@ -1,17 +1,20 @@
-use Rattle.std.proofs.Common.{◌≡◌, ◌↔◌, ℕ, Some, length, subst, ap, arith}
+use Rattle.std.proofs.Common.{◌≡◌, ◌↔◌, ℕ, Some, Err, length, subst, ap, arith, inl}
 use Rattle.std.proofs.lemmas.Bool.{iff_false}
 use Rattle.bt_parts.specs.Layouts.{ArePaired}
-use Rattle.bt_grid.specs.Pairing.{HasPartners}
-use Rattle.bt_grid.proofs.PairLemmas.{more_partners, all_partners, first_unpaired, read_part, not_alone}
+use Rattle.bt_grid.specs.declared.pairing.PairFault.TheVariants.{Unpaired}
+use Rattle.bt_grid.specs.inner.Partners.{HasPartners}
+use Rattle.bt_grid.proofs.PartnerLemmas.{more_partners, all_partners, first_unpaired, read_part, not_alone}
+use Rattle.bt_grid.proofs.OneAnswer.{paired_answers}
 use Rattle.bt_grid.proofs.pairing.pairs.Goals as goal
 
-pub returns-then-is_alone-clause-refused : goal.returns-then-is_alone-clause-refused
-returns-then-is_alone-clause-refused c =
+pub returns-then-is_alone : goal.returns-then-is_alone
+returns-then-is_alone c =
     let alone = c.is_alone.ensures.0 c.if-is_alone.true in
-    first_unpaired c.args.grid.now c.loop-i.partners.items c.loop-i.i _ c.loop-i.invariant
+    paired_answers c.args.grid.now (Err (Unpaired c.loop-i.i))
+    (inl (first_unpaired c.args.grid.now c.loop-i.partners.items c.loop-i.i _ c.loop-i.invariant
     (read_part c.args.grid.now c.parts-parts.result.now c.loop-i.i _ c.parts-parts.ensures.value c.loop-i-test.true)
     alone.1
-    (subst (λ o. (j : ℕ) → (o ≡ Some j) ↔ ArePaired c.args.grid.now c.loop-i.i j) alone.0 c.other_end-partner.ensures)
+    (subst (λ o. (j : ℕ) → (o ≡ Some j) ↔ ArePaired c.args.grid.now c.loop-i.i j) alone.0 c.other_end-partner.ensures)))
 
 pub loop-i-preserved : goal.loop-i-preserved
 loop-i-preserved c =
@@ -21,8 +24,9 @@ loop-i-preserved c =
     (read_part c.args.grid.now c.parts-parts.result.now c.loop-i.i _ c.parts-parts.ensures.value c.loop-i-test.true)
     (iff_false c.is_alone.ensures c.if-is_alone.false)))
 
-pub returns-clause-paired : goal.returns-clause-paired
-returns-clause-paired c =
+pub returns : goal.returns
+returns c =
     let same : c.loop-i.i ≡ length c.args.grid.now = omega (arith, ap length c.parts-parts.ensures.value) in
-    rw c.new.ensures (all_partners c.args.grid.now c.loop-i.partners.items
-    (subst (λ n. HasPartners c.args.grid.now c.loop-i.partners.items n) same c.loop-i.invariant))
+    paired_answers c.args.grid.now _
+    (rw c.new.ensures (all_partners c.args.grid.now c.loop-i.partners.items
+    (subst (λ n. HasPartners c.args.grid.now c.loop-i.partners.items n) same c.loop-i.invariant)))

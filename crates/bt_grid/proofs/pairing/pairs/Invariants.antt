@@ -1,4 +1,4 @@
-use Rattle.bt_grid.specs.Pairing.{HasPartners}
+use Rattle.bt_grid.specs.inner.Partners.{HasPartners}
 use Rattle.bt_grid.proofs.pairing.pairs.Given as goal
 
 abbrev pub invariant-loop-i : goal.invariant-loop-i

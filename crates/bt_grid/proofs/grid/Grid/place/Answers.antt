@@ -1,15 +1,18 @@
-use Rattle.std.proofs.Common.{◌≡◌, length, refl, subst, arith, ap}
+use Rattle.std.proofs.Common.{◌≡◌, length, Ok, Err, refl, subst, arith, ap, inl}
 use Rattle.std.proofs.lemmas.Option.{slice_get-get_or}
-use Rattle.bt_grid.specs.Index.{IsIndexOf}
-use Rattle.bt_grid.specs.Overlap.{IsFirstOverlap}
+use Rattle.bt_grid.specs.declared.grid.GridFault.TheVariants.{Overlap}
+use Rattle.bt_grid.specs.inner.Index.{IsIndexOf}
+use Rattle.bt_grid.specs.Placing.{IsFirstOverlap}
 use Rattle.bt_grid.proofs.IndexLemmas.{overlap_found, index_more, placed}
+use Rattle.bt_grid.proofs.OneAnswer.{placed_answers}
 use Rattle.bt_grid.proofs.grid.Grid.place.Goals as goal
 
-pub returns-in-Some-clause-refused : goal.returns-in-Some-clause-refused
-returns-in-Some-clause-refused c =
-    subst (λ parts. IsFirstOverlap parts c.in-Some.first c.loop-i.i) c.deref-part-items.ensures.value
+pub returns-in-Some : goal.returns-in-Some
+returns-in-Some c =
+    placed_answers c.args.parts.items (Err (Overlap c.in-Some.first c.loop-i.i))
+    (inl (subst (λ parts. IsFirstOverlap parts c.in-Some.first c.loop-i.i) c.deref-part-items.ensures.value
     (overlap_found c.deref-part-items.result.now c.loop-i.i _ c.in-Some.first c.loop-i.cells
-    (slice_get-get_or c.deref-part-items.result.now c.loop-i.i _ c.loop-i-test.true) c.loop-i.invariant c.in-Some.ensures)
+    (slice_get-get_or c.deref-part-items.result.now c.loop-i.i _ c.loop-i-test.true) c.loop-i.invariant c.in-Some.ensures)))
 
 pub loop-i-preserved : goal.loop-i-preserved
 loop-i-preserved c =
@@ -24,5 +27,5 @@ whole c =
 pub invariant_of-result : goal.invariant_of-result
 invariant_of-result c = record { in_range = c.requires; index = whole c }
 
-pub returns-clause-placed : goal.returns-clause-placed
-returns-clause-placed c = (refl, placed c.args.parts.items c.loop-i.cells (whole c))
+pub returns : goal.returns
+returns c = placed_answers c.args.parts.items (Ok c.args.parts.items) (refl, placed c.args.parts.items c.loop-i.cells (whole c))

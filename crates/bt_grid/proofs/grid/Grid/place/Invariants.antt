@@ -1,4 +1,4 @@
-use Rattle.bt_grid.specs.Index.{IsIndexOf}
+use Rattle.bt_grid.specs.inner.Index.{IsIndexOf}
 use Rattle.bt_grid.proofs.grid.Grid.place.Given as goal
 
 abbrev pub invariant-loop-i : goal.invariant-loop-i

@@ -1,0 +1,97 @@
+-- What is read of an entity before its cell is.
+use Rattle.std.specs.Prelude.{◌≡◌, ◌<◌, ℕ, ℤ, List, Option, Some, None, Result, Ok, Err, [], ◌∷◌, MatchOption, codes}
+use Rattle.bt_json.specs.Json.{Json, Number}
+use Rattle.bt_parts.specs.declared.part.Cell.{Cell}
+use Rattle.bt_parts.specs.declared.part.Part.{Part}
+use Rattle.bt_parts.specs.declared.part.Tier.{Tier}
+use Rattle.bt_entities.specs.declared.fault.EntityFault.{EntityFault}
+use Rattle.bt_entities.specs.declared.fault.Member.{Member}
+use Rattle.bt_entities.specs.declared.fault.Member.TheVariants.{InputPriority, OutputPriority}
+use Rattle.bt_entities.specs.declared.name.Family.{Family}
+use Rattle.bt_entities.specs.declared.name.Family.TheVariants.{Splitters}
+use Rattle.bt_entities.specs.declared.blueprint.Frame.{Frame}
+use Rattle.bt_entities.specs.declared.piece.Piece.{Piece}
+use Rattle.bt_entities.specs.declared.piece.Priority.{Priority}
+use Rattle.bt_entities.specs.declared.piece.Priority.TheVariants.{Even, Sided}
+use Rattle.bt_entities.specs.declared.shift.Shift.{Shift}
+use Rattle.bt_entities.specs.Members.{HasText}
+use Rattle.bt_entities.specs.Names.{name_of}
+use Rattle.bt_entities.specs.Blueprints.{AreParts}
+use Rattle.bt_entities.specs.Entities.{HasFamily, HasKind, HasTier, HasDirection, HasPosition, IsHalves, IsEven, IsSided, SetsShift, IsEntity}
+use Rattle.bt_entities.specs.Places.{width_of, height_of, IsMiddle}
+use Rattle.bt_entities.specs.Refusals.{IsWrong, IsFirst, IsLowest, IsFirstOf}
+
+-- the number's halves, where it has some
+abbrev pub AreHalves : Number → Option ℤ → Type 0
+AreHalves n halves = MatchOption halves ((z : ℤ) → ¬ IsHalves n z) (IsHalves n)
+
+-- the priority of that name, which only a splitter has
+abbrev pub IsPriority : Json → List ℕ → Priority → Type 0
+IsPriority v name Even = HasFamily v Splitters → IsEven v name
+IsPriority v name Sided = HasFamily v Splitters × IsSided v name
+
+-- the entity has these two priorities
+abbrev pub ArePriorities : Json → Priority → Priority → Type 0
+ArePriorities v input output = IsPriority v (codes "input_priority") input × IsPriority v (codes "output_priority") output
+
+-- the member is the first of the two priorities that is wrong, in every version
+abbrev pub IsWrongPriority : Json → Member → Type 0
+IsWrongPriority v member = (major : ℕ) → IsFirst (IsWrong major v) (InputPriority ∷ OutputPriority ∷ []) member
+
+-- the entity is such a piece
+pub record IsPiece (major : ℕ) (v : Json) (piece : Piece) : Type 0 where
+  pub has_kind : HasKind v piece.kind
+  pub has_tier : HasTier v piece.tier
+  pub has_dir : HasDirection major v piece.dir
+  pub x : Number
+  pub y : Number
+  pub has_position : HasPosition v x y
+  pub halves_x : AreHalves x piece.x
+  pub halves_y : AreHalves y piece.y
+  pub input : IsPriority v (codes "input_priority") piece.input
+  pub output : IsPriority v (codes "output_priority") piece.output
+
+-- the piece has this cell on the shifted grid
+pub record IsOn (piece : Piece) (shift : Shift) (cell : Cell) : Type 0 where
+  pub twice_x : ℤ
+  pub has_x : piece.x ≡ Some twice_x
+  pub middle_x : IsMiddle twice_x (width_of piece.kind piece.dir) shift.x cell.x
+  pub twice_y : ℤ
+  pub has_y : piece.y ≡ Some twice_y
+  pub middle_y : IsMiddle twice_y (height_of piece.kind piece.dir) shift.y cell.y
+
+-- the piece stands on the grid with this shift
+pub record HasShift (piece : Piece) (shift : Shift) : Type 0 where
+  pub small_x : shift.x < 2
+  pub small_y : shift.y < 2
+  pub cell : Cell
+  pub on : IsOn piece shift cell
+
+-- entity 0 has this shift and this tier
+abbrev pub IsFrame : ℕ → Json → Frame → Type 0
+IsFrame major first frame = SetsShift major first frame.shift × HasTier first frame.tier
+
+-- the frame is that of entity 0, and is missing at entity 0 alone
+abbrev pub HasFrame : ℕ → Json → Json → Option Frame → Type 0
+HasFrame major first v None = v ≡ first
+HasFrame major first v (Some frame) = IsFrame major first frame
+
+-- the family and the tier of the entity's name, or its lowest fault, whatever the rest of the blueprint is
+abbrev pub IsNameRead : ℕ → Json → Result (Family × Tier) EntityFault → Type 0
+IsNameRead i v (Ok named) = HasText v (codes "name") (name_of named.0 named.1)
+IsNameRead i v (Err fault) = (major : ℕ) (first : Json) → IsLowest major first i v fault
+
+-- the entity is this piece, or has this lowest fault, whatever entity 0 is
+abbrev pub IsPieceRead : ℕ → ℕ → Json → Result Piece EntityFault → Type 0
+IsPieceRead major i v (Ok piece) = IsPiece major v piece
+IsPieceRead major i v (Err fault) = (first : Json) → IsLowest major first i v fault
+
+-- the entity stands for this part, where entity 0 sets this frame, or has this lowest fault
+abbrev pub IsEntityRead : ℕ → Json → ℕ → Json → Result (Frame × Part) EntityFault → Type 0
+IsEntityRead major first i v (Ok read) = IsFrame major first read.0 × IsEntity major first v read.1
+IsEntityRead major first i v (Err fault) = IsLowest major first i v fault
+
+-- the entities stand for these parts, or have this first fault
+abbrev pub AreRead : ℕ → List Json → Result (List Part) EntityFault → Type 0
+AreRead major entities (Ok parts) = AreParts major entities parts
+AreRead major entities (Err fault) = IsFirstOf major entities fault
