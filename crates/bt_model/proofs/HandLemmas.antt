@@ -1,18 +1,19 @@
 -- One part hands to one other, and what that means of the two parts.
-use Rattle.std.proofs.Common.{◌≡◌, ◌≢◌, ◌⊎◌, ◌↔◌, ℕ, ◌+◌, List, Option, Some, None, Bool, false, IsTrue, refl, sym, ◌∙◌, ap, subst, inl, inr, ⊎_elim, arith}
-use Rattle.std.proofs.lemmas.Option.{same_Some, none-some}
-use Rattle.std.proofs.lemmas.Bool.{cases_lt, cases_order, false≢true}
+use Rattle.std.proofs.Common.{◌≡◌, ◌≢◌, ◌⊎◌, ◌↔◌, ℕ, ◌<◌, List, length, Option, Some, None, Bool, false, IsTrue, refl, sym, ◌∙◌, subst, inl, inr, ⊎_elim}
+use Rattle.std.specs.Option.{IfSome}
+use Rattle.std.proofs.lemmas.Option.{same_Some, none-some, slice_get_within}
+use Rattle.std.proofs.lemmas.Bool.{false≢true}
 use Rattle.bt_parts.specs.declared.part.Cell.{Cell}
 use Rattle.bt_parts.specs.declared.part.Kind.{Kind}
 use Rattle.bt_parts.specs.declared.part.Kind.TheVariants.{Belt, Entrance, Exit, Splitter}
 use Rattle.bt_parts.specs.declared.part.Part.{Part}
-use Rattle.bt_parts.specs.Cells.{Covers, IsGreaterHalf, step, steps}
-use Rattle.bt_parts.specs.Layouts.{HasPart, IsAt, IsWellPlaced, IsUnderground, IsPieceOn, Pairs}
-use Rattle.bt_parts.specs.Tiers.{reach_of}
+use Rattle.bt_parts.specs.Cells.{IsGreaterHalf, step}
+use Rattle.bt_parts.specs.Layouts.{HasPart, IsAt, IsWellPlaced, Pairs, ArePaired}
+use Rattle.bt_parts.specs.inner.Looking.{IsFirstPiece}
+use Rattle.bt_parts.proofs.Pieces.{one_first, ahead_first}
 use Rattle.bt_model.specs.Handing.{FeedsPart, FeedsFrom, Feeds, Hands}
 use Rattle.bt_model.specs.Chains.{IsLink}
-use Rattle.bt_model.specs.Ahead.{IsPieceAhead, NoneNearer, IsFirstAhead, IsExitFor}
-use Rattle.bt_model.proofs.Places.{same_part, own_cell, one_there, covers_at}
+use Rattle.bt_parts.proofs.Places.{same_part, own_cell, one_there, covers_at}
 
 pub feeds_part : (parts : List Part) (p q : ℕ) (giver taker : Part) (half : Cell) → HasPart parts p giver → HasPart parts q taker
     → FeedsFrom parts p half q → FeedsPart giver half taker
@@ -71,104 +72,17 @@ feeds_never parts p q giver taker first second is_p is_q e is_second none_there 
       (feeds_halves parts p q giver taker is_p is_q feeds),
 )
 
--- the part with this index is no piece there
-pub not_ahead : (parts : List Part) (entrance : Part) (distance i : ℕ) (part : Part) (cell : Cell) → HasPart parts i part
-    → cell ≡ steps distance entrance.dir entrance.cell → (Covers part cell × IsPieceOn entrance.tier entrance.dir part → ⊥)
-    → IsPieceAhead parts entrance distance i → ⊥
-not_ahead parts entrance distance i part cell is_i e none there =
-    let same = same_part parts i there.part part there.is_i is_i in
-    none (
-      subst (λ c. Covers part c) (sym e) (subst (λ p. Covers p (steps distance entrance.dir entrance.cell)) same there.covers),
-      subst (λ p. IsPieceOn entrance.tier entrance.dir p) same there.on_axis,
-    )
+-- an entrance is in a pair only as its entrance
+pub entrance_paired : (parts : List Part) (a b : ℕ) (entrance : Part) → HasPart parts a entrance → entrance.kind ≡ Entrance → ArePaired parts a b → Pairs parts a b
+entrance_paired parts a b entrance is_a enters (inl pair) = pair
+entrance_paired parts a b entrance is_a enters (inr pair) =
+    absurd (let e = enters in let k = pair.leaves in let same = same_part parts a pair.exit entrance pair.is_b is_a in cc)
 
--- an underground piece is no splitter
-no_splitter : (part : Part) → IsUnderground part → part.kind ≢ Splitter
-no_splitter part (inl e) k = absurd (let a = e in let b = k in cc)
-no_splitter part (inr e) k = absurd (let a = e in let b = k in cc)
-
--- there is one first piece ahead
-pub one_first : (parts : List Part) (entrance : Part) → IsWellPlaced parts → (i j : ℕ)
-    → IsFirstAhead parts entrance i → IsFirstAhead parts entrance j → i ≡ j
-one_first parts entrance placed i j f g =
-    ⊎_elim
-    (λ e. one_there parts placed i j (steps f.distance entrance.dir entrance.cell)
-    (record { part = f.piece.part; is_i = f.piece.is_i; covers = f.piece.covers })
-    (record {
-      part = g.piece.part;
-      is_i = g.piece.is_i;
-      covers = subst (λ d. Covers g.piece.part (steps d entrance.dir entrance.cell)) (sym e) g.piece.covers;
-    }))
-    (λ apart. ⊎_elim
-    (λ lt. absurd (g.none_nearer f.distance i f.apart lt f.piece))
-    (λ gt. absurd (f.none_nearer g.distance j g.apart gt g.piece))
-    apart)
-    (cases_order f.distance g.distance)
-
--- the exit of a pair is the first piece ahead of its entrance
-first_of : (parts : List Part) (a b : ℕ) (p : Pairs parts a b) → IsFirstAhead parts p.entrance b
-first_of parts a b p = record {
-  distance = p.distance;
-  apart = p.apart;
-  within = let w = p.within in omega arith;
-  piece = record { part = p.exit; is_i = p.is_b; covers = inl (sym p.ahead); on_axis = (inr p.leaves, p.same_tier, inl p.same_dir) };
-  none_nearer = λ d i some lt there. p.none_between d i there.part some lt there.is_i there.covers there.on_axis;
-}
-
-pub pair_first : (parts : List Part) (a b : ℕ) (entrance : Part) → HasPart parts a entrance → Pairs parts a b → IsFirstAhead parts entrance b
-pair_first parts a b entrance is_a p = subst (λ e. IsFirstAhead parts e b) (same_part parts a p.entrance entrance p.is_a is_a) (first_of parts a b p)
-
-pub pair_exit : (parts : List Part) (a b : ℕ) (entrance exit : Part) → HasPart parts a entrance → HasPart parts b exit
-    → Pairs parts a b → IsExitFor exit entrance
-pair_exit parts a b entrance exit is_a is_b p =
-    subst (λ e. IsExitFor exit e) (same_part parts a p.entrance entrance p.is_a is_a)
-    (subst (λ x. IsExitFor x p.entrance) (same_part parts b p.exit exit p.is_b is_b) (p.leaves, p.same_dir))
-
--- where the first piece ahead is an exit in the entrance's direction, the two are a pair
-pub first_pair : (parts : List Part) (a b : ℕ) (entrance exit : Part) → HasPart parts a entrance → HasPart parts b exit
-    → entrance.kind ≡ Entrance → IsFirstAhead parts entrance b → IsExitFor exit entrance → Pairs parts a b
-first_pair parts a b entrance exit is_a is_b enters f is_exit =
-    let same = same_part parts b f.piece.part exit f.piece.is_i is_b in
-    let on_axis : IsPieceOn entrance.tier entrance.dir exit = subst (λ p. IsPieceOn entrance.tier entrance.dir p) same f.piece.on_axis in
-    record {
-      entrance = entrance;
-      is_a = is_a;
-      enters = enters;
-      exit = exit;
-      is_b = is_b;
-      leaves = is_exit.0;
-      same_tier = on_axis.1;
-      same_dir = is_exit.1;
-      distance = f.distance;
-      apart = f.apart;
-      within = let w = f.within in omega arith;
-      ahead = sym (own_cell exit (steps f.distance entrance.dir entrance.cell) (no_splitter exit (inr is_exit.0))
-          (subst (λ p. Covers p (steps f.distance entrance.dir entrance.cell)) same f.piece.covers));
-      none_between = λ d i part some lt is_i covers piece. f.none_nearer d i some lt (record { part = part; is_i = is_i; covers = covers; on_axis = piece });
-    }
-
--- what the exit of an entrance is, by what is ahead of it
-pub exit_found : (parts : List Part) → IsWellPlaced parts → (a b : ℕ) (entrance exit : Part) → HasPart parts a entrance → HasPart parts b exit
-    → entrance.kind ≡ Entrance → IsFirstAhead parts entrance b → IsExitFor exit entrance → (j : ℕ) → (Some b ≡ Some j) ↔ Pairs parts a j
-exit_found parts placed a b entrance exit is_a is_b enters f is_exit j = (
-  λ e. subst (λ k. Pairs parts a k) (same_Some b j e) (first_pair parts a b entrance exit is_a is_b enters f is_exit),
-  λ p. ap Some (one_first parts entrance placed b j f (pair_first parts a j entrance is_a p)),
-)
-
-pub exit_missed : (parts : List Part) → IsWellPlaced parts → (a b : ℕ) (entrance piece : Part) → HasPart parts a entrance → HasPart parts b piece
-    → IsFirstAhead parts entrance b → (IsExitFor piece entrance → ⊥) → (j : ℕ) → (None ≡ Some j) ↔ Pairs parts a j
-exit_missed parts placed a b entrance piece is_a is_b f no_exit j = (
-  λ e. absurd (none-some j e),
-  λ p. absurd (no_exit (pair_exit parts a b entrance piece is_a is_b
-      (subst (λ k. Pairs parts a k) (sym (one_first parts entrance placed b j f (pair_first parts a j entrance is_a p))) p))),
-)
-
-pub exit_beyond : (parts : List Part) (a : ℕ) (entrance : Part) → HasPart parts a entrance
-    → NoneNearer parts entrance (reach_of entrance.tier + 2) → (j : ℕ) → (None ≡ Some j) ↔ Pairs parts a j
-exit_beyond parts a entrance is_a none j = (
-  λ e. absurd (none-some j e),
-  λ p. let f = pair_first parts a j entrance is_a p in absurd (none f.distance j f.apart f.within f.piece),
-)
+-- so the other end of its pair is its exit
+pub exit_found : (parts : List Part) (a : ℕ) (entrance : Part) (exit : Option ℕ) → HasPart parts a entrance → entrance.kind ≡ Entrance
+    → ((b : ℕ) → (exit ≡ Some b) ↔ ArePaired parts a b) → (b : ℕ) → (exit ≡ Some b) ↔ Pairs parts a b
+exit_found parts a entrance exit is_a enters paired b =
+    (λ e. entrance_paired parts a b entrance is_a enters ((paired b).0 e), λ pair. (paired b).1 (inl pair))
 
 pub exit_of_none : (parts : List Part) (a : ℕ) (part : Part) → HasPart parts a part → (part.kind ≡ Entrance → ⊥) → (j : ℕ) → (None ≡ Some j) ↔ Pairs parts a j
 exit_of_none parts a part is_a none j = (
@@ -176,13 +90,17 @@ exit_of_none parts a part is_a none j = (
   λ p. absurd (none (subst (λ q. q.kind ≡ Entrance) (same_part parts a p.entrance part p.is_a is_a) p.enters)),
 )
 
--- with none at this distance, there is none nearer than the next
-pub none_more : (parts : List Part) (entrance : Part) (distance : ℕ) → NoneNearer parts entrance distance
-    → ((i : ℕ) → IsPieceAhead parts entrance distance i → ⊥) → NoneNearer parts entrance (distance + 1)
-none_more parts entrance distance none here = λ d i some lt there.
-    ⊎_elim (λ below. none d i some below there)
-    (λ above. let same : d ≡ distance = omega arith in here i (subst (λ k. IsPieceAhead parts entrance k i) same there))
-    (cases_lt d distance)
+pub exit_within : (parts : List Part) (a : ℕ) (exit : Option ℕ) → ((b : ℕ) → (exit ≡ Some b) ↔ ArePaired parts a b) → IfSome exit (λ b. b < length parts)
+exit_within parts a None paired = tt
+exit_within parts a (Some b) paired =
+    ⊎_elim (λ pair. slice_get_within parts b pair.exit pair.is_b) (λ pair. slice_get_within parts b pair.entrance pair.is_a) ((paired b).0 refl)
+
+-- an entrance has one exit
+one_exit : (parts : List Part) → IsWellPlaced parts → (a b c : ℕ) → Pairs parts a b → Pairs parts a c → b ≡ c
+one_exit parts placed a b c p q =
+    one_first parts q.entrance q.entrance.dir placed b c
+    (subst (λ e. IsFirstPiece parts e e.dir b) (same_part parts a p.entrance q.entrance p.is_a q.is_a) (ahead_first parts a b p))
+    (ahead_first parts a c q)
 
 -- what a belt, an exit or a splitter hands to, it feeds
 pub hands_feeds : (parts : List Part) (p q : ℕ) (giver : Part) → HasPart parts p giver → giver.kind ≢ Entrance → Hands parts p q → Feeds parts p q
@@ -225,9 +143,7 @@ pub one_handed : (parts : List Part) → IsWellPlaced parts → (p q r : ℕ) �
 one_handed parts placed p q r link h k =
     let giver = link.0 in let is_p = link.1 in
     ⊎_elim
-    (λ enters. one_first parts giver placed q r
-    (pair_first parts p q giver is_p (hands_pairs parts p q giver is_p enters h))
-    (pair_first parts p r giver is_p (hands_pairs parts p r giver is_p enters k)))
+    (λ enters. one_exit parts placed p q r (hands_pairs parts p q giver is_p enters h) (hands_pairs parts p r giver is_p enters k))
     (λ above. one_fed parts placed p q r giver.cell
     (feeds_own parts p q giver is_p link.2 (hands_feeds parts p q giver is_p above h))
     (feeds_own parts p r giver is_p link.2 (hands_feeds parts p r giver is_p above k)))

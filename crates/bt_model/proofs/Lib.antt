@@ -2,5 +2,5 @@ pub mod HandLemmas
 pub mod Orders
 pub mod OneNetwork
 pub mod PathLemmas
-pub mod Places
+pub mod Covering
 pub mod Sorted

@@ -10,7 +10,7 @@ use Rattle.bt_net.specs.declared.network.Target.{Target}
 use Rattle.bt_net.specs.declared.network.Target.TheVariants as to
 use Rattle.bt_model.specs.Chains.{Source, begins, leaves, Sink, ends, enters, Chain}
 use Rattle.bt_model.specs.Shown.{Naming, Precedes, IsPlacedBefore, ComesBefore, IsStartOf, IsTargetOf, IsEdgeOf}
-use Rattle.bt_model.proofs.Places.{same_part}
+use Rattle.bt_parts.proofs.Places.{same_part}
 use Rattle.bt_model.proofs.Sorted.{IsAsymmetric, one_place}
 
 pub cells_asymmetric : IsAsymmetric Precedes

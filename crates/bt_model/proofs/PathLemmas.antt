@@ -16,7 +16,7 @@ use Rattle.bt_parts.specs.Layouts.{HasPart, IsAt, IsWellPlaced, Pairs}
 use Rattle.bt_model.specs.Handing.{FeedsPart, FeedsFrom, Hands}
 use Rattle.bt_model.specs.Chains.{IsLink, LinksTo, Path, one, more}
 use Rattle.bt_model.specs.Clean.{IsOnRing}
-use Rattle.bt_model.proofs.Places.{same_part, one_there}
+use Rattle.bt_parts.proofs.Places.{same_part, one_there}
 use Rattle.bt_model.proofs.HandLemmas.{hands_feeds, hands_pairs, feeds_own, feeds_part, feeds_from, taker_at, one_handed}
 
 -- the first of a path is a link

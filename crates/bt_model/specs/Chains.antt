@@ -25,14 +25,14 @@ pub data Path (parts : List Part) : ℕ → ℕ → List ℕ → Type 0 where
   more : (i j last : ℕ) (rest : List ℕ) → IsLink parts i → Hands parts i j → Path parts j last rest
       → Path parts i last (i ∷ rest)
 
--- a belt or an entrance without a feeder
+-- the part with this index is a belt or an entrance, and has no feeder
 pub record IsInput (parts : List Part) (i : ℕ) : Type 0 where
   pub part : Part
   pub is_i : HasPart parts i part
   pub kind : (part.kind ≡ Belt) ⊎ (part.kind ≡ Entrance)
   pub unfed : (p : ℕ) → Feeds parts p i → ⊥
 
--- a belt or an exit whose front cell is empty
+-- the part with this index is a belt or an exit, and no part is on the cell in front of it
 pub record IsOutput (parts : List Part) (i : ℕ) : Type 0 where
   pub part : Part
   pub is_i : HasPart parts i part
@@ -65,7 +65,7 @@ abbrev pub EndsAs : List Part → Sink → ℕ → Type 0
 EndsAs parts (ends i) last = (last ≡ i) × IsOutput parts i
 EndsAs parts (enters s) last = IsSplitter parts s × Hands parts last s
 
--- belts and underground pieces, each handing to the next, that can't be made longer at either end
+-- a path of belts and underground pieces that starts and ends so, and that no other of them can be put before or after
 pub record IsLongest (parts : List Part) (chain : Chain) : Type 0 where
   pub first : ℕ
   pub last : ℕ
@@ -75,7 +75,7 @@ pub record IsLongest (parts : List Part) (chain : Chain) : Type 0 where
   pub none_before : (i : ℕ) → IsLink parts i → Hands parts i first → ⊥
   pub none_after : (i : ℕ) → IsLink parts i → Hands parts last i → ⊥
 
--- a half hands to a splitter, with no part between
+-- the chain from a half of a splitter that hands to a splitter at once, with no part between
 pub record IsEmptyChain (parts : List Part) (chain : Chain) : Type 0 where
   pub from : ℕ
   pub half : Cell

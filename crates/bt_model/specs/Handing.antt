@@ -10,21 +10,20 @@ use Rattle.bt_parts.specs.Cells.{step, Covers}
 use Rattle.bt_parts.specs.Handing.{ComesFrom, TakesFrom}
 use Rattle.bt_parts.specs.Layouts.{IsAt, Pairs}
 
--- the cell in front of this cell of p is a cell of q, upon which p comes from this side; an entrance
--- looks at no cell
+-- p, which is no entrance, looks from this cell of it at q, upon which it comes from this side: q is on the cell in front
 pub record LooksFrom (parts : List Part) (p : ℕ) (half : Cell) (q : ℕ) (side : Side) : Type 0 where
   pub giver : IsAt parts p half
   pub no_entrance : giver.part.kind ≢ Entrance
   pub taker : IsAt parts q (step giver.part.dir half)
   pub comes : ComesFrom giver.part.dir taker.part.dir side
 
--- this cell of p looks at q, and q takes
+-- p looks from this cell of it at q, and q takes what comes from there
 pub record FeedsFrom (parts : List Part) (p : ℕ) (half : Cell) (q : ℕ) : Type 0 where
   pub side : Side
   pub look : LooksFrom parts p half q side
   pub takes : TakesFrom look.taker.part.kind side
 
--- this cell of the giver faces the taker, which takes
+-- the giver, which is no entrance, looks from this cell of it at the taker, and the taker takes what comes from there
 pub record FeedsPart (giver : Part) (half : Cell) (taker : Part) : Type 0 where
   pub no_entrance : giver.kind ≢ Entrance
   pub covers : Covers giver half
@@ -41,8 +40,7 @@ Feeds parts p q = (half : Cell) × FeedsFrom parts p half q
 abbrev pub Hands : List Part → ℕ → ℕ → Type 0
 Hands parts p q = Pairs parts p q ⊎ Feeds parts p q
 
--- from where the kind blocks: a belt and an entrance from ahead, an exit from behind and ahead, and a
--- splitter from everywhere but behind
+-- the kind blocks what comes from this side: a belt and an entrance from ahead, an exit from behind and ahead, a splitter from all but behind
 abbrev pub BlocksFrom : Kind → Side → Type 0
 BlocksFrom Belt side = side ≡ Ahead
 BlocksFrom Entrance side = side ≡ Ahead

@@ -1,4 +1,3 @@
-pub mod Ahead
 pub mod Chains
 pub mod Clean
 pub mod Handing

@@ -82,15 +82,14 @@ pub record IsNumbering (parts : List Part) (naming : Naming) : Type 0 where
   pub inputs : AllPairs (IsPlacedBefore parts) naming.inputs
   pub outputs : AllPairs (IsPlacedBefore parts) naming.outputs
 
--- inputs come before splitters, in their orders, and the lesser half of a splitter before the greater
+-- the one start comes before the other: inputs by their cells, then splitters by their indices, and of a splitter the lesser half first
 abbrev pub ComesBefore : Source → Source → Type 0
 ComesBefore (begins i a) (begins j b) = Precedes a b
 ComesBefore (begins i a) (leaves s b) = ⊤
 ComesBefore (leaves s a) (begins i b) = ⊥
 ComesBefore (leaves s a) (leaves t b) = (s < t) ⊎ ((s ≡ t) × Precedes a b)
 
--- the clean layout has the network with its own numbering: splitters and ends in their orders, and
--- edges by their sources
+-- the clean layout has the network with its own numbering: splitters and ends in their orders, and for each chain one edge, in the order of their starts
 pub record IsNumbered (parts : List Part) (net : Network) (naming : Naming) : Type 0 where
   pub clean : IsClean parts
   pub names : IsNaming parts net naming

@@ -1,18 +1,12 @@
+//! Which part hands what it carries to which: through the ground to the exit of its pair, or to what is
+//! in front of it, where that takes from there (Factorio Wiki, transport belts and underground belts).
 ghost use Rattle.std.specs.Prelude.{◌≡◌, ◌↔◌, ℕ, ◌<◌, length, Some, IsTrue, IfSome};
 ghost use Rattle.bt_parts.specs.Cells.{Covers, IsInRange};
 ghost use Rattle.bt_parts.specs.Layouts.{AreInRange, IsWellPlaced, Pairs};
 ghost use Rattle.bt_model.specs.Handing.{FeedsPart, Feeds, Hands};
-ghost use Rattle.bt_model.specs.Ahead.{IsExitFor};
 
-use crate::looking::{covers, first_ahead};
-use bt_parts::{Cell, Kind, Part, accepts, cells_of, front, side};
-
-/// Whether the part is an exit in the entrance's direction.
-fn is_exit_for(part: &Part, entrance: &Part) -> bool
-    ensures { IsTrue result ↔ IsExitFor part.now entrance.now }
-{
-    part.kind == Kind::Exit && part.dir == entrance.dir
-}
+use crate::plain::{Plain, covers, is_kind};
+use bt_parts::{Cell, Kind, Part, accepts, cells_of, front, other_end, side};
 
 /// The exit with which the part is a pair, where it is an entrance that has one.
 pub(crate) fn exit_of(parts: &[Part], a: usize) -> Option<usize>
@@ -22,15 +16,8 @@ pub(crate) fn exit_of(parts: &[Part], a: usize) -> Option<usize>
     ensures pair { (b : ℕ) → (result ≡ Some b) ↔ Pairs parts.now a b }
     ensures within { IfSome result (λ b. b < length parts.now) }
 {
-    let entrance = &parts[a];
-    if entrance.kind != Kind::Entrance {
-        return None;
-    }
-    let Some(b) = first_ahead(parts, entrance) else {
-        return None;
-    };
-    if is_exit_for(&parts[b], entrance) {
-        Some(b)
+    if is_kind(&parts[a], Kind::Entrance) {
+        other_end(&Plain { parts }, a)
     } else {
         None
     }

@@ -1,3 +1,4 @@
+//! What follows from the definitions of the network that a layout shows.
 ghost use Rattle.std.specs.Prelude.{◌≡◌, List};
 ghost use Rattle.bt_parts.specs.declared.part.Part.{Part};
 ghost use Rattle.bt_net.specs.Network.{Network};
@@ -5,11 +6,14 @@ ghost use Rattle.bt_model.specs.Shown.{Naming, Shows, IsNumbered};
 
 /// A layout shows the network that is numbered for it, under the numbering as naming.
 pub fn numbered_shows()
-    ensures { (parts : List Part) (net : Network) (naming : Naming) → IsNumbered parts net naming → Shows parts net naming }
+    ensures { (parts : List Part) (net : Network) (naming : Naming)
+        → IsNumbered parts net naming → Shows parts net naming }
 {}
 
 /// At most one network is numbered for a layout, with one numbering.
 pub fn one_network()
-    ensures net { (parts : List Part) (m n : Network) (a b : Naming) → IsNumbered parts m a → IsNumbered parts n b → m ≡ n }
-    ensures naming { (parts : List Part) (m n : Network) (a b : Naming) → IsNumbered parts m a → IsNumbered parts n b → a ≡ b }
+    ensures net { (parts : List Part) (m n : Network) (a b : Naming)
+        → IsNumbered parts m a → IsNumbered parts n b → m ≡ n }
+    ensures naming { (parts : List Part) (m n : Network) (a b : Naming)
+        → IsNumbered parts m a → IsNumbered parts n b → a ≡ b }
 {}

@@ -3,9 +3,10 @@
 
 mod giving;
 mod laws;
-mod looking;
+mod plain;
 mod ringing;
 
 pub use giving::{hands, pair};
 pub use laws::{numbered_shows, one_network};
+pub use plain::is_kind;
 pub use ringing::ring;

@@ -1,3 +1,4 @@
+//! Rings of belts and underground pieces, which no chain enters or leaves.
 ghost use Rattle.std.specs.Prelude.{◌≡◌, ◌≢◌, ◌↔◌, ℕ, ◌<◌, length, IsTrue, MatchOption, IfSome};
 ghost use Rattle.bt_parts.specs.Cells.{IsInRange};
 ghost use Rattle.bt_parts.specs.Layouts.{AreInRange, IsWellPlaced};
@@ -6,21 +7,15 @@ ghost use Rattle.bt_model.specs.Chains.{LinksTo};
 ghost use Rattle.bt_model.specs.Clean.{IsOnRing};
 
 use crate::giving::{exit_of, feeds_from};
-use crate::looking::part_at;
+use crate::plain::{is_kind, part_at};
 use bt_parts::{Kind, Part, front};
-
-/// Whether the part is of the kind.
-fn is_kind(part: &Part, kind: Kind) -> bool
-    ensures { IsTrue result ↔ (part.now.kind ≡ kind) }
-{
-    part.kind == kind
-}
 
 /// Whether the giver's cell faces the taker, which is no splitter and takes.
 fn feeds_link(giver: &Part, taker: &Part) -> bool
     requires giver { IsInRange giver.now.cell }
     requires taker { IsInRange taker.now.cell }
-    ensures { IsTrue result ↔ ((taker.now.kind ≢ Kind.Splitter) × FeedsPart giver.now giver.now.cell taker.now) }
+    ensures { IsTrue result
+        ↔ ((taker.now.kind ≢ Kind.Splitter) × FeedsPart giver.now giver.now.cell taker.now) }
 {
     taker.kind != Kind::Splitter && feeds_from(giver, giver.cell, taker)
 }

@@ -7,11 +7,21 @@ use Rattle.bt_parts.specs.declared.part.Part.{Part}
 use Rattle.bt_parts.specs.Layouts.{IsWellPlaced}
 use Rattle.bt_model.specs.Handing.{FeedsFrom, Hands}
 use Rattle.bt_model.specs.Chains.{IsSplitter, IsLink, LinksTo, Path, one, more, Source, begins, leaves, Sink, ends, enters, Chain, StartsAs, EndsAs, IsLongest, IsEmptyChain, IsChain}
-use Rattle.bt_model.proofs.Places.{same_part}
+use Rattle.bt_model.specs.Clean.{IsClean}
+use Rattle.bt_parts.proofs.Places.{same_part}
 use Rattle.bt_model.proofs.HandLemmas.{one_handed, one_fed}
 use Rattle.bt_model.proofs.PathLemmas.{path_start, path_head, path_next}
-use Rattle.bt_recover.specs.Faults.{IsOrderly}
+use Rattle.bt_recover.specs.Recovered.{IsOrderly}
 use Rattle.bt_recover.proofs.HandLaws.{one_giver, output_hands_none}
+
+-- a clean layout is orderly
+pub orderly_of : (parts : List Part) → IsClean parts → IsOrderly parts
+orderly_of parts clean = record {
+  well_placed = clean.well_placed;
+  paired = clean.paired;
+  no_side_load = clean.no_side_load;
+  no_blocked = clean.no_blocked;
+}
 
 -- a splitter is no link
 pub no_link : (parts : List Part) (i : ℕ) → IsSplitter parts i → IsLink parts i → ⊥

@@ -1,13 +1,16 @@
 -- What makes a layout clean.
-use Rattle.std.proofs.Common.{◌≡◌, ℕ, List, Option, Some, None, refl, sym, ◌∙◌}
+use Rattle.std.proofs.Common.{◌≡◌, ℕ, List, Option, Some, None, inl, inr, refl, sym, ◌∙◌}
+use Rattle.std.specs.Prelude.{Err}
 use Rattle.std.proofs.lemmas.Option.{same_Some}
+use Rattle.bt_answers.specs.Answers.{UnlessMemory}
 use Rattle.bt_parts.specs.declared.part.Part.{Part}
 use Rattle.bt_parts.specs.Layouts.{IsWellPlaced, IsPieceAt}
 use Rattle.bt_grid.specs.declared.pairing.PairFault.{PairFault}
 use Rattle.bt_grid.specs.declared.pairing.PairFault.TheVariants.{Unpaired, Memory}
-use Rattle.bt_grid.specs.Pairing.{ArePartners, partner_of, IsPairFault}
+use Rattle.bt_grid.specs.Pairing.{ArePartners, partner_of, ArePairedAs}
 use Rattle.bt_model.specs.Clean.{IsPaired, IsSideLoaded, IsBlocked, IsOnRing, IsClean}
-use Rattle.bt_recover.specs.Faults.{fault_of, Never, IsOrderly, IsUnclean}
+use Rattle.bt_recover.specs.Recovered.{Never, IsOrderly}
+use Rattle.bt_recover.specs.inner.Refused.{IsRefused, fault_of}
 
 one_pair : (parts : List Part) (partners : List (Option ℕ)) → ArePartners parts partners → (i : ℕ) → IsPieceAt parts i → (o : Option ℕ) → partner_of partners i ≡ o → IsPaired parts i
 one_pair parts partners are i piece None e = absurd ((are.no_piece i).0 e piece)
@@ -38,6 +41,8 @@ clean parts is no_ring = record {
   no_ring = no_ring;
 }
 
-pub pair_refused : (parts : List Part) (fault : PairFault) → IsPairFault parts fault → IsUnclean parts (fault_of fault)
-pair_refused parts (Unpaired i) first = (first.unpaired, first.least)
-pair_refused parts Memory first = first
+pub pair_refused : (parts : List Part) (fault : PairFault) → UnlessMemory Memory (ArePairedAs parts) (Err fault) → IsRefused parts (fault_of fault)
+pair_refused parts (Unpaired i) (inl first) = inl (first.unpaired, first.least)
+pair_refused parts (Unpaired i) (inr memory) = absurd (cc)
+pair_refused parts Memory (inl none) = absurd none
+pair_refused parts Memory (inr memory) = inr refl

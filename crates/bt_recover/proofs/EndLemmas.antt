@@ -3,7 +3,6 @@ use Rattle.std.proofs.Common.{◌≡◌, ◌≢◌, ◌⊎◌, ◌↔◌, ℕ, z
 use Rattle.std.specs.List.{All, AllPairs, Contains, IsDistinct}
 use Rattle.std.specs.List.Sorted.{IsPermutation, IsSortedBy}
 use Rattle.std.specs.Option.{MatchOption, is_some}
-use Rattle.std.specs.Result.{IfOk}
 use Rattle.std.specs.Ordering.{int_cmp, nat_cmp, ordering_then, is_lt}
 use Rattle.std.specs.Cmp.{int_cmp_is, IsTotalOrder}
 use Rattle.std.specs.declared.cmp.Ordering.TheVariants.{Less, Equal}
@@ -26,8 +25,8 @@ use Rattle.bt_parts.proofs.CellOrder.{cell_order_total}
 use Rattle.bt_model.specs.Handing.{Hands}
 use Rattle.bt_model.specs.Chains.{IsInput, IsOutput}
 use Rattle.bt_model.specs.Shown.{Precedes, IsPlacedBefore, ListsEach}
-use Rattle.bt_model.proofs.Places.{same_part, one_there}
-use Rattle.bt_recover.specs.Ends.{ListsUpTo, IsKeyed, AreKeyed}
+use Rattle.bt_parts.proofs.Places.{same_part, one_there}
+use Rattle.bt_recover.specs.inner.Ends.{ListsUpTo, IsKeyed, AreKeyed}
 use Rattle.bt_recover.proofs.ExistLemmas.{input_unhanded}
 
 pub none_listed : (P : ℕ → Type 0) → ListsUpTo P [] 0
@@ -216,8 +215,3 @@ moved_each P xs ys n within lists moved =
       only = λ i there. (lists.only i (Contains-permutation ys xs i (IsPermutation-sym xs ys moved) there)).1;
       once = apart_moved xs ys lists.ascends moved;
     }
-
--- what follows of the value in an `Ok`
-pub ok_then : {X E : Type 0} (r : Result X E) {P Q : X → Type 0} → IfOk r P → ((x : X) → P x → Q x) → IfOk r Q
-ok_then (Ok x) h f = f x h
-ok_then (Err e) h f = h

@@ -14,11 +14,11 @@ use Rattle.bt_grid.proofs.IndexLemmas.{covers_cases}
 use Rattle.bt_model.specs.Handing.{FeedsFrom, Feeds, Hands}
 use Rattle.bt_model.specs.Chains.{IsSplitter, IsLink, LinksTo, Path, one, more, IsInput, IsOutput, begins, leaves, Sink, ends, enters, Chain, EndsAs, IsChain}
 use Rattle.bt_model.specs.Clean.{IsOnRing}
-use Rattle.bt_model.proofs.Places.{one_there}
+use Rattle.bt_parts.proofs.Places.{one_there}
 use Rattle.bt_model.proofs.HandLemmas.{one_handed}
 use Rattle.bt_model.proofs.PathLemmas.{path_start, path_snoc, path_within, crowded}
-use Rattle.bt_recover.specs.Faults.{Never, IsOrderly}
-use Rattle.bt_recover.specs.Sight.{left, LooksToward, IsBeltFeeder}
+use Rattle.bt_recover.specs.Recovered.{Never, IsOrderly}
+use Rattle.bt_recover.specs.inner.Sight.{left, LooksToward, IsBeltFeeder}
 use Rattle.bt_recover.proofs.SightLemmas.{looker_found, looker_missed, dir_cases, not_left, not_right, not_opposite, left_not_opposite}
 use Rattle.bt_recover.proofs.HandLaws.{belt_giver, entrance_giver, three_seen, one_giver, output_hands_none, pair_enters, pair_leaves, front_fed}
 use Rattle.bt_recover.proofs.ChainLemmas.{no_link, path_stop}

@@ -16,10 +16,10 @@ use Rattle.bt_grid.specs.Pairing.{ArePartners, partner_of}
 use Rattle.bt_model.specs.Handing.{LooksFrom, FeedsFrom, Feeds, Hands, BlocksFrom}
 use Rattle.bt_model.specs.Chains.{IsLink, LinksTo, IsOutput}
 use Rattle.bt_model.specs.Clean.{IsSeenAcross}
-use Rattle.bt_model.proofs.Places.{same_part, covers_at, within_at}
+use Rattle.bt_parts.proofs.Places.{same_part, covers_at, within_at}
 use Rattle.bt_model.proofs.HandLemmas.{one_handed, feeds_own as fed_own, taker_at}
-use Rattle.bt_recover.specs.Sight.{left, LooksToward, IsBeltFeeder}
-use Rattle.bt_recover.specs.Faults.{IsOrderly}
+use Rattle.bt_recover.specs.inner.Sight.{left, LooksToward, IsBeltFeeder}
+use Rattle.bt_recover.specs.Recovered.{IsOrderly}
 use Rattle.bt_recover.proofs.SightLemmas.{toward, from_toward, one_toward, dir_cases, comes, right_not_opposite}
 use Rattle.bt_recover.proofs.RefusalLemmas.{belt_fed, belt_feeder}
 

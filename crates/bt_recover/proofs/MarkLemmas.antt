@@ -11,8 +11,8 @@ use Rattle.bt_model.specs.Chains.{IsLink, LinksTo, Path, one, more}
 use Rattle.bt_model.specs.Clean.{IsOnRing}
 use Rattle.bt_model.proofs.HandLemmas.{one_handed}
 use Rattle.bt_model.proofs.PathLemmas.{path_start, path_snoc, path_within, path_next, path_front, crowded}
-use Rattle.bt_recover.specs.Faults.{IsFirst, Never, IsOrderly}
-use Rattle.bt_recover.specs.Marks.{IsMarked, AreMarks, Keeps, IsUnmarkedLink}
+use Rattle.bt_recover.specs.Recovered.{IsFirst, Never, IsOrderly}
+use Rattle.bt_recover.specs.inner.Marks.{IsMarked, AreMarks, Keeps, IsUnmarkedLink}
 use Rattle.bt_recover.proofs.HandLaws.{one_giver}
 
 -- a path that comes back to its first part has it on a ring

@@ -13,8 +13,8 @@ use Rattle.bt_parts.specs.Handing.{ComesFrom, TakesFrom}
 use Rattle.bt_parts.specs.Layouts.{HasPart, IsAt, IsWellPlaced, IsUnderground}
 use Rattle.bt_model.specs.Handing.{Feeds, BlocksFrom}
 use Rattle.bt_model.specs.Clean.{HasTwoFeeders, IsSeenAcross, IsSideLoaded, IsHalfBlocked, IsBlocked}
-use Rattle.bt_model.proofs.Places.{same_part, covers_at, within_at}
-use Rattle.bt_recover.specs.Sight.{left, LooksToward, IsSeen, IsSeenAside, IsSeenTwice}
+use Rattle.bt_parts.proofs.Places.{same_part, covers_at, within_at}
+use Rattle.bt_recover.specs.inner.Sight.{left, LooksToward, IsSeen, IsSeenAside, IsSeenTwice}
 use Rattle.bt_recover.proofs.SightLemmas.{toward, from_toward, one_toward, one_dir, dir_cases, not_opposite, not_left, not_right, left_not_opposite, right_not_opposite, comes, one_side}
 
 belt_link : (part : Part) → part.kind ≡ Belt → part.kind ≢ Splitter

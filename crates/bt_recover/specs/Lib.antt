@@ -1,5 +1,2 @@
-pub mod Courses
-pub mod Ends
-pub mod Faults
-pub mod Marks
-pub mod Sight
+pub mod Recovered
+pub mod inner

@@ -1,7 +1,10 @@
+//! What is wrong with a layout, in the order of the refusals.
+//!
+//! Rings are looked for last, since chains can be followed only where each part has one giver.
 ghost use Rattle.std.specs.Prelude.{◌≡◌, IfOk, IfErr};
 ghost use Rattle.bt_grid.specs.Pairing.{ArePartners};
 ghost use Rattle.bt_model.specs.Clean.{IsClean};
-ghost use Rattle.bt_recover.specs.Faults.{fault_of, IsUnclean};
+ghost use Rattle.bt_recover.specs.inner.Refused.{fault_of, IsRefused};
 
 use crate::fault::RecoverFault;
 use crate::marks::first_on_ring;
@@ -26,9 +29,8 @@ fn fault_of(fault: PairFault) -> RecoverFault
 pub(crate) fn clean_pairs(alloc: Global, grid: &Grid) -> Result<Pairs, RecoverFault>
     ensures clean { IfOk result (λ pairs. IsClean grid.now) }
     ensures paired { IfOk result (ArePartners grid.now) }
-    ensures refused { IfErr result (IsUnclean grid.now) }
+    ensures refused { IfErr result (IsRefused grid.now) }
 {
-    let _parts = grid.parts();
     let pairs = match pairs(alloc, grid) {
         Ok(pairs) => pairs,
         Err(fault) => return Err(fault_of(fault)),

@@ -1,105 +1,181 @@
-ghost use Rattle.std.specs.Prelude.{◌≡◌, ◌≢◌, ◌↔◌, ℕ, ◌<◌, ◌≤◌, ◌^◌, List, length, slice_index_or, IsTrue, IfOk, All, AllPairs, Contains};
-ghost use Rattle.std.specs.List.{AllZip};
-ghost use Rattle.bt_model.specs.Chains.{Chain, IsSplitter, IsOutput};
-ghost use Rattle.bt_model.specs.Shown.{ListsEach, IsEdgeOf};
-ghost use Rattle.bt_recover.specs.Courses.{AreNumbered, IsTargetAt, IsCourseEdge, IsSurvey, IsLong, AreCourses, AllDone, start_of, number_of, naming_of};
+//! One edge for each chain, found by following the chain to its end.
+//!
+//! An edge names a splitter or an output by its number, so the numbers are written into a table by
+//! part first. With it each chain is walked once, and the work is that of the parts.
+ghost use Rattle.std.specs.Prelude.{◌≡◌, ◌≢◌, ◌↔◌, ℕ, ◌<◌, ◌≤◌, length, slice_index_or, OnOk, IfOk, MatchOption, All, AllPairs, Contains};
+ghost use Rattle.bt_parts.specs.Layouts.{IsAt};
+ghost use Rattle.bt_grid.specs.Pairing.{ArePartners};
+ghost use Rattle.bt_model.specs.Chains.{IsLink, IsSplitter, leaves};
+ghost use Rattle.bt_model.specs.Clean.{IsClean};
+ghost use Rattle.bt_recover.specs.inner.Edges.{naming_of, AreNames, HasMany, AreNumbered, AreNumbers, KeepsOthers, LeadsTo, LeadsIfAny, AddsEdge, AddsHalves, HasEdges, AllDone};
 
-use crate::courses::{Course, Origin};
-use crate::following::is_kind;
-use bt_grid::Grid;
-use bt_net::{Edge, Start, Target};
-use bt_parts::Kind;
+use crate::ends::Names;
+use crate::following::taker;
+use bt_grid::{Grid, Pairs};
+use bt_model::is_kind;
+use bt_net::{Edge, MOST_OF_EACH, Start, Target};
+use bt_parts::{Cell, Kind, cells_of, front};
 use std::alloc::{AllocError, Global};
 
 /// Writes the place of each listed part in the list.
-fn write_places(numbers: &mut Vec<usize>, list: &[usize])
+fn write_places(numbers: &mut Vec<u32>, list: &[usize])
     requires within { All (λ i. i < length numbers.old.items) list.now }
     requires once { AllPairs ◌≢◌ list.now }
+    requires few { length list.now ≤ MOST_OF_EACH }
     ensures count { length numbers.new.items ≡ length numbers.old.items }
     ensures numbered { AreNumbered numbers.new.items list.now }
-    ensures others { (i : ℕ) → (Contains list.now i → ⊥) → slice_index_or numbers.new.items i 0 ≡ slice_index_or numbers.old.items i 0 }
+    ensures others { KeepsOthers list.now numbers.old.items numbers.new.items }
 {
     for (k, i) in list.iter().enumerate() {
-        numbers[*i] = k;
+        numbers[*i] = k as u32;
     }
 }
 
 /// The numbers of the splitters and of the outputs, by their parts.
-fn numbers_of(
-    alloc: Global,
-    grid: &Grid,
-    splitters: &[usize],
-    outputs: &[usize],
-) -> Result<Vec<usize>, AllocError>
-    requires splitters { ListsEach (IsSplitter grid.now) splitters.now }
-    requires outputs { ListsEach (IsOutput grid.now) outputs.now }
-    ensures count { IfOk result (λ numbers. length numbers.items ≡ length grid.now) }
-    ensures splitters { IfOk result (λ numbers. AreNumbered numbers.items splitters.now) }
-    ensures outputs { IfOk result (λ numbers. AreNumbered numbers.items outputs.now) }
+fn numbers_of(alloc: Global, grid: &Grid, names: &Names) -> Result<Vec<u32>, AllocError>
+    requires names { AreNames grid.now (naming_of names.now) }
+    requires few { HasMany (naming_of names.now) → ⊥ }
+    ensures { IfOk result (λ numbers. AreNumbers grid.now (naming_of names.now) numbers.items) }
 {
     let mut numbers = vec![in alloc; 0; grid.parts().len()]?;
-    write_places(&mut numbers, splitters);
-    write_places(&mut numbers, outputs);
+    write_places(&mut numbers, &names.splitters);
+    write_places(&mut numbers, &names.outputs);
     Ok(numbers)
 }
 
-/// The start of an edge.
-fn start_of(origin: Origin) -> Start
-    requires { number_of origin ≤ 2048 }
-    ensures { result ≡ start_of origin }
-{
-    match origin {
-        Origin::Input(k) => Start::Input(k as u32),
-        Origin::Split(k) => Start::Split(k as u32),
-    }
-}
-
-/// The target of an edge that ends with the part of this number.
-fn target_of(grid: &Grid, end: usize, number: usize) -> Target
-    requires within { end < length grid.now }
-    requires small { number ≤ 2048 }
-    ensures { IsTargetAt grid.now end number result }
-{
-    if is_kind(grid.part(end), Kind::Splitter) {
-        Target::Split(number as u32)
-    } else {
-        Target::Output(number as u32)
-    }
-}
-
-/// The edge of a course.
-fn edge_of(grid: &Grid, numbers: &[usize], course: Course) -> Edge
-    requires within { course.end < length grid.now }
+/// Where the chain that goes on with this belt or underground piece ends.
+fn target_from(grid: &Grid, pairs: &Pairs, numbers: &[u32], first: usize) -> Target
+    requires link { IsLink grid.now first }
+    requires within { first < length grid.now }
+    requires partners { ArePartners grid.now pairs.now }
+    requires clean { IsClean grid.now }
     requires count { length numbers.now ≡ length grid.now }
-    requires origin { number_of course.origin ≤ 2048 }
-    requires end { slice_index_or numbers.now course.end 0 ≤ 2048 }
-    ensures { IsCourseEdge grid.now numbers.now course result }
+    ensures { LeadsTo grid.now numbers.now first result }
 {
-    Edge {
-        start: start_of(course.origin),
-        target: target_of(grid, course.end, numbers[course.end]),
-        cap: 1,
+    let mut last = first;
+    for _steps in 0..grid.parts().len() {
+        let Some(next) = taker(grid, pairs, last) else {
+            return Target::Output(numbers[last]);
+        };
+        if is_kind(grid.part(next), Kind::Splitter) {
+            return Target::Split(numbers[next]);
+        }
+        last = next;
+    }
+    unreachable!()
+}
+
+/// Where the chain from this half of a splitter ends, if the half hands on.
+fn target_from_half(
+    grid: &Grid,
+    pairs: &Pairs,
+    numbers: &[u32],
+    s: usize,
+    half: Cell,
+) -> Option<Target>
+    requires splitter { IsSplitter grid.now s }
+    requires half { IsAt grid.now s half }
+    requires within { s < length grid.now }
+    requires partners { ArePartners grid.now pairs.now }
+    requires clean { IsClean grid.now }
+    requires count { length numbers.now ≡ length grid.now }
+    ensures { LeadsIfAny grid.now numbers.now (leaves s half) result }
+{
+    let Some(next) = grid.at(front(grid.part(s), half)) else {
+        return None;
+    };
+    if is_kind(grid.part(next), Kind::Splitter) {
+        Some(Target::Split(numbers[next]))
+    } else {
+        Some(target_from(grid, pairs, numbers, next))
     }
 }
 
-/// The edges of the courses, in their order.
+/// Adds the edge of the chain from this half, if there is one.
+fn push_half(
+    edges: &mut Vec<Edge>,
+    grid: &Grid,
+    pairs: &Pairs,
+    numbers: &[u32],
+    start: Start,
+    s: usize,
+    half: Cell,
+) -> Result<(), AllocError>
+    requires splitter { IsSplitter grid.now s }
+    requires half { IsAt grid.now s half }
+    requires within { s < length grid.now }
+    requires partners { ArePartners grid.now pairs.now }
+    requires clean { IsClean grid.now }
+    requires count { length numbers.now ≡ length grid.now }
+    ensures { OnOk result (AddsEdge grid.now numbers.now (leaves s half) start edges.old.items edges.new.items) }
+{
+    let Some(target) = target_from_half(grid, pairs, numbers, s, half) else {
+        return Ok(());
+    };
+    edges.push(Edge {
+        start,
+        target,
+        cap: 1,
+    })?;
+    Ok(())
+}
+
+/// Adds the edges of the chains from the splitter, that from the lesser half first.
+fn push_halves(
+    edges: &mut Vec<Edge>,
+    grid: &Grid,
+    pairs: &Pairs,
+    numbers: &[u32],
+    start: Start,
+    s: usize,
+) -> Result<(), AllocError>
+    requires splitter { IsSplitter grid.now s }
+    requires within { s < length grid.now }
+    requires partners { ArePartners grid.now pairs.now }
+    requires clean { IsClean grid.now }
+    requires count { length numbers.now ≡ length grid.now }
+    ensures { OnOk result (AddsHalves grid.now numbers.now s start edges.old.items edges.new.items) }
+{
+    let (lesser, greater) = cells_of(grid.part(s));
+    push_half(edges, grid, pairs, numbers, start, s, lesser)?;
+    match greater {
+        Some(greater) => push_half(edges, grid, pairs, numbers, start, s, greater),
+        None => Ok(()),
+    }
+}
+
+/// The edges of all chains, in the order of their starts: the inputs, then the splitters, and of a
+/// splitter the lesser half first.
 pub(crate) fn edges_of(
     alloc: Global,
     grid: &Grid,
-    inputs: &[usize],
-    outputs: &[usize],
-    splitters: &[usize],
-    courses: &[Course],
+    pairs: &Pairs,
+    names: &Names,
 ) -> Result<Vec<Edge>, AllocError>
-    requires survey { IsSurvey grid.now inputs.now outputs.now splitters.now courses.now }
-    requires small { IsLong inputs.now outputs.now splitters.now courses.now → ⊥ }
-    ensures { IfOk result (λ edges. (chains : List Chain) → AreCourses grid.now inputs.now splitters.now AllDone chains courses.now
-        → AllZip (IsEdgeOf (naming_of inputs.now outputs.now splitters.now)) chains edges.items) }
+    requires partners { ArePartners grid.now pairs.now }
+    requires clean { IsClean grid.now }
+    requires names { AreNames grid.now (naming_of names.now) }
+    requires few { HasMany (naming_of names.now) → ⊥ }
+    ensures { IfOk result (λ edges. HasEdges grid.now (naming_of names.now) AllDone edges.items) }
 {
-    let numbers = numbers_of(alloc, grid, splitters, outputs)?;
-    let mut edges = Vec::with_capacity(alloc, courses.len())?;
-    for course in courses {
-        edges.push(edge_of(grid, &numbers, *course))?;
+    let numbers = numbers_of(alloc, grid, names)?;
+    let mut edges = Vec::new(alloc);
+    for (k, i) in names.inputs.iter().enumerate() {
+        edges.push(Edge {
+            start: Start::Input(k as u32),
+            target: target_from(grid, pairs, &numbers, *i),
+            cap: 1,
+        })?;
+    }
+    for (k, s) in names.splitters.iter().enumerate() {
+        push_halves(
+            &mut edges,
+            grid,
+            pairs,
+            &numbers,
+            Start::Split(k as u32),
+            *s,
+        )?;
     }
     Ok(edges)
 }

@@ -1,13 +1,29 @@
+//! Which part bears each number: the splitters in the order of the parts, and the ends by their cells.
+//!
+//! Each list is made in the order of the parts first; the ends are then sorted by cell, with the part
+//! beside its cell as the key, so that the sort alone takes more than one step a part.
 ghost use Rattle.std.specs.Prelude.{◌≡◌, ◌++◌, ◌∷◌, [], if◌then◌else◌, OnOk, ◌↔◌, ℕ, ◌<◌, length, IsTrue, IfOk, All, AllPairs, IsPermutation, map};
 ghost use Rattle.bt_grid.specs.Pairing.{ArePartners};
 ghost use Rattle.bt_model.specs.Chains.{IsSplitter, IsInput, IsOutput};
 ghost use Rattle.bt_model.specs.Shown.{IsPlacedBefore};
-ghost use Rattle.bt_recover.specs.Ends.{ListsUpTo, AreKeyed};
+ghost use Rattle.bt_recover.specs.inner.Edges.{naming_of, AreNames, HasMany};
+ghost use Rattle.bt_recover.specs.inner.Ends.{AreListed, AreKeyed};
 
-use crate::following::{giver, is_kind};
+use crate::following::giver;
 use bt_grid::{Grid, Pairs};
-use bt_parts::{Cell, Kind, front};
+use bt_model::is_kind;
+use bt_net::MOST_OF_EACH;
+use bt_parts::{Cell, Kind, Part, front};
 use std::alloc::{AllocError, Global};
+
+/// Which part bears each number. Each list has the index of a part at the place of its number: a
+/// splitter, the first part of an input, or the last part of an output.
+#[derive(Drop)]
+pub(crate) struct Names {
+    pub(crate) splitters: Vec<usize>,
+    pub(crate) inputs: Vec<usize>,
+    pub(crate) outputs: Vec<usize>,
+}
 
 /// Whether the part is a belt or an entrance without a feeder.
 fn is_input(grid: &Grid, pairs: &Pairs, i: usize) -> bool
@@ -56,48 +72,34 @@ fn push_if(list: &mut Vec<usize>, i: usize, listed: bool) -> Result<(), AllocErr
     Ok(())
 }
 
-/// The splitters, in the order of the parts.
-pub(crate) fn splitters_of(alloc: Global, grid: &Grid) -> Result<Vec<usize>, AllocError>
-    ensures { IfOk result (λ list. ListsUpTo (IsSplitter grid.now) list.items (length grid.now)) }
-{
-    let mut list = Vec::new(alloc);
-    for i in 0..grid.parts().len() {
-        push_if(&mut list, i, is_splitter(grid, i))?;
-    }
-    Ok(list)
-}
-
-/// The first parts of the inputs, in the order of the parts.
-pub(crate) fn inputs_of(alloc: Global, grid: &Grid, pairs: &Pairs) -> Result<Vec<usize>, AllocError>
+/// The splitters and ends, each in the order of the parts.
+fn listed(alloc: Global, grid: &Grid, pairs: &Pairs) -> Result<Names, AllocError>
     requires { ArePartners grid.now pairs.now }
-    ensures { IfOk result (λ list. ListsUpTo (IsInput grid.now) list.items (length grid.now)) }
+    ensures { IfOk result (λ names. AreListed grid.now (naming_of names) (length grid.now)) }
 {
-    let mut list = Vec::new(alloc);
+    let mut splitters = Vec::new(alloc);
+    let mut inputs = Vec::new(alloc);
+    let mut outputs = Vec::new(alloc);
     for i in 0..grid.parts().len() {
-        push_if(&mut list, i, is_input(grid, pairs, i))?;
+        push_if(&mut splitters, i, is_splitter(grid, i))?;
+        push_if(&mut inputs, i, is_input(grid, pairs, i))?;
+        push_if(&mut outputs, i, is_output(grid, i))?;
     }
-    Ok(list)
-}
-
-/// The last parts of the outputs, in the order of the parts.
-pub(crate) fn outputs_of(alloc: Global, grid: &Grid) -> Result<Vec<usize>, AllocError>
-    ensures { IfOk result (λ list. ListsUpTo (IsOutput grid.now) list.items (length grid.now)) }
-{
-    let mut list = Vec::new(alloc);
-    for i in 0..grid.parts().len() {
-        push_if(&mut list, i, is_output(grid, i))?;
-    }
-    Ok(list)
+    Ok(Names {
+        splitters,
+        inputs,
+        outputs,
+    })
 }
 
 /// The parts with their cells.
-fn keyed(alloc: Global, grid: &Grid, parts: &[usize]) -> Result<Vec<(Cell, usize)>, AllocError>
-    requires { All (λ i. i < length grid.now) parts.now }
-    ensures { IfOk result (λ list. AreKeyed grid.now parts.now list.items) }
+fn keyed(alloc: Global, parts: &[Part], indices: &[usize]) -> Result<Vec<(Cell, usize)>, AllocError>
+    requires { All (λ i. i < length parts.now) indices.now }
+    ensures { IfOk result (λ list. AreKeyed parts.now indices.now list.items) }
 {
-    let mut list = Vec::with_capacity(alloc, parts.len())?;
-    for i in parts {
-        list.push((grid.part(*i).cell, *i))?;
+    let mut list = Vec::with_capacity(alloc, indices.len())?;
+    for i in indices {
+        list.push((parts[*i].cell, *i))?;
     }
     Ok(list)
 }
@@ -110,14 +112,37 @@ fn unkeyed(alloc: Global, keyed: &[(Cell, usize)]) -> Result<Vec<usize>, AllocEr
 }
 
 /// The parts in the order of their cells, by x and then by y.
-pub(crate) fn by_cell(alloc: Global, grid: &Grid, parts: &[usize]) -> Result<Vec<usize>, AllocError>
-    requires within { All (λ i. i < length grid.now) parts.now }
-    requires ascends { AllPairs ◌<◌ parts.now }
-    ensures moved { IfOk result (λ list. IsPermutation parts.now list.items) }
+fn by_cell(alloc: Global, grid: &Grid, indices: &[usize]) -> Result<Vec<usize>, AllocError>
+    requires within { All (λ i. i < length grid.now) indices.now }
+    requires ascends { AllPairs ◌<◌ indices.now }
+    ensures moved { IfOk result (λ list. IsPermutation indices.now list.items) }
     ensures in_order { IfOk result (λ list. AllPairs (IsPlacedBefore grid.now) list.items) }
 {
-    let _parts = grid.parts();
-    let mut keyed = keyed(alloc, grid, parts)?;
+    let mut keyed = keyed(alloc, grid.parts(), indices)?;
     keyed.sort()?;
     unkeyed(alloc, &keyed)
+}
+
+/// Which part bears each number: splitters in the order of the parts, inputs and outputs by cells.
+pub(crate) fn names_of(alloc: Global, grid: &Grid, pairs: &Pairs) -> Result<Names, AllocError>
+    requires { ArePartners grid.now pairs.now }
+    ensures { IfOk result (λ names. AreNames grid.now (naming_of names)) }
+{
+    let listed = listed(alloc, grid, pairs)?;
+    let inputs = by_cell(alloc, grid, &listed.inputs)?;
+    let outputs = by_cell(alloc, grid, &listed.outputs)?;
+    Ok(Names {
+        splitters: listed.splitters,
+        inputs,
+        outputs,
+    })
+}
+
+/// Whether there are too many inputs, outputs or splitters for a network.
+pub(crate) fn has_many(names: &Names) -> bool
+    ensures { IsTrue result ↔ HasMany (naming_of names.now) }
+{
+    names.inputs.len() > MOST_OF_EACH
+        || names.outputs.len() > MOST_OF_EACH
+        || names.splitters.len() > MOST_OF_EACH
 }

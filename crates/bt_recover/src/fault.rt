@@ -1,9 +1,10 @@
+//! Why no network is recovered.
 use std::alloc::AllocError;
 
 /// Why no network is recovered from a layout.
 ///
 /// The fault that stands first here comes first; of one fault the part with the least index does.
-#[derive(Clone, Copy, Debug, PartialEq, Eq)]
+#[derive(Clone, Copy, PartialEq, Eq)]
 pub enum RecoverFault {
     /// The underground piece is in no pair.
     Unpaired(usize),
@@ -17,7 +18,7 @@ pub enum RecoverFault {
     /// The part is on a ring of belts and underground pieces.
     Ring(usize),
 
-    /// More than 2048 inputs, outputs, splitters or edges.
+    /// More than `MOST_OF_EACH` inputs, outputs, splitters or edges.
     TooLarge,
 
     /// No input, or no output.

@@ -1,27 +1,26 @@
+//! Which part hands to a belt or an underground piece, and to which it hands, by looking at few cells.
+//!
+//! In a layout that is refused for nothing but rings each has one giver and one taker at most, so that
+//! chains can be walked in both directions.
 ghost use Rattle.std.specs.Prelude.{◌≡◌, ◌≢◌, ◌↔◌, ℕ, ◌<◌, length, IsTrue, MatchOption, IfSome};
 ghost use Rattle.bt_parts.specs.Cells.{IsInRange, opposite};
 ghost use Rattle.bt_parts.specs.Layouts.{HasPart, IsAt, IsWellPlaced};
 ghost use Rattle.bt_grid.specs.Pairing.{ArePartners};
 ghost use Rattle.bt_model.specs.Handing.{Hands};
 ghost use Rattle.bt_model.specs.Chains.{IsLink, LinksTo, IsOutput};
-ghost use Rattle.bt_recover.specs.Faults.{IsOrderly};
-ghost use Rattle.bt_recover.specs.Sight.{IsBeltFeeder};
+ghost use Rattle.bt_recover.specs.Recovered.{IsOrderly};
+ghost use Rattle.bt_recover.specs.inner.Sight.{IsBeltFeeder};
+ghost use Rattle.bt_recover.specs.inner.Told.{TellsOne};
 
 use crate::sight::{left, looker};
 use bt_grid::{Grid, Pairs};
+use bt_model::is_kind;
 use bt_parts::{Kind, Part, front};
-
-/// Whether the part is of the kind.
-pub(crate) fn is_kind(part: &Part, kind: Kind) -> bool
-    ensures { IsTrue result ↔ (part.now.kind ≡ kind) }
-{
-    part.kind == kind
-}
 
 /// A part that looks at the cell of a belt, and not from ahead.
 fn belt_feeder(grid: &Grid, belt: &Part) -> Option<usize>
     requires { IsInRange belt.now.cell }
-    ensures feeder { MatchOption result ((p : ℕ) → IsBeltFeeder grid.now belt.now p → ⊥) (IsBeltFeeder grid.now belt.now) }
+    ensures feeder { TellsOne (IsBeltFeeder grid.now belt.now) result }
     ensures within { IfSome result (λ p. p < length grid.now) }
 {
     if let Some(p) = looker(grid, belt.cell, belt.dir) {
@@ -38,7 +37,7 @@ pub(crate) fn giver(grid: &Grid, pairs: &Pairs, i: usize) -> Option<usize>
     requires link { IsLink grid.now i }
     requires within { i < length grid.now }
     requires partners { ArePartners grid.now pairs.now }
-    ensures gives { MatchOption result ((p : ℕ) → Hands grid.now p i → ⊥) (λ p. Hands grid.now p i) }
+    ensures gives { TellsOne (λ p. Hands grid.now p i) result }
     ensures within { IfSome result (λ p. p < length grid.now) }
 {
     let part = grid.part(i);
@@ -72,7 +71,7 @@ pub(crate) fn link_before(grid: &Grid, pairs: &Pairs, i: usize) -> Option<usize>
     requires within { i < length grid.now }
     requires partners { ArePartners grid.now pairs.now }
     requires orderly { IsOrderly grid.now }
-    ensures { MatchOption result ((p : ℕ) → LinksTo grid.now p i → ⊥) (λ p. LinksTo grid.now p i) }
+    ensures { TellsOne (λ p. LinksTo grid.now p i) result }
 {
     let Some(p) = giver(grid, pairs, i) else {
         return None;
@@ -90,7 +89,7 @@ pub(crate) fn link_after(grid: &Grid, pairs: &Pairs, i: usize) -> Option<usize>
     requires within { i < length grid.now }
     requires partners { ArePartners grid.now pairs.now }
     requires orderly { IsOrderly grid.now }
-    ensures next { MatchOption result ((j : ℕ) → LinksTo grid.now i j → ⊥) (LinksTo grid.now i) }
+    ensures next { TellsOne (LinksTo grid.now i) result }
     ensures within { IfSome result (λ j. j < length grid.now) }
 {
     let Some(j) = taker(grid, pairs, i) else {

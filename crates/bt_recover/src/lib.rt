@@ -1,8 +1,10 @@
-//! The network of splitters that a layout of belts shows.
+//! The network of splitters that a layout of belts shows, or why there is none.
+//!
+//! A layout is refused where it isn't clean, since only in a clean one is each chain of belts one edge of a
+//! network in the sense of Couëtoux, Gastaldi and Naves.
 #![tactic(auto)]
 
 mod clean;
-mod courses;
 mod edges;
 mod ends;
 mod fault;

@@ -1,12 +1,18 @@
+//! Rings, found by marking every chain that starts somewhere: what is left unmarked is on a ring.
+//!
+//! Each part is marked once, so that this takes no more steps than there are parts, also where a
+//! layout has many chains.
 ghost use Rattle.std.specs.Prelude.{◌≡◌, ◌≢◌, ◌↔◌, ◌⊎◌, ℕ, ◌<◌, length, IsTrue, IfOk, MatchOption};
 ghost use Rattle.bt_grid.specs.Pairing.{ArePartners};
 ghost use Rattle.bt_model.specs.Chains.{IsLink, LinksTo};
 ghost use Rattle.bt_model.specs.Clean.{IsOnRing};
-ghost use Rattle.bt_recover.specs.Faults.{IsFirst, Never, IsOrderly};
-ghost use Rattle.bt_recover.specs.Marks.{IsMarked, AreMarks, Keeps, IsUnmarkedLink};
+ghost use Rattle.bt_recover.specs.Recovered.{IsOrderly};
+ghost use Rattle.bt_recover.specs.inner.Marks.{IsMarked, AreMarks, Keeps, IsUnmarkedLink};
+ghost use Rattle.bt_recover.specs.inner.Told.{TellsFirst};
 
-use crate::following::{is_kind, link_after, link_before};
+use crate::following::{link_after, link_before};
 use bt_grid::{Grid, Pairs};
+use bt_model::is_kind;
 use bt_parts::Kind;
 use std::alloc::{AllocError, Global};
 
@@ -53,7 +59,7 @@ fn mark_chain(grid: &Grid, pairs: &Pairs, marks: &mut Vec<bool>, i: usize)
 /// The first belt or underground piece that isn't marked.
 fn first_unmarked(grid: &Grid, marks: &[bool]) -> Option<usize>
     requires { length marks.now ≡ length grid.now }
-    ensures { MatchOption result (Never (IsUnmarkedLink grid.now marks.now)) (IsFirst (IsUnmarkedLink grid.now marks.now)) }
+    ensures { TellsFirst (IsUnmarkedLink grid.now marks.now) result }
 {
     for (i, marked) in marks.iter().enumerate() {
         if !*marked && !is_kind(grid.part(i), Kind::Splitter) {
@@ -73,7 +79,7 @@ pub(crate) fn first_on_ring(
 ) -> Result<Option<usize>, AllocError>
     requires partners { ArePartners grid.now pairs.now }
     requires orderly { IsOrderly grid.now }
-    ensures { IfOk result (λ found. MatchOption found (Never (IsOnRing grid.now)) (IsFirst (IsOnRing grid.now))) }
+    ensures { IfOk result (TellsFirst (IsOnRing grid.now)) }
 {
     let count = grid.parts().len();
     let mut marks = vec![in alloc; false; count]?;

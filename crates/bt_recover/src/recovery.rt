@@ -1,25 +1,26 @@
-ghost use Rattle.std.specs.Prelude.{◌≡◌, ◌≢◌, ◌↔◌, ◌⊎◌, length, IsTrue, IfSome, IfOk, IfErr, MatchOption, MatchResult};
-ghost use Rattle.bt_net.specs.Network.{Network, IsWired, IsLarge, LacksEnds};
-ghost use Rattle.bt_model.specs.Shown.{Naming, IsNumbered};
-ghost use Rattle.bt_recover.specs.declared.fault.RecoverFault.{RecoverFault};
+//! The network of a layout: refuse what isn't clean, number the ends and the splitters, and follow
+//! each chain to its end.
+ghost use Rattle.std.specs.Prelude.{◌≡◌};
+ghost use Rattle.bt_answers.specs.Answers.{Answers, seen};
+ghost use Rattle.bt_net.specs.Network.{IsWired};
 ghost use Rattle.bt_recover.specs.declared.fault.RecoverFault.TheVariants.{Memory};
-ghost use Rattle.bt_recover.specs.Courses.{IsSurvey, IsLong, naming_of, network_of};
-ghost use Rattle.bt_recover.specs.Faults.{IsUnclean, KeepsLimits, IsRecoverFault};
+ghost use Rattle.bt_recover.specs.Recovered.{IsRecovered, network_and_naming};
+ghost use Rattle.bt_recover.specs.inner.Refused.{size_fault, IsNetTold};
+ghost use Rattle.bt_recover.specs.inner.Edges.{naming_of, HasMany, net_with};
 
 use crate::clean::clean_pairs;
-use crate::courses::{Course, courses_of};
 use crate::edges::edges_of;
-use crate::ends::{by_cell, inputs_of, outputs_of, splitters_of};
+use crate::ends::{Names, has_many, names_of};
 use crate::fault::RecoverFault;
 use bt_grid::Grid;
-use bt_net::{Edge, Net};
+use bt_net::{Edge, Net, NetFault};
 use std::alloc::Global;
 
 /// A network that was recovered from a layout, with the parts that its numbers name.
 ///
 /// Each list has the index of a part at the place of its number: a splitter, the first part of an
 /// input, or the last part of an output.
-#[derive(Debug, Drop)]
+#[derive(Drop)]
 pub struct Traced {
     pub net: Net,
     pub splitters: Vec<usize>,
@@ -27,90 +28,30 @@ pub struct Traced {
     pub outputs: Vec<usize>,
 }
 
-/// The splitters and ends of a clean layout in their orders, and the courses of its chains.
-#[derive(Drop)]
-struct Survey {
-    splitters: Vec<usize>,
-    inputs: Vec<usize>,
-    outputs: Vec<usize>,
-    courses: Vec<Course>,
+/// What is refused where the size of a network is: of wired edges no other fault comes.
+fn size_fault(fault: NetFault) -> RecoverFault
+    ensures { result ≡ size_fault fault }
+{
+    match fault {
+        NetFault::TooLarge => RecoverFault::TooLarge,
+        NetFault::NoEnds | NetFault::NetLine(_) | NetFault::Memory => RecoverFault::NoEnds,
+    }
 }
 
-/// Finds the splitters, the ends and the chains of a layout.
-fn survey_of(alloc: Global, grid: &Grid) -> Result<Survey, RecoverFault>
-    ensures found { IfOk result (λ s. IsSurvey grid.now s.inputs.items s.outputs.items s.splitters.items s.courses.items) }
-    ensures refused { IfErr result (IsUnclean grid.now) }
+/// The network of these numbers with these edges, unless there are too many edges, no input or no
+/// output.
+fn net_of(names: &Names, edges: Vec<Edge>) -> Result<Net, RecoverFault>
+    requires few { HasMany (naming_of names.now) → ⊥ }
+    requires wired { IsWired (net_with (naming_of names.now) edges.items) }
+    ensures { IsNetTold (net_with (naming_of names.now) edges.items) result }
 {
-    let pairs = clean_pairs(alloc, grid)?;
-    let splitters = splitters_of(alloc, grid)?;
-    let inputs = inputs_of(alloc, grid, &pairs)?;
-    let inputs = by_cell(alloc, grid, &inputs)?;
-    let outputs = outputs_of(alloc, grid)?;
-    let outputs = by_cell(alloc, grid, &outputs)?;
-    let courses = courses_of(alloc, grid, &pairs, &inputs, &splitters)?;
-    Ok(Survey {
-        splitters,
-        inputs,
-        outputs,
-        courses,
-    })
-}
-
-/// Whether there are too many inputs, outputs, splitters or chains for a network.
-fn is_long(survey: &Survey) -> bool
-    ensures { IsTrue result ↔ IsLong survey.now.inputs.items survey.now.outputs.items survey.now.splitters.items survey.now.courses.items }
-{
-    survey.inputs.len() > 2048
-        || survey.outputs.len() > 2048
-        || survey.splitters.len() > 2048
-        || survey.courses.len() > 2048
-}
-
-/// The network with these edges, unless it has no input or no output.
-fn net_of(inputs: u32, outputs: u32, splitters: u32, edges: Vec<Edge>) -> Option<Net>
-    requires wired { IsWired (record { inputs = inputs; outputs = outputs; splitters = splitters; edges = edges.items }) }
-    requires small { IsLarge (record { inputs = inputs; outputs = outputs; splitters = splitters; edges = edges.items }) → ⊥ }
-    ensures net { MatchOption result
-        (LacksEnds (record { inputs = inputs; outputs = outputs; splitters = splitters; edges = edges.items }))
-        (λ n. n ≡ record { inputs = inputs; outputs = outputs; splitters = splitters; edges = edges.items }) }
-    ensures keeps { IfSome result KeepsLimits }
-{
+    let inputs = names.inputs.len() as u32;
+    let outputs = names.outputs.len() as u32;
+    let splitters = names.splitters.len() as u32;
     match Net::new(inputs, outputs, splitters, edges) {
-        Ok(net) => Some(net),
-        Err(_) => None,
+        Ok(net) => Ok(net),
+        Err(fault) => Err(size_fault(fault)),
     }
-}
-
-/// The network that a layout shows, or why there is none.
-fn traced_or_fault(alloc: Global, grid: &Grid) -> Result<Traced, RecoverFault>
-    ensures found { IfOk result (λ traced. IsNumbered grid.now traced.net (naming_of traced.inputs.items traced.outputs.items traced.splitters.items)) }
-    ensures keeps { IfOk result (λ traced. KeepsLimits traced.net) }
-    ensures refused { IfErr result (IsRecoverFault grid.now) }
-{
-    let survey = survey_of(alloc, grid)?;
-    if is_long(&survey) {
-        return Err(RecoverFault::TooLarge);
-    }
-    let edges = edges_of(
-        alloc,
-        grid,
-        &survey.inputs,
-        &survey.outputs,
-        &survey.splitters,
-        &survey.courses,
-    )?;
-    let inputs = survey.inputs.len() as u32;
-    let outputs = survey.outputs.len() as u32;
-    let splitters = survey.splitters.len() as u32;
-    let Some(net) = net_of(inputs, outputs, splitters, edges) else {
-        return Err(RecoverFault::NoEnds);
-    };
-    Ok(Traced {
-        net,
-        splitters: survey.splitters,
-        inputs: survey.inputs,
-        outputs: survey.outputs,
-    })
 }
 
 /// Recovers the network that a layout shows, with its own numbering.
@@ -118,20 +59,27 @@ fn traced_or_fault(alloc: Global, grid: &Grid) -> Result<Traced, RecoverFault>
 /// Splitters are numbered in the order of the parts, inputs by the cells of their first parts and
 /// outputs by the cells of their last, by x and then by y. Edges come in the order of their starts:
 /// the inputs, then the splitters, and of a splitter the lesser half first. The work grows as that of
-/// sorting the parts.
+/// sorting the parts. The lists have indices of parts, and an edge's cap is 1, one belt of the slowest
+/// tier.
 ///
 /// # Errors
 ///
 /// The first of the faults in the order of [`RecoverFault`].
+#[tactic(auto, using(crate::proofs::OneRecovery::recovery_answers))]
 pub fn recover(alloc: Global, grid: &Grid) -> Result<Traced, RecoverFault>
-    ensures found { IfOk result (λ traced. IsNumbered grid.now traced.net (naming_of traced.inputs.items traced.outputs.items traced.splitters.items)) }
-    ensures refused { IfErr result (IsRecoverFault grid.now) }
-    ensures only_found { (net : Network) (naming : Naming) → IsNumbered grid.now net naming → KeepsLimits net
-        → MatchResult result
-        (λ traced. (traced.net ≡ net) × (naming_of traced.inputs.items traced.outputs.items traced.splitters.items ≡ naming))
-        (λ fault. fault ≡ Memory) }
-    ensures only_refused { (fault : RecoverFault) → fault ≢ Memory → IsRecoverFault grid.now fault
-        → MatchResult result (λ _. ⊥) (λ told. (told ≡ fault) ⊎ (told ≡ Memory)) }
+    ensures { Answers Memory (IsRecovered grid.now) (seen network_and_naming result) }
 {
-    traced_or_fault(alloc, grid)
+    let pairs = clean_pairs(alloc, grid)?;
+    let names = names_of(alloc, grid, &pairs)?;
+    if has_many(&names) {
+        return Err(RecoverFault::TooLarge);
+    }
+    let edges = edges_of(alloc, grid, &pairs, &names)?;
+    let net = net_of(&names, edges)?;
+    Ok(Traced {
+        net,
+        splitters: names.splitters,
+        inputs: names.inputs,
+        outputs: names.outputs,
+    })
 }

@@ -1,13 +1,18 @@
+//! Side-loading and blocked parts, each found by looking at the few cells round a part.
+//!
+//! Both are refused: side-loading fills one lane of a belt alone, and what a part looks at but does not
+//! feed would be an end that nobody meant. A network of whole belts has neither.
 ghost use Rattle.std.specs.Prelude.{◌≡◌, ◌↔◌, ℕ, ◌<◌, length, IsTrue, MatchOption};
 ghost use Rattle.bt_parts.specs.Cells.{IsInRange};
 ghost use Rattle.bt_parts.specs.Layouts.{HasPart, IsAt, IsWellPlaced};
 ghost use Rattle.bt_model.specs.Handing.{BlocksFrom};
 ghost use Rattle.bt_model.specs.Clean.{IsSideLoaded, IsHalfBlocked, IsBlocked};
-ghost use Rattle.bt_recover.specs.Faults.{IsFirst, Never};
+ghost use Rattle.bt_recover.specs.inner.Told.{TellsFirst};
 
 use crate::sight::{is_seen_aside, is_seen_twice};
 use bt_grid::Grid;
-use bt_parts::{Cell, Kind, Part, Side, cells_of, front, side};
+use bt_model::is_kind;
+use bt_parts::{Cell, Kind, Side, cells_of, front, side};
 
 /// Whether there is side-loading at the part.
 fn is_side_loaded(grid: &Grid, i: usize) -> bool
@@ -26,7 +31,8 @@ fn is_side_loaded(grid: &Grid, i: usize) -> bool
 
 /// The first part at which there is side-loading.
 pub(crate) fn first_side_loaded(grid: &Grid) -> Option<usize>
-    ensures { MatchOption result (Never (IsSideLoaded grid.now)) (IsFirst (IsSideLoaded grid.now)) }
+    ensures well_placed { IsWellPlaced grid.now }
+    ensures none { TellsFirst (IsSideLoaded grid.now) result }
 {
     for i in 0..grid.parts().len() {
         if is_side_loaded(grid, i) {
@@ -50,21 +56,14 @@ fn blocks(kind: Kind, side: Side) -> bool
     }
 }
 
-/// Whether the part is an entrance, which looks at no cell.
-fn is_entrance(part: &Part) -> bool
-    ensures { IsTrue result ↔ (part.now.kind ≡ Kind.Entrance) }
-{
-    part.kind == Kind::Entrance
-}
-
-/// Whether this cell of the part looks at a part that blocks.
+/// Whether this cell of the part looks at a part that blocks. An entrance looks at no cell.
 fn is_half_blocked(grid: &Grid, i: usize, half: Cell) -> bool
     requires within { i < length grid.now }
     requires half { IsAt grid.now i half }
     ensures { IsTrue result ↔ IsHalfBlocked grid.now i half }
 {
     let giver = grid.part(i);
-    if is_entrance(giver) {
+    if is_kind(giver, Kind::Entrance) {
         return false;
     }
     let Some(j) = grid.at(front(giver, half)) else {
@@ -91,7 +90,7 @@ fn is_blocked(grid: &Grid, i: usize) -> bool
 
 /// The first part that looks at one that takes nothing from there.
 pub(crate) fn first_blocked(grid: &Grid) -> Option<usize>
-    ensures { MatchOption result (Never (IsBlocked grid.now)) (IsFirst (IsBlocked grid.now)) }
+    ensures { TellsFirst (IsBlocked grid.now) result }
 {
     for i in 0..grid.parts().len() {
         if is_blocked(grid, i) {

@@ -1,7 +1,9 @@
+//! Which parts look at a cell, by the direction in which they look.
 ghost use Rattle.std.specs.Prelude.{◌≡◌, ◌≢◌, ◌↔◌, ◌⊎◌, ℕ, ◌<◌, length, IsTrue, MatchOption, IfSome};
 ghost use Rattle.bt_parts.specs.Cells.{IsInRange, opposite};
 ghost use Rattle.bt_parts.specs.Layouts.{HasPart, IsAt};
-ghost use Rattle.bt_recover.specs.Sight.{left, LooksToward, IsSeen, IsSeenAside, IsSeenTwice};
+ghost use Rattle.bt_recover.specs.inner.Sight.{left, LooksToward, IsSeen, IsSeenAside, IsSeenOnBoth, IsSeenTwice};
+ghost use Rattle.bt_recover.specs.inner.Told.{TellsOne};
 
 use bt_grid::Grid;
 use bt_parts::{Cell, Dir, Kind, Part};
@@ -28,7 +30,7 @@ fn looks_along(part: &Part, dir: Dir) -> bool
 /// The part that looks in the direction at the cell.
 pub(crate) fn looker(grid: &Grid, cell: Cell, dir: Dir) -> Option<usize>
     requires { IsInRange cell }
-    ensures seen { MatchOption result ((p : ℕ) → LooksToward grid.now cell dir p → ⊥) (LooksToward grid.now cell dir) }
+    ensures seen { TellsOne (LooksToward grid.now cell dir) result }
     ensures within { IfSome result (λ p. p < length grid.now) }
 {
     let Some(p) = grid.at(cell.ahead(dir.opposite(), 1)) else {
@@ -60,7 +62,7 @@ pub(crate) fn is_seen_aside(grid: &Grid, cell: Cell, dir: Dir) -> bool
 /// Whether both sides of the cell, as the direction has them, are looked at from.
 fn is_seen_on_both(grid: &Grid, cell: Cell, dir: Dir) -> bool
     requires { IsInRange cell }
-    ensures { IsTrue result ↔ (IsSeen grid.now cell (left dir) × IsSeen grid.now cell (opposite (left dir))) }
+    ensures { IsTrue result ↔ IsSeenOnBoth grid.now cell dir }
 {
     is_seen(grid, cell, left(dir)) && is_seen(grid, cell, left(dir).opposite())
 }

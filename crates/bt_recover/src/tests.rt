@@ -2,10 +2,10 @@ ghost use Rattle.std.specs.Prelude.{IfOk, OnOk};
 ghost use Rattle.bt_parts.specs.Cells.{IsInRange};
 ghost use Rattle.bt_parts.specs.Layouts.{AreInRange};
 
-use crate::{Memory, RecoverFault, recover};
+use crate::{Memory, RecoverFault, Traced, recover};
 use bt_grid::Grid;
 use bt_model::{hands, pair, ring};
-use bt_net::{Edge, Start, Target};
+use bt_net::{Net, Start, Target};
 use bt_parts::{Cell, Dir, Kind, Part, Tier};
 use std::alloc::Global;
 use std::process::Abort;
@@ -119,24 +119,31 @@ fn lone_belts(alloc: Global, count: u16) -> Result<Vec<Part>, Memory>
     Ok(parts)
 }
 
-/// The grid of a map.
-fn grid_of(rt: &impl Abort, alloc: Global, map: &[&[u8]]) -> Result<Grid, Memory> {
-    let parts = parts_of(alloc, map)?;
-    Ok(Grid::place(alloc, parts).expect(rt, "no two parts share a cell"))
+/// The grid of these parts, of which no two share a cell.
+fn placed(rt: &impl Abort, alloc: Global, parts: Vec<Part>) -> Grid
+    requires { AreInRange parts.items }
+{
+    Grid::place(alloc, parts).expect(rt, "no two parts share a cell")
 }
 
-/// The grid of so many belts, none of which hands to another.
-fn grid_of_belts(rt: &impl Abort, alloc: Global, count: u16) -> Result<Grid, Memory> {
-    let parts = lone_belts(alloc, count)?;
-    Ok(Grid::place(alloc, parts).expect(rt, "no two parts share a cell"))
+/// What is recovered from the layout, which is clean.
+fn recovered(rt: &impl Abort, alloc: Global, grid: &Grid) -> Traced {
+    recover(alloc, grid)
+        .ok()
+        .expect(rt, "the layout has a network")
 }
 
-fn edge(start: Start, target: Target) -> Edge {
-    Edge {
-        start,
-        target,
-        cap: 1,
+/// Whether the network has these edges, each with cap 1.
+fn has_edges(net: &Net, edges: &[(Start, Target)]) -> bool {
+    if net.edges().len() != edges.len() {
+        return false;
     }
+    for (edge, (start, target)) in net.edges().iter().zip(edges) {
+        if edge.start != *start || edge.target != *target || edge.cap != 1 {
+            return false;
+        }
+    }
+    true
 }
 
 #[test]
@@ -151,156 +158,127 @@ fn faulty_layouts_are_refused(rt: HostRuntime) -> Result<(), Fail> {
         (&[], RecoverFault::NoEnds),
     ];
     for (map, fault) in table {
-        let grid = grid_of(&rt, rt.alloc(), map)?;
-        assert_eq!(rt; recover(rt.alloc(), &grid).err(), Some(fault));
+        let grid = placed(&rt, rt.alloc(), parts_of(rt.alloc(), map)?);
+        let refused = recover(rt.alloc(), &grid).err() == Some(fault);
+        assert!(rt; refused);
     }
     Ok(())
 }
 
 #[test]
-fn belts_without_splitters_join_inputs_and_outputs(rt: HostRuntime) -> Result<(), Fail> {
-    let table: [&[&[u8]]; 3] = [&[b">>"], &[b"E....e"], &[b">", b"^"]];
-    for map in table {
-        let grid = grid_of(&rt, rt.alloc(), map)?;
-        let traced = recover(rt.alloc(), &grid)?;
-        assert_eq!(rt; traced.net.splitters(), 0);
-        assert_eq!(rt;
-            traced.net.edges(),
-            [edge(Start::Input(0), Target::Output(0))].as_slice()
-        );
+fn networks_are_recovered(rt: HostRuntime) -> Result<(), Fail> {
+    let table: [(&[&[u8]], &[(Start, Target)]); 7] = [
+        (&[b">>"], &[(Start::Input(0), Target::Output(0))]),
+        (&[b"E....e"], &[(Start::Input(0), Target::Output(0))]),
+        (&[b">", b"^"], &[(Start::Input(0), Target::Output(0))]),
+        (
+            &[b"^^"],
+            &[
+                (Start::Input(0), Target::Output(0)),
+                (Start::Input(1), Target::Output(1)),
+            ],
+        ),
+        (
+            &[b"^^", b"[]", b"^^"],
+            &[
+                (Start::Input(0), Target::Split(0)),
+                (Start::Input(1), Target::Split(0)),
+                (Start::Split(0), Target::Output(0)),
+                (Start::Split(0), Target::Output(1)),
+            ],
+        ),
+        (
+            &[b"^^", b"[]", b"[]", b"^^"],
+            &[
+                (Start::Input(0), Target::Split(1)),
+                (Start::Input(1), Target::Split(1)),
+                (Start::Split(0), Target::Output(0)),
+                (Start::Split(0), Target::Output(1)),
+                (Start::Split(1), Target::Split(0)),
+                (Start::Split(1), Target::Split(0)),
+            ],
+        ),
+        (
+            &FOUR,
+            &[
+                (Start::Input(0), Target::Split(2)),
+                (Start::Input(1), Target::Split(2)),
+                (Start::Input(2), Target::Split(3)),
+                (Start::Input(3), Target::Split(3)),
+                (Start::Split(0), Target::Output(0)),
+                (Start::Split(0), Target::Output(1)),
+                (Start::Split(1), Target::Output(2)),
+                (Start::Split(1), Target::Output(3)),
+                (Start::Split(2), Target::Split(0)),
+                (Start::Split(2), Target::Split(1)),
+                (Start::Split(3), Target::Split(0)),
+                (Start::Split(3), Target::Split(1)),
+            ],
+        ),
+    ];
+    for (map, edges) in table {
+        let grid = placed(&rt, rt.alloc(), parts_of(rt.alloc(), map)?);
+        let traced = recovered(&rt, rt.alloc(), &grid);
+        let same = has_edges(&traced.net, edges);
+        assert!(rt; same);
     }
-    Ok(())
-}
-
-#[test]
-fn belts_side_by_side_are_not_joined(rt: HostRuntime) -> Result<(), Fail> {
-    let grid = grid_of(&rt, rt.alloc(), &[b"^^"])?;
-    let traced = recover(rt.alloc(), &grid)?;
-    assert_eq!(rt; traced.net.inputs(), 2);
-    assert_eq!(rt; traced.net.outputs(), 2);
-    assert_eq!(rt; traced.net.splitters(), 0);
-    assert_eq!(rt;
-        traced.net.edges(),
-        [
-            edge(Start::Input(0), Target::Output(0)),
-            edge(Start::Input(1), Target::Output(1)),
-        ]
-        .as_slice()
-    );
-    Ok(())
-}
-
-#[test]
-fn a_splitter_joins_two_inputs_and_two_outputs(rt: HostRuntime) -> Result<(), Fail> {
-    let grid = grid_of(&rt, rt.alloc(), &[b"^^", b"[]", b"^^"])?;
-    let traced = recover(rt.alloc(), &grid)?;
-    assert_eq!(rt; traced.net.inputs(), 2);
-    assert_eq!(rt; traced.net.outputs(), 2);
-    assert_eq!(rt; traced.net.splitters(), 1);
-    assert_eq!(rt;
-        traced.net.edges(),
-        [
-            edge(Start::Input(0), Target::Split(0)),
-            edge(Start::Input(1), Target::Split(0)),
-            edge(Start::Split(0), Target::Output(0)),
-            edge(Start::Split(0), Target::Output(1)),
-        ]
-        .as_slice()
-    );
-    Ok(())
-}
-
-#[test]
-fn at_most_2048_of_a_kind_are_recovered(rt: HostRuntime) -> Result<(), Fail> {
-    let grid = grid_of_belts(&rt, rt.alloc(), 2048)?;
-    let traced = recover(rt.alloc(), &grid)?;
-    assert_eq!(rt; traced.net.inputs(), 2048);
-    assert_eq!(rt; traced.net.outputs(), 2048);
-    assert_eq!(rt; traced.net.edges().len(), 2048);
-    let grid = grid_of_belts(&rt, rt.alloc(), 2049)?;
-    assert_eq!(rt;
-        recover(rt.alloc(), &grid).err(),
-        Some(RecoverFault::TooLarge)
-    );
     Ok(())
 }
 
 #[test]
 fn splitters_are_numbered_by_parts_and_ends_by_cells(rt: HostRuntime) -> Result<(), Fail> {
-    let grid = grid_of(&rt, rt.alloc(), &[b"^^", b"[]", b"[]", b"^^"])?;
-    let traced = recover(rt.alloc(), &grid)?;
-    assert_eq!(rt; traced.inputs.as_slice(), [4, 5].as_slice());
-    assert_eq!(rt; traced.outputs.as_slice(), [0, 1].as_slice());
-    assert_eq!(rt; traced.splitters.as_slice(), [2, 3].as_slice());
-    assert_eq!(rt;
-        traced.net.edges(),
-        [
-            edge(Start::Input(0), Target::Split(1)),
-            edge(Start::Input(1), Target::Split(1)),
-            edge(Start::Split(0), Target::Output(0)),
-            edge(Start::Split(0), Target::Output(1)),
-            edge(Start::Split(1), Target::Split(0)),
-            edge(Start::Split(1), Target::Split(0)),
-        ]
-        .as_slice()
-    );
-    Ok(())
-}
-
-#[test]
-fn a_balancer_of_four_belts_is_recovered(rt: HostRuntime) -> Result<(), Fail> {
-    let grid = grid_of(&rt, rt.alloc(), &FOUR)?;
-    let traced = recover(rt.alloc(), &grid)?;
-    assert_eq!(rt; traced.net.inputs(), 4);
-    assert_eq!(rt; traced.net.outputs(), 4);
-    assert_eq!(rt; traced.net.splitters(), 4);
-    assert_eq!(rt;
-        traced.net.edges(),
-        [
-            edge(Start::Input(0), Target::Split(2)),
-            edge(Start::Input(1), Target::Split(2)),
-            edge(Start::Input(2), Target::Split(3)),
-            edge(Start::Input(3), Target::Split(3)),
-            edge(Start::Split(0), Target::Output(0)),
-            edge(Start::Split(0), Target::Output(1)),
-            edge(Start::Split(1), Target::Output(2)),
-            edge(Start::Split(1), Target::Output(3)),
-            edge(Start::Split(2), Target::Split(0)),
-            edge(Start::Split(2), Target::Split(1)),
-            edge(Start::Split(3), Target::Split(0)),
-            edge(Start::Split(3), Target::Split(1)),
-        ]
-        .as_slice()
-    );
+    let map: [&[u8]; 4] = [b"^^", b"[]", b"[]", b"^^"];
+    let grid = placed(&rt, rt.alloc(), parts_of(rt.alloc(), &map)?);
+    let traced = recovered(&rt, rt.alloc(), &grid);
+    let same = traced.inputs.as_slice() == [4, 5].as_slice()
+        && traced.outputs.as_slice() == [0, 1].as_slice()
+        && traced.splitters.as_slice() == [2, 3].as_slice();
+    assert!(rt; same);
     Ok(())
 }
 
 #[test]
 fn a_balancer_of_eight_belts_is_recovered(rt: HostRuntime) -> Result<(), Fail> {
-    let grid = grid_of(&rt, rt.alloc(), &EIGHT)?;
-    assert_eq!(rt; grid.parts().len(), 152);
-    let traced = recover(rt.alloc(), &grid)?;
-    assert_eq!(rt; traced.net.inputs(), 8);
-    assert_eq!(rt; traced.net.outputs(), 8);
-    assert_eq!(rt; traced.net.splitters(), 12);
-    assert_eq!(rt; traced.net.edges().len(), 32);
+    let grid = placed(&rt, rt.alloc(), parts_of(rt.alloc(), &EIGHT)?);
+    let net = recovered(&rt, rt.alloc(), &grid).net;
+    let counts = (
+        net.inputs(),
+        net.outputs(),
+        net.splitters(),
+        net.edges().len(),
+    );
+    assert!(rt; counts == (8, 8, 12, 32));
+    Ok(())
+}
+
+#[test]
+fn at_most_so_many_of_a_kind_are_recovered(rt: HostRuntime) -> Result<(), Fail> {
+    let grid = placed(&rt, rt.alloc(), lone_belts(rt.alloc(), 2048)?);
+    let net = recovered(&rt, rt.alloc(), &grid).net;
+    let counts = (net.inputs(), net.outputs(), net.edges().len());
+    assert!(rt; counts == (2048, 2048, 2048));
+    let grid = placed(&rt, rt.alloc(), lone_belts(rt.alloc(), 2049)?);
+    let refused = recover(rt.alloc(), &grid).err() == Some(RecoverFault::TooLarge);
+    assert!(rt; refused);
     Ok(())
 }
 
 #[test]
 fn plain_lists_tell_pairs_handing_and_rings(rt: HostRuntime) -> Result<(), Fail> {
-    let grid = grid_of(&rt, rt.alloc(), &[b"E...e>"])?;
+    let grid = placed(&rt, rt.alloc(), parts_of(rt.alloc(), &[b"E...e>"])?);
     let parts = grid.parts();
-    assert_eq!(rt; parts.len(), 3);
-    assert!(rt; pair(parts, 0, 1));
-    assert!(rt; !pair(parts, 1, 0));
-    assert!(rt; hands(parts, 0, 1));
-    assert!(rt; hands(parts, 1, 2));
-    assert!(rt; !hands(parts, 0, 2));
-    assert!(rt; !ring(parts, 0));
-    let grid = grid_of(&rt, rt.alloc(), &RING)?;
+    assert!(rt; parts.len() == 3);
+    let told = [
+        pair(parts, 0, 1),
+        pair(parts, 1, 0),
+        hands(parts, 0, 1),
+        hands(parts, 1, 2),
+        hands(parts, 0, 2),
+        ring(parts, 0),
+    ];
+    assert!(rt; told == [true, false, true, true, false, false]);
+    let grid = placed(&rt, rt.alloc(), parts_of(rt.alloc(), &RING)?);
     let parts = grid.parts();
-    assert_eq!(rt; parts.len(), 4);
-    assert!(rt; ring(parts, 3));
+    assert!(rt; parts.len() == 4 && ring(parts, 3));
     Ok(())
 }

@@ -1,38 +1,63 @@
-use Rattle.std.proofs.Common.{◌≤◌, length, subst, arith}
-use Rattle.std.specs.List.{AllZip}
-use Rattle.std.proofs.lemmas.List.{take_all}
-use Rattle.bt_model.specs.Shown.{IsEdgeOf}
-use Rattle.bt_recover.specs.Courses.{IsCourseOf, naming_of}
-use Rattle.bt_recover.proofs.SurveyLemmas.{course_known, edges_more}
-use Rattle.bt_recover.proofs.WiredLemmas.{zip_length}
+use Rattle.std.proofs.Common.{◌≡◌, ◌+◌, ◌<◌, length, get_or, subst, sym, ap, arith}
+use Rattle.bt_net.specs.declared.network.Start.TheVariants as from
+use Rattle.bt_model.specs.Chains.{IsInput, IsSplitter, IsLink}
+use Rattle.bt_recover.specs.inner.Edges.{naming_of, HasEdges, LeadsTo, AddsHalves}
+use Rattle.bt_recover.proofs.Done.{InputsDone, SplittersDone}
+use Rattle.bt_recover.proofs.ExistLemmas.{input_link}
+use Rattle.bt_recover.proofs.EdgeLemmas.{edges_none, edges_inputs, edges_all}
+use Rattle.bt_recover.proofs.NetworkLemmas.{each_at, input_within, splitter_within, input_step, halves_step}
 use Rattle.bt_recover.proofs.edges.edges_of.Goals as goal
 
-pub edge_of-requires-clause-within : goal.edge_of-requires-clause-within
-edge_of-requires-clause-within c =
-    (course_known c.args.grid.now c.args.inputs.now c.args.outputs.now c.args.splitters.now c.in_ok-numbers.numbers.items c.args.courses.now c.requires.survey c.requires.small
-    c.in_ok-numbers.ensures.splitters c.in_ok-numbers.ensures.outputs c.loop-course.course-index _ c.loop-course-test.true).within
+pub loop-k-init : goal.loop-k-init
+loop-k-init c =
+    subst (λ es. HasEdges c.args.grid.now (naming_of c.args.names.now) (InputsDone c.args.names.now.inputs.items 0) es) (sym c.new-edges.ensures.items)
+    (edges_none c.args.grid.now (naming_of c.args.names.now))
 
-pub edge_of-requires-clause-origin : goal.edge_of-requires-clause-origin
-edge_of-requires-clause-origin c =
-    (course_known c.args.grid.now c.args.inputs.now c.args.outputs.now c.args.splitters.now c.in_ok-numbers.numbers.items c.args.courses.now c.requires.survey c.requires.small
-    c.in_ok-numbers.ensures.splitters c.in_ok-numbers.ensures.outputs c.loop-course.course-index _ c.loop-course-test.true).origin
+pub target_from-requires-clause-link : goal.target_from-requires-clause-link
+target_from-requires-clause-link c =
+    subst (λ xs. IsLink c.args.grid.now (get_or xs c.loop-k.k 0)) (sym c.deref-i-items.ensures.value)
+    (input_link c.args.grid.now _ (each_at (IsInput c.args.grid.now) c.args.names.now.inputs.items c.loop-k.k c.requires.names.inputs (omega (arith, ap length c.deref-i-items.ensures.value))))
 
-pub edge_of-requires-clause-end : goal.edge_of-requires-clause-end
-edge_of-requires-clause-end c =
-    rw c.deref.ensures.value
-    (course_known c.args.grid.now c.args.inputs.now c.args.outputs.now c.args.splitters.now c.in_ok-numbers.numbers.items c.args.courses.now c.requires.survey c.requires.small
-    c.in_ok-numbers.ensures.splitters c.in_ok-numbers.ensures.outputs c.loop-course.course-index _ c.loop-course-test.true).end
+pub target_from-requires-clause-within : goal.target_from-requires-clause-within
+target_from-requires-clause-within c =
+    subst (λ xs. get_or xs c.loop-k.k 0 < length c.args.grid.now) (sym c.deref-i-items.ensures.value)
+    (input_within c.args.grid.now _ (each_at (IsInput c.args.grid.now) c.args.names.now.inputs.items c.loop-k.k c.requires.names.inputs (omega (arith, ap length c.deref-i-items.ensures.value))))
 
-pub loop-course-preserved : goal.loop-course-preserved
-loop-course-preserved c = λ chains are.
-    rw c.in_ok-push.ensures.items
-    (edges_more c.args.grid.now c.args.inputs.now c.args.outputs.now c.args.splitters.now c.in_ok-numbers.numbers.items c.args.courses.now c.requires.survey
-    c.in_ok-numbers.ensures.splitters c.in_ok-numbers.ensures.outputs c.loop-course.course-index _ c.loop-course.edges.items c.edge_of.result c.loop-course-test.true
-    (rw c.deref.ensures.value at c.edge_of.ensures) chains are (c.loop-course.invariant chains are))
+pub loop-k-preserved : goal.loop-k-preserved
+loop-k-preserved c =
+    subst (λ es. HasEdges c.args.grid.now (naming_of c.args.names.now) (InputsDone c.args.names.now.inputs.items (c.loop-k.k + 1)) es) (sym c.in_ok-push.ensures.items)
+    (input_step c.args.grid.now c.requires.clean (naming_of c.args.names.now) c.in_ok-numbers.numbers.items c.requires.names c.in_ok-numbers.ensures c.loop-k.k c.loop-k.edges.items c.target_from.result
+    (omega (arith, ap length c.deref-i-items.ensures.value))
+    (subst (λ xs. LeadsTo c.args.grid.now c.in_ok-numbers.numbers.items (get_or xs c.loop-k.k 0) c.target_from.result) c.deref-i-items.ensures.value
+    (subst (λ ns. LeadsTo c.args.grid.now ns (get_or c.deref-i-items.result.now c.loop-k.k 0) c.target_from.result) c.deref.ensures.value c.target_from.ensures))
+    c.loop-k.invariant)
+
+pub loop-k-2-init : goal.loop-k-2-init
+loop-k-2-init c =
+    let all : c.loop-k.k ≡ length c.args.names.now.inputs.items = omega (arith, ap length c.deref-i-items.ensures.value) in
+    edges_inputs c.args.grid.now (naming_of c.args.names.now) c.loop-k.edges.items c.requires.names
+    (subst (λ k. HasEdges c.args.grid.now (naming_of c.args.names.now) (InputsDone c.args.names.now.inputs.items k) c.loop-k.edges.items) all c.loop-k.invariant)
+
+pub push_halves-requires-clause-splitter : goal.push_halves-requires-clause-splitter
+push_halves-requires-clause-splitter c =
+    subst (λ xs. IsSplitter c.args.grid.now (get_or xs c.loop-k-2.k 0)) (sym c.deref-s-items.ensures.value)
+    (each_at (IsSplitter c.args.grid.now) c.args.names.now.splitters.items c.loop-k-2.k c.requires.names.splitters (omega (arith, ap length c.deref-s-items.ensures.value)))
+
+pub push_halves-requires-clause-within : goal.push_halves-requires-clause-within
+push_halves-requires-clause-within c =
+    subst (λ xs. get_or xs c.loop-k-2.k 0 < length c.args.grid.now) (sym c.deref-s-items.ensures.value)
+    (splitter_within c.args.grid.now _ (each_at (IsSplitter c.args.grid.now) c.args.names.now.splitters.items c.loop-k-2.k c.requires.names.splitters (omega (arith, ap length c.deref-s-items.ensures.value))))
+
+pub loop-k-2-preserved : goal.loop-k-2-preserved
+loop-k-2-preserved c =
+    halves_step c.args.grid.now c.requires.clean (naming_of c.args.names.now) c.in_ok-numbers.numbers.items c.requires.names c.in_ok-numbers.ensures c.loop-k-2.k c.loop-k-2.edges.items c.push_halves.new.edges.items
+    (omega (arith, ap length c.deref-s-items.ensures.value))
+    (subst (λ xs. AddsHalves c.args.grid.now c.in_ok-numbers.numbers.items (get_or xs c.loop-k-2.k 0) (from.Split c.loop-k-2.k) c.loop-k-2.edges.items c.push_halves.new.edges.items) c.deref-s-items.ensures.value
+    (subst (λ ns. AddsHalves c.args.grid.now ns (get_or c.deref-s-items.result.now c.loop-k-2.k 0) (from.Split c.loop-k-2.k) c.loop-k-2.edges.items c.push_halves.new.edges.items) c.deref-in-loop-k-2.ensures.value c.in_ok-push_halves.ensures))
+    c.loop-k-2.invariant
 
 pub returns : goal.returns
-returns c = λ chains are.
-    let same = zip_length (IsCourseOf c.args.inputs.now c.args.splitters.now) chains c.args.courses.now are.named in
-    let all : length chains ≤ c.loop-course.course-index = omega arith in
-    subst (λ cs. AllZip (IsEdgeOf (naming_of c.args.inputs.now c.args.outputs.now c.args.splitters.now)) cs c.loop-course.edges.items) (take_all c.loop-course.course-index chains all)
-    (c.loop-course.invariant chains are)
+returns c =
+    let all : c.loop-k-2.k ≡ length c.args.names.now.splitters.items = omega (arith, ap length c.deref-s-items.ensures.value) in
+    edges_all c.args.grid.now (naming_of c.args.names.now) c.loop-k-2.edges.items c.requires.names
+    (subst (λ k. HasEdges c.args.grid.now (naming_of c.args.names.now) (SplittersDone c.args.names.now.splitters.items k) c.loop-k-2.edges.items) all c.loop-k-2.invariant)

@@ -1,7 +1,7 @@
 use Rattle.std.proofs.Common.{ℕ, ◌∙◌, ap, subst}
 use Rattle.bt_parts.specs.Cells.{opposite}
 use Rattle.std.specs.Option.{MatchOption}
-use Rattle.bt_recover.specs.Sight.{LooksToward}
+use Rattle.bt_recover.specs.inner.Sight.{LooksToward}
 use Rattle.bt_recover.proofs.SightLemmas.{not_opposite}
 use Rattle.bt_recover.proofs.HandLaws.{three_seen}
 use Rattle.bt_recover.proofs.following.belt_feeder.Goals as goal

@@ -1,4 +1,4 @@
-use Rattle.bt_recover.specs.Marks.{AreMarks}
+use Rattle.bt_recover.specs.inner.Marks.{AreMarks}
 use Rattle.bt_recover.proofs.MarkLemmas.{HasStarts}
 use Rattle.bt_recover.proofs.marks.first_on_ring.Given as goal
 

@@ -1,5 +1,5 @@
 use Rattle.std.proofs.Common.{ℕ, ◌<◌}
-use Rattle.bt_recover.specs.Marks.{IsUnmarkedLink}
+use Rattle.bt_recover.specs.inner.Marks.{IsUnmarkedLink}
 use Rattle.bt_recover.proofs.marks.first_unmarked.Given as goal
 
 abbrev pub invariant-loop-i : goal.invariant-loop-i

@@ -1,6 +1,6 @@
 use Rattle.std.proofs.Common.{arith}
 use Rattle.std.proofs.lemmas.Grind.{common_steps}
-use Rattle.bt_recover.specs.Marks.{IsMarked}
+use Rattle.bt_recover.specs.inner.Marks.{IsMarked}
 use Rattle.bt_recover.proofs.MarkLemmas.{marking_first, marking_more, marking_stops, marking_joins}
 use Rattle.bt_recover.proofs.marks.mark_from.Goals as goal
 

@@ -6,5 +6,5 @@ use Rattle.bt_recover.proofs.refusals.first_side_loaded.Goals as goal
 pub loop-i-preserved : goal.loop-i-preserved
 loop-i-preserved c = below_more _ _ c.loop-i.invariant (iff_false c.is_side_loaded.ensures c.if-is_side_loaded.false)
 
-pub returns : goal.returns
-returns c = λ i bad. c.loop-i.invariant i (omega (arith, ap length c.parts-i-end.ensures.value, side_loaded_within c.args.grid.now i bad)) bad
+pub returns-clause-none : goal.returns-clause-none
+returns-clause-none c = λ i bad. c.loop-i.invariant i (omega (arith, ap length c.parts-i-end.ensures.value, side_loaded_within c.args.grid.now i bad)) bad

@@ -1,4 +1,4 @@
-use Rattle.bt_recover.specs.Sight.{LooksToward}
+use Rattle.bt_recover.specs.inner.Sight.{LooksToward}
 use Rattle.bt_recover.proofs.SightLemmas.{some_tells}
 use Rattle.bt_recover.proofs.sight.is_seen.Goals as goal
 

@@ -1,7 +1,7 @@
 use Rattle.std.proofs.Common.{refl}
 use Rattle.std.proofs.lemmas.Bool.{iff_false}
 use Rattle.std.proofs.lemmas.Option.{same_Some}
-use Rattle.bt_model.proofs.Places.{within_at}
+use Rattle.bt_parts.proofs.Places.{within_at}
 use Rattle.bt_recover.proofs.SightLemmas.{looker_found, looker_missed, looker_at}
 use Rattle.bt_recover.proofs.sight.looker.Goals as goal
 

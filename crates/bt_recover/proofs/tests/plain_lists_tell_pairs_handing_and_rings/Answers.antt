@@ -20,5 +20,5 @@ hands-requires-3-clause-well_placed g c = subst (λ parts. IsWellPlaced parts) (
 pub ring-requires-clause-well_placed : goal.ring-requires-clause-well_placed
 ring-requires-clause-well_placed g c = subst (λ parts. IsWellPlaced parts) (sym c.parts-parts.ensures.value) c.parts-parts.ensures.well_placed
 
-pub ring-requires-2-clause-well_placed : goal.ring-requires-2-clause-well_placed
-ring-requires-2-clause-well_placed g c = subst (λ parts. IsWellPlaced parts) (sym c.parts-parts-2.ensures.value) c.parts-parts-2.ensures.well_placed
+pub ring-requires-then-parts-eq4-clause-well_placed : goal.ring-requires-then-parts-eq4-clause-well_placed
+ring-requires-then-parts-eq4-clause-well_placed g c = subst (λ parts. IsWellPlaced parts) (sym c.parts-parts-2.ensures.value) c.parts-parts-2.ensures.well_placed

@@ -1,0 +1,376 @@
+-- One edge for each chain: following a chain to its end, and adding edges in the order of their starts.
+use Rattle.std.proofs.Common.{◌≡◌, ◌≢◌, ◌⊎◌, ℕ, ◌+◌, ◌<◌, ◌≤◌, List, [], ◌∷◌, ◌++◌, length, get_or, Some, refl, sym, ◌∙◌, ap, subst, inl, inr, ⊎_elim, arith}
+use Rattle.std.specs.List.{slice_get, AllPairs, Contains}
+use Rattle.std.proofs.lemmas.Int.{ints}
+use Rattle.std.proofs.lemmas.Option.{same_Some, slice_get_within, slice_get-get_or, get_or_from_slice_get}
+use Rattle.std.proofs.lemmas.Bool.{cases_lt}
+use Rattle.std.proofs.lemmas.List.{get_or_default, length_push}
+use Rattle.std.proofs.lemmas.List.Elements.{Contains-append_left, Contains-push, Contains-push_cases}
+use Rattle.std.proofs.lemmas.List.Quantifiers.{all_pairs_push}
+use Rattle.bt_parts.specs.declared.part.Cell.{Cell}
+use Rattle.bt_parts.specs.declared.part.Dir.{Dir}
+use Rattle.bt_parts.specs.declared.part.Dir.TheVariants.{North, East, South, West}
+use Rattle.bt_parts.specs.declared.part.Kind.TheVariants.{Entrance}
+use Rattle.bt_parts.specs.declared.part.Part.{Part}
+use Rattle.bt_parts.specs.Cells.{beside, step}
+use Rattle.bt_parts.specs.Layouts.{HasPart, IsAt}
+use Rattle.bt_net.specs.declared.network.Edge.{Edge}
+use Rattle.bt_net.specs.declared.network.Target.{Target}
+use Rattle.bt_model.specs.Handing.{FeedsFrom, Hands}
+use Rattle.bt_model.specs.Chains.{IsSplitter, IsLink, Path, one, IsInput, IsOutput, Source, begins, leaves, ends, enters, Chain, IsChain, StartsAs}
+use Rattle.bt_model.specs.Clean.{IsClean}
+use Rattle.bt_model.specs.Shown.{Naming, ListsEach, Precedes, IsPlacedBefore, ComesBefore, IsEdgeOf}
+use Rattle.bt_parts.proofs.Places.{same_part}
+use Rattle.bt_model.proofs.HandLemmas.{taker_at}
+use Rattle.bt_model.proofs.PathLemmas.{path_snoc}
+use Rattle.bt_recover.specs.inner.Edges.{AreNames, target_at, LeadsTo, LeadsFrom, StartsNone, AreEdges, HasEdges, AllDone}
+use Rattle.bt_recover.proofs.Done.{InputsDone, SplittersDone, HalfDone}
+use Rattle.bt_recover.proofs.HandLaws.{front_fed}
+use Rattle.bt_recover.proofs.ChainLemmas.{orderly_of, chain_from}
+use Rattle.bt_recover.proofs.ExistLemmas.{no_long_path, input_chain, half_chain, empty_chain}
+use Rattle.bt_recover.proofs.SameChain.{begins_cell, leaves_half}
+use Rattle.bt_recover.proofs.Counts.{zip_push}
+
+-- ---- following a chain
+
+-- a path of so many parts leads here
+pub record IsFollowing (parts : List Part) (first last steps : ℕ) : Type 0 where
+  pub links : List ℕ
+  pub path : Path parts first last links
+  pub count : length links ≡ steps + 1
+  pub link : IsLink parts last
+  pub within : last < length parts
+
+pub following_first : (parts : List Part) (first : ℕ) → IsLink parts first → first < length parts → IsFollowing parts first first 0
+following_first parts first link within = record { links = first ∷ []; path = one first link; count = refl; link = link; within = within }
+
+pub following_more : (parts : List Part) (first last next steps : ℕ) → IsFollowing parts first last steps → Hands parts last next → IsLink parts next → next < length parts
+    → IsFollowing parts first next (steps + 1)
+following_more parts first last next steps on hands link within = record {
+  links = on.links ++ next ∷ [];
+  path = path_snoc parts first last next on.links on.path hands link;
+  count = length_push on.links next ∙ (let e = on.count in omega arith);
+  link = link;
+  within = within;
+}
+
+pub following_output : (parts : List Part) (numbers : List ℕ) (first last steps : ℕ) → IsFollowing parts first last steps → IsOutput parts last
+    → LeadsTo parts numbers first (target_at numbers (ends last))
+following_output parts numbers first last steps on output = record {
+  last = last;
+  links = on.links;
+  path = on.path;
+  sink = ends last;
+  ends_as = (refl, output);
+  target_is = refl;
+}
+
+pub following_splitter : (parts : List Part) (numbers : List ℕ) (first last next steps : ℕ) → IsFollowing parts first last steps → Hands parts last next → IsSplitter parts next
+    → LeadsTo parts numbers first (target_at numbers (enters next))
+following_splitter parts numbers first last next steps on hands splitter = record {
+  last = last;
+  links = on.links;
+  path = on.path;
+  sink = enters next;
+  ends_as = (splitter, hands);
+  target_is = refl;
+}
+
+pub following_too_long : (parts : List Part) → IsClean parts → (first last steps : ℕ) → IsFollowing parts first last steps → length parts ≤ steps → ⊥
+following_too_long parts clean first last steps on many =
+    no_long_path parts clean.no_ring first last on.links on.path (let e = on.count in omega arith)
+
+-- the chain from an input, from the cell of its first part
+pub leads_from_input : (parts : List Part) → IsClean parts → (numbers : List ℕ) (i : ℕ) (target : Target) (input : IsInput parts i) → LeadsTo parts numbers i target
+    → LeadsFrom parts numbers (begins i input.part.cell) target
+leads_from_input parts clean numbers i target input way = record {
+  chain = record { source = begins i input.part.cell; links = way.links; sink = way.sink };
+  is_chain = input_chain parts clean.well_placed i way.last input.part.cell way.links way.sink input
+      (record { part = input.part; is_i = input.is_i; covers = inl refl }) way.path way.ends_as;
+  source_is = refl;
+  target_is = way.target_is;
+}
+
+-- the chain from a half
+splitter_above : (parts : List Part) (s : ℕ) (part : Part) → HasPart parts s part → IsSplitter parts s → part.kind ≢ Entrance
+splitter_above parts s part is_s splitter e =
+    absurd (let a = e in let b = splitter.2 in let c = same_part parts s part splitter.0 is_s splitter.1 in (cc))
+
+pub half_feeds : (parts : List Part) → IsClean parts → (s next : ℕ) (half there : Cell) (part : Part) → HasPart parts s part → IsSplitter parts s → IsAt parts s half
+    → there ≡ step part.dir half → IsAt parts next there → FeedsFrom parts s half next
+half_feeds parts clean s next half there part is_s splitter here e at =
+    front_fed parts (orderly_of parts clean) s next half part is_s here (splitter_above parts s part is_s splitter) (subst (λ c. IsAt parts next c) e at)
+
+pub leads_at_once : (parts : List Part) (numbers : List ℕ) (s next : ℕ) (half : Cell) → IsSplitter parts s → FeedsFrom parts s half next → IsSplitter parts next
+    → LeadsFrom parts numbers (leaves s half) (target_at numbers (enters next))
+leads_at_once parts numbers s next half splitter feeds into = record {
+  chain = record { source = leaves s half; links = []; sink = enters next };
+  is_chain = empty_chain parts s next half splitter into feeds;
+  source_is = refl;
+  target_is = refl;
+}
+
+pub leads_from_half : (parts : List Part) → IsClean parts → (numbers : List ℕ) (s next : ℕ) (half : Cell) (target : Target) → IsSplitter parts s → FeedsFrom parts s half next
+    → LeadsTo parts numbers next target → LeadsFrom parts numbers (leaves s half) target
+leads_from_half parts clean numbers s next half target splitter feeds way = record {
+  chain = record { source = leaves s half; links = way.links; sink = way.sink };
+  is_chain = half_chain parts (orderly_of parts clean) s next way.last half way.links way.sink splitter feeds way.path way.ends_as;
+  source_is = refl;
+  target_is = way.target_is;
+}
+
+-- where nothing is in front of the half, no chain starts there
+fed_by : (parts : List Part) (s : ℕ) (half : Cell) (chain : Chain) → IsChain parts chain → chain.source ≡ leaves s half → (next : ℕ) × FeedsFrom parts s half next
+fed_by parts s half chain (inl h) e = (h.first, (subst (λ x. StartsAs parts x h.first) e h.starts).1)
+fed_by parts s half chain (inr h) e =
+    let sources : leaves h.from h.half ≡ leaves s half = sym h.source ∙ e in
+    let splitters : h.from ≡ s = cc in
+    let halves : h.half ≡ half = cc in
+    (h.to, subst (λ x. FeedsFrom parts x half h.to) splitters (subst (λ x. FeedsFrom parts h.from x h.to) halves h.feeds))
+
+pub half_starts_none : (parts : List Part) (s : ℕ) (half there : Cell) (part : Part) → HasPart parts s part → there ≡ step part.dir half → ((j : ℕ) → IsAt parts j there → ⊥)
+    → StartsNone parts (leaves s half)
+half_starts_none parts s half there part is_s e none chain is_chain source =
+    let fed = fed_by parts s half chain is_chain source in
+    none fed.0 (subst (λ c. IsAt parts fed.0 c) (sym e) (taker_at parts s fed.0 part half is_s fed.1))
+
+-- ---- one more edge
+
+-- the chain that starts here, and the edge that stands for it
+pub record IsEdgeFrom (parts : List Part) (naming : Naming) (source : Source) (edge : Edge) : Type 0 where
+  pub chain : Chain
+  pub is_chain : IsChain parts chain
+  pub source_is : chain.source ≡ source
+  pub named : IsEdgeOf naming chain edge
+
+-- the edge of the chain that starts here is added, if one does
+abbrev pub AddsEdgeFrom : List Part → Naming → Source → List Edge → List Edge → Type 0
+AddsEdgeFrom parts naming source old new =
+    (StartsNone parts source × (new ≡ old)) ⊎ ((edge : Edge) × IsEdgeFrom parts naming source edge × (new ≡ old ++ edge ∷ []))
+
+-- once a source more is done, the chains are those of before and the one from there
+record IsNext (parts : List Part) (done later : Source → Type 0) (source : Source) : Type 0 where
+  widen : (x : Source) → done x → later x
+  here : later source
+  cases : (c : Chain) → IsChain parts c → later c.source → done c.source ⊎ (c.source ≡ source)
+  before : (c : Chain) → IsChain parts c → done c.source → ComesBefore c.source source
+
+edge_more : (parts : List Part) → IsClean parts → (naming : Naming) (done later : Source → Type 0) (source : Source) (chains : List Chain) (edges : List Edge) (edge : Edge)
+    → IsNext parts done later source → (n : IsEdgeFrom parts naming source edge) → AreEdges parts naming done chains edges
+    → AreEdges parts naming later (chains ++ n.chain ∷ []) (edges ++ edge ∷ [])
+edge_more parts clean naming done later source chains edges edge next n are = record {
+  named = zip_push (IsEdgeOf naming) chains edges n.chain edge are.named n.named;
+  only = λ c there. ⊎_elim
+      (λ had. let known = are.only c had in (known.0, next.widen c.source known.1))
+      (λ e. (subst (λ x. IsChain parts x) e n.is_chain, subst (λ x. later x.source) e (subst later (sym n.source_is) next.here)))
+      (Contains-push_cases chains n.chain c there);
+  all = λ c is_c is_later. ⊎_elim
+      (λ was. Contains-append_left chains (n.chain ∷ []) c (are.all c is_c was))
+      (λ e. subst (λ x. Contains (chains ++ n.chain ∷ []) x)
+      (chain_from parts clean.well_placed n.chain c n.is_chain is_c (n.source_is ∙ sym e)) (Contains-push chains n.chain))
+      (next.cases c is_c is_later);
+  in_order = all_pairs_push (λ one other. ComesBefore one.source other.source) chains n.chain are.in_order
+      (λ k d lt.
+      let known = are.only (get_or chains k d) (k, lt, get_or_default chains k (get_or chains k d) d lt) in
+      subst (λ x. ComesBefore (get_or chains k d).source x) (sym n.source_is) (next.before (get_or chains k d) known.0 known.1));
+}
+
+-- no more chains, though more sources are done
+edges_same : (parts : List Part) (naming : Naming) (done later : Source → Type 0) (edges : List Edge)
+    → ((x : Source) → done x → later x) → ((c : Chain) → IsChain parts c → later c.source → done c.source)
+    → HasEdges parts naming done edges → HasEdges parts naming later edges
+edges_same parts naming done later edges widen cases has = (
+  has.0,
+  record {
+    named = has.1.named;
+    only = λ c there. let known = has.1.only c there in (known.0, widen c.source known.1);
+    all = λ c is_c is_later. has.1.all c is_c (cases c is_c is_later);
+    in_order = has.1.in_order;
+  },
+)
+
+edges_add : (parts : List Part) → IsClean parts → (naming : Naming) (done later : Source → Type 0) (source : Source) (old new : List Edge)
+    → IsNext parts done later source → AddsEdgeFrom parts naming source old new → HasEdges parts naming done old → HasEdges parts naming later new
+edges_add parts clean naming done later source old new next (inl none) has =
+    subst (λ es. HasEdges parts naming later es) (sym none.1)
+    (edges_same parts naming done later old next.widen
+    (λ c is_c is_later. ⊎_elim (λ was. was) (λ e. absurd (none.0 c is_c e)) (next.cases c is_c is_later)) has)
+edges_add parts clean naming done later source old new next (inr some) has =
+    subst (λ es. HasEdges parts naming later es) (sym some.2)
+    (has.0 ++ some.1.chain ∷ [], edge_more parts clean naming done later source has.0 old some.0 next some.1 has.1)
+
+-- ---- the inputs
+
+no_input_done : (x : Source) (inputs : List ℕ) → InputsDone inputs 0 x → ⊥
+no_input_done (begins i cell) inputs done = let lt = done.1 in omega arith
+no_input_done (leaves s half) inputs done = done
+
+pub edges_none : (parts : List Part) (naming : Naming) → HasEdges parts naming (InputsDone naming.inputs 0) []
+edges_none parts naming = (
+  [],
+  record {
+    named = tt;
+    only = λ c there. let lt = there.1 in absurd (omega arith);
+    all = λ c is_c done. absurd (no_input_done c.source naming.inputs done);
+    in_order = λ i j d lt in'. absurd (omega arith);
+  },
+)
+
+-- what two places of a list in order have
+placed_at : (R : ℕ → ℕ → Type 0) (xs : List ℕ) (i j a b : ℕ) → AllPairs R xs → slice_get xs i ≡ Some a → slice_get xs j ≡ Some b → i < j → R a b
+placed_at R xs i j a b up at_i at_j lt =
+    let in_j = slice_get_within xs j b at_j in
+    subst (λ x. R x b) (get_or_from_slice_get xs i a b at_i)
+    (subst (λ y. R (get_or xs i b) y) (get_or_from_slice_get xs j b b at_j) (up i j b lt in_j))
+
+widen_inputs : (inputs : List ℕ) (k : ℕ) (x : Source) → InputsDone inputs k x → InputsDone inputs (k + 1) x
+widen_inputs inputs k (begins i cell) done = (done.0, let lt = done.1 in omega arith, done.2)
+widen_inputs inputs k (leaves s half) done = done
+
+later_inputs : (parts : List Part) (inputs : List ℕ) (k i : ℕ) (part : Part) → HasPart parts i part → slice_get inputs k ≡ Some i → (c : Chain) → IsChain parts c → (x : Source) → c.source ≡ x
+    → InputsDone inputs (k + 1) x → InputsDone inputs k x ⊎ (x ≡ begins i part.cell)
+later_inputs parts inputs k i part is_i at c is_c (begins j cell) e done =
+    ⊎_elim (λ lt. inl (done.0, lt, done.2))
+    (λ ge.
+    let lt = done.1 in
+    let same : done.0 ≡ k = omega arith in
+    let here : j ≡ i = same_Some j i (sym done.2 ∙ ap (λ y. slice_get inputs y) same ∙ at) in
+    let own = begins_cell parts c j cell is_c e in
+    let cells : cell ≡ part.cell = own.2 ∙ ap (λ p. p.cell) (same_part parts i own.0 part (subst (λ y. HasPart parts y own.0) here own.1) is_i) in
+    inr (ap (λ y. begins y cell) here ∙ ap (λ y. begins i y) cells))
+    (cases_lt done.0 k)
+later_inputs parts inputs k i part is_i at c is_c (leaves s half) e done = absurd done
+
+-- an input that is done comes before the next
+before_input : (parts : List Part) (inputs : List ℕ) (k i : ℕ) (part : Part) → AllPairs (IsPlacedBefore parts) inputs → slice_get inputs k ≡ Some i → HasPart parts i part
+    → (c : Chain) → IsChain parts c → (x : Source) → c.source ≡ x → InputsDone inputs k x → ComesBefore x (begins i part.cell)
+before_input parts inputs k i part up at is_i c is_c (begins j other) source done =
+    let at_j = begins_cell parts c j other is_c source in
+    let place = placed_at (IsPlacedBefore parts) inputs done.0 k j i up done.2 at done.1 in
+    subst (λ y. Precedes other y) (ap (λ p. p.cell) (same_part parts i place.other part place.is_j is_i))
+    (subst (λ y. Precedes y place.other.cell) (ap (λ p. p.cell) (same_part parts j place.one at_j.0 place.is_i at_j.1) ∙ sym at_j.2) place.before)
+before_input parts inputs k i part up at is_i c is_c (leaves s half) source done = absurd done
+
+pub edges_input : (parts : List Part) → IsClean parts → (naming : Naming) → AreNames parts naming → (k i : ℕ) (edges : List Edge) (edge : Edge) (input : IsInput parts i)
+    → slice_get naming.inputs k ≡ Some i → IsEdgeFrom parts naming (begins i input.part.cell) edge → HasEdges parts naming (InputsDone naming.inputs k) edges
+    → HasEdges parts naming (InputsDone naming.inputs (k + 1)) (edges ++ edge ∷ [])
+edges_input parts clean naming names k i edges edge input at n has =
+    edges_add parts clean naming (InputsDone naming.inputs k) (InputsDone naming.inputs (k + 1)) (begins i input.part.cell) edges (edges ++ edge ∷ []) (record {
+      widen = widen_inputs naming.inputs k;
+      here = (k, omega arith, at);
+      cases = λ c is_c done. later_inputs parts naming.inputs k i input.part input.is_i at c is_c c.source refl done;
+      before = λ c is_c done. before_input parts naming.inputs k i input.part names.in_order.inputs at input.is_i c is_c c.source refl done;
+    }) (inr (edge, n, refl)) has
+
+-- all inputs are done
+pub contained_at : (xs : List ℕ) (x : ℕ) → Contains xs x → (k : ℕ) × (k < length xs) × (slice_get xs k ≡ Some x)
+contained_at xs x there = (there.0, there.1, slice_get-get_or xs there.0 x there.1 ∙ ap Some there.2)
+
+input_of : (parts : List Part) (c : Chain) (i : ℕ) (cell : Cell) → IsChain parts c → c.source ≡ begins i cell → IsInput parts i
+input_of parts c i cell (inl h) e = (subst (λ x. StartsAs parts x h.first) e h.starts).1
+input_of parts c i cell (inr h) e = absurd (let s = h.source in cc)
+
+splitter_of : (parts : List Part) (c : Chain) (s : ℕ) (half : Cell) → IsChain parts c → c.source ≡ leaves s half → IsSplitter parts s
+splitter_of parts c s half (inl h) e = (subst (λ x. StartsAs parts x h.first) e h.starts).0
+splitter_of parts c s half (inr h) e =
+    let sources : leaves h.from h.half ≡ leaves s half = sym h.source ∙ e in
+    let splitters : h.from ≡ s = cc in
+    subst (λ x. IsSplitter parts x) splitters h.is_from
+
+widen_all : (inputs splitters : List ℕ) (x : Source) → InputsDone inputs (length inputs) x → SplittersDone splitters 0 x
+widen_all inputs splitters (begins i cell) done = tt
+widen_all inputs splitters (leaves s half) done = absurd done
+
+all_inputs : (parts : List Part) (inputs splitters : List ℕ) → ListsEach (IsInput parts) inputs → (c : Chain) → IsChain parts c → (x : Source) → c.source ≡ x
+    → SplittersDone splitters 0 x → InputsDone inputs (length inputs) x
+all_inputs parts inputs splitters each c is_c (begins i cell) e done = contained_at inputs i (each.all i (input_of parts c i cell is_c e))
+all_inputs parts inputs splitters each c is_c (leaves s half) e done = let lt = done.1 in absurd (omega arith)
+
+pub edges_inputs : (parts : List Part) (naming : Naming) (edges : List Edge) → AreNames parts naming
+    → HasEdges parts naming (InputsDone naming.inputs (length naming.inputs)) edges → HasEdges parts naming (SplittersDone naming.splitters 0) edges
+edges_inputs parts naming edges names has =
+    edges_same parts naming (InputsDone naming.inputs (length naming.inputs)) (SplittersDone naming.splitters 0) edges (widen_all naming.inputs naming.splitters)
+    (λ c is_c done. all_inputs parts naming.inputs naming.splitters names.inputs c is_c c.source refl done) has
+
+-- ---- the splitters
+
+widen_half : (splitters : List ℕ) (k s : ℕ) (first : Cell) (x : Source) → SplittersDone splitters k x → HalfDone splitters k s first x
+widen_half splitters k s first (begins i cell) done = tt
+widen_half splitters k s first (leaves t half) done = inl done
+
+later_half : (splitters : List ℕ) (k s : ℕ) (first : Cell) (x : Source) → HalfDone splitters k s first x → SplittersDone splitters k x ⊎ (x ≡ leaves s first)
+later_half splitters k s first (begins i cell) done = inl tt
+later_half splitters k s first (leaves t half) (inl done) = inl done
+later_half splitters k s first (leaves t half) (inr e) = inr (ap (λ y. leaves y half) e.0 ∙ ap (λ y. leaves s y) e.1)
+
+before_half : (splitters : List ℕ) (k s : ℕ) (half : Cell) → AllPairs ◌<◌ splitters → slice_get splitters k ≡ Some s → (x : Source) → SplittersDone splitters k x → ComesBefore x (leaves s half)
+before_half splitters k s half up at (begins i cell) done = tt
+before_half splitters k s half up at (leaves t other) done = inl (placed_at ◌<◌ splitters done.0 k t s up done.2 at done.1)
+
+lesser_next : (parts : List Part) (naming : Naming) (k s : ℕ) (first : Cell) → AreNames parts naming → slice_get naming.splitters k ≡ Some s
+    → IsNext parts (SplittersDone naming.splitters k) (HalfDone naming.splitters k s first) (leaves s first)
+lesser_next parts naming k s first names at = record {
+  widen = widen_half naming.splitters k s first;
+  here = inr (refl, refl);
+  cases = λ c is_c done. later_half naming.splitters k s first c.source done;
+  before = λ c is_c done. before_half naming.splitters k s first names.in_order.splitters at c.source done;
+}
+
+-- and the greater half
+widen_both : (splitters : List ℕ) (k s : ℕ) (first : Cell) → slice_get splitters k ≡ Some s → (x : Source) → HalfDone splitters k s first x → SplittersDone splitters (k + 1) x
+widen_both splitters k s first at (begins i cell) done = tt
+widen_both splitters k s first at (leaves t half) (inl done) = (done.0, let lt = done.1 in omega arith, done.2)
+widen_both splitters k s first at (leaves t half) (inr e) = (k, omega arith, at ∙ ap Some (sym e.0))
+
+later_both : (parts : List Part) (splitters : List ℕ) (k s : ℕ) (part : Part) → HasPart parts s part → slice_get splitters k ≡ Some s → (c : Chain) → IsChain parts c → (x : Source) → c.source ≡ x
+    → SplittersDone splitters (k + 1) x → HalfDone splitters k s part.cell x ⊎ (x ≡ leaves s (beside part.dir part.cell))
+later_both parts splitters k s part is_s at c is_c (begins i cell) e done = inl tt
+later_both parts splitters k s part is_s at c is_c (leaves t half) e done =
+    ⊎_elim (λ lt. inl (inl (done.0, lt, done.2)))
+    (λ ge.
+    let lt = done.1 in
+    let same : done.0 ≡ k = omega arith in
+    let here : t ≡ s = same_Some t s (sym done.2 ∙ ap (λ y. slice_get splitters y) same ∙ at) in
+    ⊎_elim (λ own. inl (inr (here, own))) (λ greater. inr (ap (λ y. leaves y half) here ∙ ap (λ y. leaves s y) greater))
+    (leaves_half parts c t half part (subst (λ y. HasPart parts y part) (sym here) is_s) is_c e))
+    (cases_lt done.0 k)
+
+lesser_first : (dir : Dir) (cell : Cell) → Precedes cell (beside dir cell)
+lesser_first North cell = inl (omega (arith, ints))
+lesser_first East cell = inr (refl, omega (arith, ints))
+lesser_first South cell = inl (omega (arith, ints))
+lesser_first West cell = inr (refl, omega (arith, ints))
+
+before_both : (splitters : List ℕ) (k s : ℕ) (part : Part) → AllPairs ◌<◌ splitters → slice_get splitters k ≡ Some s → (x : Source) → HalfDone splitters k s part.cell x
+    → ComesBefore x (leaves s (beside part.dir part.cell))
+before_both splitters k s part up at (begins i cell) done = tt
+before_both splitters k s part up at (leaves t other) (inl done) = inl (placed_at ◌<◌ splitters done.0 k t s up done.2 at done.1)
+before_both splitters k s part up at (leaves t other) (inr e) = inr (e.0, subst (λ y. Precedes y (beside part.dir part.cell)) (sym e.1) (lesser_first part.dir part.cell))
+
+greater_next : (parts : List Part) (naming : Naming) (k s : ℕ) (part : Part) → AreNames parts naming → HasPart parts s part → slice_get naming.splitters k ≡ Some s
+    → IsNext parts (HalfDone naming.splitters k s part.cell) (SplittersDone naming.splitters (k + 1)) (leaves s (beside part.dir part.cell))
+greater_next parts naming k s part names is_s at = record {
+  widen = widen_both naming.splitters k s part.cell at;
+  here = (k, omega arith, at);
+  cases = λ c is_c done. later_both parts naming.splitters k s part is_s at c is_c c.source refl done;
+  before = λ c is_c done. before_both naming.splitters k s part names.in_order.splitters at c.source done;
+}
+
+pub edges_halves : (parts : List Part) → IsClean parts → (naming : Naming) → AreNames parts naming → (k s : ℕ) (part : Part) (old mid new : List Edge) → HasPart parts s part
+    → slice_get naming.splitters k ≡ Some s → AddsEdgeFrom parts naming (leaves s part.cell) old mid → AddsEdgeFrom parts naming (leaves s (beside part.dir part.cell)) mid new
+    → HasEdges parts naming (SplittersDone naming.splitters k) old → HasEdges parts naming (SplittersDone naming.splitters (k + 1)) new
+edges_halves parts clean naming names k s part old mid new is_s at lesser greater has =
+    edges_add parts clean naming (HalfDone naming.splitters k s part.cell) (SplittersDone naming.splitters (k + 1)) (leaves s (beside part.dir part.cell)) mid new
+    (greater_next parts naming k s part names is_s at) greater
+    (edges_add parts clean naming (SplittersDone naming.splitters k) (HalfDone naming.splitters k s part.cell) (leaves s part.cell) old mid
+    (lesser_next parts naming k s part.cell names at) lesser has)
+
+all_splitters : (parts : List Part) (splitters : List ℕ) → ListsEach (IsSplitter parts) splitters → (c : Chain) → IsChain parts c → (x : Source) → c.source ≡ x → SplittersDone splitters (length splitters) x
+all_splitters parts splitters each c is_c (begins i cell) e = tt
+all_splitters parts splitters each c is_c (leaves s half) e = contained_at splitters s (each.all s (splitter_of parts c s half is_c e))
+
+pub edges_all : (parts : List Part) (naming : Naming) (edges : List Edge) → AreNames parts naming
+    → HasEdges parts naming (SplittersDone naming.splitters (length naming.splitters)) edges → HasEdges parts naming AllDone edges
+edges_all parts naming edges names has =
+    edges_same parts naming (SplittersDone naming.splitters (length naming.splitters)) AllDone edges (λ x done. tt)
+    (λ c is_c done. all_splitters parts naming.splitters names.splitters c is_c c.source refl) has

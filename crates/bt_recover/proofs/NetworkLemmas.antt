@@ -1,0 +1,281 @@
+-- From the numbers of the parts and the edges of the chains to the numbered network.
+use Rattle.std.proofs.Common.{◌≡◌, ℕ, zero, suc, ◌+◌, ◌<◌, ◌≤◌, List, [], ◌∷◌, ◌++◌, length, get_or, Option, Some, None, ◌↔◌, Result, Ok, Err, refl, sym, ◌∙◌, ap, subst, inl, inr, ◌⊎◌, ⊎_elim, arith}
+use Rattle.std.specs.List.{slice_get, All}
+use Rattle.std.proofs.lemmas.Option.{same_Some, none-some, slice_get_within, slice_get-get_or}
+use Rattle.std.proofs.lemmas.List.{get_or_default}
+use Rattle.bt_parts.specs.declared.part.Cell.{Cell}
+use Rattle.bt_parts.specs.declared.part.Kind.TheVariants.{Splitter}
+use Rattle.bt_parts.specs.declared.part.Part.{Part}
+use Rattle.bt_parts.specs.Cells.{IsGreaterHalf, beside, step}
+use Rattle.bt_parts.specs.Layouts.{HasPart, IsAt}
+use Rattle.bt_net.specs.declared.network.Edge.{Edge}
+use Rattle.bt_net.specs.declared.network.Start.{Start}
+use Rattle.bt_net.specs.declared.network.Start.TheVariants as from
+use Rattle.bt_net.specs.declared.network.Target.{Target}
+use Rattle.bt_net.specs.declared.network.Target.TheVariants as to
+use Rattle.bt_net.specs.declared.fault.NetFault.{NetFault}
+use Rattle.bt_net.specs.declared.fault.NetFault.TheVariants.{TooLarge, NoEnds, NetLine, Memory}
+use Rattle.bt_net.specs.Network.{Network, IsLarge, IsNetOf, network_of}
+use Rattle.bt_model.specs.Handing.{FeedsFrom}
+use Rattle.bt_model.specs.Chains.{IsSplitter, IsLink, IsInput, IsOutput, Source, begins, leaves, Sink, ends, enters, Chain, IsChain, EndsAs}
+use Rattle.bt_model.specs.Clean.{IsClean}
+use Rattle.bt_model.specs.Shown.{Naming, ListsEach, ComesBefore, IsStartOf, IsTargetOf, IsNumbered, IsNaming}
+use Rattle.bt_model.proofs.Orders.{sources_asymmetric}
+use Rattle.bt_parts.proofs.Places.{same_part}
+use Rattle.bt_recover.specs.inner.Edges.{AreNames, HasMany, KeepsOthers, AreNumbered, AreNumbers, target_at, LeadsTo, LeadsFrom, edge_to, AddsEdge, AddsHalves, HasEdges, AllDone, net_with}
+use Rattle.bt_recover.specs.inner.Refused.{size_fault, IsNetTold}
+use Rattle.bt_recover.proofs.Done.{InputsDone, SplittersDone}
+use Rattle.bt_recover.proofs.ChainLemmas.{orderly_of, no_link}
+use Rattle.bt_recover.proofs.ExistLemmas.{at_cases, part_cases, run_from, input_link, output_link, input_chain, half_chain, empty_chain}
+use Rattle.bt_recover.proofs.EdgeLemmas.{IsEdgeFrom, AddsEdgeFrom, half_feeds, half_starts_none, leads_from_input, contained_at, edges_none, edges_input, edges_inputs, edges_halves, edges_all}
+
+-- ---- the numbers of the parts
+
+pub input_within : (parts : List Part) (i : ℕ) → IsInput parts i → i < length parts
+input_within parts i input = slice_get_within parts i input.part input.is_i
+
+pub splitter_within : (parts : List Part) (i : ℕ) → IsSplitter parts i → i < length parts
+splitter_within parts i splitter = slice_get_within parts i splitter.0 splitter.1
+
+pub output_within : (parts : List Part) (i : ℕ) → IsOutput parts i → i < length parts
+output_within parts i output = slice_get_within parts i output.part output.is_i
+
+-- what a list of each has at a place
+pub each_at : (P : ℕ → Type 0) (xs : List ℕ) (k : ℕ) → ListsEach P xs → k < length xs → P (get_or xs k 0)
+each_at P xs k each lt = each.only (get_or xs k 0) (k, lt, get_or_default xs k (get_or xs k 0) 0 lt)
+
+-- each of a list of each is within the parts
+pub each_within : (P : ℕ → Type 0) (xs : List ℕ) (n : ℕ) → ((i : ℕ) → P i → i < n) → ListsEach P xs → All (λ i. i < n) xs
+each_within P xs n within each k d lt = within (get_or xs k d) (each.only (get_or xs k d) (k, lt, get_or_default xs k (get_or xs k d) d lt))
+
+-- no splitter is an output, so the numbers of the splitters stay
+no_output : (parts : List Part) (i : ℕ) → IsSplitter parts i → IsOutput parts i → ⊥
+no_output parts i splitter output = no_link parts i splitter (output_link parts i output)
+
+pub numbers_stay : (parts : List Part) (naming : Naming) (old new : List ℕ) → AreNames parts naming → AreNumbered old naming.splitters
+    → KeepsOthers naming.outputs old new → AreNumbered new naming.splitters
+numbers_stay parts naming old new names numbered others k i at =
+    others i (λ there. no_output parts i
+    (names.splitters.only i (k, slice_get_within naming.splitters k i at, same_Some _ _ (sym (slice_get-get_or naming.splitters k i (slice_get_within naming.splitters k i at)) ∙ at)))
+    (names.outputs.only i there))
+    ∙ numbered k i at
+
+-- ---- the edge of a chain
+
+-- what ends a chain
+abbrev SinkIs : List Part → Sink → Type 0
+SinkIs parts (ends i) = IsOutput parts i
+SinkIs parts (enters s) = IsSplitter parts s
+
+ends_is : (parts : List Part) (x : Sink) (last : ℕ) → EndsAs parts x last → SinkIs parts x
+ends_is parts (ends i) last h = h.1
+ends_is parts (enters s) last h = h.0
+
+sink_is : (parts : List Part) (c : Chain) → IsChain parts c → SinkIs parts c.sink
+sink_is parts c (inl h) = ends_is parts c.sink h.last h.ends
+sink_is parts c (inr h) = subst (λ x. SinkIs parts x) (sym h.sink) h.is_to
+
+target_named : (parts : List Part) (naming : Naming) (numbers : List ℕ) → AreNames parts naming → AreNumbers parts naming numbers → (x : Sink) → SinkIs parts x
+    → IsTargetOf naming x (target_at numbers x)
+target_named parts naming numbers names are (ends i) output =
+    let there = contained_at naming.outputs i (names.outputs.all i output) in
+    subst (λ k. slice_get naming.outputs k ≡ Some i) (sym (are.outputs there.0 i there.2)) there.2
+target_named parts naming numbers names are (enters s) splitter =
+    let there = contained_at naming.splitters s (names.splitters.all s splitter) in
+    subst (λ k. slice_get naming.splitters k ≡ Some s) (sym (are.splitters there.0 s there.2)) there.2
+
+-- the edge to the target to which the chain leads
+pub edge_from : (parts : List Part) (naming : Naming) (numbers : List ℕ) → AreNames parts naming → AreNumbers parts naming numbers → (source : Source) (start : Start) (target : Target)
+    → IsStartOf naming source start → LeadsFrom parts numbers source target → IsEdgeFrom parts naming source (edge_to start target)
+edge_from parts naming numbers names are source start target starts way = record {
+  chain = way.chain;
+  is_chain = way.is_chain;
+  source_is = way.source_is;
+  named = record {
+    start = subst (λ x. IsStartOf naming x start) (sym way.source_is) starts;
+    target = subst (λ t. IsTargetOf naming way.chain.sink t) (sym way.target_is) (target_named parts naming numbers names are way.chain.sink (sink_is parts way.chain way.is_chain));
+    cap = refl;
+  };
+}
+
+adds_from : (parts : List Part) (naming : Naming) (numbers : List ℕ) → AreNames parts naming → AreNumbers parts naming numbers → (source : Source) (start : Start) (old new : List Edge)
+    → IsStartOf naming source start → AddsEdge parts numbers source start old new → AddsEdgeFrom parts naming source old new
+adds_from parts naming numbers names are source start old new starts (inl none) = inl none
+adds_from parts naming numbers names are source start old new starts (inr some) =
+    inr (edge_to start some.0, edge_from parts naming numbers names are source start some.0 starts some.1, some.2)
+
+-- ---- the loops over the inputs and the splitters
+
+pub input_step : (parts : List Part) → IsClean parts → (naming : Naming) (numbers : List ℕ) → AreNames parts naming → AreNumbers parts naming numbers → (k : ℕ) (edges : List Edge) (target : Target)
+    → k < length naming.inputs → LeadsTo parts numbers (get_or naming.inputs k 0) target → HasEdges parts naming (InputsDone naming.inputs k) edges
+    → HasEdges parts naming (InputsDone naming.inputs (k + 1)) (edges ++ edge_to (from.Input k) target ∷ [])
+input_step parts clean naming numbers names are k edges target lt way has =
+    let i = get_or naming.inputs k 0 in
+    let input = each_at (IsInput parts) naming.inputs k names.inputs lt in
+    let at = slice_get-get_or naming.inputs k 0 lt in
+    edges_input parts clean naming names k i edges (edge_to (from.Input k) target) input at
+    (edge_from parts naming numbers names are (begins i input.part.cell) (from.Input k) target at (leads_from_input parts clean numbers i target input way)) has
+
+pub halves_step : (parts : List Part) → IsClean parts → (naming : Naming) (numbers : List ℕ) → AreNames parts naming → AreNumbers parts naming numbers → (k : ℕ) (old new : List Edge)
+    → k < length naming.splitters → AddsHalves parts numbers (get_or naming.splitters k 0) (from.Split k) old new → HasEdges parts naming (SplittersDone naming.splitters k) old
+    → HasEdges parts naming (SplittersDone naming.splitters (k + 1)) new
+halves_step parts clean naming numbers names are k old new lt adds has =
+    let s = get_or naming.splitters k 0 in
+    let at = slice_get-get_or naming.splitters k 0 lt in
+    edges_halves parts clean naming names k s adds.part old adds.mid new adds.is_s at
+    (adds_from parts naming numbers names are (leaves s adds.part.cell) (from.Split k) old adds.mid at adds.lesser)
+    (adds_from parts naming numbers names are (leaves s (beside adds.part.dir adds.part.cell)) (from.Split k) adds.mid new at adds.greater) has
+
+-- the edges from both halves
+pub adds_both : (parts : List Part) (numbers : List ℕ) (old mid new : List Edge) (start : Start) (s : ℕ) (part : Part) (first half : Cell) (second : Option Cell) → HasPart parts s part → first ≡ part.cell
+    → ((c : Cell) → (second ≡ Some c) ↔ IsGreaterHalf part c) → second ≡ Some half → AddsEdge parts numbers (leaves s first) start old mid → AddsEdge parts numbers (leaves s half) start mid new
+    → AddsHalves parts numbers s start old new
+adds_both parts numbers old mid new start s part first half second is_s e is_second some lesser greater = record {
+  part = part;
+  is_s = is_s;
+  mid = mid;
+  lesser = subst (λ c. AddsEdge parts numbers (leaves s c) start old mid) e lesser;
+  greater = subst (λ c. AddsEdge parts numbers (leaves s c) start mid new) ((is_second half).0 some).1 greater;
+}
+
+pub no_second : (parts : List Part) (s : ℕ) (part : Part) (second : Option Cell) → HasPart parts s part → IsSplitter parts s → ((c : Cell) → (second ≡ Some c) ↔ IsGreaterHalf part c) → second ≡ None → ⊥
+no_second parts s part second is_s splitter is_second none =
+    none-some (beside part.dir part.cell) (sym none ∙ (is_second (beside part.dir part.cell)).1
+    (subst (λ p. p.kind ≡ Splitter) (same_part parts s splitter.0 part splitter.1 is_s) splitter.2, refl))
+
+-- ---- there are edges for all chains, also where they are too many for a table of numbers
+
+target_exists : (parts : List Part) (naming : Naming) → AreNames parts naming → (x : Sink) → SinkIs parts x → (target : Target) × IsTargetOf naming x target
+target_exists parts naming names (ends i) output = let there = contained_at naming.outputs i (names.outputs.all i output) in (to.Output there.0, there.2)
+target_exists parts naming names (enters s) splitter = let there = contained_at naming.splitters s (names.splitters.all s splitter) in (to.Split there.0, there.2)
+
+edge_exists : (parts : List Part) (naming : Naming) → AreNames parts naming → (chain : Chain) (start : Start) → IsChain parts chain → IsStartOf naming chain.source start
+    → (edge : Edge) × IsEdgeFrom parts naming chain.source edge
+edge_exists parts naming names chain start is_chain starts =
+    let target = target_exists parts naming names chain.sink (sink_is parts chain is_chain) in
+    (edge_to start target.0, record { chain = chain; is_chain = is_chain; source_is = refl; named = record { start = starts; target = target.1; cap = refl } })
+
+inputs_exist : (parts : List Part) → IsClean parts → (naming : Naming) → AreNames parts naming → (k : ℕ) → k ≤ length naming.inputs
+    → (edges : List Edge) × HasEdges parts naming (InputsDone naming.inputs k) edges
+inputs_exist parts clean naming names zero few = ([], edges_none parts naming)
+inputs_exist parts clean naming names (suc k) few =
+    let before = inputs_exist parts clean naming names k (omega arith) in
+    let lt : k < length naming.inputs = omega arith in
+    let i = get_or naming.inputs k 0 in
+    let at = slice_get-get_or naming.inputs k 0 lt in
+    let input = each_at (IsInput parts) naming.inputs k names.inputs lt in
+    let run = run_from parts (orderly_of parts clean) clean.no_ring i (input_link parts i input) in
+    let edge = edge_exists parts naming names (record { source = begins i input.part.cell; links = run.links; sink = run.sink }) (from.Input k)
+    (input_chain parts clean.well_placed i run.last input.part.cell run.links run.sink input (record { part = input.part; is_i = input.is_i; covers = inl refl }) run.path run.ends) at in
+    let more : k + 1 ≡ suc k = omega arith in (
+      before.0 ++ edge.0 ∷ [],
+      subst (λ n. HasEdges parts naming (InputsDone naming.inputs n) (before.0 ++ edge.0 ∷ [])) more
+          (edges_input parts clean naming names k i before.0 edge.0 input at edge.1 before.1),
+    )
+
+half_exists : (parts : List Part) → IsClean parts → (naming : Naming) → AreNames parts naming → (k s : ℕ) (part : Part) (half : Cell) (old : List Edge) → slice_get naming.splitters k ≡ Some s
+    → HasPart parts s part → part.kind ≡ Splitter → IsAt parts s half → (new : List Edge) × AddsEdgeFrom parts naming (leaves s half) old new
+half_exists parts clean naming names k s part half old at is_s splits here =
+    ⊎_elim (λ next. taken next.0 (half_feeds parts clean s next.0 half (step part.dir half) part is_s splitter here refl next.1) (part_cases parts next.0 next.1.part next.1.is_i))
+    (λ none. (old, inl (half_starts_none parts s half (step part.dir half) part is_s refl none, refl)))
+    (at_cases parts (step part.dir half))
+  where
+    splitter : IsSplitter parts s
+    splitter = (part, is_s, splits)
+
+    adds : (edge : Edge) → IsEdgeFrom parts naming (leaves s half) edge → (new : List Edge) × AddsEdgeFrom parts naming (leaves s half) old new
+    adds edge n = (old ++ edge ∷ [], inr (edge, n, refl))
+
+    taken : (next : ℕ) → FeedsFrom parts s half next → IsSplitter parts next ⊎ IsLink parts next → (new : List Edge) × AddsEdgeFrom parts naming (leaves s half) old new
+    taken next feeds (inl into) =
+        let edge = edge_exists parts naming names (record { source = leaves s half; links = []; sink = enters next }) (from.Split k) (empty_chain parts s next half splitter into feeds) at in
+        adds edge.0 edge.1
+    taken next feeds (inr on) =
+        let run = run_from parts (orderly_of parts clean) clean.no_ring next on in
+        let edge = edge_exists parts naming names (record { source = leaves s half; links = run.links; sink = run.sink }) (from.Split k)
+        (half_chain parts (orderly_of parts clean) s next run.last half run.links run.sink splitter feeds run.path run.ends) at in
+        adds edge.0 edge.1
+
+splitters_exist : (parts : List Part) → IsClean parts → (naming : Naming) → AreNames parts naming → (k : ℕ) → k ≤ length naming.splitters
+    → (edges : List Edge) × HasEdges parts naming (SplittersDone naming.splitters k) edges
+splitters_exist parts clean naming names zero few =
+    let before = inputs_exist parts clean naming names (length naming.inputs) (omega arith) in
+    (before.0, edges_inputs parts naming before.0 names before.1)
+splitters_exist parts clean naming names (suc k) few =
+    let before = splitters_exist parts clean naming names k (omega arith) in
+    let lt : k < length naming.splitters = omega arith in
+    let s = get_or naming.splitters k 0 in
+    let at = slice_get-get_or naming.splitters k 0 lt in
+    let splitter = each_at (IsSplitter parts) naming.splitters k names.splitters lt in
+    let part = splitter.0 in
+    let lesser = half_exists parts clean naming names k s part part.cell before.0 at splitter.1 splitter.2 (record { part = part; is_i = splitter.1; covers = inl refl }) in
+    let greater = half_exists parts clean naming names k s part (beside part.dir part.cell) lesser.0 at splitter.1 splitter.2
+    (record { part = part; is_i = splitter.1; covers = inr (splitter.2, refl) }) in
+    let more : k + 1 ≡ suc k = omega arith in (
+      greater.0,
+      subst (λ n. HasEdges parts naming (SplittersDone naming.splitters n) greater.0) more
+          (edges_halves parts clean naming names k s part before.0 lesser.0 greater.0 splitter.1 at lesser.1 greater.1 before.1),
+    )
+
+edges_exist : (parts : List Part) → IsClean parts → (naming : Naming) → AreNames parts naming → (edges : List Edge) × HasEdges parts naming AllDone edges
+edges_exist parts clean naming names =
+    let found = splitters_exist parts clean naming names (length naming.splitters) (omega arith) in
+    (found.0, edges_all parts naming found.0 names found.1)
+
+-- ---- the network
+
+each_once : (parts : List Part) (naming : Naming) (edges : List Edge) → (has : HasEdges parts naming AllDone edges) → ListsEach (IsChain parts) has.0
+each_once parts naming edges has = record {
+  all = λ c is_c. has.1.all c is_c tt;
+  only = λ c there. (has.1.only c there).0;
+  once = λ i j d lt in' same. sources_asymmetric _ _ (has.1.in_order i j d lt in')
+      (subst (λ x. ComesBefore x.source (get_or has.0 i d).source) same
+      (subst (λ x. ComesBefore (get_or has.0 i d).source x.source) (sym same) (has.1.in_order i j d lt in')));
+}
+
+named : (parts : List Part) (naming : Naming) (edges : List Edge) → AreNames parts naming → IsNaming parts (net_with naming edges) naming
+named parts naming edges names = record {
+  splitters = names.splitters;
+  inputs = names.inputs;
+  outputs = names.outputs;
+  splitter_count = refl;
+  input_count = refl;
+  output_count = refl;
+}
+
+-- with edges for all chains the network is numbered
+pub numbered : (parts : List Part) → IsClean parts → (naming : Naming) (edges : List Edge) → AreNames parts naming → HasEdges parts naming AllDone edges
+    → IsNumbered parts (net_with naming edges) naming
+numbered parts clean naming edges names has = record {
+  clean = clean;
+  names = named parts naming edges names;
+  numbering = names.in_order;
+  chains = has.0;
+  each_once = each_once parts naming edges has;
+  in_order = has.1.in_order;
+  named = has.1.named;
+}
+
+-- the network of these numbers and edges
+pub net_same : (naming : Naming) (edges : List Edge) (i o s : ℕ) → i ≡ length naming.inputs → o ≡ length naming.outputs → s ≡ length naming.splitters
+    → network_of i o s edges ≡ net_with naming edges
+net_same naming edges i o s a b c =
+    ap (λ x. network_of x o s edges) a ∙ ap (λ x. network_of (length naming.inputs) x s edges) b ∙ ap (λ x. network_of (length naming.inputs) (length naming.outputs) x edges) c
+
+-- the fault by its size
+pub size_told : (n : Network) (fault : NetFault) → IsNetOf n (Err fault) → IsNetTold n (Err (size_fault fault))
+size_told n TooLarge large = large
+size_told n NoEnds lacks = lacks
+size_told n (NetLine k) none = absurd none
+size_told n Memory none = absurd none
+
+-- a layout with too many ends or splitters has a network that is too large
+pub large_exists : (parts : List Part) → IsClean parts → (naming : Naming) → AreNames parts naming → HasMany naming
+    → (net : Network) × (naming : Naming) × IsNumbered parts net naming × IsLarge net
+large_exists parts clean naming names many =
+    let found = edges_exist parts clean naming names in (
+      net_with naming found.0,
+      naming,
+      numbered parts clean naming found.0 names found.1,
+      ⊎_elim (λ i. inl i) (λ more. ⊎_elim (λ o. inr (inl o)) (λ s. inr (inr (inl s))) more) many,
+    )

@@ -1,6 +1,0 @@
-use Rattle.bt_model.specs.Chains.{IsInput}
-use Rattle.bt_recover.proofs.EndLemmas.{listed_step}
-use Rattle.bt_recover.proofs.ends.inputs_of.Goals as goal
-
-pub loop-i-preserved : goal.loop-i-preserved
-loop-i-preserved c = listed_step (IsInput c.args.grid.now) c.loop-i.list.items c.push_if.new.list.items c.loop-i.i c.is_input.result c.loop-i.invariant c.is_input.ensures c.in_ok-push_if.ensures

@@ -1,0 +1,7 @@
+-- What the private functions alone cite: no public clause rests on these.
+pub mod Edges
+pub mod Ends
+pub mod Marks
+pub mod Refused
+pub mod Sight
+pub mod Told

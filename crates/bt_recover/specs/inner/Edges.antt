@@ -1,0 +1,110 @@
+-- Which part bears each number, and the edges for the chains, on the way to the network.
+use Rattle.std.specs.Prelude.{◌≡◌, ℕ, ◌<◌, List, [], ◌∷◌, ◌++◌, length, slice_get, slice_index_or, Option, Some, MatchOption, Contains, AllPairs, ◌⊎◌, ⊤}
+use Rattle.std.specs.List.{AllZip}
+use Rattle.bt_parts.specs.declared.part.Part.{Part}
+use Rattle.bt_parts.specs.Cells.{beside}
+use Rattle.bt_parts.specs.Layouts.{HasPart}
+use Rattle.bt_net.specs.declared.network.Edge.{Edge}
+use Rattle.bt_net.specs.declared.network.Start.{Start}
+use Rattle.bt_net.specs.declared.network.Target.{Target}
+use Rattle.bt_net.specs.declared.network.Target.TheVariants as to
+use Rattle.bt_net.specs.Network.{Network, network_of}
+use Rattle.bt_model.specs.Chains.{Path, IsSplitter, IsInput, IsOutput, Source, leaves, Sink, ends, enters, Chain, IsChain, EndsAs}
+use Rattle.bt_model.specs.Shown.{Naming, ListsEach, IsNumbering, IsEdgeOf, ComesBefore}
+use Rattle.bt_recover.specs.declared.ends.Names.{Names}
+use Rattle.bt_net.specs.declared.network.TheConstants.{MOST_OF_EACH}
+
+-- which part bears each number
+abbrev pub naming_of : Names → Naming
+naming_of names = record { splitters = names.splitters.items; inputs = names.inputs.items; outputs = names.outputs.items }
+
+-- each splitter, each input and each output bears one number, in the order of the numbering
+pub record AreNames (parts : List Part) (naming : Naming) : Type 0 where
+  pub splitters : ListsEach (IsSplitter parts) naming.splitters
+  pub inputs : ListsEach (IsInput parts) naming.inputs
+  pub outputs : ListsEach (IsOutput parts) naming.outputs
+  pub in_order : IsNumbering parts naming
+
+-- there are too many inputs, outputs or splitters
+abbrev pub HasMany : Naming → Type 0
+HasMany naming = (MOST_OF_EACH < length naming.inputs) ⊎ (MOST_OF_EACH < length naming.outputs) ⊎ (MOST_OF_EACH < length naming.splitters)
+
+-- the table has the place of each listed part in the list
+abbrev pub AreNumbered : List ℕ → List ℕ → Type 0
+AreNumbered numbers list = (k i : ℕ) → slice_get list k ≡ Some i → slice_index_or numbers i 0 ≡ k
+
+-- the table keeps its entries but for the listed parts
+abbrev pub KeepsOthers : List ℕ → List ℕ → List ℕ → Type 0
+KeepsOthers list old new = (i : ℕ) → (Contains list i → ⊥) → slice_index_or new i 0 ≡ slice_index_or old i 0
+
+-- the table has the number of each splitter and of each output, by its part
+pub record AreNumbers (parts : List Part) (naming : Naming) (numbers : List ℕ) : Type 0 where
+  pub count : length numbers ≡ length parts
+  pub splitters : AreNumbered numbers naming.splitters
+  pub outputs : AreNumbered numbers naming.outputs
+
+-- the target of a chain that ends here
+abbrev pub target_at : List ℕ → Sink → Target
+target_at numbers (ends i) = to.Output (slice_index_or numbers i 0)
+target_at numbers (enters s) = to.Split (slice_index_or numbers s 0)
+
+-- a path from this part on leads to this target
+pub record LeadsTo (parts : List Part) (numbers : List ℕ) (first : ℕ) (target : Target) : Type 0 where
+  pub last : ℕ
+  pub links : List ℕ
+  pub path : Path parts first last links
+  pub sink : Sink
+  pub ends_as : EndsAs parts sink last
+  pub target_is : target ≡ target_at numbers sink
+
+-- the chain that starts here leads to this target
+pub record LeadsFrom (parts : List Part) (numbers : List ℕ) (source : Source) (target : Target) : Type 0 where
+  pub chain : Chain
+  pub is_chain : IsChain parts chain
+  pub source_is : chain.source ≡ source
+  pub target_is : target ≡ target_at numbers chain.sink
+
+-- no chain starts here
+abbrev pub StartsNone : List Part → Source → Type 0
+StartsNone parts source = (chain : Chain) → IsChain parts chain → chain.source ≡ source → ⊥
+
+-- the target to which the chain that starts here leads is told, or no chain starts here
+abbrev pub LeadsIfAny : List Part → List ℕ → Source → Option Target → Type 0
+LeadsIfAny parts numbers source told = MatchOption told (StartsNone parts source) (LeadsFrom parts numbers source)
+
+-- the edge of this start and this target
+abbrev pub edge_to : Start → Target → Edge
+edge_to start target = record { start = start; target = target; cap = 1 }
+
+-- the edge of the chain that starts here is added, if one does
+abbrev pub AddsEdge : List Part → List ℕ → Source → Start → List Edge → List Edge → Type 0
+AddsEdge parts numbers source start old new =
+    (StartsNone parts source × (new ≡ old))
+    ⊎ ((target : Target) × LeadsFrom parts numbers source target × (new ≡ old ++ edge_to start target ∷ []))
+
+-- the edges of the chains from both halves of a splitter are added, that of the lesser half first
+pub record AddsHalves (parts : List Part) (numbers : List ℕ) (s : ℕ) (start : Start) (old new : List Edge) : Type 0 where
+  pub part : Part
+  pub is_s : HasPart parts s part
+  pub mid : List Edge
+  pub lesser : AddsEdge parts numbers (leaves s part.cell) start old mid
+  pub greater : AddsEdge parts numbers (leaves s (beside part.dir part.cell)) start mid new
+
+-- the edges stand for the chains of these sources, in their order, each once
+pub record AreEdges (parts : List Part) (naming : Naming) (done : Source → Type 0) (chains : List Chain) (edges : List Edge) : Type 0 where
+  pub named : AllZip (IsEdgeOf naming) chains edges
+  pub only : (chain : Chain) → Contains chains chain → IsChain parts chain × done chain.source
+  pub all : (chain : Chain) → IsChain parts chain → done chain.source → Contains chains chain
+  pub in_order : AllPairs (λ one other. ComesBefore one.source other.source) chains
+
+-- the edges stand for chains of these sources
+abbrev pub HasEdges : List Part → Naming → (Source → Type 0) → List Edge → Type 0
+HasEdges parts naming done edges = (chains : List Chain) × AreEdges parts naming done chains edges
+
+-- every source is done
+abbrev pub AllDone : Source → Type 0
+AllDone source = ⊤
+
+-- the network of these numbers with these edges
+abbrev pub net_with : Naming → List Edge → Network
+net_with naming edges = network_of (length naming.inputs) (length naming.outputs) (length naming.splitters) edges
