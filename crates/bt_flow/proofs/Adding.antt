@@ -4,13 +4,13 @@ use Rattle.std.proofs.lemmas.List.{take_more, take-append-drop, length-take-le, 
 use Rattle.std.proofs.Math.Seq.{drop-cons}
 use Rattle.bt_flow.specs.declared.ports.Port.{Port}
 use Rattle.bt_flow.specs.declared.ports.Port.TheVariants.{One, Two}
-use Rattle.bt_flow.specs.Ports.{numbers_of}
-use Rattle.bt_frac.specs.Ratio.{Ratio}
+use Rattle.bt_flow.specs.inner.Ports.{numbers_of}
+use Rattle.bt_frac.specs.Ratio.{Ratio, IsWide}
 use Rattle.bt_net.specs.declared.network.Edge.{Edge}
 use Rattle.bt_net.specs.declared.network.Start.TheVariants as from
 use Rattle.bt_net.specs.declared.network.Target.TheVariants as to
 use Rattle.bt_flow.specs.Properties.{is_last}
-use Rattle.bt_flow.specs.Sums.{nothing, AddsTo, IsWide, RunsTo, IsWideIn, fractions_where}
+use Rattle.bt_flow.specs.Sums.{nothing, AddsTo, RunsTo, IsWideIn, fractions_where}
 
 -- one number more
 pub runs_more : (a b r c : Ratio) (xs : List Ratio) → RunsTo a xs b → r ≡ b → (x : Ratio) → AddsTo r x c → RunsTo a (xs ++ x ∷ []) c

@@ -5,9 +5,8 @@ use Rattle.std.proofs.lemmas.Option.{slice_get-get_or, get_or_from_slice_get, sl
 use Rattle.bt_net.specs.declared.network.Edge.{Edge}
 use Rattle.bt_net.specs.Network.{Network}
 use Rattle.bt_flow.specs.declared.ports.Role.{Role}
-use Rattle.bt_flow.specs.Ports.{plays}
-use Rattle.bt_flow.specs.declared.state.State.{State}
-use Rattle.bt_flow.specs.States.{Flows, StandsFor, flow_at}
+use Rattle.bt_flow.specs.inner.Ports.{plays}
+use Rattle.bt_flow.specs.States.{Flows, Fractions, StandsFor, flow_at}
 use Rattle.bt_flow.specs.Steady.{HasEdge}
 
 -- the edge with this number has the role at some number
@@ -15,7 +14,7 @@ abbrev pub Takes : Network → Role → ℕ → Type 0
 Takes n r a = (k : ℕ) × ((e : Edge) × HasEdge n a e × IsTrue (plays r k e))
 
 -- among the edges below a place: none has the role, or the flows of those that have it are that of the first
-abbrev pub AgreeSoFar : Network → State → Role → ℕ → Option ℕ → Type 0
+abbrev pub AgreeSoFar : Network → Fractions → Role → ℕ → Option ℕ → Type 0
 AgreeSoFar n t r place None = (a : ℕ) → a < place → Takes n r a → ⊥
 AgreeSoFar n t r place (Some first) = (first < length n.edges) × Takes n r first
     × ((s : Flows) → StandsFor n t s → (a : ℕ) → a < place → Takes n r a → flow_at s first ≡ flow_at s a)
@@ -36,18 +35,18 @@ module _ (n : Network) (r : Role) (edges : List Edge) (place : ℕ) (d : Edge) (
 below : (a place : ℕ) → a < place + 1 → (a ≡ place → ⊥) → a < place
 below a place l o = omega (arith, l, o)
 
-pub so_far_none : (n : Network) (t : State) (r : Role) (place : ℕ) (o : Option ℕ) → AgreeSoFar n t r place o → (Takes n r place → ⊥) → AgreeSoFar n t r (place + 1) o
+pub so_far_none : (n : Network) (t : Fractions) (r : Role) (place : ℕ) (o : Option ℕ) → AgreeSoFar n t r place o → (Takes n r place → ⊥) → AgreeSoFar n t r (place + 1) o
 so_far_none n t r place None h none = λ a l k. elim (cases_eq a place) [ inl e ↦ none (subst (Takes n r) e k) | inr o ↦ h a (below a place l o) k ]
 so_far_none n t r place (Some first) h none =
     (h.0, h.1, λ s g a l k. elim (cases_eq a place) [ inl e ↦ absurd (none (subst (Takes n r) e k)) | inr o ↦ h.2 s g a (below a place l o) k ])
 
-pub so_far_first : (n : Network) (t : State) (r : Role) (place : ℕ) (o : Option ℕ) → o ≡ None → AgreeSoFar n t r place o → Takes n r place → place < length n.edges
+pub so_far_first : (n : Network) (t : Fractions) (r : Role) (place : ℕ) (o : Option ℕ) → o ≡ None → AgreeSoFar n t r place o → Takes n r place → place < length n.edges
     → AgreeSoFar n t r (place + 1) (Some place)
 so_far_first n t r place o e h k l =
     let none : (a : ℕ) → a < place → Takes n r a → ⊥ = subst (AgreeSoFar n t r place) e h in
     (l, k, λ s g a m j. elim (cases_eq a place) [ inl q ↦ ap (flow_at s) (sym q) | inr q ↦ absurd (none a (below a place m q) j) ])
 
-pub so_far_same : (n : Network) (t : State) (r : Role) (place first : ℕ) (o : Option ℕ) → o ≡ Some first → AgreeSoFar n t r place o
+pub so_far_same : (n : Network) (t : Fractions) (r : Role) (place first : ℕ) (o : Option ℕ) → o ≡ Some first → AgreeSoFar n t r place o
     → ((s : Flows) → StandsFor n t s → flow_at s first ≡ flow_at s place) → AgreeSoFar n t r (place + 1) o
 so_far_same n t r place first o e h same =
     let g = subst (AgreeSoFar n t r place) e h in
@@ -58,12 +57,12 @@ so_far_same n t r place first o e h same =
 abbrev pub AllAgree : Network → Role → Flows → Type 0
 AllAgree n r s = (i j a b : ℕ) (e f : Edge) → HasEdge n a e → HasEdge n b f → IsTrue (plays r i e) → IsTrue (plays r j f) → flow_at s a ≡ flow_at s b
 
-agree_by : (n : Network) (t : State) (r : Role) (place : ℕ) (o : Option ℕ) → AgreeSoFar n t r place o → (s : Flows) → StandsFor n t s
+agree_by : (n : Network) (t : Fractions) (r : Role) (place : ℕ) (o : Option ℕ) → AgreeSoFar n t r place o → (s : Flows) → StandsFor n t s
     → (a b : ℕ) → a < place → b < place → Takes n r a → Takes n r b → flow_at s a ≡ flow_at s b
 agree_by n t r place None h s g a b l m p q = absurd (h a l p)
 agree_by n t r place (Some first) h s g a b l m p q = sym (h.2 s g a l p) ∙ h.2 s g b m q
 
-pub agree_all : (n : Network) (t : State) (r : Role) (place : ℕ) (o : Option ℕ) → AgreeSoFar n t r place o → length n.edges ≤ place → (s : Flows) → StandsFor n t s
+pub agree_all : (n : Network) (t : Fractions) (r : Role) (place : ℕ) (o : Option ℕ) → AgreeSoFar n t r place o → length n.edges ≤ place → (s : Flows) → StandsFor n t s
     → IsTrue true ↔ AllAgree n r s
 agree_all n t r place o h l s g = (
   λ _ i j a b e f x y p q.
@@ -73,12 +72,12 @@ agree_all n t r place o h l s g = (
   λ _. refl,
 )
 
-pub agree_not : (n : Network) (t : State) (r : Role) (place first : ℕ) (o : Option ℕ) → o ≡ Some first → AgreeSoFar n t r place o → Takes n r place
+pub agree_not : (n : Network) (t : Fractions) (r : Role) (place first : ℕ) (o : Option ℕ) → o ≡ Some first → AgreeSoFar n t r place o → Takes n r place
     → (s : Flows) → (flow_at s first ≡ flow_at s place → ⊥) → IsTrue false ↔ AllAgree n r s
 agree_not n t r place first o e h k s apart =
     let g = subst (AgreeSoFar n t r place) e h in
     let p = g.1 in
     (λ u. absurd (false≢true u), λ all. absurd (apart (all p.0 k.0 first place p.1.0 k.1.0 p.1.1 k.1.1 p.1.2 k.1.2)))
 
-pub first_within : (n : Network) (t : State) (r : Role) (place first : ℕ) (o : Option ℕ) → o ≡ Some first → AgreeSoFar n t r place o → first < length n.edges
+pub first_within : (n : Network) (t : Fractions) (r : Role) (place first : ℕ) (o : Option ℕ) → o ≡ Some first → AgreeSoFar n t r place o → first < length n.edges
 first_within n t r place first o e h = (subst (AgreeSoFar n t r place) e h).0

@@ -1,20 +1,19 @@
 -- What tests at an edge and at a port say of every state that a list of fractions stands for.
-use Rattle.std.proofs.Common.{◌≡◌, ℕ, ◌<◌, ◌*◌, ℤ, pos, ◌≤ℤ◌, Bool, true, false, IsTrue, ◌↔◌, ◌⊎◌, inl, inr, List, [], ◌∷◌, length, get_or, slice_get, Some, sym, subst, refl, ap, ◌∙◌, arith, zero, suc}
+use Rattle.std.proofs.Common.{◌≡◌, ℕ, ◌<◌, ◌*◌, ℤ, pos, ◌≤ℤ◌, Bool, true, false, IsTrue, ◌↔◌, inl, inr, List, [], ◌∷◌, length, get_or, slice_get, Some, sym, subst, refl, ap, ◌∙◌, arith, zero, suc}
 use Rattle.std.proofs.Math.Bool.{not, beq}
 use Rattle.std.proofs.lemmas.Bool.{false≢true, true≢false}
-use Rattle.std.proofs.lemmas.List.{get_or_default}
 use Rattle.std.proofs.lemmas.Option.{slice_get-get_or, get_or_from_slice_get}
 use Rattle.bt_frac.specs.Ratio.{Ratio, IsOver, AreOver}
 use Rattle.bt_net.specs.declared.network.Edge.{Edge}
 use Rattle.bt_net.specs.Network.{Network}
-use Rattle.bt_flow.specs.declared.state.State.{State}
-use Rattle.bt_flow.specs.States.{Flows, StandsFor, flow_at, backed_at, cap_in}
+use Rattle.bt_flow.specs.States.{Flows, Fractions, StandsFor, flow_at, backed_at, load_at, room_at, cap_in}
 use Rattle.bt_flow.specs.Steady.{HasEdge}
 use Rattle.std.specs.List.{AllByRecursion}
 use Rattle.bt_flow.specs.declared.ports.Port.{Port}
 use Rattle.bt_flow.specs.declared.ports.Port.TheVariants.{One, Two}
 use Rattle.bt_flow.specs.declared.ports.Role.{Role}
-use Rattle.bt_flow.specs.Ports.{numbers_of, plays}
+use Rattle.bt_flow.specs.inner.Ports.{numbers_of, plays}
+use Rattle.bt_flow.specs.inner.AtPorts.{Admits, Stops}
 
 -- an item of a list of fractions over a denominator
 pub over_at : (rs : List Ratio) (ws : List ℤ) (d : ℕ) → AreOver rs ws d → (i : ℕ) → i < length rs → (r : Ratio) (w : ℤ) → IsOver (get_or rs i r) (get_or ws i w) d
@@ -26,6 +25,21 @@ over_at (x ∷ rs) (y ∷ ws) d h (suc i) l r w = over_at rs ws d h.1 i (omega a
 -- a fraction read from a list, over a denominator
 pub over_read : (rs : List Ratio) (ws : List ℤ) (d : ℕ) → AreOver rs ws d → (i : ℕ) → i < length rs → (r : Ratio) (w : ℤ) → r ≡ get_or rs i r → IsOver r (get_or ws i w) d
 over_read rs ws d h i l r w e = subst (λ q. IsOver q (get_or ws i w) d) (sym e) (over_at rs ws d h i l r w)
+
+-- the flow of an edge, read from the flows
+pub flow_read : (n : Network) (t : Fractions) (s : Flows) → StandsFor n t s → (rs : List Ratio) → rs ≡ t.flows → (a : ℕ) → a < length t.flows → (r : Ratio) → r ≡ get_or rs a r
+    → IsOver r (flow_at s a) s.denominator
+flow_read n t s h rs same a l r e = over_read t.flows s.flows s.denominator h.flows a l r (pos 0) (e ∙ ap (λ x. get_or x a r) same)
+
+-- the load of an input, read from the loads
+pub load_read : (n : Network) (t : Fractions) (s : Flows) → StandsFor n t s → (rs : List Ratio) → rs ≡ t.loads → (i : ℕ) → i < length t.loads → (r : Ratio) → r ≡ get_or rs i r
+    → IsOver r (load_at s i) s.denominator
+load_read n t s h rs same i l r e = over_read t.loads s.loads s.denominator h.loads i l r (pos 0) (e ∙ ap (λ x. get_or x i r) same)
+
+-- the room of an output, read from the rooms
+pub room_read : (n : Network) (t : Fractions) (s : Flows) → StandsFor n t s → (rs : List Ratio) → rs ≡ t.rooms → (o : ℕ) → o < length t.rooms → (r : Ratio) → r ≡ get_or rs o r
+    → IsOver r (room_at s o) s.denominator
+room_read n t s h rs same o l r e = over_read t.rooms s.rooms s.denominator h.rooms o l r (pos 0) (e ∙ ap (λ x. get_or x o r) same)
 
 -- what holds of the edge at a place is what holds of each edge that is there
 pub only_edge : (n : Network) (edges : List Edge) (place : ℕ) (d : Edge) (Q : Edge → Type 0) → edges ≡ n.edges → place < length n.edges
@@ -48,10 +62,6 @@ admits_full : {A B C : Type 0} (w full k : Bool) → w ≡ true → full ≡ tru
 admits_full w full k e f h g =
     let m = h.0 e in
     (λ t. (m.0, m.1, λ u. g.0 t), λ q. g.1 (q.2 f))
-
--- a number is within the cap of an edge, and where `full` at it
-abbrev pub Admits : Flows → ℤ → Bool → Edge → Type 0
-Admits s x full e = (pos 0 ≤ℤ x) × (x ≤ℤ cap_in s e) × (IsTrue full → x ≡ cap_in s e)
 
 module _ (n : Network) (edges : List Edge) (place : ℕ) (d : Edge) (same : edges ≡ n.edges) (l : place < length n.edges) (s : Flows) (x : ℤ) (full w : Bool)
     (h : IsTrue w ↔ ((pos 0 ≤ℤ x) × (x ≤ℤ pos ((get_or edges place d).cap * s.denominator)))) where
@@ -91,14 +101,9 @@ meets_mark w m mark k M e t u h g = (λ v. (h.0 t, λ _. g.0 v), λ q. g.1 (q.1 
     equal false true u = absurd (true≢false u)
     equal false false u = refl
 
--- the mark read from a state
-pub mark_read : (n : Network) (t : State) (s : Flows) → StandsFor n t s → (a : ℕ) (m : Bool) → a < length t.backed.items → m ≡ get_or t.backed.items a m → backed_at s a ≡ m
-mark_read n t s h a m l e =
-    ap (λ x. get_or x a false) (sym h.backed) ∙ get_or_default t.backed.items a false m l ∙ sym e
-
--- an edge that is backed, or whose flow is at its cap
-abbrev pub Stops : Flows → ℕ → Edge → Type 0
-Stops s a f = (backed_at s a ≡ true) ⊎ (flow_at s a ≡ cap_in s f)
+-- the mark of an edge, read from the marks
+pub mark_read : (n : Network) (t : Fractions) (s : Flows) → StandsFor n t s → (marks : List Bool) → marks ≡ t.backed → (a : ℕ) → backed_at s a ≡ get_or marks a false
+mark_read n t s h marks same a = ap (λ x. get_or x a false) (sym (same ∙ h.backed))
 
 -- a free edge stops where its flow is at its cap
 pub stops_at_full : (n : Network) (edges : List Edge) (place : ℕ) (d : Edge) (s : Flows) → edges ≡ n.edges → place < length n.edges → backed_at s place ≡ false

@@ -8,7 +8,7 @@ use Rattle.bt_text.specs.Lines.{Lacks}
 use Rattle.bt_frac.proofs.Numerals.{decimal-lacks, decimal_apart}
 use Rattle.bt_frac.specs.Ratio.{Ratio, IsLowest}
 use Rattle.bt_frac.specs.Texts.{frac_text}
-use Rattle.bt_flow.specs.Pieces.{BeginsWith}
+use Rattle.bt_text.specs.Pieces.{BeginsWith}
 use Rattle.bt_flow.proofs.Words.{piece_is}
 
 wide : (n : ℕ) → n < 2 ^ 127 → n < 10 ^ 64

@@ -4,10 +4,11 @@ pub mod MarkTexts
 pub mod Faults
 pub mod WrongLines
 pub mod StateTexts
-pub mod Refusals
+pub mod StateAnswers
 pub mod Adding
 pub mod Agreeing
 pub mod AtEdges
+pub mod AtPlaces
 pub mod Both
 pub mod Compared
 pub mod Each

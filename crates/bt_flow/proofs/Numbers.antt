@@ -4,6 +4,7 @@ use Rattle.std.specs.List.{count_by}
 use Rattle.std.proofs.lemmas.List.{take_more, length-take-le, get_or-set_same, get_or-set_other}
 use Rattle.std.proofs.lemmas.List.Sums.{sum_by-append, sum_by-take-drop, count_by_more_yes}
 use Rattle.std.proofs.lemmas.Bool.{eqb-true, false≢true, cases_eq, eq-eqb, ne_eqb}
+use Rattle.bt_net.specs.declared.network.TheConstants.{MOST_OF_EACH}
 use Rattle.bt_net.specs.declared.network.Edge.{Edge}
 use Rattle.bt_net.specs.declared.network.Start.TheVariants as from
 use Rattle.bt_net.specs.declared.network.Target.TheVariants as to
@@ -14,7 +15,7 @@ use Rattle.bt_flow.specs.declared.ports.Port.{Port}
 use Rattle.bt_flow.specs.declared.ports.Port.TheVariants.{Unused}
 use Rattle.bt_flow.specs.declared.ports.Role.{Role}
 use Rattle.bt_flow.specs.declared.ports.Role.TheVariants.{FromInput, ToOutput, OutOf, Into}
-use Rattle.bt_flow.specs.Ports.{numbers_where, numbers_of, plays}
+use Rattle.bt_flow.specs.inner.Ports.{numbers_where, numbers_of, plays}
 
 -- with one more edge
 pub numbers_where-append : (p : Edge → Bool) (n : ℕ) (edges : List Edge) (e : Edge)
@@ -60,7 +61,7 @@ ends_of ToOutput n = n.outputs
 ends_of OutOf n = n.splitters
 ends_of Into n = n.splitters
 
-pub few_ends : (n : Network) (r : Role) → IsNetwork n → ends_of r n ≤ 2048
+pub few_ends : (n : Network) (r : Role) → IsNetwork n → ends_of r n ≤ MOST_OF_EACH
 few_ends n FromInput h = h.few_inputs
 few_ends n ToOutput h = h.few_outputs
 few_ends n OutOf h = h.few_splitters
@@ -108,7 +109,7 @@ room_for n r h a k d l e =
 
 -- the first edges of a network fill these ports
 abbrev pub Fill : Network → Role → ℕ → List Port → Type 0
-Fill n r place ports = (k : ℕ) → k < 2048 → (d : Port) → numbers_of (get_or ports k d) ≡ numbers_where (plays r k) 0 (take place n.edges)
+Fill n r place ports = (k : ℕ) → k < MOST_OF_EACH → (d : Port) → numbers_of (get_or ports k d) ≡ numbers_where (plays r k) 0 (take place n.edges)
 
 numbers_with : (p : Edge → Bool) (edges : List Edge) (i : ℕ) (d : Edge) (b : Bool) (xs : List ℕ) → i < length edges → p (get_or edges i d) ≡ b
     → xs ≡ numbers_where p 0 (take i edges) ++ cond b (i ∷ []) [] → xs ≡ numbers_where p 0 (take (i + 1) edges)
@@ -124,7 +125,7 @@ filled_without n r edges place ports d same there not_there h =
 
 -- an edge with the role at a number joins the port there
 pub filled_with : (n : Network) (r : Role) (edges : List Edge) (place : ℕ) (ports : List Port) (d : Edge) (number : ℕ) (port : Port) → edges ≡ n.edges → place < length edges
-    → length ports ≡ 2048 → number < 2048 → ((k : ℕ) → plays r k (get_or edges place d) ≡ (number == k))
+    → length ports ≡ MOST_OF_EACH → number < MOST_OF_EACH → ((k : ℕ) → plays r k (get_or edges place d) ≡ (number == k))
     → numbers_of port ≡ numbers_of (get_or ports number Unused) ++ place ∷ [] → Fill n r place ports → Fill n r (place + 1) (set ports number port)
 filled_with n r edges place ports d number port same at long few there more h =
     let l : place < length n.edges = subst (λ x. place < length x) same at in
@@ -140,9 +141,9 @@ filled_with n r edges place ports d number port same at long few there more h =
           (ap numbers_of (get_or-set_other ports number k port e other) ∙ h k below e ∙ sym (append-nil (numbers_where (plays r k) 0 (take place n.edges))))
     ]
 
--- a number at which an edge has a role is below 2048
+-- a number at which an edge has a role is below MOST_OF_EACH
 pub number_fits : (n : Network) (r : Role) → IsNetwork n → (edges : List Edge) (a k : ℕ) (d : Edge) → edges ≡ n.edges → a < length edges
-    → ((m : ℕ) → plays r m (get_or edges a d) ≡ (k == m)) → k < 2048
+    → ((m : ℕ) → plays r m (get_or edges a d) ≡ (k == m)) → k < MOST_OF_EACH
 number_fits n r h edges a k d same l e =
     let there : a < length n.edges = subst (λ x. a < length x) same l in
     let mine : plays r k (get_or n.edges a d) ≡ true = subst (λ x. plays r k (get_or x a d) ≡ (k == k)) same (e k) ∙ eq-eqb k k refl in

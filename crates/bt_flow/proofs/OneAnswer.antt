@@ -7,14 +7,13 @@ use Rattle.bt_flow.specs.declared.property.Property.TheVariants.{Unlimited}
 use Rattle.bt_flow.specs.declared.judgement.Test.{Test}
 use Rattle.bt_flow.specs.declared.judgement.Test.TheVariants as test
 use Rattle.bt_flow.specs.declared.judgement.Judgement.{Judgement}
-use Rattle.bt_flow.specs.declared.judgement.Judgement.TheVariants.{Holds, Fails}
+use Rattle.bt_flow.specs.declared.judgement.Judgement.TheVariants.{Passes, Fails}
 use Rattle.bt_flow.specs.declared.judgement.WideSum.{WideSum}
-use Rattle.bt_flow.specs.declared.state.State.{State}
-use Rattle.bt_flow.specs.States.{Flows, StandsFor}
+use Rattle.bt_flow.specs.States.{Flows, Fractions, StandsFor}
 use Rattle.bt_flow.specs.Steady.{IsSteady}
 use Rattle.bt_flow.specs.Properties.{Breaks}
-use Rattle.bt_flow.specs.Tests.{order_of, places, Passes, IsAmong, IsEarlier, FailsFirst}
-use Rattle.std.specs.Result.{IfOk, IfErr}
+use Rattle.bt_flow.specs.Tests.{order_of, places, PassesAt, IsAmong, IsEarlier, FailsFirst}
+use Rattle.bt_answers.specs.Answers.{HasOneAnswer}
 use Rattle.bt_flow.specs.Sums.{sums_of, IsFirstWide}
 use Rattle.bt_flow.specs.Judging.{JudgesBreaking, JudgesSteady, NeedsFit, IsWideSum, IsBreakingAnswer, IsSteadyAnswer}
 use Rattle.bt_flow.proofs.Judged.{same_order}
@@ -31,12 +30,13 @@ compared t u a b =
       | inr o ↦ elim o [ inl l ↦ inl (inl l) | inr l ↦ inr (inl (inl l)) ]
     ]
 
--- what a judgement says of one state, where it holds by this fact
-abbrev pub Says : Network → Property → Flows → ℕ → ℕ → Judgement → Type 0
-Says n p s first last Holds = (u : Test) (b : ℕ) → IsAmong first last u → b < places n u → Passes n p s u b
+-- what a judgement says of one state, of those tests from the place `first` to the place `last` of the order
+abbrev Says : Network → Property → Flows → ℕ → ℕ → Judgement → Type 0
+Says n p s first last Passes = (u : Test) (b : ℕ) → IsAmong first last u → b < places n u → PassesAt n p s u b
 Says n p s first last (Fails t a) = FailsFirst n p s first last t a
 
-abbrev pub Answers : Network → Property → State → Flows → ℕ → ℕ → Result Judgement WideSum → Type 0
+-- what an answer says of one state
+abbrev Answers : Network → Property → Fractions → Flows → ℕ → ℕ → Result Judgement WideSum → Type 0
 Answers n p t s first last (Ok j) = Says n p s first last j × NeedsFit n p t first last j
 Answers n p t s first last (Err w) = IsWideSum n p t first last w
 
@@ -47,11 +47,11 @@ same_wide w v p q r x =
     ∙ ap (λ y. record { test = v.test; place = v.place; left = y; right = w.right }) r
     ∙ ap (λ y. record { test = v.test; place = v.place; left = v.left; right = y }) x
 
-module _ (n : Network) (p : Property) (t : State) (s : Flows) (g : StandsFor n t s) (first last : ℕ) where
+module _ (n : Network) (p : Property) (t : Fractions) (s : Flows) (g : StandsFor n t s) (first last : ℕ) where
   one_judgement : (j k : Judgement) → Says n p s first last j → Says n p s first last k → j ≡ k
-  one_judgement Holds Holds h f = refl
-  one_judgement Holds (Fails u a) h f = absurd (f.fails (h u a f.among f.place))
-  one_judgement (Fails u a) Holds h f = absurd (h.fails (f u a h.among h.place))
+  one_judgement Passes Passes h f = refl
+  one_judgement Passes (Fails u a) h f = absurd (f.fails (h u a f.among f.place))
+  one_judgement (Fails u a) Passes h f = absurd (h.fails (f u a h.among h.place))
   one_judgement (Fails u a) (Fails v b) h f =
       elim (compared u v a b) [
         | inl e ↦ absurd (h.fails (f.earlier u a h.among h.place e))
@@ -62,10 +62,10 @@ module _ (n : Network) (p : Property) (t : State) (s : Flows) (g : StandsFor n t
       ]
 
   judged_or_wide : (j : Judgement) (w : WideSum) → Says n p s first last j → NeedsFit n p t first last j → IsWideSum n p t first last w → ⊥
-  judged_or_wide Holds w h f k = all_fit_or_wide w.left w.right _ (f w.test w.place k.among k.place tt) k.first_wide
+  judged_or_wide Passes w h f k = all_fit_or_wide w.left w.right _ (f w.test w.place k.among k.place tt) k.first_wide
   judged_or_wide (Fails u a) w h f k =
       elim (compared u w.test a w.place) [
-        | inl e ↦ h.fails (k.earlier s g u a h.among h.place e)
+        | inl e ↦ h.fails (k.earlier.each s g u a h.among h.place e)
         | inr o ↦ elim o [
           | inl e ↦ all_fit_or_wide w.left w.right _ (f w.test w.place k.among k.place (inl e)) k.first_wide
           | inr e ↦ all_fit_or_wide w.left w.right _ (f w.test w.place k.among k.place (inr (sym e.0, sym e.1))) k.first_wide
@@ -85,13 +85,13 @@ module _ (n : Network) (p : Property) (t : State) (s : Flows) (g : StandsFor n t
         ]
       ]
 
-  pub one_answer : (x y : Result Judgement WideSum) → Answers n p t s first last x → Answers n p t s first last y → x ≡ y
+  one_answer : (x y : Result Judgement WideSum) → Answers n p t s first last x → Answers n p t s first last y → x ≡ y
   one_answer (Ok j) (Ok k) h f = ap Ok (one_judgement j k h.0 f.0)
   one_answer (Ok j) (Err w) h f = absurd (judged_or_wide j w h.0 h.1 f)
   one_answer (Err w) (Ok k) h f = absurd (judged_or_wide k w f.0 f.1 h)
   one_answer (Err w) (Err v) h f = ap Err (one_wide w v h f)
 
-laws_pass : (n : Network) (p : Property) (s : Flows) → IsSteady n s → (u : Test) (b : ℕ) → 2 ≤ order_of u → order_of u ≤ 8 → b < places n u → Passes n p s u b
+laws_pass : (n : Network) (p : Property) (s : Flows) → IsSteady n s → (u : Test) (b : ℕ) → 2 ≤ order_of u → order_of u ≤ 8 → b < places n u → PassesAt n p s u b
 laws_pass n p s h test.Load b low high l = absurd (omega (arith, low))
 laws_pass n p s h test.Room b low high l = absurd (omega (arith, low))
 laws_pass n p s h test.Range b low high l = h.range b l
@@ -101,9 +101,9 @@ laws_pass n p s h test.EvenIn b low high l = h.even_in b l
 laws_pass n p s h test.Backing b low high l = h.backing b l
 laws_pass n p s h test.Input b low high l = h.input b l
 laws_pass n p s h test.Output b low high l = h.output b l
-laws_pass n p s h test.Kept b low high l = absurd (omega (arith, high))
+laws_pass n p s h test.Conclusion b low high l = absurd (omega (arith, high))
 
-breaks_pass : (n : Network) (p : Property) (s : Flows) → Breaks n p s → (u : Test) (b : ℕ) → b < places n u → Passes n p s u b
+breaks_pass : (n : Network) (p : Property) (s : Flows) → Breaks n p s → (u : Test) (b : ℕ) → b < places n u → PassesAt n p s u b
 breaks_pass n p s h test.Load b l = (h.admissible.loads b l, λ a. h.meets.loads a b l)
 breaks_pass n p s h test.Room b l = (h.admissible.rooms b l, λ a. h.meets.rooms a b l)
 breaks_pass n p s h test.Range b l = h.steady.range b l
@@ -113,44 +113,43 @@ breaks_pass n p s h test.EvenIn b l = h.steady.even_in b l
 breaks_pass n p s h test.Backing b l = h.steady.backing b l
 breaks_pass n p s h test.Input b l = h.steady.input b l
 breaks_pass n p s h test.Output b l = h.steady.output b l
-breaks_pass n p s h test.Kept b l = h.fails
+breaks_pass n p s h test.Conclusion b l = h.fails
 
-breaking_says : (n : Network) (p : Property) (s : Flows) (j : Judgement) → JudgesBreaking n p s j → Says n p s 0 9 j
-breaking_says n p s Holds h = λ u b m l. breaks_pass n p s h u b l
+breaking_says : (n : Network) (p : Property) (s : Flows) (j : Judgement) → JudgesBreaking n p j s → Says n p s 0 9 j
+breaking_says n p s Passes h = λ u b m l. breaks_pass n p s h u b l
 breaking_says n p s (Fails t a) h = h
 
-steady_says : (n : Network) (p : Property) (s : Flows) (j : Judgement) → JudgesSteady n s j → Says n p s 2 8 j
-steady_says n p s Holds h = λ u b m l. laws_pass n p s h u b m.0 m.1 l
+steady_says : (n : Network) (p : Property) (s : Flows) (j : Judgement) → JudgesSteady n j s → Says n p s 2 8 j
+steady_says n p s Passes h = λ u b m l. laws_pass n p s h u b m.0 m.1 l
 steady_says n p s (Fails t a) h = h p
 
-breaking_answers : (n : Network) (p : Property) (t : State) (s : Flows) (x : Result Judgement WideSum) → IsBreakingAnswer n p t s x → Answers n p t s 0 9 x
-breaking_answers n p t s (Ok j) h = (breaking_says n p s j h.0, h.1)
-breaking_answers n p t s (Err w) h = h
+breaking_answers : (n : Network) (p : Property) (t : Fractions) (s : Flows) → StandsFor n t s → (x : Result Judgement WideSum) → IsBreakingAnswer n p t x → Answers n p t s 0 9 x
+breaking_answers n p t s g (Ok j) h = (breaking_says n p s j (h.0.each s g), h.1)
+breaking_answers n p t s g (Err w) h = h
 
-steady_answers : (n : Network) (t : State) (s : Flows) (x : Result Judgement WideSum) → IsSteadyAnswer n t s x → Answers n Unlimited t s 2 8 x
-steady_answers n t s (Ok j) h = (steady_says n Unlimited s j h.0, h.1 Unlimited)
-steady_answers n t s (Err w) h = h Unlimited
+steady_answers : (n : Network) (t : Fractions) (s : Flows) → StandsFor n t s → (x : Result Judgement WideSum) → IsSteadyAnswer n t x → Answers n Unlimited t s 2 8 x
+steady_answers n t s g (Ok j) h = (steady_says n Unlimited s j (h.0.each s g), h.1 Unlimited)
+steady_answers n t s g (Err w) h = h Unlimited
 
-pub one_breaking_answer : (n : Network) (p : Property) (t : State) (s : Flows) → StandsFor n t s → (x y : Result Judgement WideSum) → IsBreakingAnswer n p t s x
-    → IsBreakingAnswer n p t s y → x ≡ y
-one_breaking_answer n p t s g x y h k = one_answer n p t s g 0 9 x y (breaking_answers n p t s x h) (breaking_answers n p t s y k)
+breaking_some : (n : Network) (p : Property) (t : Fractions) (x : Result Judgement WideSum) → IsBreakingAnswer n p t x → (s : Flows) × StandsFor n t s
+breaking_some n p t (Ok j) h = h.0.some
+breaking_some n p t (Err w) h = h.earlier.some
 
-pub one_steady_answer : (n : Network) (t : State) (s : Flows) → StandsFor n t s → (x y : Result Judgement WideSum) → IsSteadyAnswer n t s x
-    → IsSteadyAnswer n t s y → x ≡ y
-one_steady_answer n t s g x y h k = one_answer n Unlimited t s g 2 8 x y (steady_answers n t s x h) (steady_answers n t s y k)
+steady_some : (n : Network) (t : Fractions) (x : Result Judgement WideSum) → IsSteadyAnswer n t x → (s : Flows) × StandsFor n t s
+steady_some n t (Ok j) h = h.0.some
+steady_some n t (Err w) h = (h Unlimited).earlier.some
 
--- the clauses of an answer together
-pub is_breaking_answer : (n : Network) (p : Property) (t : State) (x : Result Judgement WideSum)
-    → IfOk x (λ j. (s : Flows) → StandsFor n t s → JudgesBreaking n p s j) → IfOk x (λ j. NeedsFit n p t 0 9 j) → IfErr x (λ w. IsWideSum n p t 0 9 w)
-    → (s : Flows) → StandsFor n t s → IsBreakingAnswer n p t s x
-is_breaking_answer n p t (Ok j) a b c s g = (a s g, b)
-is_breaking_answer n p t (Err w) a b c s g = c
+-- `breaks` has one right answer
+pub one_breaking_answer : (n : Network) (p : Property) (t : Fractions) → HasOneAnswer (IsBreakingAnswer n p t)
+one_breaking_answer n p t x y h k =
+    let some = breaking_some n p t x h in
+    one_answer n p t some.0 some.1 0 9 x y (breaking_answers n p t some.0 some.1 x h) (breaking_answers n p t some.0 some.1 y k)
 
-pub is_steady_answer : (n : Network) (t : State) (x : Result Judgement WideSum)
-    → IfOk x (λ j. (s : Flows) → StandsFor n t s → JudgesSteady n s j) → IfOk x (λ j. (p : Property) → NeedsFit n p t 2 8 j) → IfErr x (λ w. (p : Property) → IsWideSum n p t 2 8 w)
-    → (s : Flows) → StandsFor n t s → IsSteadyAnswer n t s x
-is_steady_answer n t (Ok j) a b c s g = (a s g, b)
-is_steady_answer n t (Err w) a b c s g = c
+-- `steady` has one right answer
+pub one_steady_answer : (n : Network) (t : Fractions) → HasOneAnswer (IsSteadyAnswer n t)
+one_steady_answer n t x y h k =
+    let some = steady_some n t x h in
+    one_answer n Unlimited t some.0 some.1 2 8 x y (steady_answers n t some.0 some.1 x h) (steady_answers n t some.0 some.1 y k)
 
 -- a state that fails a test doesn't break the property
 pub fails_not_breaks : (n : Network) (p : Property) (s : Flows) (t : Test) (a : ℕ) → FailsFirst n p s 0 9 t a → Breaks n p s → ⊥

@@ -1,10 +1,10 @@
 -- A list of sums forms one first wide addition, or none where all additions fit.
 use Rattle.std.proofs.Common.{◌≡◌, ◌*◌, List, [], ◌∷◌, ◌++◌, inl, inr, sym, subst, ◌∙◌, pos, ◌*ℤ◌, ◌+ℤ◌}
-use Rattle.bt_frac.specs.Ratio.{Ratio}
+use Rattle.bt_frac.specs.Ratio.{Ratio, IsWide}
 use Rattle.bt_frac.proofs.Euclid.{over_unique}
 use Rattle.bt_frac.proofs.Over.{under_positive}
 use Rattle.bt_frac.proofs.Sums.{wide_apart}
-use Rattle.bt_flow.specs.Sums.{nothing, AddsTo, IsWide, RunsTo, IsWideIn, IsFirstWide, AllFit}
+use Rattle.bt_flow.specs.Sums.{nothing, AddsTo, RunsTo, IsWideIn, IsFirstWide, AllFit}
 
 -- two fractions have one sum in lowest terms
 adds_one : (a b q r : Ratio) → AddsTo a b q → AddsTo a b r → q ≡ r

@@ -11,10 +11,10 @@ use Rattle.bt_net.specs.Network.{Network, leaves, enters}
 use Rattle.bt_flow.specs.declared.ports.Port.{Port}
 use Rattle.bt_flow.specs.declared.ports.Role.{Role}
 use Rattle.bt_flow.specs.declared.ports.Role.TheVariants.{OutOf}
-use Rattle.bt_flow.specs.Ports.{numbers_of, plays, IsPort}
+use Rattle.bt_flow.specs.inner.Ports.{numbers_of, plays, IsPort}
 use Rattle.bt_flow.specs.States.{Flows, flow_at, backed_at}
 use Rattle.bt_flow.specs.Steady.{HasEdge, Backs}
-use Rattle.bt_flow.proofs.AtEdges.{Stops}
+use Rattle.bt_flow.specs.inner.AtPorts.{Stops}
 use Rattle.bt_flow.proofs.Each.{each, each_with}
 
 pub leaves-split : (e : Edge) (k m : ℕ) → e.start ≡ from.Split k → leaves m e ≡ (k == m)

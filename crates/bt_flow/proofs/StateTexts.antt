@@ -1,7 +1,6 @@
 -- The text of a state: its lines, that every line of it is right, and that it has one state.
-use Rattle.std.proofs.Common.{◌≡◌, ◌≢◌, ℕ, ◌<◌, Bool, true, List, [], ◌∷◌, ◌++◌, length, map, refl, sym, ◌∙◌, ap, subst, inl, inr, arith, append_assoc, append-nil, codes, nat_lt, Result, Ok, Err}
+use Rattle.std.proofs.Common.{◌≡◌, ◌≢◌, ℕ, ◌<◌, Bool, true, List, [], ◌∷◌, ◌++◌, length, map, refl, sym, ◌∙◌, ap, subst, inl, inr, arith, append_assoc, append-nil, codes, nat_lt, Ok, Err}
 use Rattle.std.specs.Bool.{⊤}
-use Rattle.std.specs.Result.{IfOk, IfErr}
 use Rattle.std.specs.List.{All, list_all, slice_index_or}
 use Rattle.std.proofs.lemmas.List.{append_cancel_left}
 use Rattle.std.proofs.lemmas.List.Sums.{AllPass-from_list_all}
@@ -14,14 +13,14 @@ use Rattle.bt_frac.specs.Texts.{frac_text}
 use Rattle.bt_net.specs.Network.{Network}
 use Rattle.bt_flow.specs.declared.property.Property.{Property}
 use Rattle.bt_flow.specs.declared.property.Property.TheVariants.{Balanced, DrawnEvenly, Unlimited, Full}
-use Rattle.bt_flow.specs.declared.state.State.{State}
-use Rattle.bt_flow.specs.States.{Fits}
-use Rattle.bt_flow.specs.Pieces.{CutsAt, LeadsTo}
-use Rattle.bt_flow.specs.StateText.{property_name, mark_text, spaced, state_text, IsStateText}
+use Rattle.bt_flow.specs.States.{Fractions, Fits}
+use Rattle.bt_text.specs.Pieces.{CutsAt, LeadsTo}
+use Rattle.bt_flow.specs.Names.{property_name}
+use Rattle.bt_flow.specs.StateText.{mark_text, spaced, state_text, IsStateText}
 use Rattle.bt_flow.specs.StateLines.{SpellsFractions, SpellsMarks, Follows, just, numbers, marks, Fills, forms, lines_of, IsWrongLine}
-use Rattle.bt_flow.specs.declared.fault.StateFault.{StateFault}
+use Rattle.bt_answers.specs.Answers.{HasOneAnswer}
 use Rattle.bt_flow.specs.declared.fault.StateFault.TheVariants.{CertLine, Memory}
-use Rattle.bt_flow.specs.StateFaults.{SameLists, IsFault, ReadsAs, RefusesAt}
+use Rattle.bt_flow.specs.StateReading.{IsStateRead}
 use Rattle.bt_flow.proofs.Words.{piece_is, spaced_begins}
 use Rattle.bt_flow.proofs.FracTexts.{frac_text_same, frac_text_lacks, frac_text_in_line}
 use Rattle.bt_flow.proofs.MarkTexts.{mark_same, mark_lacks, mark_in_line}
@@ -118,14 +117,14 @@ mark_line_lacks backed =
     (spaced_lacks (λ _. ⊤) mark_text mark_in_line backed (all_marks backed))
 
 -- the lines of a state's text
-record HasLines (p : Property) (t : State) (bytes : List ℕ) : Type 0 where
+record HasLines (p : Property) (t : Fractions) (bytes : List ℕ) : Type 0 where
   rest : List (List ℕ)
   lines : lines_of bytes
-      ≡ title p ∷ fraction_line (codes "load") t.loads.items ∷ fraction_line (codes "room") t.rooms.items
-      ∷ fraction_line (codes "flow") t.flows.items ∷ mark_line t.backed.items ∷ codes "end" ∷ rest
+      ≡ title p ∷ fraction_line (codes "load") t.loads ∷ fraction_line (codes "room") t.rooms
+      ∷ fraction_line (codes "flow") t.flows ∷ mark_line t.backed ∷ codes "end" ∷ rest
   blank : AreRight [] rest
 
-has_lines : (p : Property) (t : State) (bytes : List ℕ) → IsStateText p t bytes → HasLines p t bytes
+has_lines : (p : Property) (t : Fractions) (bytes : List ℕ) → IsStateText p t bytes → HasLines p t bytes
 unfolding title fraction_line mark_line lines_after
 has_lines p t bytes h =
     elim h.text [
@@ -143,28 +142,28 @@ has_lines p t bytes h =
   where
     six : (rest : List ℕ) (tail : List (List ℕ)) → lines_of (codes "end" ++ rest) ≡ codes "end" ∷ tail
         → lines_of (state_text p t ++ rest)
-        ≡ title p ∷ fraction_line (codes "load") t.loads.items ∷ fraction_line (codes "room") t.rooms.items
-        ∷ fraction_line (codes "flow") t.flows.items ∷ mark_line t.backed.items ∷ codes "end" ∷ tail
+        ≡ title p ∷ fraction_line (codes "load") t.loads ∷ fraction_line (codes "room") t.rooms
+        ∷ fraction_line (codes "flow") t.flows ∷ mark_line t.backed ∷ codes "end" ∷ tail
     six rest tail last =
-        six_lines (title p) (fraction_line (codes "load") t.loads.items) (fraction_line (codes "room") t.rooms.items)
-        (fraction_line (codes "flow") t.flows.items) (mark_line t.backed.items) (codes "end") rest tail (title_lacks p)
-        (fraction_line_lacks (codes "load") t.loads.items (lacks_feed (codes "load") refl) h.loads)
-        (fraction_line_lacks (codes "room") t.rooms.items (lacks_feed (codes "room") refl) h.rooms)
-        (fraction_line_lacks (codes "flow") t.flows.items (lacks_feed (codes "flow") refl) h.flows)
-        (mark_line_lacks t.backed.items) last
+        six_lines (title p) (fraction_line (codes "load") t.loads) (fraction_line (codes "room") t.rooms)
+        (fraction_line (codes "flow") t.flows) (mark_line t.backed) (codes "end") rest tail (title_lacks p)
+        (fraction_line_lacks (codes "load") t.loads (lacks_feed (codes "load") refl) h.lowest.loads)
+        (fraction_line_lacks (codes "room") t.rooms (lacks_feed (codes "room") refl) h.lowest.rooms)
+        (fraction_line_lacks (codes "flow") t.flows (lacks_feed (codes "flow") refl) h.lowest.flows)
+        (mark_line_lacks t.backed) last
 
 -- every line of a state's text is right
-all_right : (n : Network) (p : Property) (t : State) (bytes : List ℕ) → Fits n t → IsStateText p t bytes → AreRight (forms n p) (lines_of bytes)
+all_right : (n : Network) (p : Property) (t : Fractions) (bytes : List ℕ) → Fits n t → IsStateText p t bytes → AreRight (forms n p) (lines_of bytes)
 unfolding title fraction_line mark_line
 all_right n p t bytes fits text =
     let has = has_lines p t bytes text in
     subst (λ ls. AreRight (forms n p) ls) (sym has.lines)
     (all_later (just (title p)) _ (title p) _ refl
-    (all_later (numbers (codes "load") n.inputs) _ (fraction_line (codes "load") t.loads.items) _ (filled (codes "load") t.loads.items n.inputs fits.loads text.loads)
-    (all_later (numbers (codes "room") n.outputs) _ (fraction_line (codes "room") t.rooms.items) _ (filled (codes "room") t.rooms.items n.outputs fits.rooms text.rooms)
-    (all_later (numbers (codes "flow") (length n.edges)) _ (fraction_line (codes "flow") t.flows.items) _ (filled (codes "flow") t.flows.items (length n.edges) fits.flows text.flows)
-    (all_later (marks (length n.edges)) _ (mark_line t.backed.items) _
-    (t.backed.items, record { text = spaced (map mark_text t.backed.items); line_is = refl; spells = record { counted = fits.backed; meets = all_marks t.backed.items; text_is = refl } })
+    (all_later (numbers (codes "load") n.inputs) _ (fraction_line (codes "load") t.loads) _ (filled (codes "load") t.loads n.inputs fits.loads text.lowest.loads)
+    (all_later (numbers (codes "room") n.outputs) _ (fraction_line (codes "room") t.rooms) _ (filled (codes "room") t.rooms n.outputs fits.rooms text.lowest.rooms)
+    (all_later (numbers (codes "flow") (length n.edges)) _ (fraction_line (codes "flow") t.flows) _ (filled (codes "flow") t.flows (length n.edges) fits.flows text.lowest.flows)
+    (all_later (marks (length n.edges)) _ (mark_line t.backed) _
+    (t.backed, record { text = spaced (map mark_text t.backed); line_is = refl; spells = record { counted = fits.backed; meets = all_marks t.backed; text_is = refl } })
     (all_later (just (codes "end")) [] (codes "end") has.rest refl has.blank))))))
   where
     filled : (word : List ℕ) (fractions : List Ratio) (count : ℕ) → length fractions ≡ count → All IsLowest fractions
@@ -173,7 +172,7 @@ all_right n p t bytes fits text =
         (fractions, record { text = spaced (map frac_text fractions); line_is = refl; spells = record { counted = counted; meets = lowest; text_is = refl } })
 
 -- so none is wrong
-pub none_wrong : (n : Network) (p : Property) (t : State) (bytes : List ℕ) (wrong : ℕ) → Fits n t → IsStateText p t bytes → IsWrongLine n p bytes wrong → ⊥
+pub none_wrong : (n : Network) (p : Property) (t : Fractions) (bytes : List ℕ) (wrong : ℕ) → Fits n t → IsStateText p t bytes → IsWrongLine n p bytes wrong → ⊥
 none_wrong n p t bytes wrong fits text (k, is, first) = first.wrong ((all_right n p t bytes fits text).at k)
 
 -- one line is the first that isn't right
@@ -196,18 +195,34 @@ same_marks xs ys e =
     spaced_same (λ _. ⊤) mark_text mark_lacks mark_same xs ys (all_marks xs) (all_marks ys)
     (append_cancel_left (codes "mark") (spaced (map mark_text xs)) (spaced (map mark_text ys)) e)
 
+same_fractions_of : (s t : Fractions) → s.flows ≡ t.flows → s.backed ≡ t.backed → s.loads ≡ t.loads → s.rooms ≡ t.rooms → s ≡ t
+same_fractions_of s t flows backed loads rooms =
+    ap (λ x. record { flows = x; backed = s.backed; loads = s.loads; rooms = s.rooms }) flows
+    ∙ ap (λ x. record { flows = t.flows; backed = x; loads = s.loads; rooms = s.rooms }) backed
+    ∙ ap (λ x. record { flows = t.flows; backed = t.backed; loads = x; rooms = s.rooms }) loads
+    ∙ ap (λ x. record { flows = t.flows; backed = t.backed; loads = t.loads; rooms = x }) rooms
+
 -- a text is written for one state
-pub one_state : (p : Property) (s t : State) (bytes : List ℕ) → IsStateText p s bytes → IsStateText p t bytes → SameLists s t
+pub one_state : (p : Property) (s t : Fractions) (bytes : List ℕ) → IsStateText p s bytes → IsStateText p t bytes → s ≡ t
 one_state p s t bytes hs ht =
     let has = has_lines p s bytes hs in
     let has' = has_lines p t bytes ht in
     let e = sym has.lines ∙ has'.lines in
-    record {
-      flows = same_fractions (codes "flow") s.flows.items t.flows.items hs.flows ht.flows (ap (λ ls. slice_index_or ls 3 []) e);
-      backed = same_marks s.backed.items t.backed.items (ap (λ ls. slice_index_or ls 4 []) e);
-      loads = same_fractions (codes "load") s.loads.items t.loads.items hs.loads ht.loads (ap (λ ls. slice_index_or ls 1 []) e);
-      rooms = same_fractions (codes "room") s.rooms.items t.rooms.items hs.rooms ht.rooms (ap (λ ls. slice_index_or ls 2 []) e);
-    }
+    same_fractions_of s t
+    (same_fractions (codes "flow") s.flows t.flows hs.lowest.flows ht.lowest.flows (ap (λ ls. slice_index_or ls 3 []) e))
+    (same_marks s.backed t.backed (ap (λ ls. slice_index_or ls 4 []) e))
+    (same_fractions (codes "load") s.loads t.loads hs.lowest.loads ht.lowest.loads (ap (λ ls. slice_index_or ls 1 []) e))
+    (same_fractions (codes "room") s.rooms t.rooms hs.lowest.rooms ht.lowest.rooms (ap (λ ls. slice_index_or ls 2 []) e))
+
+-- reading bytes has one right answer
+pub one_state_read : (n : Network) (p : Property) (bytes : List ℕ) → HasOneAnswer (IsStateRead n p bytes)
+one_state_read n p bytes (Ok s) (Ok t) h k = ap Ok (one_state p s t bytes h.1 k.1)
+one_state_read n p bytes (Ok s) (Err (CertLine line)) h k = absurd (none_wrong n p s bytes line h.0 h.1 k)
+one_state_read n p bytes (Ok s) (Err Memory) h k = absurd k
+one_state_read n p bytes (Err (CertLine line)) (Ok t) h k = absurd (none_wrong n p t bytes line k.0 k.1 h)
+one_state_read n p bytes (Err (CertLine line)) (Err (CertLine other)) h k = ap (λ l. Err (CertLine l)) (one_wrong n p bytes line other h k)
+one_state_read n p bytes (Err (CertLine line)) (Err Memory) h k = absurd k
+one_state_read n p bytes (Err Memory) y h k = absurd h
 
 -- a line that follows is a word and its fractions
 fraction_line_is : (word line : List ℕ) (count : ℕ) (fractions : List Ratio) → Follows word line (SpellsFractions count) fractions
@@ -219,18 +234,16 @@ mark_line_is : (line : List ℕ) (count : ℕ) (backed : List Bool) → Follows 
 mark_line_is line count backed follows = follows.line_is ∙ ap (λ t. codes "mark" ++ t) follows.spells.text_is
 
 -- a text that was cut into the six lines of a state, and blanks
-pub found_text : (p : Property) (t : State) (bytes a b c d e f r1 r2 r3 r4 r5 r6 : List ℕ) (inputs outputs edges : ℕ)
+pub found_text : (p : Property) (t : Fractions) (bytes a b c d e f r1 r2 r3 r4 r5 r6 : List ℕ) (inputs outputs edges : ℕ)
     → CutsAt 10 bytes a r1 → a ≡ codes "no " ++ property_name p
-    → LeadsTo 10 r1 b r2 → Follows (codes "load") b (SpellsFractions inputs) t.loads.items
-    → LeadsTo 10 r2 c r3 → Follows (codes "room") c (SpellsFractions outputs) t.rooms.items
-    → LeadsTo 10 r3 d r4 → Follows (codes "flow") d (SpellsFractions edges) t.flows.items
-    → LeadsTo 10 r4 e r5 → Follows (codes "mark") e (SpellsMarks edges) t.backed.items
+    → LeadsTo 10 r1 b r2 → Follows (codes "load") b (SpellsFractions inputs) t.loads
+    → LeadsTo 10 r2 c r3 → Follows (codes "room") c (SpellsFractions outputs) t.rooms
+    → LeadsTo 10 r3 d r4 → Follows (codes "flow") d (SpellsFractions edges) t.flows
+    → LeadsTo 10 r4 e r5 → Follows (codes "mark") e (SpellsMarks edges) t.backed
     → LeadsTo 10 r5 f r6 → f ≡ codes "end" → All IsBlank r6 → IsStateText p t bytes
 found_text p t bytes a b c d e f r1 r2 r3 r4 r5 r6 inputs outputs edges cuts is_a leads_b is_b leads_c is_c leads_d is_d leads_e is_e leads_f is_f blank =
     record {
-      loads = is_b.spells.meets;
-      rooms = is_c.spells.meets;
-      flows = is_d.spells.meets;
+      lowest = record { flows = is_d.spells.meets; loads = is_b.spells.meets; rooms = is_c.spells.meets };
       text = elim leads_f.begins [
         | inl none ↦ inl (whole ∙ ap (λ r. state_text p t ++ r) none ∙ append-nil (state_text p t))
         | inr more ↦ inr (more.0, All-tail IsBlank 10 more.0 (subst (λ r. All IsBlank r) more.1 blank), whole ∙ ap (λ r. state_text p t ++ r) more.1)
@@ -239,25 +252,11 @@ found_text p t bytes a b c d e f r1 r2 r3 r4 r5 r6 inputs outputs edges cuts is_
   where
     whole : bytes ≡ state_text p t ++ r6
     whole =
-        joined bytes (codes "no " ++ property_name p) (codes "load" ++ spaced (map frac_text t.loads.items)) (codes "room" ++ spaced (map frac_text t.rooms.items))
-        (codes "flow" ++ spaced (map frac_text t.flows.items)) (codes "mark" ++ spaced (map mark_text t.backed.items)) (codes "end") r1 r2 r3 r4 r5 r6
+        joined bytes (codes "no " ++ property_name p) (codes "load" ++ spaced (map frac_text t.loads)) (codes "room" ++ spaced (map frac_text t.rooms))
+        (codes "flow" ++ spaced (map frac_text t.flows)) (codes "mark" ++ spaced (map mark_text t.backed)) (codes "end") r1 r2 r3 r4 r5 r6
         (cuts.text_is ∙ ap (λ l. l ++ r1) is_a)
-        (leads_b.text_is ∙ ap (λ l. 10 ∷ (l ++ r2)) (fraction_line_is (codes "load") b inputs t.loads.items is_b))
-        (leads_c.text_is ∙ ap (λ l. 10 ∷ (l ++ r3)) (fraction_line_is (codes "room") c outputs t.rooms.items is_c))
-        (leads_d.text_is ∙ ap (λ l. 10 ∷ (l ++ r4)) (fraction_line_is (codes "flow") d edges t.flows.items is_d))
-        (leads_e.text_is ∙ ap (λ l. 10 ∷ (l ++ r5)) (mark_line_is e edges t.backed.items is_e))
+        (leads_b.text_is ∙ ap (λ l. 10 ∷ (l ++ r2)) (fraction_line_is (codes "load") b inputs t.loads is_b))
+        (leads_c.text_is ∙ ap (λ l. 10 ∷ (l ++ r3)) (fraction_line_is (codes "room") c outputs t.rooms is_c))
+        (leads_d.text_is ∙ ap (λ l. 10 ∷ (l ++ r4)) (fraction_line_is (codes "flow") d edges t.flows is_d))
+        (leads_e.text_is ∙ ap (λ l. 10 ∷ (l ++ r5)) (mark_line_is e edges t.backed is_e))
         (leads_f.text_is ∙ ap (λ l. 10 ∷ (l ++ r6)) is_f)
-
--- what is written for a state is read as it
-pub reads_as : (n : Network) (p : Property) (bytes : List ℕ) (r : Result State StateFault) → IfOk r (λ t. IsStateText p t bytes)
-    → IfErr r (IsFault (IsWrongLine n p bytes)) → (t : State) → Fits n t → IsStateText p t bytes → ReadsAs t r
-reads_as n p bytes (Ok s) found wrong t fits text = one_state p s t bytes found text
-reads_as n p bytes (Err (CertLine line)) found wrong t fits text = none_wrong n p t bytes line fits text wrong
-reads_as n p bytes (Err Memory) found wrong t fits text = tt
-
--- the first wrong line is refused
-pub refuses_at : (n : Network) (p : Property) (bytes : List ℕ) (r : Result State StateFault) → IfOk r (Fits n) → IfOk r (λ t. IsStateText p t bytes)
-    → IfErr r (IsFault (IsWrongLine n p bytes)) → (line : ℕ) → IsWrongLine n p bytes line → RefusesAt line r
-refuses_at n p bytes (Ok s) fits found wrong line h = none_wrong n p s bytes line fits found h
-refuses_at n p bytes (Err (CertLine other)) fits found wrong line h = one_wrong n p bytes other line wrong h
-refuses_at n p bytes (Err Memory) fits found wrong line h = tt

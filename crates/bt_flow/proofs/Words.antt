@@ -4,9 +4,10 @@ use Rattle.std.specs.List.{All}
 use Rattle.std.proofs.lemmas.List.{length_push, map_push}
 use Rattle.std.proofs.lemmas.List.Elements.{All-head, All-tail, All-push, All-nil}
 use Rattle.bt_text.specs.Lines.{Lacks}
-use Rattle.bt_flow.specs.Pieces.{BeginsWith, LeadsTo}
+use Rattle.bt_text.specs.Pieces.{BeginsWith, LeadsTo}
 use Rattle.bt_flow.specs.StateText.{spaced}
 use Rattle.bt_flow.specs.StateLines.{SpellsItems}
+use Rattle.bt_flow.specs.inner.Lines.{HaveNoSpace, LeadsToItem}
 
 -- a rest that begins with the byte begins with no other
 ends_apart : (byte : ℕ) (rest : List ℕ) (other : ℕ) (more : List ℕ) → BeginsWith byte rest → other ≢ byte → rest ≡ other ∷ more → ⊥
@@ -26,6 +27,12 @@ piece_is byte (c ∷ a) x (d ∷ b) y lacks lacks' begins begins' e =
     let more = piece_is byte a x b y (All-tail (λ o. o ≢ byte) c a lacks) (All-tail (λ o. o ≢ byte) d b lacks') begins begins' tails in
     let fronts = more.0 in
     (cc, more.1)
+
+-- a text has one piece after a byte
+pub piece_apart : (byte : ℕ) (text a x b y : List ℕ) → LeadsTo byte text a x → LeadsTo byte text b y → a ≡ b
+piece_apart byte text a x b y h k =
+    let same : a ++ x ≡ b ++ y = let e = h.text_is in let f = k.text_is in cc in
+    (piece_is byte a x b y h.lacks k.lacks h.begins k.begins same).0
 
 -- words after spaces are nothing, or begin with a space
 pub spaced_begins : (words : List (List ℕ)) → BeginsWith 32 (spaced words)
@@ -55,57 +62,48 @@ walk_begins P word count text = record {
   later = λ all h. (all, record { counted = omega (arith, h.counted); meets = h.meets; text_is = h.text_is });
 }
 
--- the next word is the first that is left
-next_word : {A : Type 0} (P : A → Type 0) (word : A → List ℕ) → ((x : A) → P x → Lacks 32 (word x)) → (left : ℕ) (rest w after : List ℕ) (all : List A)
-    → 0 < left → LeadsTo 32 rest w after → SpellsItems P word left rest all
-    → (y : A) × (ys : List A) × P y × (w ≡ word y) × SpellsItems P word (left - 1) after ys
-next_word P word lacks left rest w after [] some leads h = let counted = h.counted in absurd (omega arith)
-next_word P word lacks left rest w after (y ∷ ys) some leads h =
-    let text = leads.text_is in
-    let spelled = h.text_is in
-    let same : w ++ after ≡ word y ++ spaced (map word ys) = cc in
+-- the word of the first item that is left comes next
+first_word : {A : Type 0} (P : A → Type 0) (word : A → List ℕ) → HaveNoSpace P word → (left : ℕ) (rest : List ℕ) (y : A) (ys : List A)
+    → SpellsItems P word left rest (y ∷ ys) → LeadsToItem P word rest y (spaced (map word ys))
+first_word P word lacks left rest y ys h =
     let meets = All-head P y ys h.meets in
-    let pieces = piece_is 32 w after (word y) (spaced (map word ys)) leads.lacks (lacks y meets) leads.begins (spaced_begins (map word ys)) same in
-    let counted = h.counted in
-    (y, ys, meets, pieces.0, record { counted = omega arith; meets = All-tail P y ys h.meets; text_is = pieces.1 })
+    (meets, record { lacks = lacks y meets; text_is = h.text_is; begins = spaced_begins (map word ys) })
 
-pub walk_more : {A : Type 0} (P : A → Type 0) (word : A → List ℕ) → ((x : A) → P x → Lacks 32 (word x))
-    → (count : ℕ) (text : List ℕ) (items : List A) (done : ℕ) (rest w after : List ℕ) (x : A)
-    → Walks P word count text items done rest → done < count → LeadsTo 32 rest w after → P x → w ≡ word x
-    → Walks P word count text (items ++ x ∷ []) (done + 1) after
-walk_more P word lacks count text items done rest w after x walk more leads good is = record {
+-- the item whose word comes next is the first that is left
+next_word : {A : Type 0} (P : A → Type 0) (word : A → List ℕ) → HaveNoSpace P word → (left : ℕ) (rest : List ℕ) (x : A) (after : List ℕ) (all : List A)
+    → 0 < left → LeadsToItem P word rest x after → SpellsItems P word left rest all → (ys : List A) × SpellsItems P word (left - 1) after ys
+next_word P word lacks left rest x after [] some leads h = let counted = h.counted in absurd (omega arith)
+next_word P word lacks left rest x after (y ∷ ys) some leads h =
+    let first = first_word P word lacks left rest y ys h in
+    let same : word x ++ after ≡ word y ++ spaced (map word ys) = let e = leads.1.text_is in let f = h.text_is in cc in
+    let pieces = piece_is 32 (word x) after (word y) (spaced (map word ys)) leads.1.lacks first.1.lacks leads.1.begins first.1.begins same in
+    let counted = h.counted in
+    (ys, record { counted = omega arith; meets = All-tail P y ys h.meets; text_is = pieces.1 })
+
+pub walk_more : {A : Type 0} (P : A → Type 0) (word : A → List ℕ) → HaveNoSpace P word → (count : ℕ) (text : List ℕ) (items : List A) (done : ℕ) (rest after : List ℕ) (x : A)
+    → Walks P word count text items done rest → done < count → LeadsToItem P word rest x after → Walks P word count text (items ++ x ∷ []) (done + 1) after
+walk_more P word lacks count text items done rest after x walk more leads = record {
   counted = let counted = walk.counted in omega (arith, length_push items x);
-  meets = All-push P items x walk.meets good;
+  meets = All-push P items x walk.meets leads.0;
   front =
-      walk.front ∙ ap (λ r. spaced (map word items) ++ r) (leads.text_is ∙ ap (λ v. 32 ∷ (v ++ after)) is)
-      ∙ sym (spaced_push (map word items) (word x) after) ∙ ap (λ words. spaced words ++ after) (sym (map_push word items x));
+      walk.front ∙ ap (λ r. spaced (map word items) ++ r) leads.1.text_is ∙ sym (spaced_push (map word items) (word x) after)
+      ∙ ap (λ words. spaced words ++ after) (sym (map_push word items x));
   later = λ all h.
       let left = walk.later all h in
-      let next = next_word P word lacks (count - done) rest w after left.0 (omega arith) leads left.1 in
-      (next.1, record { counted = let counted = next.4.counted in omega arith; meets = next.4.meets; text_is = next.4.text_is });
+      let next = next_word P word lacks (count - done) rest x after left.0 (omega arith) leads left.1 in
+      (next.0, record { counted = let counted = next.1.counted in omega arith; meets = next.1.meets; text_is = next.1.text_is });
 }
 
--- nothing spells so many where no word comes next
-pub walk_misses : {A : Type 0} (P : A → Type 0) (word : A → List ℕ)
-    → (count : ℕ) (text : List ℕ) (items : List A) (done : ℕ) (rest : List ℕ)
-    → Walks P word count text items done rest → done < count → ((more : List ℕ) → rest ≡ 32 ∷ more → ⊥)
+-- nothing spells so many where no item comes next
+pub walk_misses : {A : Type 0} (P : A → Type 0) (word : A → List ℕ) → HaveNoSpace P word → (count : ℕ) (text : List ℕ) (items : List A) (done : ℕ) (rest : List ℕ)
+    → Walks P word count text items done rest → done < count → ((x : A) (after : List ℕ) → LeadsToItem P word rest x after → ⊥)
     → (all : List A) → SpellsItems P word count text all → ⊥
-walk_misses {A = A} P word count text items done rest walk more none all h =
+walk_misses {A = A} P word lacks count text items done rest walk more none all h =
     let left = walk.later all h in nothing left.0 left.1
   where
     nothing : (left : List A) → SpellsItems P word (count - done) rest left → ⊥
     nothing [] h = let counted = h.counted in omega arith
-    nothing (y ∷ ys) h = none (word y ++ spaced (map word ys)) h.text_is
-
--- or the next word is no item's
-pub walk_refuses : {A : Type 0} (P : A → Type 0) (word : A → List ℕ) → ((x : A) → P x → Lacks 32 (word x))
-    → (count : ℕ) (text : List ℕ) (items : List A) (done : ℕ) (rest w after : List ℕ)
-    → Walks P word count text items done rest → done < count → LeadsTo 32 rest w after → ((x : A) → P x → w ≡ word x → ⊥)
-    → (all : List A) → SpellsItems P word count text all → ⊥
-walk_refuses P word lacks count text items done rest w after walk more leads none all h =
-    let left = walk.later all h in
-    let next = next_word P word lacks (count - done) rest w after left.0 (omega arith) leads left.1 in
-    none next.0 next.2 next.3
+    nothing (y ∷ ys) h = none y (spaced (map word ys)) (first_word P word lacks (count - done) rest y ys h)
 
 -- or more follows
 pub walk_goes_on : {A : Type 0} (P : A → Type 0) (word : A → List ℕ)

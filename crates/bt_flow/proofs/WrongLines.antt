@@ -10,7 +10,8 @@ use Rattle.bt_text.specs.Blanks.{IsBlank}
 use Rattle.bt_text.specs.Lines.{Lacks}
 use Rattle.bt_net.specs.Network.{Network}
 use Rattle.bt_flow.specs.declared.property.Property.{Property}
-use Rattle.bt_flow.specs.Pieces.{BeginsWith, CutsAt, LeadsTo, HasByteAfter}
+use Rattle.bt_text.specs.Pieces.{BeginsWith, CutsAt, LeadsTo}
+use Rattle.bt_flow.specs.inner.Lines.{LeadsOn, StopsAt, StopsInTwo, HasByteAfter}
 use Rattle.bt_flow.specs.StateLines.{Form, Fills, forms, lines_of, IsRightAt, IsFirstWrong, IsWrongLine, blanks}
 
 -- the test for another byte
@@ -60,7 +61,7 @@ outer form wanted line lines j right = at (slice_get lines j) right
     at (Some line) h = h
 
 -- the first line is right, and in the others the first wrong one is this
-pub first_later : (form : Form) (wanted : List Form) (line : List ℕ) (lines : List (List ℕ)) (k : ℕ) → Fills form line → IsFirstWrong wanted lines k
+first_later : (form : Form) (wanted : List Form) (line : List ℕ) (lines : List (List ℕ)) (k : ℕ) → Fills form line → IsFirstWrong wanted lines k
     → IsFirstWrong (form ∷ wanted) (line ∷ lines) (suc k)
 first_later form wanted line lines k fills h = record {
   wrong = λ right. h.wrong (inner form wanted line lines k right);
@@ -104,7 +105,7 @@ reach_first n p bytes form wanted line rest are cuts fills = record {
   begins = cuts.begins;
 }
 
-pub reach_next : (n : Network) (p : Property) (bytes : List ℕ) (form : Form) (wanted : List Form) (done : ℕ) (text line rest : List ℕ)
+reach_next : (n : Network) (p : Property) (bytes : List ℕ) (form : Form) (wanted : List Form) (done : ℕ) (text line rest : List ℕ)
     → Reaches n p bytes (form ∷ wanted) done text → LeadsTo 10 text line rest → Fills form line → Reaches n p bytes wanted (done + 1) rest
 reach_next n p bytes form wanted done text line rest reach leads fills = record {
   fails = λ k h.
@@ -114,8 +115,13 @@ reach_next n p bytes form wanted done text line rest reach leads fills = record 
   begins = leads.begins;
 }
 
+-- the line that comes next is right
+pub reach_on : (n : Network) (p : Property) (bytes : List ℕ) (form : Form) (wanted : List Form) (done : ℕ) (text rest : List ℕ)
+    → Reaches n p bytes (form ∷ wanted) done text → LeadsOn (Fills form) text rest → Reaches n p bytes wanted (done + 1) rest
+reach_on n p bytes form wanted done text rest reach h = reach_next n p bytes form wanted done text h.line rest reach h.leads h.right
+
 -- no line follows
-pub stop_missing : (n : Network) (p : Property) (bytes : List ℕ) (form : Form) (wanted : List Form) (done : ℕ) (text : List ℕ)
+stop_missing : (n : Network) (p : Property) (bytes : List ℕ) (form : Form) (wanted : List Form) (done : ℕ) (text : List ℕ)
     → Reaches n p bytes (form ∷ wanted) done text → ((rest : List ℕ) → text ≡ 10 ∷ rest → ⊥) → IsWrongLine n p bytes (done + 1)
 unfolding lines_after
 stop_missing n p bytes form wanted done text reach none = (done, refl, at)
@@ -131,7 +137,7 @@ stop_missing n p bytes form wanted done text reach none = (done, refl, at)
     at = subst (λ m. IsFirstWrong (forms n p) (lines_of bytes) m) (omega arith) (reach.fails 0 missing)
 
 -- the line that follows isn't right
-pub stop_unfilled : (n : Network) (p : Property) (bytes : List ℕ) (form : Form) (wanted : List Form) (done : ℕ) (text line rest : List ℕ)
+stop_unfilled : (n : Network) (p : Property) (bytes : List ℕ) (form : Form) (wanted : List Form) (done : ℕ) (text line rest : List ℕ)
     → Reaches n p bytes (form ∷ wanted) done text → LeadsTo 10 text line rest → (Fills form line → ⊥) → IsWrongLine n p bytes (done + 1)
 stop_unfilled n p bytes form wanted done text line rest reach leads wrong = (done, refl, at)
   where
@@ -142,6 +148,21 @@ stop_unfilled n p bytes form wanted done text line rest reach leads wrong = (don
 
     at : IsFirstWrong (forms n p) (lines_of bytes) done
     at = subst (λ m. IsFirstWrong (forms n p) (lines_of bytes) m) (omega arith) (reach.fails 0 unfilled)
+
+-- no right line comes next
+pub stop_at : (n : Network) (p : Property) (bytes : List ℕ) (form : Form) (wanted : List Form) (done : ℕ) (text : List ℕ)
+    → Reaches n p bytes (form ∷ wanted) done text → StopsAt (Fills form) text → IsWrongLine n p bytes (done + 1)
+stop_at n p bytes form wanted done text reach (inl none) = stop_missing n p bytes form wanted done text reach none
+stop_at n p bytes form wanted done text reach (inr (rest, other)) = stop_unfilled n p bytes form wanted done text other.line rest reach other.leads other.right
+
+-- of two lines that are to come next one isn't right
+pub stop_in_two : (n : Network) (p : Property) (bytes : List ℕ) (first second : Form) (wanted : List Form) (done : ℕ) (text : List ℕ) (line : ℕ)
+    → Reaches n p bytes (first ∷ second ∷ wanted) done text → StopsInTwo (done + 1) (Fills first) (Fills second) text line → IsWrongLine n p bytes line
+stop_in_two n p bytes first second wanted done text line reach (inl (is, stops)) =
+    subst (λ k. IsWrongLine n p bytes k) (sym is) (stop_at n p bytes first (second ∷ wanted) done text reach stops)
+stop_in_two n p bytes first second wanted done text line reach (inr (is, more)) =
+    subst (λ k. IsWrongLine n p bytes k) (sym is)
+    (stop_at n p bytes second wanted (done + 1) more.0 (reach_on n p bytes first (second ∷ wanted) done text more.0 reach more.1) more.2)
 
 -- the first line isn't right
 pub stop_first : (n : Network) (p : Property) (bytes : List ℕ) (form : Form) (wanted : List Form) (line rest : List ℕ)

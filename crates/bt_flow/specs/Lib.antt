@@ -4,8 +4,8 @@ pub mod Properties
 pub mod Tests
 pub mod Sums
 pub mod Judging
-pub mod Ports
+pub mod Names
 pub mod StateText
-pub mod Pieces
 pub mod StateLines
-pub mod StateFaults
+pub mod StateReading
+pub mod inner

@@ -44,7 +44,7 @@ asks_rooms DrawnEvenly = false
 asks_rooms Unlimited = false
 asks_rooms Full = true
 
--- the condition of a property on loads and rooms
+-- the state meets the condition of a property on loads and rooms
 pub record Meets (p : Property) (n : Network) (s : Flows) : Type 0 where
   pub loads : IsTrue (asks_loads p) → (i : ℕ) → i < n.inputs → IsLoaded n s i
   pub rooms : IsTrue (asks_rooms p) → (o : ℕ) → o < n.outputs → IsOpen n s o
@@ -72,7 +72,7 @@ abbrev pub total : List ℤ → ℤ
 total [] = pos 0
 total (z ∷ zs) = z +ℤ total zs
 
--- the lesser of two whole numbers
+-- a whole number is the lesser of two
 abbrev pub IsLesser : ℤ → ℤ → ℤ → Type 0
 IsLesser z x y = ((z ≡ x) × (x ≤ℤ y)) ⊎ ((z ≡ y) × (y ≤ℤ x))
 
@@ -80,7 +80,7 @@ IsLesser z x y = ((z ≡ x) × (x ≤ℤ y)) ⊎ ((z ≡ y) × (y ≤ℤ x))
 abbrev pub PassesAll : Network → Flows → Type 0
 PassesAll n s = IsLesser (sum_where is_last n.edges s.flows) (total s.loads) (total s.rooms)
 
--- the conclusion of a property
+-- the conclusion of a property is true of the state
 abbrev pub Concludes : Property → Network → Flows → Type 0
 Concludes Balanced n s = HasEqualOutputs n s
 Concludes DrawnEvenly n s = HasEqualInputs n s

@@ -6,7 +6,8 @@ use Rattle.bt_frac.specs.Ratio.{Ratio, IsLowest}
 use Rattle.bt_frac.specs.Texts.{frac_text}
 use Rattle.bt_net.specs.Network.{Network}
 use Rattle.bt_flow.specs.declared.property.Property.{Property}
-use Rattle.bt_flow.specs.StateText.{property_name, mark_text, spaced}
+use Rattle.bt_flow.specs.Names.{property_name}
+use Rattle.bt_flow.specs.StateText.{mark_text, spaced}
 
 -- what a line has to be: these bytes; a word and so many fractions; `mark` and so many marks; or blanks
 pub data Form : Type 0 where
@@ -29,7 +30,7 @@ SpellsFractions count text fractions = SpellsItems IsLowest frac_text count text
 abbrev pub SpellsMarks : ℕ → List ℕ → List Bool → Type 0
 SpellsMarks count text backed = SpellsItems (λ _. ⊤) mark_text count text backed
 
--- the line is the word, and what follows it spells such a list
+-- the line begins with the word, and what follows it spells the list
 pub record Follows {A : Type 0} (word line : List ℕ) (Spells : List ℕ → List A → Type 0) (items : List A) : Type 0 where
   pub text : List ℕ
   pub line_is : line ≡ word ++ text
@@ -61,11 +62,12 @@ lines_of bytes = slice_split (λ b. b == 10) bytes
 abbrev pub IsRightAt : List Form → List (List ℕ) → ℕ → Type 0
 IsRightAt wanted lines k = MatchOption (slice_get lines k) (length wanted ≤ k) (λ line. Fills (slice_index_or wanted k blanks) line)
 
--- the first line that isn't right, by its number from 0
+-- the line with this number, from 0, is the first that isn't right
 pub record IsFirstWrong (wanted : List Form) (lines : List (List ℕ)) (k : ℕ) : Type 0 where
   pub wrong : IsRightAt wanted lines k → ⊥
   pub earlier : (j : ℕ) → j < k → IsRightAt wanted lines j
 
--- the first line, by its number from 1, that isn't the one that belongs there in the text of a state of the network for the property
+-- the line with this number, from 1, is the first that isn't the one that belongs there in the text of a
+-- state of the network for the property
 abbrev pub IsWrongLine : Network → Property → List ℕ → ℕ → Type 0
 IsWrongLine n p bytes line = (k : ℕ) × (line ≡ k + 1) × IsFirstWrong (forms n p) (lines_of bytes) k

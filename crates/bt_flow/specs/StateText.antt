@@ -4,17 +4,9 @@ use Rattle.std.specs.List.{flat_map}
 use Rattle.bt_text.specs.Blanks.{IsBlank}
 use Rattle.bt_text.specs.Lines.{line}
 use Rattle.bt_flow.specs.declared.property.Property.{Property}
-use Rattle.bt_flow.specs.declared.property.Property.TheVariants.{Balanced, DrawnEvenly, Unlimited, Full}
-use Rattle.bt_flow.specs.declared.state.State.{State}
-use Rattle.bt_frac.specs.Ratio.{IsLowest}
+use Rattle.bt_flow.specs.States.{Fractions, AreLowest}
+use Rattle.bt_flow.specs.Names.{property_name}
 use Rattle.bt_frac.specs.Texts.{frac_text}
-
--- the name of a property
-abbrev pub property_name : Property → List ℕ
-property_name Balanced = codes "balanced"
-property_name DrawnEvenly = codes "drawn-evenly"
-property_name Unlimited = codes "unlimited"
-property_name Full = codes "full"
 
 -- `f` for a free edge and `b` for a backed one
 abbrev pub mark_text : Bool → List ℕ
@@ -26,19 +18,17 @@ abbrev pub spaced : List (List ℕ) → List ℕ
 spaced words = flat_map (λ w. codes " " ++ w) words
 
 -- the six lines of a state for a property, the last without its line feed
-abbrev pub state_text : Property → State → List ℕ
+abbrev pub state_text : Property → Fractions → List ℕ
 state_text p t =
     line (codes "no " ++ property_name p)
-    ++ line (codes "load" ++ spaced (map frac_text t.loads.items))
-    ++ line (codes "room" ++ spaced (map frac_text t.rooms.items))
-    ++ line (codes "flow" ++ spaced (map frac_text t.flows.items))
-    ++ line (codes "mark" ++ spaced (map mark_text t.backed.items))
+    ++ line (codes "load" ++ spaced (map frac_text t.loads))
+    ++ line (codes "room" ++ spaced (map frac_text t.rooms))
+    ++ line (codes "flow" ++ spaced (map frac_text t.flows))
+    ++ line (codes "mark" ++ spaced (map mark_text t.backed))
     ++ codes "end"
 
 -- the bytes are the text of the state for the property, of which each fraction is in lowest terms; the
 -- last line feed may be missing, and blanks may follow it
-pub record IsStateText (p : Property) (t : State) (bytes : List ℕ) : Type 0 where
-  pub loads : All IsLowest t.loads.items
-  pub rooms : All IsLowest t.rooms.items
-  pub flows : All IsLowest t.flows.items
+pub record IsStateText (p : Property) (t : Fractions) (bytes : List ℕ) : Type 0 where
+  pub lowest : AreLowest t
   pub text : (bytes ≡ state_text p t) ⊎ ((blanks : List ℕ) × All IsBlank blanks × (bytes ≡ state_text p t ++ 10 ∷ blanks))

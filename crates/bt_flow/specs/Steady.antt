@@ -5,7 +5,7 @@ use Rattle.bt_net.specs.declared.network.Edge.{Edge}
 use Rattle.bt_net.specs.Network.{Network, leaves, enters, is_input, is_output}
 use Rattle.bt_flow.specs.States.{Flows, flow_at, backed_at, load_at, room_at, cap_in}
 
--- the edge with this number
+-- this is the edge of the network with this number
 abbrev pub HasEdge : Network → ℕ → Edge → Type 0
 HasEdge n a e = slice_get n.edges a ≡ Some e
 
@@ -48,7 +48,7 @@ abbrev pub FillsOutput : Network → Flows → ℕ → Type 0
 FillsOutput n s o = (a : ℕ) (e : Edge) → HasEdge n a e → IsTrue (is_output o e)
     → (flow_at s a ≤ℤ room_at s o) × (backed_at s a ≡ true → flow_at s a ≡ room_at s o)
 
--- the seven laws hold everywhere
+-- the state is steady: the seven laws hold everywhere
 pub record IsSteady (n : Network) (s : Flows) : Type 0 where
   pub range : (a : ℕ) → a < length n.edges → KeepsRange n s a
   pub conserve : (k : ℕ) → k < n.splitters → Conserves n s k

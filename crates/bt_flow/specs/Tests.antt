@@ -19,7 +19,7 @@ order_of test.EvenIn = 5
 order_of test.Backing = 6
 order_of test.Input = 7
 order_of test.Output = 8
-order_of test.Kept = 9
+order_of test.Conclusion = 9
 
 -- how many places a test has: inputs, outputs, edges, splitters, or one
 abbrev pub places : Network → Test → ℕ
@@ -32,20 +32,20 @@ places n test.EvenIn = length n.edges
 places n test.Backing = length n.edges
 places n test.Input = n.inputs
 places n test.Output = n.outputs
-places n test.Kept = 1
+places n test.Conclusion = 1
 
--- the state passes the test at the place
-abbrev pub Passes : Network → Property → Flows → Test → ℕ → Type 0
-Passes n p s test.Load i = AdmitsLoad n s i × (IsTrue (asks_loads p) → IsLoaded n s i)
-Passes n p s test.Room o = AdmitsRoom n s o × (IsTrue (asks_rooms p) → IsOpen n s o)
-Passes n p s test.Range a = KeepsRange n s a
-Passes n p s test.Conserve k = Conserves n s k
-Passes n p s test.EvenOut a = EvensOut n s a
-Passes n p s test.EvenIn a = EvensIn n s a
-Passes n p s test.Backing a = Backs n s a
-Passes n p s test.Input i = FeedsInput n s i
-Passes n p s test.Output o = FillsOutput n s o
-Passes n p s test.Kept a = Concludes p n s → ⊥
+-- the state passes the test at the place: the last one where the conclusion of the property is false
+abbrev pub PassesAt : Network → Property → Flows → Test → ℕ → Type 0
+PassesAt n p s test.Load i = AdmitsLoad n s i × (IsTrue (asks_loads p) → IsLoaded n s i)
+PassesAt n p s test.Room o = AdmitsRoom n s o × (IsTrue (asks_rooms p) → IsOpen n s o)
+PassesAt n p s test.Range a = KeepsRange n s a
+PassesAt n p s test.Conserve k = Conserves n s k
+PassesAt n p s test.EvenOut a = EvensOut n s a
+PassesAt n p s test.EvenIn a = EvensIn n s a
+PassesAt n p s test.Backing a = Backs n s a
+PassesAt n p s test.Input i = FeedsInput n s i
+PassesAt n p s test.Output o = FillsOutput n s o
+PassesAt n p s test.Conclusion a = Concludes p n s → ⊥
 
 -- one test at a place comes before another at a place
 abbrev pub IsEarlier : Test → ℕ → Test → ℕ → Type 0
@@ -58,12 +58,12 @@ IsAmong first last t = (first ≤ order_of t) × (order_of t ≤ last)
 -- of the tests from the place `first` to the place `last` of the order, each that comes before a test at
 -- a place passes
 abbrev pub PassesUpTo : Network → Property → Flows → ℕ → ℕ → Test → ℕ → Type 0
-PassesUpTo n p s first last t a = (u : Test) (b : ℕ) → IsAmong first last u → b < places n u → IsEarlier u b t a → Passes n p s u b
+PassesUpTo n p s first last t a = (u : Test) (b : ℕ) → IsAmong first last u → b < places n u → IsEarlier u b t a → PassesAt n p s u b
 
 -- of the tests from the place `first` to the place `last` of the order, this is the first that fails, and
 -- this is its least place
 pub record FailsFirst (n : Network) (p : Property) (s : Flows) (first last : ℕ) (t : Test) (a : ℕ) : Type 0 where
   pub among : IsAmong first last t
   pub place : a < places n t
-  pub fails : Passes n p s t a → ⊥
+  pub fails : PassesAt n p s t a → ⊥
   pub earlier : PassesUpTo n p s first last t a

@@ -1,13 +1,14 @@
-ghost use Rattle.std.specs.Prelude.{◌≡◌, ℕ, ℤ, pos, ◌<◌, ◌*◌, ◌≤ℤ◌, ◌↔◌, IsTrue};
-ghost use Rattle.bt_frac.specs.Ratio.{IsOver};
+//! Comparisons of fractions, said of the whole numbers that they are over any denominator.
+ghost use Rattle.std.specs.Prelude.{◌≡◌, pos, ◌*◌, ◌≤ℤ◌, ◌↔◌, ℤ, ℕ, ◌<◌, IsTrue};
 ghost use Rattle.bt_flow.specs.Properties.{IsLesser};
+ghost use Rattle.bt_flow.specs.inner.Compared.{TellsOfOne, TellsOfTwo, TellsOfThree};
 
 use bt_frac::Frac;
 use std::cmp::Ordering;
 
 /// Whether the left number is at most the right one.
 pub fn is_at_most(left: &Frac, right: &Frac) -> bool
-    ensures { (x y : ℤ) (d : ℕ) → 0 < d → IsOver left.now x d → IsOver right.now y d → IsTrue result ↔ (x ≤ℤ y) }
+    ensures { TellsOfTwo left.now right.now (λ x y. x ≤ℤ y) result }
 {
     match left.compare(right) {
         Ordering::Less | Ordering::Equal => true,
@@ -17,7 +18,7 @@ pub fn is_at_most(left: &Frac, right: &Frac) -> bool
 
 /// Whether two numbers are equal.
 pub fn is_same(left: &Frac, right: &Frac) -> bool
-    ensures { (x y : ℤ) (d : ℕ) → 0 < d → IsOver left.now x d → IsOver right.now y d → IsTrue result ↔ (x ≡ y) }
+    ensures { TellsOfTwo left.now right.now (λ x y. x ≡ y) result }
 {
     match left.compare(right) {
         Ordering::Equal => true,
@@ -33,21 +34,21 @@ fn cap_of(cap: u32) -> Frac
 
 /// Whether a number is from 0 to a cap.
 pub fn is_within(number: &Frac, cap: u32) -> bool
-    ensures { (x : ℤ) (d : ℕ) → 0 < d → IsOver number.now x d → IsTrue result ↔ ((pos 0 ≤ℤ x) × (x ≤ℤ pos (cap * d))) }
+    ensures { TellsOfOne number.now (λ x d. (pos 0 ≤ℤ x) × (x ≤ℤ pos (cap * d))) result }
 {
     is_at_most(&cap_of(0), number) && is_at_most(number, &cap_of(cap))
 }
 
 /// Whether a number is a cap.
 pub fn is_full(number: &Frac, cap: u32) -> bool
-    ensures { (x : ℤ) (d : ℕ) → 0 < d → IsOver number.now x d → IsTrue result ↔ (x ≡ pos (cap * d)) }
+    ensures { TellsOfOne number.now (λ x d. x ≡ pos (cap * d)) result }
 {
     is_same(number, &cap_of(cap))
 }
 
 /// Whether a number is the lesser of two.
 pub fn is_lesser(number: &Frac, left: &Frac, right: &Frac) -> bool
-    ensures { (z x y : ℤ) (d : ℕ) → 0 < d → IsOver number.now z d → IsOver left.now x d → IsOver right.now y d → IsTrue result ↔ IsLesser z x y }
+    ensures { TellsOfThree number.now left.now right.now IsLesser result }
 {
     if is_at_most(left, right) {
         is_same(number, left)

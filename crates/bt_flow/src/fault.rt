@@ -1,3 +1,4 @@
+//! Why bytes are no state.
 ghost use Rattle.std.specs.Prelude.{◌≡◌};
 ghost use Rattle.bt_flow.specs.declared.fault.StateFault.TheVariants.{Memory};
 

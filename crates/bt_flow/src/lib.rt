@@ -1,25 +1,25 @@
-// Steady states of splitter networks, the properties of balancers, and the states that break them.
+//! Steady states of splitter networks, the properties of balancers, and the states that break them.
 #![tactic(auto)]
 
+mod at_ports;
 mod compare;
 mod conclusion;
 mod fault;
 mod judge;
 mod judgement;
-mod law;
-mod laws;
-mod passing;
 mod ports;
 mod property;
 mod reading;
 mod state;
 mod sums;
+mod theorems;
+mod trial;
 
 pub use fault::StateFault;
 pub use judge::{breaks, steady};
-pub use judgement::{Judgement, Test, WideSum};
-pub use law::{has_flows, holds_exactly};
+pub use judgement::{FIRST_LAW, Judgement, LAST_LAW, LAST_TEST, TESTS, Test, WideSum};
 pub use property::Property;
 pub use reading::{one_state, read_state};
 pub use state::State;
 pub use std::alloc::AllocError as Memory;
+pub use theorems::{has_flows, holds_exactly};

@@ -1,14 +1,18 @@
-ghost use Rattle.std.specs.Prelude.{◌≡◌, ℕ, ◌+◌, ◌==◌, ◌<◌, ◌≤◌, ◌++◌, ◌∷◌, [], false, IfSome, IfNone, IsTrue, length, count_by, All, slice_index_or};
+//! The edges at each input, output and splitter, found once, so that no test looks for them.
+ghost use Rattle.std.specs.Prelude.{◌≡◌, ◌==◌, ◌<◌, ◌++◌, ◌∷◌, [], ℕ, false, IfSome, IfNone, length};
 ghost use Rattle.bt_net.specs.Network.{IsNetwork};
-ghost use Rattle.bt_flow.specs.Ports.{numbers_of, plays, AreAt, ArePorts};
+ghost use Rattle.bt_flow.specs.inner.Ports.{numbers_of, plays, AreAt, ArePorts};
 
-use bt_net::{Edge, Net, Start, Target};
+use bt_net::{Edge, MOST_OF_EACH, Net, Start, Target};
 
 /// The edges at one end of a network, by their numbers in ascending order.
 #[derive(Clone, Copy)]
 pub enum Port {
+    /// No edge.
     Unused,
+    /// One edge.
     One(u16),
+    /// Two edges, which is the most.
     Two(u16, u16),
 }
 
@@ -29,9 +33,13 @@ impl Port {
 /// What an edge is at one of its two ends.
 #[derive(Clone, Copy)]
 pub enum Role {
+    /// It starts at an input.
     FromInput,
+    /// It ends at an output.
     ToOutput,
+    /// It starts at a splitter.
     OutOf,
+    /// It ends at a splitter.
     Into,
 }
 
@@ -52,11 +60,11 @@ impl Role {
 }
 
 /// The edges with a role, at each number.
-fn ports_of(net: &Net, role: Role) -> [Port; 2048]
+fn ports_of(net: &Net, role: Role) -> [Port; MOST_OF_EACH]
     ensures ports { AreAt net.now role result }
     ensures network { IsNetwork net.now }
 {
-    let mut ports = [Port::Unused; 2048];
+    let mut ports = [Port::Unused; MOST_OF_EACH];
     for (place, edge) in net.edges().iter().enumerate() {
         if let Some(number) = role.number_in(edge) {
             let port = ports[number as usize];
@@ -69,13 +77,15 @@ fn ports_of(net: &Net, role: Role) -> [Port; 2048]
 /// The edges at each input, at each output, and at both sides of each splitter.
 #[derive(Drop)]
 pub struct Ports {
-    pub inputs: [Port; 2048],
-    pub outputs: [Port; 2048],
-    pub out_of: [Port; 2048],
-    pub into: [Port; 2048],
+    pub inputs: [Port; MOST_OF_EACH],
+    pub outputs: [Port; MOST_OF_EACH],
+    pub out_of: [Port; MOST_OF_EACH],
+    pub into: [Port; MOST_OF_EACH],
 }
 
 impl Ports {
+    /// The ports of a network. Each is as long as the largest network needs, since that takes no memory
+    /// beyond the stack.
     pub fn of(net: &Net) -> Ports
         ensures { ArePorts net.now result }
     {

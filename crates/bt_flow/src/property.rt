@@ -1,7 +1,9 @@
-ghost use Rattle.std.specs.Prelude.{◌≡◌};
+//! The properties of balancers that a state may break.
+ghost use Rattle.std.specs.Prelude.{◌≡◌, ◌↔◌, Some};
 ghost use Rattle.bt_flow.specs.Properties.{asks_loads, asks_rooms};
+ghost use Rattle.bt_flow.specs.Names.{property_name};
 
-/// A property that the steady states of a balancer may have. (Factorio Wiki on balancers.)
+/// A property that the steady states of a balancer may have. (Factorio Wiki, on balancers.)
 #[derive(Clone, Copy, Debug, PartialEq, Eq)]
 pub enum Property {
     /// Where no output is blocked, all output flows are equal.
@@ -15,6 +17,31 @@ pub enum Property {
 }
 
 impl Property {
+    /// The property with this name, where one has it.
+    pub fn named(name: &str) -> Option<Property>
+        ensures { (p : Property) → (result ≡ Some p) ↔ (name.now ≡ property_name p) }
+    {
+        match name {
+            "balanced" => Some(Property::Balanced),
+            "drawn-evenly" => Some(Property::DrawnEvenly),
+            "unlimited" => Some(Property::Unlimited),
+            "full" => Some(Property::Full),
+            _ => None,
+        }
+    }
+
+    /// The name of the property, as commands, states and certificates write it.
+    pub fn name(self) -> &'static str
+        ensures { result.now ≡ property_name self }
+    {
+        match self {
+            Property::Balanced => "balanced",
+            Property::DrawnEvenly => "drawn-evenly",
+            Property::Unlimited => "unlimited",
+            Property::Full => "full",
+        }
+    }
+
     /// Whether it speaks of states alone in which every input is fully loaded.
     pub fn asks_loads(self) -> bool
         ensures { result ≡ asks_loads self }

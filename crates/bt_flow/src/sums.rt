@@ -1,20 +1,23 @@
-ghost use Rattle.std.specs.Prelude.{◌≡◌, ◌<◌, ℕ, List, IfOk, IfErr, length, map, slice_index_or};
-ghost use Rattle.std.specs.List.{AllByRecursion};
-ghost use Rattle.bt_flow.specs.Sums.{nothing, AddsTo, IsWide, RunsTo, IsWideIn, fractions_where};
-ghost use Rattle.bt_flow.specs.Ports.{numbers_of};
+//! Sums of flows, formed one addition after another, and the first addition that leaves 128 bits.
+ghost use Rattle.std.specs.Prelude.{◌≡◌, ◌<◌, IfOk, IfErr, length};
+ghost use Rattle.bt_frac.specs.Ratio.{IsWide};
+ghost use Rattle.bt_flow.specs.Sums.{nothing, AddsTo, RunsTo, IsWideIn, fractions_where};
 ghost use Rattle.bt_flow.specs.Properties.{is_last};
+ghost use Rattle.bt_flow.specs.inner.Ports.{flows_of};
+ghost use Rattle.bt_flow.specs.inner.AtPorts.{AtEach};
 
 use crate::ports::Port;
 use bt_frac::Frac;
 use bt_net::{Edge, Target};
 
-/// Two numbers whose addition leaves 128 bits.
+/// Two numbers whose addition leaves 128 bits, at whatever test and place.
 #[derive(Clone, Copy)]
 pub struct Wide {
     pub left: Frac,
     pub right: Frac,
 }
 
+/// The sum of two numbers.
 fn add(left: Frac, right: Frac) -> Result<Frac, Wide>
     ensures sum { IfOk result (λ r. AddsTo left right r) }
     ensures wide { IfErr result (λ w. (w.left ≡ left) × (w.right ≡ right) × IsWide left right) }
@@ -39,9 +42,9 @@ pub fn sum_of(numbers: &[Frac]) -> Result<Frac, Wide>
 
 /// The sum of the flows of the edges of a port.
 pub fn port_sum(flows: &[Frac], port: Port) -> Result<Frac, Wide>
-    requires { AllByRecursion (λ a. a < length flows.now) (numbers_of port) }
-    ensures sum { IfOk result (λ r. RunsTo nothing (map (λ a. slice_index_or flows.now a nothing) (numbers_of port)) r) }
-    ensures wide { IfErr result (λ w. IsWideIn w.left w.right (map (λ a. slice_index_or flows.now a nothing) (numbers_of port))) }
+    requires { AtEach port (λ a. a < length flows.now) }
+    ensures sum { IfOk result (λ r. RunsTo nothing (flows_of flows.now port) r) }
+    ensures wide { IfErr result (λ w. IsWideIn w.left w.right (flows_of flows.now port)) }
 {
     let zero = Frac::whole(0);
     match port {

@@ -5,7 +5,7 @@ use Rattle.bt_io.specs.Bytes.{IsAllOf}
 use Rattle.bt_io.proofs.Told.{all_told, takes_told}
 use Rattle.bt_flow.specs.declared.property.Property.{Property}
 use Rattle.bt_flow.specs.declared.property.Property.TheVariants.{Balanced, DrawnEvenly, Unlimited, Full}
-use Rattle.bt_flow.specs.StateText.{property_name}
+use Rattle.bt_flow.specs.Names.{property_name}
 use Rattle.bt_top.specs.declared.answer.Answer.{Answer}
 use Rattle.bt_top.specs.declared.answer.Answer.TheVariants as answer
 use Rattle.bt_top.specs.declared.command.Command.{Command}

@@ -3,7 +3,7 @@ use Rattle.std.proofs.Common.{◌≡◌, ℕ, ◌<◌, ◌≤◌, List, [], ◌�
 use Rattle.std.proofs.lemmas.Bool.{cases_lt}
 use Rattle.bt_net.specs.Network.{Network}
 use Rattle.bt_flow.specs.declared.judgement.Judgement.{Judgement}
-use Rattle.bt_flow.specs.declared.judgement.Judgement.TheVariants.{Holds, Fails}
+use Rattle.bt_flow.specs.declared.judgement.Judgement.TheVariants.{Passes, Fails}
 use Rattle.bt_flow.specs.declared.judgement.WideSum.{WideSum}
 use Rattle.bt_flow.specs.declared.property.Property.{Property}
 use Rattle.bt_flow.specs.declared.state.State.{State}
@@ -29,7 +29,7 @@ use Rattle.bt_top.proofs.SameLists.{same_judged}
 
 -- the answer that a verdict on the state gives
 answer_for : Property → Result Judgement WideSum → Answer
-answer_for p (Ok Holds) = answer.Breaks p
+answer_for p (Ok Passes) = answer.Breaks p
 answer_for p (Ok (Fails u a)) = answer.NotBreaking u a
 answer_for p (Err w) = answer.WideState w.test w.place
 
@@ -37,7 +37,7 @@ answer_for p (Err w) = answer.WideState w.test w.place
 verdict : (n : Network) (p : Property) (t : State) (s : Flows) (a : Answer) → IsAnswerTo n p t s a
     → (x : Result Judgement WideSum) × IsBreakingAnswer n p t s x × (a ≡ answer_for p x)
 unfolding answer_for
-verdict n p t s (answer.Breaks q) h = (Ok Holds, (h.1, h.2), ap answer.Breaks h.0)
+verdict n p t s (answer.Breaks q) h = (Ok Passes, (h.1, h.2), ap answer.Breaks h.0)
 verdict n p t s (answer.NotBreaking u a) h = (Ok (Fails u a), (h.0, h.1), refl)
 verdict n p t s (answer.WideState u a) h = (Err h.0, h.3, ap (λ v. answer.WideState v a) h.1 ∙ ap (λ b. answer.WideState h.0.test b) h.2)
 verdict n p t s answer.Usage h = absurd h

@@ -3,7 +3,7 @@ use Rattle.std.proofs.Common.{◌≡◌, ℕ, [], ◌∷◌, refl, ap, sym, subs
 use Rattle.bt_frac.specs.Ratio.{AreOver}
 use Rattle.bt_net.specs.Network.{Network, enters, leaves}
 use Rattle.bt_flow.specs.declared.judgement.Judgement.{Judgement}
-use Rattle.bt_flow.specs.declared.judgement.Judgement.TheVariants.{Holds, Fails}
+use Rattle.bt_flow.specs.declared.judgement.Judgement.TheVariants.{Passes, Fails}
 use Rattle.bt_flow.specs.declared.judgement.Test.{Test}
 use Rattle.bt_flow.specs.declared.judgement.Test.TheVariants as test
 use Rattle.bt_flow.specs.declared.judgement.WideSum.{WideSum}
@@ -46,7 +46,7 @@ same_sums n p t u e test.EvenIn a = refl
 same_sums n p t u e test.Backing a = refl
 same_sums n p t u e test.Input a = refl
 same_sums n p t u e test.Output a = refl
-same_sums n p t u e test.Kept a = same_conclusion p n t u e
+same_sums n p t u e test.Conclusion a = same_conclusion p n t u e
 
 same_stands : (n : Network) (t u : State) (s : Flows) → SameLists t u → StandsFor n t s → StandsFor n u s
 same_stands n t u s e h = record {
@@ -70,7 +70,7 @@ same_wide n p t u w e h = record {
 }
 
 same_answer : (n : Network) (p : Property) (t u : State) (s : Flows) (a : Answer) → SameLists t u → IsAnswerTo n p t s a → IsAnswerTo n p u s a
-same_answer n p t u s (answer.Breaks q) e h = (h.0, h.1, same_needs n p t u Holds e h.2)
+same_answer n p t u s (answer.Breaks q) e h = (h.0, h.1, same_needs n p t u Passes e h.2)
 same_answer n p t u s (answer.NotBreaking v a) e h = (h.0, same_needs n p t u (Fails v a) e h.1)
 same_answer n p t u s (answer.WideState v a) e h = (h.0, h.1, h.2, same_wide n p t u h.0 e h.3)
 same_answer n p t u s answer.Usage e h = h

@@ -1,9 +1,7 @@
 -- The statuses and the texts of answers.
 use Rattle.std.specs.Prelude.{ℕ, List, ◌++◌, codes, decimal}
 use Rattle.bt_net.specs.NetText.{line, net_text}
-use Rattle.bt_flow.specs.declared.judgement.Test.{Test}
-use Rattle.bt_flow.specs.declared.judgement.Test.TheVariants as test
-use Rattle.bt_flow.specs.StateText.{property_name}
+use Rattle.bt_flow.specs.Names.{property_name, test_name}
 use Rattle.bt_top.specs.declared.answer.Answer.{Answer}
 use Rattle.bt_top.specs.declared.answer.Answer.TheVariants.{Breaks, Recovered, Usage, Refused, WideState, CertLine, NotBreaking, TooLong}
 use Rattle.bt_top.specs.Refusals.{refusal_text}
@@ -18,19 +16,6 @@ status_of (WideState t a) = 5
 status_of (CertLine k) = 9
 status_of (NotBreaking t a) = 9
 status_of TooLong = 11
-
--- the word for a test
-abbrev pub test_name : Test → List ℕ
-test_name test.Load = codes "load"
-test_name test.Room = codes "room"
-test_name test.Range = codes "range"
-test_name test.Conserve = codes "conserve"
-test_name test.EvenOut = codes "even-out"
-test_name test.EvenIn = codes "even-in"
-test_name test.Backing = codes "backing"
-test_name test.Input = codes "input"
-test_name test.Output = codes "output"
-test_name test.Kept = codes "kept"
 
 -- the text of an answer
 abbrev pub text_of : Answer → List ℕ

@@ -1,6 +1,6 @@
 -- The words of commands, and how much a command reads.
 use Rattle.std.specs.Prelude.{◌≡◌, ℕ, List, [], ◌∷◌, codes}
-use Rattle.bt_flow.specs.StateText.{property_name}
+use Rattle.bt_flow.specs.Names.{property_name}
 use Rattle.bt_top.specs.declared.command.Command.{Command}
 use Rattle.bt_top.specs.declared.command.Command.TheVariants.{FlowCheck, Recover}
 

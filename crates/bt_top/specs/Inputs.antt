@@ -11,7 +11,7 @@ use Rattle.bt_flow.specs.StateLines.{IsWrongLine}
 use Rattle.bt_flow.specs.Properties.{Breaks}
 use Rattle.bt_flow.specs.Tests.{FailsFirst}
 use Rattle.bt_flow.specs.Judging.{IsWideSum, NeedsFit, last_test}
-use Rattle.bt_flow.specs.declared.judgement.Judgement.TheVariants.{Holds, Fails}
+use Rattle.bt_flow.specs.declared.judgement.Judgement.TheVariants.{Passes, Fails}
 use Rattle.bt_top.specs.declared.answer.Answer.{Answer}
 use Rattle.bt_top.specs.declared.answer.Answer.TheVariants as answer
 use Rattle.bt_top.specs.declared.command.Command.{Command}
@@ -40,7 +40,7 @@ pub record IsWritten (bytes : List ℕ) (n : Network) (p : Property) (t : State)
 -- this is the right answer to a state: that it breaks the property; or the first test that it fails, and
 -- at which place; in both no sum that the tests need leaves 128 bits; or the first test with such a sum
 abbrev pub IsAnswerTo : Network → Property → State → Flows → Answer → Type 0
-IsAnswerTo n p t s (answer.Breaks q) = (q ≡ p) × Breaks n p s × NeedsFit n p t 0 last_test Holds
+IsAnswerTo n p t s (answer.Breaks q) = (q ≡ p) × Breaks n p s × NeedsFit n p t 0 last_test Passes
 IsAnswerTo n p t s (answer.NotBreaking u a) = FailsFirst n p s 0 last_test u a × NeedsFit n p t 0 last_test (Fails u a)
 IsAnswerTo n p t s (answer.WideState u a) = (w : WideSum) × (u ≡ w.test) × (a ≡ w.place) × IsWideSum n p t 0 last_test w
 IsAnswerTo n p t s a = ⊥

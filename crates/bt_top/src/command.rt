@@ -1,6 +1,6 @@
 ghost use Rattle.std.specs.Prelude.{◌≡◌, ◌↔◌, ◌∷◌, [], IsTrue, IfSome, IfNone, map, codes, string_bytes};
 ghost use Rattle.bt_top.specs.Commands.{IsCommand, IsUsage, input_limit};
-ghost use Rattle.bt_flow.specs.StateText.{property_name};
+ghost use Rattle.bt_flow.specs.Names.{property_name};
 ghost use Rattle.bt_flow.specs.declared.property.Property.{Property as AProperty};
 
 use bt_flow::Property;

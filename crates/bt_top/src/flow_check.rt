@@ -45,7 +45,7 @@ fn judge(property: Property, net: &Net, state: &State) -> Answer
     ensures { (s : Flows) → StandsFor net.now state.now s → IsAnswerTo net.now property state.now s result }
 {
     match breaks(net, property, state) {
-        Ok(Judgement::Holds) => Answer::Breaks(property),
+        Ok(Judgement::Passes) => Answer::Breaks(property),
         Ok(Judgement::Fails { test, place }) => Answer::NotBreaking(test, place),
         Err(WideSum { test, place, .. }) => Answer::WideState(test, place),
     }

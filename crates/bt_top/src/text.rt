@@ -1,8 +1,8 @@
 ghost use Rattle.std.specs.Prelude.{◌≡◌, ◌++◌, ◌∷◌, [], IfOk, OnOk, decimal, codes};
 ghost use Rattle.bt_top.specs.Refusals.{member_name};
 ghost use Rattle.bt_top.specs.declared.answer.Answer.TheVariants.{Breaks, Refused, WideState, CertLine, NotBreaking};
-ghost use Rattle.bt_top.specs.Answers.{text_of, test_name};
-ghost use Rattle.bt_flow.specs.StateText.{property_name};
+ghost use Rattle.bt_top.specs.Answers.{text_of};
+ghost use Rattle.bt_flow.specs.Names.{property_name, test_name};
 
 use crate::refusal::Refusal;
 use bt_entities::Member;
@@ -41,7 +41,7 @@ fn test_word(test: Test) -> &'static [u8]
         Test::Backing => b"backing",
         Test::Input => b"input",
         Test::Output => b"output",
-        Test::Kept => b"kept",
+        Test::Conclusion => b"kept",
     }
 }
 

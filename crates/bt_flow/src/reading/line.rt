@@ -1,12 +1,33 @@
-// The lines of a state's text that hold no list.
-ghost use Rattle.std.specs.Prelude.{◌≡◌, ℕ, List, ◌∷◌, ◌++◌, ◌↔◌, IsTrue, IfOk, IfErr, codes};
-ghost use Rattle.bt_flow.specs.Pieces.{LeadsTo};
-ghost use Rattle.bt_flow.specs.StateText.{property_name};
-ghost use Rattle.bt_flow.specs.StateFaults.{IsLineFault};
+//! The lines of a state's text: their numbers, and those that hold no list, the first and the last.
+ghost use Rattle.std.specs.Prelude.{◌≡◌, ◌≤◌, ◌∷◌, ◌++◌, ◌↔◌, ℕ, List, IsTrue, IfOk, IfErr, IfSome, IfNone};
+ghost use Rattle.std.specs.Prelude.{All, codes, length};
+ghost use Rattle.bt_text.specs.Blanks.{IsBlank};
+ghost use Rattle.bt_text.specs.Pieces.{LeadsTo};
+ghost use Rattle.bt_flow.specs.Names.{property_name};
+ghost use Rattle.bt_flow.specs.inner.Lines.{IsLineFault, IsFault, IsTitled, StopsAtTitle};
+ghost use Rattle.bt_flow.specs.inner.Lines.{Closes, StopsAtEnd, HasByteAfter};
 
 use crate::fault::StateFault;
 use crate::property::Property;
-use crate::reading::piece::next_piece;
+use bt_text::{after_word, cut, line_feeds, next_piece, skip_blanks};
+
+/// The number of the line that names the property.
+pub const TITLE: usize = 1;
+
+/// The number of the line of loads.
+pub const LOADS: usize = 2;
+
+/// The number of the line of rooms.
+pub const ROOMS: usize = 3;
+
+/// The number of the line of flows.
+pub const FLOWS: usize = 4;
+
+/// The number of the line of marks.
+pub const MARKS: usize = 5;
+
+/// The number of the last line.
+pub const END: usize = 6;
 
 /// The next line, which has this number, and what follows it.
 pub fn next_line(text: &[u8], number: usize) -> Result<(&[u8], &[u8]), StateFault>
@@ -19,27 +40,53 @@ pub fn next_line(text: &[u8], number: usize) -> Result<(&[u8], &[u8]), StateFaul
     }
 }
 
-/// Whether the line says that the property is broken.
-pub fn is_title(line: &[u8], property: Property) -> bool
-    ensures { IsTrue result ↔ (line.now ≡ codes "no " ++ property_name property) }
+/// What follows the first line of a text, which says that the property is broken.
+pub fn after_title(text: &[u8], property: Property) -> Result<&[u8], StateFault>
+    ensures ok { IfOk result (λ rest. IsTitled property text.now rest.now) }
+    ensures err { IfErr result (IsLineFault TITLE (StopsAtTitle property text.now)) }
 {
-    line == title_of(property)
-}
-
-fn title_of(property: Property) -> &'static [u8]
-    ensures { result.now ≡ codes "no " ++ property_name property }
-{
-    match property {
-        Property::Balanced => b"no balanced",
-        Property::DrawnEvenly => b"no drawn-evenly",
-        Property::Unlimited => b"no unlimited",
-        Property::Full => b"no full",
+    let (title, rest) = cut(text, b'\n');
+    if is_title(title, property) {
+        Ok(rest)
+    } else {
+        Err(StateFault::CertLine(TITLE))
     }
 }
 
-/// Whether this is the last line.
-pub fn is_end(line: &[u8]) -> bool
-    ensures { IsTrue result ↔ (line.now ≡ codes "end") }
+/// Whether the line says that the property is broken.
+fn is_title(line: &[u8], property: Property) -> bool
+    ensures { IsTrue result ↔ (line.now ≡ codes "no " ++ property_name property) }
 {
-    matches!(line, b"end")
+    match after_word(line, b"no ") {
+        Some(name) => name == property.name().as_bytes(),
+        None => false,
+    }
+}
+
+/// Passes the line `end`, after which only blanks stand.
+pub fn read_end(text: &[u8]) -> Result<(), StateFault>
+    ensures ok { IfOk result (λ _. Closes text.now) }
+    ensures err { IfErr result (IsFault (StopsAtEnd text.now)) }
+{
+    let (line, rest) = next_line(text, END)?;
+    if line != b"end".as_slice() {
+        return Err(StateFault::CertLine(END));
+    }
+    match feeds_before_byte(rest) {
+        Some(feeds) => Err(StateFault::CertLine(END + feeds)),
+        None => Ok(()),
+    }
+}
+
+/// How many line feeds stand before the first byte that isn't blank, or None where all are blanks.
+fn feeds_before_byte(text: &[u8]) -> Option<usize>
+    ensures some { IfSome result (HasByteAfter text.now) }
+    ensures few { IfSome result (λ feeds. feeds ≤ length text.now) }
+    ensures none { IfNone result (All IsBlank text.now) }
+{
+    let rest = skip_blanks(text);
+    if rest.is_empty() {
+        return None;
+    }
+    Some(line_feeds(&text[..text.len() - rest.len()]))
 }

@@ -1,3 +1,4 @@
+//! Texts of states that are read, or refused at a line.
 ghost use Rattle.std.specs.Prelude.{◌≡◌, [], ◌∷◌, IfOk};
 
 use crate::{Property, StateFault, read_state};
@@ -7,7 +8,8 @@ use std::test::Fail;
 
 // One belt from the only input to the only output.
 fn one_belt(alloc: Global) -> Result<Vec<Edge>, AllocError>
-    ensures { IfOk result (λ v. v.items ≡ record { start = Start.Input 0; target = Target.Output 0; cap = 1 } ∷ []) }
+    ensures { IfOk result (λ v. v.items ≡
+        record { start = Start.Input 0; target = Target.Output 0; cap = 1 } ∷ []) }
 {
     let mut edges = Vec::new(alloc);
     edges.push(Edge {
@@ -84,7 +86,7 @@ fn names_the_first_wrong_line(rt: HostRuntime) -> Result<(), Fail> {
             Err(StateFault::CertLine(line)) => line,
             Err(StateFault::Memory) => usize::MAX,
         };
-        assert_eq!(rt; line, wanted, "{text:?}");
+        assert!(rt; line == wanted);
     }
     Ok(())
 }
@@ -94,12 +96,12 @@ fn reads_each_list(rt: HostRuntime) -> Result<(), Fail> {
     let net = Net::new(1, 1, 0, one_belt(rt.alloc())?)?;
     let text = b"no drawn-evenly\nload 1/2\nroom 0\nflow -3\nmark b\nend\n";
     let state = read_state(rt.alloc(), &net, text, Property::DrawnEvenly)?;
-    assert_eq!(rt;
-        format!(in rt.alloc(); "{:?}", state.backed)?.as_str(),
-        "[true]"
-    );
-    assert_eq!(rt; state.loads.first().ok_or("load")?.denominator(), 2);
-    assert_eq!(rt; state.rooms.first().ok_or("room")?.numerator(), 0);
-    assert_eq!(rt; state.flows.first().ok_or("flow")?.numerator(), -3);
+    let read = match (state.flows(), state.backed(), state.loads(), state.rooms()) {
+        ([flow], [backed], [load], [room]) => {
+            *backed && flow.numerator() == -3 && load.denominator() == 2 && room.numerator() == 0
+        }
+        _ => false,
+    };
+    assert!(rt; read);
     Ok(())
 }

@@ -1,7 +1,7 @@
-use Rattle.std.proofs.Common.{◌<◌, ◌≤◌, ◌+◌, pos, length, sym, subst, ap, ◌∙◌, arith}
+use Rattle.std.proofs.Common.{◌<◌, ◌≤◌, ◌+◌, length, sym, subst, ap, ◌∙◌, arith}
 use Rattle.std.proofs.lemmas.Bool.{false≢true}
 use Rattle.bt_flow.specs.States.{flow_at}
-use Rattle.bt_flow.proofs.AtEdges.{over_read}
+use Rattle.bt_flow.proofs.AtEdges.{flow_read}
 use Rattle.bt_flow.proofs.Adding.{no_edge}
 use Rattle.bt_flow.proofs.Agreeing.{AgreeSoFar, takes, takes_not, so_far_none, so_far_first, so_far_same, agree_all, agree_not, first_within}
 use Rattle.bt_flow.proofs.conclusion.agree.Goals as goal
@@ -12,12 +12,12 @@ returns-then-not-is_same c = λ s h.
     let n = c.args.net.now in
     let t = c.args.state.now in
     let edges = c.edges-edge-items.ensures.edges in
-    let lp : c.loop-place.place < length t.flows.items = let a = ap length edges in let b = c.requires.flows in let l = c.loop-place-test.true in omega (arith, a, b, l) in
-    let le : c.in-Some-first.earlier < length t.flows.items =
+    let lp : c.loop-place.place < length t.flows = let a = ap length edges in let b = c.requires.flows in let l = c.loop-place-test.true in omega (arith, a, b, l) in
+    let le : c.in-Some-first.earlier < length t.flows =
     let w = first_within n t c.args.role c.loop-place.place c.in-Some-first.earlier c.loop-place.first c.in-Some-first.is c.loop-place.invariant in
     let b = c.requires.flows in omega (arith, w, b) in
-    let f = over_read t.flows.items s.flows s.denominator h.flows c.in-Some-first.earlier le c.index.result.now (pos 0) c.index.ensures in
-    let g = over_read t.flows.items s.flows s.denominator h.flows c.loop-place.place lp c.index-in-Some-first.result.now (pos 0) c.index-in-Some-first.ensures in
+    let f = flow_read n t s h c.flows-flows.result.now c.flows-flows.ensures.flows c.in-Some-first.earlier le c.index-flows-earlier.result c.index-flows-earlier.is in
+    let g = flow_read n t s h c.flows-flows.result.now c.flows-flows.ensures.flows c.loop-place.place lp c.index-flows-place.result c.index-flows-place.is in
     let same = c.is_same.ensures (flow_at s c.in-Some-first.earlier) (flow_at s c.loop-place.place) s.denominator h.is_state.positive f g in
     agree_not n t c.args.role c.loop-place.place c.in-Some-first.earlier c.loop-place.first c.in-Some-first.is c.loop-place.invariant
     (takes n c.args.role c.edges-edge-items.result.now c.loop-place.place no_edge edges c.loop-place-test.true c.in-Some.field-0 c.in-Some.ensures.some) s
@@ -35,15 +35,15 @@ loop-place-preserved c =
           (so_far_first n t c.args.role c.loop-place.place c.loop-place.first w.in-None.is c.loop-place.invariant
           (takes n c.args.role c.edges-edge-items.result.now c.loop-place.place no_edge edges c.loop-place-test.true w.in-Some.field-0 w.in-Some.ensures.some) inside)
       | in-Some+in-Some-first+else-not-is_same w ↦
-          let lp : c.loop-place.place < length t.flows.items = let b = c.requires.flows in omega (arith, b, inside) in
-          let le : w.in-Some-first.earlier < length t.flows.items =
+          let lp : c.loop-place.place < length t.flows = let b = c.requires.flows in omega (arith, b, inside) in
+          let le : w.in-Some-first.earlier < length t.flows =
           let u = first_within n t c.args.role c.loop-place.place w.in-Some-first.earlier c.loop-place.first w.in-Some-first.is c.loop-place.invariant in
           let b = c.requires.flows in omega (arith, u, b) in
           subst (AgreeSoFar n t c.args.role (c.loop-place.place + 1)) (w.in-Some-first.is ∙ sym w.first-is)
           (so_far_same n t c.args.role c.loop-place.place w.in-Some-first.earlier c.loop-place.first w.in-Some-first.is c.loop-place.invariant
           (λ s h.
-          let f = over_read t.flows.items s.flows s.denominator h.flows w.in-Some-first.earlier le w.index.result.now (pos 0) w.index.ensures in
-          let g = over_read t.flows.items s.flows s.denominator h.flows c.loop-place.place lp w.index-in-Some-first.result.now (pos 0) w.index-in-Some-first.ensures in
+          let f = flow_read n t s h c.flows-flows.result.now c.flows-flows.ensures.flows w.in-Some-first.earlier le w.index-flows-earlier.result w.index-flows-earlier.is in
+          let g = flow_read n t s h c.flows-flows.result.now c.flows-flows.ensures.flows c.loop-place.place lp w.index-flows-place.result w.index-flows-place.is in
           (w.is_same.ensures (flow_at s w.in-Some-first.earlier) (flow_at s c.loop-place.place) s.denominator h.is_state.positive f g).0 w.if-not-is_same.false))
       | in_default w ↦
           subst (AgreeSoFar n t c.args.role (c.loop-place.place + 1)) (sym w.first-is)

@@ -1,34 +1,22 @@
-use Rattle.std.proofs.lemmas.Result.{IfOk-weaker, IfErr-weaker}
-use Rattle.bt_flow.specs.declared.property.Property.{Property}
+use Rattle.std.proofs.Common.{sym, subst}
+use Rattle.bt_answers.proofs.OneAnswer.{answers_always_of}
 use Rattle.bt_flow.specs.declared.property.Property.TheVariants.{Unlimited}
 use Rattle.bt_flow.specs.States.{Flows, StandsFor}
-use Rattle.bt_flow.specs.Judging.{Judges, JudgesSteady, NeedsFit, IsWideSum}
-use Rattle.bt_flow.proofs.Judged.{judges_steady, needs_fit, fit_alone, wide_alone}
-use Rattle.bt_flow.proofs.OneAnswer.{one_steady_answer, is_steady_answer}
+use Rattle.bt_flow.specs.Judging.{IsSteadyAnswer}
+use Rattle.bt_flow.specs.inner.Trials.{IsJudged}
+use Rattle.bt_flow.proofs.Denominators.{some_flows}
+use Rattle.bt_flow.proofs.Judged.{steady_answer}
+use Rattle.bt_flow.proofs.OneAnswer.{one_steady_answer}
 use Rattle.bt_flow.proofs.judge.steady.Goals as goal
 
-pub returns-clause-judges : goal.returns-clause-judges
-returns-clause-judges c =
-    let n = c.args.net.now in
-    let t = c.args.state.now in
-    IfOk-weaker c.judge.result (λ j. Judges n Unlimited t 2 8 j) (λ j. (s : Flows) → StandsFor n t s → JudgesSteady n s j) (λ j h. judges_steady n Unlimited t j h) c.judge.ensures.judges
+pub judge-requires-clause-some : goal.judge-requires-clause-some
+judge-requires-clause-some c =
+    subst (λ x. (s : Flows) × StandsFor x.network x.state s) (sym c.new.ensures.subject) (some_flows c.args.net.now c.args.state.now c.new.ensures.lowest c.requires)
 
-pub returns-clause-fit : goal.returns-clause-fit
-returns-clause-fit c =
+pub returns : goal.returns
+returns c =
     let n = c.args.net.now in
+    let p = Unlimited in
     let t = c.args.state.now in
-    IfOk-weaker c.judge.result (λ j. Judges n Unlimited t 2 8 j) (λ j. (p : Property) → NeedsFit n p t 2 8 j)
-    (λ j h p. fit_alone n Unlimited p t j (needs_fit n Unlimited t 2 8 j h)) c.judge.ensures.judges
-
-pub returns-clause-wide : goal.returns-clause-wide
-returns-clause-wide c =
-    let n = c.args.net.now in
-    let t = c.args.state.now in
-    IfErr-weaker c.judge.result (λ w. IsWideSum n Unlimited t 2 8 w) (λ w. (p : Property) → IsWideSum n p t 2 8 w) (λ w h p. wide_alone n Unlimited p t w h) c.judge.ensures.wide
-
-pub returns-clause-exact : goal.returns-clause-exact
-returns-clause-exact c = λ s g x h.
-    let n = c.args.net.now in
-    let t = c.args.state.now in
-    one_steady_answer n t s g c.judge.result x
-    (is_steady_answer n t c.judge.result (returns-clause-judges c) (returns-clause-fit c) (returns-clause-wide c) s g) h
+    answers_always_of (IsSteadyAnswer n t) (one_steady_answer n t) c.judge.result
+    (steady_answer n p t c.judge.result (some_flows n t c.new.ensures.lowest c.requires) (subst (λ x. IsJudged x 2 8 c.judge.result) c.new.ensures.subject c.judge.ensures))

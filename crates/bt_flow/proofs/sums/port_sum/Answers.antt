@@ -1,6 +1,7 @@
 use Rattle.std.proofs.Common.{◌≡◌, ◌<◌, length, sym, subst}
 use Rattle.std.proofs.lemmas.Result.{err_from_is_err_and, IfErr-weaker}
-use Rattle.bt_flow.specs.Sums.{IsWideIn, IsWide}
+use Rattle.bt_frac.specs.Ratio.{IsWide}
+use Rattle.bt_flow.specs.Sums.{IsWideIn}
 use Rattle.bt_flow.proofs.Adding.{wide_first, wide_second, flows_one, flows_two, flows_first}
 use Rattle.bt_flow.proofs.AtEdges.{port_one_is, port_first_is, port_second_is}
 use Rattle.bt_flow.proofs.sums.port_sum.Goals as goal

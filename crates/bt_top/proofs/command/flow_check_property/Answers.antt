@@ -1,7 +1,7 @@
 use Rattle.std.proofs.Common.{◌≡◌, ℕ, List, [], ◌∷◌, string_bytes, arith, sym, ◌∙◌, ap, Option, Some, None, IfSome, codes}
 use Rattle.std.specs.Cmp.Lexicographic.{same_text}
 use Rattle.bt_flow.specs.declared.property.Property.{Property}
-use Rattle.bt_flow.specs.StateText.{property_name}
+use Rattle.bt_flow.specs.Names.{property_name}
 use Rattle.bt_top.proofs.WordLists.{two_items}
 use Rattle.bt_top.proofs.command.flow_check_property.Goals as goal
 

@@ -1,5 +1,0 @@
-use Rattle.bt_flow.proofs.Decided as decided
-use Rattle.bt_flow.proofs.law.holds_exactly.Goals as goal
-
-pub returns : goal.returns
-returns c = decided.holds_exactly

@@ -1,0 +1,48 @@
+use Rattle.std.proofs.Common.{◌<◌, true, length, get_or, sym, subst, ◌∙◌}
+use Rattle.bt_flow.specs.declared.judgement.Test.TheVariants as test
+use Rattle.bt_flow.specs.declared.ports.Port.TheVariants.{Unused}
+use Rattle.bt_flow.specs.declared.ports.Role.TheVariants.{Into}
+use Rattle.bt_flow.specs.inner.Trials.{Decides}
+use Rattle.bt_flow.proofs.AtEdges.{mark_read}
+use Rattle.bt_flow.proofs.AtPlaces.{flows_below}
+use Rattle.bt_flow.proofs.Adding.{no_edge}
+use Rattle.bt_flow.proofs.Numbers.{number_fits}
+use Rattle.bt_flow.proofs.Sharing.{evens_none, evens_at, enters-split, enters-output}
+use Rattle.bt_flow.proofs.trial.Trial.passes_even_in.Goals as goal
+
+pub is_greatest-requires-clause-port : goal.is_greatest-requires-clause-port
+is_greatest-requires-clause-port c =
+    let n = c.self.inside.net.now in
+    let a = c.args.edge in
+    let e = get_or c.edges.result.now a no_edge in
+    let k = c.in-Split.splitter in
+    let l : a < length n.edges = subst (λ x. a < length x.network.edges) (sym c.self.view_is) c.requires in
+    let m : a < length c.edges.result.now = subst (λ x. a < length x) (sym c.edges.ensures.edges) l in
+    let few = number_fits n Into c.edges.ensures.network c.edges.result.now a k no_edge c.edges.ensures.edges m (λ m. enters-split e k m c.in-Split.is) in
+    flows_below n c.self.inside.ports c.self.inside.state.now c.self.inside.flows.now c.self.invariant k Into (get_or c.self.inside.ports.into k Unused)
+    (c.self.invariant.ports.into.at k few Unused)
+
+pub returns-else-not-backed-edge : goal.returns-else-not-backed-edge
+returns-else-not-backed-edge c =
+    let n = c.self.inside.net.now in
+    let t = c.self.inside.state.now in
+    let a = c.args.edge in
+    let e = get_or c.edges.result.now a no_edge in
+    let k = c.in-Split.splitter in
+    let l : a < length n.edges = subst (λ x. a < length x.network.edges) (sym c.self.view_is) c.requires in
+    let m : a < length c.edges.result.now = subst (λ x. a < length x) (sym c.edges.ensures.edges) l in
+    let few = number_fits n Into c.edges.ensures.network c.edges.result.now a k no_edge c.edges.ensures.edges m (λ m. enters-split e k m c.in-Split.is) in
+    subst (λ x. Decides x test.EvenIn a c.is_greatest.result) c.self.view_is
+    (λ s h.
+    let mark = mark_read n t s h c.backed.result.now c.backed.ensures a ∙ c.if-not-backed-edge.false in
+    evens_at n s c.edges.result.now a no_edge c.edges.ensures.edges l Into true k (get_or c.self.inside.ports.into k Unused)
+    (λ m. enters-split e k m c.in-Split.is) (c.self.invariant.ports.into.at k few Unused) mark c.is_greatest.result (c.is_greatest.ensures n s h))
+
+pub returns-in-Output : goal.returns-in-Output
+returns-in-Output c =
+    let n = c.self.inside.net.now in
+    let a = c.args.edge in
+    let e = get_or c.edges.result.now a no_edge in
+    let l : a < length n.edges = subst (λ x. a < length x.network.edges) (sym c.self.view_is) c.requires in
+    subst (λ x. Decides x test.EvenIn a true) c.self.view_is
+    (λ s h. evens_none n s c.edges.result.now a no_edge c.edges.ensures.edges l Into true (λ k. enters-output e c.in-Output.field-0 k c.in-Output.is))

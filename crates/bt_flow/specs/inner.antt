@@ -1,0 +1,6 @@
+-- What the contracts of private functions cite.
+pub mod Compared
+pub mod Ports
+pub mod AtPorts
+pub mod Lines
+pub mod Trials

@@ -1,0 +1,17 @@
+//! What is true of every network and every state.
+ghost use Rattle.std.specs.Prelude.{ℕ, ◌↔◌};
+ghost use Rattle.bt_net.specs.Network.{Network};
+ghost use Rattle.bt_flow.specs.declared.property.Property.{Property};
+ghost use Rattle.bt_flow.specs.States.{Flows, Fractions, AreLowest, StandsFor, Fits};
+ghost use Rattle.bt_flow.specs.Properties.{Holds, Breaks};
+
+/// Fractions in lowest terms that fit a network stand for whole numbers over one denominator, so what
+/// is said of each of these is said of the fractions.
+pub fn has_flows()
+    ensures { (n : Network) (t : Fractions) → AreLowest t → Fits n t → (s : Flows) × StandsFor n t s }
+{}
+
+/// A network has a property exactly where no state breaks it.
+pub fn holds_exactly()
+    ensures { (n : Network) (p : Property) → Holds n p ↔ ((s : Flows) → Breaks n p s → ⊥) }
+{}
