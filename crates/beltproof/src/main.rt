@@ -1,8 +1,8 @@
-// The program: its words, standard input and standard output.
+//! The program: its words, standard input and standard output.
 #![tactic(auto)]
 
 use bt_io::{StdSink, StdSource};
-use bt_top::run;
+use bt_top::{NO_MEMORY, run};
 use std::env;
 use std::io::ErrorKind;
 use std::process::ExitCode;
@@ -26,7 +26,7 @@ fn words_of(rt: &HostRuntime) -> Option<Vec<String>> {
 
 fn main(rt: HostRuntime) -> ExitCode {
     let Some(words) = words_of(&rt) else {
-        return ExitCode::from(8);
+        return ExitCode::from(NO_MEMORY);
     };
     let mut source = StdSource::new(rt.stdin());
     let mut sink = StdSink::new(rt.stdout());

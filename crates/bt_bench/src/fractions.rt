@@ -1,4 +1,4 @@
-// Sums of a thousand fractions, over and over.
+//! Sums of a thousand fractions, over and over: the same as in bench/fractions.rs.
 use bt_frac::Frac;
 use std::alloc::{AllocError, Global};
 
@@ -9,11 +9,8 @@ const TERMS: u32 = 1000;
 pub fn small_fractions(alloc: Global) -> Result<Vec<Frac>, AllocError> {
     let mut terms = Vec::new(alloc);
     for place in 0..TERMS {
-        push_quotient(
-            &mut terms,
-            i128::from(place * 7 % 41) - 20,
-            i128::from(place % 30 + 1),
-        )?;
+        let over = i128::from(place * 7 % 41) - 20;
+        push_quotient(&mut terms, over, i128::from(place % 30 + 1))?;
     }
     Ok(terms)
 }
@@ -51,12 +48,12 @@ fn power(base: i128, exponent: u32) -> i128 {
 }
 
 /// The sum of all fractions, as often as there are rounds; `None` where a sum doesn't fit.
-pub fn repeated_sum(terms: &[Frac], rounds: u64) -> Option<(i128, i128)> {
+pub fn repeated_sum(terms: &[Frac], rounds: u64) -> Option<Frac> {
     let mut total = Frac::whole(0);
     for _ in 0..rounds {
         for term in terms {
             total = total.add(term)?;
         }
     }
-    Some((total.numerator(), total.denominator()))
+    Some(total)
 }

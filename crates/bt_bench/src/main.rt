@@ -1,20 +1,18 @@
-// Loops that time the crates. The first word names the loop, and the second is the number of rounds. The loops over
-// JSON and over a blueprint read their text from standard input.
+//! Loops that time the crates, for the scripts of bench/. The first word names the loop, and the
+//! second is the number of rounds. The loops over JSON and over a blueprint read their text from
+//! standard input.
 #![tactic(auto)]
 
-mod fault;
 mod fractions;
-mod grid;
-mod json;
 
+use bt_entities::parts_of;
 use bt_frac::Frac;
+use bt_grid::{Grid, pairs};
 use bt_io::{Source, StdSource, read_all};
-use bt_json::read;
-use fault::Fault;
+use bt_json::{Tree, read};
 use fractions::{repeated_sum, small_fractions, wide_fractions};
-use grid::number_of_parts;
-use json::{place_after, place_after_kept};
 use std::alloc::Global;
+use std::mem::forget;
 use std::{env, io};
 
 /// The most bytes of standard input.
@@ -22,40 +20,73 @@ const INPUT_LIMIT: usize = 1 << 30;
 
 /// What a loop comes to.
 enum Outcome {
-    Sum(i128, i128),
+    Sum(Frac),
     Count(usize),
 }
 
-fn sum_of(terms: &[Frac], rounds: u64) -> Result<Outcome, Fault> {
-    match repeated_sum(terms, rounds) {
-        Some((over, under)) => Ok(Outcome::Sum(over, under)),
-        None => Err(Fault::Wide),
+/// The place after the value at the front of a text, which is read in each round. The value is let go
+/// again, or kept where the time is to be that of reading alone.
+fn place_after(alloc: Global, text: &[u8], rounds: u64, keeps: bool) -> Option<usize> {
+    let mut place = 0;
+    for _ in 0..rounds {
+        let Ok((tree, end)) = read(alloc, text) else {
+            return None;
+        };
+        if keeps {
+            forget(tree);
+        } else {
+            drop(tree);
+        }
+        place = end;
+    }
+    Some(place)
+}
+
+/// The number of parts of a blueprint, which are placed and paired.
+fn placed_parts(alloc: Global, blueprint: &Tree) -> Option<usize> {
+    let Ok(parts) = parts_of(alloc, blueprint) else {
+        return None;
+    };
+    let Ok(grid) = Grid::place(alloc, parts) else {
+        return None;
+    };
+    match pairs(alloc, &grid) {
+        Ok(_) => Some(grid.parts().len()),
+        Err(_) => None,
     }
 }
 
+/// The number of parts of the blueprint at the front of a text, which are placed and paired in each round.
+fn parts_placed_often(alloc: Global, text: &[u8], rounds: u64) -> Option<usize> {
+    let Ok((blueprint, _)) = read(alloc, text) else {
+        return None;
+    };
+    let mut number = 0;
+    for _ in 0..rounds {
+        number = placed_parts(alloc, &blueprint)?;
+    }
+    Some(number)
+}
+
+/// What the loop of this name comes to, or `None` where it fails or there is no such loop.
 fn outcome_of<S: Source>(
     alloc: Global,
     name: &str,
     rounds: u64,
     source: &mut S,
-) -> Result<Outcome, Fault> {
+) -> Option<Outcome> {
     match name {
-        "add-small" => sum_of(small_fractions(alloc)?.as_slice(), rounds),
-        "add-wide" => sum_of(wide_fractions(alloc)?.as_slice(), rounds),
-        "json" => {
-            let text = read_all(alloc, source, INPUT_LIMIT)?;
-            Ok(Outcome::Count(place_after(alloc, &text, rounds)?))
+        "add-small" => repeated_sum(&small_fractions(alloc).ok()?, rounds).map(Outcome::Sum),
+        "add-wide" => repeated_sum(&wide_fractions(alloc).ok()?, rounds).map(Outcome::Sum),
+        _ => {
+            let text = read_all(alloc, source, INPUT_LIMIT).ok()?;
+            match name {
+                "json" => place_after(alloc, &text, rounds, false).map(Outcome::Count),
+                "json-kept" => place_after(alloc, &text, rounds, true).map(Outcome::Count),
+                "grid" => parts_placed_often(alloc, &text, rounds).map(Outcome::Count),
+                _ => None,
+            }
         }
-        "json-kept" => {
-            let text = read_all(alloc, source, INPUT_LIMIT)?;
-            Ok(Outcome::Count(place_after_kept(alloc, &text, rounds)?))
-        }
-        "grid" => {
-            let text = read_all(alloc, source, INPUT_LIMIT)?;
-            let (blueprint, _) = read(alloc, &text)?;
-            Ok(Outcome::Count(number_of_parts(alloc, &blueprint, rounds)?))
-        }
-        _ => Err(Fault::Usage),
     }
 }
 
@@ -64,13 +95,13 @@ fn main(rt: HostRuntime) -> io::Result<()> {
     let name = words.next();
     let rounds = words.next();
     let (Some(name), Some(rounds)) = (name, rounds) else {
-        return println!(rt; "{}", Fault::Usage.word());
+        return println!(rt; "usage: bt_bench LOOP ROUNDS");
     };
     let rounds = rounds.as_str().parse::<u64>().unwrap_or(0);
     let mut source = StdSource::new(rt.stdin());
     match outcome_of(rt.alloc(), name.as_str(), rounds, &mut source) {
-        Ok(Outcome::Sum(over, under)) => println!(rt; "{over}/{under}"),
-        Ok(Outcome::Count(count)) => println!(rt; "{count}"),
-        Err(fault) => println!(rt; "{}", fault.word()),
+        Some(Outcome::Sum(sum)) => println!(rt; "{}/{}", sum.numerator(), sum.denominator()),
+        Some(Outcome::Count(count)) => println!(rt; "{count}"),
+        None => println!(rt; "failed"),
     }
 }

@@ -1,10 +1,7 @@
+pub mod InTurns
 pub mod WordLists
 pub mod Blanks
-pub mod Told
-pub mod OneJson
 pub mod OneDesign
-pub mod Checks
-pub mod Answered
-pub mod SameLists
 pub mod OneAnswer
-pub mod Exactly
+pub mod OneCommand
+pub mod Ended

@@ -3,6 +3,7 @@ use Rattle.std.specs.Prelude.{◌≡◌, ℕ, List, [], ◌∷◌, codes}
 use Rattle.bt_flow.specs.Names.{property_name}
 use Rattle.bt_top.specs.declared.command.Command.{Command}
 use Rattle.bt_top.specs.declared.command.Command.TheVariants.{FlowCheck, Recover}
+use Rattle.bt_top.specs.declared.command.TheConstants.{MOST_CHECKED, MOST_RECOVERED}
 
 -- `flow-check` and the name of the property, or `recover` alone
 abbrev pub IsCommand : Command → List (List ℕ) → Type 0
@@ -13,7 +14,7 @@ IsCommand Recover words = words ≡ codes "recover" ∷ []
 abbrev pub IsUsage : List (List ℕ) → Type 0
 IsUsage words = (command : Command) → IsCommand command words → ⊥
 
--- the most bytes that a command reads: a certificate may be long
+-- the most bytes that a command reads
 abbrev pub input_limit : Command → ℕ
-input_limit (FlowCheck p) = 1073741824
-input_limit Recover = 16777216
+input_limit (FlowCheck p) = MOST_CHECKED
+input_limit Recover = MOST_RECOVERED

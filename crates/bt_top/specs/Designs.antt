@@ -1,84 +1,44 @@
--- What a design is: network text, or blueprint JSON of a layout. And why what isn't one is refused.
-use Rattle.std.specs.Prelude.{◌≡◌, ℕ, ◌≤◌, List, ◌∷◌, drop, ◌⊎◌}
+-- What a design is: network text, or blueprint JSON of a layout. And of what isn't one, the first refusal.
+use Rattle.std.specs.Prelude.{◌≡◌, ℕ, List, ◌∷◌, ◌⊎◌, Result, Ok, Err}
+use Rattle.bt_answers.specs.Answers.{seen}
 use Rattle.bt_text.specs.Blanks.{SkipsBlanks}
 use Rattle.bt_json.specs.Json.{Json}
-use Rattle.bt_json.specs.Answers.{IsFront, IsFirst, depth_of, HasDistinctNames}
-use Rattle.bt_json.specs.declared.fault.JsonFault.{JsonFault}
-use Rattle.bt_entities.specs.Blueprints.{IsBlueprintOf}
-use Rattle.bt_entities.specs.Refusals.{IsRefused}
-use Rattle.bt_entities.specs.declared.fault.EntityFault.{EntityFault}
+use Rattle.bt_json.specs.Answers.{IsRead}
+use Rattle.bt_entities.specs.Answers.{IsPartsOf}
 use Rattle.bt_parts.specs.declared.part.Part.{Part}
-use Rattle.bt_parts.specs.Layouts.{IsWellPlaced}
-use Rattle.bt_grid.specs.Overlap.{IsPlaceFault}
-use Rattle.bt_grid.specs.declared.grid.GridFault.{GridFault}
-use Rattle.bt_model.specs.Shown.{Naming, IsNumbered}
-use Rattle.bt_recover.specs.Faults.{IsRecoverFault}
-use Rattle.bt_recover.specs.declared.fault.RecoverFault.{RecoverFault}
-use Rattle.bt_net.specs.Network.{Network, IsNetwork}
-use Rattle.bt_net.specs.NetText.{BeginsWithNet}
-use Rattle.bt_net.specs.Refusals.{Refuses}
-use Rattle.bt_net.specs.declared.fault.NetFault.{NetFault}
-use Rattle.bt_top.specs.declared.refusal.Refusal.{Refusal}
-use Rattle.bt_top.specs.Refusals.{TellsJson, TellsEntity, TellsGrid, TellsLayout, TellsNet}
-
--- ---- designs
+use Rattle.bt_grid.specs.Placing.{IsPlaced}
+use Rattle.bt_recover.specs.Recovered.{IsRecovered}
+use Rattle.bt_net.specs.Network.{Network}
+use Rattle.bt_net.specs.Readings.{IsNetRead}
+use Rattle.bt_top.specs.declared.fault.DesignFault.{DesignFault}
+use Rattle.bt_top.specs.Refusals.{json_told, entity_told, grid_told, layout_told, net_told}
+use Rattle.bt_top.specs.Steps.{InTurn}
 
 -- the first byte that isn't blank is `{`
 abbrev pub IsJsonText : List ℕ → Type 0
 IsJsonText bytes = (rest : List ℕ) × SkipsBlanks bytes (123 ∷ rest)
 
--- at the front of the bytes stands this JSON value, at most 64 levels deep and in no object with a name
--- twice, and this is the place after it
-pub record IsJsonAt (bytes : List ℕ) (v : Json) (after : ℕ) : Type 0 where
-  pub front : IsFront bytes v after
-  pub shallow : depth_of v ≤ 64
-  pub distinct : HasDistinctNames v
+-- what comes of parts that are placed: the network of their layout with its own numbering, or the first refusal of the layout
+abbrev pub IsPlacedNet : List Part → Result Network DesignFault → Type 0
+IsPlacedNet parts = InTurn (IsRecovered parts) (λ fault. Err (layout_told fault)) (λ found answer. answer ≡ Ok found.0)
 
--- the parts are a layout that has this network with its own numbering
-abbrev pub IsLayoutOf : List Part → Network → Type 0
-IsLayoutOf parts n = (naming : Naming) × IsNumbered parts n naming
+-- what comes of parts: the network of their layout, or the first refusal, of two that share a cell or of the layout
+abbrev pub IsLayoutNet : List Part → Result Network DesignFault → Type 0
+IsLayoutNet parts = InTurn (IsPlaced parts) (λ fault. Err (grid_told fault)) IsPlacedNet
 
--- blueprint JSON of a layout of the network stands at the front of the bytes, and this is what follows
-pub record BeginsWithBlueprint (bytes : List ℕ) (n : Network) (rest : List ℕ) : Type 0 where
-  pub is_json : IsJsonText bytes
-  pub value : Json
-  pub after : ℕ
-  pub stands : IsJsonAt bytes value after
-  pub parts : List Part
-  pub blueprint : IsBlueprintOf value parts
-  pub layout : IsLayoutOf parts n
-  pub rest_is : rest ≡ drop after bytes
+-- what comes of a JSON value: the network of the parts of which it is a blueprint, or the first refusal
+abbrev pub IsBlueprintNet : Json → Result Network DesignFault → Type 0
+IsBlueprintNet value = InTurn (IsPartsOf value) (λ fault. Err (entity_told fault)) IsLayoutNet
 
--- the bytes begin with a design of this network, and this is what follows
-pub record IsDesign (bytes : List ℕ) (n : Network) (rest : List ℕ) : Type 0 where
-  pub network : IsNetwork n
-  pub begins : BeginsWithNet bytes n rest ⊎ BeginsWithBlueprint bytes n rest
+-- what comes of JSON text: the network of the value at its front and the place after it, or the first refusal
+abbrev pub IsJsonDesign : List ℕ → Result (Network × ℕ) DesignFault → Type 0
+IsJsonDesign bytes = InTurn (IsRead bytes) (λ fault. Err (json_told fault)) (λ read answer.
+    (net : Result Network DesignFault) × IsBlueprintNet read.0 net × (answer ≡ seen (λ n. (n, read.1)) net))
 
--- ---- refusals, each the first in its order
+-- what comes of network text: the network at its front and the place after it, or the first refusal
+abbrev pub IsTextDesign : List ℕ → Result (Network × ℕ) DesignFault → Type 0
+IsTextDesign bytes = InTurn (IsNetRead bytes) (λ fault. Err (net_told fault)) (λ read answer. answer ≡ Ok (read.net, read.used))
 
--- the parts are refused: the first two share a cell; or, where none do, the layout isn't clean, or its
--- network has too many of a kind, or lacks ends
-pub data IsRefusedLayout (parts : List Part) (r : Refusal) : Type 0 where
-  unplaced : (fault : GridFault) → IsPlaceFault parts fault → TellsGrid fault r → IsRefusedLayout parts r
-  unfit : (fault : RecoverFault) → IsWellPlaced parts → IsRecoverFault parts fault → TellsLayout fault r → IsRefusedLayout parts r
-
--- the JSON value is refused: it is no blueprint of parts, or its parts are refused
-pub data IsRefusedValue (v : Json) (r : Refusal) : Type 0 where
-  no_blueprint : (fault : EntityFault) → IsRefused v fault → TellsEntity fault r → IsRefusedValue v r
-  no_layout : (parts : List Part) → IsBlueprintOf v parts → IsRefusedLayout parts r → IsRefusedValue v r
-
--- JSON text is refused: no value stands at its front, or the value is refused
-pub data IsRefusedJson (bytes : List ℕ) (r : Refusal) : Type 0 where
-  no_value : (fault : JsonFault) → IsFirst bytes fault → TellsJson fault r → IsRefusedJson bytes r
-  no_design : (v : Json) (after : ℕ) → IsJsonAt bytes v after → IsRefusedValue v r → IsRefusedJson bytes r
-
--- network text is refused: it begins with no network, for this cause
-pub record IsRefusedText (bytes : List ℕ) (r : Refusal) : Type 0 where
-  pub fault : NetFault
-  pub cause : Refuses bytes fault
-  pub tells : TellsNet fault r
-  pub none : (n : Network) (rest : List ℕ) → IsNetwork n → BeginsWithNet bytes n rest → ⊥
-
--- the bytes begin with no design, and this is the first refusal
-abbrev pub IsRefusedDesign : List ℕ → Refusal → Type 0
-IsRefusedDesign bytes r = (IsJsonText bytes × IsRefusedJson bytes r) ⊎ ((IsJsonText bytes → ⊥) × IsRefusedText bytes r)
+-- what comes of bytes: the network of the design at their front and the place after it, or the first refusal; they are read as JSON text, or else as network text
+abbrev pub IsDesign : List ℕ → Result (Network × ℕ) DesignFault → Type 0
+IsDesign bytes answer = (IsJsonText bytes × IsJsonDesign bytes answer) ⊎ ((IsJsonText bytes → ⊥) × IsTextDesign bytes answer)

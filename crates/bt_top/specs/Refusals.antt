@@ -1,5 +1,5 @@
--- What the refusal of a design is called, for each fault that a layer below finds.
-use Rattle.std.specs.Prelude.{◌≡◌, ℕ, List, ◌++◌, codes, decimal, ⊤}
+-- What a design's refusal is called, for each fault that a layer below finds, and how it is written.
+use Rattle.std.specs.Prelude.{ℕ, List, ◌++◌, codes, decimal}
 use Rattle.bt_json.specs.declared.fault.JsonFault.{JsonFault}
 use Rattle.bt_json.specs.declared.fault.JsonFault.TheVariants as json
 use Rattle.bt_entities.specs.declared.fault.EntityFault.{EntityFault}
@@ -12,51 +12,51 @@ use Rattle.bt_recover.specs.declared.fault.RecoverFault.{RecoverFault}
 use Rattle.bt_recover.specs.declared.fault.RecoverFault.TheVariants as layout
 use Rattle.bt_net.specs.declared.fault.NetFault.{NetFault}
 use Rattle.bt_net.specs.declared.fault.NetFault.TheVariants as net
-use Rattle.bt_top.specs.declared.design.DesignFault.{DesignFault}
-use Rattle.bt_top.specs.declared.design.DesignFault.TheVariants as fault
+use Rattle.bt_top.specs.declared.fault.DesignFault.{DesignFault}
+use Rattle.bt_top.specs.declared.fault.DesignFault.TheVariants as fault
 use Rattle.bt_top.specs.declared.refusal.Refusal.{Refusal}
 use Rattle.bt_top.specs.declared.refusal.Refusal.TheVariants.{Json, Deep, DuplicateKey, NotBlueprint, Book, TooMany, Unsupported, BadMember, OffGrid, MixedTier, Special, Overlap, Unpaired, SideLoad, Blocked, Ring, NetLine, TooLarge, NoEnds}
 
--- the refusal is the fault of the JSON text
-abbrev pub TellsJson : JsonFault → Refusal → Type 0
-TellsJson (json.Json at) r = r ≡ Json at
-TellsJson (json.Deep at) r = r ≡ Deep at
-TellsJson (json.DuplicateKey at) r = r ≡ DuplicateKey at
-TellsJson json.Memory r = ⊥
+-- the fault of the JSON text
+abbrev pub json_told : JsonFault → DesignFault
+json_told (json.Json at) = fault.Refused (Json at)
+json_told (json.Deep at) = fault.Refused (Deep at)
+json_told (json.DuplicateKey at) = fault.Refused (DuplicateKey at)
+json_told json.Memory = fault.Memory
 
--- the refusal is the fault of the blueprint; of an unknown entity it keeps no name
-abbrev pub TellsEntity : EntityFault → Refusal → Type 0
-TellsEntity entity.NotBlueprint r = r ≡ NotBlueprint
-TellsEntity entity.Book r = r ≡ Book
-TellsEntity entity.TooMany r = r ≡ TooMany
-TellsEntity (entity.Unsupported i name) r = r ≡ Unsupported i
-TellsEntity (entity.BadMember i m) r = r ≡ BadMember i m
-TellsEntity (entity.OffGrid i) r = r ≡ OffGrid i
-TellsEntity (entity.MixedTier i) r = r ≡ MixedTier i
-TellsEntity (entity.Special i m) r = r ≡ Special i m
-TellsEntity entity.Memory r = ⊥
+-- the fault of the blueprint; of an unknown entity it keeps no name
+abbrev pub entity_told : EntityFault → DesignFault
+entity_told entity.NotBlueprint = fault.Refused NotBlueprint
+entity_told entity.Book = fault.Refused Book
+entity_told entity.TooMany = fault.Refused TooMany
+entity_told (entity.Unsupported i name) = fault.Refused (Unsupported i)
+entity_told (entity.BadMember i m) = fault.Refused (BadMember i m)
+entity_told (entity.OffGrid i) = fault.Refused (OffGrid i)
+entity_told (entity.MixedTier i) = fault.Refused (MixedTier i)
+entity_told (entity.Special i m) = fault.Refused (Special i m)
+entity_told entity.Memory = fault.Memory
 
--- the refusal is the fault of placing the parts
-abbrev pub TellsGrid : GridFault → Refusal → Type 0
-TellsGrid (grid.Overlap i j) r = r ≡ Overlap i j
-TellsGrid grid.Memory r = ⊥
+-- the fault of placing the parts
+abbrev pub grid_told : GridFault → DesignFault
+grid_told (grid.Overlap i j) = fault.Refused (Overlap i j)
+grid_told grid.Memory = fault.Memory
 
--- the refusal is the fault of the layout or of its network
-abbrev pub TellsLayout : RecoverFault → Refusal → Type 0
-TellsLayout (layout.Unpaired i) r = r ≡ Unpaired i
-TellsLayout (layout.SideLoad i) r = r ≡ SideLoad i
-TellsLayout (layout.Blocked i) r = r ≡ Blocked i
-TellsLayout (layout.Ring i) r = r ≡ Ring i
-TellsLayout layout.TooLarge r = r ≡ TooLarge
-TellsLayout layout.NoEnds r = r ≡ NoEnds
-TellsLayout layout.Memory r = ⊥
+-- the fault of the layout or of its network
+abbrev pub layout_told : RecoverFault → DesignFault
+layout_told (layout.Unpaired i) = fault.Refused (Unpaired i)
+layout_told (layout.SideLoad i) = fault.Refused (SideLoad i)
+layout_told (layout.Blocked i) = fault.Refused (Blocked i)
+layout_told (layout.Ring i) = fault.Refused (Ring i)
+layout_told layout.TooLarge = fault.Refused TooLarge
+layout_told layout.NoEnds = fault.Refused NoEnds
+layout_told layout.Memory = fault.Memory
 
--- the refusal is the fault of the network text
-abbrev pub TellsNet : NetFault → Refusal → Type 0
-TellsNet (net.NetLine k) r = r ≡ NetLine k
-TellsNet net.TooLarge r = r ≡ TooLarge
-TellsNet net.NoEnds r = r ≡ NoEnds
-TellsNet net.Memory r = ⊥
+-- the fault of the network text
+abbrev pub net_told : NetFault → DesignFault
+net_told (net.NetLine k) = fault.Refused (NetLine k)
+net_told net.TooLarge = fault.Refused TooLarge
+net_told net.NoEnds = fault.Refused NoEnds
+net_told net.Memory = fault.Memory
 
 -- the word for a member of an entity
 abbrev pub member_name : Member → List ℕ
@@ -91,8 +91,3 @@ refusal_text (Ring i) = codes "34 Ring " ++ decimal i
 refusal_text (NetLine k) = codes "40 NetLine " ++ decimal k
 refusal_text TooLarge = codes "41 TooLarge"
 refusal_text NoEnds = codes "42 NoEnds"
-
--- the refusal passes the test, unless no memory could be had
-abbrev pub UnlessMemory : (Refusal → Type 0) → DesignFault → Type 0
-UnlessMemory P (fault.Refused r) = P r
-UnlessMemory P fault.Memory = ⊤

@@ -1,12 +1,15 @@
+//! The answers of the program. Each has a status and a text.
 ghost use Rattle.std.specs.Prelude.{◌≡◌};
-ghost use Rattle.bt_top.specs.Answers.{status_of};
+ghost use Rattle.bt_top.specs.Inputs.{design_told};
 
+use crate::fault::DesignFault;
 use crate::refusal::Refusal;
 use bt_flow::{Property, Test};
 use bt_net::Net;
+use std::alloc::AllocError;
 
 /// What a command answers, once its words and its input are known.
-#[derive(Debug, Drop)]
+#[derive(Drop)]
 pub enum Answer {
     /// The read state breaks the property.
     Breaks(Property),
@@ -24,4 +27,14 @@ pub enum Answer {
     NotBreaking(Test, usize),
     /// The input is longer than the command reads.
     TooLong,
+}
+
+/// The answer where there is no design.
+pub fn refused(fault: DesignFault) -> Result<Answer, AllocError>
+    ensures { result ≡ design_told fault }
+{
+    match fault {
+        DesignFault::Refused(refusal) => Ok(Answer::Refused(refusal)),
+        DesignFault::Memory => Err(AllocError),
+    }
 }

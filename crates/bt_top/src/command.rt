@@ -1,12 +1,19 @@
-ghost use Rattle.std.specs.Prelude.{◌≡◌, ◌↔◌, ◌∷◌, [], IsTrue, IfSome, IfNone, map, codes, string_bytes};
-ghost use Rattle.bt_top.specs.Commands.{IsCommand, IsUsage, input_limit};
+//! The words of commands. They are few and have no options, so they are matched whole.
+ghost use Rattle.std.specs.Prelude.{◌≡◌, ◌↔◌, ◌∷◌, [], IsTrue, MatchOption, map, codes, string_bytes};
 ghost use Rattle.bt_flow.specs.Names.{property_name};
 ghost use Rattle.bt_flow.specs.declared.property.Property.{Property as AProperty};
+ghost use Rattle.bt_top.specs.Commands.{IsCommand, IsUsage, input_limit};
 
 use bt_flow::Property;
 
+/// The most bytes that `flow-check` reads: a written state may be long.
+pub const MOST_CHECKED: usize = 1_073_741_824;
+
+/// The most bytes that `recover` reads.
+pub const MOST_RECOVERED: usize = 16_777_216;
+
 /// A command of the program.
-#[derive(Clone, Copy, Debug, PartialEq, Eq)]
+#[derive(Clone, Copy)]
 pub enum Command {
     /// `flow-check`: does the written state of a design break the property?
     FlowCheck(Property),
@@ -15,21 +22,21 @@ pub enum Command {
 }
 
 impl Command {
-    /// The most bytes that the command reads. A certificate may be long.
+    /// The most bytes that the command reads.
     pub fn input_limit(self) -> usize
         ensures { result ≡ input_limit self }
     {
         match self {
-            Command::FlowCheck(_) => 1_073_741_824,
-            Command::Recover => 16_777_216,
+            Command::FlowCheck(_) => MOST_CHECKED,
+            Command::Recover => MOST_RECOVERED,
         }
     }
 }
 
 /// The command that the words are.
 pub fn command_of(words: &[String]) -> Option<Command>
-    ensures some { IfSome result (λ command. IsCommand command (map string_bytes words.now)) }
-    ensures none { IfNone result (IsUsage (map string_bytes words.now)) }
+    ensures { MatchOption result (IsUsage (map string_bytes words.now))
+        (λ command. IsCommand command (map string_bytes words.now)) }
 {
     if let Some(property) = flow_check_property(words) {
         return Some(Command::FlowCheck(property));
@@ -51,25 +58,12 @@ fn is_recover(words: &[String]) -> bool
 
 /// The property that the words name after `flow-check`.
 fn flow_check_property(words: &[String]) -> Option<Property>
-    ensures some { IfSome result (λ p. map string_bytes words.now ≡ codes "flow-check" ∷ property_name p ∷ []) }
-    ensures none { IfNone result ((p : AProperty) → map string_bytes words.now ≡ codes "flow-check" ∷ property_name p ∷ [] → ⊥) }
+    ensures { MatchOption result
+        ((p : AProperty) → map string_bytes words.now ≡ codes "flow-check" ∷ property_name p ∷ [] → ⊥)
+        (λ p. map string_bytes words.now ≡ codes "flow-check" ∷ property_name p ∷ []) }
 {
     match words {
-        [command, name] if command.as_str() == "flow-check" => property_named(name.as_str()),
-        _ => None,
-    }
-}
-
-/// The property with this name.
-fn property_named(name: &str) -> Option<Property>
-    ensures some { IfSome result (λ p. name.now ≡ property_name p) }
-    ensures none { IfNone result ((p : AProperty) → name.now ≡ property_name p → ⊥) }
-{
-    match name {
-        "balanced" => Some(Property::Balanced),
-        "drawn-evenly" => Some(Property::DrawnEvenly),
-        "unlimited" => Some(Property::Unlimited),
-        "full" => Some(Property::Full),
+        [command, name] if command.as_str() == "flow-check" => Property::named(name.as_str()),
         _ => None,
     }
 }

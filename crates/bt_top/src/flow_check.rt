@@ -1,9 +1,11 @@
-ghost use Rattle.std.specs.Prelude.{IfOk};
-ghost use Rattle.bt_flow.specs.States.{Fits, Flows, StandsFor};
-ghost use Rattle.bt_top.specs.Inputs.{IsChecked, IsRestChecked, IsAnswerTo};
+//! `flow-check`: whether the state that is written behind a design breaks a property.
+ghost use Rattle.std.specs.Prelude.{◌≡◌, Ok, alloc_error};
+ghost use Rattle.bt_answers.specs.Answers.{UnlessMemory};
+ghost use Rattle.bt_flow.specs.States.{Fits};
+ghost use Rattle.bt_top.specs.Inputs.{IsChecked, IsStateChecked, IsJudged, state_told};
 
-use crate::answer::Answer;
-use crate::design::{DesignFault, read_design};
+use crate::answer::{Answer, refused};
+use crate::design::read_design;
 use bt_flow::{Judgement, Property, State, StateFault, WideSum, breaks, read_state};
 use bt_net::Net;
 use bt_text::skip_blanks;
@@ -11,38 +13,46 @@ use std::alloc::{AllocError, Global};
 
 /// The answer of `flow-check` to the bytes of its input.
 pub fn check(alloc: Global, property: Property, bytes: &[u8]) -> Result<Answer, AllocError>
-    ensures { IfOk result (λ a. IsChecked property bytes.now a) }
+    ensures { UnlessMemory alloc_error (IsChecked property bytes.now) result }
 {
     match read_design(alloc, bytes) {
         Ok(design) => {
             let (_, rest) = bytes.split_at(design.used);
-            check_rest(alloc, property, &design.net, rest)
+            check_state(alloc, property, &design.net, rest)
         }
-        Err(DesignFault::Refused(refusal)) => Ok(Answer::Refused(refusal)),
-        Err(DesignFault::Memory) => Err(AllocError),
+        Err(fault) => refused(fault),
     }
 }
 
 /// The answer to what follows a design.
-fn check_rest(
+fn check_state(
     alloc: Global,
     property: Property,
     net: &Net,
     rest: &[u8],
 ) -> Result<Answer, AllocError>
-    ensures { IfOk result (λ a. IsRestChecked rest.now net.now property a) }
+    ensures { UnlessMemory alloc_error (IsStateChecked net.now property rest.now) result }
 {
     match read_state(alloc, net, skip_blanks(rest), property) {
         Ok(state) => Ok(judge(property, net, &state)),
-        Err(StateFault::CertLine(line)) => Ok(Answer::CertLine(line)),
-        Err(StateFault::Memory) => Err(AllocError),
+        Err(fault) => unwritten(fault),
+    }
+}
+
+/// The answer where no state is written.
+fn unwritten(fault: StateFault) -> Result<Answer, AllocError>
+    ensures { result ≡ state_told fault }
+{
+    match fault {
+        StateFault::CertLine(line) => Ok(Answer::CertLine(line)),
+        StateFault::Memory => Err(AllocError),
     }
 }
 
 /// The answer to a written state.
 fn judge(property: Property, net: &Net, state: &State) -> Answer
     requires { Fits net.now state.now }
-    ensures { (s : Flows) → StandsFor net.now state.now s → IsAnswerTo net.now property state.now s result }
+    ensures { IsJudged net.now property state.now (Ok result) }
 {
     match breaks(net, property, state) {
         Ok(Judgement::Passes) => Answer::Breaks(property),

@@ -1,48 +1,54 @@
-ghost use Rattle.std.specs.Prelude.{◌≡◌, ℕ, List, IfOk, map, string_bytes};
+//! The program over a source and a sink: it reads its words and its input, and writes its answer.
+ghost use Rattle.std.specs.Prelude.{◌≡◌, ℕ, List, IfOk, alloc_error, map, string_bytes};
+ghost use Rattle.bt_answers.specs.Answers.{UnlessMemory};
+ghost use Rattle.bt_io.specs.Bytes.{WritesText};
+ghost use Rattle.bt_io.specs.Passages.{passage};
 ghost use Rattle.bt_net.specs.NetText.{net_text};
 ghost use Rattle.bt_top.specs.Commands.{IsCommand, IsUsage};
 ghost use Rattle.bt_top.specs.Inputs.{IsRightTo};
-ghost use Rattle.bt_top.specs.Endings.{AnswersExactly, Ends, IsAnswered, IsAnswerOf, IsRight, IsTold, IsToldAs};
+ghost use Rattle.bt_top.specs.Endings.{Ends, status_after};
+ghost use Rattle.bt_top.specs.inner.Lines.{line_text};
+ghost use Rattle.bt_top.specs.inner.Telling.{IsAnswered, IsAnsweredTo, IsToldUnlessMemory, IsLineTold};
 
 use crate::answer::Answer;
 use crate::command::{Command, command_of};
 use crate::flow_check::check;
 use crate::recover::recovered;
-use crate::stop::Stop;
-use crate::text::{breaks_text, cert_line_text, not_breaking_text, refusal_text, wide_text};
-use bt_io::{ReadAll, Sink, Source, read_all, write_all_of};
-use bt_net::{Net, print};
+use crate::text::{Detail, Line, refusal_line, text_of};
+use bt_io::{ReadAll, Sink, Source, WriteFault, read_all, write_all_of};
+use bt_net::print;
 use std::alloc::{AllocError, Global};
+
+/// The status where the source failed.
+pub const READ_FAULT: u8 = 6;
+
+/// The status where the sink failed.
+pub const WRITE_FAULT: u8 = 7;
+
+/// The status where no memory could be had.
+pub const NO_MEMORY: u8 = 8;
 
 /// Does all that the program does: reads the words and the source, writes the answer's text to the sink,
 /// and gives the status. The words exclude the program's name.
+///
+/// Where the words are no command, the source is as it was.
 pub fn run<S: Source, K: Sink>(alloc: Global, words: &[String], source: &mut S, sink: &mut K) -> u8
-    // It ends with a right answer, in the midst of its text, at a fault of the source, or for want of memory.
-    ensures ends { Ends (record { words = map string_bytes words.now; left = S.left source.old; left_after = S.left source.new; read_faults = S.faults source.old; read_faults_after = S.faults source.new; held = K.held sink.old; held_after = K.held sink.new; write_faults = K.faults sink.old; write_faults_after = K.faults sink.new; status = result }) }
-
-    // Where the source tells its bytes, the right answer to them is the only one.
-    ensures exact { AnswersExactly (record { words = map string_bytes words.now; left = S.left source.old; left_after = S.left source.new; read_faults = S.faults source.old; read_faults_after = S.faults source.new; held = K.held sink.old; held_after = K.held sink.new; write_faults = K.faults sink.old; write_faults_after = K.faults sink.new; status = result }) }
-
-    // Where the words are no command, nothing is read.
-    ensures unread { IsUsage (map string_bytes words.now) → source.new ≡ source.old }
-{
-    end_of(alloc, words, source, sink)
-}
-
-fn end_of<S: Source, K: Sink>(alloc: Global, words: &[String], source: &mut S, sink: &mut K) -> u8
-    ensures ends { Ends (record { words = map string_bytes words.now; left = S.left source.old; left_after = S.left source.new; read_faults = S.faults source.old; read_faults_after = S.faults source.new; held = K.held sink.old; held_after = K.held sink.new; write_faults = K.faults sink.old; write_faults_after = K.faults sink.new; status = result }) }
+    ensures ends { Ends (map string_bytes words.now)
+        (passage S.left S.faults source.old source.new) (passage K.held K.faults sink.old sink.new) result }
     ensures unread { IsUsage (map string_bytes words.now) → source.new ≡ source.old }
 {
     match answer_to(alloc, words, source) {
         Ok(answer) => told(alloc, answer, sink),
-        Err(Stop::ReadFault) => 6,
-        Err(Stop::Memory) => 8,
+        Err(ReadAll::TooLong) => told(alloc, Answer::TooLong, sink),
+        Err(ReadAll::ReadFault) => READ_FAULT,
+        Err(ReadAll::Memory) => NO_MEMORY,
     }
 }
 
 /// The answer to the words and the source.
-fn answer_to<S: Source>(alloc: Global, words: &[String], source: &mut S) -> Result<Answer, Stop>
-    ensures right { IsAnswered (IsRight (map string_bytes words.now) (S.left source.old) (S.left source.new)) (map string_bytes words.now) (S.left source.old) (S.left source.new) (S.faults source.old) (S.faults source.new) result }
+fn answer_to<S: Source>(alloc: Global, words: &[String], source: &mut S) -> Result<Answer, ReadAll>
+    ensures answer { IsAnsweredTo (map string_bytes words.now)
+        (passage S.left S.faults source.old source.new) result }
     ensures unread { IsUsage (map string_bytes words.now) → source.new ≡ source.old }
 {
     match command_of(words) {
@@ -52,20 +58,21 @@ fn answer_to<S: Source>(alloc: Global, words: &[String], source: &mut S) -> Resu
 }
 
 /// The answer of a command to the source.
-fn answer_of<S: Source>(alloc: Global, command: Command, source: &mut S) -> Result<Answer, Stop>
-    ensures { (words : List (List ℕ)) → IsCommand command words → IsAnswered (IsAnswerOf command (S.left source.old) (S.left source.new)) words (S.left source.old) (S.left source.new) (S.faults source.old) (S.faults source.new) result }
+fn answer_of<S: Source>(alloc: Global, command: Command, source: &mut S) -> Result<Answer, ReadAll>
+    ensures { IsAnswered command (passage S.left S.faults source.old source.new) result }
 {
     match read_all(alloc, source, command.input_limit()) {
-        Ok(bytes) => Ok(right_answer(alloc, command, &bytes)?),
-        Err(ReadAll::ReadFault) => Err(Stop::ReadFault),
-        Err(ReadAll::TooLong) => Ok(Answer::TooLong),
-        Err(ReadAll::Memory) => Err(Stop::Memory),
+        Ok(bytes) => match right_answer(alloc, command, &bytes) {
+            Ok(answer) => Ok(answer),
+            Err(_) => Err(ReadAll::Memory),
+        },
+        Err(fault) => Err(fault),
     }
 }
 
 /// The answer of a command to the bytes of its input.
 fn right_answer(alloc: Global, command: Command, bytes: &[u8]) -> Result<Answer, AllocError>
-    ensures { IfOk result (λ a. IsRightTo command bytes.now a) }
+    ensures { UnlessMemory alloc_error (IsRightTo command bytes.now) result }
 {
     match command {
         Command::FlowCheck(property) => check(alloc, property, bytes),
@@ -73,43 +80,53 @@ fn right_answer(alloc: Global, command: Command, bytes: &[u8]) -> Result<Answer,
     }
 }
 
-/// The status after the answer's text was given to the sink.
+/// Gives the answer's text to the sink, and gives the status.
 fn told<K: Sink>(alloc: Global, answer: Answer, sink: &mut K) -> u8
-    ensures { IsTold answer (K.held sink.old) (K.held sink.new) (K.faults sink.old) (K.faults sink.new) result }
+    ensures { IsToldUnlessMemory answer (passage K.held K.faults sink.old sink.new) result }
 {
     match answer {
-        Answer::Recovered(net) => told_net(&net, sink),
-        Answer::Breaks(property) => told_text(0, breaks_text(alloc, property), sink),
-        Answer::Usage => told_text(2, Vec::from_slice(alloc, b"usage\n"), sink),
-        Answer::Refused(refusal) => told_text(3, refusal_text(alloc, refusal), sink),
-        Answer::WideState(test, place) => told_text(5, wide_text(alloc, test, place), sink),
-        Answer::CertLine(line) => told_text(9, cert_line_text(alloc, line), sink),
-        Answer::NotBreaking(test, place) => {
-            told_text(9, not_breaking_text(alloc, test, place), sink)
+        Answer::Recovered(net) => status_after(0, print(&net, sink)),
+        Answer::Usage => status_after(2, write_all_of(sink, b"usage\n")),
+        Answer::TooLong => status_after(11, write_all_of(sink, b"too long\n")),
+        Answer::Breaks(property) => {
+            let line = Line("breaks", Detail::Name(property.name()));
+            line_told(alloc, 0, &line, sink)
         }
-        Answer::TooLong => told_text(11, Vec::from_slice(alloc, b"too long\n"), sink),
+        Answer::Refused(refusal) => line_told(alloc, 3, &refusal_line(refusal), sink),
+        Answer::WideState(test, place) => {
+            let line = Line("wide state", Detail::NameAndNumber(test.name(), place));
+            line_told(alloc, 5, &line, sink)
+        }
+        Answer::CertLine(number) => {
+            let line = Line("refused 50 CertLine", Detail::Number(number));
+            line_told(alloc, 9, &line, sink)
+        }
+        Answer::NotBreaking(test, place) => {
+            let line = Line(
+                "refused 54 NotBreaking",
+                Detail::NameAndNumber(test.name(), place),
+            );
+            line_told(alloc, 9, &line, sink)
+        }
     }
 }
 
-/// The status after a network's text was given to the sink.
-fn told_net<K: Sink>(net: &Net, sink: &mut K) -> u8
-    ensures { IsToldAs 0 (net_text net.now) (K.held sink.old) (K.held sink.new) (K.faults sink.old) (K.faults sink.new) result }
+/// Gives a line to the sink, where there is memory to form it, and gives the status.
+fn line_told<K: Sink>(alloc: Global, status: u8, line: &Line, sink: &mut K) -> u8
+    ensures { IsLineTold status (line_text line.now) (passage K.held K.faults sink.old sink.new) result }
 {
-    match print(net, sink) {
-        Ok(()) => 0,
-        Err(_) => 7,
+    match text_of(alloc, line) {
+        Ok(text) => status_after(status, write_all_of(sink, &text)),
+        Err(_) => NO_MEMORY,
     }
 }
 
-/// The status after a text, for which memory could be had, was given to the sink.
-fn told_text<K: Sink>(status: u8, text: Result<Vec<u8>, AllocError>, sink: &mut K) -> u8
-    ensures { (t : List ℕ) → IfOk text (λ v. v.items ≡ t) → IsToldAs status t (K.held sink.old) (K.held sink.new) (K.faults sink.old) (K.faults sink.new) result }
+/// The status after a text was given to the sink: that of the answer, or that of a fault.
+fn status_after(status: u8, written: Result<(), WriteFault>) -> u8
+    ensures { result ≡ status_after status written }
 {
-    let Ok(text) = text else {
-        return 8;
-    };
-    match write_all_of(sink, &text) {
+    match written {
         Ok(()) => status,
-        Err(_) => 7,
+        Err(_) => WRITE_FAULT,
     }
 }

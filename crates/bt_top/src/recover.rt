@@ -1,15 +1,17 @@
-ghost use Rattle.std.specs.Prelude.{◌≡◌, ◌≤◌, ◌==◌, length, count_by, IfOk};
-ghost use Rattle.bt_top.specs.Inputs.{IsRecovered, TellsPlace, line_at};
+//! `recover`: the network of a design that nothing follows.
+ghost use Rattle.std.specs.Prelude.{◌≡◌, ◌≤◌, Ok, alloc_error, drop, length};
+ghost use Rattle.bt_answers.specs.Answers.{UnlessMemory};
+ghost use Rattle.bt_top.specs.Inputs.{IsRecoveredFrom, IsRefusedAt, line_at};
 
-use crate::answer::Answer;
-use crate::design::{Design, DesignFault, is_json, read_design};
+use crate::answer::{Answer, refused};
+use crate::design::{Design, is_json, read_design};
 use crate::refusal::Refusal;
-use bt_text::skip_blanks;
+use bt_text::{line_feeds, skip_blanks};
 use std::alloc::{AllocError, Global};
 
 /// The answer of `recover` to the bytes of its input.
 pub fn recovered(alloc: Global, bytes: &[u8]) -> Result<Answer, AllocError>
-    ensures { IfOk result (λ a. IsRecovered bytes.now a) }
+    ensures { UnlessMemory alloc_error (IsRecoveredFrom bytes.now) result }
 {
     match read_design(alloc, bytes) {
         Ok(Design { net, used }) => {
@@ -21,15 +23,14 @@ pub fn recovered(alloc: Global, bytes: &[u8]) -> Result<Answer, AllocError>
                 Ok(Answer::Refused(refused_at(bytes, bytes.len() - text.len())))
             }
         }
-        Err(DesignFault::Refused(refusal)) => Ok(Answer::Refused(refusal)),
-        Err(DesignFault::Memory) => Err(AllocError),
+        Err(fault) => refused(fault),
     }
 }
 
-/// What is refused where a design is followed by a byte at this offset.
+/// What is refused where something begins at this offset behind a design.
 fn refused_at(bytes: &[u8], at: usize) -> Refusal
     requires { at ≤ length bytes.now }
-    ensures { TellsPlace bytes.now at result }
+    ensures { IsRefusedAt bytes.now at result }
 {
     if is_json(bytes) {
         Refusal::Json(at)
@@ -44,11 +45,4 @@ fn line_at(bytes: &[u8], at: usize) -> usize
     ensures { result ≡ line_at bytes.now at }
 {
     line_feeds(&bytes[..at]) + 1
-}
-
-fn line_feeds(text: &[u8]) -> usize
-    ensures feeds { result ≡ count_by (λ b. b == 10) text.now }
-    ensures few { result ≤ length text.now }
-{
-    text.iter().filter(|byte| **byte == b'\n').count()
 }

@@ -1,7 +1,8 @@
+//! Why a design is refused: one list over the faults of all layers below.
 use bt_entities::Member;
 
 /// Why a design is refused. The numbers are offsets of bytes, indices of entities, and lines from 1.
-#[derive(Clone, Copy, Debug, PartialEq, Eq)]
+#[derive(Clone, Copy)]
 pub enum Refusal {
     /// The byte at this offset can't go on JSON text, or the text ends there; or something else than
     /// blanks begins there, after the JSON of a design.
@@ -14,7 +15,7 @@ pub enum Refusal {
     NotBlueprint,
     /// The JSON is a book of blueprints.
     Book,
-    /// The blueprint has more than 4096 entities.
+    /// The blueprint has more entities than `bt_entities::MOST_ENTITIES`.
     TooMany,
     /// The entity's name is of no part.
     Unsupported(usize),
@@ -39,7 +40,7 @@ pub enum Refusal {
     /// This line, from 1, may not stand in the network text; or something else than blanks begins on
     /// it, after the network text of a design.
     NetLine(usize),
-    /// The network has more than 2048 inputs, outputs, splitters or edges.
+    /// The network has more inputs, outputs, splitters or edges than `bt_net::MOST_OF_EACH`.
     TooLarge,
     /// The network has no input or no output.
     NoEnds,

@@ -1,10 +1,6 @@
-// Blueprints.
-use super::{BELT, BELT_STATE, Case, Recovery, SPLITTER, answers_all, recovers_all, words_of};
-use crate::run;
-use bt_io::{MemSink, MemSource};
-use itoa::Buffer;
+//! Designs as blueprint JSON.
+use super::{BELT, BELT_STATE, Case, SPLITTER, answer, answers_all, push_number};
 use std::alloc::Global;
-use std::process::Abort;
 use std::test::Fail;
 
 const FOUR_TO_FOUR: [&str; 8] = [
@@ -49,16 +45,6 @@ fn entity_of(symbol: u8) -> Option<&'static str> {
     }
 }
 
-/// The number, and a half where it is wanted.
-fn push_number(json: &mut Vec<u8>, number: usize, half: bool) -> Result<(), Fail> {
-    let mut buffer = Buffer::new();
-    json.extend_from_slice(buffer.format(number).as_bytes())?;
-    if half {
-        json.extend_from_slice(b".5")?;
-    }
-    Ok(())
-}
-
 /// The blueprint of a map: rows of cells from north to south, where `[` is the west half of a splitter
 /// that faces north, and `U` and `u` are an entrance and an exit to the north.
 fn blueprint_of(alloc: Global, tier: &str, rows: &[&str]) -> Result<Vec<u8>, Fail> {
@@ -75,13 +61,14 @@ fn blueprint_of(alloc: Global, tier: &str, rows: &[&str]) -> Result<Vec<u8>, Fai
             json.extend_from_slice(entity.as_bytes())?;
             json.extend_from_slice(b",\"position\":{\"x\":")?;
             if *symbol == b'[' {
-                push_number(&mut json, x.wrapping_add(1), false)?;
+                push_number(&mut json, x.wrapping_add(1))?;
             } else {
-                push_number(&mut json, x, true)?;
+                push_number(&mut json, x)?;
+                json.extend_from_slice(b".5")?;
             }
             json.extend_from_slice(b",\"y\":")?;
-            push_number(&mut json, y, true)?;
-            json.extend_from_slice(b"}}")?;
+            push_number(&mut json, y)?;
+            json.extend_from_slice(b".5}}")?;
             separator = ",";
         }
     }
@@ -89,224 +76,285 @@ fn blueprint_of(alloc: Global, tier: &str, rows: &[&str]) -> Result<Vec<u8>, Fai
     Ok(json)
 }
 
-/// What `recover` writes for the map.
-fn recovered(rt: &impl Abort, alloc: Global, tier: &str, rows: &[&str]) -> Result<Vec<u8>, Fail> {
-    let words = words_of(alloc, &["recover"])?;
-    let mut source = MemSource::new(blueprint_of(alloc, tier, rows)?, Vec::new(alloc), 1000);
-    let mut sink = MemSink::new(alloc, 1000, Vec::new(alloc), 1000)?;
-    let status = run(alloc, &words, &mut source, &mut sink);
-    assert_eq!(rt; status, 0);
-    Ok(Vec::from_slice(alloc, sink.held())?)
+const FRONT: &str = r#"{"blueprint":{"entities":["#;
+
+const BACK: &str = "]}}";
+
+const BELT_BLUEPRINT: &str =
+    r#"{"blueprint":{"entities":[{"name":"transport-belt","position":{"x":0.5,"y":0.5},"direction":0}]}}"#;
+
+const CASES: [Case; 28] = [
+    Case(
+        "recover",
+        &[
+            FRONT,
+            r#"{"name":"splitter","position":{"x":1,"y":0.5}}"#,
+            r#",{"name":"transport-belt","position":{"x":0.5,"y":1.5},"direction":0}"#,
+            r#",{"name":"transport-belt","position":{"x":1.5,"y":1.5},"direction":0}"#,
+            r#",{"name":"transport-belt","position":{"x":0.5,"y":-0.5},"direction":0}"#,
+            r#",{"name":"transport-belt","position":{"x":1.5,"y":-0.5},"direction":0}"#,
+            BACK,
+        ],
+        0,
+        SPLITTER,
+    ),
+    Case(
+        "recover",
+        &[
+            FRONT,
+            r#"{"name":"splitter","position":{"x":1.5,"y":1}}"#,
+            r#",{"name":"transport-belt","position":{"x":1,"y":2},"direction":0}"#,
+            r#",{"name":"transport-belt","position":{"x":2,"y":2},"direction":0}"#,
+            r#",{"name":"transport-belt","position":{"x":1,"y":0},"direction":0}"#,
+            r#",{"name":"transport-belt","position":{"x":2,"y":0},"direction":0}"#,
+            BACK,
+        ],
+        0,
+        SPLITTER,
+    ),
+    Case(
+        "recover",
+        &[
+            FRONT,
+            r#"{"name":"transport-belt","position":{"x":0.5,"y":0.5},"direction":4}"#,
+            r#",{"name":"transport-belt","position":{"x":1.5,"y":0.5},"direction":4}"#,
+            r#"],"version":281479271677952}}"#,
+        ],
+        0,
+        "net 2 2 0\nedge i0 o0\nedge i1 o1\nend\n",
+    ),
+    Case(
+        "recover",
+        &[
+            FRONT,
+            r#"{"name":"transport-belt","position":{"x":0.5,"y":0.5},"direction":4}"#,
+            r#",{"name":"transport-belt","position":{"x":1.5,"y":0.5},"direction":4}"#,
+            r#"],"version":562949953421312}}"#,
+        ],
+        0,
+        BELT,
+    ),
+    Case(
+        "recover",
+        &[
+            FRONT,
+            r#"{"name":"underground-belt","position":{"x":0.5,"y":0.5},"direction":2,"type":"input"}"#,
+            r#",{"name":"underground-belt","position":{"x":5.5,"y":0.5},"direction":2,"type":"output"}"#,
+            BACK,
+        ],
+        0,
+        BELT,
+    ),
+    Case(
+        "recover",
+        &[
+            FRONT,
+            r#"{"name":"transport-belt","position":{"x":1.5,"y":0.5},"direction":2}"#,
+            r#",{"name":"transport-belt","position":{"x":1.5,"y":1.5},"direction":0}"#,
+            BACK,
+        ],
+        0,
+        BELT,
+    ),
+    Case(
+        "recover",
+        &[
+            FRONT,
+            r#"{"name":"transport-belt","position":{"x":15e-1,"y":1.50}}"#,
+            BACK,
+        ],
+        0,
+        BELT,
+    ),
+    Case("recover", &[" \n", BELT_BLUEPRINT, " \t\r\n"], 0, BELT),
+    Case(
+        "recover",
+        &[r#"{"blueprint":{"item":"blu"#],
+        3,
+        "refused 10 Json 25\n",
+    ),
+    Case(
+        "recover",
+        &[BELT_BLUEPRINT, "\n x"],
+        3,
+        "refused 10 Json 99\n",
+    ),
+    Case(
+        "recover",
+        &["{\"a\":1,\"\\u0061\":2}"],
+        3,
+        "refused 12 DuplicateKey 7\n",
+    ),
+    Case("recover", &["{}"], 3, "refused 20 NotBlueprint\n"),
+    Case(
+        "recover",
+        &[r#"{"blueprint_book":{}}"#],
+        3,
+        "refused 21 Book\n",
+    ),
+    Case(
+        "recover",
+        &[
+            FRONT,
+            r#"{"name":"inserter","position":{"x":0.5,"y":0.5}}"#,
+            BACK,
+        ],
+        3,
+        "refused 23 Unsupported 0\n",
+    ),
+    Case(
+        "recover",
+        &[
+            FRONT,
+            r#"{"name":"transport-belt","position":{"x":0.5,"y":0.5},"direction":0}"#,
+            r#",{"name":"transport-belt","position":{"x":1.5,"y":0.5},"direction":1}"#,
+            BACK,
+        ],
+        3,
+        "refused 24 BadMember 1 direction\n",
+    ),
+    Case(
+        "recover",
+        &[
+            FRONT,
+            r#"{"name":"transport-belt","position":{"x":0.25,"y":0.5}}"#,
+            BACK,
+        ],
+        3,
+        "refused 25 OffGrid 0\n",
+    ),
+    Case(
+        "recover",
+        &[
+            FRONT,
+            r#"{"name":"underground-belt","position":{"x":0.5,"y":0.5},"direction":2,"type":"input"}"#,
+            r#",{"name":"fast-underground-belt","position":{"x":1.5,"y":0.5},"direction":2,"type":"input"}"#,
+            r#",{"name":"underground-belt","position":{"x":3.5,"y":0.5},"direction":2,"type":"output"}"#,
+            r#",{"name":"fast-underground-belt","position":{"x":6.5,"y":0.5},"direction":2,"type":"output"}"#,
+            BACK,
+        ],
+        3,
+        "refused 26 MixedTier 1\n",
+    ),
+    Case(
+        "recover",
+        &[
+            FRONT,
+            r#"{"name":"splitter","position":{"x":1,"y":0.5},"direction":0,"input_priority":"left"}"#,
+            BACK,
+        ],
+        3,
+        "refused 27 Special 0 input_priority\n",
+    ),
+    Case(
+        "recover",
+        &[
+            FRONT,
+            r#"{"name":"transport-belt","position":{"x":0.5,"y":0.5},"direction":0}"#,
+            r#",{"name":"transport-belt","position":{"x":0.5,"y":0.5},"direction":0}"#,
+            BACK,
+        ],
+        3,
+        "refused 30 Overlap 0 1\n",
+    ),
+    Case(
+        "recover",
+        &[
+            FRONT,
+            r#"{"name":"underground-belt","position":{"x":0.5,"y":0.5},"direction":2,"type":"input"}"#,
+            r#",{"name":"underground-belt","position":{"x":6.5,"y":0.5},"direction":2,"type":"output"}"#,
+            BACK,
+        ],
+        3,
+        "refused 31 Unpaired 0\n",
+    ),
+    Case(
+        "recover",
+        &[
+            FRONT,
+            r#"{"name":"underground-belt","position":{"x":0.5,"y":0.5},"direction":2,"type":"input"}"#,
+            r#",{"name":"underground-belt","position":{"x":1.5,"y":0.5},"direction":2,"type":"input"}"#,
+            r#",{"name":"underground-belt","position":{"x":3.5,"y":0.5},"direction":2,"type":"output"}"#,
+            BACK,
+        ],
+        3,
+        "refused 31 Unpaired 0\n",
+    ),
+    Case(
+        "recover",
+        &[
+            FRONT,
+            r#"{"name":"transport-belt","position":{"x":0.5,"y":0.5},"direction":2}"#,
+            r#",{"name":"transport-belt","position":{"x":1.5,"y":0.5},"direction":2}"#,
+            r#",{"name":"transport-belt","position":{"x":1.5,"y":1.5},"direction":0}"#,
+            BACK,
+        ],
+        3,
+        "refused 32 SideLoad 1\n",
+    ),
+    Case(
+        "recover",
+        &[
+            FRONT,
+            r#"{"name":"transport-belt","position":{"x":0.5,"y":0.5},"direction":2}"#,
+            r#",{"name":"transport-belt","position":{"x":1.5,"y":0.5},"direction":6}"#,
+            BACK,
+        ],
+        3,
+        "refused 33 Blocked 0\n",
+    ),
+    Case(
+        "recover",
+        &[
+            FRONT,
+            r#"{"name":"transport-belt","position":{"x":0.5,"y":0.5},"direction":2}"#,
+            r#",{"name":"transport-belt","position":{"x":1.5,"y":0.5},"direction":4}"#,
+            r#",{"name":"transport-belt","position":{"x":1.5,"y":1.5},"direction":6}"#,
+            r#",{"name":"transport-belt","position":{"x":0.5,"y":1.5},"direction":0}"#,
+            BACK,
+        ],
+        3,
+        "refused 34 Ring 0\n",
+    ),
+    Case(
+        "recover",
+        &[r#"{"blueprint":{"entities":[]}}x"#],
+        3,
+        "refused 42 NoEnds\n",
+    ),
+    Case(
+        "flow-check unlimited",
+        &[BELT_BLUEPRINT, "\n", BELT_STATE],
+        9,
+        "refused 54 NotBreaking kept 0\n",
+    ),
+    Case(
+        "flow-check unlimited",
+        &[BELT_BLUEPRINT, "x"],
+        9,
+        "refused 50 CertLine 1\n",
+    ),
+    Case(
+        "flow-check unlimited",
+        &[r#"{"blueprint":{}}"#],
+        3,
+        "refused 42 NoEnds\n",
+    ),
+];
+
+#[test]
+fn answers_to_designs(rt: HostRuntime) -> Result<(), Fail> {
+    answers_all(&rt, rt.alloc(), &CASES)
 }
 
 #[test]
 fn recovers_balancers(rt: HostRuntime) -> Result<(), Fail> {
-    let four = recovered(&rt, rt.alloc(), "", &FOUR_TO_FOUR)?;
-    assert_eq!(rt; four.as_slice(), FOUR_TO_FOUR_NETWORK.as_bytes());
-    let eight = recovered(&rt, rt.alloc(), "express-", &EIGHT_TO_EIGHT)?;
-    assert_eq!(rt; eight.starts_with(b"net 8 8 12\n"), true);
-    assert_eq!(rt; eight.iter().filter(|byte| **byte == b'\n').count(), 34);
+    let four = blueprint_of(rt.alloc(), "", &FOUR_TO_FOUR)?;
+    let (status, network) = answer(rt.alloc(), "recover", four, (0, 0), 1000)?;
+    assert!(rt; status == 0 && network.as_slice() == FOUR_TO_FOUR_NETWORK.as_bytes());
+    let eight = blueprint_of(rt.alloc(), "express-", &EIGHT_TO_EIGHT)?;
+    let (status, network) = answer(rt.alloc(), "recover", eight, (0, 0), 1000)?;
+    assert!(rt; status == 0 && network.starts_with(b"net 8 8 12\n"));
+    assert!(rt; network.iter().filter(|byte| **byte == b'\n').count() == 34);
     Ok(())
-}
-
-#[test]
-fn recovers_designs(rt: HostRuntime) -> Result<(), Fail> {
-    let cases = [
-        Recovery(
-            &[
-                "{\"blueprint\":{\"entities\":[{\"name\":\"splitter\",\"position\":{\"x\":1,\"y\":0.5}},{\"name\":\"transport-belt\",\"position\":{\"x\":0.5,\"y\":1.5},\"direction\":0},{\"name\":\"transport-belt\",\"position\":{\"x\":1.5,\"y\":1.5},\"direction\":0},{\"name\":\"transport-belt\",\"position\":{\"x\":0.5,\"y\":-0.5},\"direction\":0},{\"name\":\"transport-belt\",\"position\":{\"x\":1.5,\"y\":-0.5},\"direction\":0}]}}",
-            ],
-            0,
-            SPLITTER,
-        ),
-        Recovery(
-            &[
-                "{\"blueprint\":{\"entities\":[{\"name\":\"splitter\",\"position\":{\"x\":1.5,\"y\":1}},{\"name\":\"transport-belt\",\"position\":{\"x\":1,\"y\":2},\"direction\":0},{\"name\":\"transport-belt\",\"position\":{\"x\":2,\"y\":2},\"direction\":0},{\"name\":\"transport-belt\",\"position\":{\"x\":1,\"y\":0},\"direction\":0},{\"name\":\"transport-belt\",\"position\":{\"x\":2,\"y\":0},\"direction\":0}]}}",
-            ],
-            0,
-            SPLITTER,
-        ),
-        Recovery(
-            &[
-                "{\"blueprint\":{\"entities\":[{\"name\":\"transport-belt\",\"position\":{\"x\":0.5,\"y\":0.5},\"direction\":4},{\"name\":\"transport-belt\",\"position\":{\"x\":1.5,\"y\":0.5},\"direction\":4}],\"version\":281479271677952}}",
-            ],
-            0,
-            "net 2 2 0\nedge i0 o0\nedge i1 o1\nend\n",
-        ),
-        Recovery(
-            &[
-                "{\"blueprint\":{\"entities\":[{\"name\":\"transport-belt\",\"position\":{\"x\":0.5,\"y\":0.5},\"direction\":4},{\"name\":\"transport-belt\",\"position\":{\"x\":1.5,\"y\":0.5},\"direction\":4}],\"version\":562949953421312}}",
-            ],
-            0,
-            BELT,
-        ),
-        Recovery(
-            &[
-                "{\"blueprint\":{\"entities\":[{\"name\":\"underground-belt\",\"position\":{\"x\":0.5,\"y\":0.5},\"direction\":2,\"type\":\"input\"},{\"name\":\"underground-belt\",\"position\":{\"x\":5.5,\"y\":0.5},\"direction\":2,\"type\":\"output\"}]}}",
-            ],
-            0,
-            BELT,
-        ),
-        Recovery(
-            &[
-                "{\"blueprint\":{\"entities\":[{\"name\":\"transport-belt\",\"position\":{\"x\":1.5,\"y\":0.5},\"direction\":2},{\"name\":\"transport-belt\",\"position\":{\"x\":1.5,\"y\":1.5},\"direction\":0}]}}",
-            ],
-            0,
-            BELT,
-        ),
-        Recovery(
-            &[
-                "{\"blueprint\":{\"entities\":[{\"name\":\"transport-belt\",\"position\":{\"x\":15e-1,\"y\":1.50}}]}}",
-            ],
-            0,
-            BELT,
-        ),
-        Recovery(
-            &[
-                " \n{\"blueprint\":{\"entities\":[{\"name\":\"transport-belt\",\"position\":{\"x\":0.5,\"y\":0.5}}]}} \t\r\n",
-            ],
-            0,
-            BELT,
-        ),
-    ];
-    recovers_all(&rt, rt.alloc(), &cases)
-}
-
-#[test]
-fn refuses_other_designs(rt: HostRuntime) -> Result<(), Fail> {
-    let cases = [
-        Recovery(
-            &["{\"blueprint\":{\"item\":\"blu"],
-            3,
-            "refused 10 Json 25\n",
-        ),
-        Recovery(
-            &[
-                "{\"blueprint\":{\"entities\":[{\"name\":\"transport-belt\",\"position\":{\"x\":0.5,\"y\":0.5},\"direction\":0}]}}\n x",
-            ],
-            3,
-            "refused 10 Json 99\n",
-        ),
-        Recovery(
-            &["{\"a\":1,\"\\u0061\":2}"],
-            3,
-            "refused 12 DuplicateKey 7\n",
-        ),
-        Recovery(&["{}"], 3, "refused 20 NotBlueprint\n"),
-        Recovery(&["{\"blueprint_book\":{}}"], 3, "refused 21 Book\n"),
-        Recovery(
-            &[
-                "{\"blueprint\":{\"entities\":[{\"name\":\"inserter\",\"position\":{\"x\":0.5,\"y\":0.5}}]}}",
-            ],
-            3,
-            "refused 23 Unsupported 0\n",
-        ),
-        Recovery(
-            &[
-                "{\"blueprint\":{\"entities\":[{\"name\":\"transport-belt\",\"position\":{\"x\":0.5,\"y\":0.5},\"direction\":0},{\"name\":\"transport-belt\",\"position\":{\"x\":1.5,\"y\":0.5},\"direction\":1}]}}",
-            ],
-            3,
-            "refused 24 BadMember 1 direction\n",
-        ),
-        Recovery(
-            &[
-                "{\"blueprint\":{\"entities\":[{\"name\":\"transport-belt\",\"position\":{\"x\":0.25,\"y\":0.5}}]}}",
-            ],
-            3,
-            "refused 25 OffGrid 0\n",
-        ),
-        Recovery(
-            &[
-                "{\"blueprint\":{\"entities\":[{\"name\":\"underground-belt\",\"position\":{\"x\":0.5,\"y\":0.5},\"direction\":2,\"type\":\"input\"},{\"name\":\"fast-underground-belt\",\"position\":{\"x\":1.5,\"y\":0.5},\"direction\":2,\"type\":\"input\"},{\"name\":\"underground-belt\",\"position\":{\"x\":3.5,\"y\":0.5},\"direction\":2,\"type\":\"output\"},{\"name\":\"fast-underground-belt\",\"position\":{\"x\":6.5,\"y\":0.5},\"direction\":2,\"type\":\"output\"}]}}",
-            ],
-            3,
-            "refused 26 MixedTier 1\n",
-        ),
-        Recovery(
-            &[
-                "{\"blueprint\":{\"entities\":[{\"name\":\"splitter\",\"position\":{\"x\":1,\"y\":0.5},\"direction\":0,\"input_priority\":\"left\"}]}}",
-            ],
-            3,
-            "refused 27 Special 0 input_priority\n",
-        ),
-        Recovery(
-            &[
-                "{\"blueprint\":{\"entities\":[{\"name\":\"transport-belt\",\"position\":{\"x\":0.5,\"y\":0.5},\"direction\":0},{\"name\":\"transport-belt\",\"position\":{\"x\":0.5,\"y\":0.5},\"direction\":0}]}}",
-            ],
-            3,
-            "refused 30 Overlap 0 1\n",
-        ),
-        Recovery(
-            &[
-                "{\"blueprint\":{\"entities\":[{\"name\":\"underground-belt\",\"position\":{\"x\":0.5,\"y\":0.5},\"direction\":2,\"type\":\"input\"},{\"name\":\"underground-belt\",\"position\":{\"x\":6.5,\"y\":0.5},\"direction\":2,\"type\":\"output\"}]}}",
-            ],
-            3,
-            "refused 31 Unpaired 0\n",
-        ),
-        Recovery(
-            &[
-                "{\"blueprint\":{\"entities\":[{\"name\":\"underground-belt\",\"position\":{\"x\":0.5,\"y\":0.5},\"direction\":2,\"type\":\"input\"},{\"name\":\"underground-belt\",\"position\":{\"x\":1.5,\"y\":0.5},\"direction\":2,\"type\":\"input\"},{\"name\":\"underground-belt\",\"position\":{\"x\":3.5,\"y\":0.5},\"direction\":2,\"type\":\"output\"}]}}",
-            ],
-            3,
-            "refused 31 Unpaired 0\n",
-        ),
-        Recovery(
-            &[
-                "{\"blueprint\":{\"entities\":[{\"name\":\"transport-belt\",\"position\":{\"x\":0.5,\"y\":0.5},\"direction\":2},{\"name\":\"transport-belt\",\"position\":{\"x\":1.5,\"y\":0.5},\"direction\":2},{\"name\":\"transport-belt\",\"position\":{\"x\":1.5,\"y\":1.5},\"direction\":0}]}}",
-            ],
-            3,
-            "refused 32 SideLoad 1\n",
-        ),
-        Recovery(
-            &[
-                "{\"blueprint\":{\"entities\":[{\"name\":\"transport-belt\",\"position\":{\"x\":0.5,\"y\":0.5},\"direction\":2},{\"name\":\"transport-belt\",\"position\":{\"x\":1.5,\"y\":0.5},\"direction\":6}]}}",
-            ],
-            3,
-            "refused 33 Blocked 0\n",
-        ),
-        Recovery(
-            &[
-                "{\"blueprint\":{\"entities\":[{\"name\":\"transport-belt\",\"position\":{\"x\":0.5,\"y\":0.5},\"direction\":2},{\"name\":\"transport-belt\",\"position\":{\"x\":1.5,\"y\":0.5},\"direction\":4},{\"name\":\"transport-belt\",\"position\":{\"x\":1.5,\"y\":1.5},\"direction\":6},{\"name\":\"transport-belt\",\"position\":{\"x\":0.5,\"y\":1.5},\"direction\":0}]}}",
-            ],
-            3,
-            "refused 34 Ring 0\n",
-        ),
-        Recovery(
-            &["{\"blueprint\":{\"entities\":[]}}x"],
-            3,
-            "refused 42 NoEnds\n",
-        ),
-    ];
-    recovers_all(&rt, rt.alloc(), &cases)
-}
-
-#[test]
-fn judges_states_of_designs(rt: HostRuntime) -> Result<(), Fail> {
-    let cases = [
-        Case(
-            "unlimited",
-            &[
-                "{\"blueprint\":{\"entities\":[{\"name\":\"transport-belt\",\"position\":{\"x\":0.5,\"y\":0.5},\"direction\":0}]}}\n",
-                BELT_STATE,
-            ],
-            9,
-            "refused 54 NotBreaking kept 0\n",
-        ),
-        Case(
-            "unlimited",
-            &[
-                "{\"blueprint\":{\"entities\":[{\"name\":\"transport-belt\",\"position\":{\"x\":0.5,\"y\":0.5},\"direction\":0}]}}",
-                "x",
-            ],
-            9,
-            "refused 50 CertLine 1\n",
-        ),
-        Case(
-            "unlimited",
-            &["{\"blueprint\":{}}"],
-            3,
-            "refused 42 NoEnds\n",
-        ),
-    ];
-    answers_all(&rt, rt.alloc(), &cases)
 }

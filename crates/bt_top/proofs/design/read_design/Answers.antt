@@ -1,12 +1,15 @@
-use Rattle.std.proofs.Common.{inl, refl}
-use Rattle.std.proofs.lemmas.Result.{IfErr-weaker}
-use Rattle.bt_top.specs.Designs.{IsRefusedJson, IsRefusedDesign}
-use Rattle.bt_top.specs.Refusals.{UnlessMemory}
-use Rattle.bt_top.proofs.Told.{weaker}
+use Rattle.std.proofs.Common.{◌≡◌, true, false, inl, inr, refl}
+use Rattle.bt_top.specs.declared.fault.DesignFault.TheVariants.{Memory}
+use Rattle.bt_top.specs.Designs.{IsJsonDesign, IsTextDesign, IsDesign}
+use Rattle.bt_top.proofs.InTurns.{weaker}
 use Rattle.bt_top.proofs.design.read_design.Goals as goal
 
-pub returns-then-is_json-clause-refused : goal.returns-then-is_json-clause-refused
-returns-then-is_json-clause-refused c =
-    IfErr-weaker c.read_json.result (UnlessMemory (IsRefusedJson c.args.bytes.now)) (UnlessMemory (IsRefusedDesign c.args.bytes.now))
-    (λ d h. weaker (IsRefusedJson c.args.bytes.now) (IsRefusedDesign c.args.bytes.now) d (λ r j. inl (c.if-is_json.ensures.0 refl, j)) h)
-    c.read_json.ensures.refused
+pub returns-then-is_json-clause-design : goal.returns-then-is_json-clause-design
+returns-then-is_json-clause-design c =
+    let json = c.if-is_json.ensures in
+    weaker Memory (IsJsonDesign c.args.bytes.now) (IsDesign c.args.bytes.now) _ (λ r h. inl (json.0 refl, h)) c.read_json.ensures.design
+
+pub returns-else-is_json-clause-design : goal.returns-else-is_json-clause-design
+returns-else-is_json-clause-design c =
+    let json = c.if-is_json.ensures in
+    weaker Memory (IsTextDesign c.args.bytes.now) (IsDesign c.args.bytes.now) _ (λ r h. inr (λ j. let f : false ≡ true = json.1 j in cc, h)) c.read_text.ensures.design

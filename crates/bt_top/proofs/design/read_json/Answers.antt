@@ -1,16 +1,31 @@
-use Rattle.bt_json.specs.Stands.{json_of}
-use Rattle.bt_top.specs.Designs.{IsRefusedValue, IsRefusedJson, no_value, no_design}
-use Rattle.bt_top.specs.Refusals.{TellsJson}
-use Rattle.bt_top.proofs.Told.{weaker, json_told}
+use Rattle.std.proofs.Common.{◌≡◌, ℕ, List, ◌⊎◌, inl, inr, refl, ap, Ok, Err, Result}
+use Rattle.bt_answers.specs.Answers.{seen}
+use Rattle.bt_json.specs.declared.fault.JsonFault.TheVariants as json
+use Rattle.bt_json.specs.Json.{Json}
+use Rattle.bt_json.specs.Answers.{IsRead}
+use Rattle.bt_net.specs.Network.{Network}
+use Rattle.bt_top.specs.declared.fault.DesignFault.{DesignFault}
+use Rattle.bt_top.specs.declared.fault.DesignFault.TheVariants.{Memory}
+use Rattle.bt_top.specs.Refusals.{json_told}
+use Rattle.bt_top.specs.Designs.{IsBlueprintNet, IsJsonDesign}
+use Rattle.bt_top.specs.Steps.{went_on}
+use Rattle.bt_top.proofs.InTurns.{stops}
 use Rattle.bt_top.proofs.design.read_json.Goals as goal
 
-pub returns-in-Ok-clause-refused : goal.returns-in-Ok-clause-refused
-returns-in-Ok-clause-refused c =
-    weaker (IsRefusedValue (json_of c.in-Ok.tree)) (IsRefusedJson c.args.bytes.now) c.in-Err-net_of_tree.fault
-    (λ r h. no_design (json_of c.in-Ok.tree) c.in-Ok.used (record { front = c.in-Ok.ensures.found; shallow = c.in-Ok.ensures.levels; distinct = c.in-Ok.ensures.names }) h)
-    c.in-Err-net_of_tree.ensures.refused
+-- the fault of the value at the front is that of the text
+refused : (bytes : List ℕ) (read : Json × ℕ) (fault : DesignFault) → IsRead bytes (Ok read) → IsBlueprintNet read.0 (Err fault) ⊎ (fault ≡ Memory)
+    → IsJsonDesign bytes (Err fault) ⊎ (fault ≡ Memory)
+refused bytes read fault h (inl k) = inl (went_on read h (Err fault, k, refl))
+refused bytes read fault h (inr m) = inr m
 
-pub returns-clause-refused : goal.returns-clause-refused
-returns-clause-refused c =
-    weaker (TellsJson c.in-Err.fault) (IsRefusedJson c.args.bytes.now) c.json_fault.result
-    (λ r t. no_value c.in-Err.fault (c.in-Err.ensures.refused (json_told c.in-Err.fault r t)) t) c.json_fault.ensures
+pub returns-in-Ok-net_of_tree-clause-design : goal.returns-in-Ok-net_of_tree-clause-design
+returns-in-Ok-net_of_tree-clause-design c = went_on _ c.in-Ok.ensures.answer.right (Ok c.in-Ok-net_of_tree.net, c.in-Ok-net_of_tree.ensures, refl)
+
+pub returns-in-Err-net_of_tree-clause-design : goal.returns-in-Err-net_of_tree-clause-design
+returns-in-Err-net_of_tree-clause-design c = refused c.args.bytes.now _ c.in-Err-net_of_tree.fault c.in-Ok.ensures.answer.right c.in-Err-net_of_tree.ensures
+
+pub returns-in-Err-clause-design : goal.returns-in-Err-clause-design
+returns-in-Err-clause-design c =
+    stops json.Memory Memory (IsRead c.args.bytes.now) (λ fault. Err (json_told fault))
+    (λ read answer. (net : Result Network DesignFault) × IsBlueprintNet read.0 net × (answer ≡ seen (λ n. (n, read.1)) net))
+    c.in-Err.fault (Err c.into.result) refl c.in-Err.ensures.answer.right (ap Err c.into.ensures)

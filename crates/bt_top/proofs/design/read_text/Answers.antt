@@ -1,16 +1,16 @@
-use Rattle.bt_net.specs.Refusals.{Refuses}
-use Rattle.bt_top.specs.Designs.{IsRefusedText}
-use Rattle.bt_top.specs.Refusals.{TellsNet}
-use Rattle.bt_top.proofs.Told.{weaker, net_told, net_cause}
+use Rattle.std.proofs.Common.{◌≡◌, refl, ap, Ok, Err}
+use Rattle.bt_net.specs.declared.fault.NetFault.TheVariants as net
+use Rattle.bt_net.specs.Readings.{IsNetRead}
+use Rattle.bt_top.specs.declared.fault.DesignFault.TheVariants.{Memory}
+use Rattle.bt_top.specs.Refusals.{net_told}
+use Rattle.bt_top.specs.Steps.{went_on}
+use Rattle.bt_top.proofs.InTurns.{stops}
 use Rattle.bt_top.proofs.design.read_text.Goals as goal
 
-pub returns-in-Err-clause-refused : goal.returns-in-Err-clause-refused
-returns-in-Err-clause-refused c =
-    weaker (TellsNet c.in-Err.fault) (IsRefusedText c.args.bytes.now) c.text_fault.result
-    (λ r t. record {
-      fault = c.in-Err.fault;
-      cause = net_cause (Refuses c.args.bytes.now) c.in-Err.fault r t c.in-Err.ensures.refused;
-      tells = t;
-      none = λ n rest net begins. net_told c.in-Err.fault r t (c.in-Err.ensures.only n rest net begins);
-    })
-    c.text_fault.ensures
+pub returns-in-Ok-clause-design : goal.returns-in-Ok-clause-design
+returns-in-Ok-clause-design c = went_on _ c.in-Ok.ensures.right refl
+
+pub returns-in-Err-clause-design : goal.returns-in-Err-clause-design
+returns-in-Err-clause-design c =
+    stops net.Memory Memory (IsNetRead c.args.bytes.now) (λ fault. Err (net_told fault)) (λ read answer. answer ≡ Ok (read.net, read.used))
+    c.in-Err.fault (Err c.into.result) refl c.in-Err.ensures.right (ap Err c.into.ensures)

@@ -1,20 +1,18 @@
-use Rattle.std.proofs.Common.{sym, subst}
-use Rattle.std.proofs.lemmas.Result.{IfOk-weaker}
-use Rattle.bt_top.specs.Designs.{IsDesign, IsRefusedDesign}
-use Rattle.bt_top.specs.Inputs.{IsChecked, IsRestChecked}
-use Rattle.bt_top.proofs.Checks.{checked}
-use Rattle.bt_top.proofs.Told.{refusal_is}
+use Rattle.std.proofs.Common.{refl, drop, subst, alloc_error}
+use Rattle.bt_answers.specs.Answers.{UnlessMemory}
+use Rattle.bt_top.specs.declared.fault.DesignFault.TheVariants.{Memory}
+use Rattle.bt_top.specs.Designs.{IsDesign}
+use Rattle.bt_top.specs.Inputs.{design_told, IsStateChecked}
+use Rattle.bt_top.proofs.InTurns.{stops, went}
 use Rattle.bt_top.proofs.flow_check.check.Goals as goal
 
 pub returns-in-Ok : goal.returns-in-Ok
 returns-in-Ok c =
-    let design = subst (λ x. IsDesign c.args.bytes.now c.in-Ok.design.net x) (sym c.split_at.ensures.back) c.in-Ok.ensures.design in
-    IfOk-weaker c.check_rest.result (λ a. IsRestChecked c.split_at.result.1.now c.in-Ok.design.net c.args.property a)
-    (λ a. IsChecked c.args.property c.args.bytes.now a)
-    (λ a h. checked _ _ _ _ a design h)
-    c.check_rest.ensures
+    went alloc_error (IsDesign c.args.bytes.now) design_told (λ found. IsStateChecked found.0 c.args.property (drop found.1 c.args.bytes.now)) _ _
+    c.in-Ok.ensures.design
+    (subst (λ rest. UnlessMemory alloc_error (IsStateChecked c.in-Ok.design.net c.args.property rest) c.check_state.result) c.split_at.ensures.back c.check_state.ensures)
 
-pub returns-in-Err-Refused : goal.returns-in-Err-Refused
-returns-in-Err-Refused c =
-    subst (λ r. IsRefusedDesign c.args.bytes.now r) (sym c.in-Err-Refused.refusal-is)
-    (refusal_is (IsRefusedDesign c.args.bytes.now) c.in-Err-Refused.field-0 c.in-Err-Refused.refusal c.in-Err-Refused.field-0-is c.in-Err-Refused.ensures.refused)
+pub returns-in-Err : goal.returns-in-Err
+returns-in-Err c =
+    stops Memory alloc_error (IsDesign c.args.bytes.now) design_told (λ found. IsStateChecked found.0 c.args.property (drop found.1 c.args.bytes.now))
+    c.in-Err.fault c.refused.result refl c.in-Err.ensures.design c.refused.ensures

@@ -1,5 +1,5 @@
-use Rattle.bt_top.proofs.Answered.{answered_to}
+use Rattle.bt_top.proofs.Ended.{to_words}
 use Rattle.bt_top.proofs.program.answer_to.Goals as goal
 
-pub returns-in-Some-clause-right : goal.returns-in-Some-clause-right
-returns-in-Some-clause-right g c = answered_to _ _ _ _ _ _ c.answer_of.result c.in-Some.ensures.some (c.answer_of.ensures _ c.in-Some.ensures.some)
+pub returns-in-Some-clause-answer : goal.returns-in-Some-clause-answer
+returns-in-Some-clause-answer g c = to_words _ _ _ _ c.in-Some.ensures c.answer_of.ensures

@@ -1,0 +1,4 @@
+-- What private functions tell of their results: definitions that no public clause cites.
+pub mod Found
+pub mod Lines
+pub mod Telling

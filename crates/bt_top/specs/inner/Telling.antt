@@ -1,0 +1,35 @@
+-- What the parts of the program tell of reading, answering and writing.
+use Rattle.std.specs.Prelude.{◌≡◌, ◌≢◌, ℕ, List, ◌⊎◌, Result, Ok, Err}
+use Rattle.bt_io.specs.Bytes.{ReadsAll, WritesText}
+use Rattle.bt_io.specs.Passages.{Passage}
+use Rattle.bt_io.specs.declared.fault.ReadAll.{ReadAll}
+use Rattle.bt_io.specs.declared.fault.WriteFault.{WriteFault}
+use Rattle.bt_top.specs.declared.answer.Answer.{Answer}
+use Rattle.bt_top.specs.declared.answer.Answer.TheVariants as answer
+use Rattle.bt_top.specs.declared.command.Command.{Command}
+use Rattle.bt_top.specs.declared.program.TheConstants.{NO_MEMORY}
+use Rattle.bt_top.specs.Commands.{IsCommand, input_limit}
+use Rattle.bt_top.specs.Inputs.{IsRightTo}
+use Rattle.bt_top.specs.Endings.{IsRight, IsTold, IsUntouched, status_after}
+
+-- a command's right answer to all bytes of the source, or why it has none: the source failed, is too long, or memory ran out
+abbrev pub IsAnswered : Command → Passage → Result Answer ReadAll → Type 0
+IsAnswered command source (Ok a) =
+    (bytes : List ℕ) × ReadsAll (input_limit command) source (Ok bytes) × IsRightTo command bytes (Ok a)
+IsAnswered command source (Err fault) = ReadsAll (input_limit command) source (Err fault)
+
+-- the right answer to words and a source, or why a command has none
+abbrev pub IsAnsweredTo : List (List ℕ) → Passage → Result Answer ReadAll → Type 0
+IsAnsweredTo words source (Ok a) = IsRight words source a
+IsAnsweredTo words source (Err fault) = (command : Command) × IsCommand command words × ReadsAll (input_limit command) source (Err fault)
+
+-- the answer is told; or there is no memory for its text, which is not that of one that needs none, and nothing is written
+abbrev pub IsToldUnlessMemory : Answer → Passage → ℕ → Type 0
+IsToldUnlessMemory a sink status =
+    IsTold a sink status ⊎ ((status ≡ NO_MEMORY) × IsUntouched sink × (a ≢ answer.Usage) × (a ≢ answer.TooLong))
+
+-- a text is given to the sink, and the status is this one or that of a fault of the sink; or there is no memory for it, and nothing is written
+abbrev pub IsLineTold : ℕ → List ℕ → Passage → ℕ → Type 0
+IsLineTold due text sink status =
+    ((written : Result (Unit {0}) WriteFault) × WritesText sink text written × (status ≡ status_after due written))
+    ⊎ ((status ≡ NO_MEMORY) × IsUntouched sink)
