@@ -8,8 +8,8 @@ file=$(mktemp)
 trap 'rm -f "$file"' EXIT
 cat "$top/examples/loop-1-to-3.net" "$top/examples/loop-1-to-3.not-unlimited" >"$file"
 head -c $((256 * 1024 * 1024)) /dev/zero | tr '\0' '\n' >>"$file"
-"$top/bin/beltproof" flow-check unlimited </dev/null >/dev/null || true
-python3 - "$top/crates/beltproof/out/beltproof" "$file" <<'PYTHON'
+program=$("$top/tools/program")
+python3 - "$program" "$file" <<'PYTHON'
 import os, subprocess, sys, time
 
 program, path = sys.argv[1:]

@@ -5,8 +5,8 @@ set -euo pipefail
 top=$(cd "$(dirname "${BASH_SOURCE[0]}")/.." && pwd)
 work=$(mktemp -d)
 trap 'rm -rf "$work"' EXIT
-"$top/bin/beltproof" recover </dev/null >/dev/null || true
-python3 - "$top/crates/beltproof/out/beltproof" "$work" <<'PYTHON'
+program=$("$top/tools/program")
+python3 - "$program" "$work" <<'PYTHON'
 import json, os, subprocess, sys, time
 
 program, work = sys.argv[1:]
