@@ -3,7 +3,10 @@ pub mod Gcds
 pub mod Order
 pub mod Ordered
 pub mod Over
+pub mod Products
 pub mod Quotients
 pub mod Ring
+pub mod RowColumns
+pub mod TextPieces
 pub mod Sums
 pub mod Words

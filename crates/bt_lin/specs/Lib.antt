@@ -1,0 +1,5 @@
+pub mod Evaluation
+pub mod FalseSums
+pub mod Farkas
+pub mod RunningSums
+pub mod WeightedRows
