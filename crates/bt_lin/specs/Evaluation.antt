@@ -18,6 +18,6 @@ pub record IsWideColumn (terms : List (ℕ × Ratio)) (values : ℕ → Ratio) (
 
 -- the sum fits and the answer is whether the row holds of the values; or the sum is wide there
 abbrev pub IsEvaluation : RowParts → List Ratio → Result Bool WideAt → Type 0
-IsEvaluation row values (Ok yes) =
-    ((sum : Ratio) × RunsTo nothing (valued (value_in values) row.terms) sum) × (IsTrue yes ↔ RowHolds row (value_in values))
+IsEvaluation row values (Ok holds) =
+    ((sum : Ratio) × RunsTo nothing (valued (value_in values) row.terms) sum) × (IsTrue holds ↔ RowHolds row (value_in values))
 IsEvaluation row values (Err at) = (at.row ≡ 0) × IsWideColumn row.terms (value_in values) at.column

@@ -2,13 +2,15 @@
 #![tactic(auto)]
 
 mod combining;
-mod farkas;
+mod law;
 mod places;
 mod running;
 mod signs;
 mod values;
+mod weighing;
 mod wide;
 
-pub use farkas::farkas;
+pub use law::false_sums_fail;
 pub use values::eval;
+pub use weighing::farkas;
 pub use wide::WideAt;
