@@ -5,7 +5,7 @@ use Rattle.std.specs.Int.{IsInRange}
 use Rattle.std.proofs.lemmas.Bool.{eqb-true}
 use Rattle.std.proofs.lemmas.List.Elements.{All-head, All-cons, All-append, All-nil}
 use Rattle.bt_text.specs.Lines.{Lacks}
-use Rattle.bt_text.proofs.Numerals.{decimal-lacks, decimal_apart}
+use Rattle.bt_frac.proofs.Numerals.{decimal-lacks, decimal_apart}
 use Rattle.bt_frac.specs.Ratio.{Ratio, IsLowest}
 use Rattle.bt_frac.specs.Texts.{frac_text}
 use Rattle.bt_flow.specs.Pieces.{BeginsWith}

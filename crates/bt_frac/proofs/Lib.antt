@@ -1,5 +1,6 @@
 pub mod Euclid
 pub mod Gcds
+pub mod Numerals
 pub mod Order
 pub mod Ordered
 pub mod Over

@@ -5,23 +5,24 @@ use Rattle.std.specs.Int.{IsInRange}
 use Rattle.std.proofs.lemmas.Bool.{false≢true}
 use Rattle.std.proofs.lemmas.Bool.Decides.{nat_tests}
 use Rattle.std.proofs.lemmas.List.Elements.{All-head, All-tail}
-use Rattle.bt_text.specs.Lines.{Lacks, SplitsAt}
-use Rattle.bt_text.specs.Numbers.{Spells}
-use Rattle.bt_text.proofs.Numerals.{Spells-decimal, Spells-unique, Spells-lacks, decimal-from_spells}
+use Rattle.std.specs.List.{All}
+use Rattle.bt_frac.specs.Numbers.{Spells}
+use Rattle.bt_frac.proofs.Numerals.{Spells-decimal, Spells-unique, Spells-lacks, decimal-from_spells}
 use Rattle.bt_frac.specs.Ratio.{Ratio, IsLowest, parts_ratio}
-use Rattle.bt_frac.specs.Texts.{frac_text, WordOf, IsSigned}
+use Rattle.bt_frac.specs.Texts.{frac_text}
+use Rattle.bt_frac.specs.inner.Words.{HasNoSlash, IsCutAtSlash, WordOf, AroundSlash, HasRead, AreRead, IsLimited, IsSigned}
 use Rattle.bt_frac.proofs.Quotients.{parts_size}
 
 not_digit : (b : ℕ) → b < 48 → ¬ IsInRange 48 57 b
 not_digit b h r = omega arith
 
 -- a byte that a list lacks stands nowhere in it
-pub lacks_split : (byte : ℕ) (front back : List ℕ) → Lacks byte (front ++ byte ∷ back) → ⊥
+pub lacks_split : (byte : ℕ) (front back : List ℕ) → All (λ other. other ≢ byte) (front ++ byte ∷ back) → ⊥
 lacks_split byte [] back h = All-head (λ other. other ≢ byte) byte back h refl
 lacks_split byte (x ∷ front) back h = lacks_split byte front back (All-tail (λ other. other ≢ byte) x (front ++ byte ∷ back) h)
 
 -- a list splits in one way at the first such byte
-split_unique : (byte : ℕ) (front front' back back' : List ℕ) → Lacks byte front → Lacks byte front' → front ++ byte ∷ back ≡ front' ++ byte ∷ back'
+split_unique : (byte : ℕ) (front front' back back' : List ℕ) → All (λ other. other ≢ byte) front → All (λ other. other ≢ byte) front' → front ++ byte ∷ back ≡ front' ++ byte ∷ back'
     → (front ≡ front') × (back ≡ back')
 split_unique byte [] [] back back' h k e = (refl, cc)
 split_unique byte [] (y ∷ front') back back' h k e =
@@ -43,12 +44,12 @@ slash = not_digit 47 (lit< tt)
 pub WordOf-unique : (word : List ℕ) (m n m' n' : ℕ) → WordOf word m n → WordOf word m' n' → (m ≡ m') × (n ≡ n')
 WordOf-unique word m n m' n' (inl p) (inl q) = (Spells-unique p.0 q.0, p.1 ∙ sym q.1)
 WordOf-unique word m n m' n' (inl p) (inr q) =
-    absurd (lacks_split 47 q.0 q.1.0 (subst (Lacks 47) q.1.1 (Spells-lacks word m 47 p.0 slash)))
+    absurd (lacks_split 47 q.0 q.1.0 (subst HasNoSlash q.1.1 (Spells-lacks word m 47 p.0 slash)))
 WordOf-unique word m n m' n' (inr p) (inl q) =
-    absurd (lacks_split 47 p.0 p.1.0 (subst (Lacks 47) p.1.1 (Spells-lacks word m' 47 q.0 slash)))
+    absurd (lacks_split 47 p.0 p.1.0 (subst HasNoSlash p.1.1 (Spells-lacks word m' 47 q.0 slash)))
 WordOf-unique word m n m' n' (inr p) (inr q) =
-    let both = split_unique 47 p.0 q.0 p.1.0 q.1.0 (Spells-lacks p.0 m 47 p.1.2 slash) (Spells-lacks q.0 m' 47 q.1.2 slash) (sym p.1.1 ∙ q.1.1) in
-    (Spells-unique (subst (λ w. Spells w m) both.0 p.1.2) q.1.2, Spells-unique (subst (λ w. Spells w n) both.1 p.1.3) q.1.3)
+    let both = split_unique 47 p.0 q.0 p.1.0 q.1.0 (Spells-lacks p.0 m 47 p.1.2.0 slash) (Spells-lacks q.0 m' 47 q.1.2.0 slash) (sym p.1.1 ∙ q.1.1) in
+    (Spells-unique (subst (λ w. Spells w m) both.0 p.1.2.0) q.1.2.0, Spells-unique (subst (λ w. Spells w n) both.1 p.1.2.1) q.1.2.1)
 
 -- the word of a fraction without its sign
 pub word_text : ℕ → ℕ → List ℕ
@@ -68,7 +69,7 @@ wide n h = omega arith
 
 word_at : (m n : ℕ) (t : Bool) → m < 2 ^ 127 → n < 2 ^ 127 → (n == 1) ≡ t → WordOf (cond t (decimal m) (decimal m ++ 47 ∷ decimal n)) m n
 word_at m n true h k e = inl (Spells-decimal m (wide m h), eq_test n e)
-word_at m n false h k e = inr (decimal m, (decimal n, refl, Spells-decimal m (wide m h), Spells-decimal n (wide n k), not_eq_test n e))
+word_at m n false h k e = inr (decimal m, (decimal n, refl, (Spells-decimal m (wide m h), Spells-decimal n (wide n k), not_eq_test n e)))
 
 pub WordOf-text : (m n : ℕ) → m < 2 ^ 127 → n < 2 ^ 127 → WordOf (word_text m n) m n
 unfolding word_text
@@ -79,20 +80,20 @@ pub WordOf-is : (word : List ℕ) (m n : ℕ) → m < 2 ^ 127 → n < 2 ^ 127 �
 unfolding word_text
 WordOf-is word m n h k (inl p) = decimal-from_spells word m p.0 (wide m h) ∙ sym (ap (λ j. word_text m j) p.1)
 WordOf-is word m n h k (inr p) =
-    p.1.1 ∙ ap (λ w. w ++ 47 ∷ p.1.0) (decimal-from_spells p.0 m p.1.2 (wide m h)) ∙ ap (λ w. decimal m ++ 47 ∷ w) (decimal-from_spells p.1.0 n p.1.3 (wide n k))
-    ∙ sym (ap (λ t. cond t (decimal m) (decimal m ++ 47 ∷ decimal n)) (ne_test n p.1.4))
+    p.1.1 ∙ ap (λ w. w ++ 47 ∷ p.1.0) (decimal-from_spells p.0 m p.1.2.0 (wide m h)) ∙ ap (λ w. decimal m ++ 47 ∷ w) (decimal-from_spells p.1.0 n p.1.2.1 (wide n k))
+    ∙ sym (ap (λ t. cond t (decimal m) (decimal m ++ 47 ∷ decimal n)) (ne_test n p.1.2.2))
 
 minus : ¬ IsInRange 48 57 45
 minus = not_digit 45 (lit< tt)
 
-first_lacks : (front back word : List ℕ) → 0 < length front → Lacks 45 front → front ++ back ≡ 45 ∷ word → ⊥
+first_lacks : (front back word : List ℕ) → 0 < length front → All (λ other. other ≢ 45) front → front ++ back ≡ 45 ∷ word → ⊥
 first_lacks [] back word some h e = omega arith
 first_lacks (x ∷ front) back word some h e = let same : x ≡ 45 = cc in All-head (λ other. other ≢ 45) x front h same
 
 -- no word begins with a minus
 WordOf-unsigned : (rest : List ℕ) (m n : ℕ) → WordOf (45 ∷ rest) m n → ⊥
 WordOf-unsigned rest m n (inl p) = lacks_split 45 [] rest (Spells-lacks (45 ∷ rest) m 45 p.0 minus)
-WordOf-unsigned rest m n (inr p) = first_lacks p.0 (47 ∷ p.1.0) rest p.1.2.some_digit (Spells-lacks p.0 m 45 p.1.2 minus) (sym p.1.1)
+WordOf-unsigned rest m n (inr p) = first_lacks p.0 (47 ∷ p.1.0) rest p.1.2.0.some_digit (Spells-lacks p.0 m 45 p.1.2.0 minus) (sym p.1.1)
 
 -- the text of parts is their sign and their word
 signed_at : (k n : ℕ) (t : Bool) → cond t (45 ∷ decimal (suc k)) ((45 ∷ decimal (suc k)) ++ 47 ∷ decimal n) ≡ 45 ∷ cond t (decimal (suc k)) (decimal (suc k) ++ 47 ∷ decimal n)
@@ -152,10 +153,6 @@ least m n v e h r = omega arith
 least_back : (m v : ℕ) → v < 2 ^ 127 → v ≡ min m (2 ^ 128 - 1) → m ≡ v
 least_back m v h r = omega arith
 
--- the numbers that were read of a word
-abbrev pub HasRead : List ℕ → ℕ → ℕ → Type 0
-HasRead word size under = (m : ℕ) × ((n : ℕ) × WordOf word m n × (size ≡ min m (2 ^ 128 - 1)) × (under ≡ min n (2 ^ 128 - 1)))
-
 pub read_none : (text word : List ℕ) (negative : Bool) (size under : ℕ) → IsSigned text negative word → (IsTrue negative ⊎ ((rest : List ℕ) → text ≢ 45 ∷ rest))
     → HasRead word size under → ((IsTrue negative → 0 < size) → IsLowest (parts_ratio negative size under) → ⊥) → (f : Ratio) → IsLowest f → text ≢ frac_text f
 read_none text word negative size under s no_minus r none f low e =
@@ -175,30 +172,24 @@ read_is text word negative size under f s r is some size_fits under_fits =
     s ∙ ap (λ x. cond negative (45 ∷ x) x) (WordOf-is word size under size_fits under_fits w) ∙ sym (parts_text negative size under some) ∙ sym (ap frac_text is)
 
 -- a word with no slash that is no numeral, and one whose front or back is none
-pub no_word_whole : (word : List ℕ) → Lacks 47 word → ((k : ℕ) → Spells word k → ⊥) → (m n : ℕ) → WordOf word m n → ⊥
+pub no_word_whole : (word : List ℕ) → HasNoSlash word → ((k : ℕ) → Spells word k → ⊥) → (m n : ℕ) → WordOf word m n → ⊥
 no_word_whole word lacks none m n (inl p) = none m p.0
-no_word_whole word lacks none m n (inr p) = lacks_split 47 p.0 p.1.0 (subst (Lacks 47) p.1.1 lacks)
+no_word_whole word lacks none m n (inr p) = lacks_split 47 p.0 p.1.0 (subst HasNoSlash p.1.1 lacks)
 
 -- a word with a slash is of the numbers around the first one
-around : (word front back : List ℕ) (m n : ℕ) → SplitsAt 47 word front back → WordOf word m n → Spells front m × Spells back n × (n ≢ 1)
-around word front back m n s (inl p) = absurd (lacks_split 47 front back (subst (Lacks 47) s.text_is (Spells-lacks word m 47 p.0 slash)))
+around : (word front back : List ℕ) (m n : ℕ) → IsCutAtSlash word front back → WordOf word m n → AroundSlash front back m n
+around word front back m n s (inl p) = absurd (lacks_split 47 front back (subst HasNoSlash s.word_is (Spells-lacks word m 47 p.0 slash)))
 around word front back m n s (inr p) =
-    let both = split_unique 47 p.0 front p.1.0 back (Spells-lacks p.0 m 47 p.1.2 slash) s.first (sym p.1.1 ∙ s.text_is) in
-    (subst (λ w. Spells w m) both.0 p.1.2, subst (λ w. Spells w n) both.1 p.1.3, p.1.4)
+    let both = split_unique 47 p.0 front p.1.0 back (Spells-lacks p.0 m 47 p.1.2.0 slash) s.first (sym p.1.1 ∙ s.word_is) in
+    (subst (λ w. Spells w m) both.0 p.1.2.0, subst (λ w. Spells w n) both.1 p.1.2.1, p.1.2.2)
 
-pub no_word_front : (word front back : List ℕ) → SplitsAt 47 word front back → ((k : ℕ) → Spells front k → ⊥) → (m n : ℕ) → WordOf word m n → ⊥
-no_word_front word front back s none m n w = none m (around word front back m n s w).0
+-- a word with a slash is of no numbers where its two sides are not
+pub no_word_around : (word front back : List ℕ) → IsCutAtSlash word front back → ((m n : ℕ) → AroundSlash front back m n → ⊥) → (m n : ℕ) → WordOf word m n → ⊥
+no_word_around word front back s none m n w = none m n (around word front back m n s w)
 
-pub no_word_back : (word front back : List ℕ) → SplitsAt 47 word front back → ((k : ℕ) → Spells back k → ⊥) → (m n : ℕ) → WordOf word m n → ⊥
-no_word_back word front back s none m n w = none n (around word front back m n s w).1
-
-one_is : (n v : ℕ) → v ≡ min n (2 ^ 128 - 1) → v ≡ 1 → n ≡ 1
-one_is n v r e = omega arith
-
-pub no_word_one : (word front back : List ℕ) (v : ℕ) → SplitsAt 47 word front back → ((k : ℕ) × Spells back k × (v ≡ min k (2 ^ 128 - 1))) → v ≡ 1 → (m n : ℕ) → WordOf word m n → ⊥
-no_word_one word front back v s read e m n w =
-    let parts = around word front back m n s w in
-    parts.2 (Spells-unique parts.1 read.1 ∙ one_is read.0 v read.2 e)
+pub none_around : (word front back : List ℕ) (o : Option (ℕ × ℕ)) → IsCutAtSlash word front back → IfNone o ((m n : ℕ) → AroundSlash front back m n → ⊥) → IfNone o ((m n : ℕ) → WordOf word m n → ⊥)
+none_around word front back None s p = no_word_around word front back s p
+none_around word front back (Some parts) s p = tt
 
 pub some_is : (text word : List ℕ) (negative : Bool) (size under : ℕ) (o : Option Ratio) → IsSigned text negative word → HasRead word size under
     → IfSome o (λ f. (f ≡ parts_ratio negative size under) × (IsTrue negative → 0 < size)) → IfSome o IsLowest → IfSome o (λ f. text ≡ frac_text f)

@@ -54,6 +54,14 @@ pub record AddFits {a b : Ratio} (n : AddNumbers a b) : Type 0 where
   pub sum_fits : FitsPart (n.left +ℤ n.right)
   pub under_fits : n.under < 2 ^ 127
 
+-- the working numbers of an addition all fit
+abbrev pub CanAdd : Ratio → Ratio → Type 0
+CanAdd a b = (n : AddNumbers a b) × AddFits n
+
+-- one of the working numbers of an addition doesn't fit
+abbrev pub IsWide : Ratio → Ratio → Type 0
+IsWide a b = (n : AddNumbers a b) × (AddFits n → ⊥)
+
 -- the fraction with the other sign
 abbrev pub negated : Ratio → Ratio
 negated r = record { over = neg_ℤ r.over; under = r.under }

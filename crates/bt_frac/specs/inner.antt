@@ -1,2 +1,3 @@
--- Definitions that private functions alone cite.
+-- What the contracts of private functions cite.
 pub mod ProductParts
+pub mod Words

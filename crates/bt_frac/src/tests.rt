@@ -1,8 +1,9 @@
-use crate::Frac;
+use crate::{Frac, read_whole};
 use std::cmp::Ordering;
 
 const MAX: i128 = i128::MAX;
 
+/// The parts of a fraction, or None where there is none.
 fn parts(fraction: Option<Frac>) -> Option<(i128, i128)> {
     let fraction = fraction?;
     Some((fraction.numerator(), fraction.denominator()))
@@ -61,17 +62,19 @@ fn sums(rt: HostRuntime) {
         ),
         ("1/170141183460469231731687303715884105727", "1/2", None),
     ] {
-        assert_eq!(rt; parts(sum(left, right)), want, "{left} + {right}");
+        assert!(rt; parts(sum(left, right)) == want);
     }
-    assert_eq!(rt; parts(difference("1/2", "1/3")), Some((1, 6)));
-    assert_eq!(rt;
-        parts(difference("-170141183460469231731687303715884105727", "1")),
-        None
-    );
-    assert_eq!(rt;
-        parts(Some(Frac::whole(i64::MIN).negate())),
-        Some((9223372036854775808, 1))
-    );
+}
+
+#[test]
+fn differences(rt: HostRuntime) {
+    for (left, right, want) in [
+        ("1/2", "1/3", Some((1, 6))),
+        ("-170141183460469231731687303715884105727", "1", None),
+        ("0", "-9223372036854775808", Some((9223372036854775808, 1))),
+    ] {
+        assert!(rt; parts(difference(left, right)) == want);
+    }
 }
 
 #[test]
@@ -96,7 +99,7 @@ fn orders(rt: HostRuntime) {
             Ordering::Greater,
         ),
     ] {
-        assert_eq!(rt; order(left, right), Some(want), "{left} against {right}");
+        assert!(rt; order(left, right) == Some(want));
     }
 }
 
@@ -117,50 +120,74 @@ fn quotients(rt: HostRuntime) {
         (1, i128::MIN, None),
         (MAX, MAX - 1, Some((MAX, MAX - 1))),
     ] {
-        assert_eq!(rt; parts(quotient(p, q)), want, "{p} / {q}");
+        assert!(rt; parts(quotient(p, q)) == want);
     }
 }
 
 #[test]
 fn spellings(rt: HostRuntime) {
     for (text, want) in [
-        ("0", (0, 1)),
-        ("-3", (-3, 1)),
-        ("5/6", (5, 6)),
-        ("-170141183460469231731687303715884105727/2", (-MAX, 2)),
-        ("1/170141183460469231731687303715884105727", (1, MAX)),
+        ("0", Some((0, 1))),
+        ("-3", Some((-3, 1))),
+        ("5/6", Some((5, 6))),
+        (
+            "-170141183460469231731687303715884105727/2",
+            Some((-MAX, 2)),
+        ),
+        ("1/170141183460469231731687303715884105727", Some((1, MAX))),
+        ("", None),
+        ("-", None),
+        ("/", None),
+        ("1/", None),
+        ("/2", None),
+        ("2/4", None),
+        ("3/1", None),
+        ("0/2", None),
+        ("1/0", None),
+        ("-0", None),
+        ("-0/3", None),
+        ("+1", None),
+        ("--1", None),
+        ("1/-2", None),
+        ("1/+2", None),
+        ("00", None),
+        ("01", None),
+        ("1/02", None),
+        (" 1", None),
+        ("1 ", None),
+        ("1/2/3", None),
+        ("0x1", None),
+        ("170141183460469231731687303715884105728", None),
+        ("-170141183460469231731687303715884105728", None),
+        ("1/170141183460469231731687303715884105728", None),
+        ("9999999999999999999999999999999999999999", None),
+        ("1/9999999999999999999999999999999999999999", None),
     ] {
-        assert_eq!(rt; parts(read(text)), Some(want), "{text}");
+        assert!(rt; parts(read(text)) == want);
     }
-    for text in [
-        "",
-        "-",
-        "/",
-        "1/",
-        "/2",
-        "2/4",
-        "3/1",
-        "0/2",
-        "1/0",
-        "-0",
-        "-0/3",
-        "+1",
-        "--1",
-        "1/-2",
-        "1/+2",
-        "00",
-        "01",
-        "1/02",
-        " 1",
-        "1 ",
-        "1/2/3",
-        "0x1",
-        "170141183460469231731687303715884105728",
-        "-170141183460469231731687303715884105728",
-        "1/170141183460469231731687303715884105728",
-        "9999999999999999999999999999999999999999",
-        "1/9999999999999999999999999999999999999999",
+}
+
+#[test]
+fn whole_numbers(rt: HostRuntime) {
+    for (word, want) in [
+        ("0", Some(0)),
+        ("2048", Some(2048)),
+        ("", None),
+        ("00", None),
+        ("07", None),
+        ("-1", None),
+        ("1 ", None),
+        (
+            "340282366920938463463374607431768211454",
+            Some(u128::MAX - 1),
+        ),
+        ("340282366920938463463374607431768211456", Some(u128::MAX)),
+        (
+            "9999999999999999999999999999999999999999999",
+            Some(u128::MAX),
+        ),
+        ("999999999999999999999999999999999999999999x", None),
     ] {
-        assert_eq!(rt; parts(read(text)), None, "{text}");
+        assert!(rt; read_whole(word.as_bytes()) == want);
     }
 }

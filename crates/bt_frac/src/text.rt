@@ -1,10 +1,11 @@
-// Fractions as texts spell them.
-ghost use Rattle.std.specs.Prelude.{◌≡◌, ◌≢◌, ℕ, ◌+◌, ◌-◌, ◌∷◌, ◌^◌, List, min, IfSome, IfNone, IsTrue, ◌⊎◌};
+//! Fractions as texts spell them, each in one way.
+ghost use Rattle.std.specs.Prelude.{◌≡◌, ◌≢◌, ℕ, ◌+◌, ◌∷◌, List, IfSome, IfNone, IsTrue, ◌⊎◌};
 ghost use Rattle.bt_frac.specs.Ratio.{Ratio, IsLowest};
-ghost use Rattle.bt_frac.specs.Texts.{frac_text, WordOf, IsSigned};
+ghost use Rattle.bt_frac.specs.Texts.{frac_text};
+ghost use Rattle.bt_frac.specs.inner.Words.{HasNoSlash, IsCutAtSlash, WordOf, AroundSlash, HasRead, AreRead, IsSigned};
 
 use crate::frac::Frac;
-use bt_text::{read_whole, split_once};
+use crate::whole::read_whole;
 
 impl Frac {
     /// The fraction that the text spells: the numerator, with a minus where it is negative, and
@@ -36,23 +37,33 @@ fn split_sign(text: &[u8]) -> (bool, &[u8])
 
 /// The numbers of a word without sign, each at most `u128::MAX`.
 fn read_parts(word: &[u8]) -> Option<(u128, u128)>
-    ensures some { IfSome result (λ parts. (m : ℕ) × ((n : ℕ) × WordOf word.now m n × (parts.0 ≡ min m (2 ^ 128 - 1)) × (parts.1 ≡ min n (2 ^ 128 - 1)))) }
+    ensures some { IfSome result (λ parts. HasRead word.now parts.0 parts.1) }
     ensures none { IfNone result ((m n : ℕ) → WordOf word.now m n → ⊥) }
 {
-    let Some((front, back)) = split_once(word, b'/') else {
-        let Some(size) = read_whole(word) else {
-            return None;
-        };
-        return Some((size, 1));
-    };
-    let Some(size) = read_whole(front) else {
-        return None;
-    };
-    let Some(under) = read_whole(back) else {
-        return None;
-    };
+    match split_slash(word) {
+        Some((front, back)) => read_both(front, back),
+        None => Some((read_whole(word)?, 1)),
+    }
+}
+
+/// The numbers before and after a slash, of which the second is not 1.
+fn read_both(front: &[u8], back: &[u8]) -> Option<(u128, u128)>
+    ensures some { IfSome result (λ parts. AreRead front.now back.now parts.0 parts.1) }
+    ensures none { IfNone result ((m n : ℕ) → AroundSlash front.now back.now m n → ⊥) }
+{
+    let size = read_whole(front)?;
+    let under = read_whole(back)?;
     if under == 1 {
         return None;
     }
     Some((size, under))
+}
+
+/// What stands before the first slash of a word, and what stands after it.
+fn split_slash(word: &[u8]) -> Option<(&[u8], &[u8])>
+    ensures some { IfSome result (λ parts. IsCutAtSlash word.now parts.0.now parts.1.now) }
+    ensures none { IfNone result (HasNoSlash word.now) }
+{
+    let at = word.iter().position(|byte| *byte == b'/')?;
+    Some((&word[..at], &word[at + 1..]))
 }

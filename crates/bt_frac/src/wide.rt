@@ -1,4 +1,4 @@
-// The order of products of 254 bits.
+//! The order of products of 254 bits, which the order of fractions asks for.
 ghost use Rattle.std.specs.Prelude.{◌≡◌, ℕ, ℤ, pos, ◌<◌, ◌<ℤ◌, ◌≤◌, ◌+◌, ◌*◌, ◌*ℤ◌, ◌^◌};
 ghost use Rattle.std.specs.Ordering.{MatchOrdering};
 ghost use Rattle.bt_frac.specs.Ratio.{FitsPart};

@@ -1,4 +1,3 @@
 pub mod Held
 pub mod Told
-pub mod Counts
 pub mod Written

@@ -1,4 +1,5 @@
-pub mod Causes
 pub mod Bytes
+pub mod Causes
 pub mod InMemory
+pub mod Passages
 pub mod Streams

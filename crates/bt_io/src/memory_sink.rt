@@ -1,6 +1,7 @@
-ghost use Rattle.std.specs.Prelude.{◌≡◌, ◌+◌, ◌-◌, ◌^◌, ◌<◌, ◌≤◌, ◌↔◌, ◌⊎◌, ◌++◌, [], min, take, length, IfOk, IsErr, OnErr, Contains, Some};
+ghost use Rattle.std.specs.Prelude.{◌≡◌, ◌+◌, ◌-◌, ◌^◌, ◌<◌, ◌≤◌, ◌↔◌, ◌⊎◌, ◌++◌, alloc_error, min, take, length, IfOk, IsErr, OnErr, Contains, Some};
 ghost use Rattle.std.specs.Io.{WritesAtMost};
 ghost use Rattle.std.specs.Io.KnownBytes.{WriteAppends};
+ghost use Rattle.bt_answers.specs.Answers.{Answers};
 ghost use Rattle.bt_io.specs.Bytes.{TakesSome};
 ghost use Rattle.bt_io.specs.Causes.{HasCause, next_count};
 
@@ -32,6 +33,8 @@ impl Model for MemSink {
 }
 
 impl MemSink {
+    ghost use Rattle.bt_io.specs.InMemory.{IsEmptySink};
+
     /// An empty sink that takes its memory here, for `room` bytes.
     ///
     /// Calls are numbered from 1. Those in `fails` fail, and so does each call with a nonempty
@@ -45,7 +48,7 @@ impl MemSink {
         most: usize,
     ) -> Result<MemSink, AllocError>
         requires { 1 ≤ most }
-        ensures { IfOk result (λ s. s ≡ record { held = []; room = room; fails = fails.items; most = most; calls = 0; faults = 0 }) }
+        ensures { Answers alloc_error (IsEmptySink room fails.items most) result }
     {
         let held = Vec::with_capacity(alloc, room)?;
         Ok(MemSink {

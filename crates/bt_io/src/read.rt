@@ -1,12 +1,14 @@
-ghost use Rattle.std.specs.Prelude.{◌≡◌, ◌+◌, ◌^◌, ◌<◌, ◌≤◌, length, IfOk, IsErrOf};
-ghost use Rattle.bt_io.specs.Causes.{Rose};
-ghost use Rattle.bt_io.specs.Bytes.{IsAllOf, TakesWithin};
+//! Reading a source to its end.
+ghost use Rattle.std.specs.Prelude.{◌^◌, ◌<◌, vec_items};
+ghost use Rattle.bt_answers.specs.Answers.{seen};
+ghost use Rattle.bt_io.specs.Bytes.{ReadsAll};
+ghost use Rattle.bt_io.specs.Passages.{passage};
 
 use crate::fault::ReadAll;
 use crate::source::Source;
 use std::alloc::Global;
 
-// The most bytes that one call asks of its source.
+/// The most bytes that one call asks of its source.
 const CHUNK: usize = 65536;
 
 /// Reads a source to its end, of at most `limit` bytes.
@@ -15,11 +17,7 @@ const CHUNK: usize = 65536;
 /// byte past the limit was taken. After every other answer at most `limit` bytes were taken.
 pub fn read_all<S: Source>(alloc: Global, source: &mut S, limit: usize) -> Result<Vec<u8>, ReadAll>
     requires { limit < 2 ^ 62 }
-    ensures all { IfOk result (λ bytes. IsAllOf (S.left source.old) (S.left source.new) bytes.items) }
-    ensures within { IfOk result (λ bytes. length bytes.items ≤ limit) }
-    ensures read_fault { IsErrOf result ReadAll.ReadFault → Rose (S.faults source.old) (S.faults source.new) }
-    ensures too_long { TakesWithin result (S.left source.old) (S.left source.new) limit }
-    ensures count { S.faults source.old ≤ S.faults source.new }
+    ensures { ReadsAll limit (passage S.left S.faults source.old source.new) (seen vec_items result) }
 {
     let mut bytes = Vec::new(alloc);
     let mut chunk = [0u8; CHUNK];

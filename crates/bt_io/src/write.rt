@@ -1,4 +1,6 @@
+//! Writing a whole text to a sink.
 ghost use Rattle.bt_io.specs.Bytes.{WritesText};
+ghost use Rattle.bt_io.specs.Passages.{passage};
 
 use crate::fault::WriteFault;
 use crate::sink::Sink;
@@ -7,7 +9,7 @@ use crate::sink::Sink;
 ///
 /// Where the sink fails, which its count of faults shows, a proper prefix of the text was written.
 pub fn write_all_of<K: Sink>(sink: &mut K, text: &[u8]) -> Result<(), WriteFault>
-    ensures { WritesText result (K.held sink.old) (K.held sink.new) (K.faults sink.old) (K.faults sink.new) text.now }
+    ensures { WritesText (passage K.held K.faults sink.old sink.new) text.now result }
 {
     let mut at = 0;
     while at < text.len() {

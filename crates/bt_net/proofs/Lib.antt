@@ -1,5 +1,6 @@
-pub mod Tallying
-pub mod Spelling
 pub mod NetLines
-pub mod Refusing
 pub mod NetWrites
+pub mod OneNet
+pub mod Refusing
+pub mod Spelling
+pub mod Tallying

@@ -8,7 +8,7 @@ use Rattle.std.proofs.lemmas.List.Elements.{All-nil, All-cons, All-head, All-tai
 use Rattle.std.proofs.lemmas.List.Sums.{sum_by-append, AllPass-from_list_all}
 use Rattle.bt_text.specs.Lines.{Lacks, SplitsAt, line, IsFirstLine, BeginsWithLines}
 use Rattle.bt_text.proofs.FirstLines.{fork, BeginsWithLines-tail, BeginsWithLines-nil, BeginsWithLines-cons, BeginsWithLines-push, BeginsWithLines-used}
-use Rattle.bt_text.proofs.Numerals.{decimal-lacks, decimal_apart}
+use Rattle.bt_frac.proofs.Numerals.{decimal-lacks, decimal_apart}
 use Rattle.bt_net.specs.declared.fault.NetFault.{NetFault}
 use Rattle.bt_net.specs.declared.fault.NetFault.TheVariants.{NetLine, TooLarge, NoEnds, Memory}
 use Rattle.bt_net.specs.declared.network.Edge.{Edge}
@@ -19,7 +19,8 @@ use Rattle.bt_net.specs.declared.network.Target.TheVariants as to
 use Rattle.bt_net.specs.Network.{Network, IsWired, IsNetwork, IsLarge, LacksEnds, StartsIn, EndsIn, is_input, is_output, leaves, enters}
 use Rattle.bt_net.specs.NetText.{start_text, target_text, header, edge_text, net_text, BeginsWithNet}
 use Rattle.bt_net.specs.Refusals.{HeaderRefused, GoesOn, EdgesRefused}
-use Rattle.bt_net.specs.Wiring.{IsPartlyWired, with_edge, HasSmallSizes, StartFits, TargetFits, EdgeFits, IsStarted, SameSizes}
+use Rattle.bt_net.specs.Wiring.{IsPartlyWired, with_edge, HasSmallSizes}
+use Rattle.bt_net.specs.inner.Lines.{StartFits, TargetFits, EdgeFits, IsStarted, SameSizes}
 use Rattle.bt_net.proofs.Spelling.{start-lacks, target-lacks, ends_of, header_unique, IsHeader-header}
 
 -- the text is the lines of the network's edges and the line `end`, and then this rest
@@ -310,24 +311,6 @@ last_same w e f small new fits cap is =
   where
     All-last : (es : List Edge) (g : Edge) → All (λ x. x.cap ≡ 1) (es ++ g ∷ []) → g.cap ≡ 1
     All-last es g all = subst (λ x. x.cap ≡ 1) (get_or_at es g [] g (length es) refl) (all (length es) g (omega (arith, length-append es (g ∷ []))))
-
--- what `Net::new` tells of a network that is wired
-pub network_of : (w : Network) → IsWired w → ¬ IsLarge w → ¬ LacksEnds w → IsNetwork w
-network_of w wired small ends = record {
-  wired = wired;
-  few_inputs = at_most w.inputs (λ h. small (inl h));
-  few_outputs = at_most w.outputs (λ h. small (inr (inl h)));
-  few_splitters = at_most w.splitters (λ h. small (inr (inr (inl h))));
-  few_edges = at_most (length w.edges) (λ h. small (inr (inr (inr h))));
-  some_input = some w.inputs (λ h. ends (small, inl h));
-  some_output = some w.outputs (λ h. ends (small, inr h));
-}
-  where
-    at_most : (k : ℕ) → (2048 < k → ⊥) → k ≤ 2048
-    at_most k h = omega (arith, h)
-
-    some : (k : ℕ) → (k ≡ 0 → ⊥) → 1 ≤ k
-    some k h = omega (arith, h)
 
 -- networks of the same sizes have one header
 pub header-same : (m n : Network) → SameSizes m n → header m ≡ header n

@@ -1,5 +1,5 @@
 -- A text is refused for one cause, and never where a network's text stands.
-use Rattle.std.proofs.Common.{◌≡◌, ℕ, ◌<◌, ◌≤◌, ◌⊎◌, List, [], ◌∷◌, ◌++◌, length, map, refl, sym, ◌∙◌, ap, subst, inl, inr, ⊎_elim, arith, length-append}
+use Rattle.std.proofs.Common.{◌≡◌, ℕ, ◌<◌, ◌≤◌, ◌⊎◌, List, [], ◌∷◌, ◌++◌, length, map, refl, sym, ◌∙◌, ap, subst, inl, inr, ⊎_elim, arith, length-append, Err}
 use Rattle.std.specs.Prelude.{codes}
 use Rattle.std.specs.List.{All}
 use Rattle.std.proofs.lemmas.List.{append-nil}
@@ -8,25 +8,13 @@ use Rattle.bt_text.proofs.FirstLines.{fork, BeginsWithLines-tail, BeginsWithLine
 use Rattle.bt_net.specs.declared.fault.NetFault.{NetFault}
 use Rattle.bt_net.specs.declared.fault.NetFault.TheVariants.{NetLine, TooLarge, NoEnds, Memory}
 use Rattle.bt_net.specs.declared.network.Edge.{Edge}
-use Rattle.bt_net.specs.Network.{Network, IsWired, IsNetwork, IsLarge, LacksEnds}
+use Rattle.bt_net.specs.Network.{Network, IsWired, IsNetwork, IsLarge, LacksEnds, IsNetOf}
 use Rattle.bt_net.specs.NetText.{edge_text, BeginsWithNet}
-use Rattle.bt_net.specs.Refusals.{HeaderRefused, LineRefused, GoesOn, EdgesRefused, Refuses, UnlessMemory}
-use Rattle.bt_net.specs.Wiring.{IsPartlyWired, with_edge, EdgeFits, HasSmallSizes, IsStarted, SameSizes}
+use Rattle.bt_net.specs.declared.network.TheConstants.{MOST_OF_EACH}
+use Rattle.bt_net.specs.Refusals.{HeaderRefused, LineRefused, GoesOn, EdgesRefused, Refuses}
+use Rattle.bt_net.specs.Wiring.{IsPartlyWired, with_edge, HasSmallSizes}
+use Rattle.bt_net.specs.inner.Lines.{EdgeFits, IsStarted, SameSizes}
 use Rattle.bt_net.proofs.NetLines.{AreRead, AreRead-head, AreRead-tail, AreRead-partly, edge_apart, edge-lacks, edges-lack, edge-ne_end, same_network, one_more, All-at, header_stands, edges_stand, first_of_net, SameSizes-header, header-same, HasSmallSizes-same, HasSmallSizes-network}
-
--- a cause that holds, unless there was no memory
-pub UnlessMemory-weaker : (P Q : NetFault → Type 0) (f : NetFault) → ((g : NetFault) → P g → Q g) → UnlessMemory P f → UnlessMemory Q f
-UnlessMemory-weaker P Q (NetLine k) to p = to (NetLine k) p
-UnlessMemory-weaker P Q TooLarge to p = to TooLarge p
-UnlessMemory-weaker P Q NoEnds to p = to NoEnds p
-UnlessMemory-weaker P Q Memory to p = tt
-
--- where no cause holds, there was no memory
-pub UnlessMemory-none : (P : NetFault → Type 0) (f : NetFault) → ((g : NetFault) → P g → ⊥) → UnlessMemory P f → f ≡ Memory
-UnlessMemory-none P (NetLine k) no_cause p = absurd (no_cause (NetLine k) p)
-UnlessMemory-none P TooLarge no_cause p = absurd (no_cause TooLarge p)
-UnlessMemory-none P NoEnds no_cause p = absurd (no_cause NoEnds p)
-UnlessMemory-none P Memory no_cause p = refl
 
 -- edge lines that begin with the lines of some edges: these come first, and the others follow
 go_edges : (es fs : List Edge) (more : List (List ℕ)) → AreRead es → AreRead fs → map edge_text fs ≡ map edge_text es ++ more
@@ -43,9 +31,9 @@ go_edges (e ∷ es) (f ∷ fs) more p q is =
 -- the line behind the edges of one network so far, where the edges of another begin with these: the
 -- networks are one, or it is the line of the other's next edge
 abbrev Behind : (n m : Network) (bytes rest s : List ℕ) → Type 0
-Behind n m bytes rest s = ((n ≡ m) × (rest ≡ s)) ⊎ ((g : Edge) × (bytes ≡ edge_text g) × IsPartlyWired (with_edge n g) × (length n.edges < 2048))
+Behind n m bytes rest s = ((n ≡ m) × (rest ≡ s)) ⊎ ((g : Edge) × (bytes ≡ edge_text g) × IsPartlyWired (with_edge n g) × (length n.edges < MOST_OF_EACH))
 
-behind : (n m : Network) (text bytes after s : List ℕ) (on : GoesOn n text bytes after) → HasSmallSizes n → HasSmallSizes m → SameSizes n m → IsPartlyWired m → length m.edges ≤ 2048
+behind : (n m : Network) (text bytes after s : List ℕ) (on : GoesOn n text bytes after) → HasSmallSizes n → HasSmallSizes m → SameSizes n m → IsPartlyWired m → length m.edges ≤ MOST_OF_EACH
     → (more : List (List ℕ)) → map edge_text m.edges ≡ map edge_text n.edges ++ more → BeginsWithLines on.rest more s → Behind n m bytes on.rest s
 behind n m text bytes after s on small smaller sizes wired few more is begins =
     let ahead = go_edges n.edges m.edges more (AreRead-partly n small on.wired) (AreRead-partly m smaller wired) is in
@@ -63,7 +51,7 @@ behind n m text bytes after s on small smaller sizes wired few more is begins =
         )
 
 -- a line that is refused is no edge that may come next
-not_next : (n : Network) (bytes : List ℕ) (f : NetFault) (g : Edge) → LineRefused n bytes f → bytes ≡ edge_text g → IsPartlyWired (with_edge n g) → length n.edges < 2048 → ⊥
+not_next : (n : Network) (bytes : List ℕ) (f : NetFault) (g : Edge) → LineRefused n bytes f → bytes ≡ edge_text g → IsPartlyWired (with_edge n g) → length n.edges < MOST_OF_EACH → ⊥
 not_next n bytes (NetLine k) g refused is wired few = refused.0.no_edge g is wired
 not_next n bytes TooLarge g refused is wired few = omega (arith, refused.3)
 not_next n bytes NoEnds g refused is wired few = edge-ne_end g (sym is ∙ refused.0)
@@ -137,28 +125,19 @@ Refuses-network text rest n f net begins p =
     (λ a. edges_stand a.0 n p.1 rest f net (SameSizes-header a.0 n a.2 small (sym a.1 ∙ first.0)) first.1 a.3)
     p.3
 
--- what is refused is no network's text
-pub memory_only : (text rest : List ℕ) (n : Network) (f : NetFault) → UnlessMemory (Refuses text) f → IsNetwork n → BeginsWithNet text n rest → f ≡ Memory
-memory_only text rest n f refused net begins = UnlessMemory-none (Refuses text) f (λ g. Refuses-network text rest n g net begins) refused
-
--- what is refused has no other cause
-pub cause_only : (text : List ℕ) (f g : NetFault) → UnlessMemory (Refuses text) f → Refuses text g → UnlessMemory (λ other. other ≡ g) f
-cause_only text f g refused cause = UnlessMemory-weaker (Refuses text) (λ other. other ≡ g) f (λ other why. Refuses-unique text other g why cause) refused
-
 -- a text whose first line is refused
-pub refused_first : (text first rest : List ℕ) (f : NetFault) → IsFirstLine text first rest → UnlessMemory (HeaderRefused first) f → UnlessMemory (Refuses text) f
-refused_first text first rest f is refused = UnlessMemory-weaker (HeaderRefused first) (Refuses text) f (λ g why. (first, rest, is, inl why)) refused
+pub refused_first : (text first rest : List ℕ) (f : NetFault) → IsFirstLine text first rest → HeaderRefused first f → Refuses text f
+refused_first text first rest f is why = (first, rest, is, inl why)
 
 -- a text that is refused behind the header of a network
-pub refused_behind : (text first rest : List ℕ) (m w : Network) (f : NetFault) → IsFirstLine text first rest → IsStarted m first → SameSizes m w → UnlessMemory (EdgesRefused w rest) f → UnlessMemory (Refuses text) f
-refused_behind text first rest m w f is start sizes refused =
-    UnlessMemory-weaker (EdgesRefused w rest) (Refuses text) f (λ g why. (first, rest, is, inr (w, start.line_is ∙ header-same m w sizes, HasSmallSizes-same m w sizes start.small, why))) refused
+pub refused_behind : (text first rest : List ℕ) (m w : Network) (f : NetFault) → IsFirstLine text first rest → IsStarted m first → SameSizes m w → EdgesRefused w rest f → Refuses text f
+refused_behind text first rest m w f is start sizes why =
+    (first, rest, is, inr (w, start.line_is ∙ header-same m w sizes, HasSmallSizes-same m w sizes start.small, why))
 
 -- why there is no network of a text's edges up to `end`
-pub refused_end : (w : Network) (text rest : List ℕ) (f : NetFault) → HasSmallSizes w → IsWired w → GoesOn w text (codes "end") rest
-    → (f ≡ TooLarge → IsLarge w) → (f ≡ NoEnds → LacksEnds w) → ((k : ℕ) → f ≡ NetLine k → ⊥) → UnlessMemory (EdgesRefused w text) f
-refused_end w text rest (NetLine k) small wired on large ends none = absurd (none k refl)
-refused_end w text rest TooLarge small wired on large ends none =
-    absurd (⊎_elim (λ h. omega (arith, small.few_inputs, h)) (⊎_elim (λ h. omega (arith, small.few_outputs, h)) (⊎_elim (λ h. omega (arith, small.few_splitters, h)) (λ h. omega (arith, on.few, h)))) (large refl))
-refused_end w text rest NoEnds small wired on large ends none = (codes "end", rest, on, (refl, wired, (ends refl).1))
-refused_end w text rest Memory small wired on large ends none = tt
+pub refused_end : (w : Network) (text rest : List ℕ) (f : NetFault) → HasSmallSizes w → IsWired w → GoesOn w text (codes "end") rest → IsNetOf w (Err f) → EdgesRefused w text f
+refused_end w text rest (NetLine k) small wired on why = absurd why
+refused_end w text rest TooLarge small wired on why =
+    absurd (⊎_elim (λ h. omega (arith, small.few_inputs, h)) (⊎_elim (λ h. omega (arith, small.few_outputs, h)) (⊎_elim (λ h. omega (arith, small.few_splitters, h)) (λ h. omega (arith, on.few, h)))) why)
+refused_end w text rest NoEnds small wired on why = (codes "end", rest, on, (refl, wired, why.1))
+refused_end w text rest Memory small wired on why = absurd why

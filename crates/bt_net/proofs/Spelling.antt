@@ -5,8 +5,8 @@ use Rattle.std.specs.Int.{IsInRange}
 use Rattle.std.proofs.lemmas.List.{append_assoc}
 use Rattle.std.proofs.lemmas.List.Elements.{All-cons}
 use Rattle.bt_text.specs.Lines.{Lacks, SplitsAt}
-use Rattle.bt_text.specs.Numbers.{Spells}
-use Rattle.bt_text.proofs.Numerals.{Spells-decimal, Spells-unique, Spells-lacks, decimal-from_spells, decimal-lacks}
+use Rattle.bt_frac.specs.Numbers.{Spells}
+use Rattle.bt_frac.proofs.Numerals.{Spells-decimal, Spells-unique, Spells-lacks, decimal-from_spells, decimal-lacks}
 use Rattle.bt_text.proofs.FirstLines.{split_apart, SplitsAt-lacks}
 use Rattle.bt_net.specs.declared.network.Edge.{Edge}
 use Rattle.bt_net.specs.declared.network.Start.{Start}
@@ -16,7 +16,9 @@ use Rattle.bt_net.specs.declared.network.Target.TheVariants as to
 use Rattle.bt_net.specs.Network.{Network}
 use Rattle.bt_net.specs.NetText.{start_text, target_text, header, edge_text}
 use Rattle.bt_net.specs.Refusals.{IsHeader}
-use Rattle.bt_net.specs.Wiring.{HasSmallSizes, StartFits, TargetFits, EdgeFits}
+use Rattle.bt_net.specs.declared.network.TheConstants.{MOST_OF_EACH}
+use Rattle.bt_net.specs.Wiring.{HasSmallSizes}
+use Rattle.bt_net.specs.inner.Lines.{StartFits, TargetFits, EdgeFits}
 
 -- a number that is read, and limited, and is small, is the one written
 pub small_number : (w : List ℕ) (v n : ℕ) → Spells w n → v ≡ min n (2 ^ 128 - 1) → v < 2 ^ 32 → w ≡ decimal v
@@ -88,7 +90,7 @@ header_of text front rest f back g d i o s all is one two a b c = record {
 }
 
 -- the header of small numbers is the one that is written
-pub header_is : (text : List ℕ) (i o s : ℕ) → IsHeader text i o s → i ≤ 2048 → o ≤ 2048 → s ≤ 2048 → text ≡ codes "net " ++ decimal i ++ codes " " ++ decimal o ++ codes " " ++ decimal s
+pub header_is : (text : List ℕ) (i o s : ℕ) → IsHeader text i o s → i ≤ MOST_OF_EACH → o ≤ MOST_OF_EACH → s ≤ MOST_OF_EACH → text ≡ codes "net " ++ decimal i ++ codes " " ++ decimal o ++ codes " " ++ decimal s
 header_is text i o s h a b c =
     let p = decimal-from_spells h.inputs_word i h.inputs_spelled (omega arith) in
     let q = decimal-from_spells h.outputs_word o h.outputs_spelled (omega arith) in

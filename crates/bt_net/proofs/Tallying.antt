@@ -11,7 +11,8 @@ use Rattle.bt_net.specs.declared.network.Start.TheVariants as from
 use Rattle.bt_net.specs.declared.network.Target.{Target}
 use Rattle.bt_net.specs.declared.network.Target.TheVariants as to
 use Rattle.bt_net.specs.Network.{Network, IsWired, StartsIn, EndsIn, is_input, is_output, leaves, enters}
-use Rattle.bt_net.specs.Wiring.{IsPartlyWired, AreTallied, IsFreeStart, IsFreeTarget}
+use Rattle.bt_net.specs.Wiring.{IsPartlyWired}
+use Rattle.bt_net.specs.inner.Tallies.{AreTallied, IsFreeStart, IsFreeTarget}
 
 module _ (at : ℕ → Edge → Bool) (es : List Edge) (e : Edge) where
   -- the edge is at no such end

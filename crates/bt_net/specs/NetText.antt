@@ -31,7 +31,6 @@ edge_text e = codes "edge " ++ start_text e.start ++ codes " " ++ target_text e.
 abbrev pub net_text : Network → List ℕ
 net_text n = line (header n) ++ flat_map (λ e. line (edge_text e)) n.edges ++ line (codes "end")
 
--- the bytes begin with the text of the network, of which the last line feed may be missing at the
--- end of the bytes, and this is what follows
+-- the bytes begin with the text of the network, of which the last line feed may be missing at the end of the bytes, and this is what follows
 abbrev pub BeginsWithNet : List ℕ → Network → List ℕ → Type 0
 BeginsWithNet bytes n rest = (bytes ≡ net_text n ++ rest) ⊎ ((line bytes ≡ net_text n) × (rest ≡ []))

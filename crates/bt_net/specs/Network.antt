@@ -1,10 +1,13 @@
 -- A network of splitters: its edges join inputs, splitters and outputs.
-use Rattle.std.specs.Prelude.{◌≡◌, ℕ, ◌<◌, ◌≤◌, ◌==◌, ◌⊎◌, Bool, false, List, length, count_by, All}
+use Rattle.std.specs.Prelude.{◌≡◌, ℕ, ◌<◌, ◌≤◌, ◌==◌, ◌⊎◌, Bool, false, List, length, count_by, All, Result, Ok, Err}
+use Rattle.bt_net.specs.declared.fault.NetFault.{NetFault}
+use Rattle.bt_net.specs.declared.fault.NetFault.TheVariants.{NetLine, TooLarge, NoEnds, Memory}
 use Rattle.bt_net.specs.declared.network.Edge.{Edge}
 use Rattle.bt_net.specs.declared.network.Start.{Start}
 use Rattle.bt_net.specs.declared.network.Start.TheVariants as from
 use Rattle.bt_net.specs.declared.network.Target.{Target}
 use Rattle.bt_net.specs.declared.network.Target.TheVariants as to
+use Rattle.bt_net.specs.declared.network.TheConstants.{MOST_OF_EACH}
 
 -- numbers of inputs, outputs and splitters, and the edges in their order
 pub record Network : Type 0 where
@@ -12,6 +15,10 @@ pub record Network : Type 0 where
   pub outputs : ℕ
   pub splitters : ℕ
   pub edges : List Edge
+
+-- the network of these numbers and edges
+abbrev pub network_of : ℕ → ℕ → ℕ → List Edge → Network
+network_of inputs outputs splitters edges = record { inputs = inputs; outputs = outputs; splitters = splitters; edges = edges }
 
 -- the edge leaves this splitter
 abbrev pub leaves : ℕ → Edge → Bool
@@ -55,8 +62,7 @@ abbrev pub EndsIn : Network → Target → Type 0
 EndsIn n (to.Split s) = s < n.splitters
 EndsIn n (to.Output o) = o < n.outputs
 
--- the edges join what the network has and have cap 1, each input and each output has one edge, and
--- each splitter has at most two in edges and two out edges
+-- the edges join what the network has and have cap 1, each input and each output has one edge, and each splitter has at most two in edges and two out edges
 pub record IsWired (n : Network) : Type 0 where
   pub starts : All (λ e. StartsIn n e.start) n.edges
   pub targets : All (λ e. EndsIn n e.target) n.edges
@@ -66,20 +72,28 @@ pub record IsWired (n : Network) : Type 0 where
   pub few_in : (s : ℕ) → s < n.splitters → count_by (enters s) n.edges ≤ 2
   pub few_out : (s : ℕ) → s < n.splitters → count_by (leaves s) n.edges ≤ 2
 
--- a count or the number of edges is more than 2048
+-- a count or the number of edges is more than `MOST_OF_EACH`
 abbrev pub IsLarge : Network → Type 0
-IsLarge n = (2048 < n.inputs) ⊎ (2048 < n.outputs) ⊎ (2048 < n.splitters) ⊎ (2048 < length n.edges)
+IsLarge n = (MOST_OF_EACH < n.inputs) ⊎ (MOST_OF_EACH < n.outputs) ⊎ (MOST_OF_EACH < n.splitters) ⊎ (MOST_OF_EACH < length n.edges)
 
 -- it is not too large, and has no input or no output
 abbrev pub LacksEnds : Network → Type 0
 LacksEnds n = (IsLarge n → ⊥) × ((n.inputs ≡ 0) ⊎ (n.outputs ≡ 0))
 
--- a network: wired, of at most 2048 of each kind, with an input and an output
+-- a network: wired, of at most `MOST_OF_EACH` of each kind, with an input and an output
 pub record IsNetwork (n : Network) : Type 0 where
   pub wired : IsWired n
-  pub few_inputs : n.inputs ≤ 2048
-  pub few_outputs : n.outputs ≤ 2048
-  pub few_splitters : n.splitters ≤ 2048
-  pub few_edges : length n.edges ≤ 2048
+  pub few_inputs : n.inputs ≤ MOST_OF_EACH
+  pub few_outputs : n.outputs ≤ MOST_OF_EACH
+  pub few_splitters : n.splitters ≤ MOST_OF_EACH
+  pub few_edges : length n.edges ≤ MOST_OF_EACH
   pub some_input : 1 ≤ n.inputs
   pub some_output : 1 ≤ n.outputs
+
+-- what comes of making a network of numbers and edges that are wired: that network, or that it is too large, or that it lacks an input or an output
+abbrev pub IsNetOf : Network → Result Network NetFault → Type 0
+IsNetOf n (Ok net) = (net ≡ n) × IsNetwork net
+IsNetOf n (Err TooLarge) = IsLarge n
+IsNetOf n (Err NoEnds) = LacksEnds n
+IsNetOf n (Err (NetLine k)) = ⊥
+IsNetOf n (Err Memory) = ⊥

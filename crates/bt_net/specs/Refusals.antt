@@ -1,10 +1,11 @@
 -- Where a text stops to be the text of a network.
 use Rattle.std.specs.Prelude.{◌≡◌, ℕ, ◌+◌, ◌<◌, ◌≤◌, ◌⊎◌, List, ◌++◌, length, map, codes}
 use Rattle.bt_text.specs.Lines.{IsFirstLine, BeginsWithLines}
-use Rattle.bt_text.specs.Numbers.{Spells}
+use Rattle.bt_frac.specs.Numbers.{Spells}
 use Rattle.bt_net.specs.declared.fault.NetFault.{NetFault}
 use Rattle.bt_net.specs.declared.fault.NetFault.TheVariants.{NetLine, TooLarge, NoEnds, Memory}
 use Rattle.bt_net.specs.declared.network.Edge.{Edge}
+use Rattle.bt_net.specs.declared.network.TheConstants.{MOST_OF_EACH}
 use Rattle.bt_net.specs.Network.{Network, IsWired}
 use Rattle.bt_net.specs.NetText.{header, edge_text}
 use Rattle.bt_net.specs.Wiring.{HasSmallSizes, IsPartlyWired, with_edge}
@@ -19,31 +20,29 @@ pub record IsHeader (bytes : List ℕ) (inputs outputs splitters : ℕ) : Type 0
   pub splitters_spelled : Spells splitters_word splitters
   pub bytes_are : bytes ≡ codes "net " ++ inputs_word ++ codes " " ++ outputs_word ++ codes " " ++ splitters_word
 
--- why the first line is refused: it is no header, or one of its numbers is more than 2048
+-- why the first line is refused: it is no header, or one of its numbers is more than `MOST_OF_EACH`
 abbrev pub HeaderRefused : List ℕ → NetFault → Type 0
 HeaderRefused bytes (NetLine k) = (k ≡ 1) × ((i o s : ℕ) → IsHeader bytes i o s → ⊥)
-HeaderRefused bytes TooLarge = (i o s : ℕ) × IsHeader bytes i o s × ((2048 < i) ⊎ (2048 < o) ⊎ (2048 < s))
+HeaderRefused bytes TooLarge = (i o s : ℕ) × IsHeader bytes i o s × ((MOST_OF_EACH < i) ⊎ (MOST_OF_EACH < o) ⊎ (MOST_OF_EACH < s))
 HeaderRefused bytes NoEnds = ⊥
 HeaderRefused bytes Memory = ⊥
 
--- this line may not stand after the edges of the network so far: it is not `end`, or an input or an
--- output has no edge yet; and it is the line of no edge that may stand there
+-- this line may not stand after the edges of the network so far: it is not `end`, or an input or an output has no edge yet; and it is the line of no edge that may stand there
 pub record MayNotStand (n : Network) (bytes : List ℕ) : Type 0 where
   pub no_end : bytes ≡ codes "end" → IsWired n → ⊥
   pub no_edge : (e : Edge) → bytes ≡ edge_text e → IsPartlyWired (with_edge n e) → ⊥
 
--- why this line is refused after the edges of the network so far: it may not stand there, or it is one
--- edge more than 2048, or it ends a network without inputs or without outputs
+-- why this line is refused after the edges of the network so far: it may not stand there, or it is one edge more than `MOST_OF_EACH`, or it ends a network without inputs or without outputs
 abbrev pub LineRefused : Network → List ℕ → NetFault → Type 0
 LineRefused n bytes (NetLine k) = MayNotStand n bytes × (k ≡ length n.edges + 2)
-LineRefused n bytes TooLarge = (e : Edge) × (bytes ≡ edge_text e) × IsPartlyWired (with_edge n e) × (length n.edges ≡ 2048)
+LineRefused n bytes TooLarge = (e : Edge) × (bytes ≡ edge_text e) × IsPartlyWired (with_edge n e) × (length n.edges ≡ MOST_OF_EACH)
 LineRefused n bytes NoEnds = (bytes ≡ codes "end") × IsWired n × ((n.inputs ≡ 0) ⊎ (n.outputs ≡ 0))
 LineRefused n bytes Memory = ⊥
 
 -- the text goes on with the lines of the network's edges so far, which may stand, and then with this line
 pub record GoesOn (n : Network) (text bytes after : List ℕ) : Type 0 where
   pub wired : IsPartlyWired n
-  pub few : length n.edges ≤ 2048
+  pub few : length n.edges ≤ MOST_OF_EACH
   pub rest : List ℕ
   pub edges : BeginsWithLines text (map edge_text n.edges) rest
   pub next : IsFirstLine rest bytes after
@@ -52,15 +51,7 @@ pub record GoesOn (n : Network) (text bytes after : List ℕ) : Type 0 where
 abbrev pub EdgesRefused : Network → List ℕ → NetFault → Type 0
 EdgesRefused n text fault = (bytes after : List ℕ) × GoesOn n text bytes after × LineRefused n bytes fault
 
--- why a text begins with no network: its first line is refused, or it is the header of a network, and
--- behind it the line after some edges is refused
+-- why a text begins with no network: its first line is refused, or it is the header of a network, and behind it the line after some edges is refused
 abbrev pub Refuses : List ℕ → NetFault → Type 0
 Refuses text fault = (first rest : List ℕ) × IsFirstLine text first rest
     × (HeaderRefused first fault ⊎ ((n : Network) × (first ≡ header n) × HasSmallSizes n × EdgesRefused n rest fault))
-
--- this cause, unless no memory could be had
-abbrev pub UnlessMemory : (NetFault → Type 0) → NetFault → Type 0
-UnlessMemory cause (NetLine k) = cause (NetLine k)
-UnlessMemory cause TooLarge = cause TooLarge
-UnlessMemory cause NoEnds = cause NoEnds
-UnlessMemory cause Memory = Unit {0}

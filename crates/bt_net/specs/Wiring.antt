@@ -1,11 +1,7 @@
 -- Networks while their edges are read.
-use Rattle.std.specs.Prelude.{◌≡◌, ℕ, ◌<◌, ◌≤◌, ◌^◌, Bool, List, [], ◌∷◌, ◌++◌, length, slice_index, count_by, All}
+use Rattle.std.specs.Prelude.{◌≡◌, ℕ, ◌<◌, ◌≤◌, [], ◌∷◌, ◌++◌, count_by, All}
 use Rattle.bt_net.specs.declared.network.Edge.{Edge}
-use Rattle.bt_net.specs.declared.network.Start.{Start}
-use Rattle.bt_net.specs.declared.network.Start.TheVariants as from
-use Rattle.bt_net.specs.declared.network.Target.{Target}
-use Rattle.bt_net.specs.declared.network.Target.TheVariants as to
-use Rattle.bt_net.specs.NetText.{header}
+use Rattle.bt_net.specs.declared.network.TheConstants.{MOST_OF_EACH}
 use Rattle.bt_net.specs.Network.{Network, StartsIn, EndsIn, is_input, is_output, leaves, enters}
 
 -- edges that may stand so far: they join what the network has and have cap 1, no input and no output
@@ -23,75 +19,8 @@ pub record IsPartlyWired (n : Network) : Type 0 where
 abbrev pub with_edge : Network → Edge → Network
 with_edge n e = record n { edges = n.edges ++ e ∷ [] }
 
--- the tally has for each number how many edges there are at that end
-abbrev pub Tallies : (ℕ → Edge → Bool) → List Edge → List ℕ → Type 0
-Tallies at edges tally = (k : ℕ) → k < length tally → slice_index tally k ≡ count_by (at k) edges
-
--- four tallies of edges that may stand so far
-pub record AreTallied (inputs outputs leaving entering : List ℕ) (edges : List Edge) : Type 0 where
-  pub of_inputs : Tallies is_input edges inputs
-  pub of_outputs : Tallies is_output edges outputs
-  pub of_leaving : Tallies leaves edges leaving
-  pub of_entering : Tallies enters edges entering
-  pub splitters : length entering ≡ length leaving
-  pub wired : IsPartlyWired (record { inputs = length inputs; outputs = length outputs; splitters = length leaving; edges = edges })
-
--- the tally has this place, with fewer than that many
-abbrev pub IsBelow : List ℕ → ℕ → ℕ → Type 0
-IsBelow tally place most = (place < length tally) × (slice_index tally place < most)
-
--- an edge may start there: at an input without an edge, or at a splitter with fewer than two out edges
-abbrev pub IsFreeStart : List ℕ → List ℕ → Start → Type 0
-IsFreeStart inputs leaving (from.Input i) = IsBelow inputs i 1
-IsFreeStart inputs leaving (from.Split s) = IsBelow leaving s 2
-
--- an edge may end there: at a splitter with fewer than two in edges, or at an output without an edge
-abbrev pub IsFreeTarget : List ℕ → List ℕ → Target → Type 0
-IsFreeTarget entering outputs (to.Split s) = IsBelow entering s 2
-IsFreeTarget entering outputs (to.Output o) = IsBelow outputs o 1
-
--- tallies of starts before and after one more edge with this start
-pub record CountsStart (start : Start) (inputs leaving inputs_after leaving_after : List ℕ) : Type 0 where
-  pub inputs_length : length inputs_after ≡ length inputs
-  pub leaving_length : length leaving_after ≡ length leaving
-  pub of_inputs : (edges : List Edge) (e : Edge) → e.start ≡ start → Tallies is_input edges inputs → Tallies is_input (edges ++ e ∷ []) inputs_after
-  pub of_leaving : (edges : List Edge) (e : Edge) → e.start ≡ start → Tallies leaves edges leaving → Tallies leaves (edges ++ e ∷ []) leaving_after
-
--- tallies of targets before and after one more edge with this target
-pub record CountsTarget (target : Target) (entering outputs entering_after outputs_after : List ℕ) : Type 0 where
-  pub entering_length : length entering_after ≡ length entering
-  pub outputs_length : length outputs_after ≡ length outputs
-  pub of_entering : (edges : List Edge) (e : Edge) → e.target ≡ target → Tallies enters edges entering → Tallies enters (edges ++ e ∷ []) entering_after
-  pub of_outputs : (edges : List Edge) (e : Edge) → e.target ≡ target → Tallies is_output edges outputs → Tallies is_output (edges ++ e ∷ []) outputs_after
-
--- at most 2048 inputs, outputs and splitters
+-- at most `MOST_OF_EACH` inputs, outputs and splitters
 pub record HasSmallSizes (n : Network) : Type 0 where
-  pub few_inputs : n.inputs ≤ 2048
-  pub few_outputs : n.outputs ≤ 2048
-  pub few_splitters : n.splitters ≤ 2048
-
--- a network without edges yet, of which this is the first line
-pub record IsStarted (n : Network) (bytes : List ℕ) : Type 0 where
-  pub line_is : bytes ≡ header n
-  pub no_edges : n.edges ≡ []
-  pub small : HasSmallSizes n
-
--- the same numbers of inputs, outputs and splitters
-pub record SameSizes (m n : Network) : Type 0 where
-  pub inputs : m.inputs ≡ n.inputs
-  pub outputs : m.outputs ≡ n.outputs
-  pub splitters : m.splitters ≡ n.splitters
-
--- the number of a start has at most 32 bits
-abbrev pub StartFits : Start → Type 0
-StartFits (from.Input i) = i < 2 ^ 32
-StartFits (from.Split s) = s < 2 ^ 32
-
--- the number of a target has at most 32 bits
-abbrev pub TargetFits : Target → Type 0
-TargetFits (to.Split s) = s < 2 ^ 32
-TargetFits (to.Output o) = o < 2 ^ 32
-
--- the numbers of an edge's two ends have at most 32 bits
-abbrev pub EdgeFits : Edge → Type 0
-EdgeFits e = StartFits e.start × TargetFits e.target
+  pub few_inputs : n.inputs ≤ MOST_OF_EACH
+  pub few_outputs : n.outputs ≤ MOST_OF_EACH
+  pub few_splitters : n.splitters ≤ MOST_OF_EACH

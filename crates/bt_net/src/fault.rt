@@ -1,3 +1,4 @@
+//! Why a text or a list of edges makes no network.
 ghost use Rattle.std.specs.Prelude.{◌≡◌};
 ghost use Rattle.bt_net.specs.declared.fault.NetFault.TheVariants.{Memory};
 
@@ -8,7 +9,7 @@ use std::alloc::AllocError;
 pub enum NetFault {
     /// This line, from 1, may not stand there.
     NetLine(usize),
-    /// More than 2048 inputs, outputs, splitters or edges.
+    /// More than `MOST_OF_EACH` inputs, outputs, splitters or edges.
     TooLarge,
     /// No input, or no output.
     NoEnds,

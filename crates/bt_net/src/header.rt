@@ -1,21 +1,25 @@
-ghost use Rattle.std.specs.Prelude.{◌≡◌, ℕ, ◌-◌, ◌^◌, min, IfOk, IfErr, IfSome, IfNone};
-ghost use Rattle.bt_net.specs.Refusals.{IsHeader, HeaderRefused, UnlessMemory};
-ghost use Rattle.bt_net.specs.Wiring.{IsStarted};
+//! The first line of a network's text.
+ghost use Rattle.std.specs.Prelude.{◌≡◌, ℕ, ◌-◌, ◌^◌, min, IfSome, IfNone};
+ghost use Rattle.bt_answers.specs.Answers.{UnlessMemory};
+ghost use Rattle.bt_net.specs.Refusals.{IsHeader};
+ghost use Rattle.bt_net.specs.inner.Lines.{IsHeaderRead};
 
 use crate::fault::NetFault;
+use crate::network::MOST_OF_EACH;
 use crate::wiring::Wiring;
-use bt_text::{read_whole, split_once};
+use bt_frac::read_whole;
+use bt_text::split_once;
 use std::alloc::Global;
 
 /// The network that the first line of a text begins, without edges yet.
 pub fn read_header(alloc: Global, line: &[u8]) -> Result<Wiring, NetFault>
-    ensures started { IfOk result (λ wiring. IsStarted wiring line.now) }
-    ensures refused { IfErr result (UnlessMemory (HeaderRefused line.now)) }
+    ensures { UnlessMemory NetFault.Memory (IsHeaderRead line.now) result }
 {
     let Some(sizes) = read_sizes(line) else {
         return Err(NetFault::NetLine(1));
     };
-    if sizes.inputs > 2048 || sizes.outputs > 2048 || sizes.splitters > 2048 {
+    let most = MOST_OF_EACH as u128;
+    if sizes.inputs > most || sizes.outputs > most || sizes.splitters > most {
         return Err(NetFault::TooLarge);
     }
     let wiring = Wiring::new(

@@ -1,4 +1,4 @@
-// Networks of splitters and their text.
+//! Networks of splitters and their text.
 #![tactic(auto)]
 
 mod fault;
@@ -15,7 +15,7 @@ mod words;
 pub use fault::NetFault;
 pub use law::one_net;
 pub use net::Net;
-pub use network::{Edge, End, Pin, Start, Target};
+pub use network::{Edge, End, MOST_OF_EACH, Pin, Start, Target};
 pub use printing::print;
 pub use reading::{NetRead, read};
 pub use std::alloc::AllocError as Memory;

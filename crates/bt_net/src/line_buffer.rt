@@ -1,3 +1,4 @@
+//! A line of text in a buffer of its own, so that printing takes no memory.
 ghost use Rattle.std.specs.Prelude.{◌≡◌, ◌+◌, ◌≤◌, ◌++◌, [], length, decimal};
 ghost use Rattle.bt_net.specs.NetText.{start_text, target_text};
 

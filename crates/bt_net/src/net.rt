@@ -1,13 +1,15 @@
-ghost use Rattle.std.specs.Prelude.{◌≡◌, ℕ, ◌↔◌, IfOk, IsErrOf};
-ghost use Rattle.bt_net.specs.Network.{IsWired, IsLarge, LacksEnds};
+//! Networks as values: what was checked once, each call above may rely on.
+ghost use Rattle.std.specs.Prelude.{◌≡◌};
+ghost use Rattle.bt_answers.specs.Answers.{AnswersAlways};
+ghost use Rattle.bt_net.specs.Network.{IsWired, IsNetOf, network_of};
 
 use crate::fault::NetFault;
-use crate::network::Edge;
+use crate::network::{Edge, MOST_OF_EACH};
 use std::marker::Model;
 
 /// A network of splitters: each input and each output has one edge, and each splitter has at most
-/// two in edges and two out edges. There are at most 2048 of each kind, at least one input and at
-/// least one output, and every edge has cap 1.
+/// two in edges and two out edges. There are at most `MOST_OF_EACH` of each kind, at least one input
+/// and at least one output, and every edge has cap 1.
 #[derive(Debug, Drop)]
 pub struct Net {
     inputs: u32,
@@ -27,18 +29,20 @@ impl Model for Net {
 }
 
 impl Net {
-    ghost use Rattle.bt_net.specs.Network.{Network, IsNetwork};
+    ghost use Rattle.bt_net.specs.Network.{IsNetwork};
 
     /// The network of these counts and edges, in which the edges have their places as numbers.
+    /// `TooLarge` comes before `NoEnds`, and no other fault comes.
+    #[tactic(auto, using(crate::proofs::OneNet::net_answers))]
     pub fn new(inputs: u32, outputs: u32, splitters: u32, edges: Vec<Edge>) -> Result<Net, NetFault>
-        requires { IsWired (record { inputs = inputs; outputs = outputs; splitters = splitters; edges = edges.items }) }
-        ensures net { IfOk result (λ n. n ≡ record { inputs = inputs; outputs = outputs; splitters = splitters; edges = edges.items }) }
-        ensures too_large { IsErrOf result NetFault.TooLarge ↔ IsLarge (record { inputs = inputs; outputs = outputs; splitters = splitters; edges = edges.items }) }
-        ensures no_ends { IsErrOf result NetFault.NoEnds ↔ LacksEnds (record { inputs = inputs; outputs = outputs; splitters = splitters; edges = edges.items }) }
-        ensures no_line { (line : ℕ) → IsErrOf result (NetFault.NetLine line) → ⊥ }
-        ensures memory { IsErrOf result NetFault.Memory → ⊥ }
+        requires { IsWired (network_of inputs outputs splitters edges.items) }
+        ensures { AnswersAlways (IsNetOf (network_of inputs outputs splitters edges.items)) result }
     {
-        if inputs > 2048 || outputs > 2048 || splitters > 2048 || edges.len() > 2048 {
+        if inputs as usize > MOST_OF_EACH
+            || outputs as usize > MOST_OF_EACH
+            || splitters as usize > MOST_OF_EACH
+            || edges.len() > MOST_OF_EACH
+        {
             return Err(NetFault::TooLarge);
         }
         if inputs == 0 || outputs == 0 {

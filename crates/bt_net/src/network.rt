@@ -1,3 +1,9 @@
+//! What a network of splitters is made of: ends, edges between them, and the cells where its ends
+//! stand.
+
+/// The most inputs, outputs, splitters and edges that a network has, of each kind.
+pub const MOST_OF_EACH: usize = 2048;
+
 /// Where an edge starts: at an input or at a splitter, by its number from 0.
 #[derive(Clone, Copy, Debug, PartialEq, Eq)]
 pub enum Start {

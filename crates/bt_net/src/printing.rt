@@ -1,5 +1,7 @@
+//! Writing the text of a network, line by line, without memory.
 ghost use Rattle.std.specs.Prelude.{◌≡◌};
 ghost use Rattle.bt_io.specs.Bytes.{WritesText};
+ghost use Rattle.bt_io.specs.Passages.{passage};
 ghost use Rattle.bt_net.specs.NetText.{line, header, edge_text, net_text};
 
 use crate::line_buffer::LineBuffer;
@@ -11,7 +13,7 @@ use bt_io::{Sink, WriteFault, write_all_of};
 ///
 /// Where the sink fails, which its count of faults shows, a proper prefix of the text was written.
 pub fn print<K: Sink>(net: &Net, sink: &mut K) -> Result<(), WriteFault>
-    ensures { WritesText result (K.held sink.old) (K.held sink.new) (K.faults sink.old) (K.faults sink.new) (net_text net.now) }
+    ensures { WritesText (passage K.held K.faults sink.old sink.new) (net_text net.now) result }
 {
     write_all_of(sink, header_line(net).as_bytes())?;
     let edges = net.edges();

@@ -1,13 +1,16 @@
-ghost use Rattle.std.specs.Prelude.{◌≡◌, ℕ, ◌+◌, ◌≤◌, [], List, codes, length, drop, IfOk, IfErr, MatchResult};
-ghost use Rattle.bt_net.specs.Network.{Network, IsNetwork, IsWired};
-ghost use Rattle.bt_net.specs.NetText.{BeginsWithNet};
-ghost use Rattle.bt_net.specs.Refusals.{GoesOn, EdgesRefused, Refuses, UnlessMemory};
-ghost use Rattle.bt_net.specs.Wiring.{IsPartlyWired, HasSmallSizes, SameSizes};
+//! Reading the text of a network.
+//!
+//! Each line is read once, and the first one that may not stand is told by its number.
+ghost use Rattle.std.specs.Prelude.{◌≡◌, ◌≤◌, [], length};
+ghost use Rattle.bt_answers.specs.Answers.{Answers, UnlessMemory, seen};
+ghost use Rattle.bt_net.specs.Readings.{IsNetRead, what_is_read};
+ghost use Rattle.bt_net.specs.Wiring.{HasSmallSizes};
+ghost use Rattle.bt_net.specs.inner.Lines.{SameSizes, IsNextLine, AreEdgesRead};
 
 use crate::fault::NetFault;
 use crate::header::read_header;
 use crate::net::Net;
-use crate::network::Pin;
+use crate::network::{Edge, MOST_OF_EACH, Pin};
 use crate::wiring::Wiring;
 use crate::words::read_edge;
 use bt_text::first_line;
@@ -27,20 +30,7 @@ pub struct NetRead {
 /// inputs, outputs and splitters, and have a line for each edge and a line `end`. What follows that
 /// line is not read.
 pub fn read(alloc: Global, bytes: &[u8]) -> Result<NetRead, NetFault>
-    ensures found { IfOk result (λ r. BeginsWithNet bytes.now r.net (drop r.used bytes.now)) }
-    ensures network { IfOk result (λ r. IsNetwork r.net) }
-    ensures used { IfOk result (λ r. r.used ≤ length bytes.now) }
-    ensures pins { IfOk result (λ r. r.pins.items ≡ []) }
-    ensures lines { IfOk result (λ r. r.lines ≡ length r.net.edges + 2) }
-
-    // Where the bytes begin with a network, there is no other answer but want of memory.
-    ensures only { (n : Network) (rest : List ℕ) → IsNetwork n → BeginsWithNet bytes.now n rest
-        → MatchResult result (λ r. (r.net ≡ n) × (drop r.used bytes.now ≡ rest)) (λ fault. fault ≡ NetFault.Memory) }
-
-    // Each refusal has its cause, and where there is a cause, that refusal comes.
-    ensures refused { IfErr result (UnlessMemory (Refuses bytes.now)) }
-    ensures refuses { (fault : NetFault) → Refuses bytes.now fault
-        → MatchResult result (λ _. ⊥) (UnlessMemory (λ other. other ≡ fault)) }
+    ensures { Answers NetFault.Memory (IsNetRead bytes.now) (seen what_is_read result) }
 {
     let (line, text) = first_line(bytes);
     let mut wiring = read_header(alloc, line)?;
@@ -61,30 +51,42 @@ fn read_edges<'a>(wiring: &mut Wiring, text: &'a [u8]) -> Result<&'a [u8], NetFa
     requires none { wiring.old.edges ≡ [] }
     requires small { HasSmallSizes wiring.old }
     ensures sizes { SameSizes wiring.old wiring.new }
-    ensures ended { IfOk result (λ rest. GoesOn wiring.new text.now (codes "end") rest.now) }
-    ensures wired { IfOk result (λ _. IsWired wiring.new) }
-    ensures refused { IfErr result (UnlessMemory (EdgesRefused wiring.new text.now)) }
+    ensures read { UnlessMemory NetFault.Memory (AreEdgesRead wiring.new text.now) (seen (λ rest. rest.now) result) }
 {
     let mut rest = text;
     loop {
         let (line, after) = first_line(rest);
-        if line == b"end".as_slice() {
-            if wiring.is_complete() {
-                return Ok(after);
-            }
-            return Err(NetFault::NetLine(wiring.len() + 2));
-        }
-        let Some(edge) = read_edge(line) else {
-            return Err(NetFault::NetLine(wiring.len() + 2));
+        let Some(edge) = next_edge(wiring, line)? else {
+            return Ok(after);
         };
-        if !wiring.admits(edge) {
-            return Err(NetFault::NetLine(wiring.len() + 2));
-        }
-        if wiring.len() == 2048 {
-            return Err(NetFault::TooLarge);
-        }
         wiring.push(edge)?;
         rest = after;
+    }
+}
+
+/// The edge of this line, or None where the line is `end` and the network may end there.
+fn next_edge(wiring: &Wiring, line: &[u8]) -> Result<Option<Edge>, NetFault>
+    requires small { HasSmallSizes wiring.now }
+    requires few { length wiring.now.edges ≤ MOST_OF_EACH }
+    ensures { IsNextLine wiring.now line.now result }
+{
+    let may_not_stand = NetFault::NetLine(wiring.len() + 2);
+    if line == b"end".as_slice() {
+        return if wiring.is_complete() {
+            Ok(None)
+        } else {
+            Err(may_not_stand)
+        };
+    }
+    match read_edge(line) {
+        Some(edge) if wiring.admits(edge) => {
+            if wiring.len() < MOST_OF_EACH {
+                Ok(Some(edge))
+            } else {
+                Err(NetFault::TooLarge)
+            }
+        }
+        _ => Err(may_not_stand),
     }
 }
 

@@ -1,5 +1,7 @@
+//! Edges while they are read, with a tally of each end, so that each line costs the same.
 ghost use Rattle.std.specs.Prelude.{◌≡◌, ◌<◌, ◌+◌, ◌↔◌, ℕ, [], ◌∷◌, ◌++◌, List, length, slice_index, slice_set, vec_len, IsTrue, IfOk, OnOk, OnErr, IsErrOf, All};
-ghost use Rattle.bt_net.specs.Wiring.{IsBelow, IsFreeStart, IsFreeTarget, CountsStart, CountsTarget};
+ghost use Rattle.bt_answers.specs.Answers.{AnswersAlways};
+ghost use Rattle.bt_net.specs.inner.Tallies.{IsBelow, IsFreeStart, IsFreeTarget, CountsStart, CountsTarget};
 
 use crate::fault::NetFault;
 use crate::net::Net;
@@ -19,7 +21,7 @@ pub struct Wiring {
 
 impl Model for Wiring {
     ghost use Rattle.bt_net.specs.Network.{Network};
-    ghost use Rattle.bt_net.specs.Wiring.{AreTallied};
+    ghost use Rattle.bt_net.specs.inner.Tallies.{AreTallied};
     ghost use Rattle.std.specs.Prelude.{length};
 
     ghost Value = { Network };
@@ -30,7 +32,7 @@ impl Model for Wiring {
 }
 
 impl Wiring {
-    ghost use Rattle.bt_net.specs.Network.{Network, IsWired, IsLarge, LacksEnds};
+    ghost use Rattle.bt_net.specs.Network.{IsWired, IsNetOf, network_of};
     ghost use Rattle.bt_net.specs.Wiring.{IsPartlyWired, with_edge, HasSmallSizes};
 
     /// No edges yet.
@@ -40,7 +42,7 @@ impl Wiring {
         outputs: u32,
         splitters: u32,
     ) -> Result<Wiring, AllocError>
-        ensures { IfOk result (λ w. w ≡ record { inputs = inputs; outputs = outputs; splitters = splitters; edges = [] }) }
+        ensures { IfOk result (λ w. w ≡ network_of inputs outputs splitters []) }
     {
         let entering = vec![in alloc; 0u8; splitters as usize]?;
         Ok(Wiring {
@@ -83,11 +85,7 @@ impl Wiring {
     pub fn into_net(self) -> Result<Net, NetFault>
         requires wired { IsWired self }
         requires small { HasSmallSizes self }
-        ensures net { IfOk result (λ n. n ≡ self) }
-        ensures too_large { IsErrOf result NetFault.TooLarge ↔ IsLarge self }
-        ensures no_ends { IsErrOf result NetFault.NoEnds ↔ LacksEnds self }
-        ensures no_line { (line : ℕ) → IsErrOf result (NetFault.NetLine line) → ⊥ }
-        ensures memory { IsErrOf result NetFault.Memory → ⊥ }
+        ensures { AnswersAlways (IsNetOf self) result }
     {
         let inputs = self.inputs.len() as u32;
         let outputs = self.outputs.len() as u32;

@@ -1,12 +1,14 @@
+//! The words of an edge line.
 ghost use Rattle.std.specs.Prelude.{◌≡◌, ℕ, ◌^◌, ◌<◌, decimal, IfSome, IfNone};
 ghost use Rattle.bt_net.specs.NetText.{start_text, target_text, edge_text};
-ghost use Rattle.bt_net.specs.Wiring.{StartFits, TargetFits, EdgeFits};
+ghost use Rattle.bt_net.specs.inner.Lines.{StartFits, TargetFits, EdgeFits};
 ghost use Rattle.bt_net.specs.declared.network.Edge.{Edge};
 ghost use Rattle.bt_net.specs.declared.network.Start.{Start};
 ghost use Rattle.bt_net.specs.declared.network.Target.{Target};
 
 use crate::network::{Edge, Start, Target};
-use bt_text::{read_whole, split_once};
+use bt_frac::read_whole;
+use bt_text::split_once;
 
 /// The edge of an edge line, with cap 1.
 pub fn read_edge(line: &[u8]) -> Option<Edge>

@@ -1,3 +1,4 @@
+//! Blanks: the bytes that may stand around a text and between its parts.
 ghost use Rattle.std.specs.Prelude.{◌↔◌, IsTrue};
 ghost use Rattle.bt_text.specs.Blanks.{IsBlank, SkipsBlanks};
 

@@ -1,10 +1,10 @@
-// Lines, words, blanks and whole numbers: what the readers of texts share.
+//! Lines, words and blanks: what the readers of texts share.
 #![tactic(auto)]
 
 mod blank;
 mod line;
-mod number;
+mod piece;
 
 pub use blank::skip_blanks;
-pub use line::{first_line, split_once};
-pub use number::read_whole;
+pub use line::{first_line, line_feeds, split_once};
+pub use piece::{after_word, cut, next_piece};

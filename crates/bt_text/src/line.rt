@@ -1,5 +1,6 @@
-ghost use Rattle.std.specs.Prelude.{IfSome, IfNone};
-ghost use Rattle.bt_text.specs.Lines.{Lacks, SplitsAt, IsFirstLine};
+//! Lines of a text, and the two sides of its first byte of a kind.
+ghost use Rattle.std.specs.Prelude.{◌≡◌, ◌≤◌, length, IfSome, IfNone};
+ghost use Rattle.bt_text.specs.Lines.{Lacks, SplitsAt, IsFirstLine, line_feeds};
 
 use memchr::memchr;
 
@@ -21,6 +22,14 @@ pub fn first_line(text: &[u8]) -> (&[u8], &[u8])
         Some(parts) => parts,
         None => (text, &text[text.len()..]),
     }
+}
+
+/// How many line feeds a text has, at most its length.
+pub fn line_feeds(text: &[u8]) -> usize
+    ensures feeds { result ≡ line_feeds text.now }
+    ensures few { result ≤ length text.now }
+{
+    text.iter().filter(|byte| **byte == b'\n').count()
 }
 
 #[cfg(test)]

@@ -2,8 +2,8 @@ use Rattle.std.proofs.Common.{◌≡◌, refl, arith}
 use Rattle.bt_net.proofs.Spelling.{header_is}
 use Rattle.bt_net.proofs.header.read_header.Goals as goal
 
-pub returns-clause-started : goal.returns-clause-started
-returns-clause-started c =
+pub returns : goal.returns
+returns c =
     let read = c.in-Some.ensures.some in
     let inputs : c.in-Some.sizes.inputs ≡ read.0 = omega (arith, read.4) in
     let outputs : c.in-Some.sizes.outputs ≡ read.1 = omega (arith, read.5) in

@@ -1,5 +1,5 @@
 use Rattle.std.proofs.Common.{◌∙◌, arith}
-use Rattle.bt_text.proofs.Numerals.{Spells-decimal}
+use Rattle.bt_frac.proofs.Numerals.{Spells-decimal}
 use Rattle.bt_net.proofs.Spelling.{small_number, large_number}
 use Rattle.bt_net.proofs.words.read_number.Goals as goal
 

@@ -9,8 +9,8 @@ use Rattle.std.proofs.lemmas.List.{append-nil, append_assoc, get_or_append_left}
 use Rattle.std.proofs.lemmas.List.Elements.{All-from_get_or}
 use Rattle.std.proofs.lemmas.Str.{digit_value_digit}
 use Rattle.std.proofs.lemmas.Str.Parse.{digit_at, digit_from_value}
-use Rattle.bt_text.specs.Lines.{Lacks}
-use Rattle.bt_text.specs.Numbers.{Spells}
+use Rattle.std.specs.List.{All}
+use Rattle.bt_frac.specs.Numbers.{Spells}
 
 -- a first digit 0 stands only in `0`
 leads : (n : ℕ) → n < 10 ^ 64 → (0 < length (decimal n)) × (0 < n → 48 < get_or (decimal n) 0 0) × (n ≡ 0 → length (decimal n) ≡ 1)
@@ -33,7 +33,7 @@ pub Spells-unique : {w : List ℕ} {m n : ℕ} → Spells w m → Spells w n →
 Spells-unique a b = sym a.value ∙ b.value
 
 -- a byte that is no digit stands in no numeral
-pub Spells-lacks : (w : List ℕ) (n byte : ℕ) → Spells w n → ¬ IsInRange 48 57 byte → Lacks byte w
+pub Spells-lacks : (w : List ℕ) (n byte : ℕ) → Spells w n → ¬ IsInRange 48 57 byte → All (λ other. other ≢ byte) w
 Spells-lacks w n byte s apart = All-from_get_or (λ other. other ≢ byte) w 0 (λ k inside e. apart (rw e at (digit_at w k s.digits inside)))
 
 -- more digits after those of a number that isn't 0
@@ -69,7 +69,7 @@ pub decimal-from_spells : (w : List ℕ) (n : ℕ) → Spells w n → n < 10 ^ 6
 decimal-from_spells w n s small = sym (decimal_value w s.digits s.some_digit s.no_zero (omega (arith, s.value))) ∙ ap decimal s.value
 
 -- no space, no line feed and no other byte that is no digit in what is written of a number
-pub decimal-lacks : (n byte : ℕ) → n < 10 ^ 64 → ¬ IsInRange 48 57 byte → Lacks byte (decimal n)
+pub decimal-lacks : (n byte : ℕ) → n < 10 ^ 64 → ¬ IsInRange 48 57 byte → All (λ other. other ≢ byte) (decimal n)
 decimal-lacks n byte small apart = Spells-lacks (decimal n) n byte (Spells-decimal n small) apart
 
 -- each number has a writing of its own

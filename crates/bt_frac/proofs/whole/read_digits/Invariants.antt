@@ -1,6 +1,6 @@
 use Rattle.std.proofs.Common.{◌≡◌, ◌-◌, ◌^◌, min, take}
 use Rattle.std.specs.Str.Parse.{AllDigits, digits_value}
-use Rattle.bt_text.proofs.number.read_digits.Given as goal
+use Rattle.bt_frac.proofs.whole.read_digits.Given as goal
 
 -- the bytes so far are digits, and this is their value, or the limit
 abbrev pub invariant-loop-digit : goal.invariant-loop-digit

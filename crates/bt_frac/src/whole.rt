@@ -1,6 +1,7 @@
+//! Whole numbers as texts spell them, each in one way.
 ghost use Rattle.std.specs.Prelude.{◌≡◌, ℕ, ◌+◌, ◌-◌, ◌*◌, ◌^◌, ◌<◌, min, IfSome, IfNone};
 ghost use Rattle.std.specs.Str.Parse.{AllDigits, digits_value};
-ghost use Rattle.bt_text.specs.Numbers.{Spells};
+ghost use Rattle.bt_frac.specs.Numbers.{Spells};
 
 /// The whole number that the word spells, which is decimal digits without a leading zero, but for
 /// `0` itself. Numbers past `u128::MAX` are read as that.
@@ -35,36 +36,4 @@ fn with_digit(value: u128, digit: u8) -> u128
     ensures { result ≡ min (value * 10 + digit) (2 ^ 128 - 1) }
 {
     value.saturating_mul(10).saturating_add(u128::from(digit))
-}
-
-#[cfg(test)]
-mod tests {
-    use super::*;
-
-    #[test]
-    fn numerals(rt: HostRuntime) {
-        assert_eq!(rt; read_whole(b"0"), Some(0));
-        assert_eq!(rt; read_whole(b"2048"), Some(2048));
-        assert_eq!(rt; read_whole(b""), None);
-        assert_eq!(rt; read_whole(b"00"), None);
-        assert_eq!(rt; read_whole(b"07"), None);
-        assert_eq!(rt; read_whole(b"-1"), None);
-        assert_eq!(rt; read_whole(b"1 "), None);
-        assert_eq!(rt;
-            read_whole(b"340282366920938463463374607431768211454"),
-            Some(u128::MAX - 1)
-        );
-        assert_eq!(rt;
-            read_whole(b"340282366920938463463374607431768211456"),
-            Some(u128::MAX)
-        );
-        assert_eq!(rt;
-            read_whole(b"9999999999999999999999999999999999999999999"),
-            Some(u128::MAX)
-        );
-        assert_eq!(rt;
-            read_whole(b"999999999999999999999999999999999999999999x"),
-            None
-        );
-    }
 }
