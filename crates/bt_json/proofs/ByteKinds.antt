@@ -2,7 +2,7 @@
 use Rattle.std.proofs.Common.{◌≡◌, ℕ, ◌≤◌, true, refl, arith}
 use Rattle.std.proofs.lemmas.Bool.Decides.{nat_tests}
 use Rattle.bt_json.specs.Grammar.{is_blank}
-use Rattle.bt_json.specs.Bytes.{kind_of}
+use Rattle.bt_json.specs.inner.Bytes.{kind_of}
 use Rattle.bt_json.specs.declared.kind.Kind.TheVariants.{Blank, ListOpens, ListCloses, ObjectOpens, ObjectCloses, Comma, Colon, Quote, Minus, Digit, LetterT, LetterF, LetterN}
 
 pub kind-ListOpens : (b : ℕ) → kind_of b ≡ ListOpens → b ≡ 91

@@ -5,7 +5,7 @@ use Rattle.std.proofs.lemmas.Bool.{lt-ltb, le-ltb, cases_lt}
 use Rattle.std.specs.Char.{IsScalar, encode_utf8}
 use Rattle.std.proofs.lemmas.Str.{IsUtf8-encode}
 use lib.Utf8.{encode, low_scalar}
-use Rattle.bt_json.specs.Reading.{tail, lead_of}
+use Rattle.bt_json.specs.inner.Reading.{tail, lead_of}
 
 -- a character of several bytes
 pub record IsWide (bytes : List ℕ) : Type 0 where

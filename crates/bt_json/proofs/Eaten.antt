@@ -11,14 +11,15 @@ use Rattle.bt_json.specs.Json.{Number, Json, null, boolean, number, text, list, 
 use Rattle.bt_json.specs.Stands.{items_of, members_of}
 use Rattle.bt_json.specs.Grammar.{Joined, Byte, Blanks, is_blank, IsNumber, Sign, Whole, IsText, IsValue, MoreItems, MoreMembers}
 use Rattle.bt_json.specs.Answers.{depth_of, items_depth, members_depth, HasDistinctNames, ItemsHaveDistinctNames, AreNew, is_number_byte, EndsBefore}
-use Rattle.bt_json.specs.Bytes.{kind_of}
-use Rattle.bt_json.specs.Reading.{State, Step, go, stop, deep, twice, step, Frame, in_list, in_object, as_value, as_name, due, opened_list, behind, opened_object, name_due, colon_due, in_text, between, in_word, deliver, opens_level, has_name, finish_text, step_due, step_opened_list, step_behind, step_opened_object, step_name_due, step_colon_due}
+use Rattle.bt_json.specs.inner.Bytes.{kind_of}
+use Rattle.bt_json.specs.inner.Reading.{State, Step, go, stop, deep, twice, step, Frame, in_list, in_object, as_value, as_name, due, opened_list, behind, opened_object, name_due, colon_due, in_text, between, in_word, deliver, opens_level, has_name, finish_text, step_due, step_opened_list, step_behind, step_opened_object, step_name_due, step_colon_due}
 use Rattle.bt_json.specs.declared.kind.Kind.{Kind}
 use Rattle.bt_json.specs.declared.kind.Kind.TheVariants.{Blank, ListOpens, ListCloses, ObjectOpens, ObjectCloses, Comma, Colon, Quote, Minus, Digit, LetterT, LetterF, LetterN, Other}
 use Rattle.bt_json.proofs.ByteKinds.{blank-kind, kind_of-list_opens, kind_of-list_closes, kind_of-object_opens, kind_of-object_closes, kind_of-comma, kind_of-colon, kind_of-quote, kind_of-minus, kind_of-t, kind_of-f, kind_of-n}
 use Rattle.bt_json.proofs.Eating.{after, walk, walk_cons, Eats, eats_byte, eats_both, eats_then, eats_same, eats_next, Anything, Skips, eats_blanks, eats_word}
 use Rattle.bt_json.proofs.EatenNumbers.{eats_number}
 use Rattle.bt_json.proofs.EatenTexts.{eats_text}
+use Rattle.bt_json.specs.declared.limits.TheConstants.{MOST_LEVELS}
 
 -- ---- blanks
 
@@ -235,15 +236,15 @@ before_members v (member n w more) t rest j = before_joined v 44 t rest refl j
 -- ---- what strict reading allows
 
 abbrev pub Allowed : Bool → ℕ → Json → Type 0
-Allowed true depth v = (depth + depth_of v ≤ 64) × HasDistinctNames v
+Allowed true depth v = (depth + depth_of v ≤ MOST_LEVELS) × HasDistinctNames v
 Allowed false depth v = Unit {0}
 
 abbrev pub ItemsAllowed : Bool → ℕ → Items → Type 0
-ItemsAllowed true depth all = (depth + items_depth all ≤ 64) × ItemsHaveDistinctNames all
+ItemsAllowed true depth all = (depth + items_depth all ≤ MOST_LEVELS) × ItemsHaveDistinctNames all
 ItemsAllowed false depth all = Unit {0}
 
 abbrev pub MembersAllowed : Bool → ℕ → List (List ℕ) → Members → Type 0
-MembersAllowed true depth names all = (depth + members_depth all ≤ 64) × AreNew names all
+MembersAllowed true depth names all = (depth + members_depth all ≤ MOST_LEVELS) × AreNew names all
 MembersAllowed false depth names all = Unit {0}
 
 first_allowed : (strict : Bool) (depth : ℕ) (v : Json) (rest : Items) → ItemsAllowed strict depth (item v rest) → Allowed strict depth v × ItemsAllowed strict depth rest
@@ -270,7 +271,7 @@ first_member true depth names n v rest a = (new_name names n a.1.0, (let h = a.0
 first_member false depth names n v rest a = (refl, tt, tt)
 
 pub opens_allowed : (strict : Bool) (k : List Frame) (at depth : ℕ) (inside : State) (v : Json) → Allowed strict (length k) v → depth_of v ≡ suc depth → opens_level strict k at inside ≡ go inside
-opens_allowed true k at depth inside v a e = let h = a.0 in let t : (length k == 64) ≡ false = grind (arith, nat_tests) in ap (λ b. cond b (stop (deep at)) (go inside)) t
+opens_allowed true k at depth inside v a e = let h = a.0 in let t : (length k == MOST_LEVELS) ≡ false = grind (arith, nat_tests) in ap (λ b. cond b (stop (deep at)) (go inside)) t
 opens_allowed false k at depth inside v a e = refl
 
 -- ---- values

@@ -7,16 +7,17 @@ use Rattle.std.proofs.lemmas.List.{append-nil}
 use Rattle.std.proofs.lemmas.Bool.{false_from_ne_true, eqb-true}
 use Rattle.std.proofs.lemmas.Bool.Decides.{nat_tests}
 use Rattle.bt_json.specs.Json.{Number, number}
-use Rattle.bt_json.specs.Grammar.{limit, Joined, Sign, Whole, Fraction, ExponentSign, Letter, Exponent, IsNumber}
+use Rattle.bt_json.specs.Grammar.{Joined, Sign, Whole, Fraction, ExponentSign, Letter, Exponent, IsNumber}
 use Rattle.bt_json.specs.Answers.{is_number_byte, EndsBefore}
-use Rattle.bt_json.specs.Bytes.{kind_of, mark_of}
-use Rattle.bt_json.specs.Reading.{State, go, step, Frame, deliver, due, in_number, Numeral, numeral, numeral_value, with_whole, with_fraction, with_power, first_phase, goes_on, step_due, step_number, step_in_number, step_past, may_end, step_over}
+use Rattle.bt_json.specs.inner.Bytes.{kind_of, mark_of}
+use Rattle.bt_json.specs.inner.Reading.{State, go, step, Frame, deliver, due, in_number, Numeral, numeral, numeral_value, with_whole, with_fraction, with_power, first_phase, goes_on, step_due, step_number, step_in_number, step_past, may_end, step_over}
 use Rattle.bt_json.specs.declared.kind.Kind.TheVariants.{Minus, Digit}
 use Rattle.bt_json.specs.declared.kind.Mark.{Mark}
 use Rattle.bt_json.specs.declared.kind.Mark.TheVariants.{Figure, Point, LetterE, PlusSign, MinusSign, Over}
 use Rattle.bt_json.specs.declared.kind.Phase.{Phase}
-use Rattle.bt_json.specs.declared.kind.Phase.TheVariants.{AfterMinus, AfterZero, InWhole, AfterPoint, InFraction, AfterLetter, AfterSign, InPower}
+use Rattle.bt_json.specs.declared.kind.Phase.TheVariants.{BeforeWhole, AfterZero, InWhole, AfterPoint, InFraction, AfterLetter, AfterSign, InPower}
 use Rattle.bt_json.proofs.Eating.{after, settle_number, walk, Eats, eats_byte, eats_then, eats_none, eats_same, eats_next, Anything}
+use Rattle.bt_json.specs.declared.limits.TheConstants.{MOST_EXPONENT}
 
 -- ---- what the bytes of a number are
 
@@ -94,10 +95,10 @@ fraction_is : (ds : List ℕ) (n : Numeral) → fold_digits with_fraction n ds �
 fraction_is [] n = ap₂ (λ x y. record n { digits = x; places = y }) (sym (append-nil n.digits)) (let e : n.places ≡ n.places + 0 = omega arith in e)
 fraction_is (d ∷ ds) n = fraction_is ds (with_fraction n d) ∙ ap₂ (λ x y. record n { digits = x; places = y }) (append_assoc n.digits (d ∷ []) ds) (let e : n.places + 1 + length ds ≡ n.places + suc (length ds) = omega arith in e)
 
-power_is : (ds : List ℕ) (n : Numeral) (m : ℕ) → n.power ≡ min m limit → fold_digits with_power n ds ≡ record n { power = min (number_from_digits_after 10 m ds) limit }
+power_is : (ds : List ℕ) (n : Numeral) (m : ℕ) → n.power ≡ min m MOST_EXPONENT → fold_digits with_power n ds ≡ record n { power = min (number_from_digits_after 10 m ds) MOST_EXPONENT }
 power_is [] n m e = ap (λ x. record n { power = x }) e
 power_is (d ∷ ds) n m e =
-    let step : min (n.power * 10 + d) limit ≡ min (m * 10 + d) limit = rw e (omega arith) in
+    let step : min (n.power * 10 + d) MOST_EXPONENT ≡ min (m * 10 + d) MOST_EXPONENT = rw e (omega arith) in
     power_is ds (with_power n d) (m * 10 + d) step
 
 -- ---- the parts of a number
@@ -133,12 +134,12 @@ eats_whole : (strict negative : Bool) (k : List Frame) (d : ℕ) (ds sign t : Li
 unfolding step
 eats_whole strict true k d ds sign t s w =
     let q = whole_digits d ds t w in
-    let whole : Eats strict (in_number AfterMinus (numeral true []) k) ((d + 48) ∷ map (λ x. x + 48) ds) (λ x. go (in_number (first_phase d) (numeral true (d ∷ ds)) k)) Anything =
-    eats_then strict (in_number AfterMinus (numeral true []) k) (in_number (first_phase d) (numeral true (d ∷ [])) k) ((d + 48) ∷ []) (map (λ x. x + 48) ds) _ Anything
-    (eats_mark strict AfterMinus (first_phase d) (numeral true []) (numeral true (d ∷ [])) k (d + 48) (Figure d) (mark-digit d q.0) refl) (eats_rest strict true k d ds t w) in
-    let minus : Eats strict (due k) (45 ∷ []) (λ x. go (in_number AfterMinus (numeral true []) k)) Anything =
-    eats_byte strict (due k) 45 (λ x. go (in_number AfterMinus (numeral true []) k)) (λ at. ap (step_due strict at k 45) kind-minus) in
-    let both = eats_then strict (due k) (in_number AfterMinus (numeral true []) k) (45 ∷ []) ((d + 48) ∷ map (λ x. x + 48) ds) (λ x. go (in_number (first_phase d) (numeral true (d ∷ ds)) k)) Anything minus whole in
+    let whole : Eats strict (in_number BeforeWhole (numeral true []) k) ((d + 48) ∷ map (λ x. x + 48) ds) (λ x. go (in_number (first_phase d) (numeral true (d ∷ ds)) k)) Anything =
+    eats_then strict (in_number BeforeWhole (numeral true []) k) (in_number (first_phase d) (numeral true (d ∷ [])) k) ((d + 48) ∷ []) (map (λ x. x + 48) ds) _ Anything
+    (eats_mark strict BeforeWhole (first_phase d) (numeral true []) (numeral true (d ∷ [])) k (d + 48) (Figure d) (mark-digit d q.0) refl) (eats_rest strict true k d ds t w) in
+    let minus : Eats strict (due k) (45 ∷ []) (λ x. go (in_number BeforeWhole (numeral true []) k)) Anything =
+    eats_byte strict (due k) 45 (λ x. go (in_number BeforeWhole (numeral true []) k)) (λ at. ap (step_due strict at k 45) kind-minus) in
+    let both = eats_then strict (due k) (in_number BeforeWhole (numeral true []) k) (45 ∷ []) ((d + 48) ∷ map (λ x. x + 48) ds) (λ x. go (in_number (first_phase d) (numeral true (d ∷ ds)) k)) Anything minus whole in
     eats_same strict (due k) _ (sign ++ t) _ Anything (sym (ap₂ (λ (x y : List ℕ). x ++ y) s q.1)) both
 eats_whole strict false k d ds sign t s w =
     let q = whole_digits d ds t w in
@@ -177,9 +178,9 @@ MayEnd p = may_end p ≡ true
 
 -- the digits of an exponent, behind its letter or its sign
 eats_power : (strict : Bool) (k : List Frame) (p : Phase) (n : Numeral) (d : ℕ) (ds : List ℕ) → n.power ≡ 0 → ((m : Numeral) (x : ℕ) → step_number p m (Figure x) ≡ goes_on InPower (with_power m x)) → AllByRecursion (λ x. x < 10) (d ∷ ds)
-    → Eats strict (in_number p n k) (map (λ x. x + 48) (d ∷ ds)) (λ x. go (in_number InPower (record n { power = min (number_from_digits 10 (d ∷ ds)) limit }) k)) Anything
+    → Eats strict (in_number p n k) (map (λ x. x + 48) (d ∷ ds)) (λ x. go (in_number InPower (record n { power = min (number_from_digits 10 (d ∷ ds)) MOST_EXPONENT }) k)) Anything
 eats_power strict k p n d ds zero_power goes all =
-    let z : n.power ≡ min 0 limit = zero_power in
+    let z : n.power ≡ min 0 MOST_EXPONENT = zero_power in
     subst (λ m. Eats strict (in_number p n k) (map (λ x. x + 48) (d ∷ ds)) (λ x. go (in_number InPower m k)) Anything) (power_is (d ∷ ds) n 0 z)
     (eats_first strict p InPower with_power k goes (λ m x. refl) d ds n all)
 
@@ -187,13 +188,13 @@ abbrev with_sign : Numeral → Bool → Numeral
 with_sign n b = record n { below = b }
 
 sign_steps : (strict : Bool) (k : List Frame) (n : Numeral) (below : Bool) (sign : List ℕ) (d : ℕ) (ds : List ℕ) → n.below ≡ false → n.power ≡ 0 → ExponentSign below sign → AllByRecursion (λ x. x < 10) (d ∷ ds)
-    → Eats strict (in_number AfterLetter n k) (sign ++ map (λ x. x + 48) (d ∷ ds)) (λ x. go (in_number InPower (record n { below = below; power = min (number_from_digits 10 (d ∷ ds)) limit }) k)) Anything
+    → Eats strict (in_number AfterLetter n k) (sign ++ map (λ x. x + 48) (d ∷ ds)) (λ x. go (in_number InPower (record n { below = below; power = min (number_from_digits 10 (d ∷ ds)) MOST_EXPONENT }) k)) Anything
 sign_steps strict k n true sign d ds plain zero_power s all =
     let minus : Eats strict (in_number AfterLetter n k) (45 ∷ []) (λ x. go (in_number AfterSign (with_sign n true) k)) Anything = eats_mark strict AfterLetter AfterSign n (with_sign n true) k 45 MinusSign mark-minus refl in
     let both = eats_then strict (in_number AfterLetter n k) (in_number AfterSign (with_sign n true) k) (45 ∷ []) (map (λ x. x + 48) (d ∷ ds)) _ Anything minus (eats_power strict k AfterSign (with_sign n true) d ds zero_power (λ m x. refl) all) in
     eats_same strict (in_number AfterLetter n k) _ _ _ Anything (ap (λ (x : List ℕ). x ++ map (λ x. x + 48) (d ∷ ds)) (sym s)) both
 sign_steps strict k n false sign d ds plain zero_power (inl none) all =
-    let e : record n { power = min (number_from_digits 10 (d ∷ ds)) limit } ≡ record n { below = false; power = min (number_from_digits 10 (d ∷ ds)) limit } = ap (λ b. record n { below = b; power = min (number_from_digits 10 (d ∷ ds)) limit }) plain in
+    let e : record n { power = min (number_from_digits 10 (d ∷ ds)) MOST_EXPONENT } ≡ record n { below = false; power = min (number_from_digits 10 (d ∷ ds)) MOST_EXPONENT } = ap (λ b. record n { below = b; power = min (number_from_digits 10 (d ∷ ds)) MOST_EXPONENT }) plain in
     eats_same strict (in_number AfterLetter n k) _ _ _ Anything (ap (λ (x : List ℕ). x ++ map (λ x. x + 48) (d ∷ ds)) (sym none))
     (subst (λ m. Eats strict (in_number AfterLetter n k) (map (λ x. x + 48) (d ∷ ds)) (λ x. go (in_number InPower m k)) Anything) e (eats_power strict k AfterLetter n d ds zero_power (λ m x. refl) all))
 sign_steps strict k n false sign d ds plain zero_power (inr s) all =
@@ -206,12 +207,12 @@ eats_letter strict k p n t a (inl e) = eats_same strict (in_number p n k) (101 �
 eats_letter strict k p n t a (inr e) = eats_same strict (in_number p n k) (69 ∷ []) t _ Anything (sym e) (eats_mark strict p AfterLetter n n k 69 LetterE mark-E (a.letter n))
 
 eats_exponent : (strict : Bool) (k : List Frame) (p : Phase) (n : Numeral) (below : Bool) (ds t : List ℕ) → n.below ≡ false → n.power ≡ 0 → AfterFraction p → Exponent below ds t
-    → Onward strict (in_number p n k) t (record n { below = below; power = min (number_from_digits 10 ds) limit }) k MayEnd
+    → Onward strict (in_number p n k) t (record n { below = below; power = min (number_from_digits 10 ds) MOST_EXPONENT }) k MayEnd
 eats_exponent strict k p n below [] t plain zero_power a x = record {
   phase = p;
   fits = a.may;
   eaten =
-      let e : n ≡ record n { below = below; power = min (number_from_digits 10 []) limit } = ap₂ (λ b q. record n { below = b; power = q }) (plain ∙ sym x.0) zero_power in
+      let e : n ≡ record n { below = below; power = min (number_from_digits 10 []) MOST_EXPONENT } = ap₂ (λ b q. record n { below = b; power = q }) (plain ∙ sym x.0) zero_power in
       eats_same strict (in_number p n k) [] t _ Anything (sym x.1) (subst (λ m. Eats strict (in_number p n k) [] (λ y. go (in_number p m k)) Anything) e (eats_none strict (in_number p n k)));
 }
 eats_exponent strict k p n below (d ∷ ds) t plain zero_power a x = record {
@@ -246,7 +247,7 @@ number_ends_before strict p n m k may = record { eats = λ at rest h. (let e : a
 pub eats_number : (strict : Bool) (k : List Frame) (m : Number) (t : List ℕ) → IsNumber m t → Eats strict (due k) t (deliver (number m) k) (EndsBefore (number m))
 eats_number strict k m t is = by_whole is.whole is.spelled refl
   where
-    value_is : (n : Numeral) → n ≡ record { negative = m.negative; digits = is.whole ++ is.fraction; places = length is.fraction; below = is.below; power = min (number_from_digits 10 is.power) limit } → numeral_value n ≡ m
+    value_is : (n : Numeral) → n ≡ record { negative = m.negative; digits = is.whole ++ is.fraction; places = length is.fraction; below = is.below; power = min (number_from_digits 10 is.power) MOST_EXPONENT } → numeral_value n ≡ m
     value_is n e = ap numeral_value e ∙ ap₂ (λ x y. record { negative = m.negative; digits = x; exponent = y }) (sym is.digits) (sym is.exponent)
 
     by_whole : (ds : List ℕ) → Joined (Sign m.negative) (Joined (Whole ds) (Joined (Fraction is.fraction) (Exponent is.below is.power))) t → ds ≡ is.whole → Eats strict (due k) t (deliver (number m) k) (EndsBefore (number m))
@@ -256,8 +257,8 @@ eats_number strict k m t is = by_whole is.whole is.spelled refl
         let f = eats_fraction strict k (first_phase d) (numeral m.negative (d ∷ ds)) is.fraction s.second.second.front (after_first (d == 0)) s.second.second.first in
         let n : Numeral = record { negative = m.negative; digits = (d ∷ ds) ++ is.fraction; places = 0 + length is.fraction; below = false; power = 0 } in
         let x = eats_exponent strict k f.phase n is.below is.power s.second.second.back refl refl f.fits s.second.second.second in
-        let last : Numeral = record n { below = is.below; power = min (number_from_digits 10 is.power) limit } in
-        let value : numeral_value last ≡ m = value_is last (ap₂ (λ y z. record { negative = m.negative; digits = y ++ is.fraction; places = z; below = is.below; power = min (number_from_digits 10 is.power) limit }) e (let q : 0 + length is.fraction ≡ length is.fraction = omega arith in q)) in
+        let last : Numeral = record n { below = is.below; power = min (number_from_digits 10 is.power) MOST_EXPONENT } in
+        let value : numeral_value last ≡ m = value_is last (ap₂ (λ y z. record { negative = m.negative; digits = y ++ is.fraction; places = z; below = is.below; power = min (number_from_digits 10 is.power) MOST_EXPONENT }) e (let q : 0 + length is.fraction ≡ length is.fraction = omega arith in q)) in
         let wf = eats_then strict (due k) (in_number (first_phase d) (numeral m.negative (d ∷ ds)) k) (s.front ++ s.second.front) s.second.second.front _ Anything w f.eaten in
         let wfx = eats_then strict (due k) (in_number f.phase n k) ((s.front ++ s.second.front) ++ s.second.second.front) s.second.second.back _ Anything wf x.eaten in
         let all = eats_then strict (due k) (in_number x.phase last k) (((s.front ++ s.second.front) ++ s.second.second.front) ++ s.second.second.back) [] (deliver (number (numeral_value last)) k) (EndsBefore (number m)) wfx (number_ends_before strict x.phase last m k x.fits) in

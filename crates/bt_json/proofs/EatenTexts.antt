@@ -9,8 +9,8 @@ use Rattle.std.proofs.lemmas.Bool.Decides.{nat_tests}
 use Rattle.std.proofs.lemmas.Str.{encode_ascii}
 use lib.Utf8.{scalar_cases}
 use Rattle.bt_json.specs.Grammar.{Joined, Byte, Piece, plain, unit, IsPiece, IsHexEscape, Pieces, text_of, alone, short_escape}
-use Rattle.bt_json.specs.Reading.{State, go, step, Frame, Role, Place, between, escape, hex, tail, reads, no_text, in_text, flushed, with_unit, lead_of, behind_tail, step_lead, step_short, step_text, step_in_text, finish_text}
-use Rattle.bt_json.specs.Running.{is_plain}
+use Rattle.bt_json.specs.inner.Reading.{State, go, step, Frame, Role, Place, between, escape, hex, tail, reads, no_text, in_text, flushed, with_unit, lead_of, behind_tail, step_lead, step_short, step_text, step_in_text, finish_text}
+use Rattle.bt_json.specs.inner.Running.{is_plain}
 use Rattle.bt_json.proofs.Characters.{encode_two, encode_three, encode_four}
 use Rattle.bt_json.proofs.Texts.{step_plain, step_wide}
 use Rattle.bt_json.proofs.Eating.{Eats, eats_byte, eats_then, eats_none, eats_same, Anything}

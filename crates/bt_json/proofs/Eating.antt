@@ -3,7 +3,7 @@ use Rattle.std.proofs.Common.{◌≡◌, ℕ, suc, ◌+◌, Bool, true, false, c
 use Rattle.std.proofs.lemmas.List.{length-append}
 use Rattle.bt_json.specs.Json.{Json, number}
 use Rattle.bt_json.specs.Grammar.{is_blank, Blanks, Texts}
-use Rattle.bt_json.specs.Reading.{State, Step, go, stop, Stop, bad, step, after_step, run, finish, finish_number, may_end, Numeral, numeral_value, Frame, due, opened_list, behind, opened_object, name_due, colon_due, in_text, in_number, deliver, in_word}
+use Rattle.bt_json.specs.inner.Reading.{State, Step, go, stop, Stop, bad, step, after_step, run, finish, finish_number, may_end, Numeral, numeral_value, Frame, due, opened_list, behind, opened_object, name_due, colon_due, in_text, in_number, deliver, in_word}
 use Rattle.bt_json.specs.declared.kind.Phase.{Phase}
 
 -- a number that may end is delivered where the bytes end

@@ -5,13 +5,11 @@ use Rattle.std.proofs.lemmas.List.{append-nil, length-append, take-append-drop, 
 use Rattle.bt_json.specs.Json.{Json}
 use Rattle.bt_json.specs.Grammar.{IsText}
 use Rattle.bt_json.specs.Places.{Frame, in_list, in_object, Due, NameDue}
-use Rattle.bt_json.specs.Stands.{json_of}
-use Rattle.bt_json.specs.Answers.{IsFront, HasValue, IsBad, IsDeep, IsTwice, FoundAt, IsFirst, IsRefusedAs}
-use Rattle.bt_json.specs.Bytes.{kind_of}
-use Rattle.bt_json.specs.Reading.{State, Step, go, stop, Stop, found, bad, deep, twice, step, run, after_step, as_name, due, opened_list, opened_object, name_due, colon_due, opens_level, has_name, finish_text, step_due, step_opened_list, reading}
-use Rattle.bt_json.specs.Running.{Faults}
+use Rattle.bt_json.specs.Answers.{IsFront, HasValue, IsBad, IsDeep, IsTwice, FoundAt, IsFirst}
+use Rattle.bt_json.specs.inner.Bytes.{kind_of}
+use Rattle.bt_json.specs.inner.Reading.{State, Step, go, stop, Stop, found, bad, deep, twice, step, run, after_step, as_name, due, opened_list, opened_object, name_due, colon_due, opens_level, has_name, finish_text, step_due, step_opened_list, reading}
+use Rattle.bt_json.specs.inner.Running.{Faults}
 use Rattle.bt_json.specs.declared.kind.Kind.TheVariants.{ListOpens, ObjectOpens}
-use Rattle.bt_json.specs.declared.tree.Tree.{Tree}
 use Rattle.bt_json.specs.declared.fault.JsonFault.{JsonFault}
 use Rattle.bt_json.specs.declared.fault.JsonFault.TheVariants as faults
 use Rattle.bt_json.proofs.ByteKinds.{kind_of-list_opens, kind_of-object_opens}
@@ -22,8 +20,9 @@ use Rattle.bt_json.proofs.Sound.{Reached, Good, sound_step}
 use Rattle.bt_json.proofs.Kept.{named_there}
 use Rattle.bt_json.proofs.Whole.{Right, reading_right, take_front, front_is, regroup, finds}
 use Rattle.bt_json.proofs.Live.{has_value}
-use Rattle.bt_json.proofs.Limits.{Alike, step_alike, BadCut, bad_cut, StopsBy, Awaits, Before, agree_at_front}
+use Rattle.bt_json.proofs.Lenient.{Alike, step_alike, BadCut, bad_cut, StopsBy, Awaits, Before, agree_at_front}
 use Rattle.bt_json.proofs.Dues.{due_state, due_eaten, name_eaten}
+use Rattle.bt_json.specs.declared.limits.TheConstants.{MOST_LEVELS}
 
 -- ---- a bad byte
 
@@ -136,23 +135,23 @@ awaits_due (in_list [] ∷ k) = tt
 awaits_due (in_list (v ∷ vs) ∷ k) = tt
 awaits_due (in_object names vs ∷ k) = tt
 
-too_deep : (k : List Frame) (at : ℕ) (inside : State) → length k ≡ 64 → opens_level true k at inside ≡ stop (deep at)
-too_deep k at inside e = ap (λ b. cond b (stop (deep at)) (go inside)) (eq-eqb (length k) 64 e)
+too_deep : (k : List Frame) (at : ℕ) (inside : State) → length k ≡ MOST_LEVELS → opens_level true k at inside ≡ stop (deep at)
+too_deep k at inside e = ap (λ b. cond b (stop (deep at)) (go inside)) (eq-eqb (length k) MOST_LEVELS e)
 
 abbrev IsBracket : ℕ → Type 0
 IsBracket b = (kind_of b ≡ ListOpens) ⊎ (kind_of b ≡ ObjectOpens)
 
-due_deep : (k : List Frame) (at b : ℕ) → length k ≡ 64 → IsBracket b → step true at b (due k) ≡ stop (deep at)
+due_deep : (k : List Frame) (at b : ℕ) → length k ≡ MOST_LEVELS → IsBracket b → step true at b (due k) ≡ stop (deep at)
 unfolding step
 due_deep k at b e (inl q) = ap (step_due true at k b) q ∙ too_deep k at (opened_list k) e
 due_deep k at b e (inr q) = ap (step_due true at k b) q ∙ too_deep k at (opened_object k) e
 
-list_deep : (k : List Frame) (at b : ℕ) → length (in_list [] ∷ k) ≡ 64 → IsBracket b → step true at b (opened_list k) ≡ stop (deep at)
+list_deep : (k : List Frame) (at b : ℕ) → length (in_list [] ∷ k) ≡ MOST_LEVELS → IsBracket b → step true at b (opened_list k) ≡ stop (deep at)
 unfolding step
 list_deep k at b e (inl q) = ap (step_opened_list true at k b) q ∙ too_deep (in_list [] ∷ k) at (opened_list (in_list [] ∷ k)) e
 list_deep k at b e (inr q) = ap (step_opened_list true at k b) q ∙ too_deep (in_list [] ∷ k) at (opened_object (in_list [] ∷ k)) e
 
-state_deep : (k : List Frame) (at b : ℕ) → length k ≡ 64 → IsBracket b → step true at b (due_state k) ≡ stop (deep at)
+state_deep : (k : List Frame) (at b : ℕ) → length k ≡ MOST_LEVELS → IsBracket b → step true at b (due_state k) ≡ stop (deep at)
 state_deep [] at b e q = due_deep [] at b e q
 state_deep (in_list [] ∷ k) at b e q = list_deep k at b e q
 state_deep (in_list (v ∷ vs) ∷ k) at b e q = due_deep (in_list (v ∷ vs) ∷ k) at b e q
@@ -166,7 +165,7 @@ run_step at b s r e h = ap (λ x. after_step x (λ t. run true (at + 1) t r)) h
 before_stops : (e : Stop) (n place : ℕ) (f : JsonFault) → n ≤ place → Before e n → Stopped e f place
 before_stops e n place f le b = let l = b.early in record { fault = b.fault; at = b.at; stops = b.stops; early = omega arith; same = λ c. absurd (omega arith) }
 
-bracket_stops : (p : List ℕ) (b : ℕ) (r : List ℕ) (k : List Frame) → length k ≡ 64 → Due k p → IsBracket b → Stopped (reading (p ++ (b ∷ r))) (faults.Deep (length p)) (length p)
+bracket_stops : (p : List ℕ) (b : ℕ) (r : List ℕ) (k : List Frame) → length k ≡ MOST_LEVELS → Due k p → IsBracket b → Stopped (reading (p ++ (b ∷ r))) (faults.Deep (length p)) (length p)
 bracket_stops p b r k levels h q = by (agree_at_front p (due_state k) (b ∷ r) (awaits_due k) walked)
   where
     walked : walk false 0 (due []) p ≡ go (due_state k)
@@ -271,12 +270,6 @@ stops_first bytes f place s = record {
       omega arith;
 }
 
-as_fault : (e : Stop) (f : JsonFault) (place : ℕ) → StopsBy e f place → Faults f e
-as_fault (found v n) f place s = absurd s
-as_fault (bad n) f place s = subst (λ g. Faults g (bad n)) (sym s.0) refl
-as_fault (deep n) f place s = subst (λ g. Faults g (deep n)) (sym s.0) refl
-as_fault (twice from n) f place s = subst (λ g. Faults g (twice from n)) (sym s.0) (n, refl)
-
 pub first_stops : (bytes : List ℕ) (f : JsonFault) → IsFirst bytes f → (place : ℕ) × StopsBy (reading bytes) f place
 first_stops bytes f i =
     let k = fault_stops bytes f i.place i.found in
@@ -285,41 +278,3 @@ first_stops bytes f i =
     let late = i.first k.fault k.at there in
     let same : k.fault ≡ f = k.same (omega arith) in
     (k.at, subst (λ g. StopsBy (reading bytes) g k.at) same k.stops)
-
--- the first fault is what reading stops by
-pub first_is_read : (bytes : List ℕ) (f : JsonFault) → IsFirst bytes f → Faults f (reading bytes)
-first_is_read bytes f i = let s = first_stops bytes f i in as_fault (reading bytes) f s.0 s.1
-
--- ---- answers
-
-fault_place : (f : JsonFault) (e : Stop) → f ≢ faults.Memory → Faults f e → (place : ℕ) × StopsBy e f place
-fault_place (faults.Json n) e m h = (n, subst (λ x. StopsBy x (faults.Json n) n) (sym h) (refl, refl))
-fault_place (faults.Deep n) e m h = (n, subst (λ x. StopsBy x (faults.Deep n) n) (sym h) (refl, refl))
-fault_place (faults.DuplicateKey n) e m h = (h.0, subst (λ x. StopsBy x (faults.DuplicateKey n) h.0) (sym h.1) (refl, refl))
-fault_place faults.Memory e m h = absurd (m refl)
-
-pub refused_first : (bytes : List ℕ) (r : Result (Tree × ℕ) JsonFault) → IfErr r (λ f. Faults f (reading bytes)) → IfErr r (λ f. f ≢ faults.Memory → IsFirst bytes f)
-refused_first bytes (Ok x) h = tt
-refused_first bytes (Err f) h = λ m. let s = fault_place f (reading bytes) m h in stops_first bytes f s.0 s.1
-
-one_fault : (e : Stop) (f g : JsonFault) (a : ℕ) → StopsBy e f a → Faults g e → (g ≡ f) ⊎ (g ≡ faults.Memory)
-one_fault (found v n) f g a s h = absurd s
-one_fault (bad n) f (faults.Json k) a s h = inl (let same : n ≡ k = cc in ap faults.Json (sym same) ∙ sym s.0)
-one_fault (bad n) f (faults.Deep k) a s h = absurd cc
-one_fault (bad n) f (faults.DuplicateKey k) a s h = absurd (let q = h.1 in cc)
-one_fault (bad n) f faults.Memory a s h = inr refl
-one_fault (deep n) f (faults.Json k) a s h = absurd cc
-one_fault (deep n) f (faults.Deep k) a s h = inl (let same : n ≡ k = cc in ap faults.Deep (sym same) ∙ sym s.0)
-one_fault (deep n) f (faults.DuplicateKey k) a s h = absurd (let q = h.1 in cc)
-one_fault (deep n) f faults.Memory a s h = inr refl
-one_fault (twice from n) f (faults.Json k) a s h = absurd cc
-one_fault (twice from n) f (faults.Deep k) a s h = absurd cc
-one_fault (twice from n) f (faults.DuplicateKey k) a s h = inl (let q = h.1 in let same : from ≡ k = cc in ap faults.DuplicateKey (sym same) ∙ sym s.0)
-one_fault (twice from n) f faults.Memory a s h = inr refl
-
-none_found : (e : Stop) (f : JsonFault) (a : ℕ) (v : Json) (n : ℕ) → StopsBy e f a → e ≡ found v n → ⊥
-none_found e f a v n s h = subst (λ x. StopsBy x f a) h s
-
-pub refused_as : (bytes : List ℕ) (r : Result (Tree × ℕ) JsonFault) → IfOk r (λ x. reading bytes ≡ found (json_of x.0) x.1) → IfErr r (λ f. Faults f (reading bytes)) → (f : JsonFault) → IsFirst bytes f → IsRefusedAs f r
-refused_as bytes (Ok x) ok err f i = let s = first_stops bytes f i in none_found (reading bytes) f s.0 (json_of x.0) x.1 s.1 ok
-refused_as bytes (Err g) ok err f i = let s = first_stops bytes f i in one_fault (reading bytes) f g s.0 s.1 err

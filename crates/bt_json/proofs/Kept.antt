@@ -9,11 +9,12 @@ use Rattle.bt_json.specs.Json.{Json, number, text, list, object, no_items, no_me
 use Rattle.bt_json.specs.Stands.{items_of, members_of}
 use Rattle.bt_json.specs.Places.{Frame, in_list, in_object}
 use Rattle.bt_json.specs.Answers.{depth_of, HasDistinctNames}
-use Rattle.bt_json.specs.Bytes.{kind_of, mark_of}
-use Rattle.bt_json.specs.Reading.{State, Step, go, stop, found, bad, deep, twice, step, Role, as_value, as_name, Place, InText, reads, closes, no_text, numeral_value, InNumber, goes_on, ends, wrong, due, opened_list, behind, opened_object, name_due, colon_due, in_text, in_number, in_word, deliver, opens_level, has_name, step_due, step_opened_list, step_behind, step_opened_object, step_name_due, step_colon_due, step_in_text, step_in_number, step_past, step_in_word, step_text, step_number}
+use Rattle.bt_json.specs.inner.Bytes.{kind_of, mark_of}
+use Rattle.bt_json.specs.inner.Reading.{State, Step, go, stop, found, bad, deep, twice, step, Role, as_value, as_name, Place, InText, reads, closes, no_text, numeral_value, InNumber, goes_on, ends, wrong, due, opened_list, behind, opened_object, name_due, colon_due, in_text, in_number, in_word, deliver, opens_level, has_name, step_due, step_opened_list, step_behind, step_opened_object, step_name_due, step_colon_due, step_in_text, step_in_number, step_past, step_in_word, step_text, step_number}
 use Rattle.bt_json.specs.declared.kind.Kind.{Kind}
 use Rattle.bt_json.specs.declared.kind.Kind.TheVariants.{Blank, ListOpens, ListCloses, ObjectOpens, ObjectCloses, Comma, Colon, Quote, Minus, Digit, LetterT, LetterF, LetterN, Other}
 use Rattle.bt_json.proofs.Eaten.{Allowed, ItemsAllowed, MembersAllowed}
+use Rattle.bt_json.specs.declared.limits.TheConstants.{MOST_LEVELS}
 
 -- ---- names
 
@@ -50,11 +51,11 @@ all_push : (depth : ℕ) (vs : List Json) (v : Json) → AllAllowed depth vs →
 all_push depth [] v h a = (a, tt)
 all_push depth (w ∷ vs) v h a = (h.0, all_push depth vs v h.1 a)
 
-items_allowed : (depth : ℕ) (vs : List Json) → depth ≤ 64 → AllAllowed depth vs → ItemsAllowed true depth (items_of vs)
+items_allowed : (depth : ℕ) (vs : List Json) → depth ≤ MOST_LEVELS → AllAllowed depth vs → ItemsAllowed true depth (items_of vs)
 items_allowed depth [] le h = (omega arith, tt)
 items_allowed depth (v ∷ vs) le h = let rest = items_allowed depth vs le h.1 in let a = h.0.0 in let b = rest.0 in (omega arith, (h.0.1, rest.1))
 
-members_allowed : (depth : ℕ) (before names : List (List ℕ)) (vs : List Json) → depth ≤ 64 → NewNames before names → AllAllowed depth vs → MembersAllowed true depth before (members_of names vs)
+members_allowed : (depth : ℕ) (before names : List (List ℕ)) (vs : List Json) → depth ≤ MOST_LEVELS → NewNames before names → AllAllowed depth vs → MembersAllowed true depth before (members_of names vs)
 members_allowed depth before [] vs le n h = (omega arith, tt)
 members_allowed depth before (m ∷ names) [] le n h = (omega arith, tt)
 members_allowed depth before (m ∷ names) (v ∷ vs) le n h = let rest = members_allowed depth (before ++ m ∷ []) names vs le n.1 h.1 in let a = h.0.0 in let b = rest.0 in (omega arith, (n.0, h.0.1, rest.1))
@@ -68,19 +69,19 @@ FramesFit [] = Unit {0}
 FramesFit (f ∷ k) = FrameFits (length (f ∷ k)) f × FramesFit k
 
 abbrev pub Fits : List Frame → Type 0
-Fits k = (length k ≤ 64) × FramesFit k
+Fits k = (length k ≤ MOST_LEVELS) × FramesFit k
 
 abbrev pub ObjectFits : List (List ℕ) → List Json → List Frame → Type 0
-ObjectFits names vs k = Fits k × (length k < 64) × NewNames [] names × AllAllowed (suc (length k)) vs
+ObjectFits names vs k = Fits k × (length k < MOST_LEVELS) × NewNames [] names × AllAllowed (suc (length k)) vs
 
 abbrev pub IsLeaf : Json → Type 0
 IsLeaf v = (depth_of v ≡ 0) × HasDistinctNames v
 
 abbrev pub Kept : State → Type 0
 Kept (due k) = Fits k
-Kept (opened_list k) = Fits k × (length k < 64)
+Kept (opened_list k) = Fits k × (length k < MOST_LEVELS)
 Kept (behind v f k) = Allowed true (length (f ∷ k)) v × Fits (f ∷ k)
-Kept (opened_object k) = Fits k × (length k < 64)
+Kept (opened_object k) = Fits k × (length k < MOST_LEVELS)
 Kept (name_due names vs k) = ObjectFits names vs k
 Kept (colon_due names vs n k) = ObjectFits names vs k × (has_name names n ≡ false)
 Kept (in_text out high place as_value k) = Fits k
@@ -106,16 +107,16 @@ delivered v (f ∷ k) at h a = (a, h)
 leaf_allowed : (v : Json) (k : List Frame) → Fits k → IsLeaf v → Allowed true (length k) v
 leaf_allowed v k h l = let a = h.0 in let b = l.0 in (omega arith, l.1)
 
-list_allowed : (k : List Frame) (vs : List Json) → length k < 64 → AllAllowed (suc (length k)) vs → Allowed true (length k) (list (items_of vs))
+list_allowed : (k : List Frame) (vs : List Json) → length k < MOST_LEVELS → AllAllowed (suc (length k)) vs → Allowed true (length k) (list (items_of vs))
 list_allowed k vs lt h = let a = items_allowed (suc (length k)) vs (omega arith) h in let b = a.0 in (omega arith, a.1)
 
-object_allowed : (k : List Frame) (names : List (List ℕ)) (vs : List Json) → length k < 64 → NewNames [] names → AllAllowed (suc (length k)) vs → Allowed true (length k) (object (members_of names vs))
+object_allowed : (k : List Frame) (names : List (List ℕ)) (vs : List Json) → length k < MOST_LEVELS → NewNames [] names → AllAllowed (suc (length k)) vs → Allowed true (length k) (object (members_of names vs))
 object_allowed k names vs lt n h = let a = members_allowed (suc (length k)) [] names vs (omega arith) n h in let b = a.0 in (omega arith, a.1)
 
 -- ---- steps
 
-opens : (k : List Frame) (at : ℕ) (inside : State) → Fits k → (length k < 64 → Kept inside) → StepKept (opens_level true k at inside)
-opens k at inside h f = chosen (length k == 64) (stop (deep at)) (go inside) (λ e. tt) (λ e. f (let le = h.0 in grind (arith, nat_tests)))
+opens : (k : List Frame) (at : ℕ) (inside : State) → Fits k → (length k < MOST_LEVELS → Kept inside) → StepKept (opens_level true k at inside)
+opens k at inside h f = chosen (length k == MOST_LEVELS) (stop (deep at)) (go inside) (λ e. tt) (λ e. f (let le = h.0 in grind (arith, nat_tests)))
 
 due_kept : (at : ℕ) (k : List Frame) (b : ℕ) (kind : Kind) → Fits k → StepKept (step_due true at k b kind)
 due_kept at k b Blank h = h
@@ -133,10 +134,10 @@ due_kept at k b Comma h = tt
 due_kept at k b Colon h = tt
 due_kept at k b Other h = tt
 
-in_new_list : (k : List Frame) → Fits k → length k < 64 → Fits (in_list [] ∷ k)
+in_new_list : (k : List Frame) → Fits k → length k < MOST_LEVELS → Fits (in_list [] ∷ k)
 in_new_list k h lt = (omega arith, (tt, h.1))
 
-opened_list_kept : (at : ℕ) (k : List Frame) (b : ℕ) (kind : Kind) → Fits k → length k < 64 → StepKept (step_opened_list true at k b kind)
+opened_list_kept : (at : ℕ) (k : List Frame) (b : ℕ) (kind : Kind) → Fits k → length k < MOST_LEVELS → StepKept (step_opened_list true at k b kind)
 opened_list_kept at k b Blank h lt = (h, lt)
 opened_list_kept at k b ListCloses h lt = delivered (list no_items) k (at + 1) h (list_allowed k [] lt tt)
 opened_list_kept at k b ListOpens h lt = due_kept at (in_list [] ∷ k) b ListOpens (in_new_list k h lt)
@@ -183,7 +184,7 @@ behind_kept at v (in_object names vs) k LetterF a h = tt
 behind_kept at v (in_object names vs) k LetterN a h = tt
 behind_kept at v (in_object names vs) k Other a h = tt
 
-opened_object_kept : (at : ℕ) (k : List Frame) (kind : Kind) → Fits k → length k < 64 → StepKept (step_opened_object at k kind)
+opened_object_kept : (at : ℕ) (k : List Frame) (kind : Kind) → Fits k → length k < MOST_LEVELS → StepKept (step_opened_object at k kind)
 opened_object_kept at k Blank h lt = (h, lt)
 opened_object_kept at k ObjectCloses h lt = delivered (object no_members) k (at + 1) h (object_allowed k [] [] lt tt tt)
 opened_object_kept at k Quote h lt = (h, lt, tt, tt)

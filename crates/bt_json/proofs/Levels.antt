@@ -8,14 +8,15 @@ use Rattle.std.proofs.lemmas.Bool.Decides.{nat_tests}
 use Rattle.bt_json.specs.Json.{Json, list, object}
 use Rattle.bt_json.specs.Stands.{items_of, members_of}
 use Rattle.bt_json.specs.Grammar.{is_blank}
-use Rattle.bt_json.specs.Bytes.{kind_of}
-use Rattle.bt_json.specs.Reading.{State, go, stop, Stop, bad, deep, twice, step, Frame, in_list, in_object, due, opened_list, behind, opened_object, name_due, colon_due, in_text, between, as_name, finish_text, deliver, opens_level, has_name, step_due, step_opened_list, step_behind, step_opened_object, step_name_due, step_colon_due}
-use Rattle.bt_json.specs.Running.{SkipsBlanks, rest_of, rest_after, Faults}
+use Rattle.bt_json.specs.inner.Bytes.{kind_of}
+use Rattle.bt_json.specs.inner.Reading.{State, go, stop, Stop, bad, deep, twice, step, Frame, in_list, in_object, due, opened_list, behind, opened_object, name_due, colon_due, in_text, between, as_name, finish_text, deliver, opens_level, has_name, step_due, step_opened_list, step_behind, step_opened_object, step_name_due, step_colon_due}
+use Rattle.bt_json.specs.inner.Running.{SkipsBlanks, rest_of, rest_after, Faults}
 use Rattle.bt_json.specs.declared.fault.JsonFault.{JsonFault}
 use Rattle.bt_json.specs.declared.kind.Kind.{Kind}
 use Rattle.bt_json.specs.declared.kind.Kind.TheVariants.{Blank, ListOpens, ListCloses, ObjectOpens, ObjectCloses, Comma, Colon, Quote, Minus, Digit, LetterT, LetterF, LetterN, Other}
 use Rattle.bt_json.proofs.ByteKinds.{blank-kind, kind-Blank, kind-ListCloses, kind-ObjectCloses, kind-Comma, kind-Colon, kind-Quote, kind_of-list_closes, kind_of-object_closes, kind_of-comma, kind_of-colon, kind_of-quote}
 use Rattle.bt_json.proofs.Running.{rest_more, rest_end}
+use Rattle.bt_json.specs.declared.limits.TheConstants.{MOST_LEVELS}
 
 -- ---- blanks
 
@@ -129,11 +130,11 @@ pub due_at : (bytes : List ℕ) (at : ℕ) (k : List Frame) (kind : Kind) → at
 unfolding step
 due_at bytes at k kind lt e = rest_more bytes at (due k) lt ∙ ap (λ x. rest_after bytes (at + 1) (step_due true at k (get_or bytes at 0) x)) e
 
-pub opens_inside : (k : List Frame) (at : ℕ) (inside : State) → length k < 64 → opens_level true k at inside ≡ go inside
-opens_inside k at inside lt = let t : (length k == 64) ≡ false = grind (arith, nat_tests) in ap (λ b. cond b (stop (deep at)) (go inside)) t
+pub opens_inside : (k : List Frame) (at : ℕ) (inside : State) → length k < MOST_LEVELS → opens_level true k at inside ≡ go inside
+opens_inside k at inside lt = let t : (length k == MOST_LEVELS) ≡ false = grind (arith, nat_tests) in ap (λ b. cond b (stop (deep at)) (go inside)) t
 
-pub opens_deep : (k : List Frame) (at : ℕ) (inside : State) → length k ≡ 64 → opens_level true k at inside ≡ stop (deep at)
-opens_deep k at inside e = let t : (length k == 64) ≡ true = eq-eqb _ _ e in ap (λ b. cond b (stop (deep at)) (go inside)) t
+pub opens_deep : (k : List Frame) (at : ℕ) (inside : State) → length k ≡ MOST_LEVELS → opens_level true k at inside ≡ stop (deep at)
+opens_deep k at inside e = let t : (length k == MOST_LEVELS) ≡ true = eq-eqb _ _ e in ap (λ b. cond b (stop (deep at)) (go inside)) t
 
 pub record OpensNone (kind : Kind) : Type 0 where
   pub blank : kind ≢ Blank

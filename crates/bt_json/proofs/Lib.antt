@@ -18,8 +18,9 @@ pub mod Sound
 pub mod Kept
 pub mod Whole
 pub mod Live
-pub mod Limits
+pub mod Lenient
 pub mod Dues
 pub mod Events
-pub mod Results
+pub mod OneRead
 pub mod NameLemmas
+pub mod FrameSteps

@@ -6,12 +6,12 @@ use Rattle.bt_json.specs.Json.{Json, number, text, list, object, no_items, no_me
 use Rattle.bt_json.specs.Stands.{items_of, members_of}
 use Rattle.bt_json.specs.Grammar.{IsText}
 use Rattle.bt_json.specs.Answers.{HasValue}
-use Rattle.bt_json.specs.Bytes.{kind_of}
-use Rattle.bt_json.specs.Reading.{State, go, stop, found, step, run, Frame, in_list, in_object, Role, as_value, as_name, Place, between, escape, hex, tail, no_text, Numeral, numeral_value, with_whole, with_fraction, with_power, goes_on, may_end, due, opened_list, behind, opened_object, name_due, colon_due, in_text, in_number, in_word, deliver, flushed, with_unit, step_text, step_over, step_number, step_in_number, step_past}
+use Rattle.bt_json.specs.inner.Bytes.{kind_of}
+use Rattle.bt_json.specs.inner.Reading.{State, go, stop, found, step, run, Frame, in_list, in_object, Role, as_value, as_name, Place, between, escape, hex, tail, no_text, Numeral, numeral_value, with_whole, with_fraction, with_power, goes_on, may_end, due, opened_list, behind, opened_object, name_due, colon_due, in_text, in_number, in_word, deliver, flushed, with_unit, step_text, step_over, step_number, step_in_number, step_past}
 use Rattle.bt_json.specs.declared.kind.Kind.TheVariants.{Blank}
 use Rattle.bt_json.specs.declared.kind.Mark.TheVariants.{Figure}
 use Rattle.bt_json.specs.declared.kind.Phase.{Phase}
-use Rattle.bt_json.specs.declared.kind.Phase.TheVariants.{AfterMinus, AfterZero, InWhole, AfterPoint, InFraction, AfterLetter, AfterSign, InPower}
+use Rattle.bt_json.specs.declared.kind.Phase.TheVariants.{BeforeWhole, AfterZero, InWhole, AfterPoint, InFraction, AfterLetter, AfterSign, InPower}
 use Rattle.bt_json.proofs.ByteKinds.{blank-kind}
 use Rattle.bt_json.proofs.Eating.{walk, run_is, ended, Eats, eats_byte, eats_then, eats_none, eats_next, Anything, eats_word}
 use Rattle.bt_json.proofs.Eaten.{behind_blank, list_end, empty_list, object_end, empty_object, colon_in, quote_of_name, name_read, text_read}
@@ -105,7 +105,7 @@ live_digit : (phase p : Phase) (n m : Numeral) (k : List Frame) → step_number 
 live_digit phase p n m k e may = live_then (in_number phase n k) (in_number p m k) (48 ∷ []) (eats_mark false phase p n m k 48 (Figure 0) (mark-digit 0 (omega arith)) e) (live_ended p m k may)
 
 live_number : (phase : Phase) (n : Numeral) (k : List Frame) → Live (in_number phase n k)
-live_number AfterMinus n k = live_digit AfterMinus AfterZero n (with_whole n 0) k refl refl
+live_number BeforeWhole n k = live_digit BeforeWhole AfterZero n (with_whole n 0) k refl refl
 live_number AfterZero n k = live_ended AfterZero n k refl
 live_number InWhole n k = live_ended InWhole n k refl
 live_number AfterPoint n k = live_digit AfterPoint InFraction n (with_fraction n 0) k refl refl

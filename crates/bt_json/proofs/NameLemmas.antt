@@ -6,8 +6,8 @@ use Rattle.std.specs.Str.{bytes_eq}
 use Rattle.std.specs.Global.{Global}
 use Rattle.std.proofs.lemmas.Slice.Eq.{bytes_eq-Decides}
 use Rattle.std.proofs.lemmas.List.{map_more, take-map}
-use Rattle.bt_json.specs.Reading.{has_name}
-use Rattle.bt_json.specs.Names.{GoesOn}
+use Rattle.bt_json.specs.inner.Reading.{has_name}
+use Rattle.bt_json.specs.inner.Names.{GoesOn}
 use Rattle.bt_json.proofs.Levels.{any_along}
 
 -- what a set tells of a name that is put in

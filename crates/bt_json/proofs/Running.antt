@@ -4,12 +4,12 @@ use Rattle.std.proofs.lemmas.Bool.{cases_lt, false_from_ne_true, eqb-true}
 use Rattle.bt_json.specs.Json.{Json, number}
 use Rattle.std.proofs.lemmas.List.{drop_all}
 use Rattle.bt_json.specs.Grammar.{is_blank}
-use Rattle.bt_json.specs.Reading.{State, go, Stop, bad, step, after_step, run, finish, Frame, in_word, word_left, deliver, stop, Numeral, in_number, goes_on, ends, wrong, step_number, step_in_number, step_past, behind, numeral_value, finish_number, may_end, due, step_due, numeral, first_phase}
+use Rattle.bt_json.specs.inner.Reading.{State, go, Stop, bad, step, after_step, run, finish, Frame, in_word, word_left, deliver, stop, Numeral, in_number, goes_on, ends, wrong, step_number, step_in_number, step_past, behind, numeral_value, finish_number, may_end, due, step_due, numeral, first_phase}
 use Rattle.bt_json.specs.declared.kind.Kind.TheVariants.{Minus, Digit}
-use Rattle.bt_json.specs.declared.kind.Phase.TheVariants.{AfterMinus}
-use Rattle.bt_json.specs.Bytes.{kind_of, mark_of}
+use Rattle.bt_json.specs.declared.kind.Phase.TheVariants.{BeforeWhole}
+use Rattle.bt_json.specs.inner.Bytes.{kind_of, mark_of}
 use Rattle.bt_json.specs.declared.kind.Phase.{Phase}
-use Rattle.bt_json.specs.Running.{SkipsBlanks, rest_of, rest_after, Faults}
+use Rattle.bt_json.specs.inner.Running.{SkipsBlanks, rest_of, rest_after, Faults}
 use Rattle.std.specs.Prelude.{IfOk, IfErr, Result, Ok, Err}
 use Rattle.bt_json.specs.declared.fault.JsonFault.{JsonFault}
 
@@ -106,7 +106,7 @@ pub number_cut : (bytes : List ℕ) (at : ℕ) (phase : Phase) (n : Numeral) (k 
 number_cut bytes at phase n k le e = rest_end bytes at (in_number phase n k) le ∙ ap (finish_number at n k) e ∙ unfinished at n k
 
 -- the first byte of a number
-pub begins_negative : (bytes : List ℕ) (at : ℕ) (k : List Frame) → at < length bytes → kind_of (get_or bytes at 0) ≡ Minus → rest_of bytes at (due k) ≡ rest_of bytes (at + 1) (in_number AfterMinus (numeral true []) k)
+pub begins_negative : (bytes : List ℕ) (at : ℕ) (k : List Frame) → at < length bytes → kind_of (get_or bytes at 0) ≡ Minus → rest_of bytes at (due k) ≡ rest_of bytes (at + 1) (in_number BeforeWhole (numeral true []) k)
 unfolding step
 begins_negative bytes at k lt e = rest_more bytes at (due k) lt ∙ ap (λ kind. rest_after bytes (at + 1) (step_due true at k (get_or bytes at 0) kind)) e
 

@@ -7,8 +7,8 @@ use Rattle.bt_json.specs.Stands.{items_of, members_of}
 use Rattle.bt_json.specs.Grammar.{Texts, ◌▸◌, Byte, Blanks, is_blank, IsText, IsValue}
 use Rattle.bt_json.specs.Places.{Frame, in_list, in_object, Due, NameDue}
 use Rattle.bt_json.specs.Answers.{EndsBefore}
-use Rattle.bt_json.specs.Bytes.{kind_of, mark_of}
-use Rattle.bt_json.specs.Reading.{State, Step, go, stop, found, bad, deep, twice, step, Role, as_value, as_name, Place, between, InText, reads, closes, no_text, Numeral, numeral_value, InNumber, goes_on, ends, wrong, due, opened_list, behind, opened_object, name_due, colon_due, in_text, in_number, in_word, deliver, opens_level, has_name, finish_text, step_due, step_opened_list, step_behind, step_opened_object, step_name_due, step_colon_due, step_in_text, step_in_number, step_past, step_in_word, step_text, step_number}
+use Rattle.bt_json.specs.inner.Bytes.{kind_of, mark_of}
+use Rattle.bt_json.specs.inner.Reading.{State, Step, go, stop, found, bad, deep, twice, step, Role, as_value, as_name, Place, between, InText, reads, closes, no_text, Numeral, numeral_value, InNumber, goes_on, ends, wrong, due, opened_list, behind, opened_object, name_due, colon_due, in_text, in_number, in_word, deliver, opens_level, has_name, finish_text, step_due, step_opened_list, step_behind, step_opened_object, step_name_due, step_colon_due, step_in_text, step_in_number, step_past, step_in_word, step_text, step_number}
 use Rattle.bt_json.specs.declared.kind.Kind.{Kind}
 use Rattle.bt_json.specs.declared.kind.Kind.TheVariants.{Blank, ListOpens, ListCloses, ObjectOpens, ObjectCloses, Comma, Colon, Quote, Minus, Digit, LetterT, LetterF, LetterN, Other}
 use Rattle.bt_json.specs.declared.kind.Phase.{Phase}
@@ -16,6 +16,7 @@ use Rattle.bt_json.proofs.ByteKinds.{kind-Blank, kind-ListOpens, kind-ListCloses
 use Rattle.bt_json.proofs.Joins.{join, extend, no_blanks, blanks_more, due_blank, name_due_blank, list_goes_on, list_closed, empty_list_closed, colon_stands, object_goes_on, object_closed, empty_object_closed}
 use Rattle.bt_json.proofs.SoundNumbers.{Written, Onwards, written_step, mark_is, minus_first, digit_first}
 use Rattle.bt_json.proofs.SoundTexts.{Half, TextOnwards, text_step, nothing_read}
+use Rattle.bt_json.specs.declared.limits.TheConstants.{MOST_LEVELS}
 
 -- the text before the opening quote of a text
 abbrev pub Opening : Role → List Frame → Texts
@@ -57,7 +58,7 @@ pub record NameTwice (from : ℕ) (t : List ℕ) : Type 0 where
 
 pub record DeepThere (b : ℕ) (p : List ℕ) : Type 0 where
   pub frames : List Frame
-  pub levels : length frames ≡ 64
+  pub levels : length frames ≡ MOST_LEVELS
   pub due_value : Due frames p
   pub opens : (b ≡ 91) ⊎ (b ≡ 123)
 
@@ -89,8 +90,8 @@ both_true false y e = absurd cc
 
 level_opens : (strict : Bool) (k : List Frame) (at b : ℕ) (p : List ℕ) (inside : State) → (b ≡ 91) ⊎ (b ≡ 123) → Due k p → Reached inside (p ++ b ∷ []) → Good at b p (opens_level strict k at inside)
 level_opens strict k at b p inside bracket h r =
-    chosen (strict && (length k == 64)) (stop (deep at)) (go inside) at b p
-    (λ e. let t = both_true strict (length k == 64) e in (refl, record { frames = k; levels = eqb-true (length k) 64 t.1; due_value = h; opens = bracket })) (λ e. r)
+    chosen (strict && (length k == MOST_LEVELS)) (stop (deep at)) (go inside) at b p
+    (λ e. let t = both_true strict (length k == MOST_LEVELS) e in (refl, record { frames = k; levels = eqb-true (length k) MOST_LEVELS t.1; due_value = h; opens = bracket })) (λ e. r)
 
 alone_first : (c b : ℕ) → b ≡ c → (Byte c ▸ Blanks) (b ∷ [])
 alone_first c b e = record { front = b ∷ []; back = []; first = ap (λ x. x ∷ []) e; second = tt; whole = refl }

@@ -7,15 +7,16 @@ use Rattle.std.proofs.lemmas.Int.Digits.{number_push}
 use Rattle.std.proofs.lemmas.List.{append-nil, map_push, length-append}
 use Rattle.std.proofs.lemmas.Bool.{cases_eq, eqb-true}
 use Rattle.std.proofs.lemmas.Bool.Decides.{nat_tests}
-use Rattle.bt_json.specs.Grammar.{Texts, limit, ◌▸◌, Byte, Digits, Sign, Whole, Fraction, ExponentSign, Letter, Exponent, IsNumber}
+use Rattle.bt_json.specs.Grammar.{Texts, ◌▸◌, Byte, Digits, Sign, Whole, Fraction, ExponentSign, Letter, Exponent, IsNumber}
 use Rattle.bt_json.specs.Answers.{is_number_byte}
-use Rattle.bt_json.specs.Bytes.{mark_of}
-use Rattle.bt_json.specs.Reading.{Numeral, numeral, numeral_value, with_whole, with_fraction, with_power, first_phase, InNumber, goes_on, ends, wrong, step_number, may_end}
+use Rattle.bt_json.specs.inner.Bytes.{mark_of}
+use Rattle.bt_json.specs.inner.Reading.{Numeral, numeral, numeral_value, with_whole, with_fraction, with_power, first_phase, InNumber, goes_on, ends, wrong, step_number, may_end}
 use Rattle.bt_json.specs.declared.kind.Mark.{Mark}
 use Rattle.bt_json.specs.declared.kind.Mark.TheVariants.{Figure, Point, LetterE, PlusSign, MinusSign, Over}
 use Rattle.bt_json.specs.declared.kind.Phase.{Phase}
-use Rattle.bt_json.specs.declared.kind.Phase.TheVariants.{AfterMinus, AfterZero, InWhole, AfterPoint, InFraction, AfterLetter, AfterSign, InPower}
+use Rattle.bt_json.specs.declared.kind.Phase.TheVariants.{BeforeWhole, AfterZero, InWhole, AfterPoint, InFraction, AfterLetter, AfterSign, InPower}
 use Rattle.bt_json.proofs.Joins.{join, extend, behind_both, assoc, second_as, and_nothing}
+use Rattle.bt_json.specs.declared.limits.TheConstants.{MOST_EXPONENT}
 
 -- ---- what a byte is, from its mark
 
@@ -109,11 +110,11 @@ pub record WithPower (n : Numeral) (t : List ℕ) : Type 0 where
   pub below : Bool
   pub first : ℕ
   pub power : List ℕ
-  pub is : n ≡ record (with_fractions negative whole fraction) { below = below; power = min (number_from_digits 10 (first ∷ power)) limit }
+  pub is : n ≡ record (with_fractions negative whole fraction) { below = below; power = min (number_from_digits 10 (first ∷ power)) MOST_EXPONENT }
   pub spelled : (WholePart negative whole ▸ (Fraction fraction ▸ (Letter ▸ (ExponentSign below ▸ Digits (first ∷ power))))) t
 
 abbrev pub Written : Phase → Numeral → Texts
-Written AfterMinus n t = (n ≡ numeral true []) × (t ≡ 45 ∷ [])
+Written BeforeWhole n t = (n ≡ numeral true []) × (t ≡ 45 ∷ [])
 Written AfterZero n t = (negative : Bool) × (n ≡ numeral negative (0 ∷ [])) × WholePart negative (0 ∷ []) t
 Written InWhole n t = InWholePart n t
 Written AfterPoint n t = WithWhole (Byte 46) n t
@@ -138,7 +139,7 @@ whole_push : (d : ℕ) (ds : List ℕ) (e : ℕ) (t : List ℕ) → d ≢ 0 → 
 whole_push d [] e t ne lt w = (ne, digits_push (d ∷ []) e t lt w)
 whole_push d (c ∷ ds) e t ne lt w = (ne, digits_push (d ∷ c ∷ ds) e t lt w.1)
 
-power_push : (ds : List ℕ) (d : ℕ) → min (min (number_from_digits 10 ds) limit * 10 + d) limit ≡ min (number_from_digits 10 (ds ++ d ∷ [])) limit
+power_push : (ds : List ℕ) (d : ℕ) → min (min (number_from_digits 10 ds) MOST_EXPONENT * 10 + d) MOST_EXPONENT ≡ min (number_from_digits 10 (ds ++ d ∷ [])) MOST_EXPONENT
 power_push ds d = rw (number_push 10 ds d) (omega arith)
 
 -- ---- ends
@@ -153,12 +154,12 @@ fraction_number : (negative : Bool) (ds : List ℕ) (f : ℕ) (fs t : List ℕ) 
 fraction_number negative ds f fs t w = record { whole = ds; fraction = f ∷ fs; below = false; power = []; spelled = second_as t (λ u. second_as u (λ v b. and_nothing v (refl, refl) b)) (assoc t w); digits = refl; exponent = refl }
 
 power_number : (negative : Bool) (ds fs : List ℕ) (below : Bool) (e : ℕ) (es t : List ℕ) → (WholePart negative ds ▸ (Fraction fs ▸ (Letter ▸ (ExponentSign below ▸ Digits (e ∷ es))))) t
-    → IsNumber (numeral_value (record (with_fractions negative ds fs) { below = below; power = min (number_from_digits 10 (e ∷ es)) limit })) t
+    → IsNumber (numeral_value (record (with_fractions negative ds fs) { below = below; power = min (number_from_digits 10 (e ∷ es)) MOST_EXPONENT })) t
 power_number negative ds fs below e es t w = record { whole = ds; fraction = fs; below = below; power = e ∷ es; spelled = assoc t w; digits = refl; exponent = refl }
 
 -- a number that may end there is whole
 pub number_whole : (p : Phase) (n : Numeral) (t : List ℕ) → may_end p ≡ true → Written p n t → IsNumber (numeral_value n) t
-number_whole AfterMinus n t e w = absurd cc
+number_whole BeforeWhole n t e w = absurd cc
 number_whole AfterPoint n t e w = absurd cc
 number_whole AfterLetter n t e w = absurd cc
 number_whole AfterSign n t e w = absurd cc
@@ -212,12 +213,12 @@ abbrev signed_as : Bool → Numeral → Numeral
 signed_as below n = record n { below = below }
 
 pub written_step : (p : Phase) (n : Numeral) (t : List ℕ) (b : ℕ) (m : Mark) → IsMark m b → Written p n t → Onwards b t (step_number p n m)
-written_step AfterMinus n t b (Figure d) e w = first_digit true (45 ∷ []) (t ++ b ∷ []) d b (with_whole n d) e.0 e.1 (ap (λ x. with_whole x d) w.0) refl (ap (λ (x : List ℕ). x ++ b ∷ []) w.1)
-written_step AfterMinus n t b Point e w = tt
-written_step AfterMinus n t b LetterE e w = tt
-written_step AfterMinus n t b PlusSign e w = tt
-written_step AfterMinus n t b MinusSign e w = tt
-written_step AfterMinus n t b Over e w = tt
+written_step BeforeWhole n t b (Figure d) e w = first_digit true (45 ∷ []) (t ++ b ∷ []) d b (with_whole n d) e.0 e.1 (ap (λ x. with_whole x d) w.0) refl (ap (λ (x : List ℕ). x ++ b ∷ []) w.1)
+written_step BeforeWhole n t b Point e w = tt
+written_step BeforeWhole n t b LetterE e w = tt
+written_step BeforeWhole n t b PlusSign e w = tt
+written_step BeforeWhole n t b MinusSign e w = tt
+written_step BeforeWhole n t b Over e w = tt
 written_step AfterZero n t b (Figure d) e w = tt
 written_step AfterZero n t b Point e w = point_behind w.0 (0 ∷ []) n t b e w.1 w.2
 written_step AfterZero n t b LetterE e w = letter_behind w.0 (0 ∷ []) n t b e w.1 w.2
@@ -313,7 +314,7 @@ written_step InPower n t b MinusSign e w = tt
 written_step InPower n t b Over e w = (number_whole InPower n t refl w, e)
 
 -- the first byte of a number
-pub minus_first : (b : ℕ) → b ≡ 45 → Written AfterMinus (numeral true []) (b ∷ [])
+pub minus_first : (b : ℕ) → b ≡ 45 → Written BeforeWhole (numeral true []) (b ∷ [])
 minus_first b e = (refl, ap (λ x. x ∷ []) e)
 
 pub digit_first : (b : ℕ) → 48 ≤ b → b ≤ 57 → Written (first_phase (b - 48)) (numeral false ((b - 48) ∷ [])) (b ∷ [])

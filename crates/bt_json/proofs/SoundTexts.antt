@@ -8,8 +8,8 @@ use Rattle.std.proofs.lemmas.Bool.Decides.{nat_tests}
 use Rattle.std.proofs.lemmas.Str.{encode_ascii}
 use lib.Utf8.{low_scalar}
 use Rattle.bt_json.specs.Grammar.{Texts, ◌▸◌, Byte, Piece, plain, unit, IsPiece, IsHexEscape, Pieces, text_of, short_escape}
-use Rattle.bt_json.specs.Reading.{Place, between, escape, hex, tail, InText, reads, closes, no_text, flushed, with_unit, lead_of, behind_tail, step_lead, step_between, step_short, step_hex, step_text}
-use Rattle.bt_json.specs.Running.{is_plain}
+use Rattle.bt_json.specs.inner.Reading.{Place, between, escape, hex, tail, InText, reads, closes, no_text, flushed, with_unit, lead_of, behind_tail, step_lead, step_between, step_short, step_hex, step_text}
+use Rattle.bt_json.specs.inner.Running.{is_plain}
 use Rattle.bt_json.proofs.Characters.{IsWide, two_bytes, three_bytes, four_bytes, more_than}
 use Rattle.bt_json.proofs.EatenTexts.{waiting, Waits, after_unit, then_plain, flushed_is}
 use Rattle.bt_json.proofs.Joins.{join, extend}

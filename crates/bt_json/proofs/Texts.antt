@@ -11,8 +11,8 @@ use Rattle.std.proofs.lemmas.Bool.Decides.{nat_tests}
 use Rattle.std.proofs.lemmas.Nat.{pow-add}
 use Rattle.std.proofs.Math.Nat.{pow-le-pow_right}
 use Rattle.bt_json.specs.Grammar.{short_escape}
-use Rattle.bt_json.specs.Reading.{bad, Stop, step, Place, hex, tail, between, escape, InText, reads, no_text, with_unit, step_hex, flushed, lead_of, step_short, step_lead, behind_tail, step_between, in_text, finish_text, Role, Frame}
-use Rattle.bt_json.specs.Running.{rest_of, rest_after, Around, within, step_within, with_plain, after_plain, is_plain}
+use Rattle.bt_json.specs.inner.Reading.{bad, Stop, step, Place, hex, tail, between, escape, InText, reads, no_text, with_unit, step_hex, flushed, lead_of, step_short, step_lead, behind_tail, step_between, in_text, finish_text, Role, Frame}
+use Rattle.bt_json.specs.inner.Running.{rest_of, rest_after, Around, within, step_within, with_plain, after_plain, is_plain}
 use Rattle.bt_json.proofs.Running.{rest_more, rest_end}
 
 pub digit_small : (b : ℕ) → is_digit b 16 ≡ true → digit_value b < 16

@@ -6,7 +6,7 @@ use Rattle.std.specs.List.{slice_get, position_or_len, list_all}
 use Rattle.std.specs.Str.{bytes_eq}
 use Rattle.std.specs.Global.{Global}
 use Rattle.std.specs.declared.rc.Rc.{Rc}
-use Rattle.bt_json.specs.Names.{Set, keys_of}
+use Rattle.bt_json.specs.inner.Names.{Set, keys_of}
 use Rattle.bt_json.specs.Json.{Json, null, boolean, number, text, list, object, value_at}
 use Rattle.bt_json.specs.Stands.{json_of, number_of, items_of, members_of, is_full}
 use Rattle.bt_json.specs.declared.decimal.Decimal.{Decimal}

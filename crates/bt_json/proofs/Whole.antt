@@ -10,7 +10,7 @@ use Rattle.bt_json.specs.Json.{Json, number}
 use Rattle.bt_json.specs.Grammar.{◌▸◌, Blanks, IsValue}
 use Rattle.bt_json.specs.Places.{Frame, Due, NameDue}
 use Rattle.bt_json.specs.Answers.{EndsBefore, IsFront, IsDeep, IsTwice}
-use Rattle.bt_json.specs.Reading.{State, Step, go, stop, Stop, found, bad, deep, twice, step, run, after_step, finish, finish_number, may_end, Numeral, numeral_value, due, opened_list, behind, opened_object, name_due, colon_due, in_text, in_number, in_word, deliver, has_name, reading}
+use Rattle.bt_json.specs.inner.Reading.{State, Step, go, stop, Stop, found, bad, deep, twice, step, run, after_step, finish, finish_number, may_end, Numeral, numeral_value, due, opened_list, behind, opened_object, name_due, colon_due, in_text, in_number, in_word, deliver, has_name, reading}
 use Rattle.bt_json.specs.declared.kind.Phase.{Phase}
 use Rattle.bt_json.proofs.Eating.{eats_then, eats_blanks, walk, run_is, ended}
 use Rattle.bt_json.proofs.Eaten.{Allowed, eats_value, skips_due}

@@ -1,10 +1,9 @@
--- What reading a text answers: the value at its front, or the first thing that is wrong.
+-- What reading a text answers: the value at its front with the place after it, or the first thing that is wrong.
 use Rattle.std.specs.Prelude.{◌≡◌, ℕ, ◌+◌, ◌<◌, ◌≤◌, max, Bool, false, ◌||◌, ◌&&◌, ◌==◌, nat_le, List, [], ◌∷◌, ◌++◌, length, take, drop, slice_get, Some, ◌⊎◌, Contains, Result, Ok, Err, ⊤}
 use Rattle.bt_json.specs.Json.{Json, null, boolean, number, text, list, object, Items, no_items, item, Members, no_members, member}
 use Rattle.bt_json.specs.Grammar.{◌▸◌, Blanks, IsText, IsValue}
 use Rattle.bt_json.specs.Places.{Frame, Due, NameDue}
-use Rattle.bt_json.specs.Stands.{json_of}
-use Rattle.bt_json.specs.declared.tree.Tree.{Tree}
+use Rattle.bt_json.specs.declared.limits.TheConstants.{MOST_LEVELS}
 use Rattle.bt_json.specs.declared.fault.JsonFault.{JsonFault}
 use Rattle.bt_json.specs.declared.fault.JsonFault.TheVariants as faults
 
@@ -40,12 +39,12 @@ abbrev mutual
   HasDistinctNames (list items) = ItemsHaveDistinctNames items
   HasDistinctNames (object members) = AreNew [] members
 
-  -- nor has an object in an item
+  -- no object in these items has a name twice
   pub ItemsHaveDistinctNames : Items → Type 0
   ItemsHaveDistinctNames no_items = ⊤
   ItemsHaveDistinctNames (item v rest) = HasDistinctNames v × ItemsHaveDistinctNames rest
 
-  -- no member has one of these names, or the name of a member before it
+  -- no member has one of these names or the name of a member before it, and no object in a member's value has a name twice
   pub AreNew : List (List ℕ) → Members → Type 0
   AreNew names no_members = ⊤
   AreNew names (member n v rest) = (Contains names n → ⊥) × HasDistinctNames v × AreNew (names ++ n ∷ []) rest
@@ -56,7 +55,7 @@ abbrev mutual
 abbrev pub is_number_byte : ℕ → Bool
 is_number_byte b = (nat_le 48 b && nat_le b 57) || (b == 46) || (b == 101) || (b == 69) || (b == 43) || (b == 45)
 
--- A number ends only where its characters do.
+-- A number ends only where its characters do; any other value may end before any bytes.
 abbrev pub EndsBefore : Json → List ℕ → Type 0
 EndsBefore (number n) (b ∷ rest) = is_number_byte b ≡ false
 EndsBefore (number n) [] = ⊤
@@ -72,9 +71,15 @@ pub record IsFront (bytes : List ℕ) (v : Json) (after : ℕ) : Type 0 where
   pub spelled : (Blanks ▸ IsValue v) (take after bytes)
   pub ends : EndsBefore v (drop after bytes)
 
--- some value stands at the front of the text
+-- some value stands at the front of the text, of however many levels, and with whatever names
 abbrev pub HasValue : List ℕ → Type 0
 HasValue bytes = (v : Json) × (after : ℕ) × IsFront bytes v after
+
+-- the value at the front has no level too many, and no object with a name twice
+pub record IsJsonAt (bytes : List ℕ) (v : Json) (after : ℕ) : Type 0 where
+  pub front : IsFront bytes v after
+  pub shallow : depth_of v ≤ MOST_LEVELS
+  pub distinct : HasDistinctNames v
 
 -- ---- what is wrong
 
@@ -82,10 +87,10 @@ HasValue bytes = (v : Json) × (after : ℕ) × IsFront bytes v after
 abbrev pub IsBad : List ℕ → ℕ → Type 0
 IsBad bytes at = ((at < length bytes) × ((more : List ℕ) → HasValue (take (at + 1) bytes ++ more) → ⊥)) ⊎ ((at ≡ length bytes) × (HasValue bytes → ⊥))
 
--- a bracket or a brace stands there where a value is due, within 64 open lists and objects
+-- a bracket or a brace stands there where a value is due, within as many open lists and objects as there may be
 pub record IsDeep (bytes : List ℕ) (at : ℕ) : Type 0 where
   pub frames : List Frame
-  pub levels : length frames ≡ 64
+  pub levels : length frames ≡ MOST_LEVELS
   pub due : Due frames (take at bytes)
   pub opens : (slice_get bytes at ≡ Some 91) ⊎ (slice_get bytes at ≡ Some 123)
 
@@ -103,14 +108,14 @@ pub record IsTwice (bytes : List ℕ) (at close : ℕ) : Type 0 where
   pub closes : close + 1 ≡ at + length spelling
   pub there : Contains names name
 
--- the fault, and the place at which it is found
+-- the byte with which the fault is known: the bad byte, the bracket, or the closing quote of the repeated name
 abbrev pub FoundAt : List ℕ → JsonFault → ℕ → Type 0
 FoundAt bytes (faults.Json at) place = (place ≡ at) × IsBad bytes at
 FoundAt bytes (faults.Deep at) place = (place ≡ at) × IsDeep bytes at
 FoundAt bytes (faults.DuplicateKey at) place = IsTwice bytes at place
 FoundAt bytes faults.Memory place = ⊥
 
--- no fault is found before it
+-- the text has the fault, and none that is known by an earlier byte
 pub record IsFirst (bytes : List ℕ) (f : JsonFault) : Type 0 where
   pub place : ℕ
   pub found : FoundAt bytes f place
@@ -118,12 +123,7 @@ pub record IsFirst (bytes : List ℕ) (f : JsonFault) : Type 0 where
 
 -- ---- answers
 
--- the answer is a tree of the value and the place, unless memory ran out
-abbrev pub IsReadAs : Json → ℕ → Result (Tree × ℕ) JsonFault → Type 0
-IsReadAs v after (Ok r) = (json_of r.0 ≡ v) × (r.1 ≡ after)
-IsReadAs v after (Err f) = f ≡ faults.Memory
-
--- the answer is the fault, unless memory ran out
-abbrev pub IsRefusedAs : JsonFault → Result (Tree × ℕ) JsonFault → Type 0
-IsRefusedAs f (Ok r) = ⊥
-IsRefusedAs f (Err g) = (g ≡ f) ⊎ (g ≡ faults.Memory)
+-- the right answer to the text: the value at its front with the place after it, or its first fault
+abbrev pub IsRead : List ℕ → Result (Json × ℕ) JsonFault → Type 0
+IsRead bytes (Ok read) = IsJsonAt bytes read.0 read.1
+IsRead bytes (Err fault) = IsFirst bytes fault

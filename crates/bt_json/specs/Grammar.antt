@@ -6,6 +6,7 @@ use Rattle.std.specs.Char.Utf16.{is_high_surrogate, is_low_surrogate, surrogate_
 use Rattle.std.specs.Int.Digits.{number_from_digits}
 use Rattle.bt_json.specs.Value.{signed}
 use Rattle.bt_json.specs.Json.{Number, Json, null, boolean, number, text, list, object, Items, no_items, item, Members, no_members, member}
+use Rattle.bt_json.specs.declared.limits.TheConstants.{MOST_EXPONENT}
 
 -- a set of texts
 abbrev pub Texts : Type 1
@@ -67,10 +68,6 @@ ExponentSign false t = (t ≡ []) ⊎ (t ≡ 43 ∷ [])
 abbrev pub Letter : Texts
 Letter t = (t ≡ 101 ∷ []) ⊎ (t ≡ 69 ∷ [])
 
--- an exponent is kept within 2^62 in magnitude
-abbrev pub limit : ℕ
-limit = 4611686018427387904
-
 -- an e, a sign and at least one digit, or nothing
 abbrev pub Exponent : Bool → List ℕ → Texts
 Exponent below [] t = (below ≡ false) × (t ≡ [])
@@ -84,7 +81,7 @@ pub record IsNumber (n : Number) (t : List ℕ) : Type 0 where
   pub power : List ℕ
   pub spelled : (Sign n.negative ▸ Whole whole ▸ Fraction fraction ▸ Exponent below power) t
   pub digits : n.digits ≡ whole ++ fraction
-  pub exponent : n.exponent ≡ signed below (min (number_from_digits 10 power) limit) -ℤ pos (length fraction)
+  pub exponent : n.exponent ≡ signed below (min (number_from_digits 10 power) MOST_EXPONENT) -ℤ pos (length fraction)
 
 -- ---- texts
 

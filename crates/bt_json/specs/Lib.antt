@@ -1,13 +1,7 @@
 pub mod Json
-pub mod Stands
 pub mod Value
 pub mod Grammar
 pub mod Places
-pub mod Bytes
-pub mod Reading
 pub mod Answers
-pub mod Running
-pub mod Numerals
-pub mod Tails
-pub mod Unescaping
-pub mod Names
+pub mod Stands
+pub mod inner

@@ -34,6 +34,10 @@ json_step (Tree-F.Object names v) = object (members_of (map string_bytes names.v
 abbrev pub json_of : Tree → Json
 json_of = fold-Tree Json json_step
 
+-- the value that a tree stands for, and the place after it
+abbrev pub value_and_place : Tree × ℕ → Json × ℕ
+value_and_place read = (json_of read.0, read.1)
+
 -- by cases on the tree, whose inner trees are seen by whether they are full
 abbrev pub full_step : Tree-F Bool → Bool
 full_step Tree-F.Null = true

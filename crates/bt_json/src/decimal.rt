@@ -1,8 +1,9 @@
 ghost use Rattle.std.specs.Prelude.{◌≡◌, ◌≢◌, ◌<◌, ◌≤◌, ◌+◌, ◌*◌, ◌^◌, ℕ, ℤ, pos, All, length, take, drop, IsTrue, ◌↔◌, IfSome, IfNone, MatchOption, Some, None, ◌<ℤ◌, ◌≤ℤ◌, neg_ℤ, Bool, if◌then◌else◌};
 ghost use Rattle.std.specs.Int.Digits.{number_from_digits};
 ghost use Rattle.std.specs.Int.RustNames.{unsigned_abs};
-ghost use Rattle.bt_json.specs.Value.{IsScaled, IsTimes, twice, signed, IsHalfOf};
+ghost use Rattle.bt_json.specs.Value.{IsScaled, IsTimes, HasNoHalves, HasNoWhole, twice, signed, IsHalfOf};
 
+use crate::limits::MOST_HALVES;
 use smallvec::SmallVec;
 
 /// A number of a JSON text as it is written: its value is the digits, as one whole number, times ten to the power of the exponent.
@@ -112,8 +113,8 @@ fn whole_and_half(digits: &[u8], places: u64) -> Option<(u64, bool)>
     Some((number, half))
 }
 
-fn with_sign(negative: bool, magnitude: u32) -> i32
-    requires { magnitude ≤ 1048576 }
+fn with_sign(negative: bool, magnitude: u64) -> i32
+    requires { magnitude ≤ MOST_HALVES }
     ensures { result ≡ signed negative magnitude }
 {
     let value = magnitude as i32;
@@ -142,29 +143,30 @@ impl Decimal {
         Some((scaled, false))
     }
 
-    /// Twice the value. `None` exactly where that is no whole number of magnitude at most 1048576.
+    /// Twice the value. `None` exactly where that is no whole number of magnitude at most
+    /// `MOST_HALVES`.
     pub fn halves(&self) -> Option<i32>
         ensures found { IfSome result (λ z. IsTimes 2 (number_of self.now) z) }
-        ensures bounds { IfSome result (λ z. unsigned_abs z ≤ 1048576) }
-        ensures none { IfNone result ((z : ℤ) → unsigned_abs z ≤ 1048576 → IsTimes 2 (number_of self.now) z → ⊥) }
+        ensures bounds { IfSome result (λ z. unsigned_abs z ≤ MOST_HALVES) }
+        ensures none { IfNone result (HasNoHalves (number_of self.now)) }
     {
         let Some((whole, half)) = self.magnitude() else {
             return None;
         };
-        if whole > 524_288 {
+        if whole > MOST_HALVES {
             return None;
         }
         let twice = 2 * whole + u64::from(half);
-        if twice > 1_048_576 {
+        if twice > MOST_HALVES {
             return None;
         }
-        Some(with_sign(self.negative, twice as u32))
+        Some(with_sign(self.negative, twice))
     }
 
     /// The value. `None` exactly where it is no whole number that fits.
     pub fn whole(&self) -> Option<u64>
         ensures found { IfSome result (λ n. IsTimes 1 (number_of self.now) (pos n)) }
-        ensures none { IfNone result ((n : ℕ) → n < 2 ^ 64 → IsTimes 1 (number_of self.now) (pos n) → ⊥) }
+        ensures none { IfNone result (HasNoWhole (number_of self.now)) }
     {
         let Some((whole, half)) = self.magnitude() else {
             return None;

@@ -1,7 +1,7 @@
 ghost use Rattle.std.specs.Prelude.{◌≡◌, ◌<◌};
 ghost use Rattle.bt_json.specs.Grammar.{is_blank};
-ghost use Rattle.bt_json.specs.Reading.{may_end};
-ghost use Rattle.bt_json.specs.Bytes.{kind_of, mark_of, figure_in};
+ghost use Rattle.bt_json.specs.inner.Reading.{may_end};
+ghost use Rattle.bt_json.specs.inner.Bytes.{kind_of, mark_of, figure_in};
 
 /// What a byte may be between the tokens of a text, or at a token's front.
 #[derive(Clone, Copy, Debug, PartialEq, Eq)]
@@ -22,7 +22,7 @@ pub enum Kind {
     Other,
 }
 
-#[tactic(auto, unfolding(crate::specs::Bytes::kind_of))]
+#[tactic(auto, unfolding(crate::specs::inner::Bytes::kind_of))]
 pub fn kind_of(byte: u8) -> Kind
     ensures { result ≡ kind_of byte }
 {
@@ -56,7 +56,7 @@ pub enum Mark {
     Over,
 }
 
-#[tactic(auto, unfolding(crate::specs::Bytes::mark_of))]
+#[tactic(auto, unfolding(crate::specs::inner::Bytes::mark_of))]
 pub fn mark_of(byte: u8) -> Mark
     ensures mark { result ≡ mark_of byte }
     ensures digit { figure_in result < 10 }
@@ -74,7 +74,7 @@ pub fn mark_of(byte: u8) -> Mark
 /// How far a number is written.
 #[derive(Clone, Copy, Debug, PartialEq, Eq)]
 pub enum Phase {
-    AfterMinus,
+    BeforeWhole,
     AfterZero,
     InWhole,
     AfterPoint,

@@ -4,7 +4,9 @@
 mod decimal;
 mod fault;
 mod kind;
+mod limits;
 mod names;
+mod nested;
 mod number;
 mod reader;
 mod scan;
@@ -13,7 +15,9 @@ mod tree;
 
 pub use decimal::Decimal;
 pub use fault::JsonFault;
+pub use limits::{MOST_EXPONENT, MOST_HALVES, MOST_LEVELS};
 pub use reader::read;
+pub use std::alloc::AllocError as Memory;
 pub use tree::Tree;
 
 #[cfg(test)]

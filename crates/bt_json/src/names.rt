@@ -1,6 +1,6 @@
 ghost use Rattle.std.specs.Prelude.{◌≡◌, ◌<◌, ◌+◌, ◌^◌, ◌++◌, ◌∷◌, [], take, length, slice_index_or, not, IsTrue, IfOk, IfSome, map, string_bytes};
-ghost use Rattle.bt_json.specs.Reading.{has_name};
-ghost use Rattle.bt_json.specs.Names.{names_of, keys_of, front_of, set_of, GoesOn};
+ghost use Rattle.bt_json.specs.inner.Reading.{has_name};
+ghost use Rattle.bt_json.specs.inner.Names.{names_of, keys_of, front_of, set_of, GoesOn};
 
 use indexmap::IndexSet;
 use std::alloc::{AllocError, Global};

@@ -1,15 +1,13 @@
 ghost use Rattle.std.specs.Prelude.{◌≡◌, ◌≤◌, ◌<◌, ◌+◌, ◌*◌, ◌^◌, [], length, slice_index, drop, false, true, IfOk, IfErr, IfSome, IfNone, OnOk, OnErr, List, ℕ, All, MatchOption};
-ghost use Rattle.bt_json.specs.Grammar.{limit};
-ghost use Rattle.bt_json.specs.Reading.{first_phase};
+ghost use Rattle.bt_json.specs.inner.Reading.{first_phase};
+ghost use Rattle.bt_json.specs.declared.limits.TheConstants.{MOST_EXPONENT};
 
 use crate::decimal::Decimal;
 use crate::fault::JsonFault;
 use crate::kind::{Mark, Phase, mark_of, may_end};
+use crate::limits::MOST_EXPONENT;
 use smallvec::SmallVec;
 use std::alloc::{AllocError, Global};
-
-/// The greatest exponent that is kept.
-const LIMIT: u64 = 1 << 62;
 
 /// A number as far as it is written.
 #[derive(Drop)]
@@ -23,7 +21,7 @@ pub struct Numeral {
     power: u64,
     ghost below_ten: { All (λ d. d < 10) digits.items },
     ghost counted: { places ≤ length digits.items },
-    ghost limited: { power ≤ limit },
+    ghost limited: { power ≤ MOST_EXPONENT },
 }
 
 /// How a number goes on at a byte.
@@ -36,15 +34,13 @@ pub enum Next {
 }
 
 impl Numeral {
-    ghost use Rattle.bt_json.specs.Numerals.{view, shown};
-    ghost use Rattle.bt_json.specs.Reading.{with_whole, with_fraction, with_power, step_digit, step_number, step_sign, numeral_value};
+    ghost use Rattle.bt_json.specs.inner.Numerals.{view, shown, ReadsNumber};
+    ghost use Rattle.bt_json.specs.inner.Reading.{with_whole, with_fraction, with_power, step_digit, step_number, step_sign, numeral_value};
     ghost use Rattle.bt_json.specs.Stands.{number_of};
-    ghost use Rattle.bt_json.specs.Json.{number};
-    ghost use Rattle.bt_json.specs.Reading.{Frame, due, in_number, numeral, deliver};
-    ghost use Rattle.bt_json.specs.Running.{IsLater, rest_of, rest_after, Faults};
-    ghost use Rattle.bt_json.specs.Bytes.{mark_of, kind_of};
+    ghost use Rattle.bt_json.specs.inner.Reading.{numeral};
+    ghost use Rattle.bt_json.specs.inner.Bytes.{mark_of};
     ghost use Rattle.bt_json.specs.declared.fault.JsonFault.TheVariants.{Memory};
-    ghost use Rattle.bt_json.specs.declared.kind.Kind.TheVariants.{Minus, Digit};
+    ghost use Rattle.bt_json.specs.declared.kind.Phase.TheVariants.{BeforeWhole};
 
     fn push_digit(&mut self, digit: u8) -> Result<(), AllocError>
         requires { digit < 10 }
@@ -68,10 +64,10 @@ impl Numeral {
         requires { digit < 10 }
         ensures { view self.new ≡ with_power (view self.old) digit }
     {
-        self.power = if self.power > LIMIT / 10 {
-            LIMIT
+        self.power = if self.power > MOST_EXPONENT / 10 {
+            MOST_EXPONENT
         } else {
-            (self.power * 10 + u64::from(digit)).min(LIMIT)
+            (self.power * 10 + u64::from(digit)).min(MOST_EXPONENT)
         };
     }
 
@@ -80,7 +76,7 @@ impl Numeral {
         ensures { IfOk result (λ next. shown next (view self.new) ≡ step_digit phase (view self.old) digit) }
     {
         match phase {
-            Phase::AfterMinus => {
+            Phase::BeforeWhole => {
                 self.push_digit(digit)?;
                 Ok(Next::GoesOn(first_phase(digit)))
             }
@@ -149,7 +145,7 @@ impl Numeral {
             below,
             power,
         } = self;
-        if places as u64 > LIMIT {
+        if places as u64 > MOST_EXPONENT {
             return Err(JsonFault::Memory);
         }
         let power = power as i64;
@@ -169,10 +165,7 @@ impl Numeral {
         start: usize,
     ) -> Result<(Decimal, usize), JsonFault>
         requires { start ≤ length bytes.now }
-        ensures later { IfOk result (λ r. IsLater bytes.now start r.1) }
-        ensures ok { IfOk result (λ r. (k : List Frame) → rest_of bytes.now start (in_number phase (view self) k)
-            ≡ rest_after bytes.now r.1 (deliver (number (number_of r.0)) k r.1)) }
-        ensures err { IfErr result (λ f. (k : List Frame) → Faults f (rest_of bytes.now start (in_number phase (view self) k))) }
+        ensures { ReadsNumber bytes.now start phase (view self) result }
     {
         let mut phase = phase;
         let mut at = start;
@@ -204,39 +197,18 @@ impl Numeral {
         }
     }
 
-    /// The number that begins with the minus sign at a place, and the place after it.
-    pub fn read_negative(
+    /// The number whose whole part is due at a place, behind its sign if it has one, and the place
+    /// after it.
+    pub fn read(
         alloc: Global,
+        negative: bool,
         bytes: &[u8],
         start: usize,
     ) -> Result<(Decimal, usize), JsonFault>
-        requires within { start < length bytes.now }
-        requires front { kind_of (slice_index bytes.now start) ≡ Minus }
-        ensures later { IfOk result (λ r. IsLater bytes.now start r.1) }
-        ensures ok { IfOk result (λ r. (k : List Frame) → rest_of bytes.now start (due k)
-            ≡ rest_after bytes.now r.1 (deliver (number (number_of r.0)) k r.1)) }
-        ensures err { IfErr result (λ f. (k : List Frame) → Faults f (rest_of bytes.now start (due k))) }
+        requires { start ≤ length bytes.now }
+        ensures { ReadsNumber bytes.now start BeforeWhole (numeral negative []) result }
     {
-        Numeral::new(alloc, true).rest(Phase::AfterMinus, bytes, start + 1)
-    }
-
-    /// The number that begins with the digit at a place, and the place after it.
-    pub fn read_plain(
-        alloc: Global,
-        bytes: &[u8],
-        start: usize,
-    ) -> Result<(Decimal, usize), JsonFault>
-        requires within { start < length bytes.now }
-        requires front { kind_of (slice_index bytes.now start) ≡ Digit }
-        ensures later { IfOk result (λ r. IsLater bytes.now start r.1) }
-        ensures ok { IfOk result (λ r. (k : List Frame) → rest_of bytes.now start (due k)
-            ≡ rest_after bytes.now r.1 (deliver (number (number_of r.0)) k r.1)) }
-        ensures err { IfErr result (λ f. (k : List Frame) → Faults f (rest_of bytes.now start (due k))) }
-    {
-        let digit = bytes[start] - b'0';
-        let mut front = Numeral::new(alloc, false);
-        front.push_digit(digit)?;
-        front.rest(first_phase(digit), bytes, start + 1)
+        Numeral::new(alloc, negative).rest(Phase::BeforeWhole, bytes, start)
     }
 }
 

@@ -1,28 +1,116 @@
-ghost use Rattle.std.specs.Prelude.{◌≡◌, ◌≢◌, ◌≤◌, ◌<◌, ◌-◌, ◌+◌, [], ◌∷◌, ◌++◌, length, slice_index, true, false, IsTrue, IfOk, IfErr, OnOk, List, None, ℕ, map, string_bytes};
-ghost use Rattle.bt_json.specs.Json.{Json as JsonValue, number, text};
-ghost use Rattle.bt_json.specs.Stands.{json_of, is_full};
-ghost use Rattle.bt_json.specs.Bytes.{kind_of};
-ghost use Rattle.bt_json.specs.Reading.{Frame, Role, in_text, between, in_list, in_object, due, opened_list, opened_object, behind, name_due, deliver, reading, found};
-ghost use Rattle.bt_json.specs.Answers.{depth_of, HasDistinctNames, IsFront, IsFirst, IsReadAs, IsRefusedAs};
-ghost use Rattle.bt_json.specs.declared.fault.JsonFault.{JsonFault};
+//! Reading a value (RFC 8259): blanks, and then a text, a number, a word, or a list or an object of
+//! further values.
+ghost use Rattle.std.specs.Prelude.{◌≡◌, ◌≤◌, ◌<◌, [], length, None, IsTrue, IfOk, OnOk};
+ghost use Rattle.bt_answers.specs.Answers.{seen, Answers};
+ghost use Rattle.bt_json.specs.Answers.{IsRead};
+ghost use Rattle.bt_json.specs.Json.{boolean, null};
+ghost use Rattle.bt_json.specs.Stands.{value_and_place, is_full};
+ghost use Rattle.bt_json.specs.inner.Reading.{due, in_text, between, as_value, in_number, numeral, in_word};
+ghost use Rattle.bt_json.specs.declared.kind.Phase.TheVariants.{BeforeWhole};
+ghost use Rattle.bt_json.specs.inner.Frames.{frame_begun, IsFresh};
+ghost use Rattle.bt_json.specs.inner.Nested.{frame_of, IsFilled, IsToken, FindsToken, ReadsTree, ReadsValue, ReadsNested, Fills};
 ghost use Rattle.bt_json.specs.declared.fault.JsonFault.TheVariants.{Memory};
-ghost use Rattle.bt_json.specs.Names.{names_of, TakesName};
-ghost use Rattle.bt_json.specs.Running.{IsLater, rest_of, rest_after, Faults};
 
-use crate::decimal::Decimal;
 use crate::fault::JsonFault;
 use crate::kind::{Kind, kind_of};
-use crate::names::{KnownNames, NamesSoFar};
+use crate::limits::MOST_LEVELS;
+use crate::names::KnownNames;
+use crate::nested::{Ahead, Nested};
 use crate::number::Numeral;
-use crate::scan::{expect_byte, skip_blanks, skip_word, stands_at};
-use crate::text::{Unescaped, plain_text};
+use crate::scan::{skip_blanks, skip_word};
+use crate::text::Unescaped;
 use crate::tree::Tree;
-use std::alloc::{AllocError, Global};
+use std::alloc::Global;
 
-/// How many levels of lists and objects there may be.
-const LEVELS: usize = 64;
+/// The first place from there on that has no blank, and what its byte may begin.
+fn find_token(bytes: &[u8], start: usize) -> Result<(usize, Kind), JsonFault>
+    requires { start ≤ length bytes.now }
+    ensures read { FindsToken bytes.now start result }
+    ensures token { IfOk result (λ token. IsToken bytes.now token.0 token.1) }
+{
+    let at = skip_blanks(bytes, start);
+    if at >= bytes.len() {
+        return Err(JsonFault::Json(at));
+    }
+    Ok((at, kind_of(bytes[at])))
+}
 
-/// The value from a place on, within that many open lists and objects, and the place behind it.
+/// The text behind an opening quote, and the place behind the closing one.
+fn read_text(alloc: Global, bytes: &[u8], start: usize) -> Result<(Tree, usize), JsonFault>
+    requires { start ≤ length bytes.now }
+    ensures read { ReadsTree bytes.now start (in_text [] None between as_value) result }
+    ensures full { IfOk result (λ read. IsTrue (is_full read.0)) }
+{
+    let (text, end) = Unescaped::read(alloc, bytes, start)?;
+    Ok((Tree::Text(text), end))
+}
+
+/// The number whose whole part is due at a place, and the place behind it.
+fn read_number(
+    alloc: Global,
+    negative: bool,
+    bytes: &[u8],
+    start: usize,
+) -> Result<(Tree, usize), JsonFault>
+    requires { start ≤ length bytes.now }
+    ensures read { ReadsTree bytes.now start (in_number BeforeWhole (numeral negative [])) result }
+    ensures full { IfOk result (λ read. IsTrue (is_full read.0)) }
+{
+    let (decimal, end) = Numeral::read(alloc, negative, bytes, start)?;
+    Ok((Tree::Num(decimal), end))
+}
+
+/// The word of which these letters are the rest, as this truth value, and the place behind it.
+fn read_bool(
+    bytes: &[u8],
+    start: usize,
+    letters: &[u8],
+    value: bool,
+) -> Result<(Tree, usize), JsonFault>
+    requires within { start ≤ length bytes.now }
+    requires some { 0 < length letters.now }
+    ensures read { ReadsTree bytes.now start (in_word letters.now (boolean value)) result }
+    ensures full { IfOk result (λ read. IsTrue (is_full read.0)) }
+{
+    let end = skip_word(bytes, start, letters)?;
+    Ok((Tree::Bool(value), end))
+}
+
+/// The word of which these letters are the rest, as null, and the place behind it.
+fn read_null(bytes: &[u8], start: usize, letters: &[u8]) -> Result<(Tree, usize), JsonFault>
+    requires within { start ≤ length bytes.now }
+    requires some { 0 < length letters.now }
+    ensures read { ReadsTree bytes.now start (in_word letters.now null) result }
+    ensures full { IfOk result (λ read. IsTrue (is_full read.0)) }
+{
+    let end = skip_word(bytes, start, letters)?;
+    Ok((Tree::Null, end))
+}
+
+/// A value that is no list and no object, at a byte of that kind, and the place behind it.
+fn read_leaf(
+    alloc: Global,
+    bytes: &[u8],
+    start: usize,
+    kind: Kind,
+) -> Result<(Tree, usize), JsonFault>
+    requires token { IsToken bytes.now start kind }
+    requires leaf { frame_begun kind ≡ None }
+    ensures read { ReadsTree bytes.now start due result }
+    ensures full { IfOk result (λ read. IsTrue (is_full read.0)) }
+{
+    match kind {
+        Kind::Quote => read_text(alloc, bytes, start + 1),
+        Kind::Minus => read_number(alloc, true, bytes, start + 1),
+        Kind::Digit => read_number(alloc, false, bytes, start),
+        Kind::LetterT => read_bool(bytes, start + 1, b"rue", true),
+        Kind::LetterF => read_bool(bytes, start + 1, b"alse", false),
+        Kind::LetterN => read_null(bytes, start + 1, b"ull"),
+        _ => Err(JsonFault::Json(start)),
+    }
+}
+
+/// The value that is due at a place within that many open lists and objects, and the place behind it.
 #[cycle(reading)]
 fn read_value(
     alloc: Global,
@@ -32,201 +120,67 @@ fn read_value(
     known: &mut KnownNames,
 ) -> Result<(Tree, usize), JsonFault>
     requires within { start ≤ length bytes.now }
-    requires shallow { depth ≤ 64 }
-    ensures later { IfOk result (λ r. IsLater bytes.now start r.1) }
-    ensures full { IfOk result (λ r. IsTrue (is_full r.0)) }
-    ensures ok { IfOk result (λ r. (k : List Frame) → length k ≡ depth → rest_of bytes.now start (due k) ≡ rest_after bytes.now r.1 (deliver (json_of r.0) k r.1)) }
-    ensures err { IfErr result (λ f. (k : List Frame) → length k ≡ depth → Faults f (rest_of bytes.now start (due k))) }
+    requires shallow { depth ≤ MOST_LEVELS }
+    ensures read { ReadsValue bytes.now start depth result }
+    ensures full { IfOk result (λ read. IsTrue (is_full read.0)) }
 {
-    let at = skip_blanks(bytes, start);
-    if at >= bytes.len() {
-        return Err(JsonFault::Json(at));
-    }
-    match kind_of(bytes[at]) {
-        Kind::ListOpens => {
-            if depth >= LEVELS {
-                return Err(JsonFault::Deep(at));
-            }
-            read_list(alloc, bytes, at + 1, depth + 1, known)
-        }
-        Kind::ObjectOpens => {
-            if depth >= LEVELS {
-                return Err(JsonFault::Deep(at));
-            }
-            read_object(alloc, bytes, at + 1, depth + 1, known)
-        }
-        Kind::Quote => {
-            let (text, end) = Unescaped::read(alloc, bytes, at + 1)?;
-            Ok((Tree::Text(text), end))
-        }
-        Kind::Minus => {
-            let (decimal, end) = Numeral::read_negative(alloc, bytes, at)?;
-            Ok((Tree::Num(decimal), end))
-        }
-        Kind::Digit => {
-            let (decimal, end) = Numeral::read_plain(alloc, bytes, at)?;
-            Ok((Tree::Num(decimal), end))
-        }
-        Kind::LetterT => {
-            let end = skip_word(bytes, at + 1, b"rue")?;
-            Ok((Tree::Bool(true), end))
-        }
-        Kind::LetterF => {
-            let end = skip_word(bytes, at + 1, b"alse")?;
-            Ok((Tree::Bool(false), end))
-        }
-        Kind::LetterN => {
-            let end = skip_word(bytes, at + 1, b"ull")?;
-            Ok((Tree::Null, end))
-        }
-        _ => Err(JsonFault::Json(at)),
+    let (at, kind) = find_token(bytes, start)?;
+    match Nested::begun(alloc, kind, at, depth, known)? {
+        None => read_leaf(alloc, bytes, at, kind),
+        Some(nested) => read_nested(alloc, bytes, at + 1, depth, known, nested),
     }
 }
 
-/// The list behind its bracket, itself one of that many open lists and objects.
+/// The rest of a list or an object behind its opening bracket, within that many others.
 #[cycle(reading)]
-fn read_list(
+fn read_nested(
     alloc: Global,
     bytes: &[u8],
     start: usize,
     depth: usize,
     known: &mut KnownNames,
+    nested: Nested,
 ) -> Result<(Tree, usize), JsonFault>
     requires within { start ≤ length bytes.now }
-    requires shallow { depth ≤ 64 }
-    requires inside { 0 < depth }
-    ensures later { IfOk result (λ r. IsLater bytes.now start r.1) }
-    ensures full { IfOk result (λ r. IsTrue (is_full r.0)) }
-    ensures ok { IfOk result (λ r. (k : List Frame) → length k + 1 ≡ depth → rest_of bytes.now start (opened_list k) ≡ rest_after bytes.now r.1 (deliver (json_of r.0) k r.1)) }
-    ensures err { IfErr result (λ f. (k : List Frame) → length k + 1 ≡ depth → Faults f (rest_of bytes.now start (opened_list k))) }
+    requires shallow { depth < MOST_LEVELS }
+    requires fresh { IsFresh (frame_of nested) }
+    requires filled { IsFilled nested }
+    ensures read { ReadsNested bytes.now start depth (frame_of nested) result }
+    ensures full { IfOk result (λ read. IsTrue (is_full read.0)) }
 {
-    let mut items = Vec::new(alloc);
-    let mut at = skip_blanks(bytes, start);
-    if stands_at(bytes, at, b']') {
-        return Ok((Tree::List(items), at + 1));
-    }
-    loop {
-        let (item, end) = read_value(alloc, bytes, at, depth, known)?;
-        items.push(item)?;
-        let next = skip_blanks(bytes, end);
-        if stands_at(bytes, next, b']') {
-            items.shrink_to_fit();
-            return Ok((Tree::List(items), next + 1));
-        }
-        expect_byte(bytes, next, b',')?;
-        at = next + 1;
-    }
+    let mut nested = nested;
+    let end = fill(alloc, bytes, start, depth, known, &mut nested)?;
+    let tree = nested.close(alloc, known)?;
+    Ok((tree, end))
 }
 
-/// A name behind its opening quote, put behind the names before unless it is among them. Whether it
-/// wasn't, and the place behind its closing quote.
-fn take_name(
+/// Reads the values of a list or an object up to the closing bracket: the place behind that.
+#[cycle(reading)]
+fn fill(
     alloc: Global,
     bytes: &[u8],
     start: usize,
-    names: &mut NamesSoFar,
-    known: &KnownNames,
-) -> Result<(bool, usize), JsonFault>
-    requires { start ≤ length bytes.now }
-    ensures later { IfOk result (λ r. (start < r.1) × (r.1 ≤ length bytes.now)) }
-    ensures ok { IfOk result (TakesName bytes.now start (names_of names.old) (names_of names.new)) }
-    ensures err { IfErr result (λ f. (role : Role) (k : List Frame) → Faults f (rest_of bytes.now start (in_text [] None between role k))) }
-{
-    if let Some(end) = plain_text(bytes, start) {
-        let added = match std::str::from_utf8(&bytes[start..end]) {
-            Ok(name) => names.push(alloc, name, known)?,
-            Err(_) => unreachable!(),
-        };
-        return Ok((added, end + 1));
-    }
-    let (name, end) = Unescaped::read(alloc, bytes, start)?;
-    let added = names.push(alloc, name.as_str(), known)?;
-    Ok((added, end))
-}
-
-/// A name and the colon behind it, put behind the names before. The place behind the colon.
-fn read_name(
-    alloc: Global,
-    bytes: &[u8],
-    start: usize,
-    names: &mut NamesSoFar,
-    known: &KnownNames,
+    depth: usize,
+    known: &mut KnownNames,
+    nested: &mut Nested,
 ) -> Result<usize, JsonFault>
-    requires { start ≤ length bytes.now }
-    ensures later { IfOk result (λ n. (start < n) × (n ≤ length bytes.now)) }
-    ensures grows { OnOk result (length (names_of names.new) ≡ length (names_of names.old) + 1) }
-    ensures ok { IfOk result (λ n. (vs : List JsonValue) (k : List Frame) → rest_of bytes.now start (name_due (names_of names.old) vs k) ≡ rest_of bytes.now n (due (in_object (names_of names.new) vs ∷ k))) }
-    ensures err { IfErr result (λ f. (vs : List JsonValue) (k : List Frame) → Faults f (rest_of bytes.now start (name_due (names_of names.old) vs k))) }
-{
-    let quote = skip_blanks(bytes, start);
-    expect_byte(bytes, quote, b'"')?;
-    let (added, end) = take_name(alloc, bytes, quote + 1, names, known)?;
-    if !added {
-        return Err(JsonFault::DuplicateKey(quote));
-    }
-    let colon = skip_blanks(bytes, end);
-    expect_byte(bytes, colon, b':')?;
-    Ok(colon + 1)
-}
-
-/// Makes room for as many values as there are likely to be, where there is none yet.
-fn make_room(values: &mut Vec<Tree>, names: &NamesSoFar) -> Result<(), AllocError>
-    ensures { OnOk result (values.new.items ≡ values.old.items) }
-{
-    if values.capacity() == 0 {
-        values.reserve_exact(names.likely_len())?;
-    }
-    Ok(())
-}
-
-/// The object behind its brace, itself one of that many open lists and objects.
-#[cycle(reading)]
-fn read_object(
-    alloc: Global,
-    bytes: &[u8],
-    start: usize,
-    depth: usize,
-    known: &mut KnownNames,
-) -> Result<(Tree, usize), JsonFault>
     requires within { start ≤ length bytes.now }
-    requires shallow { depth ≤ 64 }
-    requires inside { 0 < depth }
-    ensures later { IfOk result (λ r. IsLater bytes.now start r.1) }
-    ensures full { IfOk result (λ r. IsTrue (is_full r.0)) }
-    ensures ok { IfOk result (λ r. (k : List Frame) → length k + 1 ≡ depth → rest_of bytes.now start (opened_object k) ≡ rest_after bytes.now r.1 (deliver (json_of r.0) k r.1)) }
-    ensures err { IfErr result (λ f. (k : List Frame) → length k + 1 ≡ depth → Faults f (rest_of bytes.now start (opened_object k))) }
+    requires shallow { depth < MOST_LEVELS }
+    requires fresh { IsFresh (frame_of nested.old) }
+    requires filled { IsFilled nested.old }
+    ensures read { Fills bytes.now start depth (frame_of nested.old) (frame_of nested.new) result }
+    ensures filled { OnOk result (IsFilled nested.new) }
 {
-    let mut names = known.no_names()?;
-    let mut values = Vec::new(alloc);
-    let mut at = skip_blanks(bytes, start);
-    if stands_at(bytes, at, b'}') {
-        let names = names.finish(alloc, known)?;
-        return Ok((Tree::Object { names, values }, at + 1));
-    }
+    let mut ahead = nested.first(bytes, start);
     loop {
-        let due = read_name(alloc, bytes, at, &mut names, known)?;
-        make_room(&mut values, &names)?;
-        let (value, end) = read_value(alloc, bytes, due, depth, known)?;
-        values.push(value)?;
-        let next = skip_blanks(bytes, end);
-        if stands_at(bytes, next, b'}') {
-            let names = names.finish(alloc, known)?;
-            values.shrink_to_fit();
-            return Ok((Tree::Object { names, values }, next + 1));
-        }
-        expect_byte(bytes, next, b',')?;
-        at = next + 1;
+        let at = match ahead {
+            Ahead::Item(at) => at,
+            Ahead::End(end) => return Ok(end),
+        };
+        let due = nested.read_name(alloc, bytes, at, known)?;
+        let (value, end) = read_value(alloc, bytes, due, depth + 1, known)?;
+        ahead = nested.push(bytes, value, end)?;
     }
-}
-
-/// What reading byte by byte gives.
-fn read_front(alloc: Global, bytes: &[u8]) -> Result<(Tree, usize), JsonFault>
-    ensures full { IfOk result (λ r. IsTrue (is_full r.0)) }
-    ensures ok { IfOk result (λ r. reading bytes.now ≡ found (json_of r.0) r.1) }
-    ensures err { IfErr result (λ f. Faults f (reading bytes.now)) }
-{
-    let mut known = KnownNames::new(alloc)?;
-    read_value(alloc, bytes, 0, 0, &mut known)
 }
 
 /// Reads blanks and the JSON value behind them (RFC 8259) at the front of the bytes, and gives the
@@ -234,20 +188,11 @@ fn read_front(alloc: Global, bytes: &[u8]) -> Result<(Tree, usize), JsonFault>
 ///
 /// # Errors
 ///
-/// The first thing that is wrong, in reading order.
+/// The first thing that is wrong, in reading order; `JsonFault::Memory` where memory runs out.
 pub fn read(alloc: Global, bytes: &[u8]) -> Result<(Tree, usize), JsonFault>
-    // What is read is in the grammar.
-    ensures found { IfOk result (λ r. IsFront bytes.now (json_of r.0) r.1) }
-    ensures levels { IfOk result (λ r. depth_of (json_of r.0) ≤ 64) }
-    ensures names { IfOk result (λ r. HasDistinctNames (json_of r.0)) }
-    ensures full { IfOk result (λ r. IsTrue (is_full r.0)) }
-
-    // What is in the grammar is read.
-    ensures reads { (v : JsonValue) (after : ℕ) → IsFront bytes.now v after → depth_of v ≤ 64 → HasDistinctNames v → IsReadAs v after result }
-
-    // Which fault comes, and when.
-    ensures refused { IfErr result (λ f. f ≢ Memory → IsFirst bytes.now f) }
-    ensures first { (f : JsonFault) → IsFirst bytes.now f → IsRefusedAs f result }
+    ensures answer { Answers Memory (IsRead bytes.now) (seen value_and_place result) }
+    ensures full { IfOk result (λ read. IsTrue (is_full read.0)) }
 {
-    read_front(alloc, bytes)
+    let mut known = KnownNames::new(alloc)?;
+    read_value(alloc, bytes, 0, 0, &mut known)
 }

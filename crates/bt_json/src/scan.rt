@@ -1,8 +1,8 @@
 ghost use Rattle.std.specs.Prelude.{◌≡◌, ◌≢◌, OnOk, IsTrue, ◌≤◌, ◌<◌, length, slice_index, false, IfOk, IfErr, List, ℕ};
-ghost use Rattle.bt_json.specs.Json.{Json};
 ghost use Rattle.bt_json.specs.Grammar.{is_blank};
-ghost use Rattle.bt_json.specs.Reading.{State, Frame, in_word, deliver};
-ghost use Rattle.bt_json.specs.Running.{SkipsBlanks, IsLater, rest_of, rest_after, Faults};
+ghost use Rattle.bt_json.specs.inner.Reading.{State};
+ghost use Rattle.bt_json.specs.inner.Running.{SkipsBlanks, IsLater, rest_of};
+ghost use Rattle.bt_json.specs.inner.Words.{SkipsWord};
 ghost use Rattle.bt_json.specs.declared.fault.JsonFault.TheVariants.{Json as JsonAt};
 
 use crate::fault::JsonFault;
@@ -26,9 +26,7 @@ pub fn skip_blanks(bytes: &[u8], start: usize) -> usize
 pub fn skip_word(bytes: &[u8], start: usize, letters: &[u8]) -> Result<usize, JsonFault>
     requires within { start ≤ length bytes.now }
     requires some { 0 < length letters.now }
-    ensures later { IfOk result (λ n. IsLater bytes.now start n) }
-    ensures ok { IfOk result (λ n. (v : Json) (k : List Frame) → rest_of bytes.now start (in_word letters.now v k) ≡ rest_after bytes.now n (deliver v k n)) }
-    ensures err { IfErr result (λ f. (v : Json) (k : List Frame) → Faults f (rest_of bytes.now start (in_word letters.now v k))) }
+    ensures { SkipsWord bytes.now start letters.now result }
 {
     let mut at = start;
     for letter in letters {

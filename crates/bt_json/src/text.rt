@@ -3,10 +3,10 @@ ghost use Rattle.std.specs.Option.{ForSome};
 ghost use Rattle.std.specs.Str.{IsUtf8};
 ghost use Rattle.std.specs.Char.{encode_utf8, is_digit, digit_value};
 ghost use Rattle.std.specs.Char.Utf16.{is_high_surrogate, is_low_surrogate, surrogate_pair_char};
-ghost use Rattle.bt_json.specs.Tails.{place_of};
+ghost use Rattle.bt_json.specs.inner.Tails.{place_of};
 ghost use Rattle.bt_json.specs.Grammar.{short_escape, alone};
-ghost use Rattle.bt_json.specs.Reading.{Frame, Role, in_text, between, escape, hex, tail, flushed, with_unit, reads, lead_of, finish_text};
-ghost use Rattle.bt_json.specs.Running.{IsLater, rest_of, rest_after, Faults, Around, within, step_within, with_plain, after_plain, is_plain};
+ghost use Rattle.bt_json.specs.inner.Reading.{Frame, Role, in_text, between, escape, hex, tail, flushed, with_unit, reads, lead_of, finish_text};
+ghost use Rattle.bt_json.specs.inner.Running.{IsLater, rest_of, rest_after, Faults, Around, within, step_within, with_plain, after_plain, is_plain};
 ghost use Rattle.bt_json.specs.declared.fault.JsonFault.TheVariants.{Json, Memory};
 
 use crate::fault::JsonFault;
@@ -22,7 +22,7 @@ struct Tail {
 }
 
 /// What may follow the first byte of a character of several bytes.
-#[tactic(auto, unfolding(crate::specs::Reading::lead_of))]
+#[tactic(auto, unfolding(crate::specs::inner::Reading::lead_of))]
 fn tail_of(byte: u8) -> Option<Tail>
     ensures { option_map place_of result ≡ lead_of byte }
 {
@@ -248,7 +248,7 @@ pub fn plain_text(bytes: &[u8], start: usize) -> Option<usize>
 }
 
 impl Unescaped {
-    ghost use Rattle.bt_json.specs.Unescaping.{state_of};
+    ghost use Rattle.bt_json.specs.inner.Unescaping.{state_of};
 
     /// The characters of one byte from a place on, and the place behind them.
     fn read_plain(&mut self, bytes: &[u8], start: usize) -> Result<usize, JsonFault>

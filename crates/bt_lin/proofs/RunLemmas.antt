@@ -2,7 +2,7 @@
 use Rattle.std.proofs.Common.{◌≡◌, ℕ, ◌<◌, ◌*◌, ◌+◌, arith, ℤ, pos, ◌+ℤ◌, ◌*ℤ◌, List, [], ◌∷◌, ◌++◌, ap, sym, ◌∙◌, refl, subst, inl, inr}
 use Rattle.std.specs.List.{AllByRecursion}
 use Rattle.std.proofs.lemmas.Int.{ints}
-use Rattle.bt_frac.specs.Ratio.{Ratio, IsLowest, SameRatio, IsOver, IsSum, AddNumbers, AddFits}
+use Rattle.bt_frac.specs.Ratio.{Ratio, IsLowest, SameRatio, IsOver, IsSum, CanAdd}
 use Rattle.bt_frac.specs.Products.{IsProduct}
 use Rattle.bt_frac.specs.Values.{nothing, plus, times, sum_of_products}
 use Rattle.bt_frac.proofs.Euclid.{lowest_same}
@@ -32,7 +32,7 @@ pub step_fits : (s : Ratio) (pair : Ratio × Ratio) (r : Ratio) → AddsProduct 
 step_fits s pair r a (inl wide) = wide a.product a.product_lowest a.is_product
 step_fits s pair r a (inr (p, low, is, wide)) =
     let same : a.product ≡ p = one_product pair a.product p a.left a.right a.product_lowest low a.is_product is in
-    wide_apart s p wide (subst (λ q. (n : AddNumbers s q) × AddFits n) same a.fits)
+    wide_apart s p wide (subst (CanAdd s) same a.fits)
 
 -- a sum that runs through isn't wide on the way
 pub runs_through : (s u t : Ratio) (front : List (Ratio × Ratio)) (pair : Ratio × Ratio) (rest : List (Ratio × Ratio))

@@ -1,6 +1,6 @@
 -- Sums of products in 128 bits, one product and one addition after another.
 use Rattle.std.specs.Prelude.{◌≡◌, ◌⊎◌, List, [], ◌∷◌}
-use Rattle.bt_frac.specs.Ratio.{Ratio, IsLowest, IsSum, AddNumbers, AddFits}
+use Rattle.bt_frac.specs.Ratio.{Ratio, IsLowest, IsSum, CanAdd, IsWide}
 use Rattle.bt_frac.specs.Products.{IsProduct}
 
 -- the product of the pair is added to s, which gives r, and both the product and the addition fit
@@ -12,7 +12,7 @@ pub record AddsProduct (s : Ratio) (pair : Ratio × Ratio) (r : Ratio) : Type 0 
   pub product_lowest : IsLowest product
   pub is_product : IsProduct pair.0 pair.1 product
   pub sum : IsSum s product r
-  pub fits : (n : AddNumbers s product) × AddFits n
+  pub fits : CanAdd s product
   pub lowest : IsLowest r
 
 -- the product of the pair doesn't fit
@@ -21,7 +21,7 @@ IsWideProduct pair = (p : Ratio) → IsLowest p → IsProduct pair.0 pair.1 p �
 
 -- the addition of the pair's product to s doesn't fit
 abbrev pub IsWideAddition : Ratio → Ratio × Ratio → Type 0
-IsWideAddition s pair = (p : Ratio) × IsLowest p × IsProduct pair.0 pair.1 p × ((n : AddNumbers s p) × (AddFits n → ⊥))
+IsWideAddition s pair = (p : Ratio) × IsLowest p × IsProduct pair.0 pair.1 p × IsWide s p
 
 -- the product of the pair doesn't fit, or its addition to s doesn't
 abbrev pub IsWideStep : Ratio → Ratio × Ratio → Type 0

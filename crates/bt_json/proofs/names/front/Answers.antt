@@ -1,6 +1,6 @@
 use Rattle.std.proofs.Common.{◌<◌, ◌≡◌, ◌++◌, ◌∷◌, [], true, not, get_or, length, sym, ap, ◌∙◌, subst, arith}
 use Rattle.std.specs.Prelude.{string_bytes}
-use Rattle.bt_json.specs.Reading.{has_name}
+use Rattle.bt_json.specs.inner.Reading.{has_name}
 use Rattle.bt_json.proofs.NameLemmas.{goes_on_at}
 use Rattle.bt_json.proofs.names.front.Goals as goal
 

@@ -1,6 +1,6 @@
 use Rattle.std.proofs.Common.{◌≡◌, ◌≤◌, ◌-◌, length}
-use Rattle.bt_json.specs.Reading.{State}
-use Rattle.bt_json.specs.Running.{SkipsBlanks, rest_of}
+use Rattle.bt_json.specs.inner.Reading.{State}
+use Rattle.bt_json.specs.inner.Running.{SkipsBlanks, rest_of}
 use Rattle.bt_json.proofs.scan.skip_blanks.Given as goal
 
 abbrev pub invariant-loop-at : goal.invariant-loop-at

@@ -1,7 +1,7 @@
 use Rattle.std.proofs.Common.{◌≡◌, ◌≤◌, length, List, drop}
 use Rattle.bt_json.specs.Json.{Json}
-use Rattle.bt_json.specs.Reading.{Frame, in_word, word_left}
-use Rattle.bt_json.specs.Running.{rest_of, rest_after}
+use Rattle.bt_json.specs.inner.Reading.{Frame, in_word, word_left}
+use Rattle.bt_json.specs.inner.Running.{rest_of, rest_after}
 use Rattle.bt_json.proofs.scan.skip_word.Given as goal
 
 abbrev pub invariant-loop-letter : goal.invariant-loop-letter

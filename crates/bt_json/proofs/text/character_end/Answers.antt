@@ -1,9 +1,9 @@
 use Rattle.std.proofs.Common.{arith, ◌≡◌, ◌+◌, ◌-◌, suc, ◌∷◌, [], Some, get_or, sym, ap, ◌∙◌, subst, IsUtf8}
 use Rattle.std.specs.Prelude.{option_map}
 use Rattle.std.proofs.lemmas.Result.{err_from_is_err_and}
-use Rattle.bt_json.specs.Reading.{lead_of, tail, between}
-use Rattle.bt_json.specs.Running.{rest_of, within, with_plain}
-use Rattle.bt_json.specs.Tails.{place_of}
+use Rattle.bt_json.specs.inner.Reading.{lead_of, tail, between}
+use Rattle.bt_json.specs.inner.Running.{rest_of, within, with_plain}
+use Rattle.bt_json.specs.inner.Tails.{place_of}
 use Rattle.bt_json.proofs.Characters.{two_bytes, three_bytes, four_bytes, wide_utf8, more_than}
 use Rattle.bt_json.proofs.Texts.{Leads, lead_breaks, lead_goes_on, tail_breaks, second_read, third_read, fourth_read, two_at, three_at, four_at}
 use Rattle.bt_json.proofs.text.character_end.Goals as goal

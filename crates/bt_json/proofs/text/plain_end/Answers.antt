@@ -1,5 +1,5 @@
 use Rattle.std.proofs.Common.{arith, ◌≡◌, true, get_or, sym, ◌∙◌}
-use Rattle.bt_json.specs.Running.{is_plain}
+use Rattle.bt_json.specs.inner.Running.{is_plain}
 use Rattle.bt_json.proofs.Texts.{plain_goes_on, plain_begins, utf8_more, utf8_none}
 use Rattle.bt_json.proofs.text.plain_end.Goals as goal
 

@@ -1,7 +1,7 @@
 use Rattle.std.proofs.Common.{◌≡◌, ◌≤◌, ◌-◌, length, IsUtf8}
 use Rattle.std.specs.Prelude.{slice_range}
-use Rattle.bt_json.specs.Reading.{between}
-use Rattle.bt_json.specs.Running.{rest_of, Around, within, after_plain}
+use Rattle.bt_json.specs.inner.Reading.{between}
+use Rattle.bt_json.specs.inner.Running.{rest_of, Around, within, after_plain}
 use Rattle.bt_json.proofs.text.plain_end.Given as goal
 
 abbrev pub invariant-loop-at : goal.invariant-loop-at

@@ -1,6 +1,6 @@
 use Rattle.std.proofs.Common.{◌≡◌, ◌≤◌, ◌<◌, ◌+◌, ◌-◌, ◌^◌, length}
-use Rattle.bt_json.specs.Reading.{hex, step_hex}
-use Rattle.bt_json.specs.Running.{rest_of, rest_after, Around, within, step_within}
+use Rattle.bt_json.specs.inner.Reading.{hex, step_hex}
+use Rattle.bt_json.specs.inner.Running.{rest_of, rest_after, Around, within, step_within}
 use Rattle.bt_json.proofs.text.read_hex.Given as goal
 
 abbrev pub invariant-loop-index : goal.invariant-loop-index

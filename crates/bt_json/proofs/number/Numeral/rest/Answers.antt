@@ -1,8 +1,8 @@
 use Rattle.std.proofs.Common.{arith, ◌≡◌, sym, ◌∙◌, ap, false, true}
 use Rattle.bt_json.specs.Json.{number}
-use Rattle.bt_json.specs.Numerals.{view, shown}
-use Rattle.bt_json.specs.Reading.{deliver, may_end}
-use Rattle.bt_json.specs.Running.{rest_after}
+use Rattle.bt_json.specs.inner.Numerals.{view, shown}
+use Rattle.bt_json.specs.inner.Reading.{deliver, may_end}
+use Rattle.bt_json.specs.inner.Running.{rest_after}
 use Rattle.bt_json.proofs.Running.{number_goes_on, number_ends, number_breaks, number_at_end, number_cut}
 use Rattle.bt_json.proofs.number.Numeral.rest.Goals as goal
 
@@ -14,24 +14,30 @@ loop-at-preserved c = record {
       (ap (λ x. shown x (view c.step.new.self)) (sym c.in-GoesOn.is) ∙ c.in_ok-next.ensures);
 }
 
-pub returns-in-Ends-clause-ok : goal.returns-in-Ends-clause-ok
-returns-in-Ends-clause-ok c = λ k.
-    c.loop-at.invariant.written k ∙ number_ends c.args.bytes.now c.loop-at.at c.loop-at.phase (view c.loop-at.self) (view c.step.new.self) k (omega arith)
-    (ap (λ x. shown x (view c.step.new.self)) (sym c.in-Ends.is) ∙ c.in_ok-next.ensures)
-    ∙ ap (λ n. rest_after c.args.bytes.now c.loop-at.at (deliver (number n) k c.loop-at.at)) (sym c.in_ok-into_decimal-in-Ends.ensures.ok)
+pub returns-in-Ends : goal.returns-in-Ends
+returns-in-Ends c = (
+  (c.loop-at.invariant.from, c.loop-at.invariant.within),
+  λ k.
+      c.loop-at.invariant.written k ∙ number_ends c.args.bytes.now c.loop-at.at c.loop-at.phase (view c.loop-at.self) (view c.step.new.self) k (omega arith)
+      (ap (λ x. shown x (view c.step.new.self)) (sym c.in-Ends.is) ∙ c.in_ok-next.ensures)
+      ∙ ap (λ n. rest_after c.args.bytes.now c.loop-at.at (deliver (number n) k c.loop-at.at)) (sym c.in_ok-into_decimal-in-Ends.ensures.ok),
+)
 
-pub returns-in-Wrong-clause-err : goal.returns-in-Wrong-clause-err
-returns-in-Wrong-clause-err c = λ k.
+pub returns-in-Wrong : goal.returns-in-Wrong
+returns-in-Wrong c = λ k.
     c.loop-at.invariant.written k ∙ number_breaks c.args.bytes.now c.loop-at.at c.loop-at.phase (view c.loop-at.self) k (omega arith)
     (ap (λ x. shown x (view c.step.new.self)) (sym c.in-Wrong.is) ∙ c.in_ok-next.ensures)
 
-pub returns-then-not-may_end-clause-err : goal.returns-then-not-may_end-clause-err
-returns-then-not-may_end-clause-err c = λ k.
+pub returns-then-not-may_end : goal.returns-then-not-may_end
+returns-then-not-may_end c = λ k.
     let no : may_end c.loop-at.phase ≡ false = grind arith in
     c.loop-at.invariant.written k ∙ number_cut c.args.bytes.now c.loop-at.at c.loop-at.phase (view c.loop-at.self) k (omega arith) no
 
-pub returns-clause-ok : goal.returns-clause-ok
-returns-clause-ok c = λ k.
-    let yes : may_end c.loop-at.phase ≡ true = grind arith in
-    c.loop-at.invariant.written k ∙ number_at_end c.args.bytes.now c.loop-at.at c.loop-at.phase (view c.loop-at.self) k (omega arith) yes
-    ∙ ap (λ n. rest_after c.args.bytes.now c.loop-at.at (deliver (number n) k c.loop-at.at)) (sym c.in_ok-into_decimal.ensures.ok)
+pub returns : goal.returns
+returns c = (
+  (c.loop-at.invariant.from, c.loop-at.invariant.within),
+  λ k.
+      let yes : may_end c.loop-at.phase ≡ true = grind arith in
+      c.loop-at.invariant.written k ∙ number_at_end c.args.bytes.now c.loop-at.at c.loop-at.phase (view c.loop-at.self) k (omega arith) yes
+      ∙ ap (λ n. rest_after c.args.bytes.now c.loop-at.at (deliver (number n) k c.loop-at.at)) (sym c.in_ok-into_decimal.ensures.ok),
+)

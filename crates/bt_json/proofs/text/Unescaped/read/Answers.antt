@@ -1,8 +1,8 @@
 use Rattle.std.proofs.Common.{arith, true, ◌≡◌, ◌+◌, ◌-◌, sym, ap, ◌∙◌}
 use Rattle.std.specs.Prelude.{string_bytes}
-use Rattle.bt_json.specs.Reading.{between, finish_text}
-use Rattle.bt_json.specs.Running.{rest_after}
-use Rattle.bt_json.specs.Unescaping.{around}
+use Rattle.bt_json.specs.inner.Reading.{between, finish_text}
+use Rattle.bt_json.specs.inner.Running.{rest_after}
+use Rattle.bt_json.specs.inner.Unescaping.{around}
 use Rattle.bt_json.proofs.Texts.{text_cut, closing}
 use Rattle.bt_json.proofs.text.Unescaped.read.Goals as goal
 

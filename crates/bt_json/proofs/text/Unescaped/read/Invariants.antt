@@ -1,7 +1,7 @@
 use Rattle.std.proofs.Common.{◌≡◌, ◌≤◌, ◌-◌, length, List, [], None}
-use Rattle.bt_json.specs.Reading.{Role, Frame, in_text, between}
-use Rattle.bt_json.specs.Running.{rest_of}
-use Rattle.bt_json.specs.Unescaping.{state_of}
+use Rattle.bt_json.specs.inner.Reading.{Role, Frame, in_text, between}
+use Rattle.bt_json.specs.inner.Running.{rest_of}
+use Rattle.bt_json.specs.inner.Unescaping.{state_of}
 use Rattle.bt_json.proofs.text.Unescaped.read.Given as goal
 
 abbrev pub invariant-loop-text : goal.invariant-loop-text

@@ -1,9 +1,9 @@
 use Rattle.std.proofs.Common.{arith, ◌≡◌, ◌+◌, sym, ap, ◌∙◌, subst}
 use Rattle.std.specs.Prelude.{string_bytes}
 use Rattle.std.proofs.lemmas.Result.{err_from_is_err_and}
-use Rattle.bt_json.specs.Reading.{escape, with_unit}
-use Rattle.bt_json.specs.Running.{Faults, rest_after, step_within}
-use Rattle.bt_json.specs.Unescaping.{around}
+use Rattle.bt_json.specs.inner.Reading.{escape, with_unit}
+use Rattle.bt_json.specs.inner.Running.{Faults, rest_after, step_within}
+use Rattle.bt_json.specs.inner.Unescaping.{around}
 use Rattle.bt_json.proofs.Texts.{escape_u, escape_short, escape_breaks, unit_in, text_cut}
 use Rattle.bt_json.proofs.text.Unescaped.read_escape.Goals as goal
 

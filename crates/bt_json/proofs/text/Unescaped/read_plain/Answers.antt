@@ -1,6 +1,6 @@
 use Rattle.std.proofs.Common.{◌<◌, length, ◌∙◌}
 use Rattle.std.specs.Prelude.{string_bytes, slice_range}
-use Rattle.bt_json.specs.Unescaping.{around}
+use Rattle.bt_json.specs.inner.Unescaping.{around}
 use Rattle.bt_json.proofs.Texts.{plain_in, some_plain, slice_some}
 use Rattle.bt_json.proofs.text.Unescaped.read_plain.Goals as goal
 

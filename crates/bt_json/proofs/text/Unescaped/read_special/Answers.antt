@@ -1,5 +1,5 @@
 use Rattle.std.proofs.Common.{arith, get_or}
-use Rattle.bt_json.specs.Unescaping.{around}
+use Rattle.bt_json.specs.inner.Unescaping.{around}
 use Rattle.bt_json.proofs.Running.{moved2, moved2_err}
 use Rattle.bt_json.proofs.Texts.{control_breaks, backslash, must_be_wide}
 use Rattle.bt_json.proofs.text.Unescaped.read_special.Goals as goal

@@ -1,7 +1,7 @@
 use Rattle.std.proofs.Common.{◌∙◌}
 use Rattle.std.specs.Prelude.{string_bytes, slice_range}
 use Rattle.std.proofs.lemmas.Result.{err_from_is_err_and}
-use Rattle.bt_json.specs.Unescaping.{around}
+use Rattle.bt_json.specs.inner.Unescaping.{around}
 use Rattle.bt_json.proofs.Texts.{plain_in}
 use Rattle.bt_json.proofs.text.Unescaped.read_wide.Goals as goal
 

@@ -1,5 +1,5 @@
 use Rattle.std.proofs.Common.{ap, ap₂, sym, ◌∙◌, map}
-use Rattle.bt_json.specs.Names.{keys_of}
+use Rattle.bt_json.specs.inner.Names.{keys_of}
 use Rattle.bt_json.specs.Json.{member_of, value_at}
 use Rattle.bt_json.specs.Stands.{json_of, members_of}
 use Rattle.bt_json.proofs.Trees.{json-Object}

@@ -1,9 +1,10 @@
 -- What the parts of the reader give, told by how reading goes on.
-use Rattle.std.specs.Prelude.{◌≡◌, ℕ, ◌≤◌, Bool, true, List, ◌++◌, [], ◌∷◌, drop, length, Option, None, ◌&&◌, ◌==◌, not, nat_le, nat_lt}
+use Rattle.std.specs.Prelude.{◌≡◌, ℕ, ◌≤◌, Bool, true, List, ◌++◌, [], ◌∷◌, drop, length, Option, None, ◌&&◌, ◌==◌, not, nat_le, nat_lt, Result, Ok, Err}
+use Rattle.bt_json.specs.Json.{Json}
 use Rattle.bt_json.specs.Grammar.{is_blank}
-use Rattle.bt_json.specs.Reading.{State, Step, go, Stop, bad, deep, twice, step, after_step, run, Role, Frame, Place, InText, in_text, step_in_text, flushed}
+use Rattle.bt_json.specs.inner.Reading.{State, Step, go, Stop, found, bad, deep, twice, step, after_step, run, Role, Frame, Place, InText, in_text, step_in_text, flushed}
 use Rattle.bt_json.specs.declared.fault.JsonFault.{JsonFault}
-use Rattle.bt_json.specs.declared.fault.JsonFault.TheVariants.{Json, Deep, DuplicateKey, Memory}
+use Rattle.bt_json.specs.declared.fault.JsonFault.TheVariants.{Json as JsonAt, Deep, DuplicateKey, Memory}
 
 -- blanks leave it as it is
 pub record SkipsBlanks (s : State) : Type 0 where
@@ -21,12 +22,24 @@ rest_after bytes at next = after_step next (λ s. rest_of bytes at s)
 abbrev pub IsLater : List ℕ → ℕ → ℕ → Type 0
 IsLater bytes at later = (at ≤ later) × (later ≤ length bytes)
 
+-- the value and the place, or the fault, that reading ends with
+abbrev pub ends_as : Stop → Result (Json × ℕ) JsonFault
+ends_as (found v at) = Ok (v, at)
+ends_as (bad at) = Err (JsonAt at)
+ends_as (deep at) = Err (Deep at)
+ends_as (twice from close) = Err (DuplicateKey from)
+
 -- the fault is how reading ends, unless memory ran out
 abbrev pub Faults : JsonFault → Stop → Type 0
-Faults (Json k) e = e ≡ bad k
+Faults (JsonAt k) e = e ≡ bad k
 Faults (Deep o) e = e ≡ deep o
 Faults (DuplicateKey o) e = (close : ℕ) × (e ≡ twice o close)
 Faults Memory e = Unit {0}
+
+-- What was read, with the place behind it, is how reading goes on from there; or the fault is how it ends, unless memory ran out.
+abbrev pub ReadsOn : {X K : Type 0} → List ℕ → ℕ → (K → State) → (X → ℕ) → (X → K → Step) → Result X JsonFault → Type 0
+ReadsOn {X} {K} bytes start from place next (Ok x) = IsLater bytes start (place x) × ((k : K) → rest_of bytes start (from k) ≡ rest_after bytes (place x) (next x k))
+ReadsOn {X} {K} bytes start from place next (Err f) = (k : K) → Faults f (rest_of bytes start (from k))
 
 -- around a place in a text: what it has, the high surrogate that waits, what the text is, and the open frames
 pub record Around : Type 0 where

@@ -2,13 +2,14 @@
 use Rattle.std.proofs.Common.{◌≡◌, ℕ, suc, ◌+◌, ◌<◌, Bool, true, false, cond, List, [], ◌∷◌, ◌++◌, length, refl, ap, ◌∙◌, sym, subst, arith, ◌==◌, ◌⊎◌, inl, inr}
 use Rattle.bt_json.specs.Json.{Json, number, text, list, object, no_items, no_members}
 use Rattle.bt_json.specs.Stands.{items_of, members_of}
-use Rattle.bt_json.specs.Bytes.{kind_of, mark_of}
-use Rattle.bt_json.specs.Reading.{State, Step, go, stop, Stop, found, bad, deep, twice, step, run, after_step, finish, finish_number, may_end, Frame, in_list, in_object, Role, as_value, as_name, InText, reads, closes, no_text, numeral_value, InNumber, goes_on, ends, wrong, due, opened_list, behind, opened_object, name_due, colon_due, in_text, in_number, in_word, word_left, deliver, opens_level, has_name, step_due, step_opened_list, step_behind, step_opened_object, step_name_due, step_colon_due, step_in_text, step_in_number, step_past, step_in_word, step_text, step_number}
+use Rattle.bt_json.specs.inner.Bytes.{kind_of, mark_of}
+use Rattle.bt_json.specs.inner.Reading.{State, Step, go, stop, Stop, found, bad, deep, twice, step, run, after_step, finish, finish_number, may_end, Frame, in_list, in_object, Role, as_value, as_name, InText, reads, closes, no_text, numeral_value, InNumber, goes_on, ends, wrong, due, opened_list, behind, opened_object, name_due, colon_due, in_text, in_number, in_word, word_left, deliver, opens_level, has_name, step_due, step_opened_list, step_behind, step_opened_object, step_name_due, step_colon_due, step_in_text, step_in_number, step_past, step_in_word, step_text, step_number}
 use Rattle.bt_json.specs.declared.kind.Kind.{Kind}
 use Rattle.bt_json.specs.declared.kind.Kind.TheVariants.{Blank, ListOpens, ListCloses, ObjectOpens, ObjectCloses, Comma, Colon, Quote, Minus, Digit, LetterT, LetterF, LetterN, Other}
 use Rattle.bt_json.specs.declared.fault.JsonFault.{JsonFault}
 use Rattle.bt_json.specs.declared.fault.JsonFault.TheVariants as faults
 use Rattle.bt_json.proofs.Eating.{walk, onward, settle, settle_number}
+use Rattle.bt_json.specs.declared.limits.TheConstants.{MOST_LEVELS}
 
 -- a strict step, and the lenient one
 abbrev pub Alike : ℕ → Step → Step → Type 0
@@ -23,7 +24,7 @@ delivered at v [] = refl
 delivered at v (f ∷ k) = refl
 
 opens : (k : List Frame) (at : ℕ) (inside : State) → Alike at (opens_level true k at inside) (opens_level false k at inside)
-opens k at inside = by (length k == 64)
+opens k at inside = by (length k == MOST_LEVELS)
   where
     by : (b : Bool) → Alike at (cond b (stop (deep at)) (go inside)) (go inside)
     by true = (refl, inside, refl)

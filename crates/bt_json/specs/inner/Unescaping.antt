@@ -1,7 +1,7 @@
 -- The state of reading that a text as far as it is read stands for.
 use Rattle.std.specs.Prelude.{List, string_bytes}
-use Rattle.bt_json.specs.Reading.{State, Place, Role, Frame, in_text}
-use Rattle.bt_json.specs.Running.{Around}
+use Rattle.bt_json.specs.inner.Reading.{State, Place, Role, Frame, in_text}
+use Rattle.bt_json.specs.inner.Running.{Around}
 use Rattle.bt_json.specs.declared.text.Unescaped.{Unescaped}
 
 -- the state at a place in the text, which is a value or a name, within the open frames

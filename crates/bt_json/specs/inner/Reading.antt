@@ -6,16 +6,17 @@ use Rattle.std.specs.Char.{encode_utf8, is_digit, digit_value}
 use Rattle.std.specs.Char.Utf16.{is_high_surrogate, is_low_surrogate, surrogate_pair_char}
 use Rattle.bt_json.specs.Json.{Number, Json, null, boolean, number, text, list, object}
 use Rattle.bt_json.specs.Stands.{items_of, members_of}
-use Rattle.bt_json.specs.Grammar.{short_escape, alone, limit}
+use Rattle.bt_json.specs.Grammar.{short_escape, alone}
 use Rattle.bt_json.specs.Value.{signed}
 pub use Rattle.bt_json.specs.Places.{Frame, in_list, in_object}
-use Rattle.bt_json.specs.Bytes.{kind_of, mark_of}
+use Rattle.bt_json.specs.inner.Bytes.{kind_of, mark_of}
 use Rattle.bt_json.specs.declared.kind.Kind.{Kind}
 use Rattle.bt_json.specs.declared.kind.Kind.TheVariants.{Blank, ListOpens, ListCloses, ObjectOpens, ObjectCloses, Comma, Colon, Quote, Minus, Digit, LetterT, LetterF, LetterN}
 use Rattle.bt_json.specs.declared.kind.Mark.{Mark}
 use Rattle.bt_json.specs.declared.kind.Mark.TheVariants.{Figure, Point, LetterE, PlusSign, MinusSign, Over}
 use Rattle.bt_json.specs.declared.kind.Phase.{Phase}
-use Rattle.bt_json.specs.declared.kind.Phase.TheVariants.{AfterMinus, AfterZero, InWhole, AfterPoint, InFraction, AfterLetter, AfterSign, InPower}
+use Rattle.bt_json.specs.declared.kind.Phase.TheVariants.{BeforeWhole, AfterZero, InWhole, AfterPoint, InFraction, AfterLetter, AfterSign, InPower}
+use Rattle.bt_json.specs.declared.limits.TheConstants.{MOST_LEVELS, MOST_EXPONENT}
 
 -- ---- numbers
 
@@ -41,7 +42,7 @@ with_fraction n d = record n { digits = n.digits ++ d ∷ []; places = n.places 
 
 -- one more digit of the exponent, which stays at its limit
 abbrev pub with_power : Numeral → ℕ → Numeral
-with_power n d = record n { power = min (n.power * 10 + d) limit }
+with_power n d = record n { power = min (n.power * 10 + d) MOST_EXPONENT }
 
 -- the number goes on; it ends before this byte; or this byte can't stand there
 pub data InNumber : Type 0 where
@@ -55,7 +56,7 @@ first_phase d = if d == 0 then AfterZero else InWhole
 
 -- a digit
 abbrev pub step_digit : Phase → Numeral → ℕ → InNumber
-step_digit AfterMinus n d = goes_on (first_phase d) (with_whole n d)
+step_digit BeforeWhole n d = goes_on (first_phase d) (with_whole n d)
 step_digit AfterZero n d = wrong
 step_digit InWhole n d = goes_on InWhole (with_whole n d)
 step_digit AfterPoint n d = goes_on InFraction (with_fraction n d)
@@ -84,7 +85,7 @@ step_sign minus _ n = wrong
 
 -- a number may end there
 abbrev pub may_end : Phase → Bool
-may_end AfterMinus = false
+may_end BeforeWhole = false
 may_end AfterZero = true
 may_end InWhole = true
 may_end AfterPoint = false
@@ -221,7 +222,7 @@ deliver v (f ∷ frames) at = go (behind v f frames)
 
 -- a level more, unless there are as many as may be
 abbrev pub opens_level : Bool → List Frame → ℕ → State → Step
-opens_level strict frames at inside = if strict && (length frames == 64) then stop (deep at) else go inside
+opens_level strict frames at inside = if strict && (length frames == MOST_LEVELS) then stop (deep at) else go inside
 
 -- the name is among these
 abbrev pub has_name : List (List ℕ) → List ℕ → Bool
@@ -233,7 +234,7 @@ step_due strict at k b Blank = go (due k)
 step_due strict at k b ListOpens = opens_level strict k at (opened_list k)
 step_due strict at k b ObjectOpens = opens_level strict k at (opened_object k)
 step_due strict at k b Quote = go (in_text [] None between as_value k)
-step_due strict at k b Minus = go (in_number AfterMinus (numeral true []) k)
+step_due strict at k b Minus = go (in_number BeforeWhole (numeral true []) k)
 step_due strict at k b Digit = go (in_number (first_phase (b - 48)) (numeral false ((b - 48) ∷ [])) k)
 step_due strict at k b LetterT = go (in_word (114 ∷ 117 ∷ 101 ∷ []) (boolean true) k)
 step_due strict at k b LetterF = go (in_word (97 ∷ 108 ∷ 115 ∷ 101 ∷ []) (boolean false) k)

@@ -1,0 +1,17 @@
+use Rattle.std.proofs.Common.{ap, sym, ◌∙◌}
+use Rattle.std.proofs.lemmas.Result.{err_from_is_err_and}
+use Rattle.bt_json.specs.Json.{null}
+use Rattle.bt_json.specs.inner.Reading.{deliver}
+use Rattle.bt_json.specs.inner.Running.{rest_after}
+use Rattle.bt_json.proofs.Trees.{json-Null}
+use Rattle.bt_json.proofs.reader.read_null.Goals as goal
+
+pub returns-in_err-end-clause-read : goal.returns-in_err-end-clause-read
+returns-in_err-end-clause-read c =
+    let p = err_from_is_err_and c.from_residual.result c.from_residual.ensures.1 in
+    rw (p.1, p.2) (λ k. c.in_err-end.ensures (null, k))
+
+pub returns-clause-read : goal.returns-clause-read
+returns-clause-read c =
+    let end = c.in_ok-end.end in
+    (c.in_ok-end.ensures.0, λ k. c.in_ok-end.ensures.1 (null, k) ∙ ap (λ v. rest_after c.args.bytes.now end (deliver v k end)) (sym (json-Null)))
