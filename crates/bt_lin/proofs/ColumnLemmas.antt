@@ -47,7 +47,7 @@ looks_found least terms i term inside is from looks =
     let before = subst (λ ts. Looks least (columns_of terms) (columns_of ts)) (left_from terms i term inside is) looks in
     let rest : List ℕ = columns_of (drop (i + 1) terms) in (
       before.back (Some term.0)
-      (from, contains_first term.0 rest, All-cons (λ other. least ≤ other → term.0 ≤ other) term.0 rest (λ h. omega arith) (ascend_above (term.0 + 1) term.0 least rest (omega arith) before.ascend.2)),
+          (from, contains_first term.0 rest, All-cons (λ other. least ≤ other → term.0 ≤ other) term.0 rest (λ h. omega arith) (ascend_above (term.0 + 1) term.0 least rest (omega arith) before.ascend.2)),
       before.ascend.1,
     )
 
@@ -78,8 +78,8 @@ least_of_both least xs ys (Some a) (Some b) (from, among, first) (from', among',
   omega arith,
   among_both a b xs ys among among',
   All-append (λ other. least ≤ other → min a b ≤ other) xs ys
-  (All-weaker (λ other. least ≤ other → a ≤ other) (λ other. least ≤ other → min a b ≤ other) (λ x h l. let k : a ≤ x = h l in omega arith) xs first)
-  (All-weaker (λ other. least ≤ other → b ≤ other) (λ other. least ≤ other → min a b ≤ other) (λ x h l. let k : b ≤ x = h l in omega arith) ys first'),
+      (All-weaker (λ other. least ≤ other → a ≤ other) (λ other. least ≤ other → min a b ≤ other) (λ x h l. let k : a ≤ x = h l in omega arith) xs first)
+      (All-weaker (λ other. least ≤ other → b ≤ other) (λ other. least ≤ other → min a b ≤ other) (λ x h l. let k : b ≤ x = h l in omega arith) ys first'),
 )
 
 pub looks_none : (least : ℕ) (terms : List (ℕ × Ratio)) (i : ℕ) → length terms ≤ i → Looks least (columns_of terms) (columns_of (drop i terms)) → IsLeastFrom least (columns_of terms) None

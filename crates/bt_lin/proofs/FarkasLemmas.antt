@@ -168,10 +168,16 @@ module _ (sum : List (RowParts × Ratio)) (named : List ℕ) (same : columns_in 
     ];
     within = let most = before.within in omega arith;
     none = tt;
-    some = (omega arith, record { wide = wide; first = λ other lower w. elim (earlier row other (omega arith) w) [
-      | inl in' ↦ before.unwide row other less in' w
-      | inr is ↦ absurd (omega (arith, is))
-    ] });
+    some = (
+      omega arith,
+      record {
+        wide = wide;
+        first = λ other lower w. elim (earlier row other (omega arith) w) [
+          | inl in' ↦ before.unwide row other less in' w
+          | inr is ↦ absurd (omega (arith, is))
+        ];
+      },
+    );
     reached = inr (column, least.1, refl);
   }
 

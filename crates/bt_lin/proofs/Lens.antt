@@ -36,7 +36,6 @@ over_by d r h =
     ap (λ n. r.over *ℤ pos n) (sym (div-mul_cancel r.under h.divides)) ∙ ap (λ t. r.over *ℤ t) (sym (pos-*ℤ-pos (d / r.under) r.under))
     ∙ sym (mul_assoc r.over (pos (d / r.under)) (pos r.under))
 
-
 first_regrouped : (a b r d e : ℤ) → a *ℤ b *ℤ r *ℤ (d *ℤ e) ≡ a *ℤ d *ℤ (b *ℤ e) *ℤ r
 first_regrouped a b r d e = simp products
 
@@ -95,8 +94,11 @@ common_divided (pair ∷ pairs) all =
     let both : ℕ = m * n in (
       both * rest.0,
       under_positive both rest.0 (under_positive m n all.0.left all.0.right) rest.1,
-      (record {
-        left = record { positive = all.0.left; divides = dvd-mul_right_of_dvd m (dvd-mul_right m n) rest.0 };
-        right = record { positive = all.0.right; divides = dvd-mul_right_of_dvd n (dvd-mul_left n m) rest.0 };
-      }, divides_more_both rest.0 both pairs rest.2),
+      (
+        record {
+          left = record { positive = all.0.left; divides = dvd-mul_right_of_dvd m (dvd-mul_right m n) rest.0 };
+          right = record { positive = all.0.right; divides = dvd-mul_right_of_dvd n (dvd-mul_left n m) rest.0 };
+        },
+        divides_more_both rest.0 both pairs rest.2,
+      ),
     )

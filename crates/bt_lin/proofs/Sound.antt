@@ -339,8 +339,8 @@ false_sum_fails sum all false_sum values are holds =
     let n : ℕ = end_of columns in
     let zero_at : (j : ℕ) → j < n → whole_sum d (pairs_at (Column j) sum) *ℤ whole_over d (values j) ≡ pos 0 =
     λ j h. let total = sum_over d (pairs_at (Column j) sum) (pairs_divided d values (Column j) sum divided) in
-        ap (λ x. x *ℤ whole_over d (values j)) (zero_over (sum_of_products (pairs_at (Column j) sum)) (whole_sum d (pairs_at (Column j) sum)) (d * d) total.1 total.0 (false_sum.columns j))
-        ∙ zero-*ℤ (whole_over d (values j)) in
+    ap (λ x. x *ℤ whole_over d (values j)) (zero_over (sum_of_products (pairs_at (Column j) sum)) (whole_sum d (pairs_at (Column j) sum)) (d * d) total.1 total.0 (false_sum.columns j))
+    ∙ zero-*ℤ (whole_over d (values j)) in
     let none : sums_sum d values sum ≡ pos 0 =
     sums_range d n values sum all (recursion_below columns n (below_end columns)) ∙ range_zero n (λ j. whole_sum d (pairs_at (Column j) sum) *ℤ whole_over d (values j)) zero_at in
     let bound = sum_over d (pairs_at Bound sum) (pairs_divided d values Bound sum divided) in

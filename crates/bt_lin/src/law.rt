@@ -5,5 +5,4 @@ ghost use Rattle.bt_lin.specs.Laws.{FalseSumsFail};
 /// fractions, also such as leave 128 bits.
 pub fn false_sums_fail()
     ensures { FalseSumsFail }
-{
-}
+{}

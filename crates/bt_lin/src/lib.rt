@@ -6,6 +6,8 @@ mod law;
 mod places;
 mod running;
 mod signs;
+#[cfg(test)]
+mod tests;
 mod values;
 mod weighing;
 mod wide;

@@ -18,9 +18,10 @@ returns-in_default-add_product c =
     let weight = c.index-weights-i.result in
     let within : i < length picks = omega arith in
     let inside : i < length (weighted rows picks weights) = omega (arith, length-weighted rows picks weights c.requires.weights) in
-    let here = weighted_here rows picks weights i row weight c.requires.weights c.requires.picks within c.index-rows-picks.is c.index-weights-i.is in
-    (c.loop-i-test.true,
-    wide_at c.args.place (weighted rows picks weights) i (row, weight) c.in-Some.part c.loop-i.sum inside here (sym c.part.ensures ∙ c.in-Some.is) c.loop-i.invariant c.in_default-add_product.ensures.none)
+    let here = weighted_here rows picks weights i row weight c.requires.weights c.requires.picks within c.index-rows-picks.is c.index-weights-i.is in (
+      c.loop-i-test.true,
+      wide_at c.args.place (weighted rows picks weights) i (row, weight) c.in-Some.part c.loop-i.sum inside here (sym c.part.ensures ∙ c.in-Some.is) c.loop-i.invariant c.in_default-add_product.ensures.none,
+    )
 
 pub loop-i-preserved : goal.loop-i-preserved
 loop-i-preserved c =

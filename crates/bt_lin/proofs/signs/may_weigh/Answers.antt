@@ -17,11 +17,12 @@ returns-then-not-may_have c =
     let row = c.index-rows-pick.result in
     let weight = c.index-weights-i.result in
     let inside : i < length (weighted rows picks weights) = omega (arith, length-weighted rows picks weights c.requires.weights) in
-    let here = weighted_here rows picks weights i row weight c.requires.weights c.requires.picks c.loop-i-test.true c.index-rows-pick.is c.index-weights-i.is in
-    (λ h. absurd (false≢true h),
-    λ all.
-        absurd (not_all MayWeigh (weighted rows picks weights) i (row, weight) inside here
-        (λ may. false≢true (c.if-not-may_have.ensures.1 (subst (λ r. MayHave r weight) (sym c.relation.ensures) may))) all))
+    let here = weighted_here rows picks weights i row weight c.requires.weights c.requires.picks c.loop-i-test.true c.index-rows-pick.is c.index-weights-i.is in (
+      λ h. absurd (false≢true h),
+      λ all.
+          absurd (not_all MayWeigh (weighted rows picks weights) i (row, weight) inside here
+          (λ may. false≢true (c.if-not-may_have.ensures.1 (subst (λ r. MayHave r weight) (sym c.relation.ensures) may))) all),
+    )
 
 pub loop-i-preserved : goal.loop-i-preserved
 loop-i-preserved c =
