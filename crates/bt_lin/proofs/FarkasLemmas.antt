@@ -8,12 +8,12 @@ use Rattle.std.proofs.lemmas.List.{take_all}
 use Rattle.std.proofs.lemmas.List.Elements.{All-contains, All-head, All-tail}
 use Rattle.bt_answers.specs.Answers.{HasOneAnswer}
 use Rattle.bt_frac.specs.Ratio.{Ratio}
-use Rattle.bt_frac.specs.Rows.{RowParts}
+use Rattle.bt_frac.specs.Rows.{RowParts, columns_in, end_of}
 use Rattle.bt_frac.specs.Values.{nothing, sum_of_products}
 use Rattle.bt_lin.specs.Farkas.{IsWidePlace, ComesFirst, IsFirstWide, IsFarkas}
 use Rattle.bt_lin.specs.FalseSums.{MayWeigh, IsStrict, IsFalseBound, Cancels, IsFalseSum}
 use Rattle.bt_lin.specs.RunningSums.{RunsTo}
-use Rattle.bt_lin.specs.WeightedRows.{pairs_at, columns_in, end_of, number_of}
+use Rattle.bt_lin.specs.WeightedRows.{pairs_at, number_of}
 use Rattle.bt_lin.specs.inner.Totals.{IsTotal, IsLeastFrom, IsFirstColumn, AreColumnsBelow, AreColumns, IsAfterColumn}
 use Rattle.bt_lin.specs.declared.places.Place.{Place}
 use Rattle.bt_lin.specs.declared.places.Place.TheVariants.{Column, Bound}

@@ -8,12 +8,12 @@ use Rattle.std.proofs.lemmas.List.Elements.{Contains-append_left, Contains-appen
 use Rattle.std.proofs.lemmas.Bool.Decides.{nat_tests}
 use Rattle.std.proofs.Math.Seq.{take-append_seam}
 use Rattle.bt_frac.specs.Ratio.{Ratio}
-use Rattle.bt_frac.specs.Rows.{RowParts, columns_of}
+use Rattle.bt_frac.specs.Rows.{RowParts, columns_of, columns_in}
 use Rattle.bt_frac.specs.Values.{nothing}
 use Rattle.bt_frac.proofs.RowColumns.{left_from}
 use Rattle.bt_lin.specs.Farkas.{IsWidePlace}
 use Rattle.bt_lin.specs.RunningSums.{IsWideStep, RunsTo, AddsProduct}
-use Rattle.bt_lin.specs.WeightedRows.{coefficient_at, part_of, pairs_at, columns_in}
+use Rattle.bt_lin.specs.WeightedRows.{coefficient_at, part_of, pairs_at}
 use Rattle.bt_lin.specs.declared.places.Place.{Place}
 use Rattle.bt_lin.specs.declared.places.Place.TheVariants.{Column, Bound}
 use Rattle.bt_lin.proofs.ColumnLemmas.{contains_first, contains_later}

@@ -8,7 +8,7 @@ use Rattle.std.proofs.lemmas.List.Elements.{All-head, All-tail, All-contains, re
 use Rattle.std.proofs.Math.IntN.{zero-*ℤ, *ℤ_comm}
 use Rattle.bt_frac.specs.Columns.{AreColumnsFrom}
 use Rattle.bt_frac.specs.Ratio.{Ratio, IsLowest, IsOver, SameRatio}
-use Rattle.bt_frac.specs.Rows.{RowParts, IsRow, columns_of}
+use Rattle.bt_frac.specs.Rows.{RowParts, IsRow, columns_of, columns_in, end_of}
 use Rattle.bt_frac.specs.Values.{AreValues, valued, sum_of_products, Stands, RowHolds}
 use Rattle.bt_frac.specs.declared.row.Relation.{Relation}
 use Rattle.bt_frac.specs.declared.row.Relation.TheVariants.{AtLeast, Above, Equal}
@@ -18,7 +18,7 @@ use Rattle.bt_frac.proofs.Over.{over_scaled, over_at_most, over_less, over_same,
 use Rattle.bt_frac.proofs.Ring.{mul_assoc, mul_distrib, mul_distrib_right}
 use Rattle.bt_lin.specs.FalseSums.{MayHave, MayWeigh, IsStrict, Cancels, IsFalseSum}
 use Rattle.bt_lin.specs.Laws.{IsWeighted, FalseSumsFail}
-use Rattle.bt_lin.specs.WeightedRows.{coefficient_at, part_of, pairs_at, columns_in, end_of}
+use Rattle.bt_lin.specs.WeightedRows.{coefficient_at, part_of, pairs_at}
 use Rattle.bt_lin.specs.declared.places.Place.{Place}
 use Rattle.bt_lin.specs.declared.places.Place.TheVariants.{Column, Bound}
 use Rattle.bt_lin.proofs.FarkasLemmas.{below_end}

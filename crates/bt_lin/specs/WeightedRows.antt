@@ -1,9 +1,9 @@
 -- Sums of rows, each times a weight, column by column.
 use Rattle.std.specs.Prelude.{◌≡◌, ℕ, ◌==◌, ◌+◌, ◌<◌, ◌≤◌, List, [], ◌∷◌, map, max, Option, None, Some, pos, Contains, if◌then◌else◌, slice_index_or}
-use Rattle.std.specs.List.{All, filter_map, flat_map, zip}
+use Rattle.std.specs.List.{filter_map, zip}
 use Rattle.std.specs.Option.{option_map}
 use Rattle.bt_frac.specs.Ratio.{Ratio}
-use Rattle.bt_frac.specs.Rows.{RowParts, columns_of}
+use Rattle.bt_frac.specs.Rows.{RowParts, columns_in, end_of}
 use Rattle.bt_frac.specs.Values.{nothing}
 use Rattle.bt_frac.specs.declared.row.Relation.{Relation}
 use Rattle.bt_frac.specs.declared.row.Relation.TheVariants.{Equal}
@@ -35,15 +35,6 @@ part_of Bound row = Some row.bound
 -- of each row that has something at a place, its weight and what it has there
 abbrev pub pairs_at : Place → List (RowParts × Ratio) → List (Ratio × Ratio)
 pairs_at place sum = filter_map (λ r. option_map (λ part. (r.1, part)) (part_of place r.0)) sum
-
--- the columns of all rows
-abbrev pub columns_in : List RowParts → List ℕ
-columns_in rows = flat_map (λ row. columns_of row.terms) rows
-
--- one more than the greatest of these columns, or 0 where there is none
-abbrev pub end_of : List ℕ → ℕ
-end_of [] = 0
-end_of (column ∷ columns) = max (column + 1) (end_of columns)
 
 -- the number of a place: that of its column, or for the bound the one after the greatest column of all rows
 abbrev pub number_of : List (RowParts × Ratio) → Place → ℕ

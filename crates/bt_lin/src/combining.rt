@@ -1,6 +1,7 @@
 //! The sum of weighted rows at one place, and the columns of the rows.
 ghost use Rattle.std.specs.Prelude.{◌≡◌, ◌<◌, ◌≤◌, ◌-◌, ◌^◌, length, IfSome};
-ghost use Rattle.bt_lin.specs.WeightedRows.{picked, weighted, columns_in};
+ghost use Rattle.bt_frac.specs.Rows.{columns_in};
+ghost use Rattle.bt_lin.specs.WeightedRows.{picked, weighted};
 ghost use Rattle.bt_lin.specs.inner.Totals.{ArePicks, IsTotal, IsLeastFrom, lesser_of};
 
 use crate::places::{Place, least_column, part};

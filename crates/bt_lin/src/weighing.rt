@@ -5,7 +5,8 @@ ghost use Rattle.std.specs.List.{All};
 ghost use Rattle.bt_answers.specs.Answers.{AnswersAlways};
 ghost use Rattle.bt_lin.specs.Farkas.{IsFarkas};
 ghost use Rattle.bt_lin.specs.FalseSums.{IsFalseBound};
-ghost use Rattle.bt_lin.specs.WeightedRows.{picked, weighted, columns_in};
+ghost use Rattle.bt_frac.specs.Rows.{columns_in};
+ghost use Rattle.bt_lin.specs.WeightedRows.{picked, weighted};
 ghost use Rattle.bt_lin.specs.inner.Totals.{ArePicks, AreColumns, IsAfterColumn};
 
 use crate::combining::{next_column, total};

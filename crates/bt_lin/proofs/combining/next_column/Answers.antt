@@ -1,8 +1,8 @@
 use Rattle.std.proofs.Common.{◌≡◌, ℕ, ◌<◌, ◌+◌, ◌-◌, ◌^◌, arith, List, [], ◌∷◌, ◌++◌, length, get_or, take, Option, None, Some, IfSome, min, ap, sym, ◌∙◌, subst, append-nil}
 use Rattle.std.proofs.lemmas.List.{take_more, map_push, get_or_default}
 use Rattle.std.proofs.lemmas.List.Concat.{flat_map-append}
-use Rattle.bt_frac.specs.Rows.{RowParts, columns_of}
-use Rattle.bt_lin.specs.WeightedRows.{empty_row, picked, columns_in}
+use Rattle.bt_frac.specs.Rows.{RowParts, columns_of, columns_in}
+use Rattle.bt_lin.specs.WeightedRows.{empty_row, picked}
 use Rattle.bt_lin.specs.inner.Totals.{ArePicks, IsLeastFrom, lesser_of}
 use Rattle.bt_lin.proofs.ColumnLemmas.{least_of_both}
 use Rattle.bt_lin.proofs.combining.next_column.Goals as goal

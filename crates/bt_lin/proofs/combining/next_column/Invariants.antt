@@ -1,5 +1,6 @@
 use Rattle.std.proofs.Common.{◌<◌, ◌-◌, ◌^◌, take, IfSome}
-use Rattle.bt_lin.specs.WeightedRows.{picked, columns_in}
+use Rattle.bt_frac.specs.Rows.{columns_in}
+use Rattle.bt_lin.specs.WeightedRows.{picked}
 use Rattle.bt_lin.specs.inner.Totals.{IsLeastFrom}
 use Rattle.bt_lin.proofs.combining.next_column.Given as goal
 

@@ -1,5 +1,6 @@
 use Rattle.std.proofs.Common.{◌≡◌, arith, sym, ap}
-use Rattle.bt_lin.specs.WeightedRows.{picked, weighted, columns_in}
+use Rattle.bt_frac.specs.Rows.{columns_in}
+use Rattle.bt_lin.specs.WeightedRows.{picked, weighted}
 use Rattle.bt_lin.proofs.FarkasLemmas.{no_columns, columns_more}
 use Rattle.bt_lin.proofs.WeightedLemmas.{length-weighted, rows_of_weighted}
 use Rattle.bt_lin.proofs.weighing.sum_columns.Goals as goal

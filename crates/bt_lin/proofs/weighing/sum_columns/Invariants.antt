@@ -1,5 +1,6 @@
 use Rattle.std.proofs.Common.{◌-◌, ◌^◌}
-use Rattle.bt_lin.specs.WeightedRows.{picked, weighted, columns_in}
+use Rattle.bt_frac.specs.Rows.{columns_in}
+use Rattle.bt_lin.specs.WeightedRows.{picked, weighted}
 use Rattle.bt_lin.specs.inner.Totals.{AreColumnsBelow}
 use Rattle.bt_lin.proofs.weighing.sum_columns.Given as goal
 
