@@ -1,5 +1,5 @@
 //! Formulas, with constant-time access to the row of a variable.
-ghost use Rattle.std.specs.Prelude.{◌≡◌, ◌<◌, ◌≤◌, length, map, slice_get, Some, IfSome, IsNone, ◌↔◌, IsOkAnd, []};
+ghost use Rattle.std.specs.Prelude.{◌≡◌, ◌<◌, ◌≤◌, length, map, slice_get, Some, IfSome, IsNone, ◌↔◌, IfOk, []};
 ghost use Rattle.std.specs.List.{All};
 ghost use Rattle.bt_frac.specs.Rows.{IsRow, columns_of, columns_in, end_of};
 ghost use Rattle.bt_cnf.specs.Formulas.{LitsBelow, IsFormula, IsNextAtom, AddsClause, AddsAtom};
@@ -26,24 +26,20 @@ pub struct Formula {
 }
 
 impl Model for Formula {
-    ghost use Rattle.std.specs.Prelude.{◌≡◌, length, map};
-    ghost use Rattle.std.specs.List.{zip};
-    ghost use Rattle.bt_frac.specs.Rows.{columns_in, end_of};
-    ghost use Rattle.bt_cnf.specs.Formulas.{FormulaParts, IsFormula};
-    ghost use Rattle.bt_cnf.specs.Places.{ArePlaces};
+    ghost use Rattle.bt_cnf.specs.Formulas.{FormulaParts};
+    ghost use Rattle.bt_cnf.specs.Places.{parts_of, IsStored};
 
     ghost Value = { FormulaParts };
 
-    ghost view = { λ f. record { vars = length f.places; clauses = f.clauses; atoms = zip f.atoms.items f.rows.items } };
+    ghost view = { λ f. parts_of f.places f.clauses f.atoms.items f.rows.items };
 
-    ghost invariant = { λ f. IsFormula (record { vars = length f.places; clauses = f.clauses; atoms = zip f.atoms.items f.rows.items })
-        × (length f.atoms.items ≡ length f.rows.items) × ArePlaces f.atoms.items f.places × (f.columns ≡ end_of (columns_in f.rows.items)) };
+    ghost invariant = { λ f. IsStored f.places f.clauses f.atoms.items f.rows.items f.columns };
 }
 
 impl Formula {
     /// A formula over so many variables, without clauses and atoms.
     pub fn new(alloc: Global, vars: usize) -> Result<Formula, AllocError>
-        ensures { IsOkAnd result (λ f. f ≡ record { vars = vars; clauses = []; atoms = [] }) }
+        ensures { IfOk result (λ f. f ≡ record { vars = vars; clauses = []; atoms = [] }) }
     {
         let mut places = Arena::new(alloc)?;
         for _ in 0..vars {

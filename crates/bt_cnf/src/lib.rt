@@ -3,6 +3,8 @@
 
 mod formula;
 mod literal;
+#[cfg(test)]
+mod tests;
 
 pub use formula::Formula;
 pub use literal::{Clause, ClauseId, Lit, Var, Variable};

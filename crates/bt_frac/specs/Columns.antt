@@ -1,5 +1,5 @@
 -- Columns of a row, in ascending order.
-use Rattle.std.specs.Prelude.{◌≡◌, ℕ, ◌+◌, ◌-◌, ◌^◌, ◌<◌, ◌≤◌, List, [], ◌∷◌}
+use Rattle.std.specs.Prelude.{ℕ, ◌+◌, ◌-◌, ◌^◌, ◌<◌, ◌≤◌, List, [], ◌∷◌}
 
 -- these columns ascend strictly from this least one on, and none is the greatest number of 64 bits
 abbrev pub AreColumnsFrom : ℕ → List ℕ → Type 0

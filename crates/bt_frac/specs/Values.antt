@@ -1,5 +1,5 @@
 -- What a row says of values of the columns.
-use Rattle.std.specs.Prelude.{ℕ, ◌<◌, ◌*◌, ℤ, pos, ◌+ℤ◌, ◌*ℤ◌, List, [], ◌∷◌, map, slice_index_or}
+use Rattle.std.specs.Prelude.{ℕ, ◌<◌, ◌*◌, pos, ◌+ℤ◌, ◌*ℤ◌, List, [], ◌∷◌, map, slice_index_or}
 use Rattle.bt_frac.specs.Ratio.{Ratio, SameRatio, IsLess, IsAtMost}
 use Rattle.bt_frac.specs.Rows.{RowParts}
 use Rattle.bt_frac.specs.declared.row.Relation.{Relation}

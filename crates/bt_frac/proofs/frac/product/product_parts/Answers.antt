@@ -1,4 +1,3 @@
-use Rattle.std.proofs.Common.{◌≡◌, ◌∙◌, rules}
 use Rattle.bt_frac.proofs.Gcds.{gcd_positive}
 use Rattle.bt_frac.proofs.Products.{are_parts, no_over, no_under}
 use Rattle.bt_frac.proofs.frac.product.product_parts.Goals as goal

@@ -1,7 +1,7 @@
 use Rattle.std.proofs.Common.{◌≡◌, ℕ, sym, subst, refl, ap, List}
 use Rattle.std.specs.List.{All}
 use Rattle.bt_frac.specs.Ratio.{Ratio, IsLowest}
-use Rattle.bt_frac.specs.Rows.{RowParts, HaveColumns, IsRow}
+use Rattle.bt_frac.specs.Rows.{HaveColumns, IsRow}
 use Rattle.bt_frac.specs.declared.row.Relation.{Relation}
 use Rattle.bt_frac.proofs.row.Row.new.Goals as goal
 

@@ -1,0 +1,6 @@
+pub mod Laws
+pub mod Logs
+pub mod LogText
+pub mod Refuting
+pub mod Units
+pub mod Validity
