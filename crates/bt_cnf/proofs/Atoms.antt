@@ -1,8 +1,8 @@
 -- Atoms of a formula, and one more of them.
 use Rattle.std.proofs.Common.{◌≡◌, ◌≢◌, ℕ, ◌<◌, ◌≤◌, ◌+◌, arith, List, [], ◌∷◌, ◌++◌, length, get_or, set, slice_get, Option, None, Some, Result, Ok, is_ok, if◌then◌else◌, map, max, ap, sym, ◌∙◌, refl, subst, zero, suc, ◌⊎◌, inl, inr, length-append, length-set, get_or-set_same, get_or-set_other}
 use Rattle.std.specs.List.{All, zip}
-use Rattle.std.proofs.lemmas.List.{get_or_append_left, get_or-append-add, get_or_default}
-use Rattle.std.proofs.lemmas.List.Elements.{All-push, All-append, All-cons, All-nil, All-weaker, All-head, All-tail}
+use Rattle.std.proofs.lemmas.List.{get_or_append_left}
+use Rattle.std.proofs.lemmas.List.Elements.{All-push, All-cons, All-nil, All-head, All-tail}
 use Rattle.bt_frac.specs.Rows.{RowParts, IsRow, columns_of, columns_in, end_of}
 use Rattle.bt_cnf.specs.Formulas.{FormulaParts, LitsBelow, AscendBelow, IsFormula, IsNextAtom}
 use Rattle.bt_cnf.specs.Places.{IsPlaceOf, ArePlaces, parts_of, IsStored}

@@ -1,5 +1,5 @@
 -- The end of a row's columns.
-use Rattle.std.proofs.Common.{◌≡◌, ℕ, ◌<◌, ◌≤◌, ◌+◌, ◌-◌, ◌^◌, arith, List, [], ◌∷◌, ◌++◌, length, slice_get, Option, Some, None, max, ap, sym, ◌∙◌, suc, append-nil}
+use Rattle.std.proofs.Common.{◌≡◌, ℕ, ◌<◌, ◌≤◌, ◌+◌, ◌-◌, ◌^◌, arith, List, [], ◌∷◌, ◌++◌, length, slice_get, Some, max, ap, ◌∙◌, suc, append-nil}
 use Rattle.std.proofs.lemmas.List.Concat.{flat_map-append}
 use Rattle.bt_frac.specs.Columns.{AreColumnsFrom}
 use Rattle.bt_frac.specs.Ratio.{Ratio}

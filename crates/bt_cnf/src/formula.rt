@@ -1,6 +1,5 @@
 //! Formulas, with constant-time access to the row of a variable.
 ghost use Rattle.std.specs.Prelude.{◌≡◌, ◌<◌, ◌≤◌, length, map, slice_get, Some, IfSome, IsNone, ◌↔◌, IfOk, []};
-ghost use Rattle.std.specs.List.{All};
 ghost use Rattle.bt_frac.specs.Rows.{IsRow, columns_of, columns_in, end_of};
 ghost use Rattle.bt_cnf.specs.Formulas.{LitsBelow, IsFormula, IsNextAtom, AddsClause, AddsAtom};
 ghost use Rattle.bt_cnf.specs.Places.{IsPlaceOf};

@@ -1,5 +1,5 @@
 -- The one answer to whether a row holds.
-use Rattle.std.proofs.Common.{◌≡◌, ℕ, ◌<◌, ◌+◌, List, [], ◌∷◌, ◌++◌, length, get_or, take, drop, map, Bool, true, false, IsTrue, ◌↔◌, Ok, Err, ap, sym, ◌∙◌, refl, subst, take-append-drop}
+use Rattle.std.proofs.Common.{◌≡◌, ℕ, ◌<◌, ◌+◌, List, [], ◌∷◌, ◌++◌, length, get_or, take, drop, Bool, true, false, IsTrue, ◌↔◌, Ok, Err, ap, sym, ◌∙◌, refl, subst, take-append-drop}
 use Rattle.std.specs.List.{All}
 use Rattle.std.proofs.lemmas.Bool.{false≢true}
 use Rattle.std.proofs.lemmas.List.{take_more, map_push, get_or_default}

@@ -1,5 +1,5 @@
 -- The one answer to whether a weighted sum of rows is false.
-use Rattle.std.proofs.Common.{◌≡◌, ℕ, ◌<◌, ◌≤◌, ◌+◌, arith, List, [], ◌∷◌, length, get_or, take, zero, suc, ℤ, Option, None, Some, IfSome, IfNone, Bool, true, false, IsTrue, ◌↔◌, Ok, Err, ◌⊎◌, inl, inr, pos, ◌<ℤ◌, map, max, ap, sym, ◌∙◌, refl, subst}
+use Rattle.std.proofs.Common.{◌≡◌, ℕ, ◌<◌, ◌≤◌, ◌+◌, arith, List, [], ◌∷◌, length, get_or, take, zero, suc, ℤ, Option, None, Some, IfSome, IfNone, Bool, true, false, IsTrue, ◌↔◌, Ok, Err, ◌⊎◌, inl, inr, pos, ◌<ℤ◌, map, ap, sym, ◌∙◌, refl, subst}
 use Rattle.std.specs.Prelude.{Contains}
 use Rattle.std.specs.List.{All, Any}
 use Rattle.std.specs.declared.result.Result.{Result}

@@ -1,9 +1,9 @@
 -- Sums of products of fractions as whole numbers over one denominator.
 use Rattle.std.proofs.Common.{◌≡◌, ℕ, ◌<◌, ◌*◌, ◌/◌, arith, ℤ, pos, ◌+ℤ◌, ◌*ℤ◌, List, [], ◌∷◌, ap, sym, ◌∙◌, refl}
 use Rattle.std.specs.List.{AllByRecursion}
-use Rattle.std.proofs.Math.IntN.{pos-*ℤ-pos, zero-*ℤ}
+use Rattle.std.proofs.Math.IntN.{pos-*ℤ-pos}
 use Rattle.std.proofs.Math.Nat.{div-mul_cancel, dvd-mul_right, dvd-mul_left, dvd-mul_left_of_dvd, dvd-mul_right_of_dvd}
-use Rattle.bt_frac.specs.Ratio.{Ratio, IsOver, IsSum}
+use Rattle.bt_frac.specs.Ratio.{Ratio, IsOver}
 use Rattle.bt_frac.specs.Products.{IsProduct}
 use Rattle.bt_frac.specs.Values.{nothing, plus, times, sum_of_products}
 use Rattle.bt_frac.proofs.Order.{mul_cancel}

@@ -1,9 +1,7 @@
 -- Where a sum of weighted rows is wide.
-use Rattle.std.proofs.Common.{◌≡◌, ℕ, ◌<◌, ◌≤◌, ◌+◌, ◌==◌, arith, List, [], ◌∷◌, ◌++◌, length, get_or, take, drop, Option, None, Some, Bool, true, false, map, ap, sym, ◌∙◌, refl, subst, zero, suc, if◌then◌else◌, length-append, length-take, take-append-drop}
+use Rattle.std.proofs.Common.{◌≡◌, ℕ, ◌<◌, ◌+◌, ◌==◌, arith, List, [], ◌∷◌, ◌++◌, length, get_or, take, drop, Option, None, Some, Bool, true, false, map, ap, sym, ◌∙◌, refl, subst, zero, suc, if◌then◌else◌, length-append, length-take, take-append-drop}
 use Rattle.std.specs.Prelude.{Contains}
-use Rattle.std.specs.List.{filter_map}
-use Rattle.std.specs.Option.{option_map}
-use Rattle.std.proofs.lemmas.List.{length-take-le, get_or_default}
+use Rattle.std.proofs.lemmas.List.{length-take-le}
 use Rattle.std.proofs.lemmas.List.Elements.{Contains-append_left, Contains-append_right}
 use Rattle.std.proofs.lemmas.Bool.Decides.{nat_tests}
 use Rattle.std.proofs.Math.Seq.{take-append_seam}
@@ -15,7 +13,7 @@ use Rattle.bt_lin.specs.Farkas.{IsWidePlace}
 use Rattle.bt_lin.specs.RunningSums.{IsWideStep, RunsTo, AddsProduct}
 use Rattle.bt_lin.specs.WeightedRows.{coefficient_at, part_of, pairs_at}
 use Rattle.bt_lin.specs.declared.places.Place.{Place}
-use Rattle.bt_lin.specs.declared.places.Place.TheVariants.{Column, Bound}
+use Rattle.bt_lin.specs.declared.places.Place.TheVariants.{Column}
 use Rattle.bt_lin.proofs.ColumnLemmas.{contains_first, contains_later}
 use Rattle.bt_lin.proofs.RunLemmas.{runs_through, runs_more}
 use Rattle.bt_lin.proofs.WeightedLemmas.{pairs-append, pairs_more, pairs_stay}

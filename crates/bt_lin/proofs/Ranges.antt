@@ -1,8 +1,8 @@
 -- Sums of whole numbers over the columns below an end.
-use Rattle.std.proofs.Common.{◌≡◌, ◌≢◌, ℕ, ◌<◌, ◌≤◌, ◌+◌, arith, ℤ, pos, ◌+ℤ◌, ◌*ℤ◌, ap, sym, ◌∙◌, refl, zero, suc, ◌⊎◌, inl, inr}
+use Rattle.std.proofs.Common.{◌≡◌, ◌≢◌, ℕ, ◌<◌, ◌+◌, arith, ℤ, pos, ◌+ℤ◌, ◌*ℤ◌, ap, sym, ◌∙◌, refl, zero, suc, ◌⊎◌, inl, inr}
 use Rattle.std.proofs.lemmas.Int.{ints}
 use Rattle.std.proofs.Math.IntN.{zero-*ℤ, *ℤ_comm}
-use Rattle.bt_frac.proofs.Ring.{products, mul_distrib, mul_distrib_right, mul_assoc}
+use Rattle.bt_frac.proofs.Ring.{mul_distrib}
 
 -- the sum of f over the numbers below n
 unfoldable pub range_sum : ℕ → (ℕ → ℤ) → ℤ

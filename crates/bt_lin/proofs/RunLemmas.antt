@@ -1,5 +1,5 @@
 -- Running sums: their steps have one result, and lead to the sum.
-use Rattle.std.proofs.Common.{◌≡◌, ℕ, ◌<◌, ◌*◌, ◌+◌, arith, ℤ, pos, ◌+ℤ◌, ◌*ℤ◌, List, [], ◌∷◌, ◌++◌, ap, sym, ◌∙◌, refl, subst, inl, inr}
+use Rattle.std.proofs.Common.{◌≡◌, ℕ, ◌<◌, ◌*◌, ◌+◌, arith, ℤ, pos, ◌+ℤ◌, ◌*ℤ◌, List, [], ◌∷◌, ◌++◌, sym, ◌∙◌, refl, subst, inl, inr}
 use Rattle.std.specs.List.{AllByRecursion}
 use Rattle.std.proofs.lemmas.Int.{ints}
 use Rattle.bt_frac.specs.Ratio.{Ratio, IsLowest, SameRatio, IsOver, IsSum, CanAdd}
@@ -9,7 +9,7 @@ use Rattle.bt_frac.proofs.Euclid.{lowest_same}
 use Rattle.bt_frac.proofs.Over.{over_sum, over_zero, over_same, under_positive}
 use Rattle.bt_frac.proofs.Sums.{wide_apart}
 use Rattle.bt_lin.specs.RunningSums.{AddsProduct, IsWideStep, RunsTo}
-use Rattle.bt_lin.proofs.Lens.{Divides, DividesBoth, whole_over, whole_sum, over_by, over_product, sum_over, ArePositive, common_divided}
+use Rattle.bt_lin.proofs.Lens.{DividesBoth, whole_over, whole_sum, over_by, over_product, sum_over, ArePositive, common_divided}
 use Rattle.bt_lin.proofs.SameNumbers.{same_trans}
 
 one_product : (pair : Ratio × Ratio) (p q : Ratio) → IsLowest pair.0 → IsLowest pair.1 → IsLowest p → IsLowest q → IsProduct pair.0 pair.1 p → IsProduct pair.0 pair.1 q → p ≡ q

@@ -1,8 +1,8 @@
 -- Fractions that are the same number stand alike to others.
-use Rattle.std.proofs.Common.{◌≡◌, ℕ, ◌<◌, ◌*◌, ℤ, pos, ◌*ℤ◌, ◌<ℤ◌, ◌≤ℤ◌, ◌↔◌, ap, sym, ◌∙◌, subst}
+use Rattle.std.proofs.Common.{◌≡◌, ◌<◌, ◌*◌, ℤ, pos, ◌*ℤ◌, ◌<ℤ◌, ◌≤ℤ◌, ◌↔◌, ap, sym, ◌∙◌, subst}
 use Rattle.std.proofs.Math.IntN.{zero-*ℤ}
 use Rattle.bt_frac.specs.Ratio.{Ratio, SameRatio, IsLess, IsAtMost}
-use Rattle.bt_frac.specs.Values.{nothing, Stands}
+use Rattle.bt_frac.specs.Values.{Stands}
 use Rattle.bt_frac.specs.declared.row.Relation.{Relation}
 use Rattle.bt_frac.specs.declared.row.Relation.TheVariants.{AtLeast, Above, Equal}
 use Rattle.bt_frac.proofs.Order.{mul_cancel, mul_le, le_from_mul, mul_lt, lt_from_mul}

@@ -1,29 +1,28 @@
 -- A false sum of rows: no values meet all of them.
 use Rattle.std.proofs.Common.{◌≡◌, ◌≢◌, ℕ, ◌<◌, ◌≤◌, ◌+◌, ◌*◌, ◌/◌, ◌==◌, arith, List, [], ◌∷◌, ◌++◌, length, get_or, zero, suc, Option, None, Some, Bool, true, false, ℤ, pos, ◌+ℤ◌, ◌*ℤ◌, ◌<ℤ◌, ◌≤ℤ◌, map, unsigned_abs, ap, sym, ◌∙◌, refl, subst, ◌⊎◌, inl, inr, if◌then◌else◌}
-use Rattle.std.specs.Prelude.{Contains}
 use Rattle.std.specs.List.{All, Any, AllByRecursion}
 use Rattle.std.proofs.lemmas.Bool.Decides.{nat_tests}
 use Rattle.std.proofs.lemmas.Int.{ints}
-use Rattle.std.proofs.lemmas.List.Elements.{All-head, All-tail, All-contains, recursion_from_All}
+use Rattle.std.proofs.lemmas.List.Elements.{All-head, All-tail, recursion_from_All}
 use Rattle.std.proofs.Math.IntN.{zero-*ℤ, *ℤ_comm}
 use Rattle.bt_frac.specs.Columns.{AreColumnsFrom}
-use Rattle.bt_frac.specs.Ratio.{Ratio, IsLowest, IsOver, SameRatio}
-use Rattle.bt_frac.specs.Rows.{RowParts, IsRow, columns_of, columns_in, end_of}
+use Rattle.bt_frac.specs.Ratio.{Ratio, IsLowest, IsOver}
+use Rattle.bt_frac.specs.Rows.{RowParts, columns_of, columns_in, end_of}
 use Rattle.bt_frac.specs.Values.{AreValues, valued, sum_of_products, Stands, RowHolds}
 use Rattle.bt_frac.specs.declared.row.Relation.{Relation}
 use Rattle.bt_frac.specs.declared.row.Relation.TheVariants.{AtLeast, Above, Equal}
 use Rattle.bt_frac.proofs.Gcds.{quotient_positive}
 use Rattle.bt_frac.proofs.Order.{mul_cancel, mul_le, mul_lt, lt_from_mul}
 use Rattle.bt_frac.proofs.Over.{over_scaled, over_at_most, over_less, over_same, under_positive}
-use Rattle.bt_frac.proofs.Ring.{mul_assoc, mul_distrib, mul_distrib_right}
-use Rattle.bt_lin.specs.FalseSums.{MayHave, MayWeigh, IsStrict, Cancels, IsFalseSum}
+use Rattle.bt_frac.proofs.Ring.{mul_assoc, mul_distrib_right}
+use Rattle.bt_lin.specs.FalseSums.{MayHave, MayWeigh, IsStrict, IsFalseSum}
 use Rattle.bt_lin.specs.Laws.{IsWeighted, FalseSumsFail}
 use Rattle.bt_lin.specs.WeightedRows.{coefficient_at, part_of, pairs_at}
 use Rattle.bt_lin.specs.declared.places.Place.{Place}
 use Rattle.bt_lin.specs.declared.places.Place.TheVariants.{Column, Bound}
 use Rattle.bt_lin.proofs.FarkasLemmas.{below_end}
 use Rattle.bt_lin.proofs.Lens.{Divides, DividesBoth, whole_over, whole_sum, over_by, sum_over, ArePositive, common_divided}
-use Rattle.bt_lin.proofs.Ranges.{range_sum, range_same, range_zero, range_point, range_linear}
+use Rattle.bt_lin.proofs.Ranges.{range_sum, range_zero, range_point, range_linear}
 
 -- a number over a denominator is 0 where the fraction is
 zero_over : (r : Ratio) (w : ℤ) (d : ℕ) → 0 < r.under → IsOver r w d → r.over ≡ pos 0 → w ≡ pos 0

@@ -1,21 +1,19 @@
 -- What valid steps add follows: an assignment with values that meets the formula makes their clauses true.
-use Rattle.std.proofs.Common.{◌≡◌, ℕ, ◌<◌, ◌≤◌, ◌⊎◌, inl, inr, arith, List, [], ◌∷◌, ◌++◌, length, get_or, Bool, true, false, not, map, ap, sym, ◌∙◌, refl, subst, zero, suc}
+use Rattle.std.proofs.Common.{◌≡◌, ℕ, ◌<◌, ◌⊎◌, inl, inr, arith, List, [], ◌∷◌, ◌++◌, length, Bool, true, false, not, map, ap, sym, ◌∙◌, refl, subst, suc}
 use Rattle.std.specs.Prelude.{Contains}
 use Rattle.std.specs.List.{All, Any, AllByRecursion, AllZip, zip}
 use Rattle.std.proofs.lemmas.Bool.{false≢true}
-use Rattle.std.proofs.lemmas.List.Elements.{All-nil, All-cons, All-head, All-tail, All-contains, All-push, All-get_or, Contains-append_right, recursion_from_All, All-from_recursion}
+use Rattle.std.proofs.lemmas.List.Elements.{All-nil, All-cons, All-head, All-tail, All-contains, All-push, All-get_or, recursion_from_All}
 use Rattle.bt_frac.specs.Ratio.{Ratio, IsLowest}
 use Rattle.bt_frac.specs.Rows.{RowParts, IsRow}
 use Rattle.bt_frac.specs.Values.{AreValues, RowHolds}
 use Rattle.bt_lin.specs.Laws.{IsWeighted}
-use Rattle.bt_lin.specs.FalseSums.{IsFalseSum}
 use Rattle.bt_lin.proofs.Sound as rows
-use Rattle.bt_cnf.specs.Formulas.{FormulaParts, LitsBelow, IsFormula}
+use Rattle.bt_cnf.specs.Formulas.{FormulaParts, IsFormula}
 use Rattle.bt_cnf.specs.Meeting.{IsTrueUnder, MeetsClause, Meets}
 use Rattle.bt_cnf.specs.declared.literal.Lit.{Lit}
-use Rattle.bt_log.specs.Laws.{IsUnmet, RefutedIsUnmet}
+use Rattle.bt_log.specs.Laws.{RefutedIsUnmet}
 use Rattle.bt_log.specs.Logs.{Step, Lemma, Learnt, clause_of}
-use Rattle.bt_log.specs.Refuting.{EndsEmpty, Refutes}
 use Rattle.bt_log.specs.Units.{opposite, IsUnit, UnitsRefute}
 use Rattle.bt_log.specs.Validity.{NegatesAtom, clause_at, IsValidLemma, IsValidLearnt, IsValidStep, AreValid}
 

@@ -1,4 +1,4 @@
-use Rattle.std.proofs.Common.{◌≡◌, ◌<◌, ◌≤◌, ◌∙◌, ◌+◌, arith, length, get_or, take, Some, None, sym, subst}
+use Rattle.std.proofs.Common.{◌<◌, ◌∙◌, ◌+◌, arith, length, get_or, take, sym, subst}
 use Rattle.std.proofs.lemmas.List.{get_or_default}
 use Rattle.bt_frac.specs.Values.{nothing}
 use Rattle.bt_lin.specs.RunningSums.{RunsTo}

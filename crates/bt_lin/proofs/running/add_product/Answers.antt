@@ -1,4 +1,4 @@
-use Rattle.std.proofs.Common.{Option, Some, None, IfSome, ◌≡◌}
+use Rattle.std.proofs.Common.{Option, Some, None, IfSome}
 use Rattle.bt_frac.specs.Ratio.{Ratio, IsLowest, IsSum, CanAdd}
 use Rattle.bt_frac.specs.Products.{IsProduct}
 use Rattle.bt_lin.specs.RunningSums.{AddsProduct}

@@ -1,4 +1,4 @@
-use Rattle.std.proofs.Common.{◌≡◌, ◌<◌, ◌≤◌, arith, length, subst, sym, take, refl}
+use Rattle.std.proofs.Common.{◌<◌, ◌≤◌, arith, length, subst, sym, refl}
 use Rattle.std.specs.List.{Any}
 use Rattle.std.proofs.lemmas.Bool.{false≢true}
 use Rattle.std.proofs.lemmas.List.{take_all}

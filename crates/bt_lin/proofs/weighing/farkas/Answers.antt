@@ -1,4 +1,4 @@
-use Rattle.std.proofs.Common.{◌≡◌, ◌<◌, arith, Bool, true, false, IsTrue, ◌↔◌, Ok, Err, IfSome, IfNone, Some, None, length, ap, sym, subst, refl, inl, inr, ◌⊎◌, ℕ, pos}
+use Rattle.std.proofs.Common.{◌≡◌, ◌<◌, arith, Bool, true, false, IsTrue, ◌↔◌, Ok, Err, IfSome, IfNone, length, ap, subst, refl, inl, inr, ℕ}
 use Rattle.std.specs.List.{Any}
 use Rattle.std.proofs.lemmas.Bool.{false≢true}
 use Rattle.bt_answers.proofs.OneAnswer.{answers_always_of}

@@ -1,4 +1,4 @@
-use Rattle.std.proofs.Common.{◌≡◌, arith, sym, ap}
+use Rattle.std.proofs.Common.{arith, sym, ap}
 use Rattle.bt_frac.specs.Rows.{columns_in}
 use Rattle.bt_lin.specs.WeightedRows.{picked, weighted}
 use Rattle.bt_lin.proofs.FarkasLemmas.{no_columns, columns_more}

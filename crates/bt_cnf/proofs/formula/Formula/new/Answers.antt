@@ -1,4 +1,4 @@
-use Rattle.std.proofs.Common.{◌≡◌, ◌+◌, arith, length, ap, sym, ◌∙◌, refl, None, ◌∷◌, [], length-append}
+use Rattle.std.proofs.Common.{◌≡◌, ◌+◌, arith, length, ap, ◌∙◌, refl, None, ◌∷◌, [], length-append}
 use Rattle.std.proofs.lemmas.List.Elements.{All-push, All-same}
 use Rattle.bt_cnf.proofs.Atoms.{new_stored, new_parts}
 use Rattle.bt_cnf.proofs.formula.Formula.new.Goals as goal

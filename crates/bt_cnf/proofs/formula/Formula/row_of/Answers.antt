@@ -1,4 +1,4 @@
-use Rattle.std.proofs.Common.{◌≡◌, ◌<◌, length, map, sym, subst, None}
+use Rattle.std.proofs.Common.{◌<◌, length, map, sym, subst, None}
 use Rattle.bt_cnf.specs.Places.{IsPlaceOf}
 use Rattle.bt_cnf.proofs.Atoms.{firsts_zip, got}
 use Rattle.bt_cnf.proofs.formula.Formula.row_of.Goals as goal

@@ -1,5 +1,4 @@
-use Rattle.std.proofs.Common.{◌≡◌, ℕ, List, ◌∷◌, ◌++◌, [], Some, max, set, length, rules, ap, sym, subst, ◌∙◌}
-use Rattle.bt_frac.specs.Rows.{RowParts, IsRow}
+use Rattle.std.proofs.Common.{◌≡◌, ◌∷◌, ◌++◌, [], Some, max, set, length, rules, ap, sym, subst, ◌∙◌}
 use Rattle.bt_cnf.specs.Formulas.{FormulaParts, IsNextAtom}
 use Rattle.bt_cnf.specs.Places.{parts_of, IsStored}
 use Rattle.bt_cnf.proofs.Atoms.{appended, stored_more, parts_more}
