@@ -4,3 +4,5 @@ pub mod LogText
 pub mod Refuting
 pub mod Units
 pub mod Validity
+pub mod Views
+pub mod inner
