@@ -4,7 +4,11 @@
 mod kept;
 mod law;
 mod log;
+mod printing;
 mod step;
+#[cfg(test)]
+mod tests;
+mod word;
 
 pub use law::refuted_is_unmet;
 pub use log::Log;

@@ -1,14 +1,19 @@
 //! Logs, whose lists lie in pools.
 ghost use Rattle.std.specs.Prelude.{◌≡◌, ◌<◌, length, slice_get, Some, IfOk, []};
+ghost use Rattle.bt_io.specs.Bytes.{WritesText};
+ghost use Rattle.bt_io.specs.Passages.{passage};
+ghost use Rattle.bt_log.specs.LogText.{log_text};
 ghost use Rattle.bt_log.specs.Logs.{Lemma, Learnt, AddsStep};
 ghost use Rattle.bt_log.specs.Views.{step_of};
 ghost use Rattle.bt_log.specs.inner.Keeping.{Grows, KeepsLemma, KeepsLearnt};
 
 use crate::kept::{Hints, Kept, Literals, Weights};
+use crate::printing::print_step;
 use crate::step::StepView;
 use bt_arena::Pool;
 use bt_cnf::Lit;
 use bt_frac::Frac;
+use bt_io::{Sink, WriteFault, write_all_of};
 use std::alloc::{AllocError, Global};
 use std::marker::Model;
 
@@ -88,6 +93,20 @@ impl Log {
                 hints: self.hints.slice(hints),
             },
         }
+    }
+}
+
+impl Log {
+    /// Writes the one text of the log: a line for each step, and `end`.
+    ///
+    /// Where the sink fails, which its count of faults shows, a proper prefix of the text was written.
+    pub fn print<K: Sink>(&self, sink: &mut K) -> Result<(), WriteFault>
+        ensures { WritesText (passage K.held K.faults sink.old sink.new) (log_text self.now.steps) result }
+    {
+        for n in 0..self.len() {
+            print_step(self.step(n), sink)?;
+        }
+        write_all_of(sink, b"end\n")
     }
 }
 
