@@ -1,13 +1,14 @@
 //! Whole numbers as texts spell them, each in one way.
-ghost use Rattle.std.specs.Prelude.{◌≡◌, ℕ, ◌+◌, ◌-◌, ◌*◌, ◌^◌, ◌<◌, min, IfSome, IfNone};
-ghost use Rattle.std.specs.Str.Parse.{AllDigits, digits_value};
-ghost use Rattle.bt_frac.specs.Numbers.{Spells};
+ghost use Rattle.std.specs.Prelude.{◌+◌, ◌*◌, ◌<◌, IfSome, IfNone};
+ghost use Rattle.std.specs.Str.Parse.{AllDigits};
+ghost use Rattle.bt_frac.specs.Numbers.{IsLimited, IsReadAs, SpellsNone};
+ghost use Rattle.bt_frac.specs.inner.Words.{AreDigitsOf};
 
 /// The whole number that the word spells, which is decimal digits without a leading zero, but for
 /// `0` itself. Numbers past `u128::MAX` are read as that.
 pub fn read_whole(word: &[u8]) -> Option<u128>
-    ensures some { IfSome result (λ v. (n : ℕ) × Spells word.now n × (v ≡ min n (2 ^ 128 - 1))) }
-    ensures none { IfNone result ((n : ℕ) → Spells word.now n → ⊥) }
+    ensures some { IfSome result (IsReadAs word.now) }
+    ensures none { IfNone result (SpellsNone word.now) }
 {
     if word.is_empty() || (word[0] == b'0' && word.len() > 1) {
         return None;
@@ -17,7 +18,7 @@ pub fn read_whole(word: &[u8]) -> Option<u128>
 
 /// The value of decimal digits, at most `u128::MAX`.
 fn read_digits(word: &[u8]) -> Option<u128>
-    ensures some { IfSome result (λ v. AllDigits 10 word.now × (v ≡ min (digits_value 10 word.now) (2 ^ 128 - 1))) }
+    ensures some { IfSome result (AreDigitsOf word.now) }
     ensures none { IfNone result (AllDigits 10 word.now → ⊥) }
 {
     let mut value = 0u128;
@@ -33,7 +34,7 @@ fn read_digits(word: &[u8]) -> Option<u128>
 /// The number with one more digit at its end, at most `u128::MAX`.
 fn with_digit(value: u128, digit: u8) -> u128
     requires { digit < 10 }
-    ensures { result ≡ min (value * 10 + digit) (2 ^ 128 - 1) }
+    ensures { IsLimited (value * 10 + digit) result }
 {
     value.saturating_mul(10).saturating_add(u128::from(digit))
 }

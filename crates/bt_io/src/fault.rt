@@ -1,3 +1,4 @@
+//! Why a read or a write was not done.
 ghost use Rattle.std.specs.Prelude.{◌≡◌};
 ghost use Rattle.bt_io.specs.declared.fault.ReadAll.TheVariants.{Memory};
 

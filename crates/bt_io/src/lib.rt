@@ -1,4 +1,5 @@
-// Sources and sinks of bytes, which count their faults.
+//! Sources and sinks of bytes, which count their faults: a fault is told by its count, so that a call
+//! above may rely on it also where the system keeps the bytes to itself.
 #![tactic(auto)]
 
 mod fault;

@@ -1,9 +1,11 @@
-ghost use Rattle.std.specs.Prelude.{◌≡◌, ◌+◌, ◌-◌, ◌^◌, ◌<◌, ◌≤◌, ◌↔◌, ◌⊎◌, ◌++◌, alloc_error, min, take, length, IfOk, IsErr, OnErr, Contains, Some};
+//! A sink in memory with limits and faults of its own, for the tests of what writes.
+ghost use Rattle.std.specs.Prelude.{◌≡◌, ◌≤◌, ◌↔◌, alloc_error, IfOk, IsErr, OnErr, Some};
 ghost use Rattle.std.specs.Io.{WritesAtMost};
 ghost use Rattle.std.specs.Io.KnownBytes.{WriteAppends};
 ghost use Rattle.bt_answers.specs.Answers.{Answers};
 ghost use Rattle.bt_io.specs.Bytes.{TakesSome};
-ghost use Rattle.bt_io.specs.Causes.{HasCause, next_count};
+ghost use Rattle.bt_io.specs.Causes.{HasCause};
+ghost use Rattle.bt_io.specs.InMemory.{RefusesPiece, count_taken, after_taking, after_failed_write};
 
 use crate::fault::Failed;
 use crate::sink::Sink;
@@ -23,11 +25,11 @@ pub struct MemSink {
 
 impl Model for MemSink {
     ghost use Rattle.std.specs.Prelude.{◌≤◌, length, vec_capacity};
-    ghost use Rattle.bt_io.specs.InMemory.{SinkState};
+    ghost use Rattle.bt_io.specs.InMemory.{SinkState, sink_state};
 
     ghost Value = { SinkState };
 
-    ghost view = { λ s. record { held = s.held.items; room = s.room; fails = s.fails.items; most = s.most; calls = s.calls; faults = s.faults } };
+    ghost view = { λ s. sink_state s.held.items s.room s.fails.items s.most s.calls s.faults };
 
     ghost invariant = { λ s. (length s.held.items ≤ s.room) × (s.room ≤ vec_capacity s.held) × (1 ≤ s.most) };
 }
@@ -81,10 +83,10 @@ impl Sink for MemSink {
         ensures cause { HasCause self.old.faults self.new.faults result }
 
         // It fails at the listed calls, where a piece finds no room, and at no other call.
-        ensures fails { IsErr result ↔ (Contains self.old.fails (next_count self.old.calls) ⊎ ((0 < length piece.now) × (length self.old.held ≡ self.old.room))) }
-        ensures count { IfOk result (λ n. n ≡ min (min self.old.most (length piece.now)) (self.old.room - length self.old.held)) }
-        ensures taken { IfOk result (λ n. self.new ≡ record self.old { held = self.old.held ++ take n piece.now; calls = next_count self.old.calls }) }
-        ensures failed { OnErr result (self.new ≡ record self.old { calls = next_count self.old.calls; faults = next_count self.old.faults }) }
+        ensures fails { IsErr result ↔ RefusesPiece self.old piece.now }
+        ensures count { IfOk result (λ n. n ≡ count_taken self.old piece.now) }
+        ensures taken { IfOk result (λ n. self.new ≡ after_taking self.old piece.now n) }
+        ensures failed { OnErr result (self.new ≡ after_failed_write self.old) }
     {
         self.calls = self.calls.saturating_add(1);
         let left = self.room - self.held.len();
@@ -119,8 +121,8 @@ mod tests {
             let fails = vec![in rt.alloc(); fails_at]?;
             let mut sink = MemSink::new(rt.alloc(), room, fails, most)?;
             let answer = write_all_of(&mut sink, b"hello");
-            assert_eq!(rt; answer.is_ok(), whole);
-            assert_eq!(rt; sink.held(), held.as_bytes());
+            assert!(rt; answer.is_ok() == whole);
+            assert!(rt; sink.held() == held.as_bytes());
         }
         Ok(())
     }

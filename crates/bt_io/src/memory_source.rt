@@ -1,7 +1,9 @@
-ghost use Rattle.std.specs.Prelude.{◌≡◌, ◌+◌, ◌-◌, ◌^◌, ◌≤◌, ◌↔◌, min, drop, length, IfOk, IsErr, OnErr, Contains, Some};
+//! A source in memory with faults of its own, for the tests of what reads.
+ghost use Rattle.std.specs.Prelude.{◌≡◌, ◌≤◌, ◌↔◌, length, IfOk, IsErr, OnErr, Contains, Some};
 ghost use Rattle.std.specs.Io.{ReadsAtMost};
 ghost use Rattle.std.specs.Io.KnownBytes.{ReadConsumes};
 ghost use Rattle.bt_io.specs.Causes.{HasCause, next_count};
+ghost use Rattle.bt_io.specs.InMemory.{source_state, count_given, after_giving, after_failed_read};
 
 use crate::fault::Failed;
 use crate::source::Source;
@@ -20,11 +22,11 @@ pub struct MemSource {
 
 impl Model for MemSource {
     ghost use Rattle.std.specs.Prelude.{◌≤◌, drop, length};
-    ghost use Rattle.bt_io.specs.InMemory.{SourceState};
+    ghost use Rattle.bt_io.specs.InMemory.{SourceState, source_state};
 
     ghost Value = { SourceState };
 
-    ghost view = { λ s. record { left = drop s.at s.bytes.items; fails = s.fails.items; most = s.most; calls = s.calls; faults = s.faults } };
+    ghost view = { λ s. source_state (drop s.at s.bytes.items) s.fails.items s.most s.calls s.faults };
 
     ghost invariant = { λ s. (s.at ≤ length s.bytes.items) × (1 ≤ s.most) };
 }
@@ -37,7 +39,7 @@ impl MemSource {
     /// calls and of faults stay at 2^64 - 1 once they are there.
     pub fn new(bytes: Vec<u8>, fails: Vec<u64>, most: usize) -> MemSource
         requires { 1 ≤ most }
-        ensures { result ≡ record { left = bytes.items; fails = fails.items; most = most; calls = 0; faults = 0 } }
+        ensures { result ≡ source_state bytes.items fails.items most 0 0 }
     {
         MemSource {
             bytes,
@@ -62,9 +64,9 @@ impl Source for MemSource {
 
         // It fails at the listed calls and at no other, and each other call gives all that it may.
         ensures fails { IsErr result ↔ Contains self.old.fails (next_count self.old.calls) }
-        ensures count { IfOk result (λ n. n ≡ min (min self.old.most (length buf.old)) (length self.old.left)) }
-        ensures given { IfOk result (λ n. self.new ≡ record self.old { left = drop n self.old.left; calls = next_count self.old.calls }) }
-        ensures failed { OnErr result (self.new ≡ record self.old { calls = next_count self.old.calls; faults = next_count self.old.faults }) }
+        ensures count { IfOk result (λ n. n ≡ count_given self.old (length buf.old)) }
+        ensures given { IfOk result (λ n. self.new ≡ after_giving self.old n) }
+        ensures failed { OnErr result (self.new ≡ after_failed_read self.old) }
     {
         self.calls = self.calls.saturating_add(1);
         if self.fails.contains(&self.calls) {
@@ -94,7 +96,7 @@ mod tests {
         for answer in answers {
             assert!(rt; source.read(&mut buf) == answer);
         }
-        assert_eq!(rt; buf[0], b'o');
+        assert!(rt; buf[0] == b'o');
         Ok(())
     }
 }

@@ -1,8 +1,9 @@
+//! The writers of std as sinks, whose faults are counted.
 ghost use Rattle.std.specs.Prelude.{◌≡◌, OnOk, OnErr};
 ghost use Rattle.std.specs.Io.{WritesAtMost};
-ghost use Rattle.std.specs.Io.KnownBytes.{WriteAppends};
 ghost use Rattle.bt_io.specs.Bytes.{TakesSome};
 ghost use Rattle.bt_io.specs.Causes.{HasCause, next_count};
+ghost use Rattle.bt_io.specs.Streams.{StreamAppends};
 
 use crate::fault::Failed;
 use crate::sink::Sink;
@@ -44,7 +45,7 @@ impl<W: Write> Sink for StdSink<W> {
     fn write(&mut self, piece: &[u8]) -> Result<usize, Failed>
         ensures bound { WritesAtMost result piece.now }
         ensures some { TakesSome result piece.now }
-        ensures bytes { WriteAppends (W.contents self.old.stream) (W.contents self.new.stream) result piece.now }
+        ensures bytes { StreamAppends W.contents self.old.stream self.new.stream result piece.now }
         ensures cause { HasCause self.old.faults self.new.faults result }
 
         // The count rises at each fault and at no other call.
@@ -82,13 +83,14 @@ mod tests {
 
     #[test]
     fn counts_a_write_of_no_byte(rt: HostRuntime) {
-        let mut sink = StdSink::new(Narrow(2));
-        assert!(rt; sink.write(b"hello") == Ok(2));
-        assert_eq!(rt; sink.faults, 0);
-        let mut stuck = StdSink::new(Narrow(0));
-        assert!(rt; stuck.write(b"") == Ok(0));
-        assert_eq!(rt; stuck.faults, 0);
-        assert!(rt; stuck.write(b"hello") == Err(Failed));
-        assert_eq!(rt; stuck.faults, 1);
+        for (most, piece, answer, faults) in [
+            (2, "hello", Ok(2), 0),
+            (0, "", Ok(0), 0),
+            (0, "hello", Err(Failed), 1),
+        ] {
+            let mut sink = StdSink::new(Narrow(most));
+            assert!(rt; sink.write(piece.as_bytes()) == answer);
+            assert!(rt; sink.faults == faults);
+        }
     }
 }

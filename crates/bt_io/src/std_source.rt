@@ -1,7 +1,8 @@
+//! The readers of std as sources, whose faults are counted.
 ghost use Rattle.std.specs.Prelude.{◌≡◌, OnOk, OnErr};
 ghost use Rattle.std.specs.Io.{ReadsAtMost};
-ghost use Rattle.std.specs.Io.KnownBytes.{ReadConsumes};
 ghost use Rattle.bt_io.specs.Causes.{HasCause, next_count};
+ghost use Rattle.bt_io.specs.Streams.{StreamConsumes};
 
 use crate::fault::Failed;
 use crate::source::Source;
@@ -42,7 +43,7 @@ impl<R: Read> Source for StdSource<R> {
 
     fn read(&mut self, buf: &mut [u8]) -> Result<usize, Failed>
         ensures bound { ReadsAtMost result buf.new }
-        ensures bytes { ReadConsumes (R.remaining self.old.stream) (R.remaining self.new.stream) result buf.new }
+        ensures bytes { StreamConsumes R.remaining self.old.stream self.new.stream result buf.new }
         ensures cause { HasCause self.old.faults self.new.faults result }
 
         // The count rises at each fault and at no other call.
@@ -75,13 +76,20 @@ mod tests {
     }
 
     #[test]
-    fn reads_and_fails(rt: HostRuntime) {
+    fn reads_to_the_end(rt: HostRuntime) {
         let mut buf = [0; 3];
         let mut source = StdSource::new(b"hello".as_slice());
-        assert!(rt; source.read(&mut buf) == Ok(3));
-        assert_eq!(rt; buf.as_slice(), b"hel".as_slice());
+        for answer in [Ok(3), Ok(2), Ok(0), Ok(0)] {
+            assert!(rt; source.read(&mut buf) == answer);
+        }
+        assert!(rt; source.faults == 0);
+    }
+
+    #[test]
+    fn counts_a_failed_read(rt: HostRuntime) {
+        let mut buf = [0; 3];
         let mut broken = StdSource::new(Broken);
         assert!(rt; broken.read(&mut buf) == Err(Failed));
-        assert_eq!(rt; broken.faults, 1);
+        assert!(rt; broken.faults == 1);
     }
 }

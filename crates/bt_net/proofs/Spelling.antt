@@ -1,5 +1,5 @@
 -- What the words of a network's text spell.
-use Rattle.std.proofs.Common.{◌≡◌, ◌≢◌, ℕ, ◌-◌, ◌^◌, ◌<◌, ◌≤◌, min, List, [], ◌∷◌, ◌++◌, length, drop, refl, sym, ◌∙◌, ap, subst, arith}
+use Rattle.std.proofs.Common.{◌≡◌, ◌≢◌, ℕ, ◌-◌, ◌^◌, ◌<◌, ◌≤◌, min, List, [], ◌∷◌, ◌++◌, drop, refl, sym, ◌∙◌, ap, subst, arith}
 use Rattle.std.specs.Prelude.{codes, decimal}
 use Rattle.std.specs.Int.{IsInRange}
 use Rattle.std.proofs.lemmas.List.{append_assoc}
@@ -45,24 +45,24 @@ ends_of ends front back e fits splits is =
     (start-lacks 32 e.start fits.0 (λ r. omega (arith, r.0)) (λ e. omega arith) (λ e. omega arith))
     (sym splits.text_is ∙ is)
 
--- what follows the first word of an edge line
-pub after_edge : (text front rest : List ℕ) (e : Edge) → rest ≡ drop (length front) text → front ≡ codes "edge " → text ≡ edge_text e → rest ≡ start_text e.start ++ 32 ∷ target_text e.target
-after_edge text front rest e cut is all =
-    cut ∙ ap (λ f. drop (length f) text) is ∙ ap (drop 5) all ∙ append_assoc (start_text e.start) (32 ∷ []) (target_text e.target)
+-- the two words of an edge line behind its first word
+pub edge_words : (text ends front back : List ℕ) (e : Edge) → EdgeFits e → text ≡ codes "edge " ++ ends → SplitsAt 32 ends front back → text ≡ edge_text e → (front ≡ start_text e.start) × (back ≡ target_text e.target)
+edge_words text ends front back e fits cut splits is =
+    ends_of ends front back e fits splits (ap (drop 5) (sym cut ∙ is) ∙ append_assoc (start_text e.start) (32 ∷ []) (target_text e.target))
 
 three_words : (a b c : List ℕ) → a ++ 32 ∷ [] ++ b ++ 32 ∷ [] ++ c ≡ a ++ 32 ∷ (b ++ 32 ∷ c)
 three_words a b c = simp append_assoc
 
 -- what follows the first word of a header
-after_net : (text front rest : List ℕ) (i o s : ℕ) (h : IsHeader text i o s) → rest ≡ drop (length front) text → front ≡ codes "net " → rest ≡ h.inputs_word ++ 32 ∷ (h.outputs_word ++ 32 ∷ h.splitters_word)
+after_net : (text front rest : List ℕ) (i o s : ℕ) (h : IsHeader text i o s) → text ≡ front ++ rest → front ≡ codes "net " → rest ≡ h.inputs_word ++ 32 ∷ (h.outputs_word ++ 32 ∷ h.splitters_word)
 after_net text front rest i o s h cut is =
-    cut ∙ ap (λ f. drop (length f) text) is ∙ ap (drop 4) h.bytes_are ∙ three_words h.inputs_word h.outputs_word h.splitters_word
+    ap (drop 4) (sym (cut ∙ ap (λ f. f ++ rest) is) ∙ h.bytes_are) ∙ three_words h.inputs_word h.outputs_word h.splitters_word
 
 word-lacks : (w : List ℕ) (n : ℕ) → Spells w n → Lacks 32 w
 word-lacks w n s = Spells-lacks w n 32 s (λ r. omega (arith, r.0))
 
 -- the numbers of a header, by its three words
-pub header_words : (text front rest f back g d : List ℕ) (i o s : ℕ) → rest ≡ drop (length front) text → front ≡ codes "net " → SplitsAt 32 rest f back → SplitsAt 32 back g d → IsHeader text i o s → Spells f i × Spells g o × Spells d s
+pub header_words : (text front rest f back g d : List ℕ) (i o s : ℕ) → text ≡ front ++ rest → front ≡ codes "net " → SplitsAt 32 rest f back → SplitsAt 32 back g d → IsHeader text i o s → Spells f i × Spells g o × Spells d s
 header_words text front rest f back g d i o s cut is one two h =
     let all = after_net text front rest i o s h cut is in
     let first = split_apart 32 f h.inputs_word back (h.outputs_word ++ 32 ∷ h.splitters_word) one.first (word-lacks h.inputs_word i h.inputs_spelled) (sym one.text_is ∙ all) in
@@ -70,7 +70,7 @@ header_words text front rest f back g d i o s cut is one two h =
     (rw first.0 h.inputs_spelled, rw second.0 h.outputs_spelled, rw second.1 h.splitters_spelled)
 
 -- a header has a second space
-pub header_spaces : (text front rest f back : List ℕ) (i o s : ℕ) → rest ≡ drop (length front) text → front ≡ codes "net " → SplitsAt 32 rest f back → Lacks 32 back → IsHeader text i o s → ⊥
+pub header_spaces : (text front rest f back : List ℕ) (i o s : ℕ) → text ≡ front ++ rest → front ≡ codes "net " → SplitsAt 32 rest f back → Lacks 32 back → IsHeader text i o s → ⊥
 header_spaces text front rest f back i o s cut is one none h =
     let all = after_net text front rest i o s h cut is in
     let first = split_apart 32 f h.inputs_word back (h.outputs_word ++ 32 ∷ h.splitters_word) one.first (word-lacks h.inputs_word i h.inputs_spelled) (sym one.text_is ∙ all) in
@@ -112,8 +112,7 @@ IsHeader-header n small = record {
 -- a line is the header of one triple of numbers
 pub header_unique : (text : List ℕ) (i o s j p t : ℕ) → IsHeader text i o s → IsHeader text j p t → (i ≡ j) × (o ≡ p) × (s ≡ t)
 header_unique text i o s j p t h g =
-    let words = three_words g.inputs_word g.outputs_word g.splitters_word in
-    let cut = sym (ap (drop 4) g.bytes_are ∙ words) in
+    let cut = g.bytes_are ∙ ap (λ x. codes "net " ++ x) (three_words g.inputs_word g.outputs_word g.splitters_word) in
     let one : SplitsAt 32 (g.inputs_word ++ 32 ∷ (g.outputs_word ++ 32 ∷ g.splitters_word)) g.inputs_word (g.outputs_word ++ 32 ∷ g.splitters_word) = record { first = word-lacks g.inputs_word j g.inputs_spelled; text_is = refl } in
     let two : SplitsAt 32 (g.outputs_word ++ 32 ∷ g.splitters_word) g.outputs_word g.splitters_word = record { first = word-lacks g.outputs_word p g.outputs_spelled; text_is = refl } in
     let spelled = header_words text (codes "net ") (g.inputs_word ++ 32 ∷ (g.outputs_word ++ 32 ∷ g.splitters_word)) g.inputs_word (g.outputs_word ++ 32 ∷ g.splitters_word) g.outputs_word g.splitters_word i o s cut refl one two h in

@@ -10,9 +10,9 @@ use Rattle.bt_net.specs.declared.network.Start.{Start}
 use Rattle.bt_net.specs.declared.network.Start.TheVariants as from
 use Rattle.bt_net.specs.declared.network.Target.{Target}
 use Rattle.bt_net.specs.declared.network.Target.TheVariants as to
-use Rattle.bt_net.specs.Network.{Network, IsWired, StartsIn, EndsIn, is_input, is_output, leaves, enters}
+use Rattle.bt_net.specs.Network.{IsWired, StartsIn, EndsIn, is_input, is_output, leaves, enters}
 use Rattle.bt_net.specs.Wiring.{IsPartlyWired}
-use Rattle.bt_net.specs.inner.Tallies.{AreTallied, IsFreeStart, IsFreeTarget}
+use Rattle.bt_net.specs.inner.Tallies.{AreTallied, tallied, IsFreeStart, IsFreeTarget}
 
 module _ (at : ℕ → Edge → Bool) (es : List Edge) (e : Edge) where
   -- the edge is at no such end
@@ -43,40 +43,36 @@ module _ (at : ℕ → Edge → Bool) (es : List Edge) (e : Edge) where
 last : {X : Type 0} (P : X → Type 0) (xs : List X) (x : X) → All P (xs ++ x ∷ []) → P x
 last P xs x all = subst P (get_or_push xs x x (length xs) refl) (All-get_or P (xs ++ x ∷ []) (length xs) x (omega (arith, length_push xs x)) all)
 
--- the network of these tallies and edges
-abbrev of_tallies : List ℕ → List ℕ → List ℕ → List Edge → Network
-of_tallies i o l es = record { inputs = length i; outputs = length o; splitters = length l; edges = es }
-
 module _ (i o l n : List ℕ) (es : List Edge) (old : AreTallied i o l n es) where
-  free_start : (start : Start) (target : Target) (cap : ℕ) → IsPartlyWired (of_tallies i o l (es ++ (record { start = start; target = target; cap = cap }) ∷ [])) → IsFreeStart i l start
+  free_start : (start : Start) (target : Target) (cap : ℕ) → IsPartlyWired (tallied i o l (es ++ (record { start = start; target = target; cap = cap }) ∷ [])) → IsFreeStart i l start
   free_start (from.Input k) target cap new =
       let e : Edge = record { start = from.Input k; target = target; cap = cap } in
-      let inside : k < length i = last (λ x. StartsIn (of_tallies i o l es) x.start) es e new.starts in
+      let inside : k < length i = last (λ x. StartsIn (tallied i o l es) x.start) es e new.starts in
       (inside, omega (arith, old.of_inputs k inside, new.one_in k inside, count_one is_input es e k (eq-eqb k k refl)))
   free_start (from.Split k) target cap new =
       let e : Edge = record { start = from.Split k; target = target; cap = cap } in
-      let inside : k < length l = last (λ x. StartsIn (of_tallies i o l es) x.start) es e new.starts in
+      let inside : k < length l = last (λ x. StartsIn (tallied i o l es) x.start) es e new.starts in
       (inside, omega (arith, old.of_leaving k inside, new.few_out k inside, count_one leaves es e k (eq-eqb k k refl)))
 
-  free_target : (start : Start) (target : Target) (cap : ℕ) → IsPartlyWired (of_tallies i o l (es ++ (record { start = start; target = target; cap = cap }) ∷ [])) → IsFreeTarget n o target
+  free_target : (start : Start) (target : Target) (cap : ℕ) → IsPartlyWired (tallied i o l (es ++ (record { start = start; target = target; cap = cap }) ∷ [])) → IsFreeTarget n o target
   free_target start (to.Split k) cap new =
       let e : Edge = record { start = start; target = to.Split k; cap = cap } in
-      let inside : k < length l = last (λ x. EndsIn (of_tallies i o l es) x.target) es e new.targets in
+      let inside : k < length l = last (λ x. EndsIn (tallied i o l es) x.target) es e new.targets in
       (omega (arith, inside, old.splitters), omega (arith, old.of_entering k (omega (arith, old.splitters)), new.few_in k inside, count_one enters es e k (eq-eqb k k refl)))
   free_target start (to.Output k) cap new =
       let e : Edge = record { start = start; target = to.Output k; cap = cap } in
-      let inside : k < length o = last (λ x. EndsIn (of_tallies i o l es) x.target) es e new.targets in
+      let inside : k < length o = last (λ x. EndsIn (tallied i o l es) x.target) es e new.targets in
       (inside, omega (arith, old.of_outputs k inside, new.one_out k inside, count_one is_output es e k (eq-eqb k k refl)))
 
   -- an edge that may come next is at a free start and a free target, and has cap 1
-  pub admitted : (e : Edge) → IsPartlyWired (of_tallies i o l (es ++ e ∷ [])) → IsFreeStart i l e.start × IsFreeTarget n o e.target × (e.cap ≡ 1)
+  pub admitted : (e : Edge) → IsPartlyWired (tallied i o l (es ++ e ∷ [])) → IsFreeStart i l e.start × IsFreeTarget n o e.target × (e.cap ≡ 1)
   admitted e new = (free_start e.start e.target e.cap new, free_target e.start e.target e.cap new, last (λ x. x.cap ≡ 1) es e new.caps)
 
-  start_in : (start : Start) → IsFreeStart i l start → StartsIn (of_tallies i o l es) start
+  start_in : (start : Start) → IsFreeStart i l start → StartsIn (tallied i o l es) start
   start_in (from.Input k) free = free.0
   start_in (from.Split k) free = free.0
 
-  target_in : (target : Target) → IsFreeTarget n o target → EndsIn (of_tallies i o l es) target
+  target_in : (target : Target) → IsFreeTarget n o target → EndsIn (tallied i o l es) target
   target_in (to.Split k) free = omega (arith, free.0, old.splitters)
   target_in (to.Output k) free = free.0
 
@@ -105,10 +101,10 @@ module _ (i o l n : List ℕ) (es : List Edge) (old : AreTallied i o l n es) whe
       most_one is_output es (record { start = start; target = to.Output k; cap = cap }) k 1 (length o) (λ _. refl) old.wired.one_out (omega (arith, free.1, old.of_outputs k free.0))
 
   -- an edge at a free start and a free target with cap 1 may come next
-  pub admits : (e : Edge) → IsFreeStart i l e.start → IsFreeTarget n o e.target → e.cap ≡ 1 → IsPartlyWired (of_tallies i o l (es ++ e ∷ []))
+  pub admits : (e : Edge) → IsFreeStart i l e.start → IsFreeTarget n o e.target → e.cap ≡ 1 → IsPartlyWired (tallied i o l (es ++ e ∷ []))
   admits e start target cap = record {
-    starts = All-push (λ x. StartsIn (of_tallies i o l es) x.start) es e old.wired.starts (start_in e.start start);
-    targets = All-push (λ x. EndsIn (of_tallies i o l es) x.target) es e old.wired.targets (target_in e.target target);
+    starts = All-push (λ x. StartsIn (tallied i o l es) x.start) es e old.wired.starts (start_in e.start start);
+    targets = All-push (λ x. EndsIn (tallied i o l es) x.target) es e old.wired.targets (target_in e.target target);
     caps = All-push (λ x. x.cap ≡ 1) es e old.wired.caps cap;
     one_in = more_in e.start e.target e.cap start;
     one_out = more_ending e.start e.target e.cap target;
@@ -117,7 +113,7 @@ module _ (i o l n : List ℕ) (es : List Edge) (old : AreTallied i o l n es) whe
   }
 
   -- the network is wired where each input and each output has its edge
-  pub completes : All (λ count. count ≡ 1) i → All (λ count. count ≡ 1) o → IsWired (of_tallies i o l es)
+  pub completes : All (λ count. count ≡ 1) i → All (λ count. count ≡ 1) o → IsWired (tallied i o l es)
   completes ins outs = record {
     starts = old.wired.starts;
     targets = old.wired.targets;
@@ -128,7 +124,7 @@ module _ (i o l n : List ℕ) (es : List Edge) (old : AreTallied i o l n es) whe
     few_out = old.wired.few_out;
   }
 
-  pub completed : IsWired (of_tallies i o l es) → All (λ count. count ≡ 1) i × All (λ count. count ≡ 1) o
+  pub completed : IsWired (tallied i o l es) → All (λ count. count ≡ 1) i × All (λ count. count ≡ 1) o
   completed whole = (
     All-from_get_or (λ count. count ≡ 1) i 0 (λ k inside. old.of_inputs k inside ∙ whole.one_in k inside),
     All-from_get_or (λ count. count ≡ 1) o 0 (λ k inside. old.of_outputs k inside ∙ whole.one_out k inside),

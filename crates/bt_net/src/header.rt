@@ -1,14 +1,14 @@
 //! The first line of a network's text.
-ghost use Rattle.std.specs.Prelude.{◌≡◌, ℕ, ◌-◌, ◌^◌, min, IfSome, IfNone};
+ghost use Rattle.std.specs.Prelude.{ℕ, IfSome, IfNone};
 ghost use Rattle.bt_answers.specs.Answers.{UnlessMemory};
 ghost use Rattle.bt_net.specs.Refusals.{IsHeader};
-ghost use Rattle.bt_net.specs.inner.Lines.{IsHeaderRead};
+ghost use Rattle.bt_net.specs.inner.Lines.{IsHeaderRead, AreSizes};
 
 use crate::fault::NetFault;
 use crate::network::MOST_OF_EACH;
 use crate::wiring::Wiring;
 use bt_frac::read_whole;
-use bt_text::split_once;
+use bt_text::{after_word, split_once};
 use std::alloc::Global;
 
 /// The network that the first line of a text begins, without edges yet.
@@ -39,32 +39,16 @@ struct Sizes {
     splitters: u128,
 }
 
+/// The numbers of a line that is a header, however large they are.
 fn read_sizes(line: &[u8]) -> Option<Sizes>
-    ensures some { IfSome result (λ sizes. (i o s : ℕ) × IsHeader line.now i o s
-        × (sizes.inputs ≡ min i (2 ^ 128 - 1)) × (sizes.outputs ≡ min o (2 ^ 128 - 1)) × (sizes.splitters ≡ min s (2 ^ 128 - 1))) }
+    ensures some { IfSome result (λ s. AreSizes line.now s.inputs s.outputs s.splitters) }
     ensures none { IfNone result ((i o s : ℕ) → IsHeader line.now i o s → ⊥) }
 {
-    let Some(words) = line.strip_prefix(b"net ".as_slice()) else {
-        return None;
-    };
-    let Some((inputs, words)) = split_once(words, b' ') else {
-        return None;
-    };
-    let Some((outputs, splitters)) = split_once(words, b' ') else {
-        return None;
-    };
-    let Some(inputs) = read_whole(inputs) else {
-        return None;
-    };
-    let Some(outputs) = read_whole(outputs) else {
-        return None;
-    };
-    let Some(splitters) = read_whole(splitters) else {
-        return None;
-    };
+    let (inputs, words) = split_once(after_word(line, b"net ")?, b' ')?;
+    let (outputs, splitters) = split_once(words, b' ')?;
     Some(Sizes {
-        inputs,
-        outputs,
-        splitters,
+        inputs: read_whole(inputs)?,
+        outputs: read_whole(outputs)?,
+        splitters: read_whole(splitters)?,
     })
 }

@@ -24,6 +24,7 @@ impl Model for LineBuffer {
 }
 
 impl LineBuffer {
+    /// A line without bytes yet.
     pub fn new() -> Self
         ensures { result ≡ [] }
     {
@@ -33,12 +34,14 @@ impl LineBuffer {
         }
     }
 
+    /// What was written so far.
     pub fn as_bytes(&self) -> &[u8]
         ensures { result.now ≡ self.now }
     {
         &self.bytes[..self.len]
     }
 
+    /// Adds some bytes.
     pub fn push(&mut self, piece: &[u8])
         requires { length self.old + length piece.now ≤ 48 }
         ensures { self.new ≡ self.old ++ piece.now }
@@ -48,6 +51,7 @@ impl LineBuffer {
         self.len = end;
     }
 
+    /// Adds a number in decimal digits, which are 10 at most.
     pub fn push_number(&mut self, number: u32)
         requires { length self.old + 10 ≤ 48 }
         ensures number { self.new ≡ self.old ++ decimal number }
@@ -58,6 +62,7 @@ impl LineBuffer {
         self.push(digits);
     }
 
+    /// Adds the letter and the number of a start.
     pub fn push_start(&mut self, start: Start)
         requires { length self.old + 11 ≤ 48 }
         ensures start { self.new ≡ self.old ++ start_text start }
@@ -75,6 +80,7 @@ impl LineBuffer {
         }
     }
 
+    /// Adds the letter and the number of a target.
     pub fn push_target(&mut self, target: Target)
         requires { length self.old + 11 ≤ 48 }
         ensures target { self.new ≡ self.old ++ target_text target }

@@ -19,13 +19,13 @@ pub struct Net {
 }
 
 impl Model for Net {
-    ghost use Rattle.bt_net.specs.Network.{Network, IsNetwork};
+    ghost use Rattle.bt_net.specs.Network.{Network, IsNetwork, network_of};
 
     ghost Value = { Network };
 
-    ghost view = { λ n. record { inputs = n.inputs; outputs = n.outputs; splitters = n.splitters; edges = n.edges.items } };
+    ghost view = { λ n. network_of n.inputs n.outputs n.splitters n.edges.items };
 
-    ghost invariant = { λ n. IsNetwork (record { inputs = n.inputs; outputs = n.outputs; splitters = n.splitters; edges = n.edges.items }) };
+    ghost invariant = { λ n. IsNetwork (network_of n.inputs n.outputs n.splitters n.edges.items) };
 }
 
 impl Net {
@@ -56,24 +56,28 @@ impl Net {
         })
     }
 
+    /// The number of inputs, from 1.
     pub fn inputs(&self) -> u32
         ensures { result ≡ self.now.inputs }
     {
         self.inputs
     }
 
+    /// The number of outputs, from 1.
     pub fn outputs(&self) -> u32
         ensures { result ≡ self.now.outputs }
     {
         self.outputs
     }
 
+    /// The number of splitters.
     pub fn splitters(&self) -> u32
         ensures { result ≡ self.now.splitters }
     {
         self.splitters
     }
 
+    /// The edges, each at its number.
     pub fn edges(&self) -> &[Edge]
         ensures edges { result.now ≡ self.now.edges }
         ensures network { IsNetwork self.now }

@@ -28,7 +28,7 @@ pub struct Edge {
 }
 
 /// An input or an output, by its number from 0.
-#[derive(Clone, Copy, Debug, PartialEq, Eq)]
+#[derive(Clone, Copy, PartialEq, Eq)]
 pub enum End {
     Input(u32),
     Output(u32),
@@ -36,7 +36,7 @@ pub enum End {
 
 /// A cell on which the first part of an input or the last part of an output stands, and the line
 /// of the text, from 1, that says so.
-#[derive(Clone, Copy, Debug, PartialEq, Eq)]
+#[derive(Clone, Copy, PartialEq, Eq)]
 pub struct Pin {
     pub end: End,
     pub x: u32,

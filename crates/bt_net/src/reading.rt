@@ -18,7 +18,7 @@ use std::alloc::Global;
 
 /// What the text of a network says: the network, its pins in the order of their lines, how many bytes
 /// the text has and how many lines.
-#[derive(Debug, Drop)]
+#[derive(Drop)]
 pub struct NetRead {
     pub net: Net,
     pub pins: Vec<Pin>,
@@ -51,7 +51,8 @@ fn read_edges<'a>(wiring: &mut Wiring, text: &'a [u8]) -> Result<&'a [u8], NetFa
     requires none { wiring.old.edges ≡ [] }
     requires small { HasSmallSizes wiring.old }
     ensures sizes { SameSizes wiring.old wiring.new }
-    ensures read { UnlessMemory NetFault.Memory (AreEdgesRead wiring.new text.now) (seen (λ rest. rest.now) result) }
+    ensures read { UnlessMemory NetFault.Memory (AreEdgesRead wiring.new text.now)
+        (seen (λ rest. rest.now) result) }
 {
     let mut rest = text;
     loop {
@@ -93,37 +94,36 @@ fn next_edge(wiring: &Wiring, line: &[u8]) -> Result<Option<Edge>, NetFault>
 #[cfg(test)]
 mod tests {
     use super::*;
+    use crate::printing::print;
+    use bt_io::MemSink;
     use std::test::Fail;
 
+    const TEXT: &[u8] = b"net 1 2 1\nedge s0 o1\nedge i0 s0\nedge s0 o0\nend\n";
+
     #[test]
-    fn reads_a_net(rt: HostRuntime) -> Result<(), Fail> {
-        let text = b"net 1 2 1\nedge s0 o1\nedge i0 s0\nedge s0 o0\nend\nyes balanced\n";
-        let found = read(rt.alloc(), text)?;
-        assert_eq!(rt; found.net.edges().len(), 3);
-        assert_eq!(rt; found.pins.len(), 0);
-        assert_eq!(rt; found.used, 47);
-        assert_eq!(rt; found.lines, 5);
+    fn reads_what_it_prints(rt: HostRuntime) -> Result<(), Fail> {
+        let found = read(rt.alloc(), TEXT)?;
+        assert!(rt; found.pins.is_empty());
+        assert!(rt; found.used == TEXT.len() && found.lines == 5);
+        let mut sink = MemSink::new(rt.alloc(), 99, Vec::new(rt.alloc()), 7)?;
+        print(&found.net, &mut sink)?;
+        assert!(rt; sink.held() == TEXT);
         Ok(())
     }
 
-    fn fault(rt: &HostRuntime, text: &[u8]) -> NetFault {
-        match read(rt.alloc(), text) {
-            Ok(_) => NetFault::Memory,
-            Err(fault) => fault,
-        }
-    }
-
     #[test]
-    fn refuses(rt: HostRuntime) {
-        assert_eq!(rt; fault(&rt, b""), NetFault::NetLine(1));
-        assert_eq!(rt; fault(&rt, b"net 1 01 0\nend\n"), NetFault::NetLine(1));
-        assert_eq!(rt; fault(&rt, b"net 1 1 2049\n"), NetFault::TooLarge);
-        assert_eq!(rt; fault(&rt, b"net 1 1 0\nedge i0 o0"), NetFault::NetLine(3));
-        assert_eq!(rt;
-            fault(&rt, b"net 1 1 0\nedge i0 o0\nend \n"),
-            NetFault::NetLine(3)
-        );
-        assert_eq!(rt; fault(&rt, b"net 1 1 0\nend\n"), NetFault::NetLine(2));
-        assert_eq!(rt; fault(&rt, b"net 0 0 1\nedge s0 s0\nend"), NetFault::NoEnds);
+    fn tells_the_first_fault(rt: HostRuntime) {
+        for (text, want) in [
+            ("", NetFault::NetLine(1)),
+            ("net 1 01 0\nend\n", NetFault::NetLine(1)),
+            ("net 1 1 2049\n", NetFault::TooLarge),
+            ("net 1 1 0\nedge i0 o0", NetFault::NetLine(3)),
+            ("net 1 1 0\nedge i0 o0\nend \n", NetFault::NetLine(3)),
+            ("net 1 1 0\nend\n", NetFault::NetLine(2)),
+            ("net 0 0 1\nedge s0 s0\nend", NetFault::NoEnds),
+        ] {
+            let told = read(rt.alloc(), text.as_bytes()).err();
+            assert!(rt; told == Some(want));
+        }
     }
 }

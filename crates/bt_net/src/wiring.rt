@@ -21,14 +21,14 @@ pub struct Wiring {
 
 impl Model for Wiring {
     ghost use Rattle.bt_net.specs.Network.{Network};
-    ghost use Rattle.bt_net.specs.inner.Tallies.{AreTallied};
-    ghost use Rattle.std.specs.Prelude.{length};
+    ghost use Rattle.bt_net.specs.inner.Tallies.{AreTallied, tallied};
 
     ghost Value = { Network };
 
-    ghost view = { λ w. record { inputs = length w.inputs.items; outputs = length w.outputs.items; splitters = length w.leaving.items; edges = w.edges.items } };
+    ghost view = { λ w. tallied w.inputs.items w.outputs.items w.leaving.items w.edges.items };
 
-    ghost invariant = { λ w. AreTallied w.inputs.items w.outputs.items w.leaving.items w.entering.items w.edges.items };
+    ghost invariant = { λ w.
+        AreTallied w.inputs.items w.outputs.items w.leaving.items w.entering.items w.edges.items };
 }
 
 impl Wiring {
@@ -54,6 +54,7 @@ impl Wiring {
         })
     }
 
+    /// The number of edges so far.
     pub fn len(&self) -> usize
         ensures { result ≡ length self.now.edges }
     {
@@ -70,6 +71,7 @@ impl Wiring {
         start && target
     }
 
+    /// Adds an edge that may come next. Where memory runs out nothing changes.
     pub fn push(&mut self, edge: Edge) -> Result<(), AllocError>
         requires { IsPartlyWired (with_edge self.old edge) }
         ensures ok { OnOk result (self.new ≡ with_edge self.old edge) }

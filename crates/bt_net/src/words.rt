@@ -8,7 +8,7 @@ ghost use Rattle.bt_net.specs.declared.network.Target.{Target};
 
 use crate::network::{Edge, Start, Target};
 use bt_frac::read_whole;
-use bt_text::split_once;
+use bt_text::{after_word, split_once};
 
 /// The edge of an edge line, with cap 1.
 pub fn read_edge(line: &[u8]) -> Option<Edge>
@@ -16,57 +16,38 @@ pub fn read_edge(line: &[u8]) -> Option<Edge>
     ensures fits { IfSome result EdgeFits }
     ensures none { IfNone result ((e : Edge) → EdgeFits e → line.now ≡ edge_text e → ⊥) }
 {
-    let Some(ends) = line.strip_prefix(b"edge ".as_slice()) else {
-        return None;
-    };
-    let Some((start, target)) = split_once(ends, b' ') else {
-        return None;
-    };
-    let Some(start) = read_start(start) else {
-        return None;
-    };
-    let Some(target) = read_target(target) else {
-        return None;
-    };
+    let ends = after_word(line, b"edge ")?;
+    let (start, target) = split_once(ends, b' ')?;
     Some(Edge {
-        start,
-        target,
+        start: read_start(start)?,
+        target: read_target(target)?,
         cap: 1,
     })
 }
 
+/// The start of an edge: `i` and the number of an input, or `s` and that of a splitter.
 fn read_start(word: &[u8]) -> Option<Start>
     ensures some { IfSome result (λ s. word.now ≡ start_text s) }
     ensures fits { IfSome result StartFits }
     ensures none { IfNone result ((s : Start) → StartFits s → word.now ≡ start_text s → ⊥) }
 {
-    let [kind, digits @ ..] = word else {
-        return None;
-    };
-    let Some(number) = read_number(digits) else {
-        return None;
-    };
-    match kind {
-        b'i' => Some(Start::Input(number)),
-        b's' => Some(Start::Split(number)),
+    match word {
+        [b'i', digits @ ..] => Some(Start::Input(read_number(digits)?)),
+        [b's', digits @ ..] => Some(Start::Split(read_number(digits)?)),
         _ => None,
     }
 }
+
+/// The target of an edge: `s` and the number of a splitter, or `o` and that of an output.
 
 fn read_target(word: &[u8]) -> Option<Target>
     ensures some { IfSome result (λ t. word.now ≡ target_text t) }
     ensures fits { IfSome result TargetFits }
     ensures none { IfNone result ((t : Target) → TargetFits t → word.now ≡ target_text t → ⊥) }
 {
-    let [kind, digits @ ..] = word else {
-        return None;
-    };
-    let Some(number) = read_number(digits) else {
-        return None;
-    };
-    match kind {
-        b's' => Some(Target::Split(number)),
-        b'o' => Some(Target::Output(number)),
+    match word {
+        [b's', digits @ ..] => Some(Target::Split(read_number(digits)?)),
+        [b'o', digits @ ..] => Some(Target::Output(read_number(digits)?)),
         _ => None,
     }
 }
@@ -76,11 +57,8 @@ fn read_number(word: &[u8]) -> Option<u32>
     ensures some { IfSome result (λ n. word.now ≡ decimal n) }
     ensures none { IfNone result ((n : ℕ) → n < 2 ^ 32 → word.now ≡ decimal n → ⊥) }
 {
-    let Some(number) = read_whole(word) else {
-        return None;
-    };
-    let Ok(number) = u32::try_from(number) else {
-        return None;
-    };
-    Some(number)
+    match u32::try_from(read_whole(word)?) {
+        Ok(number) => Some(number),
+        Err(_) => None,
+    }
 }

@@ -38,13 +38,14 @@ mod tests {
 
     #[test]
     fn lines(rt: HostRuntime) {
-        let (line, rest) = first_line(b"net 1 1 0\nend");
-        assert_eq!(rt; line, b"net 1 1 0".as_slice());
-        assert_eq!(rt; rest, b"end".as_slice());
-        let (line, rest) = first_line(rest);
-        assert_eq!(rt; line, b"end".as_slice());
-        assert_eq!(rt; rest.len(), 0);
-        let (line, rest) = first_line(rest);
-        assert_eq!(rt; line.len() + rest.len(), 0);
+        for (text, line, rest) in [
+            ("net 1 1 0\nend", "net 1 1 0", "end"),
+            ("end", "end", ""),
+            ("\n", "", ""),
+            ("", "", ""),
+        ] {
+            let read = first_line(text.as_bytes());
+            assert!(rt; read == (line.as_bytes(), rest.as_bytes()));
+        }
     }
 }

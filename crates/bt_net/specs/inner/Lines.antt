@@ -1,5 +1,6 @@
 -- What the lines of a network's text say while they are read.
-use Rattle.std.specs.Prelude.{◌≡◌, ◌≢◌, ℕ, ◌<◌, ◌^◌, List, [], codes, length, Option, Some, None, Result, Ok, Err}
+use Rattle.std.specs.Prelude.{◌≡◌, ℕ, ◌<◌, ◌^◌, List, [], codes, length, Option, Some, None, Result, Ok, Err}
+use Rattle.bt_frac.specs.Numbers.{IsLimited}
 use Rattle.bt_net.specs.declared.fault.NetFault.{NetFault}
 use Rattle.bt_net.specs.declared.network.Edge.{Edge}
 use Rattle.bt_net.specs.declared.network.Start.{Start}
@@ -9,7 +10,7 @@ use Rattle.bt_net.specs.declared.network.Target.TheVariants as to
 use Rattle.bt_net.specs.declared.network.TheConstants.{MOST_OF_EACH}
 use Rattle.bt_net.specs.Network.{Network, IsWired}
 use Rattle.bt_net.specs.NetText.{header, edge_text}
-use Rattle.bt_net.specs.Refusals.{HeaderRefused, LineRefused, GoesOn, EdgesRefused}
+use Rattle.bt_net.specs.Refusals.{IsHeader, HeaderRefused, LineRefused, GoesOn, EdgesRefused}
 use Rattle.bt_net.specs.Wiring.{IsPartlyWired, with_edge, HasSmallSizes}
 
 -- a network without edges yet, of which this is the first line
@@ -37,6 +38,10 @@ TargetFits (to.Output o) = o < 2 ^ 32
 -- the numbers of an edge's two ends have at most 32 bits
 abbrev pub EdgeFits : Edge → Type 0
 EdgeFits e = StartFits e.start × TargetFits e.target
+
+-- the numbers of a header as they are read
+abbrev pub AreSizes : List ℕ → ℕ → ℕ → ℕ → Type 0
+AreSizes bytes inputs outputs splitters = (i o s : ℕ) × IsHeader bytes i o s × IsLimited i inputs × IsLimited o outputs × IsLimited s splitters
 
 -- what a first line says: the sizes of a network without edges yet, or why it is refused
 abbrev pub IsHeaderRead : List ℕ → Result Network NetFault → Type 0

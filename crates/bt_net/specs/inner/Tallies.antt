@@ -5,12 +5,16 @@ use Rattle.bt_net.specs.declared.network.Start.{Start}
 use Rattle.bt_net.specs.declared.network.Start.TheVariants as from
 use Rattle.bt_net.specs.declared.network.Target.{Target}
 use Rattle.bt_net.specs.declared.network.Target.TheVariants as to
-use Rattle.bt_net.specs.Network.{is_input, is_output, leaves, enters, network_of}
+use Rattle.bt_net.specs.Network.{Network, is_input, is_output, leaves, enters, network_of}
 use Rattle.bt_net.specs.Wiring.{IsPartlyWired}
 
 -- the tally has for each number how many edges there are at that end
 abbrev pub Tallies : (ℕ → Edge → Bool) → List Edge → List ℕ → Type 0
 Tallies at edges tally = (k : ℕ) → k < length tally → slice_index tally k ≡ count_by (at k) edges
+
+-- the network of these edges and of the ends that three tallies have
+abbrev pub tallied : List ℕ → List ℕ → List ℕ → List Edge → Network
+tallied inputs outputs leaving edges = network_of (length inputs) (length outputs) (length leaving) edges
 
 -- four tallies of edges that may stand so far
 pub record AreTallied (inputs outputs leaving entering : List ℕ) (edges : List Edge) : Type 0 where
@@ -19,7 +23,7 @@ pub record AreTallied (inputs outputs leaving entering : List ℕ) (edges : List
   pub of_leaving : Tallies leaves edges leaving
   pub of_entering : Tallies enters edges entering
   pub splitters : length entering ≡ length leaving
-  pub wired : IsPartlyWired (network_of (length inputs) (length outputs) (length leaving) edges)
+  pub wired : IsPartlyWired (tallied inputs outputs leaving edges)
 
 -- the tally has this place, with fewer than that many
 abbrev pub IsBelow : List ℕ → ℕ → ℕ → Type 0
