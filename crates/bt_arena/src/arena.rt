@@ -1,6 +1,9 @@
+//! Items one by one. They stay where they are, so an id stays good.
 ghost use Rattle.std.specs.Prelude.{◌≡◌, ◌<◌, ◌≤◌, [], ◌∷◌, ◌++◌, length, slice_get, slice_set, Some, OnErr, OnOk, IfOk, IsOkAnd, IfSome, IsNone, ◌↔◌};
 ghost use Rattle.std.specs.Borrow.{sem};
-ghost use Rattle.bt_arena.specs.Items.{KeepsItems};
+ghost use Rattle.std.specs.Allocator.{alloc_error};
+ghost use Rattle.bt_answers.specs.Answers.{seen, Answers};
+ghost use Rattle.bt_arena.specs.Items.{with_id, IsAdded, KeepsItems};
 ghost use Rattle.bt_arena.specs.Lends.{lends_item};
 
 use crate::id::Id;
@@ -75,8 +78,7 @@ impl<T, K> Arena<T, K> {
 impl<T: Drop, K> Arena<T, K> {
     /// Appends an item, and gives its id.
     pub fn add(&mut self, value: T) -> Result<Id<K>, AllocError>
-        ensures added { OnOk result (self.new ≡ self.old ++ value ∷ []) }
-        ensures place { IfOk result (λ id. id ≡ length self.old) }
+        ensures added { Answers alloc_error (IsAdded self.old value) (seen (with_id self.new) result) }
         ensures same { OnErr result (self.new ≡ self.old) }
         ensures kept { KeepsItems self.old self.new }
     {
@@ -98,15 +100,12 @@ mod tests {
         let mut arena: Arena<u32, Seat> = Arena::new(rt.alloc())?;
         let first = arena.add(7)?;
         let second = arena.add(9)?;
-        assert_eq!(rt; first.place(), 0);
-        assert_eq!(rt; second.place(), 1);
-        assert_eq!(rt; *arena.get(second), 9);
         *arena.get_mut(first) = 8;
-        assert_eq!(rt; *arena.get(first), 8);
-        assert_eq!(rt; *arena.get(second), 9);
-        assert!(rt; arena.id_at(1) == Some(second));
-        assert!(rt; arena.id_at(2) == None);
-        assert_eq!(rt; arena.len(), 2);
+        for (place, id, item) in [(0, first, 8), (1, second, 9)] {
+            assert!(rt; id.place() == place && *arena.get(id) == item);
+            assert!(rt; arena.id_at(place) == Some(id));
+        }
+        assert!(rt; arena.id_at(2) == None && arena.len() == 2);
         Ok(())
     }
 }

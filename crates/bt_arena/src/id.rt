@@ -1,9 +1,10 @@
+//! Ids, whose numbers only an arena or a pool gives.
 ghost use Rattle.std.specs.Prelude.{◌≡◌};
 
 use std::marker::{Model, PhantomData};
 
 /// The place of an item among those of the kind K. Only an arena or a pool issues one.
-#[derive_where(Clone, Copy, Debug, PartialEq, Eq)]
+#[derive_where(Clone, Copy, PartialEq, Eq)]
 pub struct Id<K> {
     place: usize,
     kind: PhantomData<K>,

@@ -1,4 +1,5 @@
-// Typed ids, and an arena and a pool whose items they name.
+//! Typed ids, and an arena and a pool whose items they name. An id is a place with the kind of what it
+//! names, so no place of one list is taken for a place of another.
 #![tactic(auto)]
 
 mod arena;

@@ -1,6 +1,9 @@
+//! Lists of items in one vector, since many short vectors would take a block of memory each.
 ghost use Rattle.std.specs.Prelude.{◌≡◌, ◌<◌, ◌≤◌, [], ◌∷◌, ◌++◌, length, slice_get, slice_range, Some, OnErr, OnOk, IfOk, IsOkAnd, IfSome, IsNone, ◌↔◌};
-ghost use Rattle.bt_arena.specs.Items.{KeepsItems};
-ghost use Rattle.bt_arena.specs.Pieces.{pieces, AreEnds, start_of};
+ghost use Rattle.std.specs.Allocator.{alloc_error};
+ghost use Rattle.bt_answers.specs.Answers.{seen, Answers};
+ghost use Rattle.bt_arena.specs.Items.{with_id, IsAdded, KeepsItems};
+ghost use Rattle.bt_arena.specs.Pieces.{AreEnds, start_of, IsSpan};
 
 use crate::id::Id;
 use std::alloc::{AllocError, Global};
@@ -44,7 +47,7 @@ fn span<T>(items: &[T], ends: &[usize], place: usize) -> (usize, usize)
     requires ends { AreEnds 0 ends.now items.now }
     ensures order { result.0 ≤ result.1 }
     ensures within { result.1 ≤ length items.now }
-    ensures piece { slice_get (pieces 0 ends.now items.now) place ≡ Some (slice_range items.now result.0 result.1) }
+    ensures piece { IsSpan ends.now items.now place result }
 {
     (start(ends, place), ends[place])
 }
@@ -91,8 +94,7 @@ impl<T: Copy, K> Pool<T, K> {
 
     /// Appends a list, and gives its id.
     pub fn add_slice(&mut self, items: &[T]) -> Result<Id<K>, AllocError>
-        ensures added { OnOk result (self.new ≡ self.old ++ items.now ∷ []) }
-        ensures place { IfOk result (λ id. id ≡ length self.old) }
+        ensures added { Answers alloc_error (IsAdded self.old items.now) (seen (with_id self.new) result) }
         ensures same { OnErr result (self.new ≡ self.old) }
         ensures kept { KeepsItems self.old self.new }
     {
@@ -115,15 +117,16 @@ mod tests {
     #[test]
     fn names_lists(rt: HostRuntime) -> Result<(), Fail> {
         let mut pool: Pool<u32, Row> = Pool::new(rt.alloc())?;
-        let first = pool.add_slice(&[1, 2])?;
-        let second = pool.add_slice(&[3])?;
-        let empty = pool.add_slice(&[])?;
-        assert_eq!(rt; pool.slice(first), [1, 2].as_slice());
-        assert_eq!(rt; pool.slice(second), [3].as_slice());
-        assert_eq!(rt; pool.slice(empty), [].as_slice());
-        assert!(rt; pool.id_at(1) == Some(second));
-        assert!(rt; pool.id_at(3) == None);
-        assert_eq!(rt; pool.len(), 3);
+        let lists: [&[u32]; 3] = [&[1, 2], &[3], &[]];
+        for (place, list) in lists.iter().enumerate() {
+            let id = pool.add_slice(list)?;
+            assert!(rt; id.place() == place && pool.slice(id) == *list);
+        }
+        for (place, list) in lists.iter().enumerate() {
+            let id = pool.id_at(place).ok_or("no id")?;
+            assert!(rt; pool.slice(id) == *list);
+        }
+        assert!(rt; pool.id_at(3) == None && pool.len() == 3);
         Ok(())
     }
 }

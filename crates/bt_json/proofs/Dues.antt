@@ -6,10 +6,12 @@ use Rattle.bt_json.specs.Grammar.{Texts, Joined, Byte, Blanks, IsText, IsValue}
 use Rattle.bt_json.specs.Places as places
 use Rattle.bt_json.specs.Places.{Frame, in_list, in_object, OnlyName, Named, Begun, Due, NameDue}
 use Rattle.bt_json.specs.Answers.{EndsBefore}
+use Rattle.bt_json.specs.inner.Running.{SkipsBlanks}
 use Rattle.bt_json.specs.inner.Reading.{State, Step, go, step, as_name, between, due, opened_list, behind, opened_object, name_due, colon_due, in_text, deliver, step_due, step_opened_list}
 use Rattle.bt_json.proofs.ByteKinds.{kind_of-list_opens, kind_of-object_opens}
-use Rattle.bt_json.proofs.Eating.{Eats, eats_byte, eats_both, eats_then, eats_same, eats_next, Anything, Skips, eats_blanks}
-use Rattle.bt_json.proofs.Eaten.{Fronts, value_fronts, first_value, before_joined, skips_due, skips_opened_list, skips_behind, skips_opened_object, skips_name_due, skips_colon_due, comma_in_list, comma_in_object, colon_in, quote_of_name, quote_of_first, name_read, eats_value}
+use Rattle.bt_json.proofs.Eating.{Eats, eats_byte, eats_both, eats_then, eats_same, eats_next, Anything, eats_blanks}
+use Rattle.bt_json.proofs.Eaten.{Fronts, value_fronts, first_value, before_joined, comma_in_list, comma_in_object, colon_in, quote_of_name, quote_of_first, name_read, eats_value}
+use Rattle.bt_json.proofs.Blanks.{skips_due, skips_opened_list, skips_behind, skips_opened_object, skips_name_due, skips_colon_due}
 
 -- one text behind another
 seq : {A B : Texts} (s mid : State) (t : List ℕ) (next : ℕ → Step) (j : Joined A B t) → Eats false s j.front (λ n. go mid) Anything → Eats false mid j.back next Anything → Eats false s t next Anything
@@ -94,7 +96,7 @@ brace_due (in_object names vs ∷ k) = object_opens (in_object names vs ∷ k)
 
 -- a state in which a name may begin, behind these members
 pub record NamePlace (s : State) (names : List (List ℕ)) (vs : List Json) (k : List Frame) : Type 0 where
-  pub skips : Skips false s
+  pub skips : SkipsBlanks false s
   pub quote : Eats false s (34 ∷ []) (λ m. go (in_text [] None between (as_name names vs (m - 1)) k)) Anything
 
 first_place : (k : List Frame) → NamePlace (opened_object k) [] [] k

@@ -14,42 +14,15 @@ use Rattle.bt_json.specs.Answers.{depth_of, items_depth, members_depth, HasDisti
 use Rattle.bt_json.specs.inner.Bytes.{kind_of}
 use Rattle.bt_json.specs.inner.Reading.{State, Step, go, stop, deep, twice, step, Frame, in_list, in_object, as_value, as_name, due, opened_list, behind, opened_object, name_due, colon_due, in_text, between, in_word, deliver, opens_level, has_name, finish_text, step_due, step_opened_list, step_behind, step_opened_object, step_name_due, step_colon_due}
 use Rattle.bt_json.specs.declared.kind.Kind.{Kind}
-use Rattle.bt_json.specs.declared.kind.Kind.TheVariants.{Blank, ListOpens, ListCloses, ObjectOpens, ObjectCloses, Comma, Colon, Quote, Minus, Digit, LetterT, LetterF, LetterN, Other}
-use Rattle.bt_json.proofs.ByteKinds.{blank-kind, kind_of-list_opens, kind_of-list_closes, kind_of-object_opens, kind_of-object_closes, kind_of-comma, kind_of-colon, kind_of-quote, kind_of-minus, kind_of-t, kind_of-f, kind_of-n}
-use Rattle.bt_json.proofs.Eating.{after, walk, walk_cons, Eats, eats_byte, eats_both, eats_then, eats_same, eats_next, Anything, Skips, eats_blanks, eats_word}
+use Rattle.bt_json.specs.declared.kind.Kind.TheVariants.{Blank, ListOpens, ListCloses, ObjectOpens, Quote, Minus, Digit, LetterT, LetterF, LetterN}
+use Rattle.bt_json.proofs.Blanks.{skips_due, skips_opened_list, skips_behind, skips_opened_object, skips_name_due, skips_colon_due, opened_other}
+use Rattle.bt_json.proofs.ByteKinds.{kind_of-list_opens, kind_of-list_closes, kind_of-object_opens, kind_of-object_closes, kind_of-comma, kind_of-colon, kind_of-quote, kind_of-minus, kind_of-t, kind_of-f, kind_of-n}
+use Rattle.bt_json.proofs.Eating.{after, walk, walk_cons, Eats, eats_byte, eats_both, eats_then, eats_same, eats_next, Anything, eats_blanks, eats_word}
 use Rattle.bt_json.proofs.EatenNumbers.{eats_number}
 use Rattle.bt_json.proofs.EatenTexts.{eats_text}
 use Rattle.bt_json.specs.declared.limits.TheConstants.{MOST_LEVELS}
 
 -- ---- blanks
-
-pub skips_due : (strict : Bool) (k : List Frame) → Skips strict (due k)
-unfolding step
-skips_due strict k = record { skips = λ at b e. ap (step_due strict at k b) (blank-kind b e) }
-
-pub skips_opened_list : (strict : Bool) (k : List Frame) → Skips strict (opened_list k)
-unfolding step
-skips_opened_list strict k = record { skips = λ at b e. ap (step_opened_list strict at k b) (blank-kind b e) }
-
-pub behind_blank : (at : ℕ) (v : Json) (f : Frame) (k : List Frame) → step_behind at v f k Blank ≡ go (behind v f k)
-behind_blank at v (in_list vs) k = refl
-behind_blank at v (in_object names vs) k = refl
-
-pub skips_behind : (strict : Bool) (v : Json) (f : Frame) (k : List Frame) → Skips strict (behind v f k)
-unfolding step
-skips_behind strict v f k = record { skips = λ at b e. ap (step_behind at v f k) (blank-kind b e) ∙ behind_blank at v f k }
-
-pub skips_opened_object : (strict : Bool) (k : List Frame) → Skips strict (opened_object k)
-unfolding step
-skips_opened_object strict k = record { skips = λ at b e. ap (step_opened_object at k) (blank-kind b e) }
-
-pub skips_name_due : (strict : Bool) (names : List (List ℕ)) (vs : List Json) (k : List Frame) → Skips strict (name_due names vs k)
-unfolding step
-skips_name_due strict names vs k = record { skips = λ at b e. ap (step_name_due at names vs k) (blank-kind b e) }
-
-pub skips_colon_due : (strict : Bool) (names : List (List ℕ)) (vs : List Json) (n : List ℕ) (k : List Frame) → Skips strict (colon_due names vs n k)
-unfolding step
-skips_colon_due strict names vs n k = record { skips = λ at b e. ap (step_colon_due at names vs n k) (blank-kind b e) }
 
 -- ---- the bytes between values
 
@@ -170,22 +143,6 @@ value_fronts (list (item v rest)) t j = fronts t 91 j.back ListOpens (begins 91 
 value_fronts (object no_members) t j = fronts t 123 j.back ObjectOpens (begins 123 t j) kind_of-object_opens (λ h. cc) (λ h. cc)
 value_fronts (object (member n v rest)) t j = fronts t 123 j.back ObjectOpens (begins 123 t j) kind_of-object_opens (λ h. cc) (λ h. cc)
 
-opened_other : (strict : Bool) (at : ℕ) (k : List Frame) (b : ℕ) (kind : Kind) → kind ≢ Blank → kind ≢ ListCloses → step_opened_list strict at k b kind ≡ step_due strict at (in_list [] ∷ k) b kind
-opened_other strict at k b Blank n m = absurd (n refl)
-opened_other strict at k b ListCloses n m = absurd (m refl)
-opened_other strict at k b ListOpens n m = refl
-opened_other strict at k b ObjectOpens n m = refl
-opened_other strict at k b ObjectCloses n m = refl
-opened_other strict at k b Comma n m = refl
-opened_other strict at k b Colon n m = refl
-opened_other strict at k b Quote n m = refl
-opened_other strict at k b Minus n m = refl
-opened_other strict at k b Digit n m = refl
-opened_other strict at k b LetterT n m = refl
-opened_other strict at k b LetterF n m = refl
-opened_other strict at k b LetterN n m = refl
-opened_other strict at k b Other n m = refl
-
 -- behind the bracket of a list, a value is read as where one is due
 pub first_value : (strict : Bool) (k : List Frame) (t : List ℕ) (next : ℕ → Step) (Before : List ℕ → Type 0) → Fronts t → Eats strict (due (in_list [] ∷ k)) t next Before → Eats strict (opened_list k) t next Before
 unfolding step
@@ -205,11 +162,8 @@ not_in_number b (inr (inr (inr h))) = ap is_number_byte h
 
 before_byte : (v : Json) (b : ℕ) (rest : List ℕ) → is_number_byte b ≡ false → EndsBefore v (b ∷ rest)
 before_byte null b rest e = tt
-before_byte (boolean x) b rest e = tt
 before_byte (number n) b rest e = e
-before_byte (text t) b rest e = tt
-before_byte (list all) b rest e = tt
-before_byte (object all) b rest e = tt
+before_byte s b rest e = tt
 
 -- blanks and one of these bytes
 before_blanks : (v : Json) (w : List ℕ) (b : ℕ) (rest : List ℕ) → Blanks w → is_number_byte b ≡ false → EndsBefore v (w ++ b ∷ rest)

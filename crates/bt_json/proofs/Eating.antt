@@ -2,8 +2,9 @@
 use Rattle.std.proofs.Common.{◌≡◌, ℕ, suc, ◌+◌, Bool, true, false, cond, List, [], ◌∷◌, ◌++◌, length, refl, ap, ◌∙◌, sym, subst, arith, append_assoc, eq-eqb}
 use Rattle.std.proofs.lemmas.List.{length-append}
 use Rattle.bt_json.specs.Json.{Json, number}
-use Rattle.bt_json.specs.Grammar.{is_blank, Blanks, Texts}
-use Rattle.bt_json.specs.inner.Reading.{State, Step, go, stop, Stop, bad, step, after_step, run, finish, finish_number, may_end, Numeral, numeral_value, Frame, due, opened_list, behind, opened_object, name_due, colon_due, in_text, in_number, deliver, in_word}
+use Rattle.bt_json.specs.Grammar.{Blanks, Texts}
+use Rattle.bt_json.specs.inner.Running.{SkipsBlanks}
+use Rattle.bt_json.specs.inner.Reading.{State, Step, go, stop, Stop, bad, step, after_step, run, finish, finish_number, may_end, Numeral, numeral_value, Frame, in_number, deliver, in_word}
 use Rattle.bt_json.specs.declared.kind.Phase.{Phase}
 
 -- a number that may end is delivered where the bytes end
@@ -38,13 +39,6 @@ ended at (go s) = finish at s
 ended at (stop e) = e
 
 settled : (at : ℕ) (s : State) → finish at s ≡ ended at (settle at s)
-settled at (due k) = refl
-settled at (opened_list k) = refl
-settled at (behind v f k) = refl
-settled at (opened_object k) = refl
-settled at (name_due names vs k) = refl
-settled at (colon_due names vs n k) = refl
-settled at (in_text out high place role k) = refl
 settled at (in_number phase n k) = by k (may_end phase) refl
   where
     by : (f : List Frame) (b : Bool) → may_end phase ≡ b → finish_number at n f b ≡ ended at (settle_number at phase n f b)
@@ -52,7 +46,7 @@ settled at (in_number phase n k) = by k (may_end phase) refl
     by (f ∷ fs) true e = refl
     by [] false e = sym (ap (finish_number at n []) e)
     by (f ∷ fs) false e = sym (ap (finish_number at n (f ∷ fs)) e)
-settled at (in_word left v k) = refl
+settled at s = refl
 
 -- reading gives where the bytes lead to
 pub run_is : (strict : Bool) (bytes : List ℕ) (at : ℕ) (s : State) → run strict at s bytes ≡ ended (at + length bytes) (walk strict at s bytes)
@@ -101,10 +95,7 @@ eats_next strict s t next other Before e p = record { eats = λ at rest h. p.eat
 
 -- ---- blanks
 
-pub record Skips (strict : Bool) (s : State) : Type 0 where
-  pub skips : (at b : ℕ) → is_blank b ≡ true → step strict at b s ≡ go s
-
-pub eats_blanks : (strict : Bool) (s : State) (t : List ℕ) → Skips strict s → Blanks t → Eats strict s t (λ n. go s) Anything
+pub eats_blanks : (strict : Bool) (s : State) (t : List ℕ) → SkipsBlanks strict s → Blanks t → Eats strict s t (λ n. go s) Anything
 eats_blanks strict s [] k h = eats_none strict s
 eats_blanks strict s (b ∷ t) k h = eats_then strict s s (b ∷ []) t (λ n. go s) Anything (eats_byte strict s b (λ n. go s) (λ at. k.skips at b h.0)) (eats_blanks strict s t k h.1)
 

@@ -1,6 +1,6 @@
 -- Reading stops by the first fault that is found.
-use Rattle.std.proofs.Common.{◌≡◌, ℕ, zero, suc, ◌+◌, ◌-◌, ◌<◌, ◌≤◌, true, false, cond, List, [], ◌∷◌, ◌++◌, length, take, drop, Some, refl, ap, ap₂, ◌∙◌, sym, subst, arith, ◌≢◌, ◌⊎◌, inl, inr, eq-eqb}
-use Rattle.std.specs.Prelude.{slice_get, Result, Ok, Err, IfOk, IfErr}
+use Rattle.std.proofs.Common.{◌≡◌, ℕ, zero, suc, ◌+◌, ◌-◌, ◌<◌, ◌≤◌, true, false, cond, List, [], ◌∷◌, ◌++◌, length, take, drop, Some, refl, ap, ap₂, ◌∙◌, sym, subst, arith, ◌⊎◌, inl, inr, eq-eqb}
+use Rattle.std.specs.Prelude.{slice_get}
 use Rattle.std.proofs.lemmas.List.{append-nil, length-append, take-append-drop, length-take, length-drop}
 use Rattle.bt_json.specs.Json.{Json}
 use Rattle.bt_json.specs.Grammar.{IsText}
@@ -8,7 +8,6 @@ use Rattle.bt_json.specs.Places.{Frame, in_list, in_object, Due, NameDue}
 use Rattle.bt_json.specs.Answers.{IsFront, HasValue, IsBad, IsDeep, IsTwice, FoundAt, IsFirst}
 use Rattle.bt_json.specs.inner.Bytes.{kind_of}
 use Rattle.bt_json.specs.inner.Reading.{State, Step, go, stop, Stop, found, bad, deep, twice, step, run, after_step, as_name, due, opened_list, opened_object, name_due, colon_due, opens_level, has_name, finish_text, step_due, step_opened_list, reading}
-use Rattle.bt_json.specs.inner.Running.{Faults}
 use Rattle.bt_json.specs.declared.kind.Kind.TheVariants.{ListOpens, ObjectOpens}
 use Rattle.bt_json.specs.declared.fault.JsonFault.{JsonFault}
 use Rattle.bt_json.specs.declared.fault.JsonFault.TheVariants as faults
@@ -255,9 +254,7 @@ found_there bytes (twice from n) f place e s = subst (λ g. FoundAt bytes g plac
 
 one_place : (e : Stop) (f g : JsonFault) (a b : ℕ) → StopsBy e f a → StopsBy e g b → a ≡ b
 one_place (found v n) f g a b p q = absurd p
-one_place (bad n) f g a b p q = p.1 ∙ sym q.1
-one_place (deep n) f g a b p q = p.1 ∙ sym q.1
-one_place (twice from n) f g a b p q = p.1 ∙ sym q.1
+one_place s f g a b p q = p.1 ∙ sym q.1
 
 pub stops_first : (bytes : List ℕ) (f : JsonFault) (place : ℕ) → StopsBy (reading bytes) f place → IsFirst bytes f
 stops_first bytes f place s = record {

@@ -8,7 +8,7 @@ use Rattle.std.proofs.lemmas.Bool.{cases_lt}
 use Rattle.std.proofs.lemmas.List.{length-drop}
 use Rattle.std.proofs.lemmas.Nat.{pow-add}
 use Rattle.std.proofs.Math.Nat.{le_of_mul-le-mul_right}
-use Rattle.bt_json.specs.Value.{twice, IsHalfOf}
+use Rattle.bt_json.specs.inner.Halves.{twice, IsHalfOf}
 use Rattle.bt_json.proofs.Digits.{number_after_is, below_base, halves_of, is_half, no_multiple, no_small_multiple, pow_grows, suc_is}
 
 head_is : (d : ℕ) (ds : List ℕ) → number_from_digits 10 (d ∷ ds) ≡ d * 10 ^ length ds + number_from_digits 10 ds

@@ -12,7 +12,7 @@ use Rattle.bt_json.specs.Answers.{depth_of, HasDistinctNames}
 use Rattle.bt_json.specs.inner.Bytes.{kind_of, mark_of}
 use Rattle.bt_json.specs.inner.Reading.{State, Step, go, stop, found, bad, deep, twice, step, Role, as_value, as_name, Place, InText, reads, closes, no_text, numeral_value, InNumber, goes_on, ends, wrong, due, opened_list, behind, opened_object, name_due, colon_due, in_text, in_number, in_word, deliver, opens_level, has_name, step_due, step_opened_list, step_behind, step_opened_object, step_name_due, step_colon_due, step_in_text, step_in_number, step_past, step_in_word, step_text, step_number}
 use Rattle.bt_json.specs.declared.kind.Kind.{Kind}
-use Rattle.bt_json.specs.declared.kind.Kind.TheVariants.{Blank, ListOpens, ListCloses, ObjectOpens, ObjectCloses, Comma, Colon, Quote, Minus, Digit, LetterT, LetterF, LetterN, Other}
+use Rattle.bt_json.specs.declared.kind.Kind.TheVariants.{Blank, ListOpens, ListCloses, ObjectOpens, ObjectCloses, Comma, Colon, Quote, Minus, Digit, LetterT, LetterF, LetterN}
 use Rattle.bt_json.proofs.Eaten.{Allowed, ItemsAllowed, MembersAllowed}
 use Rattle.bt_json.specs.declared.limits.TheConstants.{MOST_LEVELS}
 
@@ -92,9 +92,7 @@ Kept (in_word left v k) = Fits k × IsLeaf v
 abbrev pub StepKept : Step → Type 0
 StepKept (go s) = Kept s
 StepKept (stop (found v n)) = Allowed true 0 v
-StepKept (stop (bad n)) = Unit {0}
-StepKept (stop (deep n)) = Unit {0}
-StepKept (stop (twice from n)) = Unit {0}
+StepKept s = Unit {0}
 
 chosen : (x : Bool) (a c : Step) → (x ≡ true → StepKept a) → (x ≡ false → StepKept c) → StepKept (cond x a c)
 chosen true a c f g = f refl
@@ -128,11 +126,7 @@ due_kept at k b Digit h = h
 due_kept at k b LetterT h = (h, (refl, tt))
 due_kept at k b LetterF h = (h, (refl, tt))
 due_kept at k b LetterN h = (h, (refl, tt))
-due_kept at k b ListCloses h = tt
-due_kept at k b ObjectCloses h = tt
-due_kept at k b Comma h = tt
-due_kept at k b Colon h = tt
-due_kept at k b Other h = tt
+due_kept at k b kind h = tt
 
 in_new_list : (k : List Frame) → Fits k → length k < MOST_LEVELS → Fits (in_list [] ∷ k)
 in_new_list k h lt = (omega arith, (tt, h.1))
@@ -148,10 +142,7 @@ opened_list_kept at k b Digit h lt = in_new_list k h lt
 opened_list_kept at k b LetterT h lt = (in_new_list k h lt, (refl, tt))
 opened_list_kept at k b LetterF h lt = (in_new_list k h lt, (refl, tt))
 opened_list_kept at k b LetterN h lt = (in_new_list k h lt, (refl, tt))
-opened_list_kept at k b ObjectCloses h lt = tt
-opened_list_kept at k b Comma h lt = tt
-opened_list_kept at k b Colon h lt = tt
-opened_list_kept at k b Other h lt = tt
+opened_list_kept at k b kind h lt = tt
 
 behind_kept : (at : ℕ) (v : Json) (f : Frame) (k : List Frame) (kind : Kind) → Allowed true (length (f ∷ k)) v → Fits (f ∷ k) → StepKept (step_behind at v f k kind)
 behind_kept at v (in_list vs) k Blank a h = (a, h)
@@ -161,76 +152,24 @@ behind_kept at v (in_list vs) k ListCloses a h = let le = h.0 in delivered (list
 behind_kept at v (in_object names vs) k Comma a h = let le = h.0 in ((omega arith, h.1.1), omega arith, h.1.0.0, all_push (suc (length k)) vs v h.1.0.1 a)
 behind_kept at v (in_object names vs) k ObjectCloses a h =
     let le = h.0 in delivered (object (members_of names (vs ++ v ∷ []))) k (at + 1) (omega arith, h.1.1) (object_allowed k names (vs ++ v ∷ []) (omega arith) h.1.0.0 (all_push (suc (length k)) vs v h.1.0.1 a))
-behind_kept at v (in_list vs) k ListOpens a h = tt
-behind_kept at v (in_list vs) k ObjectOpens a h = tt
-behind_kept at v (in_list vs) k ObjectCloses a h = tt
-behind_kept at v (in_list vs) k Colon a h = tt
-behind_kept at v (in_list vs) k Quote a h = tt
-behind_kept at v (in_list vs) k Minus a h = tt
-behind_kept at v (in_list vs) k Digit a h = tt
-behind_kept at v (in_list vs) k LetterT a h = tt
-behind_kept at v (in_list vs) k LetterF a h = tt
-behind_kept at v (in_list vs) k LetterN a h = tt
-behind_kept at v (in_list vs) k Other a h = tt
-behind_kept at v (in_object names vs) k ListOpens a h = tt
-behind_kept at v (in_object names vs) k ListCloses a h = tt
-behind_kept at v (in_object names vs) k ObjectOpens a h = tt
-behind_kept at v (in_object names vs) k Colon a h = tt
-behind_kept at v (in_object names vs) k Quote a h = tt
-behind_kept at v (in_object names vs) k Minus a h = tt
-behind_kept at v (in_object names vs) k Digit a h = tt
-behind_kept at v (in_object names vs) k LetterT a h = tt
-behind_kept at v (in_object names vs) k LetterF a h = tt
-behind_kept at v (in_object names vs) k LetterN a h = tt
-behind_kept at v (in_object names vs) k Other a h = tt
+behind_kept at v (in_list vs) k kind a h = tt
+behind_kept at v (in_object names vs) k kind a h = tt
 
 opened_object_kept : (at : ℕ) (k : List Frame) (kind : Kind) → Fits k → length k < MOST_LEVELS → StepKept (step_opened_object at k kind)
 opened_object_kept at k Blank h lt = (h, lt)
 opened_object_kept at k ObjectCloses h lt = delivered (object no_members) k (at + 1) h (object_allowed k [] [] lt tt tt)
 opened_object_kept at k Quote h lt = (h, lt, tt, tt)
-opened_object_kept at k ListOpens h lt = tt
-opened_object_kept at k ListCloses h lt = tt
-opened_object_kept at k ObjectOpens h lt = tt
-opened_object_kept at k Comma h lt = tt
-opened_object_kept at k Colon h lt = tt
-opened_object_kept at k Minus h lt = tt
-opened_object_kept at k Digit h lt = tt
-opened_object_kept at k LetterT h lt = tt
-opened_object_kept at k LetterF h lt = tt
-opened_object_kept at k LetterN h lt = tt
-opened_object_kept at k Other h lt = tt
+opened_object_kept at k kind h lt = tt
 
 name_due_kept : (at : ℕ) (names : List (List ℕ)) (vs : List Json) (k : List Frame) (kind : Kind) → ObjectFits names vs k → StepKept (step_name_due at names vs k kind)
 name_due_kept at names vs k Blank h = h
 name_due_kept at names vs k Quote h = h
-name_due_kept at names vs k ListOpens h = tt
-name_due_kept at names vs k ListCloses h = tt
-name_due_kept at names vs k ObjectOpens h = tt
-name_due_kept at names vs k ObjectCloses h = tt
-name_due_kept at names vs k Comma h = tt
-name_due_kept at names vs k Colon h = tt
-name_due_kept at names vs k Minus h = tt
-name_due_kept at names vs k Digit h = tt
-name_due_kept at names vs k LetterT h = tt
-name_due_kept at names vs k LetterF h = tt
-name_due_kept at names vs k LetterN h = tt
-name_due_kept at names vs k Other h = tt
+name_due_kept at names vs k kind h = tt
 
 colon_due_kept : (at : ℕ) (names : List (List ℕ)) (vs : List Json) (n : List ℕ) (k : List Frame) (kind : Kind) → ObjectFits names vs k → has_name names n ≡ false → StepKept (step_colon_due at names vs n k kind)
 colon_due_kept at names vs n k Blank h e = (h, e)
 colon_due_kept at names vs n k Colon h e = let lt = h.1 in (omega arith, ((new_push [] names n h.2 (unnamed names n e), h.3), h.0.1))
-colon_due_kept at names vs n k ListOpens h e = tt
-colon_due_kept at names vs n k ListCloses h e = tt
-colon_due_kept at names vs n k ObjectOpens h e = tt
-colon_due_kept at names vs n k ObjectCloses h e = tt
-colon_due_kept at names vs n k Comma h e = tt
-colon_due_kept at names vs n k Quote h e = tt
-colon_due_kept at names vs n k Minus h e = tt
-colon_due_kept at names vs n k Digit h e = tt
-colon_due_kept at names vs n k LetterT h e = tt
-colon_due_kept at names vs n k LetterF h e = tt
-colon_due_kept at names vs n k LetterN h e = tt
-colon_due_kept at names vs n k Other h e = tt
+colon_due_kept at names vs n k kind h e = tt
 
 text_kept : (at : ℕ) (out : List ℕ) (high : Option ℕ) (place : Place) (role : Role) (k : List Frame) (x : InText) → Kept (in_text out high place role k) → StepKept (step_in_text true at role k x)
 text_kept at out high place as_value k (reads o h p) kept = kept

@@ -5,7 +5,7 @@ use Rattle.bt_json.specs.Stands.{items_of, members_of}
 use Rattle.bt_json.specs.inner.Bytes.{kind_of, mark_of}
 use Rattle.bt_json.specs.inner.Reading.{State, Step, go, stop, Stop, found, bad, deep, twice, step, run, after_step, finish, finish_number, may_end, Frame, in_list, in_object, Role, as_value, as_name, InText, reads, closes, no_text, numeral_value, InNumber, goes_on, ends, wrong, due, opened_list, behind, opened_object, name_due, colon_due, in_text, in_number, in_word, word_left, deliver, opens_level, has_name, step_due, step_opened_list, step_behind, step_opened_object, step_name_due, step_colon_due, step_in_text, step_in_number, step_past, step_in_word, step_text, step_number}
 use Rattle.bt_json.specs.declared.kind.Kind.{Kind}
-use Rattle.bt_json.specs.declared.kind.Kind.TheVariants.{Blank, ListOpens, ListCloses, ObjectOpens, ObjectCloses, Comma, Colon, Quote, Minus, Digit, LetterT, LetterF, LetterN, Other}
+use Rattle.bt_json.specs.declared.kind.Kind.TheVariants.{Blank, ListOpens, ListCloses, ObjectOpens, ObjectCloses, Comma, Colon, Quote, Other}
 use Rattle.bt_json.specs.declared.fault.JsonFault.{JsonFault}
 use Rattle.bt_json.specs.declared.fault.JsonFault.TheVariants as faults
 use Rattle.bt_json.proofs.Eating.{walk, onward, settle, settle_number}
@@ -31,114 +31,45 @@ opens k at inside = by (length k == MOST_LEVELS)
     by false = refl
 
 due_alike : (at : ℕ) (k : List Frame) (b : ℕ) (kind : Kind) → Alike at (step_due true at k b kind) (step_due false at k b kind)
-due_alike at k b Blank = refl
 due_alike at k b ListOpens = opens k at (opened_list k)
 due_alike at k b ListCloses = (refl, refl)
 due_alike at k b ObjectOpens = opens k at (opened_object k)
 due_alike at k b ObjectCloses = (refl, refl)
 due_alike at k b Comma = (refl, refl)
 due_alike at k b Colon = (refl, refl)
-due_alike at k b Quote = refl
-due_alike at k b Minus = refl
-due_alike at k b Digit = refl
-due_alike at k b LetterT = refl
-due_alike at k b LetterF = refl
-due_alike at k b LetterN = refl
 due_alike at k b Other = (refl, refl)
+due_alike at k b kind = refl
 
 opened_list_alike : (at : ℕ) (k : List Frame) (b : ℕ) (kind : Kind) → Alike at (step_opened_list true at k b kind) (step_opened_list false at k b kind)
 opened_list_alike at k b Blank = refl
-opened_list_alike at k b ListOpens = due_alike at (in_list [] ∷ k) b ListOpens
 opened_list_alike at k b ListCloses = delivered at (list no_items) k
-opened_list_alike at k b ObjectOpens = due_alike at (in_list [] ∷ k) b ObjectOpens
-opened_list_alike at k b ObjectCloses = due_alike at (in_list [] ∷ k) b ObjectCloses
-opened_list_alike at k b Comma = due_alike at (in_list [] ∷ k) b Comma
-opened_list_alike at k b Colon = due_alike at (in_list [] ∷ k) b Colon
-opened_list_alike at k b Quote = due_alike at (in_list [] ∷ k) b Quote
-opened_list_alike at k b Minus = due_alike at (in_list [] ∷ k) b Minus
-opened_list_alike at k b Digit = due_alike at (in_list [] ∷ k) b Digit
-opened_list_alike at k b LetterT = due_alike at (in_list [] ∷ k) b LetterT
-opened_list_alike at k b LetterF = due_alike at (in_list [] ∷ k) b LetterF
-opened_list_alike at k b LetterN = due_alike at (in_list [] ∷ k) b LetterN
-opened_list_alike at k b Other = due_alike at (in_list [] ∷ k) b Other
+opened_list_alike at k b kind = due_alike at (in_list [] ∷ k) b kind
 
 behind_alike : (at : ℕ) (v : Json) (f : Frame) (k : List Frame) (kind : Kind) → Alike at (step_behind at v f k kind) (step_behind at v f k kind)
 behind_alike at v (in_list vs) k Blank = refl
-behind_alike at v (in_list vs) k ListOpens = (refl, refl)
 behind_alike at v (in_list vs) k ListCloses = delivered at (list (items_of (vs ++ v ∷ []))) k
-behind_alike at v (in_list vs) k ObjectOpens = (refl, refl)
-behind_alike at v (in_list vs) k ObjectCloses = (refl, refl)
 behind_alike at v (in_list vs) k Comma = refl
-behind_alike at v (in_list vs) k Colon = (refl, refl)
-behind_alike at v (in_list vs) k Quote = (refl, refl)
-behind_alike at v (in_list vs) k Minus = (refl, refl)
-behind_alike at v (in_list vs) k Digit = (refl, refl)
-behind_alike at v (in_list vs) k LetterT = (refl, refl)
-behind_alike at v (in_list vs) k LetterF = (refl, refl)
-behind_alike at v (in_list vs) k LetterN = (refl, refl)
-behind_alike at v (in_list vs) k Other = (refl, refl)
+behind_alike at v (in_list vs) k kind = (refl, refl)
 behind_alike at v (in_object names vs) k Blank = refl
-behind_alike at v (in_object names vs) k ListOpens = (refl, refl)
-behind_alike at v (in_object names vs) k ListCloses = (refl, refl)
-behind_alike at v (in_object names vs) k ObjectOpens = (refl, refl)
 behind_alike at v (in_object names vs) k ObjectCloses = delivered at (object (members_of names (vs ++ v ∷ []))) k
 behind_alike at v (in_object names vs) k Comma = refl
-behind_alike at v (in_object names vs) k Colon = (refl, refl)
-behind_alike at v (in_object names vs) k Quote = (refl, refl)
-behind_alike at v (in_object names vs) k Minus = (refl, refl)
-behind_alike at v (in_object names vs) k Digit = (refl, refl)
-behind_alike at v (in_object names vs) k LetterT = (refl, refl)
-behind_alike at v (in_object names vs) k LetterF = (refl, refl)
-behind_alike at v (in_object names vs) k LetterN = (refl, refl)
-behind_alike at v (in_object names vs) k Other = (refl, refl)
+behind_alike at v (in_object names vs) k kind = (refl, refl)
 
 opened_object_alike : (at : ℕ) (k : List Frame) (kind : Kind) → Alike at (step_opened_object at k kind) (step_opened_object at k kind)
 opened_object_alike at k Blank = refl
-opened_object_alike at k ListOpens = (refl, refl)
-opened_object_alike at k ListCloses = (refl, refl)
-opened_object_alike at k ObjectOpens = (refl, refl)
 opened_object_alike at k ObjectCloses = delivered at (object no_members) k
-opened_object_alike at k Comma = (refl, refl)
-opened_object_alike at k Colon = (refl, refl)
 opened_object_alike at k Quote = refl
-opened_object_alike at k Minus = (refl, refl)
-opened_object_alike at k Digit = (refl, refl)
-opened_object_alike at k LetterT = (refl, refl)
-opened_object_alike at k LetterF = (refl, refl)
-opened_object_alike at k LetterN = (refl, refl)
-opened_object_alike at k Other = (refl, refl)
+opened_object_alike at k kind = (refl, refl)
 
 name_due_alike : (at : ℕ) (names : List (List ℕ)) (vs : List Json) (k : List Frame) (kind : Kind) → Alike at (step_name_due at names vs k kind) (step_name_due at names vs k kind)
 name_due_alike at names vs k Blank = refl
-name_due_alike at names vs k ListOpens = (refl, refl)
-name_due_alike at names vs k ListCloses = (refl, refl)
-name_due_alike at names vs k ObjectOpens = (refl, refl)
-name_due_alike at names vs k ObjectCloses = (refl, refl)
-name_due_alike at names vs k Comma = (refl, refl)
-name_due_alike at names vs k Colon = (refl, refl)
 name_due_alike at names vs k Quote = refl
-name_due_alike at names vs k Minus = (refl, refl)
-name_due_alike at names vs k Digit = (refl, refl)
-name_due_alike at names vs k LetterT = (refl, refl)
-name_due_alike at names vs k LetterF = (refl, refl)
-name_due_alike at names vs k LetterN = (refl, refl)
-name_due_alike at names vs k Other = (refl, refl)
+name_due_alike at names vs k kind = (refl, refl)
 
 colon_due_alike : (at : ℕ) (names : List (List ℕ)) (vs : List Json) (n : List ℕ) (k : List Frame) (kind : Kind) → Alike at (step_colon_due at names vs n k kind) (step_colon_due at names vs n k kind)
 colon_due_alike at names vs n k Blank = refl
-colon_due_alike at names vs n k ListOpens = (refl, refl)
-colon_due_alike at names vs n k ListCloses = (refl, refl)
-colon_due_alike at names vs n k ObjectOpens = (refl, refl)
-colon_due_alike at names vs n k ObjectCloses = (refl, refl)
-colon_due_alike at names vs n k Comma = (refl, refl)
 colon_due_alike at names vs n k Colon = refl
-colon_due_alike at names vs n k Quote = (refl, refl)
-colon_due_alike at names vs n k Minus = (refl, refl)
-colon_due_alike at names vs n k Digit = (refl, refl)
-colon_due_alike at names vs n k LetterT = (refl, refl)
-colon_due_alike at names vs n k LetterF = (refl, refl)
-colon_due_alike at names vs n k LetterN = (refl, refl)
-colon_due_alike at names vs n k Other = (refl, refl)
+colon_due_alike at names vs n k kind = (refl, refl)
 
 text_alike : (at : ℕ) (role : Role) (k : List Frame) (x : InText) → Alike at (step_in_text true at role k x) (step_in_text false at role k x)
 text_alike at role k (reads out high place) = refl
@@ -191,13 +122,6 @@ pub record BadCut (at : ℕ) (s : State) (bytes : List ℕ) (n : ℕ) : Type 0 w
   pub stops : (more : List ℕ) → run false at s (front ++ more) ≡ bad n
 
 finish_bad : (at : ℕ) (s : State) (n : ℕ) → finish at s ≡ bad n → n ≡ at
-finish_bad at (due k) n e = cc
-finish_bad at (opened_list k) n e = cc
-finish_bad at (behind v f k) n e = cc
-finish_bad at (opened_object k) n e = cc
-finish_bad at (name_due names vs k) n e = cc
-finish_bad at (colon_due names vs m k) n e = cc
-finish_bad at (in_text out high place role k) n e = cc
 finish_bad at (in_number phase m k) n e = by k (may_end phase) e
   where
     by : (f : List Frame) (b : Bool) → finish_number at m f b ≡ bad n → n ≡ at
@@ -205,7 +129,7 @@ finish_bad at (in_number phase m k) n e = by k (may_end phase) e
     by [] false q = cc
     by (f ∷ fs) true q = cc
     by (f ∷ fs) false q = cc
-finish_bad at (in_word left v k) n e = cc
+finish_bad at s n e = cc
 
 pub bad_cut : (bytes : List ℕ) (at : ℕ) (s : State) (n : ℕ) → run true at s bytes ≡ bad n → BadCut at s bytes n ⊎ ((n ≡ at + length bytes) × (run false at s bytes ≡ bad n))
 unfolding run
@@ -245,22 +169,11 @@ StopsBy (twice from n) f place = (f ≡ faults.DuplicateKey from) × (place ≡ 
 abbrev pub Awaits : State → Type 0
 Awaits (due k) = Unit {0}
 Awaits (opened_list k) = Unit {0}
-Awaits (behind v f k) = ⊥
 Awaits (opened_object k) = Unit {0}
 Awaits (name_due names vs k) = Unit {0}
-Awaits (colon_due names vs n k) = ⊥
-Awaits (in_text out high place role k) = ⊥
-Awaits (in_number phase n k) = ⊥
-Awaits (in_word left v k) = ⊥
+Awaits s = ⊥
 
 settles : (at : ℕ) (s t : State) → Awaits t → settle at s ≡ go t → s ≡ t
-settles at (due k) t a e = cc
-settles at (opened_list k) t a e = cc
-settles at (behind v f k) t a e = cc
-settles at (opened_object k) t a e = cc
-settles at (name_due names vs k) t a e = cc
-settles at (colon_due names vs n k) t a e = cc
-settles at (in_text out high place role k) t a e = cc
 settles at (in_number phase n k) t a e = by k (may_end phase) e
   where
     by : (f : List Frame) (b : Bool) → settle_number at phase n f b ≡ go t → in_number phase n k ≡ t
@@ -268,7 +181,7 @@ settles at (in_number phase n k) t a e = by k (may_end phase) e
     by (f ∷ fs) true q = let same : behind (number (numeral_value n)) f fs ≡ t = cc in absurd (subst Awaits (sym same) a)
     by [] false q = let same : in_number phase n [] ≡ t = cc in absurd (subst Awaits (sym same) a)
     by (f ∷ fs) false q = let same : in_number phase n (f ∷ fs) ≡ t = cc in absurd (subst Awaits (sym same) a)
-settles at (in_word left v k) t a e = cc
+settles at s t a e = cc
 
 -- a fault that reading stops by before a place
 pub record Before (e : Stop) (place : ℕ) : Type 0 where

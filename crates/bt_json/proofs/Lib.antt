@@ -3,6 +3,7 @@ pub mod Digits
 pub mod Halves
 pub mod Scaled
 pub mod ByteKinds
+pub mod Blanks
 pub mod Characters
 pub mod Running
 pub mod Texts

@@ -14,7 +14,8 @@ use Rattle.bt_json.specs.declared.kind.Phase.{Phase}
 use Rattle.bt_json.specs.declared.kind.Phase.TheVariants.{BeforeWhole, AfterZero, InWhole, AfterPoint, InFraction, AfterLetter, AfterSign, InPower}
 use Rattle.bt_json.proofs.ByteKinds.{blank-kind}
 use Rattle.bt_json.proofs.Eating.{walk, run_is, ended, Eats, eats_byte, eats_then, eats_none, eats_next, Anything, eats_word}
-use Rattle.bt_json.proofs.Eaten.{behind_blank, list_end, empty_list, object_end, empty_object, colon_in, quote_of_name, name_read, text_read}
+use Rattle.bt_json.proofs.Blanks.{behind_blank}
+use Rattle.bt_json.proofs.Eaten.{list_end, empty_list, object_end, empty_object, colon_in, quote_of_name, name_read, text_read}
 use Rattle.bt_json.proofs.EatenTexts.{eats_within, tail_step, hex_in, Waits, after_unit}
 use Rattle.bt_json.proofs.EatenNumbers.{eats_mark, mark-digit, mark-over}
 use Rattle.bt_json.proofs.Sound.{Reached}

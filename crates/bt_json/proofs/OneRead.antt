@@ -1,15 +1,15 @@
 -- A text has one right answer: how reading it byte by byte ends.
-use Rattle.std.proofs.Common.{◌≡◌, ℕ, ◌≤◌, true, List, [], length, refl, sym, ap, subst, ◌∙◌, arith, inl, inr}
-use Rattle.std.specs.Prelude.{Result, Ok, Err, IfOk, IfErr}
+use Rattle.std.proofs.Common.{◌≡◌, ℕ, true, List, [], refl, sym, ap, subst, ◌∙◌, arith, inl, inr}
+use Rattle.std.specs.Prelude.{Result, Ok, Err}
 use Rattle.bt_answers.specs.Answers.{seen, UnlessMemory, Answers, HasOneAnswer}
 use Rattle.bt_answers.proofs.OneAnswer.{answers_of}
 use Rattle.bt_json.specs.Json.{Json}
-use Rattle.bt_json.specs.Stands.{json_of, value_and_place}
+use Rattle.bt_json.specs.Stands.{value_and_place}
 use Rattle.bt_json.specs.inner.Nested.{ReadsValue}
 use Rattle.bt_json.specs.declared.tree.Tree.{Tree}
-use Rattle.bt_json.specs.Answers.{IsRead, IsFirst}
-use Rattle.bt_json.specs.inner.Reading.{Frame, due, deliver, Stop, found, bad, deep, twice, reading}
-use Rattle.bt_json.specs.inner.Running.{ends_as, rest_of, rest_after, Faults}
+use Rattle.bt_json.specs.Answers.{IsRead}
+use Rattle.bt_json.specs.inner.Reading.{Stop, found, bad, deep, twice, reading}
+use Rattle.bt_json.specs.inner.Running.{ends_as, Faults}
 use Rattle.bt_json.specs.declared.fault.JsonFault.{JsonFault}
 use Rattle.bt_json.specs.declared.fault.JsonFault.TheVariants as faults
 use Rattle.bt_json.proofs.Whole.{Right, reading_right, found_allowed, finds}
@@ -27,9 +27,7 @@ end_is_right bytes (twice from n) e = stops_first bytes (faults.DuplicateKey fro
 
 as_told : (e : Stop) (f : JsonFault) (place : ℕ) → StopsBy e f place → ends_as e ≡ Err f
 as_told (found v n) f place s = absurd s
-as_told (bad n) f place s = ap Err (sym s.0)
-as_told (deep n) f place s = ap Err (sym s.0)
-as_told (twice from n) f place s = ap Err (sym s.0)
+as_told state f place s = ap Err (sym s.0)
 
 -- a right answer is how reading ends
 right_is_end : (bytes : List ℕ) (answer : Result (Json × ℕ) JsonFault) → IsRead bytes answer → ends_as (reading bytes) ≡ answer

@@ -5,8 +5,7 @@ use Rattle.bt_json.specs.Json.{Json, number}
 use Rattle.std.proofs.lemmas.List.{drop_all}
 use Rattle.bt_json.specs.Grammar.{is_blank}
 use Rattle.bt_json.specs.inner.Reading.{State, go, Stop, bad, step, after_step, run, finish, Frame, in_word, word_left, deliver, stop, Numeral, in_number, goes_on, ends, wrong, step_number, step_in_number, step_past, behind, numeral_value, finish_number, may_end, due, step_due, numeral, first_phase}
-use Rattle.bt_json.specs.declared.kind.Kind.TheVariants.{Minus, Digit}
-use Rattle.bt_json.specs.declared.kind.Phase.TheVariants.{BeforeWhole}
+use Rattle.bt_json.specs.declared.kind.Kind.TheVariants.{Digit}
 use Rattle.bt_json.specs.inner.Bytes.{kind_of, mark_of}
 use Rattle.bt_json.specs.declared.kind.Phase.{Phase}
 use Rattle.bt_json.specs.inner.Running.{SkipsBlanks, rest_of, rest_after, Faults}
@@ -28,7 +27,7 @@ rest_more bytes at s lt = run_more true at s bytes lt
 pub rest_end : (bytes : List ℕ) (at : ℕ) (s : State) → length bytes ≤ at → rest_of bytes at s ≡ finish at s
 rest_end bytes at s le = run_end true at s bytes le
 
-pub skip_one : (bytes : List ℕ) (start at : ℕ) (s : State) → SkipsBlanks s → at < length bytes → is_blank (get_or bytes at 0) ≡ true → rest_of bytes start s ≡ rest_of bytes at s → rest_of bytes start s ≡ rest_of bytes (at + 1) s
+pub skip_one : (bytes : List ℕ) (start at : ℕ) (s : State) → SkipsBlanks true s → at < length bytes → is_blank (get_or bytes at 0) ≡ true → rest_of bytes start s ≡ rest_of bytes at s → rest_of bytes start s ≡ rest_of bytes (at + 1) s
 skip_one bytes start at s skips lt blank so_far =
     so_far ∙ rest_more bytes at s lt ∙ ap (rest_after bytes (at + 1)) (skips.skips at (get_or bytes at 0) blank)
 
@@ -105,25 +104,11 @@ unfinished at n (f ∷ k) = refl
 pub number_cut : (bytes : List ℕ) (at : ℕ) (phase : Phase) (n : Numeral) (k : List Frame) → length bytes ≤ at → may_end phase ≡ false → rest_of bytes at (in_number phase n k) ≡ bad at
 number_cut bytes at phase n k le e = rest_end bytes at (in_number phase n k) le ∙ ap (finish_number at n k) e ∙ unfinished at n k
 
--- the first byte of a number
-pub begins_negative : (bytes : List ℕ) (at : ℕ) (k : List Frame) → at < length bytes → kind_of (get_or bytes at 0) ≡ Minus → rest_of bytes at (due k) ≡ rest_of bytes (at + 1) (in_number BeforeWhole (numeral true []) k)
-unfolding step
-begins_negative bytes at k lt e = rest_more bytes at (due k) lt ∙ ap (λ kind. rest_after bytes (at + 1) (step_due true at k (get_or bytes at 0) kind)) e
-
 pub begins_plain : (bytes : List ℕ) (at : ℕ) (k : List Frame) → at < length bytes → kind_of (get_or bytes at 0) ≡ Digit → rest_of bytes at (due k) ≡ rest_of bytes (at + 1) (in_number (first_phase (get_or bytes at 0 - 48)) (numeral false ((get_or bytes at 0 - 48) ∷ [])) k)
 unfolding step
 begins_plain bytes at k lt e = rest_more bytes at (due k) lt ∙ ap (λ kind. rest_after bytes (at + 1) (step_due true at k (get_or bytes at 0) kind)) e
 
 -- ---- results
-
--- what was read from one state on is read from another that goes on to it
-pub moved : {X A : Type 0} (r : Result X JsonFault) (from to : A → Stop) (out : X → A → Stop) → ((k : A) → from k ≡ to k) → IfOk r (λ x. (k : A) → to k ≡ out x k) → IfOk r (λ x. (k : A) → from k ≡ out x k)
-moved (Ok x) from to out same h = λ k. same k ∙ h k
-moved (Err f) from to out same h = tt
-
-pub moved_err : {X A : Type 0} (r : Result X JsonFault) (from to : A → Stop) → ((k : A) → from k ≡ to k) → IfErr r (λ f. (k : A) → Faults f (to k)) → IfErr r (λ f. (k : A) → Faults f (from k))
-moved_err (Ok x) from to same h = tt
-moved_err (Err f) from to same h = λ k. subst (Faults f) (sym (same k)) (h k)
 
 pub moved2 : {X A B : Type 0} (r : Result X JsonFault) (from to : A → B → Stop) (out : X → A → B → Stop) → ((a : A) (b : B) → from a b ≡ to a b) → IfOk r (λ x. (a : A) (b : B) → to a b ≡ out x a b) → IfOk r (λ x. (a : A) (b : B) → from a b ≡ out x a b)
 moved2 (Ok x) from to out same h = λ a b. same a b ∙ h a b

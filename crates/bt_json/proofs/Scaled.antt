@@ -28,10 +28,6 @@ pub doubled : (m n : ℕ) (z : ℤ) → IsScaled m (1 * n) z → IsScaled (2 * m
 doubled m n (pos i) e = let d : m ≡ (1 * n) * 10 ^ i = e in omega arith
 doubled m n (negsuc i) e = let d : m * 10 ^ (i + 1) ≡ 1 * n = e in omega arith
 
-pub halved : (m n : ℕ) (z : ℤ) → IsScaled (2 * m) (2 * n) z → IsScaled m (1 * n) z
-halved m n (pos i) e = let d : 2 * m ≡ (2 * n) * 10 ^ i = e in omega arith
-halved m n (negsuc i) e = let d : (2 * m) * 10 ^ (i + 1) ≡ 2 * n = e in omega arith
-
 pub abs-signed : (b : Bool) (m : ℕ) → unsigned_abs (signed b m) ≡ m
 abs-signed true zero = refl
 abs-signed true (suc m) = refl

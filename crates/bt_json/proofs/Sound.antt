@@ -106,11 +106,7 @@ due_step strict at k b p Digit e h = let d = kind-Digit b e in join p (b ∷ [])
 due_step strict at k b p LetterT e h = join p (b ∷ []) h ((λ rest. tt), omega arith, ap (λ x. x ∷ 114 ∷ 117 ∷ 101 ∷ []) (kind-LetterT b e))
 due_step strict at k b p LetterF e h = join p (b ∷ []) h ((λ rest. tt), omega arith, ap (λ x. x ∷ 97 ∷ 108 ∷ 115 ∷ 101 ∷ []) (kind-LetterF b e))
 due_step strict at k b p LetterN e h = join p (b ∷ []) h ((λ rest. tt), omega arith, ap (λ x. x ∷ 117 ∷ 108 ∷ 108 ∷ []) (kind-LetterN b e))
-due_step strict at k b p ListCloses e h = refl
-due_step strict at k b p ObjectCloses e h = refl
-due_step strict at k b p Comma e h = refl
-due_step strict at k b p Colon e h = refl
-due_step strict at k b p Other e h = refl
+due_step strict at k b p kind e h = refl
 
 blank_behind : {A B : Texts} (b : ℕ) (p : List ℕ) → is_blank b ≡ true → (A ▸ (B ▸ Blanks)) p → (A ▸ (B ▸ Blanks)) (p ++ b ∷ [])
 blank_behind b p e j = extend (b ∷ []) p (λ u. extend (b ∷ []) u (λ u. blanks_more b u e)) j
@@ -119,18 +115,11 @@ opened_list_step : (strict : Bool) (at : ℕ) (k : List Frame) (b : ℕ) (p : Li
 opened_list_step strict at k b p Blank e h = blank_behind b p (kind-Blank b e) h
 opened_list_step strict at k b p ListCloses e h =
     delivered (list no_items) k at b p (λ rest. tt) (subst (λ x. (Due k ▸ IsValue (list no_items)) (p ++ x ∷ [])) (sym (kind-ListCloses b e)) (empty_list_closed k p h))
-opened_list_step strict at k b p ListOpens e h = due_step strict at (in_list [] ∷ k) b p ListOpens e h
-opened_list_step strict at k b p ObjectOpens e h = due_step strict at (in_list [] ∷ k) b p ObjectOpens e h
-opened_list_step strict at k b p Quote e h = due_step strict at (in_list [] ∷ k) b p Quote e h
-opened_list_step strict at k b p Minus e h = due_step strict at (in_list [] ∷ k) b p Minus e h
-opened_list_step strict at k b p Digit e h = due_step strict at (in_list [] ∷ k) b p Digit e h
-opened_list_step strict at k b p LetterT e h = due_step strict at (in_list [] ∷ k) b p LetterT e h
-opened_list_step strict at k b p LetterF e h = due_step strict at (in_list [] ∷ k) b p LetterF e h
-opened_list_step strict at k b p LetterN e h = due_step strict at (in_list [] ∷ k) b p LetterN e h
 opened_list_step strict at k b p ObjectCloses e h = refl
 opened_list_step strict at k b p Comma e h = refl
 opened_list_step strict at k b p Colon e h = refl
 opened_list_step strict at k b p Other e h = refl
+opened_list_step strict at k b p kind e h = due_step strict at (in_list [] ∷ k) b p kind e h
 
 behind_step : (at : ℕ) (v : Json) (f : Frame) (k : List Frame) (b : ℕ) (p : List ℕ) (kind : Kind) → kind_of b ≡ kind → (Due (f ∷ k) ▸ (IsValue v ▸ Blanks)) p → Good at b p (step_behind at v f k kind)
 behind_step at v (in_list vs) k b p Blank e h = blank_behind b p (kind-Blank b e) h
@@ -141,28 +130,8 @@ behind_step at v (in_list vs) k b p ListCloses e h =
 behind_step at v (in_object names vs) k b p Comma e h = subst (λ x. NameDue names (vs ++ v ∷ []) k (p ++ x ∷ [])) (sym (kind-Comma b e)) (object_goes_on names vs v k p h)
 behind_step at v (in_object names vs) k b p ObjectCloses e h =
     delivered (object (members_of names (vs ++ v ∷ []))) k at b p (λ rest. tt) (subst (λ x. (Due k ▸ IsValue (object (members_of names (vs ++ v ∷ [])))) (p ++ x ∷ [])) (sym (kind-ObjectCloses b e)) (object_closed names vs v k p h))
-behind_step at v (in_list vs) k b p ListOpens e h = refl
-behind_step at v (in_list vs) k b p ObjectOpens e h = refl
-behind_step at v (in_list vs) k b p ObjectCloses e h = refl
-behind_step at v (in_list vs) k b p Colon e h = refl
-behind_step at v (in_list vs) k b p Quote e h = refl
-behind_step at v (in_list vs) k b p Minus e h = refl
-behind_step at v (in_list vs) k b p Digit e h = refl
-behind_step at v (in_list vs) k b p LetterT e h = refl
-behind_step at v (in_list vs) k b p LetterF e h = refl
-behind_step at v (in_list vs) k b p LetterN e h = refl
-behind_step at v (in_list vs) k b p Other e h = refl
-behind_step at v (in_object names vs) k b p ListOpens e h = refl
-behind_step at v (in_object names vs) k b p ListCloses e h = refl
-behind_step at v (in_object names vs) k b p ObjectOpens e h = refl
-behind_step at v (in_object names vs) k b p Colon e h = refl
-behind_step at v (in_object names vs) k b p Quote e h = refl
-behind_step at v (in_object names vs) k b p Minus e h = refl
-behind_step at v (in_object names vs) k b p Digit e h = refl
-behind_step at v (in_object names vs) k b p LetterT e h = refl
-behind_step at v (in_object names vs) k b p LetterF e h = refl
-behind_step at v (in_object names vs) k b p LetterN e h = refl
-behind_step at v (in_object names vs) k b p Other e h = refl
+behind_step at v (in_list vs) k b p kind e h = refl
+behind_step at v (in_object names vs) k b p kind e h = refl
 
 -- ---- names
 
@@ -174,49 +143,17 @@ opened_object_step at k b p Blank len e h = blank_behind b p (kind-Blank b e) h
 opened_object_step at k b p ObjectCloses len e h =
     delivered (object no_members) k at b p (λ rest. tt) (subst (λ x. (Due k ▸ IsValue (object no_members)) (p ++ x ∷ [])) (sym (kind-ObjectCloses b e)) (empty_object_closed k p h))
 opened_object_step at k b p Quote len e h = name_opens [] [] k at b p len (kind-Quote b e) (refl, h)
-opened_object_step at k b p ListOpens len e h = refl
-opened_object_step at k b p ListCloses len e h = refl
-opened_object_step at k b p ObjectOpens len e h = refl
-opened_object_step at k b p Comma len e h = refl
-opened_object_step at k b p Colon len e h = refl
-opened_object_step at k b p Minus len e h = refl
-opened_object_step at k b p Digit len e h = refl
-opened_object_step at k b p LetterT len e h = refl
-opened_object_step at k b p LetterF len e h = refl
-opened_object_step at k b p LetterN len e h = refl
-opened_object_step at k b p Other len e h = refl
+opened_object_step at k b p kind len e h = refl
 
 name_due_step : (at : ℕ) (names : List (List ℕ)) (vs : List Json) (k : List Frame) (b : ℕ) (p : List ℕ) (kind : Kind) → at ≡ length p → kind_of b ≡ kind → NameDue names vs k p → Good at b p (step_name_due at names vs k kind)
 name_due_step at names vs k b p Blank len e h = name_due_blank b names vs k p (kind-Blank b e) h
 name_due_step at names vs k b p Quote len e h = name_opens names vs k at b p len (kind-Quote b e) h
-name_due_step at names vs k b p ListOpens len e h = refl
-name_due_step at names vs k b p ListCloses len e h = refl
-name_due_step at names vs k b p ObjectOpens len e h = refl
-name_due_step at names vs k b p ObjectCloses len e h = refl
-name_due_step at names vs k b p Comma len e h = refl
-name_due_step at names vs k b p Colon len e h = refl
-name_due_step at names vs k b p Minus len e h = refl
-name_due_step at names vs k b p Digit len e h = refl
-name_due_step at names vs k b p LetterT len e h = refl
-name_due_step at names vs k b p LetterF len e h = refl
-name_due_step at names vs k b p LetterN len e h = refl
-name_due_step at names vs k b p Other len e h = refl
+name_due_step at names vs k b p kind len e h = refl
 
 colon_due_step : (at : ℕ) (names : List (List ℕ)) (vs : List Json) (n : List ℕ) (k : List Frame) (b : ℕ) (p : List ℕ) (kind : Kind) → kind_of b ≡ kind → (NameDue names vs k ▸ (IsText n ▸ Blanks)) p → Good at b p (step_colon_due at names vs n k kind)
 colon_due_step at names vs n k b p Blank e h = blank_behind b p (kind-Blank b e) h
 colon_due_step at names vs n k b p Colon e h = subst (λ x. Due (in_object (names ++ n ∷ []) vs ∷ k) (p ++ x ∷ [])) (sym (kind-Colon b e)) (colon_stands names vs n k p h)
-colon_due_step at names vs n k b p ListOpens e h = refl
-colon_due_step at names vs n k b p ListCloses e h = refl
-colon_due_step at names vs n k b p ObjectOpens e h = refl
-colon_due_step at names vs n k b p ObjectCloses e h = refl
-colon_due_step at names vs n k b p Comma e h = refl
-colon_due_step at names vs n k b p Quote e h = refl
-colon_due_step at names vs n k b p Minus e h = refl
-colon_due_step at names vs n k b p Digit e h = refl
-colon_due_step at names vs n k b p LetterT e h = refl
-colon_due_step at names vs n k b p LetterF e h = refl
-colon_due_step at names vs n k b p LetterN e h = refl
-colon_due_step at names vs n k b p Other e h = refl
+colon_due_step at names vs n k b p kind e h = refl
 
 -- ---- texts
 

@@ -212,20 +212,21 @@ first_power n negative whole fraction below t d b lt e is w = record {
 abbrev signed_as : Bool → Numeral → Numeral
 signed_as below n = record n { below = below }
 
-pub written_step : (p : Phase) (n : Numeral) (t : List ℕ) (b : ℕ) (m : Mark) → IsMark m b → Written p n t → Onwards b t (step_number p n m)
-written_step BeforeWhole n t b (Figure d) e w = first_digit true (45 ∷ []) (t ++ b ∷ []) d b (with_whole n d) e.0 e.1 (ap (λ x. with_whole x d) w.0) refl (ap (λ (x : List ℕ). x ++ b ∷ []) w.1)
-written_step BeforeWhole n t b Point e w = tt
-written_step BeforeWhole n t b LetterE e w = tt
-written_step BeforeWhole n t b PlusSign e w = tt
-written_step BeforeWhole n t b MinusSign e w = tt
-written_step BeforeWhole n t b Over e w = tt
-written_step AfterZero n t b (Figure d) e w = tt
-written_step AfterZero n t b Point e w = point_behind w.0 (0 ∷ []) n t b e w.1 w.2
-written_step AfterZero n t b LetterE e w = letter_behind w.0 (0 ∷ []) n t b e w.1 w.2
-written_step AfterZero n t b PlusSign e w = tt
-written_step AfterZero n t b MinusSign e w = tt
-written_step AfterZero n t b Over e w = (number_whole AfterZero n t refl w, e)
-written_step InWhole n t b (Figure d) e w = record {
+-- a byte where the whole part is due
+begins_whole : (n : Numeral) (t : List ℕ) (b : ℕ) (m : Mark) → IsMark m b → Written BeforeWhole n t → Onwards b t (step_number BeforeWhole n m)
+begins_whole n t b (Figure d) e w = first_digit true (45 ∷ []) (t ++ b ∷ []) d b (with_whole n d) e.0 e.1 (ap (λ x. with_whole x d) w.0) refl (ap (λ (x : List ℕ). x ++ b ∷ []) w.1)
+begins_whole n t b m e w = tt
+
+-- a byte behind a zero in front
+behind_zero : (n : Numeral) (t : List ℕ) (b : ℕ) (m : Mark) → IsMark m b → Written AfterZero n t → Onwards b t (step_number AfterZero n m)
+behind_zero n t b Point e w = point_behind w.0 (0 ∷ []) n t b e w.1 w.2
+behind_zero n t b LetterE e w = letter_behind w.0 (0 ∷ []) n t b e w.1 w.2
+behind_zero n t b Over e w = (number_whole AfterZero n t refl w, e)
+behind_zero n t b m e w = tt
+
+-- a byte in the whole part
+in_whole : (n : Numeral) (t : List ℕ) (b : ℕ) (m : Mark) → IsMark m b → Written InWhole n t → Onwards b t (step_number InWhole n m)
+in_whole n t b (Figure d) e w = record {
   negative = w.negative;
   first = w.first;
   digits = w.digits ++ d ∷ [];
@@ -233,12 +234,14 @@ written_step InWhole n t b (Figure d) e w = record {
   no_zero = w.no_zero;
   spelled = subst (λ x. WholePart w.negative (w.first ∷ (w.digits ++ d ∷ [])) (t ++ x ∷ [])) (sym e.1) (extend ((d + 48) ∷ []) t (λ u. whole_push w.first w.digits d u w.no_zero e.0) w.spelled);
 }
-written_step InWhole n t b Point e w = point_behind w.negative (w.first ∷ w.digits) n t b e w.is w.spelled
-written_step InWhole n t b LetterE e w = letter_behind w.negative (w.first ∷ w.digits) n t b e w.is w.spelled
-written_step InWhole n t b PlusSign e w = tt
-written_step InWhole n t b MinusSign e w = tt
-written_step InWhole n t b Over e w = (number_whole InWhole n t refl w, e)
-written_step AfterPoint n t b (Figure d) e w = record {
+in_whole n t b Point e w = point_behind w.negative (w.first ∷ w.digits) n t b e w.is w.spelled
+in_whole n t b LetterE e w = letter_behind w.negative (w.first ∷ w.digits) n t b e w.is w.spelled
+in_whole n t b Over e w = (number_whole InWhole n t refl w, e)
+in_whole n t b m e w = tt
+
+-- a byte behind the point
+behind_point : (n : Numeral) (t : List ℕ) (b : ℕ) (m : Mark) → IsMark m b → Written AfterPoint n t → Onwards b t (step_number AfterPoint n m)
+behind_point n t b (Figure d) e w = record {
   negative = w.negative;
   whole = w.whole;
   first = d;
@@ -246,12 +249,11 @@ written_step AfterPoint n t b (Figure d) e w = record {
   is = ap (λ x. with_fraction x d) w.is;
   spelled = subst (λ x. (WholePart w.negative w.whole ▸ (Byte 46 ▸ Digits (d ∷ []))) (t ++ x ∷ [])) (sym e.1) (behind_both ((d + 48) ∷ []) t (one_digit d e.0) w.spelled);
 }
-written_step AfterPoint n t b Point e w = tt
-written_step AfterPoint n t b LetterE e w = tt
-written_step AfterPoint n t b PlusSign e w = tt
-written_step AfterPoint n t b MinusSign e w = tt
-written_step AfterPoint n t b Over e w = tt
-written_step InFraction n t b (Figure d) e w = record {
+behind_point n t b m e w = tt
+
+-- a byte in the fraction
+in_fraction : (n : Numeral) (t : List ℕ) (b : ℕ) (m : Mark) → IsMark m b → Written InFraction n t → Onwards b t (step_number InFraction n m)
+in_fraction n t b (Figure d) e w = record {
   negative = w.negative;
   whole = w.whole;
   first = w.first;
@@ -259,21 +261,20 @@ written_step InFraction n t b (Figure d) e w = record {
   is = ap (λ x. with_fraction x d) w.is ∙ ap₂ (λ x y. record { negative = w.negative; digits = x; places = y; below = false; power = 0 }) (append_assoc w.whole (w.first ∷ w.fraction) (d ∷ [])) (let q : length (w.first ∷ w.fraction) + 1 ≡ length (w.first ∷ (w.fraction ++ d ∷ [])) = omega (arith, length-append w.fraction (d ∷ [])) in q);
   spelled = subst (λ x. (WholePart w.negative w.whole ▸ (Byte 46 ▸ Digits (w.first ∷ (w.fraction ++ d ∷ [])))) (t ++ x ∷ [])) (sym e.1) (extend ((d + 48) ∷ []) t (λ u. extend ((d + 48) ∷ []) u (λ u. digits_push (w.first ∷ w.fraction) d u e.0)) w.spelled);
 }
-written_step InFraction n t b Point e w = tt
-written_step InFraction n t b LetterE e w = record {
+in_fraction n t b LetterE e w = record {
   negative = w.negative;
   whole = w.whole;
   fraction = w.first ∷ w.fraction;
   is = w.is;
   spelled = extend (b ∷ []) t (λ u f. join u (b ∷ []) f (letter_is b e)) w.spelled;
 }
-written_step InFraction n t b PlusSign e w = tt
-written_step InFraction n t b MinusSign e w = tt
-written_step InFraction n t b Over e w = (number_whole InFraction n t refl w, e)
-written_step AfterLetter n t b (Figure d) e w = first_power n w.negative w.whole w.fraction false t d b e.0 e.1 w.is (second_as t (λ u. second_as u (λ u l. and_nothing u (inl refl) l)) w.spelled)
-written_step AfterLetter n t b Point e w = tt
-written_step AfterLetter n t b LetterE e w = tt
-written_step AfterLetter n t b PlusSign e w = record {
+in_fraction n t b Over e w = (number_whole InFraction n t refl w, e)
+in_fraction n t b m e w = tt
+
+-- a byte behind the letter
+behind_letter : (n : Numeral) (t : List ℕ) (b : ℕ) (m : Mark) → IsMark m b → Written AfterLetter n t → Onwards b t (step_number AfterLetter n m)
+behind_letter n t b (Figure d) e w = first_power n w.negative w.whole w.fraction false t d b e.0 e.1 w.is (second_as t (λ u. second_as u (λ u l. and_nothing u (inl refl) l)) w.spelled)
+behind_letter n t b PlusSign e w = record {
   negative = w.negative;
   whole = w.whole;
   fraction = w.fraction;
@@ -281,7 +282,7 @@ written_step AfterLetter n t b PlusSign e w = record {
   is = ap (signed_as false) w.is;
   spelled = extend (b ∷ []) t (λ u. behind_both (b ∷ []) u (inr (ap (λ x. x ∷ []) e))) w.spelled;
 }
-written_step AfterLetter n t b MinusSign e w = record {
+behind_letter n t b MinusSign e w = record {
   negative = w.negative;
   whole = w.whole;
   fraction = w.fraction;
@@ -289,14 +290,16 @@ written_step AfterLetter n t b MinusSign e w = record {
   is = ap (signed_as true) w.is;
   spelled = extend (b ∷ []) t (λ u. behind_both (b ∷ []) u (ap (λ x. x ∷ []) e)) w.spelled;
 }
-written_step AfterLetter n t b Over e w = tt
-written_step AfterSign n t b (Figure d) e w = first_power n w.negative w.whole w.fraction w.below t d b e.0 e.1 w.is w.spelled
-written_step AfterSign n t b Point e w = tt
-written_step AfterSign n t b LetterE e w = tt
-written_step AfterSign n t b PlusSign e w = tt
-written_step AfterSign n t b MinusSign e w = tt
-written_step AfterSign n t b Over e w = tt
-written_step InPower n t b (Figure d) e w = record {
+behind_letter n t b m e w = tt
+
+-- a byte behind the sign of the exponent
+behind_sign : (n : Numeral) (t : List ℕ) (b : ℕ) (m : Mark) → IsMark m b → Written AfterSign n t → Onwards b t (step_number AfterSign n m)
+behind_sign n t b (Figure d) e w = first_power n w.negative w.whole w.fraction w.below t d b e.0 e.1 w.is w.spelled
+behind_sign n t b m e w = tt
+
+-- a byte in the exponent
+in_power : (n : Numeral) (t : List ℕ) (b : ℕ) (m : Mark) → IsMark m b → Written InPower n t → Onwards b t (step_number InPower n m)
+in_power n t b (Figure d) e w = record {
   negative = w.negative;
   whole = w.whole;
   fraction = w.fraction;
@@ -307,11 +310,19 @@ written_step InPower n t b (Figure d) e w = record {
   spelled = subst (λ x. (WholePart w.negative w.whole ▸ (Fraction w.fraction ▸ (Letter ▸ (ExponentSign w.below ▸ Digits (w.first ∷ (w.power ++ d ∷ [])))))) (t ++ x ∷ [])) (sym e.1)
       (extend ((d + 48) ∷ []) t (λ u. extend ((d + 48) ∷ []) u (λ u. extend ((d + 48) ∷ []) u (λ u. extend ((d + 48) ∷ []) u (λ u. digits_push (w.first ∷ w.power) d u e.0)))) w.spelled);
 }
-written_step InPower n t b Point e w = tt
-written_step InPower n t b LetterE e w = tt
-written_step InPower n t b PlusSign e w = tt
-written_step InPower n t b MinusSign e w = tt
-written_step InPower n t b Over e w = (number_whole InPower n t refl w, e)
+in_power n t b Over e w = (number_whole InPower n t refl w, e)
+in_power n t b m e w = tt
+
+-- any byte
+pub written_step : (p : Phase) (n : Numeral) (t : List ℕ) (b : ℕ) (m : Mark) → IsMark m b → Written p n t → Onwards b t (step_number p n m)
+written_step BeforeWhole n t b m e w = begins_whole n t b m e w
+written_step AfterZero n t b m e w = behind_zero n t b m e w
+written_step InWhole n t b m e w = in_whole n t b m e w
+written_step AfterPoint n t b m e w = behind_point n t b m e w
+written_step InFraction n t b m e w = in_fraction n t b m e w
+written_step AfterLetter n t b m e w = behind_letter n t b m e w
+written_step AfterSign n t b m e w = behind_sign n t b m e w
+written_step InPower n t b m e w = in_power n t b m e w
 
 -- the first byte of a number
 pub minus_first : (b : ℕ) → b ≡ 45 → Written BeforeWhole (numeral true []) (b ∷ [])

@@ -6,7 +6,7 @@ use Rattle.std.proofs.lemmas.List.{take_more, length-drop, length-take, get_or-d
 use Rattle.std.specs.Prelude.{nat_le, ◌&&◌, slice_range}
 use Rattle.std.specs.Char.{is_digit, digit_value}
 use Rattle.std.specs.Char.Utf16.{is_high_surrogate, is_low_surrogate}
-use Rattle.std.proofs.lemmas.Bool.{ltb-true, cases_lt, le-ltb, lt-ltb, false_from_ne_true, eqb-true}
+use Rattle.std.proofs.lemmas.Bool.{cases_lt, le-ltb, lt-ltb, false_from_ne_true, eqb-true}
 use Rattle.std.proofs.lemmas.Bool.Decides.{nat_tests}
 use Rattle.std.proofs.lemmas.Nat.{pow-add}
 use Rattle.std.proofs.Math.Nat.{pow-le-pow_right}
@@ -14,9 +14,6 @@ use Rattle.bt_json.specs.Grammar.{short_escape}
 use Rattle.bt_json.specs.inner.Reading.{bad, Stop, step, Place, hex, tail, between, escape, InText, reads, no_text, with_unit, step_hex, flushed, lead_of, step_short, step_lead, behind_tail, step_between, in_text, finish_text, Role, Frame}
 use Rattle.bt_json.specs.inner.Running.{rest_of, rest_after, Around, within, step_within, with_plain, after_plain, is_plain}
 use Rattle.bt_json.proofs.Running.{rest_more, rest_end}
-
-pub digit_small : (b : ℕ) → is_digit b 16 ≡ true → digit_value b < 16
-digit_small b e = ltb-true _ _ e
 
 pub hex_grows : (u d i : ℕ) → i < 4 → u < 16 ^ i → d < 16 → (u * 16 + d < 16 ^ (i + 1)) × (u * 16 + d < 65536)
 hex_grows u d i lt small below =

@@ -7,11 +7,10 @@ use Rattle.std.specs.Str.{bytes_eq}
 use Rattle.std.specs.Global.{Global}
 use Rattle.std.specs.declared.rc.Rc.{Rc}
 use Rattle.bt_json.specs.inner.Names.{Set, keys_of}
-use Rattle.bt_json.specs.Json.{Json, null, boolean, number, text, list, object, value_at}
-use Rattle.bt_json.specs.Stands.{json_of, number_of, items_of, members_of, is_full}
-use Rattle.bt_json.specs.declared.decimal.Decimal.{Decimal}
+use Rattle.bt_json.specs.Json.{Json, null, boolean, list, object, value_at}
+use Rattle.bt_json.specs.Stands.{json_of, items_of, members_of, is_full}
 use Rattle.bt_json.specs.declared.tree.Tree.{Tree, the_lemmas}
-use Rattle.bt_json.specs.declared.tree.Tree.{Null, Bool as Boolean, Num, Text}
+use Rattle.bt_json.specs.declared.tree.Tree.{Null, Bool as Boolean}
 use Rattle.bt_json.specs.declared.tree.Tree.TheViews as views
 
 -- one place further on
@@ -41,12 +40,6 @@ json-List v = search (rules, the_lemmas)
 pub json-Object : (names : Rc Set Global) (v : Vec Tree Global) → json_of (views.Object names v) ≡ object (members_of (keys_of names.value) (map json_of v.items))
 json-Object names v = search (rules, the_lemmas)
 
-pub json-Text : (s : String Global) → json_of (Text s) ≡ text (string_bytes s)
-json-Text s = search (rules, the_lemmas)
-
-pub json-Num : (d : Decimal) → json_of (Num d) ≡ number (number_of d)
-json-Num d = search (rules, the_lemmas)
-
 pub json-Bool : (b : Bool) → json_of (Boolean b) ≡ boolean b
 json-Bool b = search (rules, the_lemmas)
 
@@ -61,7 +54,3 @@ full_more [] t all one = and_from (is_full t) true one refl
 full_more (x ∷ ts) t all one =
     let both = and_parts (is_full x) (list_all (λ full. full) (map is_full ts)) all in
     and_from (is_full x) (list_all (λ full. full) (map is_full (ts ++ t ∷ []))) both.0 (full_more ts t both.1 one)
-
--- a list of no tree is full
-pub full_none : (ts : List Tree) → ts ≡ [] → list_all (λ full. full) (map is_full ts) ≡ true
-full_none ts e = ap (λ us. list_all (λ full. full) (map is_full us)) e

@@ -10,10 +10,11 @@ use Rattle.bt_json.specs.Json.{Json, number}
 use Rattle.bt_json.specs.Grammar.{◌▸◌, Blanks, IsValue}
 use Rattle.bt_json.specs.Places.{Frame, Due, NameDue}
 use Rattle.bt_json.specs.Answers.{EndsBefore, IsFront, IsDeep, IsTwice}
-use Rattle.bt_json.specs.inner.Reading.{State, Step, go, stop, Stop, found, bad, deep, twice, step, run, after_step, finish, finish_number, may_end, Numeral, numeral_value, due, opened_list, behind, opened_object, name_due, colon_due, in_text, in_number, in_word, deliver, has_name, reading}
+use Rattle.bt_json.specs.inner.Reading.{State, Step, go, stop, Stop, found, bad, deep, twice, step, run, after_step, finish, finish_number, may_end, Numeral, numeral_value, due, in_number, deliver, has_name, reading}
 use Rattle.bt_json.specs.declared.kind.Phase.{Phase}
 use Rattle.bt_json.proofs.Eating.{eats_then, eats_blanks, walk, run_is, ended}
-use Rattle.bt_json.proofs.Eaten.{Allowed, eats_value, skips_due}
+use Rattle.bt_json.proofs.Eaten.{Allowed, eats_value}
+use Rattle.bt_json.proofs.Blanks.{skips_due}
 use Rattle.bt_json.proofs.SoundNumbers.{Written, number_whole}
 use Rattle.bt_json.proofs.Sound.{Reached, Good, sound_step, NameTwice}
 use Rattle.bt_json.proofs.Kept.{Kept, StepKept, step_kept}
@@ -59,15 +60,8 @@ finish_right at n (f ∷ k) p phase true e len j = omega (arith, length-append p
 finish_right at n (f ∷ k) p phase false e len j = omega (arith, length-append p [])
 
 end_right : (at : ℕ) (s : State) (p : List ℕ) → at ≡ length p → Reached s p → Right (p ++ []) (finish at s)
-end_right at (due k) p len h = omega (arith, length-append p [])
-end_right at (opened_list k) p len h = omega (arith, length-append p [])
-end_right at (behind v f k) p len h = omega (arith, length-append p [])
-end_right at (opened_object k) p len h = omega (arith, length-append p [])
-end_right at (name_due names vs k) p len h = omega (arith, length-append p [])
-end_right at (colon_due names vs n k) p len h = omega (arith, length-append p [])
-end_right at (in_text out high place role k) p len h = omega (arith, length-append p [])
 end_right at (in_number phase n k) p len h = finish_right at n k p phase (may_end phase) refl len h
-end_right at (in_word left v k) p len h = omega (arith, length-append p [])
+end_right at s p len h = omega (arith, length-append p [])
 
 pub regroup : (p : List ℕ) (b : ℕ) (q : List ℕ) → p ++ (b ∷ q) ≡ (p ++ b ∷ []) ++ q
 regroup p b q = sym (append_assoc p (b ∷ []) q)
@@ -118,13 +112,6 @@ reading_right strict bytes = run_right strict bytes 0 (due []) [] refl tt
 -- ---- a value that strict reading finds is within the limits
 
 finish_kept : (at : ℕ) (s : State) (v : Json) (n : ℕ) → finish at s ≡ found v n → Allowed true 0 v
-finish_kept at (due k) v n e = absurd cc
-finish_kept at (opened_list k) v n e = absurd cc
-finish_kept at (behind w f k) v n e = absurd cc
-finish_kept at (opened_object k) v n e = absurd cc
-finish_kept at (name_due names vs k) v n e = absurd cc
-finish_kept at (colon_due names vs m k) v n e = absurd cc
-finish_kept at (in_text out high place role k) v n e = absurd cc
 finish_kept at (in_number phase m k) v n e = by k (may_end phase) e
   where
     by : (f : List Frame) (b : Bool) → finish_number at m f b ≡ found v n → Allowed true 0 v
@@ -132,7 +119,7 @@ finish_kept at (in_number phase m k) v n e = by k (may_end phase) e
     by [] false q = absurd cc
     by (f ∷ fs) true q = absurd cc
     by (f ∷ fs) false q = absurd cc
-finish_kept at (in_word left w k) v n e = absurd cc
+finish_kept at s v n e = absurd cc
 
 pub run_kept : (bytes : List ℕ) (at : ℕ) (s : State) (v : Json) (n : ℕ) → Kept s → run true at s bytes ≡ found v n → Allowed true 0 v
 unfolding run

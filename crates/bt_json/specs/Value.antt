@@ -1,5 +1,5 @@
 -- The value of a written number.
-use Rattle.std.specs.Prelude.{◌≡◌, ℕ, ◌+◌, ◌*◌, ◌^◌, ◌<◌, ◌≤◌, ℤ, pos, negsuc, neg_ℤ, Bool, true, false, IsTrue, if◌then◌else◌}
+use Rattle.std.specs.Prelude.{◌≡◌, ℕ, ◌+◌, ◌*◌, ◌^◌, ◌<◌, ◌≤◌, ℤ, pos, negsuc, neg_ℤ, Bool, if◌then◌else◌}
 use Rattle.std.specs.Int.Digits.{number_from_digits}
 use Rattle.std.specs.Int.RustNames.{unsigned_abs}
 use Rattle.bt_json.specs.Json.{Number}
@@ -25,12 +25,3 @@ HasNoHalves n = (z : ℤ) → unsigned_abs z ≤ MOST_HALVES → IsTimes 2 n z �
 -- the number is no whole number of 64 bits
 abbrev pub HasNoWhole : Number → Type 0
 HasNoWhole n = (m : ℕ) → m < 2 ^ 64 → IsTimes 1 n (pos m) → ⊥
-
--- twice a whole number with or without a half behind it
-abbrev pub twice : ℕ × Bool → ℕ
-twice r = 2 * r.0 + (if r.1 then 1 else 0)
-
--- the digits behind a point, of which there are as many as the power has zeros, write a half of it, or nothing
-abbrev pub IsHalfOf : Bool → Bool → ℕ → ℕ → Type 0
-IsHalfOf true full digits power = IsTrue full × (2 * digits ≡ power)
-IsHalfOf false full digits power = digits ≡ 0

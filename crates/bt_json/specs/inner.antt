@@ -3,6 +3,7 @@ pub mod Bytes
 pub mod Reading
 pub mod Running
 pub mod Numerals
+pub mod Halves
 pub mod Words
 pub mod Tails
 pub mod Unescaping

@@ -1,13 +1,17 @@
+//! Numbers as they are written, exactly: no digit is lost, so what is told of the value is no
+//! rounding. Told are the value where it is whole, and twice the value, since a layout has halves.
 ghost use Rattle.std.specs.Prelude.{◌≡◌, ◌≢◌, ◌<◌, ◌≤◌, ◌+◌, ◌*◌, ◌^◌, ℕ, ℤ, pos, All, length, take, drop, IsTrue, ◌↔◌, IfSome, IfNone, MatchOption, Some, None, ◌<ℤ◌, ◌≤ℤ◌, neg_ℤ, Bool, if◌then◌else◌};
 ghost use Rattle.std.specs.Int.Digits.{number_from_digits};
 ghost use Rattle.std.specs.Int.RustNames.{unsigned_abs};
-ghost use Rattle.bt_json.specs.Value.{IsScaled, IsTimes, HasNoHalves, HasNoWhole, twice, signed, IsHalfOf};
+ghost use Rattle.bt_json.specs.Value.{IsScaled, IsTimes, HasNoHalves, HasNoWhole, signed};
+ghost use Rattle.bt_json.specs.inner.Halves.{IsIfFits, twice_digits, twice, IsHalfOf, IsNoHalfOf, HasNoSmallShare, HasNoSmallValue};
 
 use crate::limits::MOST_HALVES;
 use smallvec::SmallVec;
 
-/// A number of a JSON text as it is written: its value is the digits, as one whole number, times ten to the power of the exponent.
-#[derive(Debug, Drop)]
+/// A number of a JSON text as it is written: its value is the digits, as one whole number, times ten
+/// to the power of the exponent.
+#[derive(Drop)]
 pub struct Decimal {
     /// Whether a minus sign stands in front.
     pub negative: bool,
@@ -20,7 +24,7 @@ pub struct Decimal {
 
 /// The whole number that the digits write, where it fits.
 fn number_of_digits(digits: &[u8]) -> Option<u64>
-    ensures { MatchOption result (2 ^ 64 ≤ number_from_digits 10 digits.now) (λ n. n ≡ number_from_digits 10 digits.now) }
+    ensures { IsIfFits result (number_from_digits 10 digits.now) }
 {
     let mut number: u64 = 0;
     for digit in digits {
@@ -37,7 +41,7 @@ fn number_of_digits(digits: &[u8]) -> Option<u64>
 
 /// The number with that many zeros behind it, where it fits.
 fn with_zeros(number: u64, zeros: u64) -> Option<u64>
-    ensures { MatchOption result (2 ^ 64 ≤ number * 10 ^ zeros) (λ n. n ≡ number * 10 ^ zeros) }
+    ensures { IsIfFits result (number * 10 ^ zeros) }
 {
     if number == 0 {
         return Some(0);
@@ -82,7 +86,7 @@ fn is_half(fraction: &[u8]) -> bool
 fn half_of(fraction: &[u8], full: bool) -> Option<bool>
     requires { All (λ d. d < 10) fraction.now }
     ensures { MatchOption result
-        ((0 < number_from_digits 10 fraction.now) × (IsTrue full → 2 * number_from_digits 10 fraction.now ≢ 10 ^ length fraction.now))
+        (IsNoHalfOf full (number_from_digits 10 fraction.now) (10 ^ length fraction.now))
         (λ half. IsHalfOf half full (number_from_digits 10 fraction.now) (10 ^ length fraction.now)) }
 {
     if are_zeros(fraction) {
@@ -99,7 +103,7 @@ fn half_of(fraction: &[u8], full: bool) -> Option<bool>
 fn whole_and_half(digits: &[u8], places: u64) -> Option<(u64, bool)>
     requires { All (λ d. d < 10) digits.now }
     ensures some { IfSome result (λ r. twice r * 10 ^ places ≡ 2 * number_from_digits 10 digits.now) }
-    ensures none { IfNone result ((m : ℕ) → m * 10 ^ places ≡ 2 * number_from_digits 10 digits.now → 2 ^ 65 ≤ m) }
+    ensures none { IfNone result (HasNoSmallShare (2 * number_from_digits 10 digits.now) places) }
 {
     let places = places as usize;
     let full = places <= digits.len();
@@ -127,8 +131,8 @@ impl Decimal {
     /// The whole part of the magnitude and whether a half follows it, where twice the magnitude is a
     /// whole number and its half fits.
     fn magnitude(&self) -> Option<(u64, bool)>
-        ensures some { IfSome result (λ r. IsScaled (twice r) (2 * number_from_digits 10 self.now.digits.items) self.now.exponent) }
-        ensures none { IfNone result ((m : ℕ) → IsScaled m (2 * number_from_digits 10 self.now.digits.items) self.now.exponent → 2 ^ 65 ≤ m) }
+        ensures some { IfSome result (λ r. IsScaled (twice r) (twice_digits (number_of self.now)) self.now.exponent) }
+        ensures none { IfNone result (HasNoSmallValue (twice_digits (number_of self.now)) self.now.exponent) }
     {
         let places = self.exponent.unsigned_abs();
         if self.exponent < 0 {

@@ -1,3 +1,4 @@
+//! Why no value was read.
 ghost use Rattle.std.specs.Prelude.{◌≡◌};
 ghost use Rattle.bt_json.specs.declared.fault.JsonFault.TheVariants.{Memory};
 

@@ -1,10 +1,11 @@
+//! What a byte may be: the tables that the reader goes by.
 ghost use Rattle.std.specs.Prelude.{◌≡◌, ◌<◌};
 ghost use Rattle.bt_json.specs.Grammar.{is_blank};
 ghost use Rattle.bt_json.specs.inner.Reading.{may_end};
 ghost use Rattle.bt_json.specs.inner.Bytes.{kind_of, mark_of, figure_in};
 
 /// What a byte may be between the tokens of a text, or at a token's front.
-#[derive(Clone, Copy, Debug, PartialEq, Eq)]
+#[derive(Clone, Copy)]
 pub enum Kind {
     Blank,
     ListOpens,
@@ -45,7 +46,7 @@ pub fn kind_of(byte: u8) -> Kind
 }
 
 /// What a byte may be in a number.
-#[derive(Clone, Copy, Debug, PartialEq, Eq)]
+#[derive(Clone, Copy)]
 pub enum Mark {
     Figure(u8),
     Point,
@@ -72,7 +73,7 @@ pub fn mark_of(byte: u8) -> Mark
 }
 
 /// How far a number is written.
-#[derive(Clone, Copy, Debug, PartialEq, Eq)]
+#[derive(Clone, Copy)]
 pub enum Phase {
     BeforeWhole,
     AfterZero,

@@ -117,7 +117,7 @@ pub struct Nested {
 }
 
 impl Nested {
-    ghost use Rattle.bt_json.specs.inner.Nested.{frame_of, IsFilled, IsNamed, Begins, ReadsName, ReadsBehind};
+    ghost use Rattle.bt_json.specs.inner.Nested.{frame_of, IsFilled, IsNamed, Begins, ReadsName, Pushes};
 
     /// The list or the object that a byte of that kind opens at a place, within that many others.
     /// `None` where such a byte opens none.
@@ -182,7 +182,7 @@ impl Nested {
     /// Puts a value that ends at a place behind the others, and tells what comes there.
     pub fn push(&mut self, bytes: &[u8], value: Tree, end: usize) -> Result<Ahead, JsonFault>
         requires { end ≤ length bytes.now }
-        ensures read { ReadsBehind bytes.now end (json_of value) (frame_of self.old) (frame_of self.new) result }
+        ensures read { Pushes bytes.now end (json_of value) (frame_of self.old) (frame_of self.new) result }
         ensures later { IfOk result (λ ahead. end < place_of ahead) }
         ensures filled { OnOk result (IsTrue (is_full value) → IsNamed self.old → IsFilled self.new) }
     {

@@ -1,3 +1,4 @@
+//! Reading numbers, byte by byte, by how far each is written.
 ghost use Rattle.std.specs.Prelude.{◌≡◌, ◌≤◌, ◌<◌, ◌+◌, ◌*◌, ◌^◌, [], length, slice_index, drop, false, true, IfOk, IfErr, IfSome, IfNone, OnOk, OnErr, List, ℕ, All, MatchOption};
 ghost use Rattle.bt_json.specs.inner.Reading.{first_phase};
 ghost use Rattle.bt_json.specs.declared.limits.TheConstants.{MOST_EXPONENT};
@@ -34,11 +35,10 @@ pub enum Next {
 }
 
 impl Numeral {
-    ghost use Rattle.bt_json.specs.inner.Numerals.{view, shown, ReadsNumber};
+    ghost use Rattle.bt_json.specs.inner.Numerals.{view, shown, TakesByte, ReadsNumber};
     ghost use Rattle.bt_json.specs.inner.Reading.{with_whole, with_fraction, with_power, step_digit, step_number, step_sign, numeral_value};
     ghost use Rattle.bt_json.specs.Stands.{number_of};
     ghost use Rattle.bt_json.specs.inner.Reading.{numeral};
-    ghost use Rattle.bt_json.specs.inner.Bytes.{mark_of};
     ghost use Rattle.bt_json.specs.declared.fault.JsonFault.TheVariants.{Memory};
     ghost use Rattle.bt_json.specs.declared.kind.Phase.TheVariants.{BeforeWhole};
 
@@ -97,7 +97,7 @@ impl Numeral {
     }
 
     fn step(&mut self, phase: Phase, byte: u8) -> Result<Next, AllocError>
-        ensures { IfOk result (λ next. shown next (view self.new) ≡ step_number phase (view self.old) (mark_of byte)) }
+        ensures { IfOk result (TakesByte phase self.old byte self.new) }
     {
         match mark_of(byte) {
             Mark::Figure(digit) => self.take_digit(phase, digit),

@@ -1,5 +1,7 @@
-ghost use Rattle.std.specs.Prelude.{◌≡◌, ◌≢◌, OnOk, IsTrue, ◌≤◌, ◌<◌, length, slice_index, false, IfOk, IfErr, List, ℕ};
+//! Small steps over bytes: blanks, the letters of a word, one byte.
+ghost use Rattle.std.specs.Prelude.{◌≡◌, ◌≢◌, OnOk, IsTrue, ◌≤◌, ◌<◌, length, slice_index, true, false, IfOk, IfErr, List, ℕ};
 ghost use Rattle.bt_json.specs.Grammar.{is_blank};
+ghost use Rattle.bt_json.specs.inner.Bytes.{HasByte, LacksByte};
 ghost use Rattle.bt_json.specs.inner.Reading.{State};
 ghost use Rattle.bt_json.specs.inner.Running.{SkipsBlanks, IsLater, rest_of};
 ghost use Rattle.bt_json.specs.inner.Words.{SkipsWord};
@@ -12,7 +14,7 @@ use crate::kind::is_blank;
 pub fn skip_blanks(bytes: &[u8], start: usize) -> usize
     requires { start ≤ length bytes.now }
     ensures later { IsLater bytes.now start result }
-    ensures blanks { (s : State) → SkipsBlanks s → rest_of bytes.now start s ≡ rest_of bytes.now result s }
+    ensures blanks { (s : State) → SkipsBlanks true s → rest_of bytes.now start s ≡ rest_of bytes.now result s }
     ensures ends { result < length bytes.now → is_blank (slice_index bytes.now result) ≡ false }
 {
     let mut at = start;
@@ -40,8 +42,8 @@ pub fn skip_word(bytes: &[u8], start: usize, letters: &[u8]) -> Result<usize, Js
 
 /// That this byte stands there.
 pub fn expect_byte(bytes: &[u8], at: usize, byte: u8) -> Result<(), JsonFault>
-    ensures ok { OnOk result ((at < length bytes.now) × (slice_index bytes.now at ≡ byte)) }
-    ensures err { IfErr result (λ f. (f ≡ JsonAt at) × (at < length bytes.now → slice_index bytes.now at ≢ byte)) }
+    ensures ok { OnOk result (HasByte bytes.now at byte) }
+    ensures err { IfErr result (λ f. (f ≡ JsonAt at) × LacksByte bytes.now at byte) }
 {
     if at >= bytes.len() {
         return Err(JsonFault::Json(at));
@@ -54,8 +56,8 @@ pub fn expect_byte(bytes: &[u8], at: usize, byte: u8) -> Result<(), JsonFault>
 
 /// Whether this byte stands there.
 pub fn stands_at(bytes: &[u8], at: usize, byte: u8) -> bool
-    ensures yes { IsTrue result → (at < length bytes.now) × (slice_index bytes.now at ≡ byte) }
-    ensures no { result ≡ false → at < length bytes.now → slice_index bytes.now at ≢ byte }
+    ensures yes { IsTrue result → HasByte bytes.now at byte }
+    ensures no { result ≡ false → LacksByte bytes.now at byte }
 {
     if at < bytes.len() {
         bytes[at] == byte

@@ -1,12 +1,15 @@
-ghost use Rattle.std.specs.Prelude.{◌≡◌, ◌≢◌, ◌≤◌, ◌<◌, ◌-◌, ◌+◌, ◌*◌, ◌^◌, ◌++◌, ◌∷◌, [], length, slice_range, slice_index, false, true, IfOk, IfErr, IfSome, OnOk, OnErr, List, ℕ, MatchOption, None, Some, option_map, string_bytes};
+//! Reading texts. Runs of characters that stand for themselves are taken at once, since most texts are
+//! one; a character of several bytes is checked to be UTF-8, and an escape is put in its place.
+ghost use Rattle.std.specs.Prelude.{◌≡◌, ◌≢◌, ◌≤◌, ◌<◌, ◌-◌, ◌+◌, ◌++◌, [], length, slice_range, slice_index, false, true, IfOk, IfErr, IfSome, OnOk, MatchOption, None, option_map, string_bytes};
 ghost use Rattle.std.specs.Option.{ForSome};
 ghost use Rattle.std.specs.Str.{IsUtf8};
-ghost use Rattle.std.specs.Char.{encode_utf8, is_digit, digit_value};
+ghost use Rattle.std.specs.Char.{encode_utf8, is_digit};
 ghost use Rattle.std.specs.Char.Utf16.{is_high_surrogate, is_low_surrogate, surrogate_pair_char};
-ghost use Rattle.bt_json.specs.inner.Tails.{place_of};
 ghost use Rattle.bt_json.specs.Grammar.{short_escape, alone};
-ghost use Rattle.bt_json.specs.inner.Reading.{Frame, Role, in_text, between, escape, hex, tail, flushed, with_unit, reads, lead_of, finish_text};
-ghost use Rattle.bt_json.specs.inner.Running.{IsLater, rest_of, rest_after, Faults, Around, within, step_within, with_plain, after_plain, is_plain};
+ghost use Rattle.bt_json.specs.inner.Tails.{place_of};
+ghost use Rattle.bt_json.specs.inner.Bytes.{HasByteIn, LacksByteIn, IsHexDigit};
+ghost use Rattle.bt_json.specs.inner.Reading.{in_text, between, escape, hex, lead_of};
+ghost use Rattle.bt_json.specs.inner.Running.{IsLater, is_plain, WritesUnit, EndsWithin, IsCharacter, ArePlain, GoesOnTo, EndsText, ReadsUpTo};
 ghost use Rattle.bt_json.specs.declared.fault.JsonFault.TheVariants.{Json, Memory};
 
 use crate::fault::JsonFault;
@@ -14,7 +17,7 @@ use crate::scan::stands_at;
 use std::alloc::{AllocError, Global};
 
 /// The bytes that may come next in a character of several bytes, and how many more come after.
-#[derive(Clone, Copy, Debug, PartialEq, Eq)]
+#[derive(Clone, Copy)]
 struct Tail {
     low: u8,
     top: u8,
@@ -95,9 +98,11 @@ pub struct Unescaped {
 }
 
 impl Unescaped {
+    ghost use Rattle.bt_json.specs.inner.Unescaping.{HasText, flushed_text, shown_text, plus_unit};
+
     /// The high surrogate stays alone.
     fn flush(&mut self) -> Result<(), AllocError>
-        ensures ok { OnOk result ((string_bytes self.new.bytes ≡ flushed (string_bytes self.old.bytes) self.old.high) × (self.new.high ≡ None)) }
+        ensures { OnOk result (HasText self.new (flushed_text self.old)) }
     {
         if let Some(high) = self.high {
             self.bytes.push(alone(high))?;
@@ -107,7 +112,7 @@ impl Unescaped {
     }
 
     fn push_unit(&mut self, unit: u16) -> Result<(), AllocError>
-        ensures ok { OnOk result (reads (string_bytes self.new.bytes) self.new.high between ≡ with_unit (string_bytes self.old.bytes) self.old.high unit) }
+        ensures { OnOk result (shown_text self.new ≡ plus_unit self.old unit) }
     {
         if let Some(high) = self.high {
             if is_low(unit) {
@@ -129,7 +134,7 @@ impl Unescaped {
     /// Characters that stand for themselves.
     fn push_plain(&mut self, plain: &[u8]) -> Result<(), AllocError>
         requires { IsUtf8 plain.now }
-        ensures ok { OnOk result ((string_bytes self.new.bytes ≡ flushed (string_bytes self.old.bytes) self.old.high ++ plain.now) × (self.new.high ≡ None)) }
+        ensures { OnOk result (HasText self.new (flushed_text self.old ++ plain.now)) }
     {
         self.flush()?;
         match std::str::from_utf8(plain) {
@@ -141,7 +146,7 @@ impl Unescaped {
 
 /// The value of a hexadecimal digit.
 fn hex_digit(byte: u8) -> Option<u16>
-    ensures { MatchOption result (is_digit byte 16 ≡ false) (λ d. (is_digit byte 16 ≡ true) × (d ≡ digit_value byte) × (d < 16)) }
+    ensures { MatchOption result (is_digit byte 16 ≡ false) (IsHexDigit byte) }
 {
     let Some(digit) = char::from(byte).to_digit(16) else {
         return None;
@@ -153,8 +158,8 @@ fn hex_digit(byte: u8) -> Option<u16>
 fn read_hex(bytes: &[u8], start: usize) -> Result<u16, JsonFault>
     requires { start ≤ length bytes.now }
     ensures within { OnOk result (start + 4 ≤ length bytes.now) }
-    ensures ok { IfOk result (λ u. (t : Around) → rest_of bytes.now start (within t (hex 3 0)) ≡ rest_after bytes.now (start + 4) (step_within 0 t (with_unit t.out t.high u))) }
-    ensures err { IfErr result (λ f. (t : Around) → Faults f (rest_of bytes.now start (within t (hex 3 0)))) }
+    ensures ok { IfOk result (WritesUnit bytes.now start) }
+    ensures err { IfErr result (EndsWithin bytes.now start (hex 3 0)) }
 {
     let mut unit: u16 = 0;
     for index in 0..4 {
@@ -172,8 +177,8 @@ fn read_hex(bytes: &[u8], start: usize) -> Result<u16, JsonFault>
 
 /// That a byte of this range stands there.
 fn check_byte(bytes: &[u8], at: usize, low: u8, top: u8) -> Result<(), JsonFault>
-    ensures ok { OnOk result ((at < length bytes.now) × (low ≤ slice_index bytes.now at) × (slice_index bytes.now at ≤ top)) }
-    ensures err { IfErr result (λ f. (f ≡ Json at) × (at < length bytes.now → low ≤ slice_index bytes.now at → slice_index bytes.now at ≤ top → ⊥)) }
+    ensures ok { OnOk result (HasByteIn bytes.now at low top) }
+    ensures err { IfErr result (λ f. (f ≡ Json at) × LacksByteIn bytes.now at low top) }
 {
     if at >= bytes.len() {
         return Err(JsonFault::Json(at));
@@ -190,8 +195,8 @@ fn character_end(bytes: &[u8], start: usize) -> Result<usize, JsonFault>
     requires wide { 128 ≤ slice_index bytes.now start }
     ensures later { IfOk result (λ n. (start < n) × (n ≤ length bytes.now)) }
     ensures utf8 { IfOk result (λ n. IsUtf8 (slice_range bytes.now start n)) }
-    ensures ok { IfOk result (λ n. (t : Around) → rest_of bytes.now start (within t between) ≡ rest_of bytes.now n (within (with_plain t (slice_range bytes.now start n)) between)) }
-    ensures err { IfErr result (λ f. (t : Around) → Faults f (rest_of bytes.now start (within t between))) }
+    ensures ok { IfOk result (IsCharacter bytes.now start) }
+    ensures err { IfErr result (EndsWithin bytes.now start between) }
 {
     let Some(tail) = tail_of(bytes[start]) else {
         return Err(JsonFault::Json(start));
@@ -220,7 +225,7 @@ fn plain_end(bytes: &[u8], start: usize) -> usize
     requires { start ≤ length bytes.now }
     ensures later { IsLater bytes.now start result }
     ensures utf8 { IsUtf8 (slice_range bytes.now start result) }
-    ensures read { (t : Around) → rest_of bytes.now start (within t between) ≡ rest_of bytes.now result (within (after_plain t (slice_range bytes.now start result)) between) }
+    ensures read { ArePlain bytes.now start result }
     ensures ends { result < length bytes.now → is_plain (slice_index bytes.now result) ≡ false }
 {
     let mut at = start;
@@ -236,8 +241,7 @@ pub fn plain_text(bytes: &[u8], start: usize) -> Option<usize>
     requires { start ≤ length bytes.now }
     ensures later { IfSome result (λ n. (start ≤ n) × (n < length bytes.now)) }
     ensures utf8 { IfSome result (λ n. IsUtf8 (slice_range bytes.now start n)) }
-    ensures ok { IfSome result (λ n. (role : Role) (k : List Frame) → rest_of bytes.now start (in_text [] None between role k)
-        ≡ rest_after bytes.now (n + 1) (finish_text true n (slice_range bytes.now start n) role k)) }
+    ensures ok { IfSome result (λ n. ReadsUpTo bytes.now start n (n + 1) (slice_range bytes.now start n)) }
 {
     let end = plain_end(bytes, start);
     if stands_at(bytes, end, b'"') {
@@ -248,13 +252,13 @@ pub fn plain_text(bytes: &[u8], start: usize) -> Option<usize>
 }
 
 impl Unescaped {
-    ghost use Rattle.bt_json.specs.inner.Unescaping.{state_of};
+    ghost use Rattle.bt_json.specs.inner.Unescaping.{state_of, HasText, flushed_text};
 
     /// The characters of one byte from a place on, and the place behind them.
     fn read_plain(&mut self, bytes: &[u8], start: usize) -> Result<usize, JsonFault>
         requires { start ≤ length bytes.now }
         ensures later { IfOk result (λ n. IsLater bytes.now start n) }
-        ensures ok { IfOk result (λ n. (role : Role) (k : List Frame) → rest_of bytes.now start (state_of self.old between role k) ≡ rest_of bytes.now n (state_of self.new between role k)) }
+        ensures ok { IfOk result (GoesOnTo bytes.now start (state_of self.old between) (state_of self.new between)) }
         ensures err { IfErr result (λ f. f ≡ Memory) }
         ensures ends { IfOk result (λ n. n < length bytes.now → is_plain (slice_index bytes.now n) ≡ false) }
     {
@@ -270,8 +274,8 @@ impl Unescaped {
         requires within { start < length bytes.now }
         requires wide { 128 ≤ slice_index bytes.now start }
         ensures later { IfOk result (λ n. (start < n) × (n ≤ length bytes.now)) }
-        ensures ok { IfOk result (λ n. (role : Role) (k : List Frame) → rest_of bytes.now start (state_of self.old between role k) ≡ rest_of bytes.now n (state_of self.new between role k)) }
-        ensures err { IfErr result (λ f. (role : Role) (k : List Frame) → Faults f (rest_of bytes.now start (state_of self.old between role k))) }
+        ensures ok { IfOk result (GoesOnTo bytes.now start (state_of self.old between) (state_of self.new between)) }
+        ensures err { IfErr result (EndsText bytes.now start (state_of self.old between)) }
     {
         let end = character_end(bytes, start)?;
         self.push_plain(&bytes[start..end])?;
@@ -282,8 +286,8 @@ impl Unescaped {
     fn read_escape(&mut self, bytes: &[u8], start: usize) -> Result<usize, JsonFault>
         requires { start ≤ length bytes.now }
         ensures later { IfOk result (λ n. (start < n) × (n ≤ length bytes.now)) }
-        ensures ok { IfOk result (λ n. (role : Role) (k : List Frame) → rest_of bytes.now start (state_of self.old escape role k) ≡ rest_of bytes.now n (state_of self.new between role k)) }
-        ensures err { IfErr result (λ f. (role : Role) (k : List Frame) → Faults f (rest_of bytes.now start (state_of self.old escape role k))) }
+        ensures ok { IfOk result (GoesOnTo bytes.now start (state_of self.old escape) (state_of self.new between)) }
+        ensures err { IfErr result (EndsText bytes.now start (state_of self.old escape)) }
     {
         if start >= bytes.len() {
             return Err(JsonFault::Json(start));
@@ -306,8 +310,8 @@ impl Unescaped {
         requires special { is_plain (slice_index bytes.now start) ≡ false }
         requires no_quote { slice_index bytes.now start ≢ 34 }
         ensures later { IfOk result (λ n. (start < n) × (n ≤ length bytes.now)) }
-        ensures ok { IfOk result (λ n. (role : Role) (k : List Frame) → rest_of bytes.now start (state_of self.old between role k) ≡ rest_of bytes.now n (state_of self.new between role k)) }
-        ensures err { IfErr result (λ f. (role : Role) (k : List Frame) → Faults f (rest_of bytes.now start (state_of self.old between role k))) }
+        ensures ok { IfOk result (GoesOnTo bytes.now start (state_of self.old between) (state_of self.new between)) }
+        ensures err { IfErr result (EndsText bytes.now start (state_of self.old between)) }
     {
         if bytes[start] < 0x20 {
             return Err(JsonFault::Json(start));
@@ -319,7 +323,7 @@ impl Unescaped {
     }
 
     fn new(alloc: Global) -> Self
-        ensures { (string_bytes result.bytes ≡ []) × (result.high ≡ None) }
+        ensures { HasText result [] }
     {
         Unescaped {
             bytes: String::new(alloc),
@@ -328,7 +332,7 @@ impl Unescaped {
     }
 
     fn into_string(mut self) -> Result<String, AllocError>
-        ensures ok { IfOk result (λ s. string_bytes s ≡ flushed (string_bytes self.bytes) self.high) }
+        ensures { IfOk result (λ s. string_bytes s ≡ flushed_text self) }
     {
         self.flush()?;
         let Unescaped { bytes, high: _ } = self;
@@ -339,9 +343,8 @@ impl Unescaped {
     pub fn read(alloc: Global, bytes: &[u8], start: usize) -> Result<(String, usize), JsonFault>
         requires { start ≤ length bytes.now }
         ensures later { IfOk result (λ r. (start < r.1) × (r.1 ≤ length bytes.now)) }
-        ensures ok { IfOk result (λ r. (role : Role) (k : List Frame) → rest_of bytes.now start (in_text [] None between role k)
-            ≡ rest_after bytes.now r.1 (finish_text true (r.1 - 1) (string_bytes r.0) role k)) }
-        ensures err { IfErr result (λ f. (role : Role) (k : List Frame) → Faults f (rest_of bytes.now start (in_text [] None between role k))) }
+        ensures ok { IfOk result (λ r. ReadsUpTo bytes.now start (r.1 - 1) r.1 (string_bytes r.0)) }
+        ensures err { IfErr result (EndsText bytes.now start (in_text [] None between)) }
     {
         let mut text = Unescaped::new(alloc);
         let mut at = start;

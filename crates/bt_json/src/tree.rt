@@ -1,3 +1,4 @@
+//! The value that is read, as a tree.
 ghost use Rattle.std.specs.Prelude.{◌≡◌, option_map, map, slice_get, string_bytes};
 ghost use Rattle.std.specs.Option.{option_copied};
 ghost use Rattle.bt_json.specs.Json.{member_of, value_at};

@@ -1,5 +1,6 @@
 -- What a byte may be in a text.
-use Rattle.std.specs.Prelude.{ℕ, ◌-◌, ◌||◌, ◌&&◌, ◌==◌, nat_le, if◌then◌else◌}
+use Rattle.std.specs.Prelude.{◌≡◌, ◌≢◌, ℕ, ◌<◌, ◌≤◌, true, List, length, slice_index, ◌-◌, ◌||◌, ◌&&◌, ◌==◌, nat_le, if◌then◌else◌}
+use Rattle.std.specs.Char.{is_digit, digit_value}
 use Rattle.bt_json.specs.Grammar.{is_blank}
 use Rattle.bt_json.specs.declared.kind.Kind.{Kind}
 use Rattle.bt_json.specs.declared.kind.Kind.TheVariants.{Blank, ListOpens, ListCloses, ObjectOpens, ObjectCloses, Comma, Colon, Quote, Minus, Digit, LetterT, LetterF, LetterN, Other}
@@ -24,3 +25,23 @@ figure_in LetterE = 0
 figure_in PlusSign = 0
 figure_in MinusSign = 0
 figure_in Over = 0
+
+-- this byte stands there
+abbrev pub HasByte : List ℕ → ℕ → ℕ → Type 0
+HasByte bytes at byte = (at < length bytes) × (slice_index bytes at ≡ byte)
+
+-- another byte stands there, or none
+abbrev pub LacksByte : List ℕ → ℕ → ℕ → Type 0
+LacksByte bytes at byte = at < length bytes → slice_index bytes at ≢ byte
+
+-- a byte of this range stands there
+abbrev pub HasByteIn : List ℕ → ℕ → ℕ → ℕ → Type 0
+HasByteIn bytes at low top = (at < length bytes) × (low ≤ slice_index bytes at) × (slice_index bytes at ≤ top)
+
+-- a byte outside this range stands there, or none
+abbrev pub LacksByteIn : List ℕ → ℕ → ℕ → ℕ → Type 0
+LacksByteIn bytes at low top = at < length bytes → low ≤ slice_index bytes at → slice_index bytes at ≤ top → ⊥
+
+-- the byte is a hexadecimal digit of that value
+abbrev pub IsHexDigit : ℕ → ℕ → Type 0
+IsHexDigit byte d = (is_digit byte 16 ≡ true) × (d ≡ digit_value byte) × (d < 16)

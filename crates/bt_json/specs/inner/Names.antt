@@ -39,13 +39,17 @@ pub record GoesOn (names : List (List ℕ)) (count : ℕ) (name : List ℕ) : Ty
   pub next : take (count + 1) names ≡ take count names ++ name ∷ []
   pub new : has_name (take count names) name ≡ false
 
+-- the name was put behind the others unless it is among them, and it is told whether it wasn't
+pub record AddsName (old new : List (List ℕ)) (name : List ℕ) (told : Bool) : Type 0 where
+  pub added : told ≡ not (has_name old name)
+  pub names : IsTrue told → new ≡ old ++ name ∷ []
+
 -- A name was read that ends before that place. It was put behind the others, unless it is among them.
 pub record NameTaken (bytes : List ℕ) (start : ℕ) (old new : List (List ℕ)) (taken : Bool × ℕ) : Type 0 where
   pub later : IsLater bytes start taken.1
   pub name : List ℕ
   pub read : (role : Role) (k : List Frame) → rest_of bytes start (in_text [] None between role k) ≡ rest_after bytes taken.1 (finish_text true (taken.1 - 1) name role k)
-  pub added : taken.0 ≡ not (has_name old name)
-  pub names : IsTrue taken.0 → new ≡ old ++ name ∷ []
+  pub adds : AddsName old new name taken.0
 
 -- a name behind its opening quote was taken, or the text that it is ends with the fault
 abbrev pub TakesName : List ℕ → ℕ → List (List ℕ) → List (List ℕ) → Result (Bool × ℕ) JsonFault → Type 0

@@ -1,5 +1,5 @@
 -- The list or the object that the reader holds, as a frame, and what its parts tell of it.
-use Rattle.std.specs.Prelude.{◌≡◌, ◌≢◌, ℕ, ◌+◌, ◌<◌, ◌≤◌, true, List, [], ◌∷◌, map, length, Option, Some, None, Result, Ok, Err, slice_index, ◌⊎◌}
+use Rattle.std.specs.Prelude.{◌≡◌, ◌≢◌, ℕ, ◌+◌, ◌<◌, ◌≤◌, true, List, ◌∷◌, map, length, Option, Some, None, Result, Ok, Err, slice_index, ◌⊎◌}
 use Rattle.std.specs.List.{list_all}
 use Rattle.bt_json.specs.Json.{Json}
 use Rattle.bt_json.specs.Stands.{json_of, is_full}
@@ -57,29 +57,29 @@ abbrev pub ReadsName : List ℕ → ℕ → Frame → Frame → Result ℕ JsonF
 ReadsName bytes start old new = ReadsOn bytes start (item_due old) (λ at. at) (λ at k. go (due (new ∷ k)))
 
 -- what comes behind a value, which is put into the frame
-abbrev pub ReadsBehind : List ℕ → ℕ → Json → Frame → Frame → Result Ahead JsonFault → Type 0
-ReadsBehind bytes start v old new = ReadsOn bytes start (behind v old) place_of (λ ahead k. step_ahead ahead new k)
+abbrev pub Pushes : List ℕ → ℕ → Json → Frame → Frame → Result Ahead JsonFault → Type 0
+Pushes bytes start v old new = ReadsOn bytes start (behind v old) place_of (λ ahead k. step_ahead ahead new k)
 
--- the open lists and objects around a place, that many
-pub record Around (depth : ℕ) : Type 0 where
+-- the open lists and objects outside a place, that many
+pub record Outside (depth : ℕ) : Type 0 where
   pub frames : List Frame
   pub count : length frames ≡ depth
 
 -- the step behind a value that was read
-abbrev pub delivered : {depth : ℕ} → Tree × ℕ → Around depth → Step
+abbrev pub delivered : {depth : ℕ} → Tree × ℕ → Outside depth → Step
 delivered read around = deliver (json_of read.0) around.frames read.1
 
 -- a value that is due within that many lists and objects
 abbrev pub ReadsValue : List ℕ → ℕ → ℕ → Result (Tree × ℕ) JsonFault → Type 0
-ReadsValue bytes start depth = ReadsOn {K = Around depth} bytes start (λ around. due around.frames) (λ read. read.1) delivered
+ReadsValue bytes start depth = ReadsOn {K = Outside depth} bytes start (λ around. due around.frames) (λ read. read.1) delivered
 
 -- the rest of a list or an object behind its opening bracket, within that many others
 abbrev pub ReadsNested : List ℕ → ℕ → ℕ → Frame → Result (Tree × ℕ) JsonFault → Type 0
-ReadsNested bytes start depth frame = ReadsOn {K = Around depth} bytes start (λ around. opened frame around.frames) (λ read. read.1) delivered
+ReadsNested bytes start depth frame = ReadsOn {K = Outside depth} bytes start (λ around. opened frame around.frames) (λ read. read.1) delivered
 
 -- the same, where it is filled meanwhile
 abbrev pub Fills : List ℕ → ℕ → ℕ → Frame → Frame → Result ℕ JsonFault → Type 0
-Fills bytes start depth old new = ReadsOn {K = Around depth} bytes start (λ around. opened old around.frames) (λ at. at) (λ at around. deliver (closed new) around.frames at)
+Fills bytes start depth old new = ReadsOn {K = Outside depth} bytes start (λ around. opened old around.frames) (λ at. at) (λ at around. deliver (closed new) around.frames at)
 
 -- a value that reading in such a state comes to, whatever lists and objects are open around it
 abbrev pub ReadsTree : List ℕ → ℕ → (List Frame → State) → Result (Tree × ℕ) JsonFault → Type 0

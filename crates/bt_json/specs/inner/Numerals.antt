@@ -1,8 +1,9 @@
 -- What a number as far as it is written shows of the reader's own.
-use Rattle.std.specs.Prelude.{ℕ, List, Result}
+use Rattle.std.specs.Prelude.{◌≡◌, ℕ, List, Result}
 use Rattle.bt_json.specs.Json.{number}
 use Rattle.bt_json.specs.Stands.{number_of}
-use Rattle.bt_json.specs.inner.Reading.{Numeral, InNumber, goes_on, ends, wrong, in_number, deliver}
+use Rattle.bt_json.specs.inner.Reading.{Numeral, InNumber, goes_on, ends, wrong, step_number, in_number, deliver}
+use Rattle.bt_json.specs.inner.Bytes.{mark_of}
 use Rattle.bt_json.specs.inner.Running.{ReadsOn}
 use Rattle.bt_json.specs.declared.decimal.Decimal.{Decimal}
 use Rattle.bt_json.specs.declared.kind.Phase.{Phase}
@@ -20,6 +21,10 @@ abbrev pub shown : Next → Numeral → InNumber
 shown (GoesOn phase) n = goes_on phase n
 shown Ends n = ends n
 shown Wrong n = wrong
+
+-- how the number goes on at a byte
+abbrev pub TakesByte : Phase → Held → ℕ → Held → Next → Type 0
+TakesByte phase old byte new next = shown next (view new) ≡ step_number phase (view old) (mark_of byte)
 
 -- the rest of a number that is written so far, and its value
 abbrev pub ReadsNumber : List ℕ → ℕ → Phase → Numeral → Result (Decimal × ℕ) JsonFault → Type 0

@@ -1,14 +1,14 @@
 -- What the parts of the reader give, told by how reading goes on.
-use Rattle.std.specs.Prelude.{◌≡◌, ℕ, ◌≤◌, Bool, true, List, ◌++◌, [], ◌∷◌, drop, length, Option, None, ◌&&◌, ◌==◌, not, nat_le, nat_lt, Result, Ok, Err}
+use Rattle.std.specs.Prelude.{◌≡◌, ℕ, ◌≤◌, Bool, true, List, ◌++◌, [], ◌∷◌, drop, length, slice_range, ◌+◌, Option, None, ◌&&◌, ◌==◌, not, nat_le, nat_lt, Result, Ok, Err}
 use Rattle.bt_json.specs.Json.{Json}
 use Rattle.bt_json.specs.Grammar.{is_blank}
-use Rattle.bt_json.specs.inner.Reading.{State, Step, go, Stop, found, bad, deep, twice, step, after_step, run, Role, Frame, Place, InText, in_text, step_in_text, flushed}
+use Rattle.bt_json.specs.inner.Reading.{State, Step, go, Stop, found, bad, deep, twice, step, after_step, run, Role, Frame, Place, between, hex, InText, in_text, step_in_text, flushed, with_unit, finish_text}
 use Rattle.bt_json.specs.declared.fault.JsonFault.{JsonFault}
 use Rattle.bt_json.specs.declared.fault.JsonFault.TheVariants.{Json as JsonAt, Deep, DuplicateKey, Memory}
 
 -- blanks leave it as it is
-pub record SkipsBlanks (s : State) : Type 0 where
-  pub skips : (at b : ℕ) → is_blank b ≡ true → step true at b s ≡ go s
+pub record SkipsBlanks (strict : Bool) (s : State) : Type 0 where
+  pub skips : (at b : ℕ) → is_blank b ≡ true → step strict at b s ≡ go s
 
 -- how reading of the bytes ends, from a place and a state on
 abbrev pub rest_of : List ℕ → ℕ → State → Stop
@@ -41,6 +41,8 @@ abbrev pub ReadsOn : {X K : Type 0} → List ℕ → ℕ → (K → State) → (
 ReadsOn {X} {K} bytes start from place next (Ok x) = IsLater bytes start (place x) × ((k : K) → rest_of bytes start (from k) ≡ rest_after bytes (place x) (next x k))
 ReadsOn {X} {K} bytes start from place next (Err f) = (k : K) → Faults f (rest_of bytes start (from k))
 
+-- ---- texts
+
 -- around a place in a text: what it has, the high surrogate that waits, what the text is, and the open frames
 pub record Around : Type 0 where
   pub out : List ℕ
@@ -68,3 +70,31 @@ is_plain b = nat_le 32 b && nat_lt b 128 && not (b == 34) && not (b == 92)
 abbrev pub after_plain : Around → List ℕ → Around
 after_plain t [] = t
 after_plain t (b ∷ plain) = with_plain t (b ∷ plain)
+
+-- four hexadecimal digits write these sixteen bits
+abbrev pub WritesUnit : List ℕ → ℕ → ℕ → Type 0
+WritesUnit bytes start unit = (t : Around) → rest_of bytes start (within t (hex 3 0)) ≡ rest_after bytes (start + 4) (step_within 0 t (with_unit t.out t.high unit))
+
+-- the bytes up to a place are one character that stands for itself
+abbrev pub IsCharacter : List ℕ → ℕ → ℕ → Type 0
+IsCharacter bytes start end = (t : Around) → rest_of bytes start (within t between) ≡ rest_of bytes end (within (with_plain t (slice_range bytes start end)) between)
+
+-- the bytes up to a place are characters that stand for themselves, or none
+abbrev pub ArePlain : List ℕ → ℕ → ℕ → Type 0
+ArePlain bytes start end = (t : Around) → rest_of bytes start (within t between) ≡ rest_of bytes end (within (after_plain t (slice_range bytes start end)) between)
+
+-- any text ends with the fault from that place on, unless memory ran out
+abbrev pub EndsWithin : List ℕ → ℕ → Place → JsonFault → Type 0
+EndsWithin bytes start place f = (t : Around) → Faults f (rest_of bytes start (within t place))
+
+-- a text goes on from one place to the other, whatever it is and whatever is open around it
+abbrev pub GoesOnTo : List ℕ → ℕ → (Role → List Frame → State) → (Role → List Frame → State) → ℕ → Type 0
+GoesOnTo bytes start from to end = (role : Role) (k : List Frame) → rest_of bytes start (from role k) ≡ rest_of bytes end (to role k)
+
+-- a text ends with the fault, whatever it is and whatever is open around it, unless memory ran out
+abbrev pub EndsText : List ℕ → ℕ → (Role → List Frame → State) → JsonFault → Type 0
+EndsText bytes start from f = (role : Role) (k : List Frame) → Faults f (rest_of bytes start (from role k))
+
+-- behind an opening quote stands this text, up to the quote at a place, behind which reading goes on
+abbrev pub ReadsUpTo : List ℕ → ℕ → ℕ → ℕ → List ℕ → Type 0
+ReadsUpTo bytes start close end text = (role : Role) (k : List Frame) → rest_of bytes start (in_text [] None between role k) ≡ rest_after bytes end (finish_text true close text role k)

@@ -1,11 +1,11 @@
-use Rattle.std.proofs.Common.{List, ◌≡◌, ◌+◌, arith, ap, sym, ◌∙◌, subst}
+use Rattle.std.proofs.Common.{◌+◌, arith, ap, sym, ◌∙◌, subst}
 use Rattle.std.proofs.lemmas.Result.{err_from_is_err_and}
 use Rattle.bt_json.specs.Stands.{json_of}
-use Rattle.bt_json.specs.inner.Reading.{Frame, due, deliver}
-use Rattle.bt_json.specs.inner.Running.{Faults, rest_of}
+use Rattle.bt_json.specs.inner.Reading.{due, deliver}
+use Rattle.bt_json.specs.inner.Running.{Faults}
 use Rattle.bt_json.specs.inner.Frames.{opened}
 use Rattle.bt_json.specs.inner.Ahead.{place_of}
-use Rattle.bt_json.specs.inner.Nested.{frame_of, Around}
+use Rattle.bt_json.specs.inner.Nested.{frame_of, Outside}
 use Rattle.bt_json.proofs.FrameSteps.{reads_moved, nested_led, nested_ends, item_led, inside}
 use Rattle.bt_json.proofs.reader.+reading.Goals as goal
 
@@ -61,5 +61,5 @@ read_value-returns-in-Some-clause-read t c =
     let at = c.in_ok-at in
     let later = at.ensures.read.0 in
     let depth = c.args.depth in
-    reads_moved bs c.args.start (at.at + 1) (λ (around : Around depth). around) (λ around. due around.frames) (λ around. opened (frame_of c.in-Some.nested) around.frames) (λ r. r.1) (λ r around. deliver (json_of r.0) around.frames r.1)
+    reads_moved bs c.args.start (at.at + 1) (λ (around : Outside depth). around) (λ around. due around.frames) (λ around. opened (frame_of c.in-Some.nested) around.frames) (λ r. r.1) (λ r around. deliver (json_of r.0) around.frames r.1)
     c.read_nested.result (omega arith) (λ around. at.ensures.read.1 around.frames ∙ nested_led bs at.at depth at.kind c.in_ok-begun.field-0 c.in-Some.nested c.in-Some.is c.in_ok-begun.ensures at.ensures.token around) c.read_nested.ensures.read

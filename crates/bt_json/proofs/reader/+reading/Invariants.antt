@@ -2,7 +2,7 @@ use Rattle.std.proofs.Common.{◌≡◌, ◌≤◌, ◌+◌, ◌-◌, ◌*◌, l
 use Rattle.bt_json.specs.inner.Running.{rest_of, rest_after}
 use Rattle.bt_json.specs.inner.Frames.{opened}
 use Rattle.bt_json.specs.inner.Ahead.{place_of, step_ahead}
-use Rattle.bt_json.specs.inner.Nested.{frame_of, IsFilled, Around}
+use Rattle.bt_json.specs.inner.Nested.{frame_of, IsFilled, Outside}
 use Rattle.bt_json.specs.declared.limits.TheConstants.{MOST_LEVELS}
 use Rattle.bt_json.proofs.reader.+reading.Given as goal
 
@@ -21,7 +21,7 @@ invariant-fill-loop-ahead l = record {
   from : l.start ≤ place_of l.ahead;
   inside : place_of l.ahead ≤ length l.bytes;
   filled : IsFilled l.nested;
-  read : (around : Around l.depth) → rest_of l.bytes l.start (opened (frame_of l.fn.nested) around.frames) ≡ rest_after l.bytes (place_of l.ahead) (step_ahead l.ahead (frame_of l.nested) around.frames);
+  read : (around : Outside l.depth) → rest_of l.bytes l.start (opened (frame_of l.fn.nested) around.frames) ≡ rest_after l.bytes (place_of l.ahead) (step_ahead l.ahead (frame_of l.nested) around.frames);
 }
 
 abbrev pub decreases-fill-loop-ahead : goal.decreases-fill-loop-ahead

@@ -2,8 +2,7 @@ use Rattle.std.proofs.Common.{◌≡◌, ◌+◌, [], ◌∷◌, None, true, fal
 use Rattle.bt_json.specs.Json.{boolean, null}
 use Rattle.bt_json.specs.inner.Frames.{frame_begun}
 use Rattle.bt_json.specs.inner.Reading.{due, in_text, between, as_value, in_number, numeral, in_word}
-use Rattle.bt_json.specs.inner.Running.{rest_of}
-use Rattle.bt_json.specs.declared.kind.Kind.TheVariants.{ListOpens, ObjectOpens, Quote, Minus, Digit, LetterT, LetterF, LetterN}
+use Rattle.bt_json.specs.declared.kind.Kind.TheVariants.{ListOpens, ObjectOpens, Quote, Minus, LetterT, LetterF, LetterN}
 use Rattle.bt_json.specs.declared.kind.Phase.TheVariants.{BeforeWhole}
 use Rattle.bt_json.proofs.Levels.{due_at}
 use Rattle.bt_json.proofs.FrameSteps.{begins_number, token_breaks, tree_moved}

@@ -1,6 +1,6 @@
 use Rattle.std.proofs.Common.{◌≡◌, arith, ap, ◌∙◌}
 use Rattle.std.specs.Int.RustNames.{unsigned_abs}
-use Rattle.bt_json.specs.Value.{twice}
+use Rattle.bt_json.specs.inner.Halves.{twice}
 use Rattle.bt_json.proofs.Scaled.{scaled_same, abs-signed}
 use Rattle.bt_json.proofs.decimal.Decimal.halves.Goals as goal
 

@@ -1,6 +1,7 @@
 use Rattle.std.proofs.Common.{◌≡◌, ◌*◌, arith, ap, sym, ◌∙◌, true, false}
 use Rattle.std.specs.Int.RustNames.{unsigned_abs}
-use Rattle.bt_json.specs.Value.{twice, signed}
+use Rattle.bt_json.specs.Value.{signed}
+use Rattle.bt_json.specs.inner.Halves.{twice}
 use Rattle.bt_json.proofs.Scaled.{scaled_same, abs-signed, doubled, sign_of_zero}
 use Rattle.bt_json.proofs.decimal.Decimal.whole.Goals as goal
 

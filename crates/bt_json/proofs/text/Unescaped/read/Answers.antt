@@ -16,5 +16,5 @@ returns-then-bytes-stop-eq34-clause-ok c = λ role k.
     let bs = c.args.bytes.now in
     let place : n ≡ n + 1 - 1 = omega arith in
     c.loop-text.invariant.read role k ∙ c.in_ok-stop.ensures.ok role k ∙ closing bs n (around c.read_plain.new.self role k) (omega arith) c.if-bytes-stop-eq34.true
-    ∙ ap (λ s. rest_after bs (n + 1) (finish_text true n s role k)) (sym c.in_ok-into_string.ensures.ok)
+    ∙ ap (λ s. rest_after bs (n + 1) (finish_text true n s role k)) (sym c.in_ok-into_string.ensures)
     ∙ ap (λ m. rest_after bs (n + 1) (finish_text true m (string_bytes c.in_ok-into_string.field-0) role k)) place

@@ -24,7 +24,7 @@ returns-then-bytes-start-eq117-clause-ok c = λ role k.
     let x = with_unit t.out t.high c.in_ok-unit.unit in
     let n : c.args.start + 1 + 4 ≡ c.args.start + 5 = omega arith in
     escape_u bs c.args.start t (omega arith) c.if-bytes-start-eq117.true ∙ c.in_ok-unit.ensures.ok t ∙ ap (λ m. rest_after bs m (step_within 0 t x)) n
-    ∙ unit_in bs (c.args.start + 5) t (string_bytes c.push_unit.new.self.bytes) c.push_unit.new.self.high x c.in_ok-push_unit.ensures.ok
+    ∙ unit_in bs (c.args.start + 5) t (string_bytes c.push_unit.new.self.bytes) c.push_unit.new.self.high x c.in_ok-push_unit.ensures
 
 pub returns-in_default-clause-err : goal.returns-in_default-clause-err
 returns-in_default-clause-err c = λ role k.
@@ -36,4 +36,4 @@ returns-clause-ok c = λ role k.
     let bs = c.args.bytes.now in
     let x = with_unit t.out t.high c.in-Some.unit in
     escape_short bs c.args.start t c.in-Some.unit (omega arith) c.if-bytes-start-eq117.false (sym c.in-Some.is ∙ c.short_escape.ensures)
-    ∙ unit_in bs (c.args.start + 1) t (string_bytes c.push_unit-2.new.self.bytes) c.push_unit-2.new.self.high x c.in_ok-push_unit-2.ensures.ok
+    ∙ unit_in bs (c.args.start + 1) t (string_bytes c.push_unit-2.new.self.bytes) c.push_unit-2.new.self.high x c.in_ok-push_unit-2.ensures

@@ -11,4 +11,4 @@ returns-in_ok-push_plain-clause-ok c = λ role k.
     let e = c.plain_end-end in
     let some : 0 < length (slice_range bs c.args.start e.result) = slice_some bs c.args.start e.result c.if-start-end.true e.ensures.later.1 in
     e.ensures.read t ∙ some_plain bs e.result t (slice_range bs c.args.start e.result) some
-    ∙ plain_in bs e.result t (slice_range bs c.args.start e.result) (string_bytes c.push_plain.new.self.bytes) c.push_plain.new.self.high c.in_ok-push_plain.ensures.ok
+    ∙ plain_in bs e.result t (slice_range bs c.args.start e.result) (string_bytes c.push_plain.new.self.bytes) c.push_plain.new.self.high c.in_ok-push_plain.ensures

@@ -15,4 +15,4 @@ returns-clause-ok c = λ role k.
     let t = around c.args.self.now role k in
     let bs = c.args.bytes.now in
     let end = c.in_ok-end.end in
-    c.in_ok-end.ensures.ok t ∙ plain_in bs end t (slice_range bs c.args.start end) (string_bytes c.push_plain.new.self.bytes) c.push_plain.new.self.high c.in_ok-push_plain.ensures.ok
+    c.in_ok-end.ensures.ok t ∙ plain_in bs end t (slice_range bs c.args.start end) (string_bytes c.push_plain.new.self.bytes) c.push_plain.new.self.high c.in_ok-push_plain.ensures
