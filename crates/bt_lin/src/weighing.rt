@@ -61,7 +61,8 @@ struct Columns {
 fn sum_columns(rows: &[Row], picks: &[usize], weights: &[Frac]) -> Columns
     requires picks { ArePicks rows.now picks.now }
     requires weights { length weights.now ≡ length picks.now }
-    ensures { AreColumns (weighted rows.now picks.now weights.now) (columns_in (picked rows.now picks.now)) result }
+    ensures { AreColumns (weighted rows.now picks.now weights.now)
+        (columns_in (picked rows.now picks.now)) result }
 {
     let mut columns = Columns {
         cancel: true,

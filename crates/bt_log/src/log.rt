@@ -34,7 +34,10 @@ impl Model for Log {
 
     ghost Value = { LogParts };
 
-    ghost view = { λ l. record { first = l.first; steps = kept_steps l.lits l.weights l.hints l.steps.items } };
+    ghost view = { λ l. record {
+      first = l.first;
+      steps = kept_steps l.lits l.weights l.hints l.steps.items;
+    } };
 
     ghost invariant = { λ l. AreKept l.lits l.weights l.hints l.steps.items };
 }

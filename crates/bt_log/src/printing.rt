@@ -42,7 +42,8 @@ fn print_words<T: Spelled, K: Sink>(
     items: &[T],
     sink: &mut K,
 ) -> Result<(), WriteFault>
-    ensures { WritesText (passage K.held K.faults sink.old sink.new) (head.now ++ words T.text items.now) result }
+    ensures { WritesText (passage K.held K.faults sink.old sink.new)
+        (head.now ++ words T.text items.now) result }
 {
     write_all_of(sink, head)?;
     for item in items {

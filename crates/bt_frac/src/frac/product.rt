@@ -1,10 +1,10 @@
 //! The product of fractions: each numerator loses what it shares with the other denominator, so
 //! that what is multiplied is in lowest terms and no product is larger than it must be.
-ghost use Rattle.std.specs.Prelude.{◌≡◌, ℕ, ◌<◌, pos, ◌*◌, ◌*ℤ◌, IfSome, IfNone, unsigned_abs, neg_ℤ, if◌then◌else◌};
+ghost use Rattle.std.specs.Prelude.{ℕ, ◌<◌, IfSome, IfNone};
 ghost use Rattle.std.specs.Int.{IsGcd};
 ghost use Rattle.bt_frac.specs.Ratio.{Ratio, IsLowest};
 ghost use Rattle.bt_frac.specs.Products.{IsProduct};
-ghost use Rattle.bt_frac.specs.inner.ProductParts.{AreProductParts};
+ghost use Rattle.bt_frac.specs.inner.ProductParts.{IsProductSign, AreProductParts};
 
 use crate::frac::Frac;
 use crate::gcd::{gcd, quotient};
@@ -34,7 +34,7 @@ impl Frac {
 
 /// Whether the product of two numbers has a minus, which a product of 0 may have.
 fn is_product_negative(left: i128, right: i128) -> bool
-    ensures { left *ℤ right ≡ (if result then neg_ℤ (pos (unsigned_abs left * unsigned_abs right)) else pos (unsigned_abs left * unsigned_abs right)) }
+    ensures { IsProductSign left right result }
 {
     is_negative(left) != is_negative(right)
 }
@@ -51,7 +51,8 @@ fn product_parts(
     requires right_lowest { IsGcd right right_under 1 }
     requires right_some { 0 < right_under }
     ensures some { IfSome result (λ p. AreProductParts left left_under right right_under p.0 p.1) }
-    ensures none { IfNone result ((m n : ℕ) → AreProductParts left left_under right right_under m n → ⊥) }
+    ensures none { IfNone result
+        ((m n : ℕ) → AreProductParts left left_under right right_under m n → ⊥) }
 {
     let left_common = gcd(left, right_under);
     let right_common = gcd(right, left_under);

@@ -7,8 +7,8 @@ pub loop-preserved : goal.loop-preserved
 loop-preserved c =
     let before = c.loop.places in
     record {
-      size = ap length c.in_ok-add.ensures.added ∙ length-append before (None ∷ []) ∙ ap (λ n. n + 1) c.loop.invariant.size;
-      none = All-same (λ o. o ≡ None) c.add.new.self _ c.in_ok-add.ensures.added (All-push (λ o. o ≡ None) before None c.loop.invariant.none refl);
+      size = ap length c.in_ok-add.ensures.added.right.0 ∙ length-append before (None ∷ []) ∙ ap (λ n. n + 1) c.loop.invariant.size;
+      none = All-same (λ o. o ≡ None) c.add.new.self _ c.in_ok-add.ensures.added.right.0 (All-push (λ o. o ≡ None) before None c.loop.invariant.none refl);
     }
 
 pub invariant_of-result : goal.invariant_of-result
