@@ -4,7 +4,10 @@ pub mod Numerals
 pub mod Order
 pub mod Ordered
 pub mod Over
+pub mod Products
 pub mod Quotients
 pub mod Ring
+pub mod RowColumns
+pub mod TextPieces
 pub mod Sums
 pub mod Words

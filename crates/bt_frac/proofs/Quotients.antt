@@ -18,7 +18,7 @@ cancel m n g some e =
     omega (arith, le_of_mul-le-mul_right p some, le_of_mul-le-mul_right q some)
 
 -- the quotients by the greatest common divisor have none
-quotients_apart : (m n g : ℕ) → 0 < n → IsGcd m n g → IsGcd (m / g) (n / g) 1
+pub quotients_apart : (m n g : ℕ) → 0 < n → IsGcd m n g → IsGcd (m / g) (n / g) 1
 quotients_apart m n g some h =
     let em : m / g * g ≡ m = div-mul_cancel g h.0 in
     let en : n / g * g ≡ n = div-mul_cancel g h.1 in

@@ -1,0 +1,129 @@
+-- Atoms of a formula, and one more of them.
+use Rattle.std.proofs.Common.{◌≡◌, ◌≢◌, ℕ, ◌<◌, ◌≤◌, ◌+◌, arith, List, [], ◌∷◌, ◌++◌, length, get_or, set, slice_get, Option, None, Some, Result, Ok, is_ok, if◌then◌else◌, map, max, ap, sym, ◌∙◌, refl, subst, zero, suc, ◌⊎◌, inl, inr, length-append, length-set, get_or-set_same, get_or-set_other}
+use Rattle.std.specs.List.{All, zip}
+use Rattle.std.proofs.lemmas.List.{get_or_append_left}
+use Rattle.std.proofs.lemmas.List.Elements.{All-push, All-cons, All-nil, All-head, All-tail}
+use Rattle.bt_frac.specs.Rows.{RowParts, IsRow, columns_of, columns_in, end_of}
+use Rattle.bt_cnf.specs.Formulas.{FormulaParts, LitsBelow, AscendBelow, IsFormula, IsNextAtom}
+use Rattle.bt_cnf.specs.Places.{IsPlaceOf, ArePlaces, parts_of, IsStored}
+use Rattle.bt_cnf.specs.declared.literal.Lit.{Lit}
+use Rattle.bt_cnf.proofs.Ends.{end_more}
+
+pub seconds_zip : {X Y : Type 0} (xs : List X) (ys : List Y) → length xs ≡ length ys → map (λ p. p.1) (zip xs ys) ≡ ys
+seconds_zip [] [] same = refl
+seconds_zip [] (y ∷ ys) same = absurd (omega (arith, same))
+seconds_zip (x ∷ xs) [] same = absurd (omega (arith, same))
+seconds_zip (x ∷ xs) (y ∷ ys) same = ap (λ rest. y ∷ rest) (seconds_zip xs ys (omega (arith, same)))
+
+pub firsts_zip : {X Y : Type 0} (xs : List X) (ys : List Y) → length xs ≡ length ys → map (λ p. p.0) (zip xs ys) ≡ xs
+firsts_zip [] [] same = refl
+firsts_zip [] (y ∷ ys) same = absurd (omega (arith, same))
+firsts_zip (x ∷ xs) [] same = absurd (omega (arith, same))
+firsts_zip (x ∷ xs) (y ∷ ys) same = ap (λ rest. x ∷ rest) (firsts_zip xs ys (omega (arith, same)))
+
+pub zip_more : {X Y : Type 0} (xs : List X) (ys : List Y) (x : X) (y : Y) → length xs ≡ length ys → zip (xs ++ x ∷ []) (ys ++ y ∷ []) ≡ zip xs ys ++ (x, y) ∷ []
+zip_more [] [] x y same = refl
+zip_more [] (w ∷ ys) x y same = absurd (omega (arith, same))
+zip_more (v ∷ xs) [] x y same = absurd (omega (arith, same))
+zip_more (v ∷ xs) (w ∷ ys) x y same = ap (λ rest. (v, w) ∷ rest) (zip_more xs ys x y (omega (arith, same)))
+
+pub got : {X : Type 0} (xs : List X) (i : ℕ) (d x : X) → slice_get xs i ≡ Some x → get_or xs i d ≡ x
+got [] i d x is = cc
+got (y ∷ xs) zero d x is = cc
+got (y ∷ xs) (suc i) d x is = got xs i d x is
+
+-- one more number above all
+ascend_more : (least end n : ℕ) (ns : List ℕ) → AscendBelow least end ns → All (λ m. m < n) ns → least ≤ n → n < end → AscendBelow least end (ns ++ n ∷ [])
+ascend_more least end n [] ascend above from below = (from, below, tt)
+ascend_more least end n (m ∷ ns) ascend above from below =
+    let first : m < n = All-head (λ x. x < n) m ns above in
+    (ascend.0, ascend.1, ascend_more (m + 1) end n ns ascend.2 (All-tail (λ x. x < n) m ns above) (omega arith) below)
+
+map-push : {X Y : Type 0} (f : X → Y) (xs : List X) (x : X) → map f (xs ++ x ∷ []) ≡ map f xs ++ f x ∷ []
+map-push f [] x = refl
+map-push f (y ∷ xs) x = ap (λ rest. f y ∷ rest) (map-push f xs x)
+
+All-firsts : (P : ℕ → Type 0) (atoms : List (ℕ × RowParts)) → All (λ a. P a.0) atoms → All P (map (λ a. a.0) atoms)
+All-firsts P [] all = All-nil P
+All-firsts P (a ∷ atoms) all = All-cons P a.0 (map (λ x. x.0) atoms) (All-head (λ x. P x.0) a atoms all) (All-firsts P atoms (All-tail (λ x. P x.0) a atoms all))
+
+-- a formula with one more atom
+formula_more : (f : FormulaParts) (var : ℕ) (row : RowParts) → IsFormula f → IsNextAtom f var → IsRow row → IsFormula (record f { atoms = f.atoms ++ (var, row) ∷ [] })
+formula_more f var row is next is_row = record {
+  clauses = is.clauses;
+  atoms =
+      subst (AscendBelow 0 f.vars) (sym (map-push (λ a. a.0) f.atoms (var, row)))
+      (ascend_more 0 f.vars var (map (λ a. a.0) f.atoms) is.atoms (All-firsts (λ n. n < var) f.atoms next.above) (omega arith) next.below);
+  rows = All-push (λ a. IsRow a.1) f.atoms (var, row) is.rows is_row;
+}
+
+place_before : (atoms : List ℕ) (var other : ℕ) (o : Option ℕ) → other ≢ var → IsPlaceOf atoms other o → IsPlaceOf (atoms ++ var ∷ []) other o
+place_before atoms var other None differs h = All-push (λ x. x ≢ other) atoms var h (λ e. differs (sym e))
+place_before atoms var other (Some place) differs h =
+    (omega (arith, length-append atoms (var ∷ []), h.0), get_or_append_left atoms (var ∷ []) 0 place h.0 ∙ h.1)
+
+at_end_of : (atoms : List ℕ) (var : ℕ) → get_or (atoms ++ var ∷ []) (length atoms) 0 ≡ var
+at_end_of [] var = refl
+at_end_of (x ∷ atoms) var = at_end_of atoms var
+
+place_at : (atoms : List ℕ) (var : ℕ) → IsPlaceOf (atoms ++ var ∷ []) var (Some (length atoms))
+place_at atoms var = (omega (arith, length-append atoms (var ∷ [])), at_end_of atoms var)
+
+same_or : (m n : ℕ) → (m ≡ n) ⊎ (m ≢ n)
+same_or m n = grind arith
+
+places_more : (places : List (Option ℕ)) (atoms : List ℕ) (var place : ℕ) → ArePlaces atoms places → var < length places → place ≡ length atoms
+    → ArePlaces (atoms ++ var ∷ []) (set places var (Some place))
+places_more places atoms var place are below is other inside =
+    elim (same_or other var) [
+      | inl same ↦
+          rw same (rw (get_or-set_same places var (Some place) None below, is) (place_at atoms var))
+      | inr differs ↦
+          rw (get_or-set_other places var other (Some place) None differs)
+          (place_before atoms var other (get_or places other None) differs (are other (omega (arith, length-set places var (Some place)))))
+    ]
+
+pub parts_more : (places : List (Option ℕ)) (clauses : List (List Lit)) (atoms : List ℕ) (rows : List RowParts) (var : ℕ) (row : RowParts) (place : ℕ) → length atoms ≡ length rows
+    → record (parts_of places clauses atoms rows) { atoms = zip atoms rows ++ (var, row) ∷ [] } ≡ parts_of (set places var (Some place)) clauses (atoms ++ var ∷ []) (rows ++ row ∷ [])
+parts_more places clauses atoms rows var row place same =
+    ap (λ n. record { vars = n; clauses = clauses; atoms = zip atoms rows ++ (var, row) ∷ [] }) (sym (length-set places var (Some place)))
+    ∙ ap (λ pairs. record { vars = length (set places var (Some place)); clauses = clauses; atoms = pairs }) (sym (zip_more atoms rows var row same))
+
+-- what a formula is kept in, with one more atom
+pub stored_more : (places : List (Option ℕ)) (clauses : List (List Lit)) (atoms : List ℕ) (rows : List RowParts) (columns var : ℕ) (row : RowParts) (place end : ℕ)
+    → IsStored places clauses atoms rows columns → IsNextAtom (parts_of places clauses atoms rows) var → IsRow row → place ≡ length rows → end ≡ end_of (columns_of row.terms)
+    → IsStored (set places var (Some place)) clauses (atoms ++ var ∷ []) (rows ++ row ∷ []) (max columns end)
+stored_more places clauses atoms rows columns var row place end is next is_row place_is end_is = record {
+  formula =
+      subst IsFormula (parts_more places clauses atoms rows var row place is.paired)
+      (formula_more (parts_of places clauses atoms rows) var row is.formula next is_row);
+  paired = omega (arith, length-append atoms (var ∷ []), length-append rows (row ∷ []), is.paired);
+  named = places_more places atoms var place is.named next.below (place_is ∙ sym is.paired);
+  end = ap (λ n. max n end) is.end ∙ ap (λ n. max (end_of (columns_in rows)) n) end_is ∙ sym (end_more rows row);
+}
+
+-- a vector after a push that didn't fail
+pub appended : {X U E : Type 0} (r : Result U E) (u : U) (old mid new : List X) (x : X) → r ≡ Ok u → mid ≡ old → new ≡ (if is_ok r then mid ++ x ∷ [] else mid) → new ≡ old ++ x ∷ []
+appended r u old mid new x ok same is = is ∙ ap (λ b. if b then mid ++ x ∷ [] else mid) (ap is_ok ok) ∙ ap (λ xs. xs ++ x ∷ []) same
+
+-- a new formula
+pub stored_new : (places : List (Option ℕ)) → All (λ o. o ≡ None) places → IsStored places [] [] [] 0
+stored_new places none = record {
+  formula = record { clauses = All-nil (LitsBelow (length places)); atoms = tt; rows = All-nil (λ a. IsRow a.1) };
+  paired = refl;
+  named = λ var inside. subst (IsPlaceOf [] var) (sym (none var None inside)) (All-nil (λ other. other ≢ var));
+  end = refl;
+}
+
+pub new_stored : (places held : List (Option ℕ)) (clauses : List (List Lit)) (atoms : List ℕ) (rows : List RowParts) → held ≡ places → clauses ≡ [] → atoms ≡ [] → rows ≡ []
+    → All (λ o. o ≡ None) places → IsStored held clauses atoms rows 0
+new_stored places held clauses atoms rows same no_clauses no_atoms no_rows none =
+    subst (λ cs. IsStored held cs atoms rows 0) (sym no_clauses)
+    (subst (λ vs. IsStored held [] vs rows 0) (sym no_atoms)
+    (subst (λ rs. IsStored held [] [] rs 0) (sym no_rows) (subst (λ ps. IsStored ps [] [] [] 0) (sym same) (stored_new places none))))
+
+pub new_parts : (places held : List (Option ℕ)) (clauses : List (List Lit)) (atoms : List ℕ) (rows : List RowParts) (vars : ℕ) → held ≡ places → clauses ≡ [] → atoms ≡ [] → rows ≡ []
+    → length places ≡ vars → parts_of held clauses atoms rows ≡ record { vars = vars; clauses = []; atoms = [] }
+new_parts places held clauses atoms rows vars same no_clauses no_atoms no_rows size =
+    ap (λ cs. parts_of held cs atoms rows) no_clauses ∙ ap (λ vs. parts_of held [] vs rows) no_atoms
+    ∙ ap (λ n. record { vars = n; clauses = []; atoms = [] }) (ap length same ∙ size)

@@ -1,0 +1,152 @@
+//! Formulas, with constant-time access to the row of a variable.
+ghost use Rattle.std.specs.Prelude.{◌≡◌, ◌<◌, ◌≤◌, length, map, slice_get, Some, IfSome, IsNone, ◌↔◌, IfOk, []};
+ghost use Rattle.bt_frac.specs.Rows.{IsRow, columns_of, columns_in, end_of};
+ghost use Rattle.bt_cnf.specs.Formulas.{LitsBelow, IsFormula, IsNextAtom, AddsClause, AddsAtom};
+ghost use Rattle.bt_cnf.specs.Places.{IsPlaceOf};
+
+use crate::literal::{Clause, ClauseId, Lit, Var, Variable};
+use bt_arena::{Arena, Pool};
+use bt_frac::Row;
+use std::alloc::{AllocError, Global};
+use std::marker::Model;
+
+/// Clauses over a number of variables, some of which are atoms and have a row.
+#[derive(Drop)]
+pub struct Formula {
+    /// For each variable, the place of its row, where it is an atom.
+    places: Arena<Option<usize>, Variable>,
+    clauses: Pool<Lit, Clause>,
+    /// The variables of the atoms, in ascending order.
+    atoms: Vec<usize>,
+    /// Their rows, in this order.
+    rows: Vec<Row>,
+    /// One more than the greatest column of the rows, or 0.
+    columns: usize,
+}
+
+impl Model for Formula {
+    ghost use Rattle.bt_cnf.specs.Formulas.{FormulaParts};
+    ghost use Rattle.bt_cnf.specs.Places.{parts_of, IsStored};
+
+    ghost Value = { FormulaParts };
+
+    ghost view = { λ f. parts_of f.places f.clauses f.atoms.items f.rows.items };
+
+    ghost invariant = { λ f. IsStored f.places f.clauses f.atoms.items f.rows.items f.columns };
+}
+
+impl Formula {
+    /// A formula over so many variables, without clauses and atoms.
+    pub fn new(alloc: Global, vars: usize) -> Result<Formula, AllocError>
+        ensures { IfOk result (λ f. f ≡ record { vars = vars; clauses = []; atoms = [] }) }
+    {
+        let mut places = Arena::new(alloc)?;
+        for _ in 0..vars {
+            places.add(None)?;
+        }
+        Ok(Formula {
+            places,
+            clauses: Pool::new(alloc)?,
+            atoms: Vec::new(alloc),
+            rows: Vec::new(alloc),
+            columns: 0,
+        })
+    }
+
+    /// Appends a clause, and gives its id.
+    pub fn add_clause(&mut self, lits: &[Lit]) -> Result<ClauseId, AllocError>
+        requires { LitsBelow self.old.vars lits.now }
+        ensures { AddsClause self.old lits.now self.new result }
+    {
+        self.clauses.add_slice(lits)
+    }
+
+    /// Gives a variable its row. The variable is to be above that of every atom so far.
+    pub fn set_atom(&mut self, var: Var, row: Row) -> Result<(), AllocError>
+        requires { IsNextAtom self.old var }
+        ensures { AddsAtom self.old var row self.new result }
+    {
+        // The room is made first, so that a refusal leaves the formula as it was.
+        self.atoms.reserve(1)?;
+        self.rows.reserve(1)?;
+        let place = self.rows.len();
+        self.columns = self.columns.max(end_column(&row));
+        self.atoms.push(var.place()).unwrap();
+        self.rows.push(row).unwrap();
+        *self.places.get_mut(var) = Some(place);
+        Ok(())
+    }
+
+    /// The number of variables.
+    pub fn vars(&self) -> usize
+        ensures { result ≡ self.now.vars }
+    {
+        self.places.len()
+    }
+
+    /// The number of clauses.
+    pub fn clauses(&self) -> usize
+        ensures { result ≡ length self.now.clauses }
+    {
+        self.clauses.len()
+    }
+
+    /// The literals of a clause.
+    pub fn clause(&self, id: ClauseId) -> &[Lit]
+        requires { id < length self.now.clauses }
+        ensures value { slice_get self.now.clauses id ≡ Some result.now }
+        ensures known { IsFormula self.now }
+    {
+        self.clauses.slice(id)
+    }
+
+    /// The clause at a place, where there is one.
+    pub fn clause_at(&self, place: usize) -> Option<ClauseId>
+        ensures none { IsNone result ↔ (length self.now.clauses ≤ place) }
+        ensures some { IfSome result (λ id. id ≡ place) }
+    {
+        self.clauses.id_at(place)
+    }
+
+    /// The variable at a place, where there is one.
+    pub fn var_at(&self, place: usize) -> Option<Var>
+        ensures none { IsNone result ↔ (self.now.vars ≤ place) }
+        ensures some { IfSome result (λ var. var ≡ place) }
+    {
+        self.places.id_at(place)
+    }
+
+    /// The rows of the atoms, in the order of their variables.
+    pub fn rows(&self) -> &[Row]
+        ensures value { result.now ≡ map (λ a. a.1) self.now.atoms }
+        ensures known { IsFormula self.now }
+    {
+        &self.rows
+    }
+
+    /// The place of a variable's row among the rows. None exactly where the variable is no atom.
+    pub fn row_of(&self, var: Var) -> Option<usize>
+        requires { var < self.now.vars }
+        ensures { IsPlaceOf (map (λ a. a.0) self.now.atoms) var result }
+    {
+        *self.places.get(var)
+    }
+
+    /// One more than the greatest column of the rows, or 0 where no row has a term.
+    pub fn columns(&self) -> usize
+        ensures { result ≡ end_of (columns_in (map (λ a. a.1) self.now.atoms)) }
+    {
+        self.columns
+    }
+}
+
+/// One more than the greatest column of a row, or 0 where it has no term.
+fn end_column(row: &Row) -> usize
+    ensures end { result ≡ end_of (columns_of row.now.terms) }
+    ensures known { IsRow row.now }
+{
+    match row.terms().last() {
+        Some((column, _)) => *column + 1,
+        None => 0,
+    }
+}

@@ -1,0 +1,11 @@
+//! Formulas: clauses over variables, some of which stand for rows of linear constraints.
+#![tactic(auto)]
+
+mod formula;
+mod literal;
+#[cfg(test)]
+mod tests;
+
+pub use formula::Formula;
+pub use literal::{Clause, ClauseId, Lit, Var, Variable};
+pub use std::alloc::AllocError as Memory;

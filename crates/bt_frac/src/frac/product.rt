@@ -1,0 +1,70 @@
+//! The product of fractions: each numerator loses what it shares with the other denominator, so
+//! that what is multiplied is in lowest terms and no product is larger than it must be.
+ghost use Rattle.std.specs.Prelude.{ℕ, ◌<◌, IfSome, IfNone};
+ghost use Rattle.std.specs.Int.{IsGcd};
+ghost use Rattle.bt_frac.specs.Ratio.{Ratio, IsLowest};
+ghost use Rattle.bt_frac.specs.Products.{IsProduct};
+ghost use Rattle.bt_frac.specs.inner.ProductParts.{IsProductSign, AreProductParts};
+
+use crate::frac::Frac;
+use crate::gcd::{gcd, quotient};
+use crate::parts::{is_negative, magnitude, signed, times_unsigned};
+
+impl Frac {
+    /// The exact product. None exactly where the magnitude of its numerator or its denominator is
+    /// above 2^127 - 1 in lowest terms.
+    pub fn mul(&self, other: &Frac) -> Option<Frac>
+        ensures known { IsLowest self.now × IsLowest other.now }
+        ensures some { IfSome result (IsProduct self.now other.now) }
+        ensures lowest { IfSome result IsLowest }
+        ensures none { IfNone result ((f : Ratio) → IsLowest f → IsProduct self.now other.now f → ⊥) }
+    {
+        let size = magnitude(self.over);
+        let other_size = magnitude(other.over);
+        let negative = is_product_negative(self.over, other.over);
+        let Some((size, under)) = product_parts(size, self.under, other_size, other.under) else {
+            return None;
+        };
+        Some(Frac {
+            over: signed(size, negative),
+            under,
+        })
+    }
+}
+
+/// Whether the product of two numbers has a minus, which a product of 0 may have.
+fn is_product_negative(left: i128, right: i128) -> bool
+    ensures { IsProductSign left right result }
+{
+    is_negative(left) != is_negative(right)
+}
+
+/// The magnitude of the numerator, and the denominator, of a product in lowest terms.
+fn product_parts(
+    left: u128,
+    left_under: u128,
+    right: u128,
+    right_under: u128,
+) -> Option<(u128, u128)>
+    requires left_lowest { IsGcd left left_under 1 }
+    requires left_some { 0 < left_under }
+    requires right_lowest { IsGcd right right_under 1 }
+    requires right_some { 0 < right_under }
+    ensures some { IfSome result (λ p. AreProductParts left left_under right right_under p.0 p.1) }
+    ensures none { IfNone result
+        ((m n : ℕ) → AreProductParts left left_under right right_under m n → ⊥) }
+{
+    let left_common = gcd(left, right_under);
+    let right_common = gcd(right, left_under);
+    let left = quotient(left, left_common);
+    let right = quotient(right, right_common);
+    let Some(size) = times_unsigned(left, right) else {
+        return None;
+    };
+    let left_under = quotient(left_under, right_common);
+    let right_under = quotient(right_under, left_common);
+    let Some(under) = times_unsigned(left_under, right_under) else {
+        return None;
+    };
+    Some((size, under))
+}

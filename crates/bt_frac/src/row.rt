@@ -1,0 +1,84 @@
+//! Rows of linear constraints: a sum of columns, each times a fraction, that is at least, above or
+//! equal to a bound.
+ghost use Rattle.std.specs.Prelude.{◌≡◌, IfOk};
+ghost use Rattle.bt_frac.specs.Rows.{RowParts, IsRow, IsRowOf};
+
+use crate::frac::{Frac, have_columns};
+use std::alloc::{AllocError, Global};
+use std::marker::Model;
+
+/// How the sum of a row stands to its bound.
+#[derive(Clone, Copy, PartialEq, Eq)]
+pub enum Relation {
+    /// The sum is at least the bound.
+    AtLeast,
+    /// The sum is greater than the bound.
+    Above,
+    /// The sum equals the bound.
+    Equal,
+}
+
+/// A sum of columns, each times its coefficient, and how it stands to a bound. The columns ascend
+/// strictly and are below `usize::MAX`, so that there is a column after the last.
+#[derive(Drop)]
+pub struct Row {
+    terms: Vec<(usize, Frac)>,
+    relation: Relation,
+    bound: Frac,
+}
+
+impl Model for Row {
+    ghost use Rattle.bt_frac.specs.Rows.{RowParts, IsRow};
+
+    ghost Value = { RowParts };
+
+    ghost view = { λ r. record { terms = r.terms.items; relation = r.relation; bound = r.bound } };
+
+    ghost invariant = { λ r. IsRow (record { terms = r.terms.items; relation = r.relation; bound = r.bound }) };
+}
+
+impl Row {
+    /// The row of these terms, each a column and its coefficient. None exactly where the columns
+    /// don't ascend strictly, or the last of them is `usize::MAX`.
+    pub fn new(
+        alloc: Global,
+        terms: &[(usize, Frac)],
+        relation: Relation,
+        bound: Frac,
+    ) -> Result<Option<Row>, AllocError>
+        ensures { IfOk result (IsRowOf (record { terms = terms.now; relation = relation; bound = bound })) }
+    {
+        if !have_columns(terms) {
+            return Ok(None);
+        }
+        let _ = bound.denominator();
+        Ok(Some(Row {
+            terms: Vec::from_slice(alloc, terms)?,
+            relation,
+            bound,
+        }))
+    }
+
+    /// The columns that have a coefficient, in ascending order, with it.
+    pub fn terms(&self) -> &[(usize, Frac)]
+        ensures value { result.now ≡ self.now.terms }
+        ensures known { IsRow self.now }
+    {
+        &self.terms
+    }
+
+    /// How the sum stands to the bound.
+    pub fn relation(&self) -> Relation
+        ensures { result ≡ self.now.relation }
+    {
+        self.relation
+    }
+
+    /// What the sum is compared with.
+    pub fn bound(&self) -> Frac
+        ensures value { result ≡ self.now.bound }
+        ensures known { IsRow self.now }
+    {
+        self.bound
+    }
+}

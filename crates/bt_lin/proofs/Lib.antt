@@ -1,0 +1,11 @@
+pub mod ColumnLemmas
+pub mod EvalLemmas
+pub mod FarkasLemmas
+pub mod Lens
+pub mod PlaceLemmas
+pub mod Ranges
+pub mod RunLemmas
+pub mod SameNumbers
+pub mod Sound
+pub mod Tested
+pub mod WeightedLemmas

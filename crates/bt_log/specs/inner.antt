@@ -1,0 +1,2 @@
+-- How a log keeps its steps, which no public clause cites.
+pub mod Keeping

@@ -1,0 +1,16 @@
+//! Logs of steps by which a formula is refuted, and their text.
+#![tactic(auto)]
+
+mod kept;
+mod law;
+mod log;
+mod printing;
+mod step;
+#[cfg(test)]
+mod tests;
+mod word;
+
+pub use law::refuted_is_unmet;
+pub use log::Log;
+pub use std::alloc::AllocError as Memory;
+pub use step::StepView;

@@ -1,0 +1,116 @@
+//! Words of a step's line, each with a space in front, while they are written.
+ghost use Rattle.std.specs.Prelude.{◌≡◌, ◌+◌, ◌≤◌, ◌∷◌, ◌++◌, [], length, ℕ, List, decimal};
+ghost use Rattle.bt_frac.specs.Texts.{frac_text};
+ghost use Rattle.bt_log.specs.LogText.{lit_text, hint_text};
+
+use bt_cnf::Lit;
+use bt_frac::{Frac, TEXT_MAX};
+use itoa::Buffer;
+use std::marker::Model;
+
+/// The most bytes of a word: a space, and the text of a fraction.
+pub const WORD_MAX: usize = 81;
+
+/// A word while it is written.
+#[derive(Drop)]
+pub struct Word {
+    bytes: [u8; WORD_MAX],
+    len: usize,
+}
+
+impl Model for Word {
+    ghost use Rattle.std.specs.Prelude.{ℕ, ◌≤◌, List, take};
+
+    ghost Value = { List ℕ };
+
+    ghost view = { λ w. take w.len w.bytes };
+
+    ghost invariant = { λ w. w.len ≤ 81 };
+}
+
+impl Word {
+    /// No byte.
+    fn new() -> Word
+        ensures { result ≡ [] }
+    {
+        Word {
+            bytes: [0; WORD_MAX],
+            len: 0,
+        }
+    }
+
+    /// The bytes so far.
+    pub fn as_bytes(&self) -> &[u8]
+        ensures { result.now ≡ self.now }
+    {
+        &self.bytes[..self.len]
+    }
+
+    fn push(&mut self, piece: &[u8])
+        requires { length self.old + length piece.now ≤ 81 }
+        ensures { self.new ≡ self.old ++ piece.now }
+    {
+        let end = self.len + piece.len();
+        self.bytes[self.len..end].copy_from_slice(piece);
+        self.len = end;
+    }
+
+    /// A number that is counted from 1 on.
+    fn push_after(&mut self, number: usize)
+        requires { length self.old + 39 ≤ 81 }
+        ensures { self.new ≡ self.old ++ decimal (number + 1) }
+    {
+        let mut buffer = Buffer::new();
+        let digits = buffer.format(number as u128 + 1).as_bytes();
+        self.push(digits);
+    }
+}
+
+/// What a step's line says by one word.
+pub trait Spelled {
+    /// The word, without the space in front.
+    ghost text: { Self → List ℕ };
+
+    /// A space and the word.
+    fn word(&self) -> Word
+        ensures { result ≡ 32 ∷ text self.now };
+}
+
+impl Spelled for Lit {
+    ghost text = { lit_text };
+
+    fn word(&self) -> Word {
+        let mut word = Word::new();
+        if self.positive {
+            word.push(b" ");
+        } else {
+            word.push(b" -");
+        }
+        word.push_after(self.var.place());
+        word
+    }
+}
+
+impl Spelled for Frac {
+    ghost text = { frac_text };
+
+    fn word(&self) -> Word {
+        let mut text = [0; TEXT_MAX];
+        let len = self.text(&mut text);
+        let mut word = Word::new();
+        word.push(b" ");
+        word.push(&text[..len]);
+        word
+    }
+}
+
+impl Spelled for usize {
+    ghost text = { hint_text };
+
+    fn word(&self) -> Word {
+        let mut word = Word::new();
+        word.push(b" ");
+        word.push_after(*self);
+        word
+    }
+}
