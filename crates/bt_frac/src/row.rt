@@ -34,7 +34,8 @@ impl Model for Row {
 
     ghost view = { λ r. record { terms = r.terms.items; relation = r.relation; bound = r.bound } };
 
-    ghost invariant = { λ r. IsRow (record { terms = r.terms.items; relation = r.relation; bound = r.bound }) };
+    ghost invariant = { λ r. IsRow
+        (record { terms = r.terms.items; relation = r.relation; bound = r.bound }) };
 }
 
 impl Row {
