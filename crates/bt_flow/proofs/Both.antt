@@ -18,9 +18,6 @@ passes_first b c e h k = (λ t. (h.0 e, k.0 t), λ pq. k.1 pq.1)
 pub instead : {P Q : Type 0} (b : Bool) → IsTrue b ↔ P → (P → Q) → (Q → P) → IsTrue b ↔ Q
 instead b h f g = (λ t. f (h.0 t), λ q. h.1 (g q))
 
-pub always : (P : Type 0) → P → IsTrue true ↔ P
-always P p = (λ t. p, λ q. refl)
-
 pub port_one : (P : ℕ → Type 0) (port : Port) (a : ℕ) (b : Bool) → port ≡ One a → IsTrue b ↔ P a → IsTrue b ↔ AllByRecursion P (numbers_of port)
 port_one P port a b e h = subst (λ p. IsTrue b ↔ AllByRecursion P (numbers_of p)) (sym e) (λ t. (h.0 t, tt), λ q. h.1 q.0)
 
