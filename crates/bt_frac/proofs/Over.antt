@@ -1,10 +1,10 @@
 -- Fractions as whole numbers over one denominator.
-use Rattle.std.proofs.Common.{◌≡◌, ℕ, ◌*◌, ◌<◌, arith, ℤ, pos, ◌*ℤ◌, ◌+ℤ◌, ◌<ℤ◌, ◌≤ℤ◌, ◌↔◌, List, [], ◌∷◌, ◌++◌, ap, sym, ◌∙◌, refl, subst, map, neg_ℤ}
+use Rattle.std.proofs.Common.{◌≡◌, ℕ, ◌*◌, ◌<◌, arith, ℤ, pos, ◌*ℤ◌, ◌+ℤ◌, ◌<ℤ◌, ◌≤ℤ◌, ◌↔◌, List, [], ◌∷◌, ◌++◌, ap, sym, ◌∙◌, refl, subst, map}
 use Rattle.std.specs.List.{All}
 use Rattle.std.proofs.lemmas.List.Elements.{All-head, All-tail}
 use Rattle.std.proofs.Math.IntN.{*ℤ_comm, zero-*ℤ, *ℤ-one}
 use Rattle.bt_frac.specs.Ratio.{Ratio, IsSum, SameRatio, IsOver, AreOver, IsLess, IsAtMost}
-use Rattle.bt_frac.proofs.Ring.{neg_mul, mul_assoc, turn_last, sum_of_thirds, sum_of_parts}
+use Rattle.bt_frac.proofs.Ring.{mul_assoc, turn_last, sum_of_thirds, sum_of_parts}
 use Rattle.bt_frac.proofs.Order.{mul_cancel, mul_le, le_from_mul, mul_lt, lt_from_mul}
 
 -- a fraction over a denominator, times another number
@@ -80,10 +80,6 @@ over_whole n d = sym (*ℤ-one (n *ℤ pos d))
 
 pub over_zero : (r : Ratio) (d : ℕ) → r.over ≡ pos 0 → IsOver r (pos 0) d
 over_zero r d e = ap (λ t. t *ℤ pos d) e ∙ zero-*ℤ (pos d) ∙ sym (zero-*ℤ (pos r.under))
-
--- a fraction negated
-pub over_negated : (r : Ratio) (w : ℤ) (d : ℕ) → IsOver r w d → IsOver (record { over = neg_ℤ r.over; under = r.under }) (neg_ℤ w) d
-over_negated r w d e = neg_mul r.over (pos d) ∙ ap neg_ℤ e ∙ sym (neg_mul w (pos r.under))
 
 -- a greater denominator
 pub over_scaled : (r : Ratio) (w : ℤ) (d k : ℕ) → IsOver r w d → IsOver r (w *ℤ pos k) (k * d)

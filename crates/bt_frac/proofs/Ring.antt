@@ -10,9 +10,6 @@ shuffle a b y z = omega (arith, ints)
 neg_shuffle : (a y : ℤ) → neg_ℤ a +ℤ neg_ℤ y ≡ neg_ℤ (a +ℤ y)
 neg_shuffle a y = omega (arith, ints)
 
-no_sum : pos 0 ≡ pos 0 +ℤ pos 0
-no_sum = refl
-
 pos_distrib : (n : ℕ) (y z : ℤ) → pos n *ℤ (y +ℤ z) ≡ pos n *ℤ y +ℤ pos n *ℤ z
 pos_distrib zero y z = rw (zero-*ℤ, zero-*ℤ, zero-*ℤ) refl
 pos_distrib (suc n) y z =

@@ -6,10 +6,10 @@ use Rattle.std.proofs.lemmas.Nat.{mul-lt}
 use Rattle.std.proofs.lemmas.Nat.Gcd.{dvd_trans, IsGcd-swap, same_from_IsGcd}
 use Rattle.std.proofs.Math.Nat.{dvd-mul_left_of_dvd, dvd-add, dvd-add_iff_left, one-dvd, dvd-mul_right, div-mul_cancel, mul-one}
 use Rattle.std.proofs.Math.IntN.{*ℤ_comm}
-use Rattle.bt_frac.specs.Ratio.{Ratio, IsLowest, FitsPart, IsShort, AddNumbers, AddFits}
+use Rattle.bt_frac.specs.Ratio.{Ratio, IsLowest, FitsPart, IsShort, IsSum, AddNumbers, AddFits, CanAdd, IsWide}
 use Rattle.bt_frac.proofs.Euclid.{euclid, coprime_part, common_of}
 use Rattle.bt_frac.proofs.Gcds.{all_fit, gcd_positive, coprime_quotients}
-use Rattle.bt_frac.proofs.Ring.{mul_assoc, turn_last, mul_distrib_right}
+use Rattle.bt_frac.proofs.Ring.{add_comm, mul_assoc, turn_last, mul_distrib_right}
 use Prim.Native.Nat.{◌∣◌}
 
 sizes : (x y : ℤ) → (unsigned_abs x ≡ unsigned_abs (x +ℤ y) + unsigned_abs y) ⊎ ((unsigned_abs x + unsigned_abs (x +ℤ y) ≡ unsigned_abs y) ⊎ (unsigned_abs x + unsigned_abs y ≡ unsigned_abs (x +ℤ y)))
@@ -25,9 +25,6 @@ divides_first x y d p q =
         | inr e ↦ (dvd-add_iff_left d q).1 (subst (λ n. d ∣ n) (sym e) p)
       ]
     ]
-
-turned : (x y : ℤ) → x +ℤ y ≡ y +ℤ x
-turned x y = omega (arith, ints)
 
 -- a divisor of the sum has none in common with the part of a denominator that the other lacks
 apart : (a b : ℤ) (m n : ℕ) (d : ℕ) → IsGcd (unsigned_abs a) m 1 → IsGcd m n 1 → d ∣ unsigned_abs (a *ℤ pos n +ℤ b *ℤ pos m) → IsGcd m d 1
@@ -48,7 +45,7 @@ pub shares_common : (a b : ℤ) (m n g : ℕ) → IsGcd (unsigned_abs a) m 1 →
 shares_common a b m n g p q both d h k =
     let order : m * g * n ≡ m * (n * g) = omega arith in
     let rest : d ∣ n * g = euclid m d (n * g) (apart a b m n d p both h) (subst (λ t. d ∣ t) order k) in
-    let other : d ∣ unsigned_abs (b *ℤ pos m +ℤ a *ℤ pos n) = subst (λ z. d ∣ unsigned_abs z) (turned (a *ℤ pos n) (b *ℤ pos m)) h in
+    let other : d ∣ unsigned_abs (b *ℤ pos m +ℤ a *ℤ pos n) = subst (λ z. d ∣ unsigned_abs z) (add_comm (a *ℤ pos n) (b *ℤ pos m)) h in
     euclid n d g (apart b a n m d q (IsGcd-swap m n 1 both) other) rest
 
 -- a fraction's parts have no common divisor, and no part of the denominator changes that
@@ -123,3 +120,13 @@ fits_alike a b m n h =
 
 pub wide_apart : (a b : Ratio) → ((n : AddNumbers a b) × (AddFits n → ⊥)) → ((m : AddNumbers a b) × AddFits m) → ⊥
 wide_apart a b wide fits = wide.1 (fits_alike a b fits.0 wide.0 fits.1)
+
+-- what is told of two fractions is told of what their views are
+pub sum_seen : {a a' b b' : Ratio} (r : Ratio) → a ≡ a' → b ≡ b' → IsSum a b r → IsSum a' b' r
+sum_seen {a} {a'} {b} {b'} r ea eb p = subst (λ y. IsSum a' y r) eb (subst (λ x. IsSum x b r) ea p)
+
+pub wide_seen : {a a' b b' : Ratio} → a ≡ a' → b ≡ b' → IsWide a b → IsWide a' b'
+wide_seen {a} {a'} {b} {b'} ea eb p = subst (λ y. IsWide a' y) eb (subst (λ x. IsWide x b) ea p)
+
+pub can_add_seen : {a a' b b' : Ratio} → a ≡ a' → b ≡ b' → CanAdd a b → CanAdd a' b'
+can_add_seen {a} {a'} {b} {b'} ea eb p = subst (λ y. CanAdd a' y) eb (subst (λ x. CanAdd x b) ea p)

@@ -10,7 +10,7 @@ use Rattle.bt_frac.specs.Numbers.{Spells}
 use Rattle.bt_frac.proofs.Numerals.{Spells-decimal, Spells-unique, Spells-lacks, decimal-from_spells}
 use Rattle.bt_frac.specs.Ratio.{Ratio, IsLowest, parts_ratio}
 use Rattle.bt_frac.specs.Texts.{frac_text}
-use Rattle.bt_frac.specs.inner.Words.{HasNoSlash, IsCutAtSlash, WordOf, AroundSlash, HasRead, AreRead, IsSigned}
+use Rattle.bt_frac.specs.inner.Words.{HasNoSlash, IsCutAtSlash, WordOf, AroundSlash, HasRead, IsSigned}
 use Rattle.bt_frac.proofs.Quotients.{parts_size}
 
 not_digit : (b : ℕ) → b < 48 → ¬ IsInRange 48 57 b

@@ -1,5 +1,5 @@
 -- A network's text, line by line.
-use Rattle.std.proofs.Common.{◌≡◌, ◌≢◌, ℕ, ◌-◌, ◌<◌, ◌≤◌, ◌⊎◌, Bool, true, not, cond, eqb, eq-eqb, List, [], ◌∷◌, ◌++◌, length, get_or, map, drop, refl, sym, ◌∙◌, ap, subst, inl, inr, ⊎_elim, arith, length-append}
+use Rattle.std.proofs.Common.{◌≡◌, ◌≢◌, ℕ, ◌-◌, ◌≤◌, ◌⊎◌, Bool, true, not, cond, eqb, eq-eqb, List, [], ◌∷◌, ◌++◌, length, get_or, map, drop, refl, sym, ◌∙◌, ap, subst, inl, inr, ⊎_elim, arith, length-append}
 use Rattle.std.specs.Prelude.{codes, decimal}
 use Rattle.std.specs.List.{All, count_by, flat_map, list_all}
 use Rattle.std.proofs.lemmas.List.{append-nil, append_assoc, get_or_append_left, get_or_at}
@@ -16,7 +16,7 @@ use Rattle.bt_net.specs.declared.network.Start.{Start}
 use Rattle.bt_net.specs.declared.network.Start.TheVariants as from
 use Rattle.bt_net.specs.declared.network.Target.{Target}
 use Rattle.bt_net.specs.declared.network.Target.TheVariants as to
-use Rattle.bt_net.specs.Network.{Network, IsWired, IsNetwork, IsLarge, LacksEnds, StartsIn, EndsIn, is_input, is_output, leaves, enters}
+use Rattle.bt_net.specs.Network.{Network, IsWired, IsNetwork, StartsIn, EndsIn, is_input, is_output, leaves, enters}
 use Rattle.bt_net.specs.NetText.{start_text, target_text, header, edge_text, net_text, BeginsWithNet}
 use Rattle.bt_net.specs.Refusals.{HeaderRefused, GoesOn, EdgesRefused}
 use Rattle.bt_net.specs.Wiring.{IsPartlyWired, with_edge, HasSmallSizes}
@@ -132,17 +132,25 @@ AreRead-head e es r = (All-head EdgeFits e es r.fit, All-head (λ x. x.cap ≡ 1
 pub AreRead-tail : (e : Edge) (es : List Edge) → AreRead (e ∷ es) → AreRead es
 AreRead-tail e es r = record { fit = All-tail EdgeFits e es r.fit; caps = All-tail (λ x. x.cap ≡ 1) e es r.caps }
 
--- edge lines up to `end` that begin with the lines of some edges: these come first, and the others follow
-pub go_on : (es fs : List Edge) (more : List (List ℕ)) → AreRead es → AreRead fs → map edge_text fs ++ codes "end" ∷ [] ≡ map edge_text es ++ more
-    → (gs : List Edge) × (fs ≡ es ++ gs) × (more ≡ map edge_text gs ++ codes "end" ∷ [])
-go_on [] fs more p q is = (fs, refl, sym is)
-go_on (e ∷ es) [] more p q is = absurd (edge-ne_end e (sym (cc)))
-go_on (e ∷ es) (f ∷ fs) more p q is =
+-- edge lines, and lines that begin with none, that begin with the lines of some edges: these come first, and the others follow
+pub go_over : (tail : List (List ℕ)) → ((e : Edge) (rest : List (List ℕ)) → tail ≡ edge_text e ∷ rest → ⊥) → (es fs : List Edge) (more : List (List ℕ)) → AreRead es → AreRead fs
+    → map edge_text fs ++ tail ≡ map edge_text es ++ more → (gs : List Edge) × (fs ≡ es ++ gs) × (more ≡ map edge_text gs ++ tail)
+go_over tail none [] fs more p q is = (fs, refl, sym is)
+go_over tail none (e ∷ es) [] more p q is = absurd (none e (map edge_text es ++ more) is)
+go_over tail none (e ∷ es) (f ∷ fs) more p q is =
     let a = AreRead-head e es p in
     let b = AreRead-head f fs q in
     let same = edge_apart f e b.0 a.0 b.1 a.1 (cc) in
-    let rest = go_on es fs more (AreRead-tail e es p) (AreRead-tail f fs q) (cc) in
+    let rest = go_over tail none es fs more (AreRead-tail e es p) (AreRead-tail f fs q) (cc) in
     (rest.0, (λ i. same i ∷ rest.1 i), rest.2)
+
+end_no_edge : (e : Edge) (rest : List (List ℕ)) → codes "end" ∷ [] ≡ edge_text e ∷ rest → ⊥
+end_no_edge e rest is = edge-ne_end e (sym (cc))
+
+-- the same of edge lines up to `end`
+go_on : (es fs : List Edge) (more : List (List ℕ)) → AreRead es → AreRead fs → map edge_text fs ++ codes "end" ∷ [] ≡ map edge_text es ++ more
+    → (gs : List Edge) × (fs ≡ es ++ gs) × (more ≡ map edge_text gs ++ codes "end" ∷ [])
+go_on es fs more p q is = go_over (codes "end" ∷ []) end_no_edge es fs more p q is
 
 -- the line `end` comes among no edge lines
 no_end_among : (es fs : List Edge) (more : List (List ℕ)) → map edge_text es ≡ map edge_text fs ++ codes "end" ∷ [] ++ more → ⊥

@@ -1,19 +1,18 @@
 -- Two right answers are equal: of a call that makes a network, and of one that reads it.
-use Rattle.std.proofs.Common.{◌≡◌, ℕ, ◌+◌, ◌-◌, ◌≤◌, List, ◌++◌, length, drop, refl, sym, ◌∙◌, ap, ⊎_elim, arith, length-drop, inl, inr}
+use Rattle.std.proofs.Common.{◌≡◌, ℕ, ◌+◌, ◌≤◌, List, ◌++◌, length, drop, refl, sym, ◌∙◌, ap, ⊎_elim, arith, length-drop, inl, inr}
 use Rattle.std.specs.Prelude.{Result, Ok, Err, ◌⊎◌, codes}
 use Rattle.std.proofs.lemmas.List.{append-nil, drop_all}
 use Rattle.bt_answers.specs.Answers.{UnlessMemory, Answers, AnswersAlways, HasOneAnswer}
 use Rattle.bt_answers.proofs.OneAnswer.{answers_of, answers_always_of}
 use Rattle.bt_net.specs.declared.fault.NetFault.{NetFault}
 use Rattle.bt_net.specs.declared.fault.NetFault.TheVariants.{NetLine, TooLarge, NoEnds, Memory}
-use Rattle.bt_net.specs.declared.network.TheConstants.{MOST_OF_EACH}
 use Rattle.bt_text.specs.Lines.{IsFirstLine}
 use Rattle.bt_net.specs.Network.{Network, IsWired, IsNetwork, IsLarge, LacksEnds, IsNetOf}
-use Rattle.bt_net.specs.NetText.{net_text, BeginsWithNet}
+use Rattle.bt_net.specs.NetText.{net_text}
 use Rattle.bt_net.specs.Refusals.{HeaderRefused, GoesOn, EdgesRefused, Refuses}
 use Rattle.bt_net.specs.inner.Lines.{IsStarted, SameSizes}
 use Rattle.bt_net.specs.Readings.{Reading, StandsAtFront, IsNetRead, whole_reading}
-use Rattle.bt_net.proofs.NetLines.{one_network, read_parts, HasSmallSizes-same}
+use Rattle.bt_net.proofs.NetLines.{one_network, HasSmallSizes-same}
 use Rattle.bt_net.proofs.Refusing.{Refuses-unique, Refuses-network, refused_first, refused_behind, refused_end}
 
 -- a network is not too large

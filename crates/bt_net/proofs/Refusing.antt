@@ -8,28 +8,25 @@ use Rattle.bt_text.proofs.FirstLines.{fork, BeginsWithLines-tail, BeginsWithLine
 use Rattle.bt_net.specs.declared.fault.NetFault.{NetFault}
 use Rattle.bt_net.specs.declared.fault.NetFault.TheVariants.{NetLine, TooLarge, NoEnds, Memory}
 use Rattle.bt_net.specs.declared.network.Edge.{Edge}
-use Rattle.bt_net.specs.Network.{Network, IsWired, IsNetwork, IsLarge, LacksEnds, IsNetOf}
+use Rattle.bt_net.specs.Network.{Network, IsWired, IsNetwork, IsNetOf}
 use Rattle.bt_net.specs.NetText.{edge_text, BeginsWithNet}
 use Rattle.bt_net.specs.declared.network.TheConstants.{MOST_OF_EACH}
 use Rattle.bt_net.specs.Refusals.{HeaderRefused, LineRefused, GoesOn, EdgesRefused, Refuses}
 use Rattle.bt_net.specs.Wiring.{IsPartlyWired, with_edge, HasSmallSizes}
 use Rattle.bt_net.specs.inner.Lines.{EdgeFits, IsStarted, SameSizes}
-use Rattle.bt_net.proofs.NetLines.{AreRead, AreRead-head, AreRead-tail, AreRead-partly, edge_apart, edge-lacks, edges-lack, edge-ne_end, same_network, one_more, All-at, header_stands, edges_stand, first_of_net, SameSizes-header, header-same, HasSmallSizes-same, HasSmallSizes-network}
+use Rattle.bt_net.proofs.NetLines.{AreRead, AreRead-partly, go_over, edge-lacks, edges-lack, edge-ne_end, same_network, one_more, All-at, header_stands, edges_stand, first_of_net, SameSizes-header, header-same, HasSmallSizes-same, HasSmallSizes-network}
+
+nothing_no_edge : (e : Edge) (rest : List (List ℕ)) → [] ≡ edge_text e ∷ rest → ⊥
+nothing_no_edge e rest is = cc
 
 -- edge lines that begin with the lines of some edges: these come first, and the others follow
 go_edges : (es fs : List Edge) (more : List (List ℕ)) → AreRead es → AreRead fs → map edge_text fs ≡ map edge_text es ++ more
     → (gs : List Edge) × (fs ≡ es ++ gs) × (more ≡ map edge_text gs)
-go_edges [] fs more p q is = (fs, refl, sym is)
-go_edges (e ∷ es) [] more p q is = absurd (cc)
-go_edges (e ∷ es) (f ∷ fs) more p q is =
-    let a = AreRead-head e es p in
-    let b = AreRead-head f fs q in
-    let same = edge_apart f e b.0 a.0 b.1 a.1 (cc) in
-    let rest = go_edges es fs more (AreRead-tail e es p) (AreRead-tail f fs q) (cc) in
-    (rest.0, (λ i. same i ∷ rest.1 i), rest.2)
+go_edges es fs more p q is =
+    let on = go_over [] nothing_no_edge es fs more p q (append-nil (map edge_text fs) ∙ is) in
+    (on.0, on.1, on.2 ∙ append-nil (map edge_text on.0))
 
--- the line behind the edges of one network so far, where the edges of another begin with these: the
--- networks are one, or it is the line of the other's next edge
+-- the line behind the edges of one network so far, where the edges of another begin with these: the networks are one, or it is the line of the other's next edge
 abbrev Behind : (n m : Network) (bytes rest s : List ℕ) → Type 0
 Behind n m bytes rest s = ((n ≡ m) × (rest ≡ s)) ⊎ ((g : Edge) × (bytes ≡ edge_text g) × IsPartlyWired (with_edge n g) × (length n.edges < MOST_OF_EACH))
 

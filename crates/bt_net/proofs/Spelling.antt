@@ -1,5 +1,5 @@
 -- What the words of a network's text spell.
-use Rattle.std.proofs.Common.{◌≡◌, ◌≢◌, ℕ, ◌-◌, ◌^◌, ◌<◌, ◌≤◌, min, List, [], ◌∷◌, ◌++◌, length, drop, refl, sym, ◌∙◌, ap, subst, arith}
+use Rattle.std.proofs.Common.{◌≡◌, ◌≢◌, ℕ, ◌-◌, ◌^◌, ◌<◌, ◌≤◌, min, List, [], ◌∷◌, ◌++◌, drop, refl, sym, ◌∙◌, ap, subst, arith}
 use Rattle.std.specs.Prelude.{codes, decimal}
 use Rattle.std.specs.Int.{IsInRange}
 use Rattle.std.proofs.lemmas.List.{append_assoc}
@@ -45,10 +45,10 @@ ends_of ends front back e fits splits is =
     (start-lacks 32 e.start fits.0 (λ r. omega (arith, r.0)) (λ e. omega arith) (λ e. omega arith))
     (sym splits.text_is ∙ is)
 
--- what follows the first word of an edge line
-pub after_edge : (text front rest : List ℕ) (e : Edge) → text ≡ front ++ rest → front ≡ codes "edge " → text ≡ edge_text e → rest ≡ start_text e.start ++ 32 ∷ target_text e.target
-after_edge text front rest e cut is all =
-    ap (drop 5) (sym (cut ∙ ap (λ f. f ++ rest) is) ∙ all) ∙ append_assoc (start_text e.start) (32 ∷ []) (target_text e.target)
+-- the two words of an edge line behind its first word
+pub edge_words : (text ends front back : List ℕ) (e : Edge) → EdgeFits e → text ≡ codes "edge " ++ ends → SplitsAt 32 ends front back → text ≡ edge_text e → (front ≡ start_text e.start) × (back ≡ target_text e.target)
+edge_words text ends front back e fits cut splits is =
+    ends_of ends front back e fits splits (ap (drop 5) (sym cut ∙ is) ∙ append_assoc (start_text e.start) (32 ∷ []) (target_text e.target))
 
 three_words : (a b c : List ℕ) → a ++ 32 ∷ [] ++ b ++ 32 ∷ [] ++ c ≡ a ++ 32 ∷ (b ++ 32 ∷ c)
 three_words a b c = simp append_assoc

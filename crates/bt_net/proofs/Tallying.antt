@@ -10,7 +10,7 @@ use Rattle.bt_net.specs.declared.network.Start.{Start}
 use Rattle.bt_net.specs.declared.network.Start.TheVariants as from
 use Rattle.bt_net.specs.declared.network.Target.{Target}
 use Rattle.bt_net.specs.declared.network.Target.TheVariants as to
-use Rattle.bt_net.specs.Network.{Network, IsWired, StartsIn, EndsIn, is_input, is_output, leaves, enters}
+use Rattle.bt_net.specs.Network.{IsWired, StartsIn, EndsIn, is_input, is_output, leaves, enters}
 use Rattle.bt_net.specs.Wiring.{IsPartlyWired}
 use Rattle.bt_net.specs.inner.Tallies.{AreTallied, tallied, IsFreeStart, IsFreeTarget}
 

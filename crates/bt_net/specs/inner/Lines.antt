@@ -1,5 +1,5 @@
 -- What the lines of a network's text say while they are read.
-use Rattle.std.specs.Prelude.{◌≡◌, ◌≢◌, ℕ, ◌<◌, ◌^◌, List, [], codes, length, Option, Some, None, Result, Ok, Err}
+use Rattle.std.specs.Prelude.{◌≡◌, ℕ, ◌<◌, ◌^◌, List, [], codes, length, Option, Some, None, Result, Ok, Err}
 use Rattle.bt_frac.specs.Numbers.{IsLimited}
 use Rattle.bt_net.specs.declared.fault.NetFault.{NetFault}
 use Rattle.bt_net.specs.declared.network.Edge.{Edge}

@@ -1,18 +1,11 @@
-use Rattle.std.proofs.Common.{rules, ◌≡◌, ◌/◌, ◌∙◌, subst, FitsSigned}
+use Rattle.std.proofs.Common.{rules, ◌/◌, ◌∙◌, FitsSigned}
 use Rattle.std.specs.Int.{w128}
 use Rattle.std.proofs.lemmas.Int.{to_z-of_z}
 use Rattle.std.proofs.Math.Nat.{div-mul_cancel, dvd-mul_right_of_dvd}
-use Rattle.bt_frac.specs.Ratio.{Ratio, IsSum}
 use Rattle.bt_frac.proofs.Gcds.{sum_is, quotient_positive, gcd_positive}
 use Rattle.bt_frac.proofs.Over.{under_positive}
-use Rattle.bt_frac.proofs.Sums.{shares, short_fits, same_is}
+use Rattle.bt_frac.proofs.Sums.{shares, short_fits, same_is, sum_seen}
 use Rattle.bt_frac.proofs.frac.Frac.add_short.Goals as goal
-
-seen : {a a' b b' : Ratio} (P : Ratio → Ratio → Type 0) → a ≡ a' → b ≡ b' → P a b → P a' b'
-seen {a} {a'} {b} {b'} P ea eb p = subst (λ y. P a' y) eb (subst (λ x. P x b) ea p)
-
-Summed : Ratio → Ratio → Ratio → Type 0
-Summed r a b = IsSum a b r
 
 pub returns-then-self-other-clause-fits : goal.returns-then-self-other-clause-fits
 returns-then-self-other-clause-fits c = short_fits _ _ c.requires.self_short c.requires.other_short
@@ -21,7 +14,6 @@ pub returns-clause-fits : goal.returns-clause-fits
 returns-clause-fits c = short_fits _ _ c.requires.self_short c.requires.other_short
 
 pub returns-then-self-other-clause-sum : goal.returns-then-self-other-clause-sum
-unfolding Summed
 returns-then-self-other-clause-sum c =
     let small = c.self.invariant.over_fits in
     let small' = c.other.invariant.over_fits in
@@ -30,7 +22,7 @@ returns-then-self-other-clause-sum c =
     let sum_fits : FitsSigned w128 c.short_plus.result = search rules in
     let sum = simp to_z-of_z at c.short_plus.ensures.sum in
     let over = simp to_z-of_z at c.lowest.ensures.reduces.1 in
-    seen (Summed c.lowest.result) c.self.view_is c.other.view_is
+    sum_seen c.lowest.result c.self.view_is c.other.view_is
     (same_is c.self.inside.over c.other.inside.over c.lowest.result.over c.self.inside.under c.other.inside.under c.lowest.result.under c.lowest.ensures.reduces.0
     c.if-self-other.true (over ∙ sum) c.lowest.ensures.reduces.2)
 
@@ -63,7 +55,6 @@ lowest-requires-2-clause-holds c =
     simp to_z-of_z (simp (sum', c.quotient-left_factor.ensures) (shares _ _ c.gcd-common.result c.self.invariant c.other.invariant c.gcd-common.ensures))
 
 pub returns-clause-sum : goal.returns-clause-sum
-unfolding Summed
 returns-clause-sum c =
     let small = c.self.invariant.over_fits in
     let small' = c.other.invariant.over_fits in
@@ -80,7 +71,7 @@ returns-clause-sum c =
     let under = simp c.quotient-left_factor.ensures at c.lowest-2.ensures.reduces.2 in
     let common = c.gcd-common.ensures in
     let by = c.gcd-common.result in
-    seen (Summed c.lowest-2.result) c.self.view_is c.other.view_is
+    sum_seen c.lowest-2.result c.self.view_is c.other.view_is
     (sum_is c.self.inside.over c.other.inside.over c.lowest-2.result.over c.self.inside.under c.other.inside.under c.lowest-2.result.under
     (c.self.inside.under / by) (c.other.inside.under / by) by c.lowest-2.ensures.reduces.0
     (div-mul_cancel by common.0) (div-mul_cancel by common.1) (over ∙ sum') under)

@@ -1,37 +1,27 @@
-use Rattle.std.proofs.Common.{rules, ◌≡◌, ◌/◌, ◌∙◌, subst, FitsSigned}
+use Rattle.std.proofs.Common.{rules, ◌/◌, ◌∙◌, FitsSigned}
 use Rattle.std.specs.Int.{w128}
 use Rattle.std.proofs.lemmas.Int.{to_z-of_z}
 use Rattle.std.proofs.Math.Nat.{div-mul_cancel, dvd-mul_right_of_dvd}
-use Rattle.bt_frac.specs.Ratio.{Ratio, AddNumbers, AddFits, IsSum}
 use Rattle.bt_frac.proofs.Gcds.{wrong_left, wrong_right, wrong_sum, wrong_under, all_fit, sum_is, quotient_positive, gcd_positive}
 use Rattle.bt_frac.proofs.Over.{under_positive}
-use Rattle.bt_frac.proofs.Sums.{shares}
+use Rattle.bt_frac.proofs.Sums.{shares, sum_seen, wide_seen, can_add_seen}
 use Rattle.bt_frac.proofs.frac.Frac.add_wide.Goals as goal
 
-Wrong : Ratio → Ratio → Type 0
-Wrong a b = (n : AddNumbers a b) × (AddFits n → ⊥)
-
-seen : {a a' b b' : Ratio} (P : Ratio → Ratio → Type 0) → a ≡ a' → b ≡ b' → P a b → P a' b'
-seen {a} {a'} {b} {b'} P ea eb p = subst (λ y. P a' y) eb (subst (λ x. P x b) ea p)
-
 pub returns-in_default-clause-none : goal.returns-in_default-clause-none
-unfolding Wrong
 returns-in_default-clause-none c =
     let small = c.self.invariant.over_fits in
     let fits : FitsSigned w128 c.self.inside.over = search rules in
     let refused = simp (to_z-of_z, c.quotient-left_factor.ensures) at c.in_default.ensures.none in
-    seen Wrong c.self.view_is c.other.view_is (wrong_left _ _ c.gcd-common.result c.gcd-common.ensures refused)
+    wide_seen c.self.view_is c.other.view_is (wrong_left _ _ c.gcd-common.result c.gcd-common.ensures refused)
 
 pub returns-in_default-times-clause-none : goal.returns-in_default-times-clause-none
-unfolding Wrong
 returns-in_default-times-clause-none c =
     let small = c.other.invariant.over_fits in
     let fits : FitsSigned w128 c.other.inside.over = search rules in
     let refused = simp (to_z-of_z, c.quotient-right_factor.ensures) at c.in_default-times.ensures.none in
-    seen Wrong c.self.view_is c.other.view_is (wrong_right _ _ c.gcd-common.result c.gcd-common.ensures refused)
+    wide_seen c.self.view_is c.other.view_is (wrong_right _ _ c.gcd-common.result c.gcd-common.ensures refused)
 
 pub returns-in_default-plus-clause-none : goal.returns-in_default-plus-clause-none
-unfolding Wrong
 returns-in_default-plus-clause-none c =
     let small = c.self.invariant.over_fits in
     let small' = c.other.invariant.over_fits in
@@ -43,13 +33,12 @@ returns-in_default-plus-clause-none c =
     let right_fits : FitsSigned w128 c.in-Some-times.right = search rules in
     let refused = simp to_z-of_z at c.in_default-plus.ensures.none in
     let refused' = simp (left, right) at refused in
-    seen Wrong c.self.view_is c.other.view_is (wrong_sum _ _ c.gcd-common.result c.gcd-common.ensures refused')
+    wide_seen c.self.view_is c.other.view_is (wrong_sum _ _ c.gcd-common.result c.gcd-common.ensures refused')
 
 pub returns-in_default-times_unsigned-clause-none : goal.returns-in_default-times_unsigned-clause-none
-unfolding Wrong
 returns-in_default-times_unsigned-clause-none c =
     let refused = simp c.quotient-left_factor.ensures at c.in_default-times_unsigned.ensures.none in
-    seen Wrong c.self.view_is c.other.view_is (wrong_under _ _ c.gcd-common.result c.gcd-common.ensures refused)
+    wide_seen c.self.view_is c.other.view_is (wrong_under _ _ c.gcd-common.result c.gcd-common.ensures refused)
 
 pub quotient-left_factor-requires : goal.quotient-left_factor-requires
 quotient-left_factor-requires c = gcd_positive _ _ _ c.gcd-common.ensures c.other.invariant.positive
@@ -83,11 +72,7 @@ lowest-requires-clause-holds c =
     let under = simp c.quotient-left_factor.ensures at c.in-Some-times_unsigned.ensures.some.0 in
     simp to_z-of_z (simp (sum', under) (shares _ _ c.gcd-common.result c.self.invariant c.other.invariant c.gcd-common.ensures))
 
-Fitting : Ratio → Ratio → Type 0
-Fitting a b = (n : AddNumbers a b) × AddFits n
-
 pub returns-clause-fits : goal.returns-clause-fits
-unfolding Fitting
 returns-clause-fits c =
     let small = c.self.invariant.over_fits in
     let small' = c.other.invariant.over_fits in
@@ -104,13 +89,9 @@ returns-clause-fits c =
     let q = simp right at c.in-Some-times.ensures.some.1 in
     let r = simp sum' at c.in-Some-plus.ensures.some.1 in
     let s = simp under at c.in-Some-times_unsigned.ensures.some.1 in
-    seen Fitting c.self.view_is c.other.view_is (all_fit _ _ c.gcd-common.result c.gcd-common.ensures p q r s)
-
-Summed : Ratio → Ratio → Ratio → Type 0
-Summed r a b = IsSum a b r
+    can_add_seen c.self.view_is c.other.view_is (all_fit _ _ c.gcd-common.result c.gcd-common.ensures p q r s)
 
 pub returns-clause-sum : goal.returns-clause-sum
-unfolding Summed
 returns-clause-sum c =
     let small = c.self.invariant.over_fits in
     let small' = c.other.invariant.over_fits in
@@ -126,7 +107,7 @@ returns-clause-sum c =
     let over = simp to_z-of_z at c.lowest.ensures.reduces.1 in
     let common = c.gcd-common.ensures in
     let by = c.gcd-common.result in
-    seen (Summed c.lowest.result) c.self.view_is c.other.view_is
+    sum_seen c.lowest.result c.self.view_is c.other.view_is
     (sum_is c.self.inside.over c.other.inside.over c.lowest.result.over c.self.inside.under c.other.inside.under c.lowest.result.under
     (c.self.inside.under / by) (c.other.inside.under / by) by c.lowest.ensures.reduces.0
     (div-mul_cancel by common.0) (div-mul_cancel by common.1) (over ∙ sum') (c.lowest.ensures.reduces.2 ∙ simp c.quotient-left_factor.ensures at c.in-Some-times_unsigned.ensures.some.0))
