@@ -94,9 +94,6 @@ module _ (p : Edge → Bool) (es : List Edge) (fs : List Ratio) (same : length f
 pub sum_one : (z x r : Ratio) → z ≡ nothing → AddsTo z x r → RunsTo nothing (x ∷ []) r
 sum_one z x r e h = (r, subst (λ q. AddsTo q x r) e h, refl)
 
-pub sum_two : (z x y q r : Ratio) → z ≡ nothing → AddsTo z x q → AddsTo q y r → RunsTo nothing (x ∷ y ∷ []) r
-sum_two z x y q r e h k = (q, subst (λ p. AddsTo p x q) e h, (r, k, refl))
-
 pub wide_first : (z x left right : Ratio) (rest : List Ratio) → z ≡ nothing → (left ≡ z) × (right ≡ x) × IsWide z x → IsWideIn left right (x ∷ rest)
 wide_first z x left right rest e w =
     subst (λ y. IsWideIn left y (x ∷ rest)) (sym w.1) (wide_at (x ∷ rest) [] rest left x refl (sym e ∙ sym w.0) (subst (λ y. IsWide y x) (sym w.0) w.2))

@@ -32,9 +32,6 @@ module _ (n : Network) (ports : Ports) (t : Fractions) (flows : List Ratio) (rea
   pub has_room : k < n.outputs → k < length t.rooms
   has_room l = let e = ready.fits.rooms in omega (arith, e, l)
 
-  pub has_flow : k < length n.edges → k < length t.flows
-  has_flow l = let e = ready.fits.flows in omega (arith, e, l)
-
   pub flows_below : (r : Role) (port : Port) → IsPort n r k port → AtEach port (λ a. a < length t.flows)
   flows_below r port is = port_below n r k port is (length t.flows) ready.fits.flows
 

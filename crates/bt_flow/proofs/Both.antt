@@ -1,5 +1,5 @@
 -- Answers of tests that are joined, and of a test at each edge of a port.
-use Rattle.std.proofs.Common.{◌≡◌, ℕ, Bool, true, false, IsTrue, ◌↔◌, sym, subst, refl, ◌∙◌}
+use Rattle.std.proofs.Common.{◌≡◌, ℕ, Bool, true, false, IsTrue, ◌↔◌, sym, subst, ◌∙◌}
 use Rattle.std.specs.List.{AllByRecursion}
 use Rattle.std.proofs.lemmas.Bool.{false≢true}
 use Rattle.bt_flow.specs.declared.ports.Port.{Port}
@@ -17,9 +17,6 @@ passes_first b c e h k = (λ t. (h.0 e, k.0 t), λ pq. k.1 pq.1)
 -- a claim that is as good as another
 pub instead : {P Q : Type 0} (b : Bool) → IsTrue b ↔ P → (P → Q) → (Q → P) → IsTrue b ↔ Q
 instead b h f g = (λ t. f (h.0 t), λ q. h.1 (g q))
-
-pub always : (P : Type 0) → P → IsTrue true ↔ P
-always P p = (λ t. p, λ q. refl)
 
 pub port_one : (P : ℕ → Type 0) (port : Port) (a : ℕ) (b : Bool) → port ≡ One a → IsTrue b ↔ P a → IsTrue b ↔ AllByRecursion P (numbers_of port)
 port_one P port a b e h = subst (λ p. IsTrue b ↔ AllByRecursion P (numbers_of p)) (sym e) (λ t. (h.0 t, tt), λ q. h.1 q.0)

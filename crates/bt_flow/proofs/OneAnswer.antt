@@ -150,7 +150,3 @@ pub one_steady_answer : (n : Network) (t : Fractions) → HasOneAnswer (IsSteady
 one_steady_answer n t x y h k =
     let some = steady_some n t x h in
     one_answer n Unlimited t some.0 some.1 2 8 x y (steady_answers n t some.0 some.1 x h) (steady_answers n t some.0 some.1 y k)
-
--- a state that fails a test doesn't break the property
-pub fails_not_breaks : (n : Network) (p : Property) (s : Flows) (t : Test) (a : ℕ) → FailsFirst n p s 0 9 t a → Breaks n p s → ⊥
-fails_not_breaks n p s t a h b = h.fails (breaks_pass n p s b t a h.place)

@@ -48,10 +48,6 @@ module _ (n : Network) (s : Flows) (edges : List Edge) (a : ℕ) (d : Edge) (sam
     λ _. refl,
   )
 
-  -- the edge has the other mark
-  pub evens_other : (r : Role) (mark : Bool) (v : Bool) → v ≡ true → (backed_at s a ≡ mark → ⊥) → IsTrue v ↔ Evens n s r mark a
-  evens_other r mark v e other = (λ t k b x f h g o p q m. absurd (other m), λ _. e)
-
   -- the edge has the mark, and no edge of the port of its splitter has a greater flow
   pub evens_at : (r : Role) (mark : Bool) (k : ℕ) (port : Port) → ((m : ℕ) → plays r m (get_or edges a d) ≡ (k == m)) → IsPort n r k port → backed_at s a ≡ mark
       → (v : Bool) → IsTrue v ↔ AllByRecursion (λ b. flow_at s b ≤ℤ flow_at s a) (numbers_of port) → IsTrue v ↔ Evens n s r mark a
@@ -71,9 +67,6 @@ module _ (n : Network) (s : Flows) (edges : List Edge) (a : ℕ) (d : Edge) (sam
     λ t k b e f h g p q m. absurd (false≢true (sym (none k) ∙ subst (λ x. IsTrue (enters k x)) (sym (it_is e h)) p)),
     λ _. refl,
   )
-
-  pub backs_free : (v : Bool) → v ≡ true → backed_at s a ≡ false → IsTrue v ↔ Backs n s a
-  backs_free v e free = (λ t k b x f h g p q m. absurd (false≢true (sym free ∙ m)), λ _. e)
 
   pub backs_at : (k : ℕ) (port : Port) → ((m : ℕ) → enters m (get_or edges a d) ≡ (k == m)) → IsPort n OutOf k port → backed_at s a ≡ true
       → (v : Bool) → IsTrue v ↔ AllByRecursion (λ b. (f : Edge) → HasEdge n b f → Stops s b f) (numbers_of port) → IsTrue v ↔ Backs n s a

@@ -1,8 +1,8 @@
 -- Pieces of a text, and words of a line, each after a space.
-use Rattle.std.proofs.Common.{◌≡◌, ◌≢◌, ℕ, ◌+◌, ◌-◌, ◌<◌, ◌≤◌, List, [], ◌∷◌, ◌++◌, length, map, refl, sym, ◌∙◌, ap, inl, inr, arith, append_assoc, append-nil}
+use Rattle.std.proofs.Common.{◌≡◌, ◌≢◌, ℕ, ◌+◌, ◌-◌, ◌<◌, List, [], ◌∷◌, ◌++◌, length, map, refl, sym, ◌∙◌, ap, inl, inr, arith, append_assoc, append-nil}
 use Rattle.std.specs.List.{All}
 use Rattle.std.proofs.lemmas.List.{length_push, map_push}
-use Rattle.std.proofs.lemmas.List.Elements.{All-head, All-tail, All-push, All-nil}
+use Rattle.std.proofs.lemmas.List.Elements.{All-head, All-tail, All-push}
 use Rattle.bt_text.specs.Lines.{Lacks}
 use Rattle.bt_text.specs.Pieces.{BeginsWith, LeadsTo}
 use Rattle.bt_flow.specs.StateText.{spaced}
@@ -54,14 +54,6 @@ pub record Walks {A : Type 0} (P : A → Type 0) (word : A → List ℕ) (count 
   pub front : text ≡ spaced (map word items) ++ rest
   pub later : (all : List A) → SpellsItems P word count text all → (left : List A) × SpellsItems P word (count - done) rest left
 
-pub walk_begins : {A : Type 0} (P : A → Type 0) (word : A → List ℕ) (count : ℕ) (text : List ℕ) → Walks P word count text [] 0 text
-walk_begins P word count text = record {
-  counted = refl;
-  meets = All-nil P;
-  front = refl;
-  later = λ all h. (all, record { counted = omega (arith, h.counted); meets = h.meets; text_is = h.text_is });
-}
-
 -- the word of the first item that is left comes next
 first_word : {A : Type 0} (P : A → Type 0) (word : A → List ℕ) → HaveNoSpace P word → (left : ℕ) (rest : List ℕ) (y : A) (ys : List A)
     → SpellsItems P word left rest (y ∷ ys) → LeadsToItem P word rest y (spaced (map word ys))
@@ -104,18 +96,6 @@ walk_misses {A = A} P word lacks count text items done rest walk more none all h
     nothing : (left : List A) → SpellsItems P word (count - done) rest left → ⊥
     nothing [] h = let counted = h.counted in omega arith
     nothing (y ∷ ys) h = none y (spaced (map word ys)) (first_word P word lacks (count - done) rest y ys h)
-
--- or more follows
-pub walk_goes_on : {A : Type 0} (P : A → Type 0) (word : A → List ℕ)
-    → (count : ℕ) (text : List ℕ) (items : List A) (done : ℕ) (rest : List ℕ)
-    → Walks P word count text items done rest → count ≤ done → (rest ≡ [] → ⊥)
-    → (all : List A) → SpellsItems P word count text all → ⊥
-walk_goes_on {A = A} P word count text items done rest walk all_done some all h =
-    let left = walk.later all h in nothing left.0 left.1
-  where
-    nothing : (left : List A) → SpellsItems P word (count - done) rest left → ⊥
-    nothing [] h = some h.text_is
-    nothing (y ∷ ys) h = let counted = h.counted in omega arith
 
 pub walk_ends : {A : Type 0} (P : A → Type 0) (word : A → List ℕ)
     → (count : ℕ) (text : List ℕ) (items : List A) (done : ℕ) (rest : List ℕ)
