@@ -107,7 +107,8 @@ fn push_half(
     requires partners { ArePartners grid.now pairs.now }
     requires clean { IsClean grid.now }
     requires count { length numbers.now ≡ length grid.now }
-    ensures { OnOk result (AddsEdge grid.now numbers.now (leaves s half) start edges.old.items edges.new.items) }
+    ensures { OnOk result
+        (AddsEdge grid.now numbers.now (leaves s half) start edges.old.items edges.new.items) }
 {
     let Some(target) = target_from_half(grid, pairs, numbers, s, half) else {
         return Ok(());
