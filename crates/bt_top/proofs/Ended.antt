@@ -1,5 +1,5 @@
 -- How the program ends, from what it answered and what it told the sink.
-use Rattle.std.proofs.Common.{◌≡◌, ◌≢◌, ℕ, ◌+◌, ◌≤◌, List, length, Result, Ok, Err, Some, ◌⊎◌, inl, inr, refl, ap, sym, subst, ◌∙◌, arith}
+use Rattle.std.proofs.Common.{◌≡◌, ◌≢◌, ℕ, ◌+◌, ◌≤◌, List, length, Result, Ok, Err, Some, ◌⊎◌, inl, inr, refl, sym, subst, arith}
 use Rattle.bt_io.specs.Bytes.{ReadsAll, WritesText}
 use Rattle.bt_io.specs.Passages.{Passage}
 use Rattle.bt_io.specs.declared.fault.ReadAll.{ReadAll}
@@ -10,7 +10,7 @@ use Rattle.bt_top.specs.declared.answer.Answer.TheVariants as answer
 use Rattle.bt_top.specs.declared.command.Command.{Command}
 use Rattle.bt_top.specs.declared.program.TheConstants.{READ_FAULT, NO_MEMORY}
 use Rattle.bt_top.specs.Answers.{status_of, text_of}
-use Rattle.bt_top.specs.Commands.{IsCommand, IsUsage, input_limit}
+use Rattle.bt_top.specs.Commands.{IsCommand, input_limit}
 use Rattle.bt_top.specs.Inputs.{IsRightTo}
 use Rattle.bt_top.specs.Endings.{IsRight, no_command, too_long, to_bytes, IsTold, IsUntouched, IsEnding, told, read_fault, no_memory, Ends}
 use Rattle.bt_top.specs.inner.Telling.{IsAnswered, IsAnsweredTo, IsToldUnlessMemory, IsLineTold}

@@ -1,5 +1,5 @@
 -- A command has one answer to the bytes of its input.
-use Rattle.std.proofs.Common.{◌≡◌, ℕ, List, [], length, drop, inl, inr, ap, sym, subst, ◌∙◌, arith, Ok}
+use Rattle.std.proofs.Common.{◌≡◌, ℕ, List, length, drop, inl, inr, ap, sym, subst, ◌∙◌, arith, Ok}
 use Rattle.bt_answers.specs.Answers.{HasOneAnswer}
 use Rattle.bt_net.specs.Network.{Network}
 use Rattle.bt_flow.specs.declared.property.Property.{Property}
@@ -12,7 +12,7 @@ use Rattle.bt_top.specs.declared.command.Command.{Command}
 use Rattle.bt_top.specs.declared.command.Command.TheVariants.{FlowCheck, Recover}
 use Rattle.bt_top.specs.declared.refusal.Refusal.{Refusal}
 use Rattle.bt_top.specs.Designs.{IsDesign}
-use Rattle.bt_top.specs.Inputs.{Reply, verdict, design_told, state_told, IsJudged, IsStateChecked, IsChecked, IsRefusedAt, IsEnded, IsRecoveredFrom, IsRightTo}
+use Rattle.bt_top.specs.Inputs.{verdict, design_told, state_told, IsJudged, IsStateChecked, IsChecked, IsRefusedAt, IsEnded, IsRecoveredFrom, IsRightTo}
 use Rattle.bt_top.specs.Steps.{InTurn}
 use Rattle.bt_top.proofs.Blanks.{one_rest}
 use Rattle.bt_top.proofs.InTurns.{one_in_turn}

@@ -1,5 +1,5 @@
 -- Bytes have one design at their front, or one refusal.
-use Rattle.std.proofs.Common.{◌≡◌, ℕ, List, inl, inr, ap, sym, ◌∙◌}
+use Rattle.std.proofs.Common.{ℕ, List, inl, inr, ap, sym, ◌∙◌}
 use Rattle.bt_answers.specs.Answers.{HasOneAnswer, seen}
 use Rattle.bt_json.specs.Json.{Json}
 use Rattle.bt_json.specs.Answers.{IsRead}

@@ -1,5 +1,4 @@
-use Rattle.std.proofs.Common.{◌≡◌, ℕ, List, refl, ap, Ok, Err, alloc_error}
-use Rattle.bt_answers.specs.Answers.{UnlessMemory}
+use Rattle.std.proofs.Common.{refl, alloc_error}
 use Rattle.bt_flow.specs.StateReading.{IsStateRead}
 use Rattle.bt_flow.specs.declared.fault.StateFault.TheVariants as state
 use Rattle.bt_top.specs.Inputs.{IsJudged, IsStateChecked, state_told}
