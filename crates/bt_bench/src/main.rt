@@ -20,8 +20,14 @@ const INPUT_LIMIT: usize = 1 << 30;
 
 /// What a loop comes to.
 enum Outcome {
-    Sum(Frac),
+    /// A fraction's numerator and denominator.
+    Sum(i128, i128),
     Count(usize),
+}
+
+/// The outcome that is this fraction.
+fn fraction(sum: Frac) -> Outcome {
+    Outcome::Sum(sum.numerator(), sum.denominator())
 }
 
 /// The place after the value at the front of a text, which is read in each round. The value is let go
@@ -76,8 +82,8 @@ fn outcome_of<S: Source>(
     source: &mut S,
 ) -> Option<Outcome> {
     match name {
-        "add-small" => repeated_sum(&small_fractions(alloc).ok()?, rounds).map(Outcome::Sum),
-        "add-wide" => repeated_sum(&wide_fractions(alloc).ok()?, rounds).map(Outcome::Sum),
+        "add-small" => repeated_sum(&small_fractions(alloc).ok()?, rounds).map(fraction),
+        "add-wide" => repeated_sum(&wide_fractions(alloc).ok()?, rounds).map(fraction),
         _ => {
             let text = read_all(alloc, source, INPUT_LIMIT).ok()?;
             match name {
@@ -100,7 +106,7 @@ fn main(rt: HostRuntime) -> io::Result<()> {
     let rounds = rounds.as_str().parse::<u64>().unwrap_or(0);
     let mut source = StdSource::new(rt.stdin());
     match outcome_of(rt.alloc(), name.as_str(), rounds, &mut source) {
-        Some(Outcome::Sum(sum)) => println!(rt; "{}/{}", sum.numerator(), sum.denominator()),
+        Some(Outcome::Sum(over, under)) => println!(rt; "{over}/{under}"),
         Some(Outcome::Count(count)) => println!(rt; "{count}"),
         None => println!(rt; "failed"),
     }
