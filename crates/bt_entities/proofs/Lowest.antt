@@ -5,14 +5,14 @@ use Rattle.bt_json.specs.Json.{Json, Number}
 use Rattle.bt_parts.specs.declared.part.Dir.{Dir}
 use Rattle.bt_parts.specs.declared.part.Tier.{Tier}
 use Rattle.bt_entities.specs.declared.fault.EntityFault.{EntityFault}
-use Rattle.bt_entities.specs.declared.fault.EntityFault.TheVariants.{Unsupported, BadMember, OffGrid, MixedTier, Special}
+use Rattle.bt_entities.specs.declared.fault.EntityFault.TheVariants.{Unsupported, BadMember, OffGrid, Special}
 use Rattle.bt_entities.specs.declared.fault.Member.{Member}
 use Rattle.bt_entities.specs.declared.fault.Member.TheVariants.{Entity, Name, Position, Direction, PieceType}
 use Rattle.bt_entities.specs.declared.name.Family.{Family}
 use Rattle.bt_entities.specs.Members.{HasText}
 use Rattle.bt_entities.specs.Names.{name_of}
 use Rattle.bt_entities.specs.Entities.{HasDirection, HasPosition}
-use Rattle.bt_entities.specs.Refusals.{IsFault, IsLowest, IsUnsupported, IsWrong, IsSpecial, IsFirst, IsBadMember, IsOffGrid, IsMixed, IsFirstSpecial, tested_members, special_members, number_of_fault}
+use Rattle.bt_entities.specs.Refusals.{IsFault, IsLowest, IsUnsupported, IsWrong, IsSpecial, IsFirst, IsBadMember, IsOffGrid, IsFirstSpecial, tested_members, special_members, number_of_fault}
 use Rattle.bt_entities.specs.inner.Pieces.{IsWrongPriority}
 use Rattle.bt_entities.proofs.Unique.{object_of, same_text}
 
@@ -32,7 +32,6 @@ pub record Passes (major : ℕ) (first v : Json) (n : ℕ) : Type 0 where
   pub named : 23 < n → IsNamed v
   pub right : 24 < n → (m : Member) → ¬ IsWrong major v m
   pub on_grid : 25 < n → ¬ IsOffGrid major first v
-  pub same_tier : 26 < n → ¬ IsMixed first v
   pub plain : 27 < n → (m : Member) → ¬ IsSpecial v m
 
 pub none_below : (major : ℕ) (first : Json) (i : ℕ) (v : Json) (n : ℕ) → Passes major first v n
@@ -40,7 +39,6 @@ pub none_below : (major : ℕ) (first : Json) (i : ℕ) (v : Json) (n : ℕ) →
 none_below major first i v n p (Unsupported at name) lt f = p.named lt name f.1
 none_below major first i v n p (BadMember at member) lt f = none_first (IsWrong major v) tested_members member (p.right lt) f.1
 none_below major first i v n p (OffGrid at) lt f = p.on_grid lt f.1
-none_below major first i v n p (MixedTier at) lt f = p.same_tier lt f.1
 none_below major first i v n p (Special at member) lt f = none_first (IsSpecial v) special_members member (p.plain lt) f.1
 none_below major first i v n p other lt f = f
 
@@ -54,7 +52,6 @@ lowest_unsupported major first i v name h = lowest major first i v (Unsupported 
   named = λ lt. absurd (omega arith);
   right = λ lt. absurd (omega arith);
   on_grid = λ lt. absurd (omega arith);
-  same_tier = λ lt. absurd (omega arith);
   plain = λ lt. absurd (omega arith);
 }) (refl, h)
 
@@ -63,7 +60,6 @@ lowest_bad major first i v member n h = lowest major first i v (BadMember i memb
   named = λ _. n;
   right = λ lt. absurd (omega arith);
   on_grid = λ lt. absurd (omega arith);
-  same_tier = λ lt. absurd (omega arith);
   plain = λ lt. absurd (omega arith);
 }) (refl, h)
 
@@ -77,27 +73,15 @@ lowest_off major first i v r h = lowest major first i v (OffGrid i) (record {
   named = λ _. r.named;
   right = λ _. r.right;
   on_grid = λ lt. absurd (omega arith);
-  same_tier = λ lt. absurd (omega arith);
-  plain = λ lt. absurd (omega arith);
-}) (refl, h)
-
-pub lowest_mixed : (major : ℕ) (first : Json) (i : ℕ) (v : Json) → IsRight major v → ¬ IsOffGrid major first v → IsMixed first v
-    → IsLowest major first i v (MixedTier i)
-lowest_mixed major first i v r on h = lowest major first i v (MixedTier i) (record {
-  named = λ _. r.named;
-  right = λ _. r.right;
-  on_grid = λ _. on;
-  same_tier = λ lt. absurd (omega arith);
   plain = λ lt. absurd (omega arith);
 }) (refl, h)
 
 pub lowest_special : (major : ℕ) (first : Json) (i : ℕ) (v : Json) (member : Member) → IsRight major v → ¬ IsOffGrid major first v
-    → ¬ IsMixed first v → IsFirstSpecial v member → IsLowest major first i v (Special i member)
-lowest_special major first i v member r on same h = lowest major first i v (Special i member) (record {
+    → IsFirstSpecial v member → IsLowest major first i v (Special i member)
+lowest_special major first i v member r on h = lowest major first i v (Special i member) (record {
   named = λ _. r.named;
   right = λ _. r.right;
   on_grid = λ _. on;
-  same_tier = λ _. same;
   plain = λ lt. absurd (omega arith);
 }) (refl, h)
 

@@ -14,7 +14,7 @@ use Rattle.bt_parts.specs.declared.part.Part.{Part}
 use Rattle.bt_parts.specs.declared.part.Tier.{Tier}
 use Rattle.bt_entities.specs.declared.blueprint.TheConstants.{MOST_ENTITIES}
 use Rattle.bt_entities.specs.declared.fault.EntityFault.{EntityFault}
-use Rattle.bt_entities.specs.declared.fault.EntityFault.TheVariants.{NotBlueprint, Book, TooMany, Unsupported, BadMember, OffGrid, MixedTier, Special, Memory}
+use Rattle.bt_entities.specs.declared.fault.EntityFault.TheVariants.{NotBlueprint, Book, TooMany, Unsupported, BadMember, OffGrid, Special, Memory}
 use Rattle.bt_entities.specs.declared.fault.Member.{Member}
 use Rattle.bt_entities.specs.Entities.{IsInCell, IsEntity}
 use Rattle.bt_entities.specs.Blueprints.{IsVersion, HasMajor, HasEntities, IsBlueprint, AreParts, IsBlueprintOf}
@@ -184,7 +184,6 @@ same_fault major first i v (Unsupported at name) (Unsupported at' name') e a b =
 same_fault major first i v (BadMember at member) (BadMember at' member') e a b =
     ap (λ k. BadMember k member) (a.0 ∙ sym b.0) ∙ ap (λ m. BadMember at' m) (same_first (IsWrong major v) tested_members member member' a.1 b.1)
 same_fault major first i v (OffGrid at) (OffGrid at') e a b = ap (λ k. OffGrid k) (a.0 ∙ sym b.0)
-same_fault major first i v (MixedTier at) (MixedTier at') e a b = ap (λ k. MixedTier k) (a.0 ∙ sym b.0)
 same_fault major first i v (Special at member) (Special at' member') e a b =
     ap (λ k. Special k member) (a.0 ∙ sym b.0) ∙ ap (λ m. Special at' m) (same_first (IsSpecial v) special_members member member' a.1 b.1)
 same_fault major first i v NotBlueprint g e a b = absurd a

@@ -10,9 +10,8 @@ use Rattle.bt_parts.specs.declared.part.Kind.TheVariants.{Belt, Entrance, Exit, 
 use Rattle.bt_parts.specs.declared.part.Part.{Part}
 use Rattle.bt_parts.specs.declared.part.Tier.{Tier}
 use Rattle.bt_parts.specs.Cells.{IsInRange}
-use Rattle.bt_entities.specs.declared.blueprint.Frame.{Frame}
 use Rattle.bt_entities.specs.declared.fault.EntityFault.{EntityFault}
-use Rattle.bt_entities.specs.declared.fault.EntityFault.TheVariants.{NotBlueprint, OffGrid, MixedTier, Special}
+use Rattle.bt_entities.specs.declared.fault.EntityFault.TheVariants.{NotBlueprint, OffGrid, Special}
 use Rattle.bt_entities.specs.declared.fault.Member.{Member}
 use Rattle.bt_entities.specs.declared.fault.Member.TheVariants.{Entity, Name, Position, Direction, PieceType, InputPriority, OutputPriority, ControlBehavior, Filter}
 use Rattle.bt_entities.specs.declared.name.Family.TheVariants.{Belts, Undergrounds, Splitters}
@@ -24,11 +23,11 @@ use Rattle.bt_entities.specs.Members.{Lacks, HasMember, HasText}
 use Rattle.bt_entities.specs.Names.{name_of}
 use Rattle.bt_entities.specs.Places.{width_of, height_of, IsMiddle}
 use Rattle.bt_entities.specs.Entities.{HasFamily, HasTier, HasKind, IsHalves, IsPlaced, SetsShift, IsInCell, IsEven, IsSided, IsPlain, IsEntity}
-use Rattle.bt_entities.specs.Refusals.{IsFault, IsWrong, IsSpecial, IsOffGrid, IsMixed, IsFirstSpecial, IsLowest, number_of_fault}
-use Rattle.bt_entities.specs.inner.Pieces.{AreHalves, IsPriority, IsPiece, IsOn, HasShift, IsFrame, HasFrame}
+use Rattle.bt_entities.specs.Refusals.{IsFault, IsWrong, IsSpecial, IsOffGrid, IsFirstSpecial, IsLowest, number_of_fault}
+use Rattle.bt_entities.specs.inner.Pieces.{AreHalves, IsPriority, IsPiece, IsOn, HasShift, IsFirstShift}
 use Rattle.bt_entities.proofs.Unique.{object_of, same_text, same_kind, same_dir, same_tier, same_family, same_position, same_times, lacks_or_has}
 use Rattle.bt_entities.proofs.Middles.{same_middle, middle_near}
-use Rattle.bt_entities.proofs.Lowest.{IsNamed, named, IsRight, none_below, lowest_off, lowest_mixed, lowest_special}
+use Rattle.bt_entities.proofs.Lowest.{IsNamed, named, IsRight, none_below, lowest_off, lowest_special}
 
 halves_some : (n : Number) (o : Option ℤ) (z : ℤ) → AreHalves n o → IsHalves n z → o ≡ Some z
 halves_some n None z h i = absurd (h z i)
@@ -194,9 +193,6 @@ plain_special v p ControlBehavior s = lacks_or_has v (codes "control_behavior") 
 plain_special v p Filter s = lacks_or_has v (codes "filter") s.0 p.no_filter s.1
 plain_special v p other s = s
 
-one_tier : (first v : Json) (tier of_first : Tier) → HasTier v tier → HasTier first of_first → tier ≡ of_first → ¬ IsMixed first v
-one_tier first v tier of_first a b e m = m.4 (same_tier v m.0 tier m.2 a ∙ e ∙ sym (same_tier first m.1 of_first m.3 b))
-
 number_small : (fault : EntityFault) → number_of_fault fault < 29
 number_small NotBlueprint = omega arith
 number_small other = omega arith
@@ -209,7 +205,6 @@ entity_sound major first i v part e fault =
       named = λ _. tier_named v part.tier e.has_tier;
       right = λ _. piece_right major v p.0 p.1;
       on_grid = λ _ off. off part.cell e.in_cell;
-      same_tier = λ _. one_tier first v part.tier part.tier e.has_tier e.first_tier refl;
       plain = λ _. plain_special v e.plain;
     }) fault (number_small fault)
 
@@ -238,45 +233,37 @@ in_cell : (major : ℕ) (first v : Json) (piece : Piece) (shift : Shift) (cell :
     → IsOn piece shift cell → IsInCell major first v cell
 in_cell major first v piece shift cell p sets on = record { shift = shift; sets = sets; placed = on_placed major v piece shift cell p on }
 
-frame_none : (major : ℕ) (first v : Json) (set : Option Frame) → set ≡ None → HasFrame major first v set → v ≡ first
-frame_none major first v set e h = rw e at h
+is_first : (major : ℕ) (first v : Json) (set : Option Shift) → set ≡ None → IsFirstShift major first v set → v ≡ first
+is_first major first v set e h = rw e at h
 
--- entity 0 sets the frame
-pub first_frame : (major : ℕ) (first v : Json) (set : Option Frame) (piece : Piece) (shift : Shift) → set ≡ None → HasFrame major first v set
-    → IsPiece major v piece → HasShift piece shift → SetsShift major first shift × HasTier first piece.tier
-first_frame major first v set piece shift e h p s =
-    subst (λ w. SetsShift major w shift × HasTier w piece.tier) (frame_none major first v set e h) (sets_shift major v piece shift p s, p.has_tier)
+-- entity 0 sets the shift
+pub first_shift : (major : ℕ) (first v : Json) (set : Option Shift) (piece : Piece) (shift : Shift) → set ≡ None
+    → IsFirstShift major first v set → IsPiece major v piece → HasShift piece shift → SetsShift major first shift
+first_shift major first v set piece shift e h p s =
+    subst (λ w. SetsShift major w shift) (is_first major first v set e h) (sets_shift major v piece shift p s)
 
-pub told_first_off : (major : ℕ) (first : Json) (i : ℕ) (v : Json) (set : Option Frame) (piece : Piece) → set ≡ None → HasFrame major first v set
+pub told_first_off : (major : ℕ) (first : Json) (i : ℕ) (v : Json) (set : Option Shift) (piece : Piece) → set ≡ None → IsFirstShift major first v set
     → IsPiece major v piece → ((shift : Shift) (cell : Cell) → ¬ IsOn piece shift cell) → IsLowest major first i v (OffGrid i)
 told_first_off major first i v set piece e h p none =
-    subst (λ w. IsLowest major w i v (OffGrid i)) (frame_none major first v set e h) (lowest_off major v i v (right_of major v piece p) (first_off major v piece p none))
+    subst (λ w. IsLowest major w i v (OffGrid i)) (is_first major first v set e h) (lowest_off major v i v (right_of major v piece p) (first_off major v piece p none))
 
-pub told_off : (major : ℕ) (first : Json) (i : ℕ) (v : Json) (piece : Piece) (frame : Frame) → IsPiece major v piece → IsFrame major first frame
-    → ((cell : Cell) → ¬ IsOn piece frame.shift cell) → IsLowest major first i v (OffGrid i)
-told_off major first i v piece frame p f none =
-    lowest_off major first i v (right_of major v piece p) (off_grid major first v piece frame.shift p f.0 none)
+pub told_off : (major : ℕ) (first : Json) (i : ℕ) (v : Json) (piece : Piece) (shift : Shift) → IsPiece major v piece → SetsShift major first shift
+    → ((cell : Cell) → ¬ IsOn piece shift cell) → IsLowest major first i v (OffGrid i)
+told_off major first i v piece shift p s none =
+    lowest_off major first i v (right_of major v piece p) (off_grid major first v piece shift p s none)
 
-pub told_mixed : (major : ℕ) (first : Json) (i : ℕ) (v : Json) (piece : Piece) (frame : Frame) (cell : Cell) → IsPiece major v piece → IsFrame major first frame
-    → IsOn piece frame.shift cell → piece.tier ≢ frame.tier → IsLowest major first i v (MixedTier i)
-told_mixed major first i v piece frame cell p f on ne =
-    lowest_mixed major first i v (right_of major v piece p) (λ off. off cell (in_cell major first v piece frame.shift cell p f.0 on))
-    (piece.tier, frame.tier, p.has_tier, f.1, ne)
+pub told_special : (major : ℕ) (first : Json) (i : ℕ) (v : Json) (piece : Piece) (shift : Shift) (cell : Cell) (member : Member)
+    → IsPiece major v piece → SetsShift major first shift → IsOn piece shift cell → IsFirstSpecial v member → IsLowest major first i v (Special i member)
+told_special major first i v piece shift cell member p s on special =
+    lowest_special major first i v member (right_of major v piece p) (λ off. off cell (in_cell major first v piece shift cell p s on)) special
 
-pub told_special : (major : ℕ) (first : Json) (i : ℕ) (v : Json) (piece : Piece) (frame : Frame) (cell : Cell) (member : Member) → IsPiece major v piece → IsFrame major first frame
-    → IsOn piece frame.shift cell → piece.tier ≡ frame.tier → IsFirstSpecial v member → IsLowest major first i v (Special i member)
-told_special major first i v piece frame cell member p f on e s =
-    lowest_special major first i v member (right_of major v piece p) (λ off. off cell (in_cell major first v piece frame.shift cell p f.0 on))
-    (one_tier first v piece.tier frame.tier p.has_tier f.1 e) s
-
-pub is_entity : (major : ℕ) (first v : Json) (piece : Piece) (frame : Frame) (part : Part) → IsPiece major v piece → IsFrame major first frame
-    → IsOn piece frame.shift part.cell → part.kind ≡ piece.kind → part.tier ≡ piece.tier → part.dir ≡ piece.dir → piece.tier ≡ frame.tier → IsPlain v → IsEntity major first v part
-is_entity major first v piece frame part p f on k t d e plain = record {
+pub is_entity : (major : ℕ) (first v : Json) (piece : Piece) (shift : Shift) (part : Part) → IsPiece major v piece → SetsShift major first shift
+    → IsOn piece shift part.cell → part.kind ≡ piece.kind → part.tier ≡ piece.tier → part.dir ≡ piece.dir → IsPlain v → IsEntity major first v part
+is_entity major first v piece shift part p s on k t d plain = record {
   has_kind = rw k p.has_kind;
   has_tier = rw t p.has_tier;
   has_dir = rw d p.has_dir;
-  in_cell = in_cell major first v piece frame.shift part.cell p f.0 on;
-  first_tier = rw (t, e) f.1;
+  in_cell = in_cell major first v piece shift part.cell p s on;
   plain = plain;
 }
 

@@ -12,31 +12,31 @@ use Rattle.bt_parts.specs.declared.part.Part.{Part}
 use Rattle.bt_parts.specs.Cells.{IsInRange}
 use Rattle.bt_parts.specs.Layouts.{AreInRange}
 use Rattle.bt_entities.specs.declared.blueprint.TheConstants.{MOST_ENTITIES}
-use Rattle.bt_entities.specs.declared.blueprint.Frame.{Frame}
+use Rattle.bt_entities.specs.declared.shift.Shift.{Shift}
 use Rattle.bt_entities.specs.declared.fault.EntityFault.{EntityFault}
 use Rattle.bt_entities.specs.declared.fault.EntityFault.TheVariants.{NotBlueprint, Book, TooMany, Memory}
-use Rattle.bt_entities.specs.Entities.{IsEntity}
+use Rattle.bt_entities.specs.Entities.{SetsShift, IsEntity}
 use Rattle.bt_entities.specs.Blueprints.{HasEntity, IsBlueprint, AreParts, IsBlueprintOf}
 use Rattle.bt_entities.specs.Refusals.{IsLowest, IsFirstOf, IsFirstFault, IsRefused}
 use Rattle.bt_entities.specs.Answers.{IsPartsOf}
-use Rattle.bt_entities.specs.inner.Pieces.{IsFrame, HasFrame, IsEntityRead, AreRead}
+use Rattle.bt_entities.specs.inner.Pieces.{IsFirstShift, IsEntityRead, AreRead}
 use Rattle.bt_entities.proofs.Placed.{entity_sound, entity_in_range}
 
--- so many entities were read, each to its part, and the frame is set from the first on
-pub record HasRead (major : ℕ) (entities : List Json) (n : ℕ) (set : Option Frame) (parts : List Part) : Type 0 where
+-- so many entities were read, each to its part, and the shift is set from the first on
+pub record HasRead (major : ℕ) (entities : List Json) (n : ℕ) (set : Option Shift) (parts : List Part) : Type 0 where
   pub count : length parts ≡ n
-  pub framed : (first : Json) → HasEntity entities 0 first → MatchOption set (n ≡ 0) (IsFrame major first)
+  pub shifted : (first : Json) → HasEntity entities 0 first → MatchOption set (n ≡ 0) (SetsShift major first)
   pub each : (first v : Json) (part : Part) (i : ℕ) → HasEntity entities 0 first → HasEntity entities i v
       → slice_get parts i ≡ Some part → IsEntity major first v part
 
 pub read_none : (major : ℕ) (entities : List Json) → HasRead major entities 0 None []
-read_none major entities = record { count = refl; framed = λ first start. refl; each = λ first v part i start at got. absurd (none-some part got) }
+read_none major entities = record { count = refl; shifted = λ first start. refl; each = λ first v part i start at got. absurd (none-some part got) }
 
--- the frame at the next entity
-pub frame_at : (major : ℕ) (entities : List Json) (n : ℕ) (set : Option Frame) (parts : List Part) (first v : Json)
-    → HasRead major entities n set parts → HasEntity entities 0 first → HasEntity entities n v → HasFrame major first v set
-frame_at major entities n None parts first v r start at = same_Some v first (sym at ∙ ap (slice_get entities) (r.framed first start) ∙ start)
-frame_at major entities n (Some frame) parts first v r start at = r.framed first start
+-- the shift at the next entity
+pub shift_at_next : (major : ℕ) (entities : List Json) (n : ℕ) (set : Option Shift) (parts : List Part) (first v : Json)
+    → HasRead major entities n set parts → HasEntity entities 0 first → HasEntity entities n v → IsFirstShift major first v set
+shift_at_next major entities n None parts first v r start at = same_Some v first (sym at ∙ ap (slice_get entities) (r.shifted first start) ∙ start)
+shift_at_next major entities n (Some shift) parts first v r start at = r.shifted first start
 
 at_end : {X : Type 0} (xs : List X) (x y : X) (i : ℕ) → slice_get (xs ++ x ∷ []) i ≡ Some y → (slice_get xs i ≡ Some y) ⊎ ((i ≡ length xs) × (x ≡ y))
 at_end [] x y zero h = inr (refl, same_Some x y h)
@@ -51,12 +51,12 @@ item_at (x ∷ xs) zero lt = (x, refl)
 item_at (x ∷ xs) (suc i) lt = item_at xs i (omega arith)
 
 -- one more entity
-pub read_more : (major : ℕ) (entities : List Json) (n : ℕ) (set : Option Frame) (parts : List Part) (v : Json) (frame : Frame) (part : Part)
-    → HasEntity entities n v → ((first : Json) → HasEntity entities 0 first → IsFrame major first frame × IsEntity major first v part)
-    → HasRead major entities n set parts → HasRead major entities (n + 1) (Some frame) (parts ++ part ∷ [])
-read_more major entities n set parts v frame part at is r = record {
+pub read_more : (major : ℕ) (entities : List Json) (n : ℕ) (set : Option Shift) (parts : List Part) (v : Json) (shift : Shift) (part : Part)
+    → HasEntity entities n v → ((first : Json) → HasEntity entities 0 first → SetsShift major first shift × IsEntity major first v part)
+    → HasRead major entities n set parts → HasRead major entities (n + 1) (Some shift) (parts ++ part ∷ [])
+read_more major entities n set parts v shift part at is r = record {
   count = omega (arith, length-append parts (part ∷ []), r.count);
-  framed = λ first start. (is first start).0;
+  shifted = λ first start. (is first start).0;
   each = λ first w p i start got have. elim (at_end parts part p i have) [
     | inl old ↦ r.each first w p i start got old
     | inr new ↦
@@ -66,12 +66,12 @@ read_more major entities n set parts v frame part at is r = record {
   ];
 }
 
-pub all_read : (major : ℕ) (entities : List Json) (n : ℕ) (set : Option Frame) (parts : List Part) → n ≡ length entities
+pub all_read : (major : ℕ) (entities : List Json) (n : ℕ) (set : Option Shift) (parts : List Part) → n ≡ length entities
     → HasRead major entities n set parts → AreParts major entities parts
 all_read major entities n set parts e r = record { same_length = r.count ∙ e; each = r.each }
 
 -- the first entity that isn't read has the first fault
-first_of : (major : ℕ) (entities : List Json) (n : ℕ) (set : Option Frame) (parts : List Part) (first v : Json) (fault : EntityFault)
+first_of : (major : ℕ) (entities : List Json) (n : ℕ) (set : Option Shift) (parts : List Part) (first v : Json) (fault : EntityFault)
     → HasEntity entities 0 first → HasEntity entities n v → IsLowest major first n v fault → HasRead major entities n set parts
     → IsFirstOf major entities fault
 first_of major entities n set parts first v fault start at low r = record {
@@ -90,13 +90,13 @@ pub entity_at : (trees : List Tree) (i : ℕ) (t : Tree) → slice_get trees i �
 entity_at trees i t e = slice_get-map json_of trees i ∙ ap (option_map json_of) e
 
 -- what is told where an entity isn't read
-pub told_first : (major : ℕ) (entities : List Json) (n : ℕ) (set : Option Frame) (parts : List Part) (v : Json) (fault : EntityFault)
+pub told_first : (major : ℕ) (entities : List Json) (n : ℕ) (set : Option Shift) (parts : List Part) (v : Json) (fault : EntityFault)
     → HasEntity entities n v → HasRead major entities n set parts
-    → ((first : Json) → HasFrame major first v set → UnlessMemory Memory (IsEntityRead major first n v) (Err fault))
+    → ((first : Json) → IsFirstShift major first v set → UnlessMemory Memory (IsEntityRead major first n v) (Err fault))
     → UnlessMemory Memory (AreRead major entities) (Err fault)
 told_first major entities n set parts v fault at r told =
     let first = item_at entities 0 (omega (arith, slice_get_within entities n v at)) in
-    elim (told first.0 (frame_at major entities n set parts first.0 v r first.1 at)) [
+    elim (told first.0 (shift_at_next major entities n set parts first.0 v r first.1 at)) [
       | inl low ↦ inl (first_of major entities n set parts first.0 v fault first.1 at low r)
       | inr memory ↦ inr memory
     ]

@@ -33,7 +33,7 @@ pub record IsBlueprint (root : Json) (major : ℕ) (entities : List Json) : Type
 abbrev pub HasEntity : List Json → ℕ → Json → Type 0
 HasEntity entities i v = slice_get entities i ≡ Some v
 
--- the entities stand for these parts, in their order, and the first of them sets the grid and the tier of all
+-- the entities stand for these parts, in their order, and the first of them sets the grid of all
 pub record AreParts (major : ℕ) (entities : List Json) (parts : List Part) : Type 0 where
   pub same_length : length parts ≡ length entities
   pub each : (first v : Json) (part : Part) (i : ℕ) → HasEntity entities 0 first → HasEntity entities i v

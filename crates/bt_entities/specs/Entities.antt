@@ -109,5 +109,4 @@ pub record IsEntity (major : ℕ) (first v : Json) (part : Part) : Type 0 where
   pub has_tier : HasTier v part.tier
   pub has_dir : HasDirection major v part.dir
   pub in_cell : IsInCell major first v part.cell
-  pub first_tier : HasTier first part.tier
   pub plain : IsPlain v

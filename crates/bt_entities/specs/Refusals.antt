@@ -6,14 +6,14 @@ use Rattle.bt_parts.specs.declared.part.Dir.{Dir}
 use Rattle.bt_parts.specs.declared.part.Tier.{Tier}
 use Rattle.bt_entities.specs.declared.blueprint.TheConstants.{MOST_ENTITIES}
 use Rattle.bt_entities.specs.declared.fault.EntityFault.{EntityFault}
-use Rattle.bt_entities.specs.declared.fault.EntityFault.TheVariants.{NotBlueprint, Book, TooMany, Unsupported, BadMember, OffGrid, MixedTier, Special, Memory}
+use Rattle.bt_entities.specs.declared.fault.EntityFault.TheVariants.{NotBlueprint, Book, TooMany, Unsupported, BadMember, OffGrid, Special, Memory}
 use Rattle.bt_entities.specs.declared.fault.Member.{Member}
 use Rattle.bt_entities.specs.declared.fault.Member.TheVariants.{Entity, Name, Position, Direction, PieceType, InputPriority, OutputPriority, ControlBehavior, Filter}
 use Rattle.bt_entities.specs.declared.name.Family.{Family}
 use Rattle.bt_entities.specs.declared.name.Family.TheVariants.{Undergrounds, Splitters}
 use Rattle.bt_entities.specs.Members.{HasMember, Lacks, HasText, IsObject}
 use Rattle.bt_entities.specs.Names.{name_of}
-use Rattle.bt_entities.specs.Entities.{HasFamily, HasTier, HasPosition, HasDirection, IsInCell, IsEven, IsSided}
+use Rattle.bt_entities.specs.Entities.{HasFamily, HasPosition, HasDirection, IsInCell, IsEven, IsSided}
 use Rattle.bt_entities.specs.Blueprints.{IsVersion, IsBlueprint, HasEntity}
 
 -- a member of that name is there and isn't what it has to be
@@ -94,16 +94,11 @@ IsFirstSpecial v member = IsFirst (IsSpecial v) special_members member
 abbrev pub IsOffGrid : ℕ → Json → Json → Type 0
 IsOffGrid major first v = (cell : Cell) → ¬ IsInCell major first v cell
 
--- the entity's tier isn't that of entity 0
-abbrev pub IsMixed : Json → Json → Type 0
-IsMixed first v = (tier of_first : Tier) × HasTier v tier × HasTier first of_first × (tier ≢ of_first)
-
 -- the fault is one of the entity with this index
 abbrev pub IsFault : ℕ → Json → ℕ → Json → EntityFault → Type 0
 IsFault major first i v (Unsupported at name) = (at ≡ i) × IsUnsupported v name
 IsFault major first i v (BadMember at member) = (at ≡ i) × IsBadMember major v member
 IsFault major first i v (OffGrid at) = (at ≡ i) × IsOffGrid major first v
-IsFault major first i v (MixedTier at) = (at ≡ i) × IsMixed first v
 IsFault major first i v (Special at member) = (at ≡ i) × IsFirstSpecial v member
 IsFault major first i v other = ⊥
 
@@ -115,7 +110,6 @@ number_of_fault TooMany = 22
 number_of_fault (Unsupported at name) = 23
 number_of_fault (BadMember at member) = 24
 number_of_fault (OffGrid at) = 25
-number_of_fault (MixedTier at) = 26
 number_of_fault (Special at member) = 27
 number_of_fault Memory = 28
 

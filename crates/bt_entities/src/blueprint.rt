@@ -1,5 +1,5 @@
 //! From the JSON value of a text to the parts of its blueprint: the root's own members, then one entity
-//! after another, since entity 0 sets the grid and the tier of all.
+//! after another, since entity 0 sets the grid of all.
 
 ghost use Rattle.std.specs.Prelude.{◌≡◌, ◌⊎◌, ℕ, map, codes, MatchOption, MatchResult};
 ghost use Rattle.bt_answers.specs.Answers.{seen, UnlessMemory, Answers};
@@ -7,31 +7,22 @@ ghost use Rattle.bt_json.specs.Json.{Json};
 ghost use Rattle.bt_json.specs.Stands.{json_of};
 ghost use Rattle.bt_entities.specs.declared.fault.EntityFault.TheVariants.{Memory};
 ghost use Rattle.bt_entities.specs.Members.{HasMember, IsObject};
-ghost use Rattle.bt_entities.specs.Entities.{IsEntity};
+ghost use Rattle.bt_entities.specs.Entities.{SetsShift, IsEntity};
 ghost use Rattle.bt_entities.specs.Blueprints.{HasEntities, HasMajor, IsVersion, IsBlueprint};
 ghost use Rattle.bt_entities.specs.Refusals.{HasWrong, IsList, IsRefused, IsLowest};
 ghost use Rattle.bt_entities.specs.Answers.{IsPartsOf, parts_in};
-ghost use Rattle.bt_entities.specs.inner.Pieces.{IsPiece, IsFrame, HasFrame, IsEntityRead, AreRead};
+ghost use Rattle.bt_entities.specs.inner.Pieces.{IsPiece, IsFirstShift, IsEntityRead, AreRead};
 
 use crate::fault::EntityFault;
 use crate::member::{as_list, as_number, has_member, is_object, member};
 use crate::piece::{Piece, piece_of};
 use crate::shift::Shift;
 use bt_json::Tree;
-use bt_parts::{Part, Tier};
+use bt_parts::Part;
 use std::alloc::Global;
 
 /// The most entities of a blueprint that is read.
 pub const MOST_ENTITIES: usize = 4096;
-
-/// What entity 0 sets for all entities.
-#[derive(Clone, Copy)]
-pub struct Frame {
-    /// The shift of the grid of cells.
-    pub shift: Shift,
-    /// The one tier.
-    pub tier: Tier,
-}
 
 /// A blueprint's major version and its entities.
 #[derive(Clone, Copy)]
@@ -109,37 +100,31 @@ fn blueprint_of(root: &Tree) -> Result<Blueprint, EntityFault>
     Ok(Blueprint { major, entities })
 }
 
-/// The frame that is set, or else the one that the piece sets as entity 0.
-fn frame_by(set: Option<Frame>, place: usize, piece: &Piece) -> Result<Frame, EntityFault>
-    ensures { (major : ℕ) (first v : Json) → IsPiece major v piece.now → HasFrame major first v set
-        → MatchResult result (IsFrame major first) (IsLowest major first place v) }
+/// The shift that is set, or else the one that the piece sets as entity 0.
+fn shift_by(set: Option<Shift>, place: usize, piece: &Piece) -> Result<Shift, EntityFault>
+    ensures { (major : ℕ) (first v : Json) → IsPiece major v piece.now → IsFirstShift major first v set
+        → MatchResult result (SetsShift major first) (IsLowest major first place v) }
 {
-    if let Some(frame) = set {
-        return Ok(frame);
+    if let Some(shift) = set {
+        return Ok(shift);
     }
     match piece.shift() {
-        Some(shift) => Ok(Frame {
-            shift,
-            tier: piece.tier,
-        }),
+        Some(shift) => Ok(shift),
         None => Err(EntityFault::OffGrid(place)),
     }
 }
 
 /// The part of the entity with this index, which was read as this piece.
-fn part_of(frame: &Frame, place: usize, entity: &Tree, piece: &Piece) -> Result<Part, EntityFault>
+fn part_of(shift: Shift, place: usize, entity: &Tree, piece: &Piece) -> Result<Part, EntityFault>
     ensures { (major : ℕ) (first : Json) → IsPiece major (json_of entity.now) piece.now
-        → IsFrame major first frame.now
+        → SetsShift major first shift
         → MatchResult result
         (IsEntity major first (json_of entity.now))
         (IsLowest major first place (json_of entity.now)) }
 {
-    let Some(cell) = piece.cell(frame.shift) else {
+    let Some(cell) = piece.cell(shift) else {
         return Err(EntityFault::OffGrid(place));
     };
-    if piece.tier != frame.tier {
-        return Err(EntityFault::MixedTier(place));
-    }
     if let Some(member) = piece.special(entity) {
         return Err(EntityFault::Special(place, member));
     }
@@ -151,21 +136,21 @@ fn part_of(frame: &Frame, place: usize, entity: &Tree, piece: &Piece) -> Result<
     })
 }
 
-/// The part of the entity with this index, and the frame, which entity 0 sets.
+/// The part of the entity with this index, and the shift, which entity 0 sets.
 fn entity_of(
     alloc: Global,
     major: u64,
-    set: Option<Frame>,
+    set: Option<Shift>,
     place: usize,
     entity: &Tree,
-) -> Result<(Frame, Part), EntityFault>
-    ensures { (first : Json) → HasFrame major first (json_of entity.now) set
+) -> Result<(Shift, Part), EntityFault>
+    ensures { (first : Json) → IsFirstShift major first (json_of entity.now) set
         → UnlessMemory Memory (IsEntityRead major first place (json_of entity.now)) result }
 {
     let piece = piece_of(alloc, major, place, entity)?;
-    let frame = frame_by(set, place, &piece)?;
-    let part = part_of(&frame, place, entity, &piece)?;
-    Ok((frame, part))
+    let shift = shift_by(set, place, &piece)?;
+    let part = part_of(shift, place, entity, &piece)?;
+    Ok((shift, part))
 }
 
 /// The parts of the entities, in their order.
@@ -175,8 +160,8 @@ fn parts_with(alloc: Global, major: u64, entities: &[Tree]) -> Result<Vec<Part>,
     let mut set = None;
     let mut parts = Vec::new(alloc);
     for (place, entity) in entities.iter().enumerate() {
-        let (frame, part) = entity_of(alloc, major, set, place, entity)?;
-        set = Some(frame);
+        let (shift, part) = entity_of(alloc, major, set, place, entity)?;
+        set = Some(shift);
         parts.push(part)?;
     }
     Ok(parts)

@@ -1,4 +1,4 @@
-//! Why a JSON value is no blueprint of parts: the numbers 20 to 27, of which the lowest is told.
+//! Why a JSON value is no blueprint of parts: the numbers 20 to 25 and 27, of which the lowest is told.
 
 ghost use Rattle.std.specs.Prelude.{◌≡◌};
 ghost use Rattle.bt_entities.specs.declared.fault.EntityFault.TheVariants.{Memory};
@@ -91,8 +91,6 @@ pub enum EntityFault {
     /// A coordinate isn't a multiple of a half, or is more than `bt_json::MOST_HALVES` of them, or the
     /// entity isn't on the grid of entity 0.
     OffGrid(usize),
-    /// The entity's tier isn't that of entity 0.
-    MixedTier(usize),
     /// The entity has `control_behavior`, `filter`, or is a splitter that prefers a side.
     Special(usize, Member),
     /// Memory ran out.

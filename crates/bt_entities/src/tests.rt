@@ -17,7 +17,6 @@ fn told(fault: &EntityFault) -> Told {
         EntityFault::Unsupported(i, _) => (23, *i, None),
         EntityFault::BadMember(i, member) => (24, *i, Some(*member)),
         EntityFault::OffGrid(i) => (25, *i, None),
-        EntityFault::MixedTier(i) => (26, *i, None),
         EntityFault::Special(i, member) => (27, *i, Some(*member)),
         EntityFault::Memory => (28, 0, None),
     }
@@ -133,7 +132,7 @@ fn entities_that_stand_for_no_part(rt: HostRuntime) -> Result<(), Fail> {
         (
             r#"{"name":"transport-belt","position":{"x":1,"y":1}},
             {"name":"fast-transport-belt","position":{"x":2,"y":1},"filter":1}"#,
-            (26, 1, None),
+            (27, 1, Some(Member::Filter)),
         ),
     ];
     for (entities, told) in table {

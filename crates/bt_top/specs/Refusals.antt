@@ -15,7 +15,7 @@ use Rattle.bt_net.specs.declared.fault.NetFault.TheVariants as net
 use Rattle.bt_top.specs.declared.fault.DesignFault.{DesignFault}
 use Rattle.bt_top.specs.declared.fault.DesignFault.TheVariants as fault
 use Rattle.bt_top.specs.declared.refusal.Refusal.{Refusal}
-use Rattle.bt_top.specs.declared.refusal.Refusal.TheVariants.{Json, Deep, DuplicateKey, NotBlueprint, Book, TooMany, Unsupported, BadMember, OffGrid, MixedTier, Special, Overlap, Unpaired, SideLoad, Blocked, Ring, NetLine, TooLarge, NoEnds}
+use Rattle.bt_top.specs.declared.refusal.Refusal.TheVariants.{Json, Deep, DuplicateKey, NotBlueprint, Book, TooMany, Unsupported, BadMember, OffGrid, Special, Overlap, Unpaired, SideLoad, Blocked, Ring, NetLine, TooLarge, NoEnds}
 
 -- the fault of the JSON text
 abbrev pub json_told : JsonFault → DesignFault
@@ -32,7 +32,6 @@ entity_told entity.TooMany = fault.Refused TooMany
 entity_told (entity.Unsupported i name) = fault.Refused (Unsupported i)
 entity_told (entity.BadMember i m) = fault.Refused (BadMember i m)
 entity_told (entity.OffGrid i) = fault.Refused (OffGrid i)
-entity_told (entity.MixedTier i) = fault.Refused (MixedTier i)
 entity_told (entity.Special i m) = fault.Refused (Special i m)
 entity_told entity.Memory = fault.Memory
 
@@ -81,7 +80,6 @@ refusal_text TooMany = codes "22 TooMany"
 refusal_text (Unsupported i) = codes "23 Unsupported " ++ decimal i
 refusal_text (BadMember i m) = codes "24 BadMember " ++ decimal i ++ codes " " ++ member_name m
 refusal_text (OffGrid i) = codes "25 OffGrid " ++ decimal i
-refusal_text (MixedTier i) = codes "26 MixedTier " ++ decimal i
 refusal_text (Special i m) = codes "27 Special " ++ decimal i ++ codes " " ++ member_name m
 refusal_text (Overlap i j) = codes "30 Overlap " ++ decimal i ++ codes " " ++ decimal j
 refusal_text (Unpaired i) = codes "31 Unpaired " ++ decimal i

@@ -46,7 +46,6 @@ impl From<EntityFault> for DesignFault {
             EntityFault::Unsupported(i, _) => Refusal::Unsupported(i),
             EntityFault::BadMember(i, member) => Refusal::BadMember(i, member),
             EntityFault::OffGrid(i) => Refusal::OffGrid(i),
-            EntityFault::MixedTier(i) => Refusal::MixedTier(i),
             EntityFault::Special(i, member) => Refusal::Special(i, member),
             EntityFault::Memory => return DesignFault::Memory,
         };

@@ -23,8 +23,6 @@ pub enum Refusal {
     BadMember(usize, Member),
     /// The entity isn't on the grid of entity 0.
     OffGrid(usize),
-    /// The entity's tier isn't that of entity 0.
-    MixedTier(usize),
     /// The entity's first member that no balancer has.
     Special(usize, Member),
     /// The second entity shares a cell with the first one.

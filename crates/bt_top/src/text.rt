@@ -88,7 +88,6 @@ pub fn refusal_line(refusal: Refusal) -> Line
             Detail::NumberAndName(i, name_of(member)),
         ),
         Refusal::OffGrid(i) => Line("refused 25 OffGrid", Detail::Number(i)),
-        Refusal::MixedTier(i) => Line("refused 26 MixedTier", Detail::Number(i)),
         Refusal::Special(i, member) => Line(
             "refused 27 Special",
             Detail::NumberAndName(i, name_of(member)),

@@ -9,7 +9,6 @@ use Rattle.bt_entities.specs.declared.fault.Member.{Member}
 use Rattle.bt_entities.specs.declared.fault.Member.TheVariants.{InputPriority, OutputPriority}
 use Rattle.bt_entities.specs.declared.name.Family.{Family}
 use Rattle.bt_entities.specs.declared.name.Family.TheVariants.{Splitters}
-use Rattle.bt_entities.specs.declared.blueprint.Frame.{Frame}
 use Rattle.bt_entities.specs.declared.piece.Piece.{Piece}
 use Rattle.bt_entities.specs.declared.piece.Priority.{Priority}
 use Rattle.bt_entities.specs.declared.piece.Priority.TheVariants.{Even, Sided}
@@ -67,14 +66,10 @@ pub record HasShift (piece : Piece) (shift : Shift) : Type 0 where
   pub cell : Cell
   pub on : IsOn piece shift cell
 
--- entity 0 has this shift and this tier
-abbrev pub IsFrame : ℕ → Json → Frame → Type 0
-IsFrame major first frame = SetsShift major first frame.shift × HasTier first frame.tier
-
--- the frame is that of entity 0, and is missing at entity 0 alone
-abbrev pub HasFrame : ℕ → Json → Json → Option Frame → Type 0
-HasFrame major first v None = v ≡ first
-HasFrame major first v (Some frame) = IsFrame major first frame
+-- the shift is that of entity 0, and is missing at entity 0 alone
+abbrev pub IsFirstShift : ℕ → Json → Json → Option Shift → Type 0
+IsFirstShift major first v None = v ≡ first
+IsFirstShift major first v (Some shift) = SetsShift major first shift
 
 -- the family and the tier of the entity's name, or its lowest fault, whatever the rest of the blueprint is
 abbrev pub IsNameRead : ℕ → Json → Result (Family × Tier) EntityFault → Type 0
@@ -86,9 +81,9 @@ abbrev pub IsPieceRead : ℕ → ℕ → Json → Result Piece EntityFault → T
 IsPieceRead major i v (Ok piece) = IsPiece major v piece
 IsPieceRead major i v (Err fault) = (first : Json) → IsLowest major first i v fault
 
--- the entity stands for this part, where entity 0 sets this frame, or has this lowest fault
-abbrev pub IsEntityRead : ℕ → Json → ℕ → Json → Result (Frame × Part) EntityFault → Type 0
-IsEntityRead major first i v (Ok read) = IsFrame major first read.0 × IsEntity major first v read.1
+-- the entity stands for this part, where entity 0 sets this shift, or has this lowest fault
+abbrev pub IsEntityRead : ℕ → Json → ℕ → Json → Result (Shift × Part) EntityFault → Type 0
+IsEntityRead major first i v (Ok read) = SetsShift major first read.0 × IsEntity major first v read.1
 IsEntityRead major first i v (Err fault) = IsLowest major first i v fault
 
 -- the entities stand for these parts, or have this first fault

@@ -233,8 +233,8 @@ const CASES: [Case; 28] = [
             r#",{"name":"fast-underground-belt","position":{"x":6.5,"y":0.5},"direction":2,"type":"output"}"#,
             BACK,
         ],
-        3,
-        "refused 26 MixedTier 1\n",
+        0,
+        "net 2 2 0\nedge i0 o0\nedge i1 o1 2\nend\n",
     ),
     Case(
         "recover",

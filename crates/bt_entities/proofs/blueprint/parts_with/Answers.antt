@@ -5,17 +5,17 @@ use Rattle.std.proofs.lemmas.Option.{slice_get_read}
 use Rattle.std.proofs.lemmas.Result.{err_from_is_err_and}
 use Rattle.bt_json.specs.Stands.{json_of}
 use Rattle.bt_entities.specs.Blueprints.{HasEntity}
-use Rattle.bt_entities.proofs.Whole.{read_more, all_read, entity_at, frame_at, told_first}
+use Rattle.bt_entities.proofs.Whole.{read_more, all_read, entity_at, shift_at_next, told_first}
 use Rattle.bt_entities.proofs.blueprint.parts_with.Goals as goal
 
-pub returns-in_err-frame : goal.returns-in_err-frame
-returns-in_err-frame c =
+pub returns-in_err-shift : goal.returns-in_err-shift
+returns-in_err-shift c =
     let es = c.args.entities.now in
     let at : slice_get es c.loop-place.place ≡ Some c.index-entities-place.result =
     slice_get_read es (length es) c.loop-place.place c.index-entities-place.result refl c.loop-place-test.true c.index-entities-place.is in
     let p = err_from_is_err_and c.from_residual.result c.from_residual.ensures.1 in
     rw (p.1, p.2) (told_first c.args.major (map json_of es) c.loop-place.place c.loop-place.set c.loop-place.parts.items (json_of c.index-entities-place.result)
-    c.in_err-frame.field-0.0 (entity_at es c.loop-place.place c.index-entities-place.result at) c.loop-place.invariant (λ first h. c.in_err-frame.ensures first h))
+    c.in_err-shift.field-0.0 (entity_at es c.loop-place.place c.index-entities-place.result at) c.loop-place.invariant (λ first h. c.in_err-shift.ensures first h))
 
 pub loop-place-preserved : goal.loop-place-preserved
 loop-place-preserved c =
@@ -24,8 +24,8 @@ loop-place-preserved c =
     slice_get_read es (length es) c.loop-place.place c.index-entities-place.result refl c.loop-place-test.true c.index-entities-place.is in
     let here : HasEntity (map json_of es) c.loop-place.place (json_of c.index-entities-place.result) = entity_at es c.loop-place.place c.index-entities-place.result at in
     rw c.in_ok-push.ensures.items (read_more c.args.major (map json_of es) c.loop-place.place c.loop-place.set c.loop-place.parts.items
-    (json_of c.index-entities-place.result) c.in_ok-frame.frame c.in_ok-frame.part here
-    (λ first start. c.in_ok-frame.ensures first (frame_at c.args.major (map json_of es) c.loop-place.place c.loop-place.set c.loop-place.parts.items first
+    (json_of c.index-entities-place.result) c.in_ok-shift.shift c.in_ok-shift.part here
+    (λ first start. c.in_ok-shift.ensures first (shift_at_next c.args.major (map json_of es) c.loop-place.place c.loop-place.set c.loop-place.parts.items first
     (json_of c.index-entities-place.result) c.loop-place.invariant start here)) c.loop-place.invariant)
 
 pub returns : goal.returns
