@@ -13,7 +13,7 @@ use Rattle.bt_flow.specs.declared.ports.Port.{Port}
 use Rattle.bt_flow.specs.declared.ports.Port.TheVariants.{One, Two}
 use Rattle.bt_flow.specs.declared.ports.Role.{Role}
 use Rattle.bt_flow.specs.inner.Ports.{numbers_of, plays}
-use Rattle.bt_flow.specs.inner.AtPorts.{Admits, Stops}
+use Rattle.bt_flow.specs.inner.AtPorts.{Admits, Rests}
 
 -- an item of a list of fractions over a denominator
 pub over_at : (rs : List Ratio) (ws : List ℤ) (d : ℕ) → AreOver rs ws d → (i : ℕ) → i < length rs → (r : Ratio) (w : ℤ) → IsOver (get_or rs i r) (get_or ws i w) d
@@ -105,13 +105,31 @@ meets_mark w m mark k M e t u h g = (λ v. (h.0 t, λ _. g.0 v), λ q. g.1 (q.1 
 pub mark_read : (n : Network) (t : Fractions) (s : Flows) → StandsFor n t s → (marks : List Bool) → marks ≡ t.backed → (a : ℕ) → backed_at s a ≡ get_or marks a false
 mark_read n t s h marks same a = ap (λ x. get_or x a false) (sym (same ∙ h.backed))
 
--- a free edge stops where its flow is at its cap
-pub stops_at_full : (n : Network) (edges : List Edge) (place : ℕ) (d : Edge) (s : Flows) → edges ≡ n.edges → place < length n.edges → backed_at s place ≡ false
+-- an edge with the mark rests
+pub rests_marked : (n : Network) (place : ℕ) (s : Flows) (m mark : Bool) → backed_at s place ≡ m → beq m mark ≡ true
+    → IsTrue (beq m mark) ↔ ((f : Edge) → HasEdge n place f → Rests s mark place f)
+rests_marked n place s m mark e u = (λ t f h. inl (e ∙ equal m mark u), λ _. u)
+  where
+    equal : (m mark : Bool) → beq m mark ≡ true → m ≡ mark
+    equal true true u = refl
+    equal true false u = absurd (false≢true u)
+    equal false true u = absurd (false≢true u)
+    equal false false u = refl
+
+-- an edge without the mark rests where its flow is at its cap
+pub rests_full : (n : Network) (edges : List Edge) (place : ℕ) (d : Edge) (s : Flows) → edges ≡ n.edges → place < length n.edges
+    → (m mark : Bool) → backed_at s place ≡ m → beq m mark ≡ false
     → (k : Bool) → IsTrue k ↔ (flow_at s place ≡ pos ((get_or edges place d).cap * s.denominator))
-    → IsTrue k ↔ ((f : Edge) → HasEdge n place f → Stops s place f)
-stops_at_full n edges place d s same l free k h =
-    let o = only_edge n edges place d (Stops s place) same l in
-    (λ t. o.0 (inr (h.0 t)), λ f. elim (o.1 f) [ inl b ↦ absurd (false≢true (sym free ∙ b)) | inr q ↦ h.1 q ])
+    → IsTrue k ↔ ((f : Edge) → HasEdge n place f → Rests s mark place f)
+rests_full n edges place d s same l m mark e u k h =
+    let o = only_edge n edges place d (Rests s mark place) same l in
+    (λ t. o.0 (inr (h.0 t)), λ f. elim (o.1 f) [ inl b ↦ absurd (differs m mark u (sym e ∙ b)) | inr q ↦ h.1 q ])
+  where
+    differs : (m mark : Bool) → beq m mark ≡ false → m ≡ mark → ⊥
+    differs true true u q = true≢false u
+    differs true false u q = true≢false q
+    differs false true u q = false≢true q
+    differs false false u q = true≢false u
 
 -- what is required at each edge of a port
 pub port_one_is : (P : ℕ → Type 0) (port : Port) (a : ℕ) → port ≡ One a → AllByRecursion P (numbers_of port) → P a

@@ -12,6 +12,7 @@ pub mod AtPlaces
 pub mod Both
 pub mod Compared
 pub mod Each
+pub mod EqualCaps
 pub mod Judged
 pub mod Numbers
 pub mod Sharing

@@ -1,5 +1,6 @@
 pub mod States
 pub mod Steady
+pub mod EqualCaps
 pub mod Properties
 pub mod Tests
 pub mod Sums

@@ -15,6 +15,10 @@ sum_where p [] flows = pos 0
 sum_where p (e ∷ edges) [] = pos 0
 sum_where p (e ∷ edges) (f ∷ flows) = (if p e then f else pos 0) +ℤ sum_where p edges flows
 
+-- the edge with this number is full: its flow is its cap
+abbrev pub IsFull : Flows → ℕ → Edge → Type 0
+IsFull s a e = flow_at s a ≡ cap_in s e
+
 -- range: the flow of an edge is from 0 to its cap
 abbrev pub KeepsRange : Network → Flows → ℕ → Type 0
 KeepsRange n s a = (e : Edge) → HasEdge n a e → (pos 0 ≤ℤ flow_at s a) × (flow_at s a ≤ℤ cap_in s e)
@@ -23,20 +27,20 @@ KeepsRange n s a = (e : Edge) → HasEdge n a e → (pos 0 ≤ℤ flow_at s a) �
 abbrev pub Conserves : Network → Flows → ℕ → Type 0
 Conserves n s k = sum_where (enters k) n.edges s.flows ≡ sum_where (leaves k) n.edges s.flows
 
--- even-out: a free out edge of a splitter has a flow at least that of the splitter's other out edge
+-- even-out: a free out edge of a splitter has a flow at least that of the splitter's other out edge, or is full
 abbrev pub EvensOut : Network → Flows → ℕ → Type 0
 EvensOut n s a = (k b : ℕ) (e f : Edge) → HasEdge n a e → HasEdge n b f → b ≢ a → IsTrue (leaves k e) → IsTrue (leaves k f)
-    → backed_at s a ≡ false → flow_at s b ≤ℤ flow_at s a
+    → backed_at s a ≡ false → (flow_at s b ≤ℤ flow_at s a) ⊎ IsFull s a e
 
--- even-in: a backed in edge of a splitter has a flow at least that of the splitter's other in edge
+-- even-in: a backed in edge of a splitter has a flow at least that of the splitter's other in edge, or is full
 abbrev pub EvensIn : Network → Flows → ℕ → Type 0
 EvensIn n s a = (k b : ℕ) (e f : Edge) → HasEdge n a e → HasEdge n b f → b ≢ a → IsTrue (enters k e) → IsTrue (enters k f)
-    → backed_at s a ≡ true → flow_at s b ≤ℤ flow_at s a
+    → backed_at s a ≡ true → (flow_at s b ≤ℤ flow_at s a) ⊎ IsFull s a e
 
 -- backing: where an in edge of a splitter is backed, each out edge of that splitter is backed or full
 abbrev pub Backs : Network → Flows → ℕ → Type 0
 Backs n s a = (k b : ℕ) (e f : Edge) → HasEdge n a e → HasEdge n b f → IsTrue (enters k e) → IsTrue (leaves k f)
-    → backed_at s a ≡ true → (backed_at s b ≡ true) ⊎ (flow_at s b ≡ cap_in s f)
+    → backed_at s a ≡ true → (backed_at s b ≡ true) ⊎ IsFull s b f
 
 -- input: the flow of an input is at most its load, and equals it where the edge is free
 abbrev pub FeedsInput : Network → Flows → ℕ → Type 0

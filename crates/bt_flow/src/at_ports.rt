@@ -1,11 +1,11 @@
 //! What is asked of a state at single edges, and at the edges of a port: no comparison of the laws of
 //! steady states stands anywhere else.
-ghost use Rattle.std.specs.Prelude.{◌<◌, length};
+ghost use Rattle.std.specs.Prelude.{◌<◌, length, true};
 ghost use Rattle.bt_net.specs.Network.{Network};
 ghost use Rattle.bt_flow.specs.States.{Fits};
 ghost use Rattle.bt_flow.specs.Steady.{KeepsRange};
 ghost use Rattle.bt_flow.specs.inner.AtPorts.{Tells, TellsOfNumber, TellsWith};
-ghost use Rattle.bt_flow.specs.inner.AtPorts.{AtEach, AdmitsAt, MeetsAt, FlowsAtMost, StopsAt};
+ghost use Rattle.bt_flow.specs.inner.AtPorts.{AtEach, AdmitsAt, MeetsAt, FlowsAtMost, RestsAt};
 
 use crate::compare::{is_at_most, is_full, is_same, is_within};
 use crate::ports::Port;
@@ -74,26 +74,26 @@ pub fn is_greatest(state: &State, port: Port, place: usize) -> bool
     }
 }
 
-/// Whether an edge is backed or has a flow at its cap.
-fn stops_at(net: &Net, state: &State, place: usize) -> bool
+/// Whether an edge has a mark or is full.
+pub fn rests_at(net: &Net, state: &State, place: usize, mark: bool) -> bool
     requires fits { Fits net.now state.now }
     requires place { place < length net.now.edges }
-    ensures { Tells net.now state.now (λ s. StopsAt net.now s place) result }
+    ensures { Tells net.now state.now (λ s. RestsAt net.now s mark place) result }
 {
-    state.backed()[place] || is_full(&state.flows()[place], net.edges()[place].cap)
+    state.backed()[place] == mark || is_full(&state.flows()[place], net.edges()[place].cap)
 }
 
-/// Whether each edge of a port is backed or has a flow at its cap.
+/// Whether each edge of a port is backed or full.
 pub fn stops(net: &Net, state: &State, port: Port) -> bool
     requires fits { Fits net.now state.now }
     requires port { AtEach port (λ a. a < length net.now.edges) }
-    ensures { Tells net.now state.now (λ s. AtEach port (StopsAt net.now s)) result }
+    ensures { Tells net.now state.now (λ s. AtEach port (RestsAt net.now s true)) result }
 {
     match port {
         Port::Unused => true,
-        Port::One(only) => stops_at(net, state, only as usize),
-        Port::Two(first, second) => stops_at(net, state, first as usize)
-            && stops_at(net, state, second as usize),
+        Port::One(only) => rests_at(net, state, only as usize, true),
+        Port::Two(first, second) => rests_at(net, state, first as usize, true)
+            && rests_at(net, state, second as usize, true),
     }
 }
 

@@ -114,6 +114,36 @@ mod tests {
         Ok(())
     }
 
+    const MIXED: &[u8] = b"net 1 2 1\nedge i0 s0 4\nedge s0 o0\nedge s0 o1 4\nend\n";
+
+    const UNEVEN: Judgement = Judgement::Fails {
+        test: Test::EvenOut,
+        place: 1,
+    };
+
+    // A state of the splitter with caps, and its judgement for `balanced`. The first out edge is full, so
+    // it may carry less than the second; or it is free and isn't full.
+    const CAPPED: [(&[u8], Judgement); 2] = [
+        (
+            b"no balanced\nload 4\nroom 1 4\nflow 4 1 3\nmark f f f\nend",
+            Judgement::Passes,
+        ),
+        (
+            b"no balanced\nload 4\nroom 1 4\nflow 3 1/2 5/2\nmark f f f\nend",
+            UNEVEN,
+        ),
+    ];
+
+    #[test]
+    fn judges_caps(rt: HostRuntime) -> Result<(), Fail> {
+        for (text, judgement) in CAPPED {
+            let net = bt_net::read(rt.alloc(), MIXED)?.net;
+            let state = read_state(rt.alloc(), &net, text, Property::Balanced)?;
+            assert!(rt; breaks(&net, Property::Balanced, &state) == Ok(judgement));
+        }
+        Ok(())
+    }
+
     #[test]
     fn names_a_wide_sum(rt: HostRuntime) -> Result<(), Fail> {
         let net = bt_net::read(rt.alloc(), SPLITTER)?.net;

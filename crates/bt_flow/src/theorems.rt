@@ -3,12 +3,19 @@ ghost use Rattle.std.specs.Prelude.{ℕ, ◌↔◌};
 ghost use Rattle.bt_net.specs.Network.{Network};
 ghost use Rattle.bt_flow.specs.declared.property.Property.{Property};
 ghost use Rattle.bt_flow.specs.States.{Flows, Fractions, AreLowest, StandsFor, Fits};
+ghost use Rattle.bt_flow.specs.EqualCaps.{EqualCapsEven};
 ghost use Rattle.bt_flow.specs.Properties.{Holds, Breaks};
 
 /// Fractions in lowest terms that fit a network stand for whole numbers over one denominator, so what
 /// is said of each of these is said of the fractions.
 pub fn has_flows()
     ensures { (n : Network) (t : Fractions) → AreLowest t → Fits n t → (s : Flows) × StandsFor n t s }
+{}
+
+/// Where all caps are equal, a full edge needs no leave to be uneven: its flow is at least that of the
+/// other edge. So the steady states are those of the laws without that leave.
+pub fn equal_caps_even()
+    ensures { EqualCapsEven }
 {}
 
 /// A network has a property exactly where no state breaks it.

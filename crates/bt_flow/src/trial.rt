@@ -3,7 +3,7 @@ ghost use Rattle.std.specs.Prelude.{◌≡◌, ◌<◌, IfOk, IfErr, length};
 ghost use Rattle.bt_flow.specs.Tests.{places};
 ghost use Rattle.bt_flow.specs.inner.Trials.{IsTested, IsTestedAt, Decides, IsSearched};
 
-use crate::at_ports::{admits, is_greatest, keeps_range, meets, stops};
+use crate::at_ports::{admits, is_greatest, keeps_range, meets, rests_at, stops};
 use crate::compare::is_same;
 use crate::conclusion::concludes;
 use crate::judgement::{Test, WideSum};
@@ -136,7 +136,7 @@ impl<'a> Trial<'a> {
         ensures { Decides self.now Test.EvenOut edge result }
     {
         match self.net.edges()[edge].start {
-            Start::Split(splitter) => self.state.backed()[edge]
+            Start::Split(splitter) => rests_at(self.net, self.state, edge, true)
                 || is_greatest(self.state, self.ports.out_of[splitter as usize], edge),
             Start::Input(_) => true,
         }
@@ -147,7 +147,7 @@ impl<'a> Trial<'a> {
         ensures { Decides self.now Test.EvenIn edge result }
     {
         match self.net.edges()[edge].target {
-            Target::Split(splitter) => !self.state.backed()[edge]
+            Target::Split(splitter) => rests_at(self.net, self.state, edge, false)
                 || is_greatest(self.state, self.ports.into[splitter as usize], edge),
             Target::Output(_) => true,
         }

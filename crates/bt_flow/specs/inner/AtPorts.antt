@@ -8,7 +8,7 @@ use Rattle.bt_flow.specs.declared.ports.Port.{Port}
 use Rattle.bt_flow.specs.declared.ports.Role.{Role}
 use Rattle.bt_flow.specs.declared.sums.Wide.{Wide}
 use Rattle.bt_flow.specs.States.{Flows, Fractions, StandsFor, flow_at, backed_at, cap_in}
-use Rattle.bt_flow.specs.Steady.{HasEdge}
+use Rattle.bt_flow.specs.Steady.{HasEdge, IsFull}
 use Rattle.bt_flow.specs.Sums.{AllFit, IsFirstWide}
 use Rattle.bt_flow.specs.inner.Ports.{numbers_of, plays}
 
@@ -49,13 +49,13 @@ MeetsAt s limit mark a = (flow_at s a ≤ℤ limit) × (backed_at s a ≡ mark �
 abbrev pub FlowsAtMost : Flows → ℕ → ℕ → Type 0
 FlowsAtMost s a b = flow_at s b ≤ℤ flow_at s a
 
--- an edge is backed, or its flow is at its cap
-abbrev pub Stops : Flows → ℕ → Edge → Type 0
-Stops s a e = (backed_at s a ≡ true) ⊎ (flow_at s a ≡ cap_in s e)
+-- an edge has this mark, or is full
+abbrev pub Rests : Flows → Bool → ℕ → Edge → Type 0
+Rests s mark a e = (backed_at s a ≡ mark) ⊎ IsFull s a e
 
--- the edge with this number is backed or has its flow at its cap
-abbrev pub StopsAt : Network → Flows → ℕ → Type 0
-StopsAt n s a = (e : Edge) → HasEdge n a e → Stops s a e
+-- the edge with this number has this mark, or is full
+abbrev pub RestsAt : Network → Flows → Bool → ℕ → Type 0
+RestsAt n s mark a = (e : Edge) → HasEdge n a e → Rests s mark a e
 
 -- the flows of all edges with a role are equal
 abbrev pub Agree : Network → Role → Flows → Type 0

@@ -1,13 +1,12 @@
-use Rattle.std.proofs.Common.{◌<◌, true, length, get_or, sym, subst, ◌∙◌}
+use Rattle.std.proofs.Common.{◌<◌, true, false, length, get_or, sym, subst, ◌∙◌}
 use Rattle.bt_flow.specs.declared.judgement.Test.TheVariants as test
 use Rattle.bt_flow.specs.declared.ports.Port.TheVariants.{Unused}
 use Rattle.bt_flow.specs.declared.ports.Role.TheVariants.{Into}
 use Rattle.bt_flow.specs.inner.Trials.{Decides}
-use Rattle.bt_flow.proofs.AtEdges.{mark_read}
 use Rattle.bt_flow.proofs.AtPlaces.{flows_below}
 use Rattle.bt_flow.proofs.Adding.{no_edge}
 use Rattle.bt_flow.proofs.Numbers.{number_fits}
-use Rattle.bt_flow.proofs.Sharing.{evens_none, evens_at, enters-split, enters-output}
+use Rattle.bt_flow.proofs.Sharing.{evens_none, evens_rests, evens_at, enters-split, enters-output}
 use Rattle.bt_flow.proofs.trial.Trial.passes_even_in.Goals as goal
 
 pub is_greatest-requires-clause-port : goal.is_greatest-requires-clause-port
@@ -22,8 +21,8 @@ is_greatest-requires-clause-port c =
     flows_below n c.self.inside.ports c.self.inside.state.now c.self.inside.flows.now c.self.invariant k Into (get_or c.self.inside.ports.into k Unused)
     (c.self.invariant.ports.into.at k few Unused)
 
-pub returns-else-not-backed-edge : goal.returns-else-not-backed-edge
-returns-else-not-backed-edge c =
+pub returns-else-rests_at : goal.returns-else-rests_at
+returns-else-rests_at c =
     let n = c.self.inside.net.now in
     let t = c.self.inside.state.now in
     let a = c.args.edge in
@@ -34,9 +33,16 @@ returns-else-not-backed-edge c =
     let few = number_fits n Into c.edges.ensures.network c.edges.result.now a k no_edge c.edges.ensures.edges m (λ m. enters-split e k m c.in-Split.is) in
     subst (λ x. Decides x test.EvenIn a c.is_greatest.result) c.self.view_is
     (λ s h.
-    let mark = mark_read n t s h c.backed.result.now c.backed.ensures a ∙ c.if-not-backed-edge.false in
-    evens_at n s c.edges.result.now a no_edge c.edges.ensures.edges l Into true k (get_or c.self.inside.ports.into k Unused)
-    (λ m. enters-split e k m c.in-Split.is) (c.self.invariant.ports.into.at k few Unused) mark c.is_greatest.result (c.is_greatest.ensures n s h))
+    evens_at n s c.edges.result.now a no_edge c.edges.ensures.edges l Into false k (get_or c.self.inside.ports.into k Unused)
+    (λ m. enters-split e k m c.in-Split.is) (c.self.invariant.ports.into.at k few Unused) c.rests_at.result c.if-rests_at.false (c.rests_at.ensures s h) c.is_greatest.result (c.is_greatest.ensures n s h))
+
+pub returns-then-rests_at : goal.returns-then-rests_at
+returns-then-rests_at c =
+    let n = c.self.inside.net.now in
+    let a = c.args.edge in
+    let l : a < length n.edges = subst (λ x. a < length x.network.edges) (sym c.self.view_is) c.requires in
+    subst (λ x. Decides x test.EvenIn a c.rests_at.result) c.self.view_is
+    (λ s h. evens_rests n s c.edges.result.now a no_edge c.edges.ensures.edges l Into false c.rests_at.result c.if-rests_at.true (c.rests_at.ensures s h))
 
 pub returns-in-Output : goal.returns-in-Output
 returns-in-Output c =
@@ -45,4 +51,4 @@ returns-in-Output c =
     let e = get_or c.edges.result.now a no_edge in
     let l : a < length n.edges = subst (λ x. a < length x.network.edges) (sym c.self.view_is) c.requires in
     subst (λ x. Decides x test.EvenIn a true) c.self.view_is
-    (λ s h. evens_none n s c.edges.result.now a no_edge c.edges.ensures.edges l Into true (λ k. enters-output e c.in-Output.field-0 k c.in-Output.is))
+    (λ s h. evens_none n s c.edges.result.now a no_edge c.edges.ensures.edges l Into false (λ k. enters-output e c.in-Output.field-0 k c.in-Output.is))
