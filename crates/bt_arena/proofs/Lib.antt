@@ -1,2 +1,3 @@
 pub mod Issued
 pub mod PoolPieces
+pub mod Overwriting

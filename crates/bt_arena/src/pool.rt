@@ -1,9 +1,11 @@
 //! Lists of items in one vector, since many short vectors would take a block of memory each.
 ghost use Rattle.std.specs.Prelude.{◌≡◌, ◌<◌, ◌≤◌, [], ◌∷◌, ◌++◌, length, slice_get, slice_range, Some, OnErr, OnOk, IfOk, IsOkAnd, IfSome, IsNone, ◌↔◌};
 ghost use Rattle.std.specs.Allocator.{alloc_error};
+ghost use Rattle.std.specs.Borrow.{sem};
 ghost use Rattle.bt_answers.specs.Answers.{seen, Answers};
 ghost use Rattle.bt_arena.specs.Items.{with_id, IsAdded, KeepsItems};
 ghost use Rattle.bt_arena.specs.Pieces.{AreEnds, start_of, IsSpan};
+ghost use Rattle.bt_arena.specs.PoolLends.{lends_list};
 
 use crate::id::Id;
 use std::alloc::{AllocError, Global};
@@ -48,6 +50,7 @@ fn span<T>(items: &[T], ends: &[usize], place: usize) -> (usize, usize)
     ensures order { result.0 ≤ result.1 }
     ensures within { result.1 ≤ length items.now }
     ensures piece { IsSpan ends.now items.now place result }
+    ensures start { result.0 ≡ start_of 0 ends.now place }
 {
     (start(ends, place), ends[place])
 }
@@ -78,6 +81,17 @@ impl<T: Copy, K> Pool<T, K> {
     {
         let (from, end) = span(&self.items, &self.ends, id.place());
         &self.items[from..end]
+    }
+
+    /// The list that an id names, to be changed item by item. Its length stays, and so does every other
+    /// list.
+    pub fn slice_mut(&mut self, id: Id<K>) -> &mut [T]
+        requires { id < length self.old }
+        ensures* writes_back { sem 𝓛 (lends_list T.row K.row self.entry id result) }
+        ensures value { slice_get self.old id ≡ Some result.now }
+    {
+        let (from, end) = span(&self.items, &self.ends, id.place());
+        self.items.slice_mut(from..end)
     }
 
     /// The id of the list at a place, where there is one.
@@ -127,6 +141,18 @@ mod tests {
             assert!(rt; pool.slice(id) == *list);
         }
         assert!(rt; pool.id_at(3) == None && pool.len() == 3);
+        Ok(())
+    }
+
+    #[test]
+    fn changes_one_list(rt: HostRuntime) -> Result<(), Fail> {
+        let mut pool: Pool<u32, Row> = Pool::new(rt.alloc())?;
+        let first = pool.add_slice(&[1, 2])?;
+        let second = pool.add_slice(&[3, 4])?;
+        pool.slice_mut(second).reverse();
+        let before: &[u32] = &[1, 2];
+        let after: &[u32] = &[4, 3];
+        assert!(rt; pool.slice(first) == before && pool.slice(second) == after);
         Ok(())
     }
 }

@@ -32,6 +32,21 @@ got [] i d x is = cc
 got (y ∷ xs) zero d x is = cc
 got (y ∷ xs) (suc i) d x is = got xs i d x is
 
+pub got_below : {X : Type 0} (xs : List X) (i : ℕ) (x : X) → slice_get xs i ≡ Some x → i < length xs
+got_below [] i x is = cc
+got_below (y ∷ xs) zero x is = omega arith
+got_below (y ∷ xs) (suc i) x is = omega (arith, got_below xs i x is)
+
+-- past the places no atom stands
+past_from : (least end var : ℕ) (atoms : List ℕ) → AscendBelow least end atoms → end ≤ var → IsPlaceOf atoms var None
+past_from least end var [] ascend past = All-nil (λ other. other ≢ var)
+past_from least end var (n ∷ atoms) ascend past =
+    let below : n < var = omega (arith, ascend.1, past) in
+    All-cons (λ other. other ≢ var) n atoms (λ same. omega (arith, same, below)) (past_from (n + 1) end var atoms ascend.2 past)
+
+pub past_atoms : (end var : ℕ) (atoms : List ℕ) → AscendBelow 0 end atoms → end ≤ var → IsPlaceOf atoms var None
+past_atoms end var atoms ascend past = past_from 0 end var atoms ascend past
+
 -- one more number above all
 ascend_more : (least end n : ℕ) (ns : List ℕ) → AscendBelow least end ns → All (λ m. m < n) ns → least ≤ n → n < end → AscendBelow least end (ns ++ n ∷ [])
 ascend_more least end n [] ascend above from below = (from, below, tt)

@@ -126,10 +126,12 @@ impl Formula {
 
     /// The place of a variable's row among the rows. None exactly where the variable is no atom.
     pub fn row_of(&self, var: Var) -> Option<usize>
-        requires { var < self.now.vars }
         ensures { IsPlaceOf (map (λ a. a.0) self.now.atoms) var result }
     {
-        *self.places.get(var)
+        match self.places.id_at(var.place()) {
+            Some(place) => *self.places.get(place),
+            None => None,
+        }
     }
 
     /// One more than the greatest column of the rows, or 0 where no row has a term.

@@ -1,0 +1,35 @@
+//! Choosers, which a search asks which variable to set next, and tells which clauses it learnt.
+ghost use Rattle.std.specs.Prelude.{◌≡◌, ◌<◌, ℕ, List, [], ◌∷◌, length, OnOk, OnErr};
+ghost use Rattle.std.specs.declared.option.Option.{Option};
+ghost use Rattle.bt_cnf.specs.Choosing.{Ascends, Gains};
+
+use crate::literal::{Lit, Var};
+use std::alloc::AllocError;
+
+/// Which of some unset variables is set next, and how.
+#[derive(Clone, Copy, PartialEq, Eq)]
+pub struct Pick {
+    /// The place of the variable among those.
+    pub place: usize,
+    /// Whether it is set to true.
+    pub positive: bool,
+}
+
+/// Steers a search. What it answers never changes whether an answer of the search is right.
+pub trait Chooser: Drop {
+    /// The lengths of the clauses that it was told, where it tells them. Whether it does never changes.
+    ghost told_lengths: { Self → Option (List ℕ) };
+
+    /// Chooses among the unset variables, of which there is at least one, and which ascend.
+    fn pick(&mut self, unset: &[Var]) -> Pick
+        requires some { 0 < length unset.now }
+        requires ascending { Ascends unset.now }
+        ensures in_range { result.place < length unset.now }
+        ensures same { told_lengths self.new ≡ told_lengths self.old };
+
+    /// Is told of a clause that was learnt. A chooser that grows keeps its own allocator.
+    fn told(&mut self, clause: &[Lit]) -> Result<(), AllocError>
+        ensures gains { OnOk result
+            (Gains (told_lengths self.old) (told_lengths self.new) (length clause.now ∷ [])) }
+        ensures keeps { OnErr result (told_lengths self.new ≡ told_lengths self.old) };
+}
