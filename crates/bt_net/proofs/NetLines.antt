@@ -1,7 +1,8 @@
 -- A network's text, line by line.
-use Rattle.std.proofs.Common.{◌≡◌, ◌≢◌, ℕ, ◌-◌, ◌≤◌, ◌⊎◌, Bool, true, not, cond, eqb, eq-eqb, List, [], ◌∷◌, ◌++◌, length, get_or, map, drop, refl, sym, ◌∙◌, ap, subst, inl, inr, ⊎_elim, arith, length-append}
+use Rattle.std.proofs.Common.{◌≡◌, ◌≢◌, ℕ, ◌-◌, ◌<◌, ◌≤◌, ◌⊎◌, Bool, true, not, cond, eqb, eq-eqb, List, [], ◌∷◌, ◌++◌, length, get_or, map, drop, refl, sym, ◌∙◌, ap, subst, inl, inr, ⊎_elim, arith, length-append}
 use Rattle.std.specs.Prelude.{codes, decimal}
-use Rattle.std.specs.List.{All, count_by, flat_map, list_all}
+use Rattle.std.specs.List.{All, AllZip, count_by, flat_map, list_all}
+use Rattle.std.proofs.lemmas.Bool.{cases_eq, ne_eqb}
 use Rattle.std.proofs.lemmas.List.{append-nil, append_assoc, get_or_append_left, get_or_at}
 use Rattle.std.proofs.lemmas.List.Concat.{flat_map-append}
 use Rattle.std.proofs.lemmas.List.Elements.{All-nil, All-cons, All-head, All-tail, All-append, All-map, All-weaker}
@@ -16,50 +17,68 @@ use Rattle.bt_net.specs.declared.network.Start.{Start}
 use Rattle.bt_net.specs.declared.network.Start.TheVariants as from
 use Rattle.bt_net.specs.declared.network.Target.{Target}
 use Rattle.bt_net.specs.declared.network.Target.TheVariants as to
-use Rattle.bt_net.specs.Network.{Network, IsWired, IsNetwork, StartsIn, EndsIn, is_input, is_output, leaves, enters}
-use Rattle.bt_net.specs.NetText.{start_text, target_text, header, edge_text, net_text, BeginsWithNet}
-use Rattle.bt_net.specs.Refusals.{HeaderRefused, GoesOn, EdgesRefused}
+use Rattle.bt_net.specs.Network.{Network, IsCap, IsWired, IsNetwork, StartsIn, EndsIn, is_input, is_output, leaves, enters}
+use Rattle.bt_net.specs.NetText.{start_text, target_text, ends_text, cap_text, header, IsEdgeLine, edge_text, net_text, BeginsWithNet}
+use Rattle.bt_net.specs.Refusals.{HeaderRefused, BeginsWithEdges, GoesOn, EdgesRefused}
 use Rattle.bt_net.specs.Wiring.{IsPartlyWired, with_edge, HasSmallSizes}
-use Rattle.bt_net.specs.inner.Lines.{StartFits, TargetFits, EdgeFits, IsStarted, SameSizes}
-use Rattle.bt_net.proofs.Spelling.{start-lacks, target-lacks, ends_of, header_unique, IsHeader-header}
+use Rattle.bt_net.specs.inner.Lines.{StartFits, TargetFits, EdgeFits, IsTargetAndCap, IsStarted, SameSizes}
+use Rattle.bt_net.proofs.Spelling.{start-lacks, target-lacks, start_lacks_space, target_lacks_space, edge_words, cut_words, cut_cap, uncut_cap, header_unique, IsHeader-header}
 
--- the text is the lines of the network's edges and the line `end`, and then this rest
-abbrev pub EndsWith : Network → List ℕ → List ℕ → Type 0
-EndsWith n text rest = BeginsWithLines text (map edge_text n.edges ++ codes "end" ∷ []) rest
+-- the text is lines of the network's edges and the line `end`, and then this rest
+pub record EndsWith (n : Network) (text rest : List ℕ) : Type 0 where
+  pub lines : List (List ℕ)
+  pub are_edges : AllZip IsEdgeLine lines n.edges
+  pub begins : BeginsWithLines text (lines ++ codes "end" ∷ []) rest
 
--- the lines of a network's text
-abbrev pub net_lines : Network → List (List ℕ)
-net_lines n = header n ∷ (map edge_text n.edges ++ codes "end" ∷ [])
+-- the line that is printed of an edge is its line
+printed_line : (e : Edge) → IsEdgeLine (edge_text e) e
+printed_line e = ⊎_elim
+    (λ one. inr (rw (eq-eqb e.cap 1 one) (append-nil (ends_text e)), one))
+    (λ other. inl (rw (ne_eqb e.cap 1 other) refl))
+    (cases_eq e.cap 1)
+
+printed_lines : (es : List Edge) → AllZip IsEdgeLine (map edge_text es) es
+printed_lines [] = tt
+printed_lines (e ∷ es) = (printed_line e, printed_lines es)
 
 lines_of : (es : List Edge) → flat_map line (map edge_text es) ≡ flat_map (λ e. line (edge_text e)) es
 lines_of [] = refl
 lines_of (e ∷ es) = ap (λ x. line (edge_text e) ++ x) (lines_of es)
 
--- the text is its lines
-pub net_text_lines : (n : Network) → net_text n ≡ flat_map line (net_lines n)
+-- the text that is printed is its lines
+net_text_lines : (n : Network) → net_text n ≡ flat_map line (header n ∷ map edge_text n.edges ++ codes "end" ∷ [])
 net_text_lines n =
     append_assoc (line (header n)) (flat_map (λ e. line (edge_text e)) n.edges) (line (codes "end"))
     ∙ ap (λ x. line (header n) ++ x) (ap (λ x. x ++ line (codes "end")) (sym (lines_of n.edges)) ∙ sym (flat_map-append line (map edge_text n.edges) (codes "end" ∷ [])))
 
-pub lines_from_net : (bytes : List ℕ) (n : Network) (rest : List ℕ) → BeginsWithNet bytes n rest → BeginsWithLines bytes (net_lines n) rest
-lines_from_net bytes n rest begins = subst (λ t. (bytes ≡ t ++ rest) ⊎ ((line bytes ≡ t) × (rest ≡ []))) (net_text_lines n) begins
-
-pub net_from_lines : (bytes : List ℕ) (n : Network) (rest : List ℕ) → BeginsWithLines bytes (net_lines n) rest → BeginsWithNet bytes n rest
-net_from_lines bytes n rest begins = subst (λ t. (bytes ≡ t ++ rest) ⊎ ((line bytes ≡ t) × (rest ≡ []))) (sym (net_text_lines n)) begins
+-- the text that is printed of a network begins with that network
+pub printed_begins : (n : Network) (rest : List ℕ) → BeginsWithNet (net_text n ++ rest) n rest
+printed_begins n rest = record {
+  edge_lines = map edge_text n.edges;
+  are_edges = printed_lines n.edges;
+  begins = inl (ap (λ t. t ++ rest) (net_text_lines n));
+}
 
 -- no byte of these is that byte
 lacks : (byte : ℕ) (xs : List ℕ) → list_all (λ x. not (eqb x byte)) xs ≡ true → Lacks byte xs
 lacks byte xs e = All-weaker (λ x. not (eqb x byte) ≡ true) (λ x. x ≢ byte) (λ x t same. cc (ap not (eq-eqb x byte same))) xs (AllPass-from_list_all (λ x. not (eqb x byte)) xs e)
 
-pub edge-lacks : (e : Edge) → EdgeFits e → Lacks 10 (edge_text e)
-edge-lacks e fits =
+-- no line feed in an edge line
+pub edge-lacks : (bytes : List ℕ) (e : Edge) → EdgeFits e → IsEdgeLine bytes e → Lacks 10 bytes
+edge-lacks bytes e fits is =
     let start = start-lacks 10 e.start fits.0 (λ r. omega (arith, r.0)) (λ x. omega arith) (λ x. omega arith) in
     let target = target-lacks 10 e.target fits.1 (λ r. omega (arith, r.0)) (λ x. omega arith) (λ x. omega arith) in
+    let cap : Lacks 10 (decimal e.cap) = decimal-lacks e.cap 10 (omega (arith, fits.2.1)) (λ r. omega (arith, r.0)) in
+    let ends : Lacks 10 (ends_text e) =
     All-append (λ b. b ≢ 10) (codes "edge " ++ start_text e.start ++ codes " ") (target_text e.target)
     (All-append (λ b. b ≢ 10) (codes "edge " ++ start_text e.start) (codes " ")
     (All-append (λ b. b ≢ 10) (codes "edge ") (start_text e.start) (lacks 10 (codes "edge ") refl) start)
     (lacks 10 (codes " ") refl))
-    target
+    target in
+    ⊎_elim
+    (λ whole. rw whole (All-append (λ b. b ≢ 10) (ends_text e) (cap_text e.cap) ends (All-append (λ b. b ≢ 10) (codes " ") (decimal e.cap) (lacks 10 (codes " ") refl) cap)))
+    (λ short. rw short.0 ends)
+    is
 
 header-lacks : (n : Network) → HasSmallSizes n → Lacks 10 (header n)
 header-lacks n small =
@@ -86,15 +105,23 @@ target_fits : (n : Network) (t : Target) → HasSmallSizes n → EndsIn n t → 
 target_fits n (to.Split i) small inside = omega (arith, small.few_splitters, inside)
 target_fits n (to.Output i) small inside = omega (arith, small.few_outputs, inside)
 
-pub edges_fit : (n : Network) → HasSmallSizes n → All (λ e. StartsIn n e.start) n.edges → All (λ e. EndsIn n e.target) n.edges → All EdgeFits n.edges
-edges_fit n small starts targets k d inside = (start_fits n (get_or n.edges k d).start small (starts k d inside), target_fits n (get_or n.edges k d).target small (targets k d inside))
+pub edges_fit : (n : Network) → HasSmallSizes n → IsPartlyWired n → All EdgeFits n.edges
+edges_fit n small wired k d inside =
+    (start_fits n (get_or n.edges k d).start small (wired.starts k d inside), target_fits n (get_or n.edges k d).target small (wired.targets k d inside), wired.caps k d inside)
 
-pub edges-lack : (es : List Edge) → All EdgeFits es → All (Lacks 10) (map edge_text es)
-edges-lack es fits = All-map (Lacks 10) edge_text es (All-weaker EdgeFits (λ e. Lacks 10 (edge_text e)) edge-lacks es fits)
+pub edges-lack : (lines : List (List ℕ)) (es : List Edge) → All EdgeFits es → AllZip IsEdgeLine lines es → All (Lacks 10) lines
+edges-lack [] [] fits are = All-nil (Lacks 10)
+edges-lack [] (e ∷ es) fits are = absurd are
+edges-lack (l ∷ ls) [] fits are = absurd are
+edges-lack (l ∷ ls) (e ∷ es) fits are = All-cons (Lacks 10) l ls (edge-lacks l e (All-head EdgeFits e es fits) are.0) (edges-lack ls es (All-tail EdgeFits e es fits) are.1)
 
 -- an edge line is no line `end`
-pub edge-ne_end : (e : Edge) → edge_text e ≡ codes "end" → ⊥
-edge-ne_end e is = omega (arith, ap (λ l. get_or l 1 0) is)
+pub edge-ne_end : (e : Edge) → IsEdgeLine (codes "end") e → ⊥
+edge-ne_end e is = let words = edge_words (codes "end") e is in omega (arith, ap (λ l. get_or l 1 0) words.1)
+
+-- an edge line has bytes
+pub edge-some : (bytes : List ℕ) (e : Edge) → IsEdgeLine bytes e → 0 < length bytes
+edge-some bytes e is = let words = edge_words bytes e is in omega (arith, length-append (codes "edge ") (start_text e.start ++ 32 ∷ words.0), ap length words.1)
 
 start_apart : (s t : Start) → StartFits s → StartFits t → start_text s ≡ start_text t → s ≡ t
 start_apart (from.Input i) (from.Input j) p q e = ap from.Input (decimal_apart i j (omega arith) (omega arith) (ap (drop 1) e))
@@ -108,56 +135,82 @@ target_apart (to.Output i) (to.Split j) p q e = absurd (omega (arith, ap (λ l. 
 target_apart (to.Split i) (to.Output j) p q e = absurd (omega (arith, ap (λ l. get_or l 0 0) e))
 target_apart (to.Split i) (to.Split j) p q e = ap to.Split (decimal_apart i j (omega arith) (omega arith) (ap (drop 1) e))
 
--- an edge line is the line of one edge of cap 1
-pub edge_apart : (e f : Edge) → EdgeFits e → EdgeFits f → e.cap ≡ 1 → f.cap ≡ 1 → edge_text e ≡ edge_text f → e ≡ f
-edge_apart e f p q one other is =
-    let words : start_text f.start ++ 32 ∷ [] ++ target_text f.target ≡ start_text f.start ++ 32 ∷ target_text f.target = append_assoc (start_text f.start) (32 ∷ []) (target_text f.target) in
-    let split : SplitsAt 32 (start_text f.start ++ 32 ∷ target_text f.target) (start_text f.start) (target_text f.target) =
-    record { first = start-lacks 32 f.start q.0 (λ r. omega (arith, r.0)) (λ x. omega arith) (λ x. omega arith); text_is = refl } in
-    let same = ends_of (start_text f.start ++ 32 ∷ target_text f.target) (start_text f.start) (target_text f.target) e p split
-    (sym words ∙ ap (drop 5) (sym is) ∙ append_assoc (start_text e.start) (32 ∷ []) (target_text e.target)) in
-    let start = start_apart e.start f.start p.0 q.0 (sym same.0) in
-    let target = target_apart e.target f.target p.1 q.1 (sym same.1) in
-    let cap = one ∙ sym other in
+-- words are those of one target and one cap
+target_cap_apart : (words : List ℕ) (s t : Target) (c d : ℕ) → TargetFits s → TargetFits t → IsCap c → IsCap d → IsTargetAndCap words s c → IsTargetAndCap words t d → (s ≡ t) × (c ≡ d)
+target_cap_apart words s t c d p q small smaller (inl is) other =
+    let splits : SplitsAt 32 words (target_text s) (decimal c) = record { first = target_lacks_space s p; text_is = is } in
+    let same = cut_cap words (target_text s) (decimal c) t d q splits other in
+    (target_apart s t p q same.0, decimal_apart c d (omega (arith, small.1)) (omega (arith, smaller.1)) same.1)
+target_cap_apart words s t c d p q small smaller (inr is) other =
+    let same = uncut_cap words t d q (rw (← is.0) at (target_lacks_space s p)) other in
+    (target_apart s t p q (sym is.0 ∙ same.0), is.1 ∙ sym same.1)
+
+-- an edge line is the line of one edge
+pub edge_apart : (bytes : List ℕ) (e f : Edge) → EdgeFits e → EdgeFits f → IsEdgeLine bytes e → IsEdgeLine bytes f → e ≡ f
+edge_apart bytes e f p q is other =
+    let words = edge_words bytes e is in
+    let split : SplitsAt 32 (start_text e.start ++ 32 ∷ words.0) (start_text e.start) words.0 = record { first = start_lacks_space e.start p.0; text_is = refl } in
+    let same = cut_words bytes (start_text e.start ++ 32 ∷ words.0) (start_text e.start) words.0 f q words.1 split other in
+    let start = start_apart e.start f.start p.0 q.0 same.0 in
+    let rest = target_cap_apart words.0 e.target f.target e.cap f.cap p.1 q.1 p.2 q.2 words.2 same.1 in
+    let target = rest.0 in
+    let cap = rest.1 in
     λ i. record { start = start i; target = target i; cap = cap i }
 
--- edges as a text has them
-pub record AreRead (es : List Edge) : Type 0 where
+-- edges, and lines of them
+pub record AreLines (lines : List (List ℕ)) (es : List Edge) : Type 0 where
   pub fit : All EdgeFits es
-  pub caps : All (λ e. e.cap ≡ 1) es
+  pub are_edges : AllZip IsEdgeLine lines es
 
-pub AreRead-head : (e : Edge) (es : List Edge) → AreRead (e ∷ es) → EdgeFits e × (e.cap ≡ 1)
-AreRead-head e es r = (All-head EdgeFits e es r.fit, All-head (λ x. x.cap ≡ 1) e es r.caps)
+pub AreLines-head : (l : List ℕ) (ls : List (List ℕ)) (e : Edge) (es : List Edge) → AreLines (l ∷ ls) (e ∷ es) → EdgeFits e × IsEdgeLine l e
+AreLines-head l ls e es r = (All-head EdgeFits e es r.fit, r.are_edges.0)
 
-pub AreRead-tail : (e : Edge) (es : List Edge) → AreRead (e ∷ es) → AreRead es
-AreRead-tail e es r = record { fit = All-tail EdgeFits e es r.fit; caps = All-tail (λ x. x.cap ≡ 1) e es r.caps }
+pub AreLines-tail : (l : List ℕ) (ls : List (List ℕ)) (e : Edge) (es : List Edge) → AreLines (l ∷ ls) (e ∷ es) → AreLines ls es
+AreLines-tail l ls e es r = record { fit = All-tail EdgeFits e es r.fit; are_edges = r.are_edges.1 }
+
+pub AreLines-lack : (ls : List (List ℕ)) (es : List Edge) → AreLines ls es → All (Lacks 10) ls
+AreLines-lack ls es r = edges-lack ls es r.fit r.are_edges
+
+-- what lines of some edges begin: these edges, and then others
+pub record GoesOver (es fs : List Edge) (more tail : List (List ℕ)) : Type 0 where
+  pub edges : List Edge
+  pub lines : List (List ℕ)
+  pub are_edges : AllZip IsEdgeLine lines edges
+  pub all : fs ≡ es ++ edges
+  pub more_is : more ≡ lines ++ tail
 
 -- edge lines, and lines that begin with none, that begin with the lines of some edges: these come first, and the others follow
-pub go_over : (tail : List (List ℕ)) → ((e : Edge) (rest : List (List ℕ)) → tail ≡ edge_text e ∷ rest → ⊥) → (es fs : List Edge) (more : List (List ℕ)) → AreRead es → AreRead fs
-    → map edge_text fs ++ tail ≡ map edge_text es ++ more → (gs : List Edge) × (fs ≡ es ++ gs) × (more ≡ map edge_text gs ++ tail)
-go_over tail none [] fs more p q is = (fs, refl, sym is)
-go_over tail none (e ∷ es) [] more p q is = absurd (none e (map edge_text es ++ more) is)
-go_over tail none (e ∷ es) (f ∷ fs) more p q is =
-    let a = AreRead-head e es p in
-    let b = AreRead-head f fs q in
-    let same = edge_apart f e b.0 a.0 b.1 a.1 (cc) in
-    let rest = go_over tail none es fs more (AreRead-tail e es p) (AreRead-tail f fs q) (cc) in
-    (rest.0, (λ i. same i ∷ rest.1 i), rest.2)
+pub go_over : (tail : List (List ℕ)) → ((bytes : List ℕ) (rest : List (List ℕ)) (e : Edge) → tail ≡ bytes ∷ rest → IsEdgeLine bytes e → ⊥)
+    → (ks : List (List ℕ)) (es : List Edge) (ls : List (List ℕ)) (fs : List Edge) (more : List (List ℕ)) → AreLines ks es → AreLines ls fs → ls ++ tail ≡ ks ++ more → GoesOver es fs more tail
+go_over tail none [] [] ls fs more p q is = record { edges = fs; lines = ls; are_edges = q.are_edges; all = refl; more_is = sym is }
+go_over tail none [] (e ∷ es) ls fs more p q is = absurd p.are_edges
+go_over tail none (k ∷ ks) [] ls fs more p q is = absurd p.are_edges
+go_over tail none (k ∷ ks) (e ∷ es) [] [] more p q is = absurd (none k (ks ++ more) e is p.are_edges.0)
+go_over tail none (k ∷ ks) (e ∷ es) [] (f ∷ fs) more p q is = absurd q.are_edges
+go_over tail none (k ∷ ks) (e ∷ es) (l ∷ ls) [] more p q is = absurd q.are_edges
+go_over tail none (k ∷ ks) (e ∷ es) (l ∷ ls) (f ∷ fs) more p q is =
+    let a = AreLines-head k ks e es p in
+    let b = AreLines-head l ls f fs q in
+    let line_same : l ≡ k = cc in
+    let same = edge_apart k f e b.0 a.0 (subst (λ bytes. IsEdgeLine bytes f) line_same b.1) a.1 in
+    let rest = go_over tail none ks es ls fs more (AreLines-tail k ks e es p) (AreLines-tail l ls f fs q) (cc) in
+    let rest_all = rest.all in
+    record { edges = rest.edges; lines = rest.lines; are_edges = rest.are_edges; all = λ i. same i ∷ rest_all i; more_is = rest.more_is }
 
-end_no_edge : (e : Edge) (rest : List (List ℕ)) → codes "end" ∷ [] ≡ edge_text e ∷ rest → ⊥
-end_no_edge e rest is = edge-ne_end e (sym (cc))
+end_no_edge : (bytes : List ℕ) (rest : List (List ℕ)) (e : Edge) → codes "end" ∷ [] ≡ bytes ∷ rest → IsEdgeLine bytes e → ⊥
+end_no_edge bytes rest e is edge = let same : bytes ≡ codes "end" = sym (cc) in edge-ne_end e (subst (λ l. IsEdgeLine l e) same edge)
 
 -- the same of edge lines up to `end`
-go_on : (es fs : List Edge) (more : List (List ℕ)) → AreRead es → AreRead fs → map edge_text fs ++ codes "end" ∷ [] ≡ map edge_text es ++ more
-    → (gs : List Edge) × (fs ≡ es ++ gs) × (more ≡ map edge_text gs ++ codes "end" ∷ [])
-go_on es fs more p q is = go_over (codes "end" ∷ []) end_no_edge es fs more p q is
+go_on : (ks : List (List ℕ)) (es : List Edge) (ls : List (List ℕ)) (fs : List Edge) (more : List (List ℕ)) → AreLines ks es → AreLines ls fs → ls ++ codes "end" ∷ [] ≡ ks ++ more → GoesOver es fs more (codes "end" ∷ [])
+go_on ks es ls fs more p q is = go_over (codes "end" ∷ []) end_no_edge ks es ls fs more p q is
 
 -- the line `end` comes among no edge lines
-no_end_among : (es fs : List Edge) (more : List (List ℕ)) → map edge_text es ≡ map edge_text fs ++ codes "end" ∷ [] ++ more → ⊥
-no_end_among [] [] more is = cc
-no_end_among [] (f ∷ fs) more is = cc
-no_end_among (e ∷ es) [] more is = edge-ne_end e (cc)
-no_end_among (e ∷ es) (f ∷ fs) more is = no_end_among es fs more (cc)
+no_end_among : (ks ls : List (List ℕ)) (es : List Edge) (more : List (List ℕ)) → AllZip IsEdgeLine ks es → ks ≡ ls ++ codes "end" ∷ [] ++ more → ⊥
+no_end_among [] [] es more are is = cc
+no_end_among [] (l ∷ ls) es more are is = cc
+no_end_among (k ∷ ks) ls [] more are is = absurd are
+no_end_among (k ∷ ks) [] (e ∷ es) more are is = let same : k ≡ codes "end" = cc in edge-ne_end e (subst (λ l. IsEdgeLine l e) same are.0)
+no_end_among (k ∷ ks) (l ∷ ls) (e ∷ es) more are is = no_end_among ks ls es more are.1 (cc)
 
 count_front : (p : Edge → Bool) (es gs : List Edge) (m : ℕ) → count_by p (es ++ gs) ≤ m → count_by p es ≤ m
 count_front p es gs m most = omega (arith, sum_by-append (λ x. cond (p x) 1 0) es gs)
@@ -182,25 +235,22 @@ pub partly_front : (n : Network) (es gs : List Edge) → IsPartlyWired n → n.e
 partly_front n es gs wired is = record {
   starts = All-front (λ e. StartsIn n e.start) es gs (subst (All (λ e. StartsIn n e.start)) is wired.starts);
   targets = All-front (λ e. EndsIn n e.target) es gs (subst (All (λ e. EndsIn n e.target)) is wired.targets);
-  caps = All-front (λ e. e.cap ≡ 1) es gs (subst (All (λ e. e.cap ≡ 1)) is wired.caps);
+  caps = All-front (λ e. IsCap e.cap) es gs (subst (All (λ e. IsCap e.cap)) is wired.caps);
   one_in = λ i inside. count_front (is_input i) es gs 1 (subst (λ xs. count_by (is_input i) xs ≤ 1) is (wired.one_in i inside));
   one_out = λ o inside. count_front (is_output o) es gs 1 (subst (λ xs. count_by (is_output o) xs ≤ 1) is (wired.one_out o inside));
   few_in = λ s inside. count_front (enters s) es gs 2 (subst (λ xs. count_by (enters s) xs ≤ 2) is (wired.few_in s inside));
   few_out = λ s inside. count_front (leaves s) es gs 2 (subst (λ xs. count_by (leaves s) xs ≤ 2) is (wired.few_out s inside));
 }
 
--- the edges of these may be read
-pub AreRead-partly : (n : Network) → HasSmallSizes n → IsPartlyWired n → AreRead n.edges
-AreRead-partly n small w = record { fit = edges_fit n small w.starts w.targets; caps = w.caps }
-
 pub HasSmallSizes-network : (n : Network) → IsNetwork n → HasSmallSizes n
 HasSmallSizes-network n net = record { few_inputs = net.few_inputs; few_outputs = net.few_outputs; few_splitters = net.few_splitters }
 
-AreRead-network : (n : Network) → IsNetwork n → AreRead n.edges
-AreRead-network n net = record { fit = edges_fit n (HasSmallSizes-network n net) net.wired.starts net.wired.targets; caps = net.wired.caps }
+-- the lines of a network's edges
+pub AreLines-network : (n : Network) (ls : List (List ℕ)) → IsNetwork n → AllZip IsEdgeLine ls n.edges → AreLines ls n.edges
+AreLines-network n ls net are = record { fit = edges_fit n (HasSmallSizes-network n net) (partly_of_wired n net.wired); are_edges = are }
 
-tail_lacks : (es : List Edge) → AreRead es → All (Lacks 10) (map edge_text es ++ codes "end" ∷ [])
-tail_lacks es r = All-append (Lacks 10) (map edge_text es) (codes "end" ∷ []) (edges-lack es r.fit) (All-cons (Lacks 10) (codes "end") [] (lacks 10 (codes "end") refl) (All-nil (Lacks 10)))
+tail_lacks : (ls : List (List ℕ)) (es : List Edge) → AreLines ls es → All (Lacks 10) (ls ++ codes "end" ∷ [])
+tail_lacks ls es r = All-append (Lacks 10) ls (codes "end" ∷ []) (AreLines-lack ls es r) (All-cons (Lacks 10) (codes "end") [] (lacks 10 (codes "end") refl) (All-nil (Lacks 10)))
 
 -- networks with the same numbers and edges
 pub same_network : (m n : Network) → SameSizes m n → m.edges ≡ n.edges → m ≡ n
@@ -212,42 +262,43 @@ SameSizes-header m n p q e =
     let h = header_unique (header n) m.inputs m.outputs m.splitters n.inputs n.outputs n.splitters (rw e at (IsHeader-header m p)) (IsHeader-header n q) in
     record { inputs = h.0; outputs = h.1; splitters = h.2 }
 
-end_ne_edges : (gs : List Edge) (more : List (List ℕ)) → codes "end" ∷ more ≡ map edge_text gs ++ codes "end" ∷ [] → more ≡ []
-end_ne_edges [] more is = cc
-end_ne_edges (g ∷ gs) more is = absurd (edge-ne_end g (sym (cc)))
-
-no_more : (gs : List Edge) (more : List (List ℕ)) → codes "end" ∷ more ≡ map edge_text gs ++ codes "end" ∷ [] → gs ≡ []
-no_more [] more is = refl
-no_more (g ∷ gs) more is = absurd (edge-ne_end g (sym (cc)))
+end_ne_edges : (ls : List (List ℕ)) (gs : List Edge) (more : List (List ℕ)) → AllZip IsEdgeLine ls gs → codes "end" ∷ more ≡ ls ++ codes "end" ∷ [] → (gs ≡ []) × (more ≡ [])
+end_ne_edges [] [] more are is = (refl, cc)
+end_ne_edges [] (g ∷ gs) more are is = absurd are
+end_ne_edges (l ∷ ls) [] more are is = absurd are
+end_ne_edges (l ∷ ls) (g ∷ gs) more are is = let same : l ≡ codes "end" = sym (cc) in absurd (edge-ne_end g (subst (λ k. IsEdgeLine k g) same are.0))
 
 -- where edge lines and `end` begin others, the edges are the same
-whole_tail : (es fs : List Edge) (more : List (List ℕ)) → AreRead es → AreRead fs → map edge_text fs ++ codes "end" ∷ [] ≡ map edge_text es ++ codes "end" ∷ [] ++ more → (es ≡ fs) × (more ≡ [])
-whole_tail es fs more p q is =
-    let on = go_on es fs (codes "end" ∷ more) p q (is ∙ append_assoc (map edge_text es) (codes "end" ∷ []) more) in
-    let few : on.0 ≡ [] = no_more on.0 more on.2 in
-    (sym (on.1 ∙ ap (λ x. es ++ x) few ∙ append-nil es), end_ne_edges on.0 more on.2)
+whole_tail : (ks : List (List ℕ)) (es : List Edge) (ls : List (List ℕ)) (fs : List Edge) (more : List (List ℕ)) → AreLines ks es → AreLines ls fs
+    → ls ++ codes "end" ∷ [] ≡ ks ++ codes "end" ∷ [] ++ more → (es ≡ fs) × (more ≡ [])
+whole_tail ks es ls fs more p q is =
+    let on = go_on ks es ls fs (codes "end" ∷ more) p q (is ∙ append_assoc ks (codes "end" ∷ []) more) in
+    let none = end_ne_edges on.lines on.edges more on.are_edges on.more_is in
+    (sym (on.all ∙ ap (λ x. es ++ x) none.0 ∙ append-nil es), none.1)
 
 -- where the lines of one network begin the lines of another, the networks are one
-whole : (m n : Network) (more : List (List ℕ)) → IsNetwork m → IsNetwork n → net_lines n ≡ net_lines m ++ more → (m ≡ n) × (more ≡ [])
-whole m n more p q is =
+whole : (m n : Network) (ks ls more : List (List ℕ)) → IsNetwork m → IsNetwork n → AllZip IsEdgeLine ks m.edges → AllZip IsEdgeLine ls n.edges
+    → header n ∷ ls ++ codes "end" ∷ [] ≡ (header m ∷ ks ++ codes "end" ∷ []) ++ more → (m ≡ n) × (more ≡ [])
+whole m n ks ls more p q are others is =
     let head : header m ≡ header n = sym (cc) in
-    let tail = whole_tail m.edges n.edges more (AreRead-network m p) (AreRead-network n q) (ap (drop 1) is) in
+    let tail = whole_tail ks m.edges ls n.edges more (AreLines-network m ks p are) (AreLines-network n ls q others) (ap (drop 1) is) in
     (same_network m n (SameSizes-header m n (HasSmallSizes-network m p) (HasSmallSizes-network n q) head) tail.0, tail.1)
 
 -- a text begins with one network at most
 pub one_network : (bytes : List ℕ) (m n : Network) (r s : List ℕ) → IsNetwork m → IsNetwork n → BeginsWithNet bytes m r → BeginsWithNet bytes n s → (m ≡ n) × (r ≡ s)
 one_network bytes m n r s p q a b = ⊎_elim
-    (λ h. let same = whole m n h.0 p q h.1 in (same.0, BeginsWithLines-nil r s (subst (λ ls. BeginsWithLines r ls s) same.1 h.2)))
-    (λ h. let same = whole n m h.0 q p h.1 in (sym same.0, sym (BeginsWithLines-nil s r (subst (λ ls. BeginsWithLines s ls r) same.1 h.2))))
-    (fork (net_lines m) (net_lines n) bytes r s (net_lack m p) (net_lack n q) (lines_from_net bytes m r a) (lines_from_net bytes n s b))
+    (λ h. let same = whole m n a.edge_lines b.edge_lines h.0 p q a.are_edges b.are_edges h.1 in (same.0, BeginsWithLines-nil r s (subst (λ ls. BeginsWithLines r ls s) same.1 h.2)))
+    (λ h. let same = whole n m b.edge_lines a.edge_lines h.0 q p b.are_edges a.are_edges h.1 in (sym same.0, sym (BeginsWithLines-nil s r (subst (λ ls. BeginsWithLines s ls r) same.1 h.2))))
+    (fork (header m ∷ a.edge_lines ++ codes "end" ∷ []) (header n ∷ b.edge_lines ++ codes "end" ∷ []) bytes r s (net_lack m a.edge_lines p a.are_edges) (net_lack n b.edge_lines q b.are_edges) a.begins b.begins)
   where
-    net_lack : (n : Network) → IsNetwork n → All (Lacks 10) (net_lines n)
-    net_lack n net = All-cons (Lacks 10) (header n) (map edge_text n.edges ++ codes "end" ∷ []) (header-lacks n (HasSmallSizes-network n net)) (tail_lacks n.edges (AreRead-network n net))
+    net_lack : (n : Network) (ls : List (List ℕ)) → IsNetwork n → AllZip IsEdgeLine ls n.edges → All (Lacks 10) (header n ∷ ls ++ codes "end" ∷ [])
+    net_lack n ls net are = All-cons (Lacks 10) (header n) (ls ++ codes "end" ∷ []) (header-lacks n (HasSmallSizes-network n net)) (tail_lacks ls n.edges (AreLines-network n ls net are))
 
 -- the first line of a network's text, and what follows it
-pub first_of_net : (bytes first text : List ℕ) (n : Network) (rest : List ℕ) → IsNetwork n → IsFirstLine bytes first text → BeginsWithNet bytes n rest → (first ≡ header n) × BeginsWithLines text (map edge_text n.edges ++ codes "end" ∷ []) rest
+pub first_of_net : (bytes first text : List ℕ) (n : Network) (rest : List ℕ) → IsNetwork n → IsFirstLine bytes first text → BeginsWithNet bytes n rest → (first ≡ header n) × EndsWith n text rest
 first_of_net bytes first text n rest net is begins =
-    BeginsWithLines-tail bytes first text (header n) (map edge_text n.edges ++ codes "end" ∷ []) rest is (header-lacks n (HasSmallSizes-network n net)) (lines_from_net bytes n rest begins)
+    let tail = BeginsWithLines-tail bytes first text (header n) (begins.edge_lines ++ codes "end" ∷ []) rest is (header-lacks n (HasSmallSizes-network n net)) begins.begins in
+    (tail.0, record { lines = begins.edge_lines; are_edges = begins.are_edges; begins = tail.1 })
 
 -- the header of a small network is not refused
 pub header_stands : (first : List ℕ) (n : Network) (fault : NetFault) → HasSmallSizes n → first ≡ header n → HeaderRefused first fault → ⊥
@@ -260,7 +311,7 @@ header_stands first n Memory small is refused = refused
 
 -- where a network's lines go on behind its first edges: with the line of the next edge, or with `end`
 abbrev NextLine : (w n : Network) (bytes : List ℕ) → Type 0
-NextLine w n bytes = ((bytes ≡ codes "end") × (w ≡ n)) ⊎ ((g : Edge) × (gs : List Edge) × (bytes ≡ edge_text g) × (n.edges ≡ w.edges ++ g ∷ gs))
+NextLine w n bytes = ((bytes ≡ codes "end") × (w ≡ n)) ⊎ ((g : Edge) × (gs : List Edge) × IsEdgeLine bytes g × (n.edges ≡ w.edges ++ g ∷ gs))
 
 pub All-at : (es : List Edge) (g : Edge) (gs : List Edge) → All EdgeFits (es ++ g ∷ gs) → EdgeFits g
 All-at es g gs all = subst EdgeFits (get_or_at es g gs g (length es) refl) (all (length es) g (omega (arith, length-append es (g ∷ gs))))
@@ -271,76 +322,92 @@ one_more w n g gs sizes wired is =
     let same : SameSizes (with_edge w g) (record n { edges = w.edges ++ g ∷ [] }) = record { inputs = sizes.inputs; outputs = sizes.outputs; splitters = sizes.splitters } in
     rw (same_network (with_edge w g) (record n { edges = w.edges ++ g ∷ [] }) same refl) part
 
-next_line : (w n : Network) (text bytes after rest : List ℕ) → IsNetwork n → SameSizes w n → GoesOn w text bytes after → BeginsWithLines text (map edge_text n.edges ++ codes "end" ∷ []) rest → NextLine w n bytes
-next_line w n text bytes after rest net sizes on begins = ⊎_elim
-    (λ h. let gs = go_on w.edges n.edges h.0 read (AreRead-network n net) h.1 in
-    by gs.0 gs.1 (subst (λ ls. BeginsWithLines on.rest ls rest) gs.2 h.2))
-    (λ h. absurd (no_end_among w.edges n.edges h.0 h.1))
-    (fork (map edge_text w.edges) (map edge_text n.edges ++ codes "end" ∷ []) text on.rest rest (edges-lack w.edges read.fit) (tail_lacks n.edges (AreRead-network n net)) on.edges begins)
+next_line : (w n : Network) (text bytes after rest : List ℕ) → IsNetwork n → SameSizes w n → GoesOn w text bytes after → EndsWith n text rest → NextLine w n bytes
+next_line w n text bytes after rest net sizes on ends = ⊎_elim
+    (λ h. let over = go_on on.edges.lines w.edges ends.lines n.edges h.0 read all h.1 in
+    by over.lines over.edges over.are_edges over.all (subst (λ ls. BeginsWithLines on.rest ls rest) over.more_is h.2))
+    (λ h. absurd (no_end_among on.edges.lines ends.lines w.edges h.0 on.edges.are_edges h.1))
+    (fork on.edges.lines (ends.lines ++ codes "end" ∷ []) text on.rest rest (AreLines-lack on.edges.lines w.edges read) (tail_lacks ends.lines n.edges all) on.edges.begins ends.begins)
   where
     small : HasSmallSizes w
     small = record { few_inputs = omega (arith, sizes.inputs, net.few_inputs); few_outputs = omega (arith, sizes.outputs, net.few_outputs); few_splitters = omega (arith, sizes.splitters, net.few_splitters) }
 
-    read : AreRead w.edges
-    read = AreRead-partly w small on.wired
+    read : AreLines on.edges.lines w.edges
+    read = record { fit = edges_fit w small on.wired; are_edges = on.edges.are_edges }
 
-    by : (gs : List Edge) → n.edges ≡ w.edges ++ gs → BeginsWithLines on.rest (map edge_text gs ++ codes "end" ∷ []) rest → NextLine w n bytes
-    by [] is lines = inl (
+    all : AreLines ends.lines n.edges
+    all = AreLines-network n ends.lines net ends.are_edges
+
+    by : (ls : List (List ℕ)) (gs : List Edge) → AllZip IsEdgeLine ls gs → n.edges ≡ w.edges ++ gs → BeginsWithLines on.rest (ls ++ codes "end" ∷ []) rest → NextLine w n bytes
+    by [] [] are is lines = inl (
       (BeginsWithLines-tail on.rest bytes after (codes "end") [] rest on.next (lacks 10 (codes "end") refl) lines).0,
       same_network w n sizes (sym (is ∙ append-nil w.edges)),
     )
-    by (g ∷ gs) is lines = inr (g, gs, (BeginsWithLines-tail on.rest bytes after (edge_text g) (map edge_text gs ++ codes "end" ∷ []) rest on.next (edge-lacks g (All-at w.edges g gs (subst (All EdgeFits) is (AreRead-network n net).fit))) lines).0, is)
+    by [] (g ∷ gs) are is lines = absurd are
+    by (l ∷ ls) [] are is lines = absurd are
+    by (l ∷ ls) (g ∷ gs) are is lines =
+        let fits : EdgeFits g = All-at w.edges g gs (subst (All EdgeFits) is all.fit) in
+        let head = BeginsWithLines-tail on.rest bytes after l (ls ++ codes "end" ∷ []) rest on.next (edge-lacks l g fits are.0) lines in
+        inr (g, gs, subst (λ k. IsEdgeLine k g) (sym head.0) are.0, is)
 
 -- no line of a network is refused behind its first edges
-pub edges_stand : (w n : Network) (text rest : List ℕ) (fault : NetFault) → IsNetwork n → SameSizes w n → BeginsWithLines text (map edge_text n.edges ++ codes "end" ∷ []) rest → EdgesRefused w text fault → ⊥
-edges_stand w n text rest (NetLine k) net sizes begins refused = ⊎_elim
+pub edges_stand : (w n : Network) (text rest : List ℕ) (fault : NetFault) → IsNetwork n → SameSizes w n → EndsWith n text rest → EdgesRefused w text fault → ⊥
+edges_stand w n text rest (NetLine k) net sizes ends refused = ⊎_elim
     (λ last. refused.3.0.no_end last.0 (rw last.1 net.wired))
     (λ next. refused.3.0.no_edge next.0 next.2 (one_more w n next.0 next.1 sizes (partly_of_wired n net.wired) next.3))
-    (next_line w n text refused.0 refused.1 rest net sizes refused.2 begins)
-edges_stand w n text rest TooLarge net sizes begins refused = ⊎_elim
-    (λ last. edge-ne_end refused.3.0 (sym refused.3.1 ∙ last.0))
+    (next_line w n text refused.0 refused.1 rest net sizes refused.2 ends)
+edges_stand w n text rest TooLarge net sizes ends refused = ⊎_elim
+    (λ last. edge-ne_end refused.3.0 (subst (λ l. IsEdgeLine l refused.3.0) last.0 refused.3.1))
     (λ next. omega (arith, net.few_edges, refused.3.3, ap length next.3, length-append w.edges (next.0 ∷ next.1)))
-    (next_line w n text refused.0 refused.1 rest net sizes refused.2 begins)
-edges_stand w n text rest NoEnds net sizes begins refused = ⊎_elim
+    (next_line w n text refused.0 refused.1 rest net sizes refused.2 ends)
+edges_stand w n text rest NoEnds net sizes ends refused = ⊎_elim
     (λ last. ⊎_elim (λ none. omega (arith, none, sizes.inputs, net.some_input)) (λ none. omega (arith, none, sizes.outputs, net.some_output)) refused.3.2)
-    (λ next. edge-ne_end next.0 (sym next.2 ∙ refused.3.0))
-    (next_line w n text refused.0 refused.1 rest net sizes refused.2 begins)
-edges_stand w n text rest Memory net sizes begins refused = refused.3
+    (λ next. edge-ne_end next.0 (subst (λ l. IsEdgeLine l next.0) refused.3.0 next.2))
+    (next_line w n text refused.0 refused.1 rest net sizes refused.2 ends)
+edges_stand w n text rest Memory net sizes ends refused = refused.3
 
--- the edge that comes last has small numbers
+-- the edge that comes last has small numbers and a cap
 pub last_fits : (w : Network) (e : Edge) → HasSmallSizes w → IsPartlyWired (with_edge w e) → EdgeFits e
-last_fits w e small new = All-at w.edges e [] (edges_fit (with_edge w e) (record { few_inputs = small.few_inputs; few_outputs = small.few_outputs; few_splitters = small.few_splitters }) new.starts new.targets)
+last_fits w e small new = All-at w.edges e [] (edges_fit (with_edge w e) (record { few_inputs = small.few_inputs; few_outputs = small.few_outputs; few_splitters = small.few_splitters }) new)
 
 -- an edge line is the line of no other edge
-pub last_same : (w : Network) (e f : Edge) → HasSmallSizes w → IsPartlyWired (with_edge w e) → EdgeFits f → f.cap ≡ 1 → edge_text f ≡ edge_text e → IsPartlyWired (with_edge w f)
-last_same w e f small new fits cap is =
-    let same = edge_apart e f (last_fits w e small new) fits (All-last w.edges e new.caps) cap (sym is) in
+pub last_same : (w : Network) (bytes : List ℕ) (e f : Edge) → HasSmallSizes w → IsPartlyWired (with_edge w e) → EdgeFits f → IsEdgeLine bytes f → IsEdgeLine bytes e → IsPartlyWired (with_edge w f)
+last_same w bytes e f small new fits is other =
+    let same = edge_apart bytes e f (last_fits w e small new) fits other is in
     subst (λ x. IsPartlyWired (with_edge w x)) same new
-  where
-    All-last : (es : List Edge) (g : Edge) → All (λ x. x.cap ≡ 1) (es ++ g ∷ []) → g.cap ≡ 1
-    All-last es g all = subst (λ x. x.cap ≡ 1) (get_or_at es g [] g (length es) refl) (all (length es) g (omega (arith, length-append es (g ∷ []))))
 
 -- networks of the same sizes have one header
 pub header-same : (m n : Network) → SameSizes m n → header m ≡ header n
 header-same m n s = let a = s.inputs in let b = s.outputs in let c = s.splitters in λ i. codes "net " ++ decimal (a i) ++ codes " " ++ decimal (b i) ++ codes " " ++ decimal (c i)
 
--- the text of a header and of edges up to `end`
-net_of_parts : (bytes first text rest : List ℕ) (m w : Network) → IsFirstLine bytes first text → first ≡ header m → SameSizes m w → EndsWith w text rest → BeginsWithLines bytes (net_lines w) rest
-net_of_parts bytes first text rest m w is head sizes ends =
-    BeginsWithLines-cons bytes (header w) text rest (map edge_text w.edges ++ codes "end" ∷ []) (subst (λ l. IsFirstLine bytes l text) (head ∙ header-same m w sizes) is) ends
-    (rw (flat_map-append line (map edge_text w.edges) (codes "end" ∷ [])) (omega (arith, length-append (flat_map line (map edge_text w.edges)) (flat_map line (codes "end" ∷ [])))))
-
 pub HasSmallSizes-same : (m n : Network) → SameSizes m n → HasSmallSizes m → HasSmallSizes n
 HasSmallSizes-same m n s h = record { few_inputs = omega (arith, s.inputs, h.few_inputs); few_outputs = omega (arith, s.outputs, h.few_outputs); few_splitters = omega (arith, s.splitters, h.few_splitters) }
 
--- where a text goes on with `end`
-pub ends_with : (n : Network) (text rest : List ℕ) → GoesOn n text (codes "end") rest → EndsWith n text rest
-ends_with n text rest on = BeginsWithLines-push text on.rest (codes "end") rest (map edge_text n.edges) on.edges on.next (omega arith)
+-- one more edge line
+lines_push : (ls : List (List ℕ)) (es : List Edge) (l : List ℕ) (e : Edge) → AllZip IsEdgeLine ls es → IsEdgeLine l e → AllZip IsEdgeLine (ls ++ l ∷ []) (es ++ e ∷ [])
+lines_push [] [] l e are is = (is, tt)
+lines_push [] (f ∷ es) l e are is = absurd are
+lines_push (k ∷ ks) [] l e are is = absurd are
+lines_push (k ∷ ks) (f ∷ es) l e are is = (are.0, lines_push ks es l e are.1 is)
+
+pub edges_push : (text rest bytes after : List ℕ) (es : List Edge) (e : Edge) → BeginsWithEdges text es rest → IsFirstLine rest bytes after → IsEdgeLine bytes e → BeginsWithEdges text (es ++ e ∷ []) after
+edges_push text rest bytes after es e begins next is = record {
+  lines = begins.lines ++ bytes ∷ [];
+  are_edges = lines_push begins.lines es bytes e begins.are_edges is;
+  begins = BeginsWithLines-push text rest bytes after begins.lines begins.begins next (edge-some bytes e is);
+}
+
+-- a text of which no line was read yet
+pub edges_none : (text : List ℕ) → BeginsWithEdges text [] text
+edges_none text = record { lines = []; are_edges = tt; begins = inl refl }
 
 -- what a text of a header and of edges up to `end` is, and where it ends
 pub read_parts : (bytes first text rest : List ℕ) (m w : Network) → IsFirstLine bytes first text → IsStarted m first → SameSizes m w → GoesOn w text (codes "end") rest
     → BeginsWithNet bytes w rest × (length rest ≤ length bytes) × (drop (length bytes - length rest) bytes ≡ rest)
 read_parts bytes first text rest m w is start sizes on =
-    let lines = net_of_parts bytes first text rest m w is start.line_is sizes (ends_with w text rest on) in
-    let used = BeginsWithLines-used bytes rest (net_lines w) lines in
-    (net_from_lines bytes w rest lines, used.0, used.1)
+    let ends = BeginsWithLines-push text on.rest (codes "end") rest on.edges.lines on.edges.begins on.next (omega arith) in
+    let lines : BeginsWithLines bytes (header w ∷ on.edges.lines ++ codes "end" ∷ []) rest =
+    BeginsWithLines-cons bytes (header w) text rest (on.edges.lines ++ codes "end" ∷ []) (subst (λ l. IsFirstLine bytes l text) (start.line_is ∙ header-same m w sizes) is) ends
+    (rw (flat_map-append line on.edges.lines (codes "end" ∷ [])) (omega (arith, length-append (flat_map line on.edges.lines) (flat_map line (codes "end" ∷ []))))) in
+    let used = BeginsWithLines-used bytes rest (header w ∷ on.edges.lines ++ codes "end" ∷ []) lines in
+    (record { edge_lines = on.edges.lines; are_edges = on.edges.are_edges; begins = lines }, used.0, used.1)

@@ -1,5 +1,5 @@
 -- Two right answers are equal: of a call that makes a network, and of one that reads it.
-use Rattle.std.proofs.Common.{◌≡◌, ℕ, ◌+◌, ◌≤◌, List, ◌++◌, length, drop, refl, sym, ◌∙◌, ap, ⊎_elim, arith, length-drop, inl, inr}
+use Rattle.std.proofs.Common.{◌≡◌, ℕ, ◌+◌, ◌≤◌, List, [], ◌++◌, length, drop, refl, sym, ◌∙◌, ap, subst, ⊎_elim, arith, length-drop, inl, inr}
 use Rattle.std.specs.Prelude.{Result, Ok, Err, ◌⊎◌, codes}
 use Rattle.std.proofs.lemmas.List.{append-nil, drop_all}
 use Rattle.bt_answers.specs.Answers.{UnlessMemory, Answers, AnswersAlways, HasOneAnswer}
@@ -8,11 +8,11 @@ use Rattle.bt_net.specs.declared.fault.NetFault.{NetFault}
 use Rattle.bt_net.specs.declared.fault.NetFault.TheVariants.{NetLine, TooLarge, NoEnds, Memory}
 use Rattle.bt_text.specs.Lines.{IsFirstLine}
 use Rattle.bt_net.specs.Network.{Network, IsWired, IsNetwork, IsLarge, LacksEnds, IsNetOf}
-use Rattle.bt_net.specs.NetText.{net_text}
+use Rattle.bt_net.specs.NetText.{net_text, BeginsWithNet}
 use Rattle.bt_net.specs.Refusals.{HeaderRefused, GoesOn, EdgesRefused, Refuses}
 use Rattle.bt_net.specs.inner.Lines.{IsStarted, SameSizes}
-use Rattle.bt_net.specs.Readings.{Reading, StandsAtFront, IsNetRead, whole_reading}
-use Rattle.bt_net.proofs.NetLines.{one_network, HasSmallSizes-same}
+use Rattle.bt_net.specs.Readings.{Reading, StandsAtFront, IsNetRead, whole_reading, PrintedIsRead}
+use Rattle.bt_net.proofs.NetLines.{one_network, printed_begins, HasSmallSizes-same}
 use Rattle.bt_net.proofs.Refusing.{Refuses-unique, Refuses-network, refused_first, refused_behind, refused_end}
 
 -- a network is not too large
@@ -91,12 +91,15 @@ module _ (text first rest : List ℕ) (m w : Network) (is : IsFirstLine text fir
   pub end_answers : (after : List ℕ) (f : NetFault) → GoesOn w rest (codes "end") after → IsWired w → IsNetOf w (Err f) → Answers Memory (IsNetRead text) (Err f)
   end_answers after f on wired why = edges_answer f (inl (refused_end w rest after f (HasSmallSizes-same m w sizes start.small) wired on why))
 
--- the text of a network is read as that network to its end
-pub printed_reading : (n : Network) → IsNetwork n → IsNetRead (net_text n) (Ok (whole_reading n))
+-- the text that is printed of a network is read as that network to its end
+pub printed_reading : PrintedIsRead
 printed_reading n net = record {
   network = net;
-  begins = inl (sym (ap (λ rest. net_text n ++ rest) (drop_all (length (net_text n)) (net_text n) (omega arith)) ∙ append-nil (net_text n)));
+  begins = subst (λ text. BeginsWithNet text n (drop (length (net_text n)) (net_text n))) (ap (λ rest. net_text n ++ rest) all ∙ append-nil (net_text n)) (printed_begins n (drop (length (net_text n)) (net_text n)));
   used = omega arith;
   pins = refl;
   lines = refl;
 }
+  where
+    all : drop (length (net_text n)) (net_text n) ≡ []
+    all = drop_all (length (net_text n)) (net_text n) (omega arith)

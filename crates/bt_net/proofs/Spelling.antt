@@ -1,24 +1,24 @@
 -- What the words of a network's text spell.
-use Rattle.std.proofs.Common.{◌≡◌, ◌≢◌, ℕ, ◌-◌, ◌^◌, ◌<◌, ◌≤◌, min, List, [], ◌∷◌, ◌++◌, drop, refl, sym, ◌∙◌, ap, subst, arith}
+use Rattle.std.proofs.Common.{◌≡◌, ◌≢◌, ℕ, ◌-◌, ◌^◌, ◌<◌, ◌≤◌, min, List, [], ◌∷◌, ◌++◌, drop, refl, sym, ◌∙◌, ap, subst, inl, inr, arith}
 use Rattle.std.specs.Prelude.{codes, decimal}
 use Rattle.std.specs.Int.{IsInRange}
 use Rattle.std.proofs.lemmas.List.{append_assoc}
 use Rattle.std.proofs.lemmas.List.Elements.{All-cons}
 use Rattle.bt_text.specs.Lines.{Lacks, SplitsAt}
 use Rattle.bt_frac.specs.Numbers.{Spells}
-use Rattle.bt_frac.proofs.Numerals.{Spells-decimal, Spells-unique, Spells-lacks, decimal-from_spells, decimal-lacks}
+use Rattle.bt_frac.proofs.Numerals.{decimal_apart, Spells-decimal, Spells-unique, Spells-lacks, decimal-from_spells, decimal-lacks}
 use Rattle.bt_text.proofs.FirstLines.{split_apart, SplitsAt-lacks}
 use Rattle.bt_net.specs.declared.network.Edge.{Edge}
 use Rattle.bt_net.specs.declared.network.Start.{Start}
 use Rattle.bt_net.specs.declared.network.Start.TheVariants as from
 use Rattle.bt_net.specs.declared.network.Target.{Target}
 use Rattle.bt_net.specs.declared.network.Target.TheVariants as to
-use Rattle.bt_net.specs.Network.{Network}
-use Rattle.bt_net.specs.NetText.{start_text, target_text, header, edge_text}
+use Rattle.bt_net.specs.Network.{Network, IsCap}
+use Rattle.bt_net.specs.NetText.{start_text, target_text, cap_text, header, IsEdgeLine}
 use Rattle.bt_net.specs.Refusals.{IsHeader}
 use Rattle.bt_net.specs.declared.network.TheConstants.{MOST_OF_EACH}
 use Rattle.bt_net.specs.Wiring.{HasSmallSizes}
-use Rattle.bt_net.specs.inner.Lines.{StartFits, TargetFits, EdgeFits}
+use Rattle.bt_net.specs.inner.Lines.{StartFits, TargetFits, EdgeFits, IsTargetAndCap}
 
 -- a number that is read, and limited, and is small, is the one written
 pub small_number : (w : List ℕ) (v n : ℕ) → Spells w n → v ≡ min n (2 ^ 128 - 1) → v < 2 ^ 32 → w ≡ decimal v
@@ -38,17 +38,45 @@ pub target-lacks : (byte : ℕ) (t : Target) → TargetFits t → ¬ IsInRange 4
 target-lacks byte (to.Output i) fits digit apart_o apart_s = All-cons (λ b. b ≢ byte) 111 (decimal i) (λ e. apart_o (sym e)) (decimal-lacks i byte (omega arith) digit)
 target-lacks byte (to.Split i) fits digit apart_o apart_s = All-cons (λ b. b ≢ byte) 115 (decimal i) (λ e. apart_s (sym e)) (decimal-lacks i byte (omega arith) digit)
 
--- the two words of an edge line
-pub ends_of : (ends front back : List ℕ) (e : Edge) → EdgeFits e → SplitsAt 32 ends front back → ends ≡ start_text e.start ++ 32 ∷ target_text e.target → (front ≡ start_text e.start) × (back ≡ target_text e.target)
-ends_of ends front back e fits splits is =
-    split_apart 32 front (start_text e.start) back (target_text e.target) splits.first
-    (start-lacks 32 e.start fits.0 (λ r. omega (arith, r.0)) (λ e. omega arith) (λ e. omega arith))
-    (sym splits.text_is ∙ is)
+-- a word spells one cap
+pub cap_apart : (w : List ℕ) (n cap : ℕ) → w ≡ decimal n → n < 2 ^ 32 → IsCap cap → w ≡ decimal cap → n ≡ cap
+cap_apart w n cap is small most other = decimal_apart n cap (omega arith) (omega (arith, most.1)) (sym is ∙ other)
 
--- the two words of an edge line behind its first word
-pub edge_words : (text ends front back : List ℕ) (e : Edge) → EdgeFits e → text ≡ codes "edge " ++ ends → SplitsAt 32 ends front back → text ≡ edge_text e → (front ≡ start_text e.start) × (back ≡ target_text e.target)
-edge_words text ends front back e fits cut splits is =
-    ends_of ends front back e fits splits (ap (drop 5) (sym cut ∙ is) ∙ append_assoc (start_text e.start) (32 ∷ []) (target_text e.target))
+-- no space in the word of a start or a target
+pub start_lacks_space : (s : Start) → StartFits s → Lacks 32 (start_text s)
+start_lacks_space s fits = start-lacks 32 s fits (λ r. omega (arith, r.0)) (λ e. omega arith) (λ e. omega arith)
+
+pub target_lacks_space : (t : Target) → TargetFits t → Lacks 32 (target_text t)
+target_lacks_space t fits = target-lacks 32 t fits (λ r. omega (arith, r.0)) (λ e. omega arith) (λ e. omega arith)
+
+-- the words of an edge line behind its first word and its start
+pub edge_words : (bytes : List ℕ) (e : Edge) → IsEdgeLine bytes e
+    → (words : List ℕ) × (bytes ≡ codes "edge " ++ (start_text e.start ++ 32 ∷ words)) × IsTargetAndCap words e.target e.cap
+edge_words bytes e (inl is) = (target_text e.target ++ cap_text e.cap, is ∙ simp append_assoc, inl refl)
+edge_words bytes e (inr is) = (target_text e.target, is.0 ∙ simp append_assoc, inr (refl, is.1))
+
+-- an edge line by these words
+pub edge_line_of : (bytes words : List ℕ) (e : Edge) → bytes ≡ codes "edge " ++ (start_text e.start ++ 32 ∷ words) → IsTargetAndCap words e.target e.cap → IsEdgeLine bytes e
+edge_line_of bytes words e cut (inl is) = inl (rw is at cut ∙ sym (simp append_assoc))
+edge_line_of bytes words e cut (inr is) = inr (rw is.0 at cut ∙ sym (simp append_assoc), is.1)
+
+-- an edge line that was cut at its first word and at the space behind its start
+pub cut_words : (bytes ends front back : List ℕ) (e : Edge) → EdgeFits e → bytes ≡ codes "edge " ++ ends → SplitsAt 32 ends front back → IsEdgeLine bytes e
+    → (front ≡ start_text e.start) × IsTargetAndCap back e.target e.cap
+cut_words bytes ends front back e fits cut splits is =
+    let words = edge_words bytes e is in
+    let apart = split_apart 32 front (start_text e.start) back words.0 splits.first (start_lacks_space e.start fits.0) (sym splits.text_is ∙ ap (drop 5) (sym cut ∙ words.1)) in
+    (apart.0, subst (λ w. IsTargetAndCap w e.target e.cap) (sym apart.1) words.2)
+
+-- a target and a cap are cut at the space between them, or without a space are the target
+pub cut_cap : (words front back : List ℕ) (t : Target) (cap : ℕ) → TargetFits t → SplitsAt 32 words front back → IsTargetAndCap words t cap → (front ≡ target_text t) × (back ≡ decimal cap)
+cut_cap words front back t cap fits splits (inl is) = split_apart 32 front (target_text t) back (decimal cap) splits.first (target_lacks_space t fits) (sym splits.text_is ∙ is)
+cut_cap words front back t cap fits splits (inr is) = absurd (SplitsAt-lacks splits (rw (← is.0) at (target_lacks_space t fits)))
+
+pub uncut_cap : (words : List ℕ) (t : Target) (cap : ℕ) → TargetFits t → Lacks 32 words → IsTargetAndCap words t cap → (words ≡ target_text t) × (cap ≡ 1)
+uncut_cap words t cap fits none (inl is) =
+    let splits : SplitsAt 32 words (target_text t) (decimal cap) = record { first = target_lacks_space t fits; text_is = is } in absurd (SplitsAt-lacks splits none)
+uncut_cap words t cap fits none (inr is) = is
 
 three_words : (a b c : List ℕ) → a ++ 32 ∷ [] ++ b ++ 32 ∷ [] ++ c ≡ a ++ 32 ∷ (b ++ 32 ∷ c)
 three_words a b c = simp append_assoc

@@ -10,7 +10,7 @@ use Rattle.bt_net.specs.declared.network.Start.{Start}
 use Rattle.bt_net.specs.declared.network.Start.TheVariants as from
 use Rattle.bt_net.specs.declared.network.Target.{Target}
 use Rattle.bt_net.specs.declared.network.Target.TheVariants as to
-use Rattle.bt_net.specs.Network.{IsWired, StartsIn, EndsIn, is_input, is_output, leaves, enters}
+use Rattle.bt_net.specs.Network.{IsCap, IsWired, StartsIn, EndsIn, is_input, is_output, leaves, enters}
 use Rattle.bt_net.specs.Wiring.{IsPartlyWired}
 use Rattle.bt_net.specs.inner.Tallies.{AreTallied, tallied, IsFreeStart, IsFreeTarget}
 
@@ -64,9 +64,9 @@ module _ (i o l n : List ℕ) (es : List Edge) (old : AreTallied i o l n es) whe
       let inside : k < length o = last (λ x. EndsIn (tallied i o l es) x.target) es e new.targets in
       (inside, omega (arith, old.of_outputs k inside, new.one_out k inside, count_one is_output es e k (eq-eqb k k refl)))
 
-  -- an edge that may come next is at a free start and a free target, and has cap 1
-  pub admitted : (e : Edge) → IsPartlyWired (tallied i o l (es ++ e ∷ [])) → IsFreeStart i l e.start × IsFreeTarget n o e.target × (e.cap ≡ 1)
-  admitted e new = (free_start e.start e.target e.cap new, free_target e.start e.target e.cap new, last (λ x. x.cap ≡ 1) es e new.caps)
+  -- an edge that may come next is at a free start and a free target, and has a cap that an edge may have
+  pub admitted : (e : Edge) → IsPartlyWired (tallied i o l (es ++ e ∷ [])) → IsFreeStart i l e.start × IsFreeTarget n o e.target × (IsCap e.cap)
+  admitted e new = (free_start e.start e.target e.cap new, free_target e.start e.target e.cap new, last (λ x. IsCap x.cap) es e new.caps)
 
   start_in : (start : Start) → IsFreeStart i l start → StartsIn (tallied i o l es) start
   start_in (from.Input k) free = free.0
@@ -100,12 +100,12 @@ module _ (i o l n : List ℕ) (es : List Edge) (old : AreTallied i o l n es) whe
   more_ending start (to.Output k) cap free =
       most_one is_output es (record { start = start; target = to.Output k; cap = cap }) k 1 (length o) (λ _. refl) old.wired.one_out (omega (arith, free.1, old.of_outputs k free.0))
 
-  -- an edge at a free start and a free target with cap 1 may come next
-  pub admits : (e : Edge) → IsFreeStart i l e.start → IsFreeTarget n o e.target → e.cap ≡ 1 → IsPartlyWired (tallied i o l (es ++ e ∷ []))
+  -- an edge at a free start and a free target with such a cap may come next
+  pub admits : (e : Edge) → IsFreeStart i l e.start → IsFreeTarget n o e.target → IsCap e.cap → IsPartlyWired (tallied i o l (es ++ e ∷ []))
   admits e start target cap = record {
     starts = All-push (λ x. StartsIn (tallied i o l es) x.start) es e old.wired.starts (start_in e.start start);
     targets = All-push (λ x. EndsIn (tallied i o l es) x.target) es e old.wired.targets (target_in e.target target);
-    caps = All-push (λ x. x.cap ≡ 1) es e old.wired.caps cap;
+    caps = All-push (λ x. IsCap x.cap) es e old.wired.caps cap;
     one_in = more_in e.start e.target e.cap start;
     one_out = more_ending e.start e.target e.cap target;
     few_in = more_entering e.start e.target e.cap target;

@@ -1,6 +1,7 @@
 -- The text of a network: a line of its counts, a line for each edge, and the line `end`.
-use Rattle.std.specs.Prelude.{◌≡◌, ℕ, List, [], ◌++◌, ◌⊎◌, codes, decimal}
-use Rattle.std.specs.List.{flat_map}
+use Rattle.std.specs.Prelude.{◌≡◌, ◌==◌, ℕ, List, [], ◌∷◌, ◌++◌, ◌⊎◌, if◌then◌else◌, codes, decimal}
+use Rattle.std.specs.List.{flat_map, AllZip}
+use Rattle.bt_text.specs.Lines.{BeginsWithLines}
 pub use Rattle.bt_text.specs.Lines.{line}
 use Rattle.bt_net.specs.declared.network.Edge.{Edge}
 use Rattle.bt_net.specs.declared.network.Start.{Start}
@@ -23,14 +24,28 @@ target_text (to.Output o) = codes "o" ++ decimal o
 abbrev pub header : Network → List ℕ
 header n = codes "net " ++ decimal n.inputs ++ codes " " ++ decimal n.outputs ++ codes " " ++ decimal n.splitters
 
--- `edge` and its two ends
-abbrev pub edge_text : Edge → List ℕ
-edge_text e = codes "edge " ++ start_text e.start ++ codes " " ++ target_text e.target
+-- `edge` and the two ends of an edge
+abbrev pub ends_text : Edge → List ℕ
+ends_text e = codes "edge " ++ start_text e.start ++ codes " " ++ target_text e.target
 
--- the one text of a network
+-- a space and the cap of an edge
+abbrev pub cap_text : ℕ → List ℕ
+cap_text cap = codes " " ++ decimal cap
+
+-- the line of an edge: its ends and its cap, which need not be written where it is 1
+abbrev pub IsEdgeLine : List ℕ → Edge → Type 0
+IsEdgeLine bytes e = (bytes ≡ ends_text e ++ cap_text e.cap) ⊎ ((bytes ≡ ends_text e) × (e.cap ≡ 1))
+
+-- the line of an edge as it is printed: its ends, and its cap where that isn't 1
+abbrev pub edge_text : Edge → List ℕ
+edge_text e = ends_text e ++ (if e.cap == 1 then [] else cap_text e.cap)
+
+-- the text of a network as it is printed
 abbrev pub net_text : Network → List ℕ
 net_text n = line (header n) ++ flat_map (λ e. line (edge_text e)) n.edges ++ line (codes "end")
 
--- the bytes begin with the text of the network, of which the last line feed may be missing at the end of the bytes, and this is what follows
-abbrev pub BeginsWithNet : List ℕ → Network → List ℕ → Type 0
-BeginsWithNet bytes n rest = (bytes ≡ net_text n ++ rest) ⊎ ((line bytes ≡ net_text n) × (rest ≡ []))
+-- the bytes begin with the lines of the network: its header, a line for each edge in their order, and `end`; the last line feed may be missing at the end of the bytes, and this is what follows
+pub record BeginsWithNet (bytes : List ℕ) (n : Network) (rest : List ℕ) : Type 0 where
+  pub edge_lines : List (List ℕ)
+  pub are_edges : AllZip IsEdgeLine edge_lines n.edges
+  pub begins : BeginsWithLines bytes (header n ∷ edge_lines ++ codes "end" ∷ []) rest

@@ -7,7 +7,7 @@ use Rattle.bt_net.specs.declared.network.Start.{Start}
 use Rattle.bt_net.specs.declared.network.Start.TheVariants as from
 use Rattle.bt_net.specs.declared.network.Target.{Target}
 use Rattle.bt_net.specs.declared.network.Target.TheVariants as to
-use Rattle.bt_net.specs.declared.network.TheConstants.{MOST_OF_EACH}
+use Rattle.bt_net.specs.declared.network.TheConstants.{MOST_OF_EACH, MOST_CAP}
 
 -- numbers of inputs, outputs and splitters, and the edges in their order
 pub record Network : Type 0 where
@@ -62,11 +62,15 @@ abbrev pub EndsIn : Network → Target → Type 0
 EndsIn n (to.Split s) = s < n.splitters
 EndsIn n (to.Output o) = o < n.outputs
 
--- the edges join what the network has and have cap 1, each input and each output has one edge, and each splitter has at most two in edges and two out edges
+-- an edge may have this cap: one from 1 to `MOST_CAP`
+abbrev pub IsCap : ℕ → Type 0
+IsCap cap = (1 ≤ cap) × (cap ≤ MOST_CAP)
+
+-- the edges join what the network has and have caps from 1 to `MOST_CAP`, each input and each output has one edge, and each splitter has at most two in edges and two out edges
 pub record IsWired (n : Network) : Type 0 where
   pub starts : All (λ e. StartsIn n e.start) n.edges
   pub targets : All (λ e. EndsIn n e.target) n.edges
-  pub caps : All (λ e. e.cap ≡ 1) n.edges
+  pub caps : All (λ e. IsCap e.cap) n.edges
   pub one_in : (i : ℕ) → i < n.inputs → count_by (is_input i) n.edges ≡ 1
   pub one_out : (o : ℕ) → o < n.outputs → count_by (is_output o) n.edges ≡ 1
   pub few_in : (s : ℕ) → s < n.splitters → count_by (enters s) n.edges ≤ 2

@@ -34,3 +34,7 @@ IsNetRead bytes (Err fault) = Refuses bytes fault
 -- what there is to read of a network's own text: that network, no pins, and the whole text
 abbrev pub whole_reading : Network → Reading
 whole_reading n = record { net = n; pins = []; used = length (net_text n); lines = length n.edges + 2 }
+
+-- the text that is printed of a network is read as that network
+abbrev pub PrintedIsRead : Type 0
+PrintedIsRead = (n : Network) → IsNetwork n → IsNetRead (net_text n) (Ok (whole_reading n))

@@ -1,15 +1,15 @@
 -- Networks while their edges are read.
-use Rattle.std.specs.Prelude.{◌≡◌, ℕ, ◌<◌, ◌≤◌, [], ◌∷◌, ◌++◌, count_by, All}
+use Rattle.std.specs.Prelude.{ℕ, ◌<◌, ◌≤◌, [], ◌∷◌, ◌++◌, count_by, All}
 use Rattle.bt_net.specs.declared.network.Edge.{Edge}
 use Rattle.bt_net.specs.declared.network.TheConstants.{MOST_OF_EACH}
-use Rattle.bt_net.specs.Network.{Network, StartsIn, EndsIn, is_input, is_output, leaves, enters}
+use Rattle.bt_net.specs.Network.{Network, StartsIn, EndsIn, IsCap, is_input, is_output, leaves, enters}
 
--- edges that may stand so far: they join what the network has and have cap 1, no input and no output
--- has a second edge, and no splitter a third in edge or a third out edge
+-- edges that may stand so far: they join what the network has and have caps from 1 to `MOST_CAP`, no
+-- input and no output has a second edge, and no splitter a third in edge or a third out edge
 pub record IsPartlyWired (n : Network) : Type 0 where
   pub starts : All (λ e. StartsIn n e.start) n.edges
   pub targets : All (λ e. EndsIn n e.target) n.edges
-  pub caps : All (λ e. e.cap ≡ 1) n.edges
+  pub caps : All (λ e. IsCap e.cap) n.edges
   pub one_in : (i : ℕ) → i < n.inputs → count_by (is_input i) n.edges ≤ 1
   pub one_out : (o : ℕ) → o < n.outputs → count_by (is_output o) n.edges ≤ 1
   pub few_in : (s : ℕ) → s < n.splitters → count_by (enters s) n.edges ≤ 2

@@ -1,6 +1,6 @@
 //! A line of text in a buffer of its own, so that printing takes no memory.
-ghost use Rattle.std.specs.Prelude.{◌≡◌, ◌+◌, ◌≤◌, ◌++◌, [], length, decimal};
-ghost use Rattle.bt_net.specs.NetText.{start_text, target_text};
+ghost use Rattle.std.specs.Prelude.{◌≡◌, ◌==◌, ◌+◌, ◌≤◌, ◌++◌, [], if◌then◌else◌, length, decimal};
+ghost use Rattle.bt_net.specs.NetText.{start_text, target_text, cap_text};
 
 use crate::network::{Start, Target};
 use itoa::Buffer;
@@ -60,6 +60,18 @@ impl LineBuffer {
         let mut buffer = Buffer::new();
         let digits = buffer.format(number).as_bytes();
         self.push(digits);
+    }
+
+    /// Adds a space and a cap, or nothing where the cap is 1.
+    pub fn push_cap(&mut self, cap: u32)
+        requires { length self.old + 11 ≤ 48 }
+        ensures cap { self.new ≡ self.old ++ (if cap == 1 then [] else cap_text cap) }
+        ensures short { length self.new ≤ length self.old + 11 }
+    {
+        if cap != 1 {
+            self.push(b" ");
+            self.push_number(cap);
+        }
     }
 
     /// Adds the letter and the number of a start.

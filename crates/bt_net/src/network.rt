@@ -4,6 +4,10 @@
 /// The most inputs, outputs, splitters and edges that a network has, of each kind.
 pub const MOST_OF_EACH: usize = 2048;
 
+/// The largest cap of an edge: four belts of the slowest tier, which is one of the fastest. The
+/// smallest is 1.
+pub const MOST_CAP: u32 = 4;
+
 /// Where an edge starts: at an input or at a splitter, by its number from 0.
 #[derive(Clone, Copy, Debug, PartialEq, Eq)]
 pub enum Start {
@@ -18,8 +22,8 @@ pub enum Target {
     Output(u32),
 }
 
-/// A belt between two ends of a network. `cap` is the most that it carries, where 1 is one belt
-/// of the slowest tier.
+/// A belt between two ends of a network. `cap` is the most that it carries, from 1 to `MOST_CAP`,
+/// where 1 is one belt of the slowest tier.
 #[derive(Clone, Copy, Debug, PartialEq, Eq)]
 pub struct Edge {
     pub start: Start,

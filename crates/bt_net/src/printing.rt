@@ -45,6 +45,7 @@ fn edge_line(edge: Edge) -> LineBuffer
     line.push_start(edge.start);
     line.push(b" ");
     line.push_target(edge.target);
+    line.push_cap(edge.cap);
     line.push(b"\n");
     line
 }

@@ -98,17 +98,61 @@ mod tests {
     use bt_io::MemSink;
     use std::test::Fail;
 
-    const TEXT: &[u8] = b"net 1 2 1\nedge s0 o1\nedge i0 s0\nedge s0 o0\nend\n";
+    const TEXT: &[u8] = b"net 1 2 1\nedge s0 o1 3\nedge i0 s0\nedge s0 o0 2\nend\n";
+
+    /// Whether a text is read to its end, and what is printed of its network is this.
+    fn prints(alloc: Global, text: &[u8], want: &[u8]) -> Result<bool, Fail> {
+        let found = read(alloc, text)?;
+        let mut sink = MemSink::new(alloc, 99, Vec::new(alloc), 7)?;
+        print(&found.net, &mut sink)?;
+        Ok(found.used == text.len() && sink.held() == want)
+    }
 
     #[test]
     fn reads_what_it_prints(rt: HostRuntime) -> Result<(), Fail> {
         let found = read(rt.alloc(), TEXT)?;
         assert!(rt; found.pins.is_empty());
         assert!(rt; found.used == TEXT.len() && found.lines == 5);
-        let mut sink = MemSink::new(rt.alloc(), 99, Vec::new(rt.alloc()), 7)?;
-        print(&found.net, &mut sink)?;
-        assert!(rt; sink.held() == TEXT);
+        assert!(rt; prints(rt.alloc(), TEXT, TEXT)?);
         Ok(())
+    }
+
+    #[test]
+    fn prints_no_cap_of_1(rt: HostRuntime) -> Result<(), Fail> {
+        let text = b"net 1 1 0\nedge i0 o0 1\nend\n";
+        assert!(rt; prints(rt.alloc(), text, b"net 1 1 0\nedge i0 o0\nend\n")?);
+        Ok(())
+    }
+
+    #[test]
+    fn caps_are_from_1_to_4(rt: HostRuntime) -> Result<(), Fail> {
+        for (words, cap) in [
+            ("", Some(1)),
+            (" 1", Some(1)),
+            (" 3", Some(3)),
+            (" 4", Some(4)),
+            (" 0", None),
+            (" 5", None),
+            (" 01", None),
+            (" 1 1", None),
+            (" ", None),
+            (" 1 ", None),
+            (" -1", None),
+            (" 4294967297", None),
+        ] {
+            let text = format!(in rt.alloc(); "net 1 1 0\nedge i0 o0{words}\nend\n")?;
+            assert!(rt; cap_of(rt.alloc(), text.as_bytes()) == cap);
+        }
+        Ok(())
+    }
+
+    /// The cap of a network's first edge, or None where the line of that edge is refused.
+    fn cap_of(alloc: Global, text: &[u8]) -> Option<u32> {
+        match read(alloc, text) {
+            Ok(found) => found.net.edges().first().map(|edge| edge.cap),
+            Err(NetFault::NetLine(2)) => None,
+            Err(_) => Some(0),
+        }
     }
 
     #[test]

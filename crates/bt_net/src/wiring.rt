@@ -32,7 +32,7 @@ impl Model for Wiring {
 }
 
 impl Wiring {
-    ghost use Rattle.bt_net.specs.Network.{IsWired, IsNetOf, network_of};
+    ghost use Rattle.bt_net.specs.Network.{IsCap, IsWired, IsNetOf, network_of};
     ghost use Rattle.bt_net.specs.Wiring.{IsPartlyWired, with_edge, HasSmallSizes};
 
     /// No edges yet.
@@ -63,7 +63,7 @@ impl Wiring {
 
     /// Whether this edge may come next.
     pub fn admits(&self, edge: Edge) -> bool
-        requires { edge.cap ≡ 1 }
+        requires { IsCap edge.cap }
         ensures { IsTrue result ↔ IsPartlyWired (with_edge self.now edge) }
     {
         let start = starts_free(&self.inputs, &self.leaving, edge.start);

@@ -1,28 +1,51 @@
 //! The words of an edge line.
 ghost use Rattle.std.specs.Prelude.{◌≡◌, ℕ, ◌^◌, ◌<◌, decimal, IfSome, IfNone};
-ghost use Rattle.bt_net.specs.NetText.{start_text, target_text, edge_text};
-ghost use Rattle.bt_net.specs.inner.Lines.{StartFits, TargetFits, EdgeFits};
+ghost use Rattle.bt_net.specs.NetText.{start_text, target_text, IsEdgeLine};
+ghost use Rattle.bt_net.specs.Network.{IsCap};
+ghost use Rattle.bt_net.specs.inner.Lines.{StartFits, TargetFits, EdgeFits, IsTargetAndCap};
 ghost use Rattle.bt_net.specs.declared.network.Edge.{Edge};
 ghost use Rattle.bt_net.specs.declared.network.Start.{Start};
 ghost use Rattle.bt_net.specs.declared.network.Target.{Target};
 
-use crate::network::{Edge, Start, Target};
+use crate::network::{Edge, MOST_CAP, Start, Target};
 use bt_frac::read_whole;
 use bt_text::{after_word, split_once};
 
-/// The edge of an edge line, with cap 1.
+/// The edge of an edge line, with cap 1 where none is written.
 pub fn read_edge(line: &[u8]) -> Option<Edge>
-    ensures some { IfSome result (λ e. (line.now ≡ edge_text e) × (e.cap ≡ 1)) }
+    ensures some { IfSome result (IsEdgeLine line.now) }
     ensures fits { IfSome result EdgeFits }
-    ensures none { IfNone result ((e : Edge) → EdgeFits e → line.now ≡ edge_text e → ⊥) }
+    ensures none { IfNone result ((e : Edge) → EdgeFits e → IsEdgeLine line.now e → ⊥) }
 {
     let ends = after_word(line, b"edge ")?;
-    let (start, target) = split_once(ends, b' ')?;
-    Some(Edge {
-        start: read_start(start)?,
-        target: read_target(target)?,
-        cap: 1,
-    })
+    let (start, words) = split_once(ends, b' ')?;
+    let start = read_start(start)?;
+    let (target, cap) = read_target_and_cap(words)?;
+    Some(Edge { start, target, cap })
+}
+
+/// The target of an edge and its cap, which is 1 where none is written.
+fn read_target_and_cap(words: &[u8]) -> Option<(Target, u32)>
+    ensures some { IfSome result (λ found. IsTargetAndCap words.now found.0 found.1) }
+    ensures fits { IfSome result (λ found. TargetFits found.0 × IsCap found.1) }
+    ensures none { IfNone result ((t : Target) (cap : ℕ) → TargetFits t → IsCap cap
+        → IsTargetAndCap words.now t cap → ⊥) }
+{
+    let Some((target, cap)) = split_once(words, b' ') else {
+        return Some((read_target(words)?, 1));
+    };
+    Some((read_target(target)?, read_cap(cap)?))
+}
+
+/// A cap: a whole number from 1 to `MOST_CAP`.
+fn read_cap(word: &[u8]) -> Option<u32>
+    ensures some { IfSome result (λ cap. (word.now ≡ decimal cap) × IsCap cap) }
+    ensures none { IfNone result ((cap : ℕ) → IsCap cap → word.now ≡ decimal cap → ⊥) }
+{
+    match read_number(word)? {
+        cap @ 1..=MOST_CAP => Some(cap),
+        _ => None,
+    }
 }
 
 /// The start of an edge: `i` and the number of an input, or `s` and that of a splitter.
@@ -39,7 +62,6 @@ fn read_start(word: &[u8]) -> Option<Start>
 }
 
 /// The target of an edge: `s` and the number of a splitter, or `o` and that of an output.
-
 fn read_target(word: &[u8]) -> Option<Target>
     ensures some { IfSome result (λ t. word.now ≡ target_text t) }
     ensures fits { IfSome result TargetFits }

@@ -1,5 +1,5 @@
 -- What the lines of a network's text say while they are read.
-use Rattle.std.specs.Prelude.{◌≡◌, ℕ, ◌<◌, ◌^◌, List, [], codes, length, Option, Some, None, Result, Ok, Err}
+use Rattle.std.specs.Prelude.{◌≡◌, ℕ, ◌<◌, ◌^◌, ◌⊎◌, List, [], ◌++◌, codes, length, Option, Some, None, Result, Ok, Err}
 use Rattle.bt_frac.specs.Numbers.{IsLimited}
 use Rattle.bt_net.specs.declared.fault.NetFault.{NetFault}
 use Rattle.bt_net.specs.declared.network.Edge.{Edge}
@@ -8,8 +8,8 @@ use Rattle.bt_net.specs.declared.network.Start.TheVariants as from
 use Rattle.bt_net.specs.declared.network.Target.{Target}
 use Rattle.bt_net.specs.declared.network.Target.TheVariants as to
 use Rattle.bt_net.specs.declared.network.TheConstants.{MOST_OF_EACH}
-use Rattle.bt_net.specs.Network.{Network, IsWired}
-use Rattle.bt_net.specs.NetText.{header, edge_text}
+use Rattle.bt_net.specs.Network.{Network, IsWired, IsCap}
+use Rattle.bt_net.specs.NetText.{header, target_text, cap_text, IsEdgeLine}
 use Rattle.bt_net.specs.Refusals.{IsHeader, HeaderRefused, LineRefused, GoesOn, EdgesRefused}
 use Rattle.bt_net.specs.Wiring.{IsPartlyWired, with_edge, HasSmallSizes}
 
@@ -35,9 +35,13 @@ abbrev pub TargetFits : Target → Type 0
 TargetFits (to.Split s) = s < 2 ^ 32
 TargetFits (to.Output o) = o < 2 ^ 32
 
--- the numbers of an edge's two ends have at most 32 bits
+-- the numbers of an edge's two ends have at most 32 bits, and its cap is one that an edge may have
 abbrev pub EdgeFits : Edge → Type 0
-EdgeFits e = StartFits e.start × TargetFits e.target
+EdgeFits e = StartFits e.start × TargetFits e.target × IsCap e.cap
+
+-- behind the start of an edge: its target and its cap, which need not be written where it is 1
+abbrev pub IsTargetAndCap : List ℕ → Target → ℕ → Type 0
+IsTargetAndCap words t cap = (words ≡ target_text t ++ cap_text cap) ⊎ ((words ≡ target_text t) × (cap ≡ 1))
 
 -- the numbers of a header as they are read
 abbrev pub AreSizes : List ℕ → ℕ → ℕ → ℕ → Type 0
@@ -50,7 +54,7 @@ IsHeaderRead bytes (Err fault) = HeaderRefused bytes fault
 
 -- what a line says after the edges of the network so far: the next edge, or that the network ends, or why the line is refused
 abbrev pub IsNextLine : Network → List ℕ → Result (Option Edge) NetFault → Type 0
-IsNextLine n bytes (Ok (Some e)) = (bytes ≡ edge_text e) × IsPartlyWired (with_edge n e) × (length n.edges < MOST_OF_EACH)
+IsNextLine n bytes (Ok (Some e)) = IsEdgeLine bytes e × IsPartlyWired (with_edge n e) × (length n.edges < MOST_OF_EACH)
 IsNextLine n bytes (Ok None) = (bytes ≡ codes "end") × IsWired n
 IsNextLine n bytes (Err fault) = LineRefused n bytes fault
 

@@ -10,7 +10,7 @@ returns-in_default c =
     let other = (slice_eq-Decides Decides-eqb _ _ _ c.eq.ensures).1 in (
       record {
         no_end = λ is _. false≢true (sym c.if-eq.false ∙ other (is ∙ sym c.as_slice.ensures));
-        no_edge = λ e is new. false≢true (sym c.if-admits.false ∙ c.admits.ensures.1 (last_same c.args.wiring.now e c.in-Some.edge c.requires.small new c.in-Some.ensures.fits c.in-Some.ensures.some.1 (sym c.in-Some.ensures.some.0 ∙ is)));
+        no_edge = λ e is new. false≢true (sym c.if-admits.false ∙ c.admits.ensures.1 (last_same c.args.wiring.now c.args.line.now e c.in-Some.edge c.requires.small new c.in-Some.ensures.fits c.in-Some.ensures.some is));
       },
       omega arith,
     )

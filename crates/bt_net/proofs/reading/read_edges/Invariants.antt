@@ -1,18 +1,17 @@
-use Rattle.std.proofs.Common.{◌≤◌, ◌-◌, length, map}
-use Rattle.bt_text.specs.Lines.{BeginsWithLines}
+use Rattle.std.proofs.Common.{◌≤◌, ◌-◌, length}
 use Rattle.bt_net.specs.declared.network.TheConstants.{MOST_OF_EACH}
-use Rattle.bt_net.specs.NetText.{edge_text}
+use Rattle.bt_net.specs.Refusals.{BeginsWithEdges}
 use Rattle.bt_net.specs.Wiring.{IsPartlyWired}
 use Rattle.bt_net.specs.inner.Lines.{SameSizes}
 use Rattle.bt_net.proofs.reading.read_edges.Given as goal
 
--- the text begins with the lines of the edges so far, and the rest follows
+-- the text begins with lines of the edges so far, and the rest follows
 abbrev pub invariant-loop-edge : goal.invariant-loop-edge
 invariant-loop-edge l = record {
   sizes : SameSizes l.fn.wiring l.wiring;
   wired : IsPartlyWired l.wiring;
   few : length l.wiring.edges ≤ MOST_OF_EACH;
-  lines : BeginsWithLines l.fn.text (map edge_text l.wiring.edges) l.rest;
+  lines : BeginsWithEdges l.fn.text l.wiring.edges l.rest;
 }
 
 abbrev pub decreases-loop-edge : goal.decreases-loop-edge
