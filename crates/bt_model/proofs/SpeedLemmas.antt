@@ -1,5 +1,5 @@
 -- The least speed of parts, and that a chain has one cap.
-use Rattle.std.proofs.Common.{◌≡◌, ◌⊎◌, ℕ, zero, suc, ◌<◌, ◌≤◌, min, List, [], ◌∷◌, length, get_or, refl, sym, ◌∙◌, ap, subst, inl, inr, ⊎_elim, arith}
+use Rattle.std.proofs.Common.{◌≡◌, ◌⊎◌, ℕ, zero, suc, ◌≤◌, min, List, [], ◌∷◌, refl, sym, ◌∙◌, ap, subst, inl, inr, ⊎_elim, arith}
 use Rattle.std.specs.List.{All, Contains}
 use Rattle.std.proofs.lemmas.Bool.{cases_lt}
 use Rattle.bt_parts.specs.declared.part.Part.{Part}
@@ -7,8 +7,9 @@ use Rattle.bt_parts.specs.declared.part.Tier.{Tier}
 use Rattle.bt_parts.specs.declared.part.Tier.TheVariants.{Basic, Fast, Express, Turbo}
 use Rattle.bt_parts.specs.Tiers.{speed_of}
 use Rattle.bt_parts.proofs.Places.{same_part}
+use Rattle.bt_net.specs.Network.{IsCap}
 use Rattle.bt_model.specs.Chains.{Path, one, more, Source, begins, leaves, Sink, ends, enters, Chain, StartsAs, EndsAs, IsChain}
-use Rattle.bt_model.specs.Speeds.{HasSpeed, IsLeastSpeed, StartsAtSplitter, EndsAtSplitter, IsOnWay, IsOnChain, IsSpeedOf, HasOneTier, IsCapOf}
+use Rattle.bt_model.specs.Speeds.{HasSpeed, IsLeastSpeed, StartsAtSplitter, IsOnWay, IsOnChain, IsSpeedOf, HasOneTier, IsCapOf}
 use Rattle.bt_model.proofs.Sorted.{contains_cases, contains_head, contains_more, contains_none}
 
 -- ---- the least speed
@@ -209,14 +210,14 @@ same_cap parts chain a b (inl h) (inr k) = absurd (k.0 h.0)
 same_cap parts chain a b (inr h) (inl k) = absurd (h.0 k.0)
 same_cap parts chain a b (inr h) (inr k) = one_least parts (IsOnChain chain) a b h.1 k.1
 
-speed_range : (tier : Tier) → (1 ≤ speed_of tier) × (speed_of tier ≤ 4)
+speed_range : (tier : Tier) → IsCap (speed_of tier)
 speed_range Basic = (omega arith, omega arith)
 speed_range Fast = (omega arith, omega arith)
 speed_range Express = (omega arith, omega arith)
 speed_range Turbo = (omega arith, omega arith)
 
--- which is between the least speed and the greatest
-pub cap_range : (parts : List Part) (chain : Chain) (cap : ℕ) → IsCapOf parts chain cap → (1 ≤ cap) × (cap ≤ 4)
+-- which an edge may have
+pub cap_range : (parts : List Part) (chain : Chain) (cap : ℕ) → IsCapOf parts chain cap → IsCap cap
 cap_range parts chain cap (inl h) = let e = h.1 in (omega arith, omega arith)
 cap_range parts chain cap (inr h) =
     let e = h.1.has_it.2 in
