@@ -4,3 +4,4 @@ pub mod OneNetwork
 pub mod PathLemmas
 pub mod Covering
 pub mod Sorted
+pub mod SpeedLemmas

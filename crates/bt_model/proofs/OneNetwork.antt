@@ -26,8 +26,8 @@ same_edges : (parts : List Part) (m n : Network) (a : Naming) → IsNumbered par
 same_edges parts m n a h k =
     let chains : h.chains ≡ k.chains = same_each (λ one other. ComesBefore one.source other.source) _ (λ x y. sources_asymmetric x.source y.source)
     h.chains k.chains h.each_once k.each_once h.in_order k.in_order in
-    let edges : m.edges ≡ n.edges = same_zipped (IsEdgeOf a) (same_edge a h.names.splitters.once h.names.inputs.once h.names.outputs.once) h.chains m.edges n.edges
-    h.named (subst (λ cs. AllZip (IsEdgeOf a) cs n.edges) (sym chains) k.named) in
+    let edges : m.edges ≡ n.edges = same_zipped (IsEdgeOf parts a) (same_edge parts a h.names.splitters.once h.names.inputs.once h.names.outputs.once) h.chains m.edges n.edges
+    h.named (subst (λ cs. AllZip (IsEdgeOf parts a) cs n.edges) (sym chains) k.named) in
     let splitters : m.splitters ≡ n.splitters = h.names.splitter_count ∙ sym k.names.splitter_count in
     let inputs : m.inputs ≡ n.inputs = h.names.input_count ∙ sym k.names.input_count in
     let outputs : m.outputs ≡ n.outputs = h.names.output_count ∙ sym k.names.output_count in

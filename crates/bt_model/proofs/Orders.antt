@@ -1,5 +1,5 @@
 -- The orders of cells, of parts by their cells, and of sources are strict.
-use Rattle.std.proofs.Common.{◌≡◌, ◌≢◌, List, sym, ◌∙◌, ap, subst, inl, inr, arith}
+use Rattle.std.proofs.Common.{◌≡◌, ◌≢◌, List, ◌∙◌, ap, subst, inl, inr, arith}
 use Rattle.std.specs.List.{AllPairs}
 use Rattle.std.proofs.lemmas.Int.{ints}
 use Rattle.bt_parts.specs.declared.part.Part.{Part}
@@ -12,6 +12,7 @@ use Rattle.bt_model.specs.Chains.{Source, begins, leaves, Sink, ends, enters, Ch
 use Rattle.bt_model.specs.Shown.{Naming, Precedes, IsPlacedBefore, ComesBefore, IsStartOf, IsTargetOf, IsEdgeOf}
 use Rattle.bt_parts.proofs.Places.{same_part}
 use Rattle.bt_model.proofs.Sorted.{IsAsymmetric, one_place}
+use Rattle.bt_model.proofs.SpeedLemmas.{same_cap}
 
 pub cells_asymmetric : IsAsymmetric Precedes
 cells_asymmetric a b (inl h) (inl k) = omega (arith, ints)
@@ -55,12 +56,12 @@ same_target naming ss os (enters s) (to.Split k) (to.Output l) h g = absurd g
 same_target naming ss os (enters s) (to.Output k) t h g = absurd h
 
 -- one edge stands for a chain
-pub same_edge : (naming : Naming) → AllPairs ◌≢◌ naming.splitters → AllPairs ◌≢◌ naming.inputs → AllPairs ◌≢◌ naming.outputs
-    → (chain : Chain) (e f : Edge) → IsEdgeOf naming chain e → IsEdgeOf naming chain f → e ≡ f
-same_edge naming ss is os chain e f h g =
+pub same_edge : (parts : List Part) (naming : Naming) → AllPairs ◌≢◌ naming.splitters → AllPairs ◌≢◌ naming.inputs → AllPairs ◌≢◌ naming.outputs
+    → (chain : Chain) (e f : Edge) → IsEdgeOf parts naming chain e → IsEdgeOf parts naming chain f → e ≡ f
+same_edge parts naming ss is os chain e f h g =
     let starts : e.start ≡ f.start = same_start naming ss is chain.source e.start f.start h.start g.start in
     let targets : e.target ≡ f.target = same_target naming ss os chain.sink e.target f.target h.target g.target in
-    let caps : e.cap ≡ f.cap = h.cap ∙ sym g.cap in
+    let caps : e.cap ≡ f.cap = same_cap parts chain e.cap f.cap h.cap g.cap in
     ap (λ z. record { start = z; target = e.target; cap = e.cap }) starts
     ∙ ap (λ z. record { start = f.start; target = z; cap = e.cap }) targets
     ∙ ap (λ z. record { start = f.start; target = f.target; cap = z }) caps

@@ -2,3 +2,4 @@ pub mod Chains
 pub mod Clean
 pub mod Handing
 pub mod Shown
+pub mod Speeds

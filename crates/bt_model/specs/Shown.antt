@@ -12,6 +12,7 @@ use Rattle.bt_net.specs.declared.network.Target.TheVariants as to
 use Rattle.bt_net.specs.Network.{Network}
 use Rattle.bt_model.specs.Chains.{IsSplitter, IsInput, IsOutput, Source, begins, leaves, Sink, ends, enters, Chain, IsChain}
 use Rattle.bt_model.specs.Clean.{IsClean}
+use Rattle.bt_model.specs.Speeds.{IsCapOf}
 
 -- which part bears each number: a splitter, the first part of an input, and the last of an output
 pub record Naming : Type 0 where
@@ -48,11 +49,11 @@ IsTargetOf naming (ends i) (to.Split k) = ⊥
 IsTargetOf naming (enters s) (to.Output k) = ⊥
 IsTargetOf naming (enters s) (to.Split k) = slice_get naming.splitters k ≡ Some s
 
--- the edge stands for the chain
-pub record IsEdgeOf (naming : Naming) (chain : Chain) (edge : Edge) : Type 0 where
+-- the edge stands for the chain, and its cap is the chain's
+pub record IsEdgeOf (parts : List Part) (naming : Naming) (chain : Chain) (edge : Edge) : Type 0 where
   pub start : IsStartOf naming chain.source edge.start
   pub target : IsTargetOf naming chain.sink edge.target
-  pub cap : edge.cap ≡ 1
+  pub cap : IsCapOf parts chain edge.cap
 
 -- the clean layout shows the network under this naming: its edges stand for the chains, in some order
 pub record Shows (parts : List Part) (net : Network) (naming : Naming) : Type 0 where
@@ -61,7 +62,7 @@ pub record Shows (parts : List Part) (net : Network) (naming : Naming) : Type 0 
   pub chains : List Chain
   pub each_once : ListsEach (IsChain parts) chains
   pub edges : List Edge
-  pub named : AllZip (IsEdgeOf naming) chains edges
+  pub named : AllZip (IsEdgeOf parts naming) chains edges
   pub same : IsPermutation edges net.edges
 
 -- the lesser x comes first, and of equal x the lesser y
@@ -97,4 +98,4 @@ pub record IsNumbered (parts : List Part) (net : Network) (naming : Naming) : Ty
   pub chains : List Chain
   pub each_once : ListsEach (IsChain parts) chains
   pub in_order : AllPairs (λ one other. ComesBefore one.source other.source) chains
-  pub named : AllZip (IsEdgeOf naming) chains net.edges
+  pub named : AllZip (IsEdgeOf parts naming) chains net.edges

@@ -15,15 +15,19 @@ use Rattle.bt_parts.specs.declared.part.Part.{Part}
 use Rattle.bt_parts.specs.Cells.{beside, step}
 use Rattle.bt_parts.specs.Layouts.{HasPart, IsAt}
 use Rattle.bt_net.specs.declared.network.Edge.{Edge}
-use Rattle.bt_net.specs.declared.network.Target.{Target}
+use Rattle.bt_net.specs.declared.network.Target.TheVariants as to
 use Rattle.bt_model.specs.Handing.{FeedsFrom, Hands}
 use Rattle.bt_model.specs.Chains.{IsSplitter, IsLink, Path, one, IsInput, IsOutput, Source, begins, leaves, ends, enters, Chain, IsChain, StartsAs}
 use Rattle.bt_model.specs.Clean.{IsClean}
+use Rattle.bt_model.specs.Speeds.{HasSpeed, IsLeastSpeed, IsOnWay, IsSpeedOf}
 use Rattle.bt_model.specs.Shown.{Naming, ListsEach, Precedes, IsPlacedBefore, ComesBefore, IsEdgeOf}
 use Rattle.bt_parts.proofs.Places.{same_part}
 use Rattle.bt_model.proofs.HandLemmas.{taker_at}
 use Rattle.bt_model.proofs.PathLemmas.{path_snoc}
-use Rattle.bt_recover.specs.inner.Edges.{AreNames, target_at, LeadsTo, LeadsFrom, StartsNone, AreEdges, HasEdges, AllDone}
+use Rattle.bt_model.proofs.SpeedLemmas.{least_more, least_alone, least_at_splitter, least_to_output, least_to_splitter, speed_from_input, speed_from_splitter}
+use Rattle.bt_recover.specs.declared.edges.Way.{Way}
+use Rattle.bt_recover.specs.inner.Edges.{AreNames, LeadsTo, LeadsFrom, StartsNone, AreEdges, HasEdges, AllDone}
+use Rattle.bt_recover.specs.inner.Speeds.{IsSlowedBy}
 use Rattle.bt_recover.proofs.Done.{InputsDone, SplittersDone, HalfDone}
 use Rattle.bt_recover.proofs.HandLaws.{front_fed}
 use Rattle.bt_recover.proofs.ChainLemmas.{orderly_of, chain_from}
@@ -33,62 +37,85 @@ use Rattle.bt_recover.proofs.Counts.{zip_push}
 
 -- ---- following a chain
 
--- a path of so many parts leads here
-pub record IsFollowing (parts : List Part) (first last steps : ℕ) : Type 0 where
+-- what is read from the numbers
+pub number_at : (parts : List Part) (numbers : List ℕ) (i number : ℕ) → length numbers ≡ length parts → i < length parts → number ≡ get_or numbers i number
+    → number ≡ get_or numbers i 0
+number_at parts numbers i number count lt at = at ∙ get_or_default numbers i number 0 (omega arith)
+
+-- a path of so many parts leads here, and this is their least speed
+pub record IsFollowing (parts : List Part) (first last steps speed : ℕ) : Type 0 where
   pub links : List ℕ
   pub path : Path parts first last links
   pub count : length links ≡ steps + 1
   pub link : IsLink parts last
   pub within : last < length parts
+  pub speed_is : IsLeastSpeed parts (Contains links) speed
 
-pub following_first : (parts : List Part) (first : ℕ) → IsLink parts first → first < length parts → IsFollowing parts first first 0
-following_first parts first link within = record { links = first ∷ []; path = one first link; count = refl; link = link; within = within }
+pub following_first : (parts : List Part) (first speed : ℕ) → IsLink parts first → first < length parts → HasSpeed parts first speed → IsFollowing parts first first 0 speed
+following_first parts first speed link within has = record {
+  links = first ∷ [];
+  path = one first link;
+  count = refl;
+  link = link;
+  within = within;
+  speed_is = least_alone parts first speed has;
+}
 
-pub following_more : (parts : List Part) (first last next steps : ℕ) → IsFollowing parts first last steps → Hands parts last next → IsLink parts next → next < length parts
-    → IsFollowing parts first next (steps + 1)
-following_more parts first last next steps on hands link within = record {
+pub following_more : (parts : List Part) (first last next steps speed least : ℕ) → IsFollowing parts first last steps speed → Hands parts last next → IsLink parts next → next < length parts
+    → IsSlowedBy parts speed next least → IsFollowing parts first next (steps + 1) least
+following_more parts first last next steps speed least on hands link within slowed = record {
   links = on.links ++ next ∷ [];
   path = path_snoc parts first last next on.links on.path hands link;
   count = length_push on.links next ∙ (let e = on.count in omega arith);
   link = link;
   within = within;
+  speed_is = subst (λ x. IsLeastSpeed parts (Contains (on.links ++ next ∷ [])) x) (sym slowed.2)
+      (least_more parts (Contains on.links) (Contains (on.links ++ next ∷ [])) next speed slowed.0 on.speed_is slowed.1
+      (λ j. ⊎_elim (λ there. Contains-append_left on.links (next ∷ []) j there)
+      (λ same. subst (λ x. Contains (on.links ++ next ∷ []) x) (sym same) (Contains-push on.links next)))
+      (λ j there. ⊎_elim (λ before. inl before) (λ same. inr (sym same)) (Contains-push_cases on.links next j there)));
 }
 
-pub following_output : (parts : List Part) (numbers : List ℕ) (first last steps : ℕ) → IsFollowing parts first last steps → IsOutput parts last
-    → LeadsTo parts numbers first (target_at numbers (ends last))
-following_output parts numbers first last steps on output = record {
+pub following_output : (parts : List Part) (numbers : List ℕ) (first last steps speed number : ℕ) → IsFollowing parts first last steps speed → IsOutput parts last
+    → number ≡ get_or numbers last 0 → LeadsTo parts numbers first (record { target = to.Output number; speed = speed })
+following_output parts numbers first last steps speed number on output at = record {
   last = last;
   links = on.links;
   path = on.path;
   sink = ends last;
   ends_as = (refl, output);
-  target_is = refl;
+  target_is = ap to.Output at;
+  speed_is = least_to_output parts on.links last speed on.speed_is;
 }
 
-pub following_splitter : (parts : List Part) (numbers : List ℕ) (first last next steps : ℕ) → IsFollowing parts first last steps → Hands parts last next → IsSplitter parts next
-    → LeadsTo parts numbers first (target_at numbers (enters next))
-following_splitter parts numbers first last next steps on hands splitter = record {
+pub following_splitter : (parts : List Part) (numbers : List ℕ) (first last next steps speed least number : ℕ) → IsFollowing parts first last steps speed → Hands parts last next → IsSplitter parts next
+    → IsSlowedBy parts speed next least → number ≡ get_or numbers next 0 → LeadsTo parts numbers first (record { target = to.Split number; speed = least })
+following_splitter parts numbers first last next steps speed least number on hands splitter slowed at = record {
   last = last;
   links = on.links;
   path = on.path;
   sink = enters next;
   ends_as = (splitter, hands);
-  target_is = refl;
+  target_is = ap to.Split at;
+  speed_is = subst (λ x. IsLeastSpeed parts (IsOnWay on.links (enters next)) x) (sym slowed.2)
+      (least_to_splitter parts on.links next speed slowed.0 on.speed_is slowed.1);
 }
 
-pub following_too_long : (parts : List Part) → IsClean parts → (first last steps : ℕ) → IsFollowing parts first last steps → length parts ≤ steps → ⊥
-following_too_long parts clean first last steps on many =
+pub following_too_long : (parts : List Part) → IsClean parts → (first last steps speed : ℕ) → IsFollowing parts first last steps speed → length parts ≤ steps → ⊥
+following_too_long parts clean first last steps speed on many =
     no_long_path parts clean.no_ring first last on.links on.path (let e = on.count in omega arith)
 
 -- the chain from an input, from the cell of its first part
-pub leads_from_input : (parts : List Part) → IsClean parts → (numbers : List ℕ) (i : ℕ) (target : Target) (input : IsInput parts i) → LeadsTo parts numbers i target
-    → LeadsFrom parts numbers (begins i input.part.cell) target
-leads_from_input parts clean numbers i target input way = record {
-  chain = record { source = begins i input.part.cell; links = way.links; sink = way.sink };
-  is_chain = input_chain parts clean.well_placed i way.last input.part.cell way.links way.sink input
-      (record { part = input.part; is_i = input.is_i; covers = inl refl }) way.path way.ends_as;
+pub leads_from_input : (parts : List Part) → IsClean parts → (numbers : List ℕ) (i : ℕ) (way : Way) (input : IsInput parts i) → LeadsTo parts numbers i way
+    → LeadsFrom parts numbers (begins i input.part.cell) way
+leads_from_input parts clean numbers i way input leads = record {
+  chain = record { source = begins i input.part.cell; links = leads.links; sink = leads.sink };
+  is_chain = input_chain parts clean.well_placed i leads.last input.part.cell leads.links leads.sink input
+      (record { part = input.part; is_i = input.is_i; covers = inl refl }) leads.path leads.ends_as;
   source_is = refl;
-  target_is = way.target_is;
+  target_is = leads.target_is;
+  speed_is = speed_from_input parts (record { source = begins i input.part.cell; links = leads.links; sink = leads.sink }) way.speed
+      (λ j none. none) leads.speed_is;
 }
 
 -- the chain from a half
@@ -101,22 +128,29 @@ pub half_feeds : (parts : List Part) → IsClean parts → (s next : ℕ) (half 
 half_feeds parts clean s next half there part is_s splitter here e at =
     front_fed parts (orderly_of parts clean) s next half part is_s here (splitter_above parts s part is_s splitter) (subst (λ c. IsAt parts next c) e at)
 
-pub leads_at_once : (parts : List Part) (numbers : List ℕ) (s next : ℕ) (half : Cell) → IsSplitter parts s → FeedsFrom parts s half next → IsSplitter parts next
-    → LeadsFrom parts numbers (leaves s half) (target_at numbers (enters next))
-leads_at_once parts numbers s next half splitter feeds into = record {
+pub leads_at_once : (parts : List Part) (numbers : List ℕ) (s next speed least number : ℕ) (half : Cell) → IsSplitter parts s → FeedsFrom parts s half next → IsSplitter parts next
+    → HasSpeed parts next speed → IsSlowedBy parts speed s least → number ≡ get_or numbers next 0
+    → LeadsFrom parts numbers (leaves s half) (record { target = to.Split number; speed = least })
+leads_at_once parts numbers s next speed least number half splitter feeds into has slowed at = record {
   chain = record { source = leaves s half; links = []; sink = enters next };
   is_chain = empty_chain parts s next half splitter into feeds;
   source_is = refl;
-  target_is = refl;
+  target_is = ap to.Split at;
+  speed_is = subst (λ x. IsSpeedOf parts (record { source = leaves s half; links = []; sink = enters next }) x) (sym slowed.2)
+      (speed_from_splitter parts (record { source = leaves s half; links = []; sink = enters next }) s speed slowed.0 (λ j e. e) refl
+      (least_at_splitter parts next speed has) slowed.1);
 }
 
-pub leads_from_half : (parts : List Part) → IsClean parts → (numbers : List ℕ) (s next : ℕ) (half : Cell) (target : Target) → IsSplitter parts s → FeedsFrom parts s half next
-    → LeadsTo parts numbers next target → LeadsFrom parts numbers (leaves s half) target
-leads_from_half parts clean numbers s next half target splitter feeds way = record {
-  chain = record { source = leaves s half; links = way.links; sink = way.sink };
-  is_chain = half_chain parts (orderly_of parts clean) s next way.last half way.links way.sink splitter feeds way.path way.ends_as;
+pub leads_from_half : (parts : List Part) → IsClean parts → (numbers : List ℕ) (s next least : ℕ) (half : Cell) (way : Way) → IsSplitter parts s → FeedsFrom parts s half next
+    → LeadsTo parts numbers next way → IsSlowedBy parts way.speed s least → LeadsFrom parts numbers (leaves s half) (record { target = way.target; speed = least })
+leads_from_half parts clean numbers s next least half way splitter feeds leads slowed = record {
+  chain = record { source = leaves s half; links = leads.links; sink = leads.sink };
+  is_chain = half_chain parts (orderly_of parts clean) s next leads.last half leads.links leads.sink splitter feeds leads.path leads.ends_as;
   source_is = refl;
-  target_is = way.target_is;
+  target_is = leads.target_is;
+  speed_is = subst (λ x. IsSpeedOf parts (record { source = leaves s half; links = leads.links; sink = leads.sink }) x) (sym slowed.2)
+      (speed_from_splitter parts (record { source = leaves s half; links = leads.links; sink = leads.sink }) s way.speed slowed.0 (λ j e. e) refl
+      leads.speed_is slowed.1);
 }
 
 -- where nothing is in front of the half, no chain starts there
@@ -141,7 +175,7 @@ pub record IsEdgeFrom (parts : List Part) (naming : Naming) (source : Source) (e
   pub chain : Chain
   pub is_chain : IsChain parts chain
   pub source_is : chain.source ≡ source
-  pub named : IsEdgeOf naming chain edge
+  pub named : IsEdgeOf parts naming chain edge
 
 -- the edge of the chain that starts here is added, if one does
 abbrev pub AddsEdgeFrom : List Part → Naming → Source → List Edge → List Edge → Type 0
@@ -159,7 +193,7 @@ edge_more : (parts : List Part) → IsClean parts → (naming : Naming) (done la
     → IsNext parts done later source → (n : IsEdgeFrom parts naming source edge) → AreEdges parts naming done chains edges
     → AreEdges parts naming later (chains ++ n.chain ∷ []) (edges ++ edge ∷ [])
 edge_more parts clean naming done later source chains edges edge next n are = record {
-  named = zip_push (IsEdgeOf naming) chains edges n.chain edge are.named n.named;
+  named = zip_push (IsEdgeOf parts naming) chains edges n.chain edge are.named n.named;
   only = λ c there. ⊎_elim
       (λ had. let known = are.only c had in (known.0, next.widen c.source known.1))
       (λ e. (subst (λ x. IsChain parts x) e n.is_chain, subst (λ x. later x.source) e (subst later (sym n.source_is) next.here)))

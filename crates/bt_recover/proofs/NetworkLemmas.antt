@@ -1,7 +1,8 @@
 -- From the numbers of the parts and the edges of the chains to the numbered network.
-use Rattle.std.proofs.Common.{◌≡◌, ℕ, zero, suc, ◌+◌, ◌<◌, ◌≤◌, List, [], ◌∷◌, ◌++◌, length, get_or, Option, Some, None, ◌↔◌, Err, refl, sym, ◌∙◌, ap, subst, inl, inr, ◌⊎◌, ⊎_elim, arith}
+use Rattle.std.proofs.Common.{◌≡◌, ℕ, zero, suc, ◌+◌, ◌<◌, ◌≤◌, List, [], ◌∷◌, ◌++◌, length, get_or, Option, Some, None, ◌↔◌, Err, Bool, true, false, IsTrue, refl, sym, ◌∙◌, ap, subst, inl, inr, ◌⊎◌, ⊎_elim, arith}
 use Rattle.std.specs.List.{slice_get, All}
 use Rattle.std.proofs.lemmas.Option.{same_Some, none-some, slice_get_within, slice_get-get_or}
+use Rattle.std.proofs.lemmas.Bool.{false≢true}
 use Rattle.std.proofs.lemmas.List.{get_or_default}
 use Rattle.bt_parts.specs.declared.part.Cell.{Cell}
 use Rattle.bt_parts.specs.declared.part.Kind.TheVariants.{Splitter}
@@ -20,9 +21,13 @@ use Rattle.bt_model.specs.Handing.{FeedsFrom}
 use Rattle.bt_model.specs.Chains.{IsSplitter, IsLink, IsInput, IsOutput, Source, begins, leaves, Sink, ends, enters, Chain, IsChain, EndsAs}
 use Rattle.bt_model.specs.Clean.{IsClean}
 use Rattle.bt_model.specs.Shown.{Naming, ListsEach, ComesBefore, IsStartOf, IsTargetOf, IsNumbered, IsNaming}
+use Rattle.bt_model.specs.Speeds.{IsSpeedOf, HasOneTier, IsCapOf}
 use Rattle.bt_model.proofs.Orders.{sources_asymmetric}
+use Rattle.bt_model.proofs.SpeedLemmas.{cap_exists}
 use Rattle.bt_parts.proofs.Places.{same_part}
-use Rattle.bt_recover.specs.inner.Edges.{AreNames, HasMany, KeepsOthers, AreNumbered, AreNumbers, target_at, LeadsTo, LeadsFrom, edge_to, AddsEdge, AddsHalves, HasEdges, AllDone, net_with}
+use Rattle.bt_recover.specs.declared.edges.Labels.{Labels}
+use Rattle.bt_recover.specs.declared.edges.Way.{Way}
+use Rattle.bt_recover.specs.inner.Edges.{AreNames, HasMany, KeepsOthers, AreNumbered, AreNumbers, AreLabels, target_at, LeadsTo, LeadsFrom, cap_at, edge_to, AddsEdge, AddsHalves, HasEdges, AllDone, net_with}
 use Rattle.bt_recover.specs.inner.Refused.{size_fault, IsNetTold}
 use Rattle.bt_recover.proofs.Done.{InputsDone, SplittersDone}
 use Rattle.bt_recover.proofs.ChainLemmas.{orderly_of, no_link}
@@ -84,58 +89,65 @@ target_named parts naming numbers names are (enters s) splitter =
     let there = contained_at naming.splitters s (names.splitters.all s splitter) in
     subst (λ k. slice_get naming.splitters k ≡ Some s) (sym (are.splitters there.0 s there.2)) there.2
 
+-- the cap by the labels is the chain's
+cap_named : (parts : List Part) (chain : Chain) (one_tier : Bool) (speed : ℕ) → IsTrue one_tier ↔ HasOneTier parts → IsSpeedOf parts chain speed
+    → IsCapOf parts chain (cap_at one_tier speed)
+cap_named parts chain true speed same is = inl (same.0 refl, refl)
+cap_named parts chain false speed same is = inr (λ one. false≢true (same.1 one), is)
+
 -- the edge to the target to which the chain leads
-pub edge_from : (parts : List Part) (naming : Naming) (numbers : List ℕ) → AreNames parts naming → AreNumbers parts naming numbers → (source : Source) (start : Start) (target : Target)
-    → IsStartOf naming source start → LeadsFrom parts numbers source target → IsEdgeFrom parts naming source (edge_to start target)
-edge_from parts naming numbers names are source start target starts way = record {
-  chain = way.chain;
-  is_chain = way.is_chain;
-  source_is = way.source_is;
+pub edge_from : (parts : List Part) (naming : Naming) (labels : Labels) → AreNames parts naming → AreLabels parts naming labels → (source : Source) (start : Start) (way : Way)
+    → IsStartOf naming source start → LeadsFrom parts labels.numbers.items source way → IsEdgeFrom parts naming source (edge_to labels.one_tier start way)
+edge_from parts naming labels names are source start way starts leads = record {
+  chain = leads.chain;
+  is_chain = leads.is_chain;
+  source_is = leads.source_is;
   named = record {
-    start = subst (λ x. IsStartOf naming x start) (sym way.source_is) starts;
-    target = subst (λ t. IsTargetOf naming way.chain.sink t) (sym way.target_is) (target_named parts naming numbers names are way.chain.sink (sink_is parts way.chain way.is_chain));
-    cap = refl;
+    start = subst (λ x. IsStartOf naming x start) (sym leads.source_is) starts;
+    target = subst (λ t. IsTargetOf naming leads.chain.sink t) (sym leads.target_is)
+        (target_named parts naming labels.numbers.items names are.numbers leads.chain.sink (sink_is parts leads.chain leads.is_chain));
+    cap = cap_named parts leads.chain labels.one_tier way.speed are.one_tier leads.speed_is;
   };
 }
 
-adds_from : (parts : List Part) (naming : Naming) (numbers : List ℕ) → AreNames parts naming → AreNumbers parts naming numbers → (source : Source) (start : Start) (old new : List Edge)
-    → IsStartOf naming source start → AddsEdge parts numbers source start old new → AddsEdgeFrom parts naming source old new
-adds_from parts naming numbers names are source start old new starts (inl none) = inl none
-adds_from parts naming numbers names are source start old new starts (inr some) =
-    inr (edge_to start some.0, edge_from parts naming numbers names are source start some.0 starts some.1, some.2)
+adds_from : (parts : List Part) (naming : Naming) (labels : Labels) → AreNames parts naming → AreLabels parts naming labels → (source : Source) (start : Start) (old new : List Edge)
+    → IsStartOf naming source start → AddsEdge parts labels source start old new → AddsEdgeFrom parts naming source old new
+adds_from parts naming labels names are source start old new starts (inl none) = inl none
+adds_from parts naming labels names are source start old new starts (inr some) =
+    inr (edge_to labels.one_tier start some.0, edge_from parts naming labels names are source start some.0 starts some.1, some.2)
 
 -- ---- the loops over the inputs and the splitters
 
-pub input_step : (parts : List Part) → IsClean parts → (naming : Naming) (numbers : List ℕ) → AreNames parts naming → AreNumbers parts naming numbers → (k : ℕ) (edges : List Edge) (target : Target)
-    → k < length naming.inputs → LeadsTo parts numbers (get_or naming.inputs k 0) target → HasEdges parts naming (InputsDone naming.inputs k) edges
-    → HasEdges parts naming (InputsDone naming.inputs (k + 1)) (edges ++ edge_to (from.Input k) target ∷ [])
-input_step parts clean naming numbers names are k edges target lt way has =
+pub input_step : (parts : List Part) → IsClean parts → (naming : Naming) (labels : Labels) → AreNames parts naming → AreLabels parts naming labels → (k : ℕ) (edges : List Edge) (way : Way)
+    → k < length naming.inputs → LeadsTo parts labels.numbers.items (get_or naming.inputs k 0) way → HasEdges parts naming (InputsDone naming.inputs k) edges
+    → HasEdges parts naming (InputsDone naming.inputs (k + 1)) (edges ++ edge_to labels.one_tier (from.Input k) way ∷ [])
+input_step parts clean naming labels names are k edges way lt leads has =
     let i = get_or naming.inputs k 0 in
     let input = each_at (IsInput parts) naming.inputs k names.inputs lt in
     let at = slice_get-get_or naming.inputs k 0 lt in
-    edges_input parts clean naming names k i edges (edge_to (from.Input k) target) input at
-    (edge_from parts naming numbers names are (begins i input.part.cell) (from.Input k) target at (leads_from_input parts clean numbers i target input way)) has
+    edges_input parts clean naming names k i edges (edge_to labels.one_tier (from.Input k) way) input at
+    (edge_from parts naming labels names are (begins i input.part.cell) (from.Input k) way at (leads_from_input parts clean labels.numbers.items i way input leads)) has
 
-pub halves_step : (parts : List Part) → IsClean parts → (naming : Naming) (numbers : List ℕ) → AreNames parts naming → AreNumbers parts naming numbers → (k : ℕ) (old new : List Edge)
-    → k < length naming.splitters → AddsHalves parts numbers (get_or naming.splitters k 0) (from.Split k) old new → HasEdges parts naming (SplittersDone naming.splitters k) old
+pub halves_step : (parts : List Part) → IsClean parts → (naming : Naming) (labels : Labels) → AreNames parts naming → AreLabels parts naming labels → (k : ℕ) (old new : List Edge)
+    → k < length naming.splitters → AddsHalves parts labels (get_or naming.splitters k 0) (from.Split k) old new → HasEdges parts naming (SplittersDone naming.splitters k) old
     → HasEdges parts naming (SplittersDone naming.splitters (k + 1)) new
-halves_step parts clean naming numbers names are k old new lt adds has =
+halves_step parts clean naming labels names are k old new lt adds has =
     let s = get_or naming.splitters k 0 in
     let at = slice_get-get_or naming.splitters k 0 lt in
     edges_halves parts clean naming names k s adds.part old adds.mid new adds.is_s at
-    (adds_from parts naming numbers names are (leaves s adds.part.cell) (from.Split k) old adds.mid at adds.lesser)
-    (adds_from parts naming numbers names are (leaves s (beside adds.part.dir adds.part.cell)) (from.Split k) adds.mid new at adds.greater) has
+    (adds_from parts naming labels names are (leaves s adds.part.cell) (from.Split k) old adds.mid at adds.lesser)
+    (adds_from parts naming labels names are (leaves s (beside adds.part.dir adds.part.cell)) (from.Split k) adds.mid new at adds.greater) has
 
 -- the edges from both halves
-pub adds_both : (parts : List Part) (numbers : List ℕ) (old mid new : List Edge) (start : Start) (s : ℕ) (part : Part) (first half : Cell) (second : Option Cell) → HasPart parts s part → first ≡ part.cell
-    → ((c : Cell) → (second ≡ Some c) ↔ IsGreaterHalf part c) → second ≡ Some half → AddsEdge parts numbers (leaves s first) start old mid → AddsEdge parts numbers (leaves s half) start mid new
-    → AddsHalves parts numbers s start old new
-adds_both parts numbers old mid new start s part first half second is_s e is_second some lesser greater = record {
+pub adds_both : (parts : List Part) (labels : Labels) (old mid new : List Edge) (start : Start) (s : ℕ) (part : Part) (first half : Cell) (second : Option Cell) → HasPart parts s part → first ≡ part.cell
+    → ((c : Cell) → (second ≡ Some c) ↔ IsGreaterHalf part c) → second ≡ Some half → AddsEdge parts labels (leaves s first) start old mid → AddsEdge parts labels (leaves s half) start mid new
+    → AddsHalves parts labels s start old new
+adds_both parts labels old mid new start s part first half second is_s e is_second some lesser greater = record {
   part = part;
   is_s = is_s;
   mid = mid;
-  lesser = subst (λ c. AddsEdge parts numbers (leaves s c) start old mid) e lesser;
-  greater = subst (λ c. AddsEdge parts numbers (leaves s c) start mid new) ((is_second half).0 some).1 greater;
+  lesser = subst (λ c. AddsEdge parts labels (leaves s c) start old mid) e lesser;
+  greater = subst (λ c. AddsEdge parts labels (leaves s c) start mid new) ((is_second half).0 some).1 greater;
 }
 
 pub no_second : (parts : List Part) (s : ℕ) (part : Part) (second : Option Cell) → HasPart parts s part → IsSplitter parts s → ((c : Cell) → (second ≡ Some c) ↔ IsGreaterHalf part c) → second ≡ None → ⊥
@@ -153,7 +165,10 @@ edge_exists : (parts : List Part) (naming : Naming) → AreNames parts naming �
     → (edge : Edge) × IsEdgeFrom parts naming chain.source edge
 edge_exists parts naming names chain start is_chain starts =
     let target = target_exists parts naming names chain.sink (sink_is parts chain is_chain) in
-    (edge_to start target.0, record { chain = chain; is_chain = is_chain; source_is = refl; named = record { start = starts; target = target.1; cap = refl } })
+    let cap = cap_exists parts chain is_chain in (
+      record { start = start; target = target.0; cap = cap.0 },
+      record { chain = chain; is_chain = is_chain; source_is = refl; named = record { start = starts; target = target.1; cap = cap.1 } },
+    )
 
 inputs_exist : (parts : List Part) → IsClean parts → (naming : Naming) → AreNames parts naming → (k : ℕ) → k ≤ length naming.inputs
     → (edges : List Edge) × HasEdges parts naming (InputsDone naming.inputs k) edges

@@ -16,6 +16,7 @@ use Rattle.bt_net.specs.Network.{Network, IsWired, leaves as leaves_from, enters
 use Rattle.bt_model.specs.Chains.{IsSplitter, IsInput, IsOutput, Source, begins, leaves, Sink, ends, enters, Chain, IsChain}
 use Rattle.bt_model.specs.Shown.{Naming, IsNaming, IsStartOf, IsTargetOf, IsEdgeOf, IsNumbered}
 use Rattle.bt_model.proofs.Sorted.{one_place}
+use Rattle.bt_model.proofs.SpeedLemmas.{cap_range}
 use Rattle.bt_recover.proofs.ChainLemmas.{orderly_of, chain_from}
 use Rattle.bt_recover.proofs.ExistLemmas.{from_input, to_output}
 use Rattle.bt_recover.proofs.SameChain.{same_begins, same_ends, leaves_half, Hop, hop_of, hop_half, same_hop}
@@ -101,23 +102,23 @@ some_chain = record { source = begins 0 (record { x = pos 0; y = pos 0 }); links
 record IsPlace (parts : List Part) (naming : Naming) (chains : List Chain) (l : ℕ) (edge : Edge) : Type 0 where
   within : l < length chains
   is_chain : IsChain parts (get_or chains l some_chain)
-  named : IsEdgeOf naming (get_or chains l some_chain) edge
+  named : IsEdgeOf parts naming (get_or chains l some_chain) edge
 
 place_at : (parts : List Part) (net : Network) (naming : Naming) (n : IsNumbered parts net naming) (l : ℕ) (d : Edge) → l < length net.edges
     → IsPlace parts naming n.chains l (get_or net.edges l d)
 place_at parts net naming n l d lt =
-    let same = zip_length (IsEdgeOf naming) n.chains net.edges n.named in
+    let same = zip_length (IsEdgeOf parts naming) n.chains net.edges n.named in
     let in' : l < length n.chains = omega arith in
     let chain = get_or n.chains l some_chain in
     record {
       within = in';
       is_chain = n.each_once.only chain (l, in', get_or_default n.chains l chain some_chain in');
-      named = zip_at (IsEdgeOf naming) n.chains net.edges l some_chain d n.named in';
+      named = zip_at (IsEdgeOf parts naming) n.chains net.edges l some_chain d n.named in';
     }
 
 -- where the edges that pass a test stand for one chain, one edge passes
 passes_once : (parts : List Part) (net : Network) (naming : Naming) → IsNumbered parts net naming → (p : Edge → Bool) (P : Chain → Type 0)
-    → ((c : Chain) (e : Edge) → IsEdgeOf naming c e → p e ≡ true → P c) → ((c d : Chain) → IsChain parts c → IsChain parts d → P c → P d → c ≡ d) → AtMostOne p net.edges
+    → ((c : Chain) (e : Edge) → IsEdgeOf parts naming c e → p e ≡ true → P c) → ((c d : Chain) → IsChain parts c → IsChain parts d → P c → P d → c ≡ d) → AtMostOne p net.edges
 passes_once parts net naming n p P tells same l m d lt in' t u =
     let x = place_at parts net naming n l d (omega arith) in
     let y = place_at parts net naming n m d in' in
@@ -125,7 +126,7 @@ passes_once parts net naming n p P tells same l m d lt in' t u =
 
 -- and where they stand for chains of two halves, two edges pass
 passes_twice : (parts : List Part) (net : Network) (naming : Naming) → IsNumbered parts net naming → (p : Edge → Bool) (P : Chain → Cell → Type 0) (a b : Cell)
-    → ((c : Chain) (e : Edge) → IsChain parts c → IsEdgeOf naming c e → p e ≡ true → (half : Cell) × P c half × ((half ≡ a) ⊎ (half ≡ b)))
+    → ((c : Chain) (e : Edge) → IsChain parts c → IsEdgeOf parts naming c e → p e ≡ true → (half : Cell) × P c half × ((half ≡ a) ⊎ (half ≡ b)))
     → ((c d : Chain) (half other : Cell) → IsChain parts c → IsChain parts d → P c half → P d other → half ≡ other → c ≡ d) → AtMostTwo p net.edges
 passes_twice parts net naming n p P a b tells same k l m d lt lt' in' s t u =
     let x = place_at parts net naming n k d (omega arith) in
@@ -144,15 +145,15 @@ passes_twice parts net naming n p P a b tells same k l m d lt lt' in' s t u =
 
 -- and where an edge that stands for a chain passes, one passes
 passes_some : (parts : List Part) (net : Network) (naming : Naming) → IsNumbered parts net naming → (p : Edge → Bool) (c : Chain) → IsChain parts c
-    → ((e : Edge) → IsEdgeOf naming c e → p e ≡ true) → 1 ≤ count_by p net.edges
+    → ((e : Edge) → IsEdgeOf parts naming c e → p e ≡ true) → 1 ≤ count_by p net.edges
 passes_some parts net naming n p c is_c tells =
     let there = n.each_once.all c is_c in
-    let same = zip_length (IsEdgeOf naming) n.chains net.edges n.named in
+    let same = zip_length (IsEdgeOf parts naming) n.chains net.edges n.named in
     let in' : there.0 < length net.edges = let lt = there.1 in omega arith in
     let some_edge : Edge = record { start = from.Input 0; target = to.Output 0; cap = 1 } in
     count_some p net.edges there.0 some_edge in'
     (tells (get_or net.edges there.0 some_edge)
-    (subst (λ x. IsEdgeOf naming x (get_or net.edges there.0 some_edge)) there.2 (zip_at (IsEdgeOf naming) n.chains net.edges there.0 c some_edge n.named there.1)))
+    (subst (λ x. IsEdgeOf parts naming x (get_or net.edges there.0 some_edge)) there.2 (zip_at (IsEdgeOf parts naming) n.chains net.edges there.0 c some_edge n.named there.1)))
 
 one_begins : (parts : List Part) (net : Network) (naming : Naming) → IsNumbered parts net naming → (i a : ℕ) → slice_get naming.inputs i ≡ Some a → AtMostOne (is_input i) net.edges
 one_begins parts net naming n i a at =
@@ -241,7 +242,7 @@ pub wired : (parts : List Part) (net : Network) (naming : Naming) → IsNumbered
 wired parts net naming n = record {
   starts = λ l d lt. start_in parts net naming n.names _ _ (place_at parts net naming n l d lt).named.start;
   targets = λ l d lt. target_in parts net naming n.names _ _ (place_at parts net naming n l d lt).named.target;
-  caps = λ l d lt. (place_at parts net naming n l d lt).named.cap;
+  caps = λ l d lt. cap_range parts _ _ (place_at parts net naming n l d lt).named.cap;
   one_in = λ i lt.
       let there = at_number naming.inputs i (let e = n.names.input_count in omega arith) in
       let most = count_one (is_input i) net.edges (one_begins parts net naming n i there.0 there.1) in

@@ -4,4 +4,5 @@ pub mod Ends
 pub mod Marks
 pub mod Refused
 pub mod Sight
+pub mod Speeds
 pub mod Told

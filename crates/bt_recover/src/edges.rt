@@ -1,21 +1,40 @@
 //! One edge for each chain, found by following the chain to its end.
 //!
 //! An edge names a splitter or an output by its number, so the numbers are written into a table by
-//! part first. With it each chain is walked once, and the work is that of the parts.
-ghost use Rattle.std.specs.Prelude.{◌≡◌, ◌≢◌, ◌↔◌, ℕ, ◌<◌, ◌≤◌, length, slice_index_or, OnOk, IfOk, MatchOption, All, AllPairs, Contains};
+//! part first. With it each chain is walked once, the least speed so far is carried along, and the work
+//! is that of the parts.
+ghost use Rattle.std.specs.Prelude.{◌≡◌, ◌≢◌, ◌↔◌, ℕ, ◌<◌, ◌≤◌, length, OnOk, IfOk, MatchOption, All, AllPairs, Contains};
 ghost use Rattle.bt_parts.specs.Layouts.{IsAt};
 ghost use Rattle.bt_grid.specs.Pairing.{ArePartners};
 ghost use Rattle.bt_model.specs.Chains.{IsLink, IsSplitter, leaves};
 ghost use Rattle.bt_model.specs.Clean.{IsClean};
-ghost use Rattle.bt_recover.specs.inner.Edges.{naming_of, AreNames, HasMany, AreNumbered, AreNumbers, KeepsOthers, LeadsTo, LeadsIfAny, AddsEdge, AddsHalves, HasEdges, AllDone};
+ghost use Rattle.bt_recover.specs.inner.Edges.{naming_of, AreNames, HasMany, AreNumbered, AreNumbers, AreLabels, KeepsOthers, edge_to, LeadsTo, LeadsIfAny, AddsEdge, AddsHalves, HasEdges, AllDone};
 
 use crate::ends::Names;
 use crate::following::taker;
+use crate::speeds::{has_one_tier, slowed_by, speed_at};
 use bt_grid::{Grid, Pairs};
 use bt_model::is_kind;
 use bt_net::{Edge, MOST_OF_EACH, Start, Target};
 use bt_parts::{Cell, Kind, cells_of, front};
 use std::alloc::{AllocError, Global};
+
+/// What edges are made with: the number of each splitter and of each output, at the index of its part,
+/// and whether all parts of the layout have one tier.
+#[derive(Drop)]
+struct Labels {
+    numbers: Vec<u32>,
+    one_tier: bool,
+}
+
+/// Where a chain leads, and the least speed on the way there. The splitter at which it ends counts too.
+#[derive(Clone, Copy)]
+struct Way {
+    target: Target,
+
+    /// As a multiple of the basic tier's.
+    speed: u32,
+}
 
 /// Writes the place of each listed part in the list.
 fn write_places(numbers: &mut Vec<u32>, list: &[usize])
@@ -43,52 +62,86 @@ fn numbers_of(alloc: Global, grid: &Grid, names: &Names) -> Result<Vec<u32>, All
     Ok(numbers)
 }
 
-/// Where the chain that goes on with this belt or underground piece ends.
-fn target_from(grid: &Grid, pairs: &Pairs, numbers: &[u32], first: usize) -> Target
+/// The numbers of the splitters and of the outputs, and whether all parts have one tier.
+fn labels_of(alloc: Global, grid: &Grid, names: &Names) -> Result<Labels, AllocError>
+    requires names { AreNames grid.now (naming_of names.now) }
+    requires few { HasMany (naming_of names.now) → ⊥ }
+    ensures { IfOk result (λ labels. AreLabels grid.now (naming_of names.now) labels) }
+{
+    let numbers = numbers_of(alloc, grid, names)?;
+    Ok(Labels {
+        numbers,
+        one_tier: has_one_tier(grid.parts()),
+    })
+}
+
+/// The edge of this start and of where the way ends. Its cap is 1 where all parts have one tier, and the
+/// speed of the way otherwise.
+fn edge_to(labels: &Labels, start: Start, way: Way) -> Edge
+    ensures { result ≡ edge_to labels.now.one_tier start way }
+{
+    Edge {
+        start,
+        target: way.target,
+        cap: if labels.one_tier { 1 } else { way.speed },
+    }
+}
+
+/// Where the chain that goes on with this belt or underground piece leads, at the least speed from there
+/// on.
+fn way_from(grid: &Grid, pairs: &Pairs, labels: &Labels, first: usize) -> Way
     requires link { IsLink grid.now first }
     requires within { first < length grid.now }
     requires partners { ArePartners grid.now pairs.now }
     requires clean { IsClean grid.now }
-    requires count { length numbers.now ≡ length grid.now }
-    ensures { LeadsTo grid.now numbers.now first result }
+    requires count { length labels.now.numbers.items ≡ length grid.now }
+    ensures { LeadsTo grid.now labels.now.numbers.items first result }
 {
     let mut last = first;
+    let mut speed = speed_at(grid, first);
     for _steps in 0..grid.parts().len() {
         let Some(next) = taker(grid, pairs, last) else {
-            return Target::Output(numbers[last]);
+            return Way {
+                target: Target::Output(labels.numbers[last]),
+                speed,
+            };
         };
+        speed = slowed_by(grid, speed, next);
         if is_kind(grid.part(next), Kind::Splitter) {
-            return Target::Split(numbers[next]);
+            return Way {
+                target: Target::Split(labels.numbers[next]),
+                speed,
+            };
         }
         last = next;
     }
     unreachable!()
 }
 
-/// Where the chain from this half of a splitter ends, if the half hands on.
-fn target_from_half(
-    grid: &Grid,
-    pairs: &Pairs,
-    numbers: &[u32],
-    s: usize,
-    half: Cell,
-) -> Option<Target>
+/// Where the chain from this half of a splitter leads, at the chain's speed, if the half hands on.
+fn way_from_half(grid: &Grid, pairs: &Pairs, labels: &Labels, s: usize, half: Cell) -> Option<Way>
     requires splitter { IsSplitter grid.now s }
     requires half { IsAt grid.now s half }
     requires within { s < length grid.now }
     requires partners { ArePartners grid.now pairs.now }
     requires clean { IsClean grid.now }
-    requires count { length numbers.now ≡ length grid.now }
-    ensures { LeadsIfAny grid.now numbers.now (leaves s half) result }
+    requires count { length labels.now.numbers.items ≡ length grid.now }
+    ensures { LeadsIfAny grid.now labels.now.numbers.items (leaves s half) result }
 {
     let Some(next) = grid.at(front(grid.part(s), half)) else {
         return None;
     };
     if is_kind(grid.part(next), Kind::Splitter) {
-        Some(Target::Split(numbers[next]))
-    } else {
-        Some(target_from(grid, pairs, numbers, next))
+        return Some(Way {
+            target: Target::Split(labels.numbers[next]),
+            speed: slowed_by(grid, speed_at(grid, next), s),
+        });
     }
+    let way = way_from(grid, pairs, labels, next);
+    Some(Way {
+        target: way.target,
+        speed: slowed_by(grid, way.speed, s),
+    })
 }
 
 /// Adds the edge of the chain from this half, if there is one.
@@ -96,7 +149,7 @@ fn push_half(
     edges: &mut Vec<Edge>,
     grid: &Grid,
     pairs: &Pairs,
-    numbers: &[u32],
+    labels: &Labels,
     start: Start,
     s: usize,
     half: Cell,
@@ -106,18 +159,14 @@ fn push_half(
     requires within { s < length grid.now }
     requires partners { ArePartners grid.now pairs.now }
     requires clean { IsClean grid.now }
-    requires count { length numbers.now ≡ length grid.now }
+    requires count { length labels.now.numbers.items ≡ length grid.now }
     ensures { OnOk result
-        (AddsEdge grid.now numbers.now (leaves s half) start edges.old.items edges.new.items) }
+        (AddsEdge grid.now labels.now (leaves s half) start edges.old.items edges.new.items) }
 {
-    let Some(target) = target_from_half(grid, pairs, numbers, s, half) else {
+    let Some(way) = way_from_half(grid, pairs, labels, s, half) else {
         return Ok(());
     };
-    edges.push(Edge {
-        start,
-        target,
-        cap: 1,
-    })?;
+    edges.push(edge_to(labels, start, way))?;
     Ok(())
 }
 
@@ -126,7 +175,7 @@ fn push_halves(
     edges: &mut Vec<Edge>,
     grid: &Grid,
     pairs: &Pairs,
-    numbers: &[u32],
+    labels: &Labels,
     start: Start,
     s: usize,
 ) -> Result<(), AllocError>
@@ -134,13 +183,13 @@ fn push_halves(
     requires within { s < length grid.now }
     requires partners { ArePartners grid.now pairs.now }
     requires clean { IsClean grid.now }
-    requires count { length numbers.now ≡ length grid.now }
-    ensures { OnOk result (AddsHalves grid.now numbers.now s start edges.old.items edges.new.items) }
+    requires count { length labels.now.numbers.items ≡ length grid.now }
+    ensures { OnOk result (AddsHalves grid.now labels.now s start edges.old.items edges.new.items) }
 {
     let (lesser, greater) = cells_of(grid.part(s));
-    push_half(edges, grid, pairs, numbers, start, s, lesser)?;
+    push_half(edges, grid, pairs, labels, start, s, lesser)?;
     match greater {
-        Some(greater) => push_half(edges, grid, pairs, numbers, start, s, greater),
+        Some(greater) => push_half(edges, grid, pairs, labels, start, s, greater),
         None => Ok(()),
     }
 }
@@ -159,24 +208,14 @@ pub(crate) fn edges_of(
     requires few { HasMany (naming_of names.now) → ⊥ }
     ensures { IfOk result (λ edges. HasEdges grid.now (naming_of names.now) AllDone edges.items) }
 {
-    let numbers = numbers_of(alloc, grid, names)?;
+    let labels = labels_of(alloc, grid, names)?;
     let mut edges = Vec::new(alloc);
     for (k, i) in names.inputs.iter().enumerate() {
-        edges.push(Edge {
-            start: Start::Input(k as u32),
-            target: target_from(grid, pairs, &numbers, *i),
-            cap: 1,
-        })?;
+        let way = way_from(grid, pairs, &labels, *i);
+        edges.push(edge_to(&labels, Start::Input(k as u32), way))?;
     }
     for (k, s) in names.splitters.iter().enumerate() {
-        push_halves(
-            &mut edges,
-            grid,
-            pairs,
-            &numbers,
-            Start::Split(k as u32),
-            *s,
-        )?;
+        push_halves(&mut edges, grid, pairs, &labels, Start::Split(k as u32), *s)?;
     }
     Ok(edges)
 }

@@ -13,6 +13,7 @@ mod marks;
 mod recovery;
 mod refusals;
 mod sight;
+mod speeds;
 
 pub use fault::RecoverFault;
 pub use recovery::{Traced, recover};

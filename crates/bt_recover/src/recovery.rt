@@ -58,9 +58,11 @@ fn net_of(names: &Names, edges: Vec<Edge>) -> Result<Net, RecoverFault>
 ///
 /// Splitters are numbered in the order of the parts, inputs by the cells of their first parts and
 /// outputs by the cells of their last, by x and then by y. Edges come in the order of their starts:
-/// the inputs, then the splitters, and of a splitter the lesser half first. The work grows as that of
-/// sorting the parts. The lists have indices of parts, and an edge's cap is 1, one belt of the slowest
-/// tier.
+/// the inputs, then the splitters, and of a splitter the lesser half first. The lists have indices of
+/// parts. The work grows as that of sorting the parts.
+///
+/// An edge's cap is 1 where all parts have one tier. Otherwise it is the speed of the slowest among its
+/// chain's parts and the splitters at the chain's ends, as a multiple of the basic tier's.
 ///
 /// # Errors
 ///

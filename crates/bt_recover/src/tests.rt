@@ -57,13 +57,23 @@ fn piece(letter: u8) -> Option<(Kind, Dir)> {
     }
 }
 
-/// A basic part on a cell.
-fn part_at(kind: Kind, dir: Dir, x: u8, y: u8) -> Part
+/// The tier of the part with this index: that of the speed for it, or basic where there is none.
+fn tier_of(speeds: &[u8], i: usize) -> Tier {
+    match speeds.get(i) {
+        Some(b'2') => Tier::Fast,
+        Some(b'3') => Tier::Express,
+        Some(b'4') => Tier::Turbo,
+        _ => Tier::Basic,
+    }
+}
+
+/// A part on a cell.
+fn part_at(kind: Kind, tier: Tier, dir: Dir, x: u8, y: u8) -> Part
     ensures { IsInRange result.cell }
 {
     Part {
         kind,
-        tier: Tier::Basic,
+        tier,
         dir,
         cell: Cell {
             x: x as i32,
@@ -73,19 +83,20 @@ fn part_at(kind: Kind, dir: Dir, x: u8, y: u8) -> Part
 }
 
 /// Adds the part that a letter stands for.
-fn push_piece(parts: &mut Vec<Part>, letter: u8, x: u8, y: u8) -> Result<(), Memory>
+fn push_piece(parts: &mut Vec<Part>, letter: u8, speeds: &[u8], x: u8, y: u8) -> Result<(), Memory>
     requires { AreInRange parts.old.items }
     ensures { OnOk result (AreInRange parts.new.items) }
 {
     let Some((kind, dir)) = piece(letter) else {
         return Ok(());
     };
-    parts.push(part_at(kind, dir, x, y))?;
+    let tier = tier_of(speeds, parts.len());
+    parts.push(part_at(kind, tier, dir, x, y))?;
     Ok(())
 }
 
-/// The parts of a map, row by row.
-fn parts_of(alloc: Global, map: &[&[u8]]) -> Result<Vec<Part>, Memory>
+/// The parts of a map, row by row, with tiers of these speeds in their order.
+fn parts_with_speeds(alloc: Global, map: &[&[u8]], speeds: &[u8]) -> Result<Vec<Part>, Memory>
     ensures { IfOk result (λ parts. AreInRange parts.items) }
 {
     let mut parts = Vec::new(alloc);
@@ -93,12 +104,19 @@ fn parts_of(alloc: Global, map: &[&[u8]]) -> Result<Vec<Part>, Memory>
     for row in map {
         let mut x: u8 = 0;
         for letter in *row {
-            push_piece(&mut parts, *letter, x, y)?;
+            push_piece(&mut parts, *letter, speeds, x, y)?;
             x = x.saturating_add(1);
         }
         y = y.saturating_add(1);
     }
     Ok(parts)
+}
+
+/// The parts of a map, row by row, of the basic tier.
+fn parts_of(alloc: Global, map: &[&[u8]]) -> Result<Vec<Part>, Memory>
+    ensures { IfOk result (λ parts. AreInRange parts.items) }
+{
+    parts_with_speeds(alloc, map, &[])
 }
 
 /// So many belts, none of which hands to another.
@@ -110,6 +128,7 @@ fn lone_belts(alloc: Global, count: u16) -> Result<Vec<Part>, Memory>
         let row = (i / 256) as u8;
         let part = part_at(
             Kind::Belt,
+            Tier::Basic,
             Dir::North,
             (i % 256) as u8,
             row.saturating_mul(2),
@@ -140,6 +159,19 @@ fn has_edges(net: &Net, edges: &[(Start, Target)]) -> bool {
     }
     for (edge, (start, target)) in net.edges().iter().zip(edges) {
         if edge.start != *start || edge.target != *target || edge.cap != 1 {
+            return false;
+        }
+    }
+    true
+}
+
+/// Whether the network's edges have these caps.
+fn has_caps(net: &Net, caps: &[u32]) -> bool {
+    if net.edges().len() != caps.len() {
+        return false;
+    }
+    for (edge, cap) in net.edges().iter().zip(caps) {
+        if edge.cap != *cap {
             return false;
         }
     }
@@ -220,6 +252,35 @@ fn networks_are_recovered(rt: HostRuntime) -> Result<(), Fail> {
         let grid = placed(&rt, rt.alloc(), parts_of(rt.alloc(), map)?);
         let traced = recovered(&rt, rt.alloc(), &grid);
         let same = has_edges(&traced.net, edges);
+        assert!(rt; same);
+    }
+    Ok(())
+}
+
+#[test]
+fn caps_are_those_of_the_slowest_parts(rt: HostRuntime) -> Result<(), Fail> {
+    let table: [(&[&[u8]], &[u8], &[u32]); 7] = [
+        (&[b">E.e>"], b"4224", &[2]),
+        (&[b">>>"], b"324", &[2]),
+        (&[b"EE.e..e"], b"1212", &[1, 2]),
+        (&[b"^^", b"[]", b"^^"], b"42341", &[3, 1, 3, 2]),
+        (
+            &[b"^^", b"[]", b"[]", b"^^"],
+            b"443244",
+            &[2, 2, 3, 3, 2, 2],
+        ),
+        (
+            &[b"^^", b"[]", b"[]", b"^^"],
+            b"442344",
+            &[3, 3, 2, 2, 2, 2],
+        ),
+        (&[b"^^", b"[]", b"^^"], b"33333", &[1, 1, 1, 1]),
+    ];
+    for (map, speeds, caps) in table {
+        let parts = parts_with_speeds(rt.alloc(), map, speeds)?;
+        let grid = placed(&rt, rt.alloc(), parts);
+        let traced = recovered(&rt, rt.alloc(), &grid);
+        let same = has_caps(&traced.net, caps);
         assert!(rt; same);
     }
     Ok(())

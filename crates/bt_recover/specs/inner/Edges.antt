@@ -1,5 +1,5 @@
 -- Which part bears each number, and the edges for the chains, on the way to the network.
-use Rattle.std.specs.Prelude.{◌≡◌, ℕ, ◌<◌, List, [], ◌∷◌, ◌++◌, length, slice_get, slice_index_or, Option, Some, MatchOption, Contains, AllPairs, ◌⊎◌, ⊤}
+use Rattle.std.specs.Prelude.{◌≡◌, ◌↔◌, ℕ, ◌<◌, List, [], ◌∷◌, ◌++◌, length, slice_get, slice_index_or, Option, Some, MatchOption, Contains, AllPairs, ◌⊎◌, ⊤, Bool, IsTrue, if◌then◌else◌}
 use Rattle.std.specs.List.{AllZip}
 use Rattle.bt_parts.specs.declared.part.Part.{Part}
 use Rattle.bt_parts.specs.Cells.{beside}
@@ -11,6 +11,9 @@ use Rattle.bt_net.specs.declared.network.Target.TheVariants as to
 use Rattle.bt_net.specs.Network.{Network, network_of}
 use Rattle.bt_model.specs.Chains.{Path, IsSplitter, IsInput, IsOutput, Source, leaves, Sink, ends, enters, Chain, IsChain, EndsAs}
 use Rattle.bt_model.specs.Shown.{Naming, ListsEach, IsNumbering, IsEdgeOf, ComesBefore}
+use Rattle.bt_model.specs.Speeds.{IsLeastSpeed, IsOnWay, IsSpeedOf, HasOneTier}
+use Rattle.bt_recover.specs.declared.edges.Labels.{Labels}
+use Rattle.bt_recover.specs.declared.edges.Way.{Way}
 use Rattle.bt_recover.specs.declared.ends.Names.{Names}
 use Rattle.bt_net.specs.declared.network.TheConstants.{MOST_OF_EACH}
 
@@ -43,56 +46,67 @@ pub record AreNumbers (parts : List Part) (naming : Naming) (numbers : List ℕ)
   pub splitters : AreNumbered numbers naming.splitters
   pub outputs : AreNumbered numbers naming.outputs
 
+-- the numbers are those of the splitters and outputs, and the labels tell whether all parts have one tier
+pub record AreLabels (parts : List Part) (naming : Naming) (labels : Labels) : Type 0 where
+  pub numbers : AreNumbers parts naming labels.numbers.items
+  pub one_tier : IsTrue labels.one_tier ↔ HasOneTier parts
+
 -- the target of a chain that ends here
 abbrev pub target_at : List ℕ → Sink → Target
 target_at numbers (ends i) = to.Output (slice_index_or numbers i 0)
 target_at numbers (enters s) = to.Split (slice_index_or numbers s 0)
 
--- a path from this part on leads to this target
-pub record LeadsTo (parts : List Part) (numbers : List ℕ) (first : ℕ) (target : Target) : Type 0 where
+-- a path from this part on leads to this target, and this is the least speed on the way there
+pub record LeadsTo (parts : List Part) (numbers : List ℕ) (first : ℕ) (way : Way) : Type 0 where
   pub last : ℕ
   pub links : List ℕ
   pub path : Path parts first last links
   pub sink : Sink
   pub ends_as : EndsAs parts sink last
-  pub target_is : target ≡ target_at numbers sink
+  pub target_is : way.target ≡ target_at numbers sink
+  pub speed_is : IsLeastSpeed parts (IsOnWay links sink) way.speed
 
--- the chain that starts here leads to this target
-pub record LeadsFrom (parts : List Part) (numbers : List ℕ) (source : Source) (target : Target) : Type 0 where
+-- the chain that starts here leads to this target, and has this speed
+pub record LeadsFrom (parts : List Part) (numbers : List ℕ) (source : Source) (way : Way) : Type 0 where
   pub chain : Chain
   pub is_chain : IsChain parts chain
   pub source_is : chain.source ≡ source
-  pub target_is : target ≡ target_at numbers chain.sink
+  pub target_is : way.target ≡ target_at numbers chain.sink
+  pub speed_is : IsSpeedOf parts chain way.speed
 
 -- no chain starts here
 abbrev pub StartsNone : List Part → Source → Type 0
 StartsNone parts source = (chain : Chain) → IsChain parts chain → chain.source ≡ source → ⊥
 
--- the target to which the chain that starts here leads is told, or no chain starts here
-abbrev pub LeadsIfAny : List Part → List ℕ → Source → Option Target → Type 0
+-- the way of the chain that starts here is told, or no chain starts here
+abbrev pub LeadsIfAny : List Part → List ℕ → Source → Option Way → Type 0
 LeadsIfAny parts numbers source told = MatchOption told (StartsNone parts source) (LeadsFrom parts numbers source)
 
--- the edge of this start and this target
-abbrev pub edge_to : Start → Target → Edge
-edge_to start target = record { start = start; target = target; cap = 1 }
+-- the cap of a chain of this speed
+abbrev pub cap_at : Bool → ℕ → ℕ
+cap_at one_tier speed = if one_tier then 1 else speed
+
+-- the edge of this start and of where this way ends
+abbrev pub edge_to : Bool → Start → Way → Edge
+edge_to one_tier start way = record { start = start; target = way.target; cap = cap_at one_tier way.speed }
 
 -- the edge of the chain that starts here is added, if one does
-abbrev pub AddsEdge : List Part → List ℕ → Source → Start → List Edge → List Edge → Type 0
-AddsEdge parts numbers source start old new =
+abbrev pub AddsEdge : List Part → Labels → Source → Start → List Edge → List Edge → Type 0
+AddsEdge parts labels source start old new =
     (StartsNone parts source × (new ≡ old))
-    ⊎ ((target : Target) × LeadsFrom parts numbers source target × (new ≡ old ++ edge_to start target ∷ []))
+    ⊎ ((way : Way) × LeadsFrom parts labels.numbers.items source way × (new ≡ old ++ edge_to labels.one_tier start way ∷ []))
 
 -- the edges of the chains from both halves of a splitter are added, that of the lesser half first
-pub record AddsHalves (parts : List Part) (numbers : List ℕ) (s : ℕ) (start : Start) (old new : List Edge) : Type 0 where
+pub record AddsHalves (parts : List Part) (labels : Labels) (s : ℕ) (start : Start) (old new : List Edge) : Type 0 where
   pub part : Part
   pub is_s : HasPart parts s part
   pub mid : List Edge
-  pub lesser : AddsEdge parts numbers (leaves s part.cell) start old mid
-  pub greater : AddsEdge parts numbers (leaves s (beside part.dir part.cell)) start mid new
+  pub lesser : AddsEdge parts labels (leaves s part.cell) start old mid
+  pub greater : AddsEdge parts labels (leaves s (beside part.dir part.cell)) start mid new
 
 -- the edges stand for the chains of these sources, in their order, each once
 pub record AreEdges (parts : List Part) (naming : Naming) (done : Source → Type 0) (chains : List Chain) (edges : List Edge) : Type 0 where
-  pub named : AllZip (IsEdgeOf naming) chains edges
+  pub named : AllZip (IsEdgeOf parts naming) chains edges
   pub only : (chain : Chain) → Contains chains chain → IsChain parts chain × done chain.source
   pub all : (chain : Chain) → IsChain parts chain → done chain.source → Contains chains chain
   pub in_order : AllPairs (λ one other. ComesBefore one.source other.source) chains

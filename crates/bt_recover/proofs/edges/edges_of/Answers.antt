@@ -1,4 +1,4 @@
-use Rattle.std.proofs.Common.{◌≡◌, ◌+◌, ◌<◌, length, get_or, subst, sym, ap, arith}
+use Rattle.std.proofs.Common.{◌≡◌, ◌+◌, ◌<◌, [], ◌∷◌, ◌++◌, length, get_or, subst, sym, ap, arith}
 use Rattle.bt_net.specs.declared.network.Start.TheVariants as from
 use Rattle.bt_model.specs.Chains.{IsInput, IsSplitter, IsLink}
 use Rattle.bt_recover.specs.inner.Edges.{naming_of, HasEdges, LeadsTo, AddsHalves}
@@ -13,24 +13,24 @@ loop-k-init c =
     subst (λ es. HasEdges c.args.grid.now (naming_of c.args.names.now) (InputsDone c.args.names.now.inputs.items 0) es) (sym c.new-edges.ensures.items)
     (edges_none c.args.grid.now (naming_of c.args.names.now))
 
-pub target_from-requires-clause-link : goal.target_from-requires-clause-link
-target_from-requires-clause-link c =
+pub way_from-way-requires-clause-link : goal.way_from-way-requires-clause-link
+way_from-way-requires-clause-link c =
     subst (λ xs. IsLink c.args.grid.now (get_or xs c.loop-k.k 0)) (sym c.deref-i-items.ensures.value)
     (input_link c.args.grid.now _ (each_at (IsInput c.args.grid.now) c.args.names.now.inputs.items c.loop-k.k c.requires.names.inputs (omega (arith, ap length c.deref-i-items.ensures.value))))
 
-pub target_from-requires-clause-within : goal.target_from-requires-clause-within
-target_from-requires-clause-within c =
+pub way_from-way-requires-clause-within : goal.way_from-way-requires-clause-within
+way_from-way-requires-clause-within c =
     subst (λ xs. get_or xs c.loop-k.k 0 < length c.args.grid.now) (sym c.deref-i-items.ensures.value)
     (input_within c.args.grid.now _ (each_at (IsInput c.args.grid.now) c.args.names.now.inputs.items c.loop-k.k c.requires.names.inputs (omega (arith, ap length c.deref-i-items.ensures.value))))
 
 pub loop-k-preserved : goal.loop-k-preserved
 loop-k-preserved c =
     subst (λ es. HasEdges c.args.grid.now (naming_of c.args.names.now) (InputsDone c.args.names.now.inputs.items (c.loop-k.k + 1)) es) (sym c.in_ok-push.ensures.items)
-    (input_step c.args.grid.now c.requires.clean (naming_of c.args.names.now) c.in_ok-numbers.numbers.items c.requires.names c.in_ok-numbers.ensures c.loop-k.k c.loop-k.edges.items c.target_from.result
+    (subst (λ e. HasEdges c.args.grid.now (naming_of c.args.names.now) (InputsDone c.args.names.now.inputs.items (c.loop-k.k + 1)) (c.loop-k.edges.items ++ e ∷ [])) (sym c.edge_to.ensures)
+    (input_step c.args.grid.now c.requires.clean (naming_of c.args.names.now) c.in_ok-labels.labels c.requires.names c.in_ok-labels.ensures c.loop-k.k c.loop-k.edges.items c.way_from-way.result
     (omega (arith, ap length c.deref-i-items.ensures.value))
-    (subst (λ xs. LeadsTo c.args.grid.now c.in_ok-numbers.numbers.items (get_or xs c.loop-k.k 0) c.target_from.result) c.deref-i-items.ensures.value
-    (subst (λ ns. LeadsTo c.args.grid.now ns (get_or c.deref-i-items.result.now c.loop-k.k 0) c.target_from.result) c.deref.ensures.value c.target_from.ensures))
-    c.loop-k.invariant)
+    (subst (λ xs. LeadsTo c.args.grid.now c.in_ok-labels.labels.numbers.items (get_or xs c.loop-k.k 0) c.way_from-way.result) c.deref-i-items.ensures.value c.way_from-way.ensures)
+    c.loop-k.invariant))
 
 pub loop-k-2-init : goal.loop-k-2-init
 loop-k-2-init c =
@@ -50,10 +50,10 @@ push_halves-requires-clause-within c =
 
 pub loop-k-2-preserved : goal.loop-k-2-preserved
 loop-k-2-preserved c =
-    halves_step c.args.grid.now c.requires.clean (naming_of c.args.names.now) c.in_ok-numbers.numbers.items c.requires.names c.in_ok-numbers.ensures c.loop-k-2.k c.loop-k-2.edges.items c.push_halves.new.edges.items
+    halves_step c.args.grid.now c.requires.clean (naming_of c.args.names.now) c.in_ok-labels.labels c.requires.names c.in_ok-labels.ensures c.loop-k-2.k c.loop-k-2.edges.items c.push_halves.new.edges.items
     (omega (arith, ap length c.deref-s-items.ensures.value))
-    (subst (λ xs. AddsHalves c.args.grid.now c.in_ok-numbers.numbers.items (get_or xs c.loop-k-2.k 0) (from.Split c.loop-k-2.k) c.loop-k-2.edges.items c.push_halves.new.edges.items) c.deref-s-items.ensures.value
-    (subst (λ ns. AddsHalves c.args.grid.now ns (get_or c.deref-s-items.result.now c.loop-k-2.k 0) (from.Split c.loop-k-2.k) c.loop-k-2.edges.items c.push_halves.new.edges.items) c.deref-in-loop-k-2.ensures.value c.in_ok-push_halves.ensures))
+    (subst (λ xs. AddsHalves c.args.grid.now c.in_ok-labels.labels (get_or xs c.loop-k-2.k 0) (from.Split c.loop-k-2.k) c.loop-k-2.edges.items c.push_halves.new.edges.items) c.deref-s-items.ensures.value
+    c.in_ok-push_halves.ensures)
     c.loop-k-2.invariant
 
 pub returns : goal.returns

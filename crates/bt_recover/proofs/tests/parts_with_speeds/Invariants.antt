@@ -1,5 +1,5 @@
 use Rattle.bt_parts.specs.Layouts.{AreInRange}
-use Rattle.bt_recover.proofs.tests.parts_of.Given as goal
+use Rattle.bt_recover.proofs.tests.parts_with_speeds.Given as goal
 
 abbrev pub invariant-loop-letter : goal.invariant-loop-letter
 invariant-loop-letter l = AreInRange l.parts.items

@@ -1,5 +1,0 @@
-use Rattle.bt_recover.proofs.EdgeLemmas.{IsFollowing}
-use Rattle.bt_recover.proofs.edges.target_from.Given as goal
-
-abbrev pub invariant-loop-steps : goal.invariant-loop-steps
-invariant-loop-steps l = IsFollowing l.grid l.first l.last l._steps
