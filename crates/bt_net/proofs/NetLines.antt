@@ -5,7 +5,7 @@ use Rattle.std.specs.List.{All, AllZip, count_by, flat_map, list_all}
 use Rattle.std.proofs.lemmas.Bool.{cases_eq, ne_eqb}
 use Rattle.std.proofs.lemmas.List.{append-nil, append_assoc, get_or_append_left, get_or_at}
 use Rattle.std.proofs.lemmas.List.Concat.{flat_map-append}
-use Rattle.std.proofs.lemmas.List.Elements.{All-nil, All-cons, All-head, All-tail, All-append, All-map, All-weaker}
+use Rattle.std.proofs.lemmas.List.Elements.{All-nil, All-cons, All-head, All-tail, All-append, All-weaker}
 use Rattle.std.proofs.lemmas.List.Sums.{sum_by-append, AllPass-from_list_all}
 use Rattle.bt_text.specs.Lines.{Lacks, SplitsAt, line, IsFirstLine, BeginsWithLines}
 use Rattle.bt_text.proofs.FirstLines.{fork, BeginsWithLines-tail, BeginsWithLines-nil, BeginsWithLines-cons, BeginsWithLines-push, BeginsWithLines-used}

@@ -11,7 +11,7 @@ use Rattle.bt_net.specs.Network.{Network, IsWired, IsNetwork, IsLarge, LacksEnds
 use Rattle.bt_net.specs.NetText.{net_text, BeginsWithNet}
 use Rattle.bt_net.specs.Refusals.{HeaderRefused, GoesOn, EdgesRefused, Refuses}
 use Rattle.bt_net.specs.inner.Lines.{IsStarted, SameSizes}
-use Rattle.bt_net.specs.Readings.{Reading, StandsAtFront, IsNetRead, whole_reading, PrintedIsRead}
+use Rattle.bt_net.specs.Readings.{Reading, StandsAtFront, IsNetRead, PrintedIsRead}
 use Rattle.bt_net.proofs.NetLines.{one_network, printed_begins, HasSmallSizes-same}
 use Rattle.bt_net.proofs.Refusing.{Refuses-unique, Refuses-network, refused_first, refused_behind, refused_end}
 

@@ -1,5 +1,6 @@
 //! A line of text in a buffer of its own, so that printing takes no memory.
-ghost use Rattle.std.specs.Prelude.{◌≡◌, ◌==◌, ◌+◌, ◌≤◌, ◌++◌, [], if◌then◌else◌, length, decimal};
+ghost use Rattle.std.specs.Prelude.{◌≡◌, ◌==◌, ◌+◌, ◌≤◌, ◌++◌, [], length, decimal};
+ghost use Rattle.std.specs.Prelude.{if◌then◌else◌};
 ghost use Rattle.bt_net.specs.NetText.{start_text, target_text, cap_text};
 
 use crate::network::{Start, Target};
