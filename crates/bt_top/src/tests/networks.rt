@@ -2,7 +2,7 @@
 use super::{BELT, BELT_STATE, Case, SPLITTER, answers_all};
 use std::test::Fail;
 
-const CASES: [Case; 32] = [
+const CASES: [Case; 34] = [
     Case("flow-check unlimited", &[], 3, "refused 40 NetLine 1\n"),
     Case(
         "flow-check unlimited",
@@ -102,7 +102,7 @@ const CASES: [Case; 32] = [
     ),
     Case(
         "flow-check unlimited",
-        &["net 1 1 0\nedge i0 o0 1\nend\n"],
+        &["net 1 1 0\nedge i0 o0 5\nend\n"],
         3,
         "refused 40 NetLine 2\n",
     ),
@@ -147,6 +147,13 @@ const CASES: [Case; 32] = [
     Case("recover", &[BELT], 0, BELT),
     Case("recover", &[SPLITTER, " \t\r\n"], 0, SPLITTER),
     Case("recover", &["net 1 1 0\nedge i0 o0\nend"], 0, BELT),
+    Case("recover", &["net 1 1 0\nedge i0 o0 1\nend\n"], 0, BELT),
+    Case(
+        "recover",
+        &["net 1 1 0\nedge i0 o0 3\nend\n"],
+        0,
+        "net 1 1 0\nedge i0 o0 3\nend\n",
+    ),
     Case("recover", &["0eNq"], 3, "refused 40 NetLine 1\n"),
     Case("recover", &[], 3, "refused 40 NetLine 1\n"),
     Case("recover", &[BELT, "x"], 3, "refused 40 NetLine 4\n"),
