@@ -18,11 +18,17 @@ const CHAIN: &str = "net 1 3 2\nedge i0 s0\nedge s0 o0\nedge s0 s1\nedge s1 o1\n
 
 const MERGE: &str = "net 3 1 2\nedge i0 s0\nedge i1 s0\nedge s0 s1\nedge i2 s1\nedge s1 o0\nend\n";
 
+const TIERS: &str = "net 1 2 1\nedge i0 s0 4\nedge s0 o0\nedge s0 o1 4\nend\n";
+
+/// An express belt, of which a basic splitter takes a part.
+const TAP: &str =
+    "net 1 3 2\nedge i0 s1 3\nedge s0 o1\nedge s0 o2\nedge s1 o0 3\nedge s1 s0\nend\n";
+
 const BOTTLENECK: &str =
     "net 2 2 2\nedge i0 s0\nedge i1 s0\nedge s0 s1\nedge s1 o0\nedge s1 o1\nend\n";
 
 /// The first ones break their property, or say at which test they don't; the others are no written state.
-const CASES: [Case; 25] = [
+const CASES: [Case; 28] = [
     Case(
         "flow-check unlimited",
         &[LOOP, LOOP_STATE],
@@ -32,6 +38,34 @@ const CASES: [Case; 25] = [
     Case(
         "flow-check unlimited",
         &[BUTTERFLY, BUTTERFLY_FRONT, "b b f f f b f b f f b b\nend\n"],
+        0,
+        "breaks unlimited\n",
+    ),
+    // The edge to output 0 is full, and so may carry less than the other.
+    Case(
+        "flow-check balanced",
+        &[
+            TIERS,
+            "no balanced\nload 4\nroom 1 4\nflow 4 1 3\nmark f f f\nend\n",
+        ],
+        0,
+        "breaks balanced\n",
+    ),
+    Case(
+        "flow-check balanced",
+        &[
+            TIERS,
+            "no balanced\nload 4\nroom 1 4\nflow 3 1/2 5/2\nmark f f f\nend\n",
+        ],
+        9,
+        "refused 54 NotBreaking even-out 1\n",
+    ),
+    Case(
+        "flow-check unlimited",
+        &[
+            TAP,
+            "no unlimited\nload 3\nroom 0 1 1\nflow 1 1/2 1/2 0 1\nmark b f f b f\nend\n",
+        ],
         0,
         "breaks unlimited\n",
     ),
