@@ -1,3 +1,4 @@
+pub mod Divisions
 pub mod Euclid
 pub mod Gcds
 pub mod Numerals

@@ -207,3 +207,22 @@ none_is text word negative size under (Some f) s no_minus r p = tt
 pub no_word : (text word : List ℕ) (negative : Bool) → IsSigned text negative word → (IsTrue negative ⊎ ((rest : List ℕ) → text ≢ 45 ∷ rest))
     → ((m n : ℕ) → WordOf word m n → ⊥) → (f : Ratio) → IsLowest f → text ≢ frac_text f
 no_word text word negative s no_minus none f low e = none (unsigned_abs f.over) f.under (spelled text word negative f s no_minus low e).word_of
+
+no_minus : (negative : Bool) (m n : ℕ) → m < 2 ^ 127 → n < 2 ^ 127
+    → IsTrue negative ⊎ ((rest : List ℕ) → cond negative (45 ∷ word_text m n) (word_text m n) ≢ 45 ∷ rest)
+no_minus true m n h k = inl refl
+no_minus false m n h k = inr (λ rest e. WordOf-unsigned rest m n (subst (λ w. WordOf w m n) e (WordOf-text m n h k)))
+
+-- no two fractions have one text
+pub frac_text_same : (a b : Ratio) → IsLowest a → IsLowest b → frac_text a ≡ frac_text b → a ≡ b
+frac_text_same a b low low' e =
+    let parts = has_parts a in
+    let size : ℕ = unsigned_abs a.over in
+    let word : List ℕ = word_text size a.under in
+    let signed : IsSigned (frac_text a) parts.negative word = ap frac_text parts.is ∙ parts_text parts.negative size a.under parts.some in
+    let apart : IsTrue parts.negative ⊎ ((rest : List ℕ) → frac_text a ≢ 45 ∷ rest) =
+    subst (λ t. IsTrue parts.negative ⊎ ((rest : List ℕ) → t ≢ 45 ∷ rest)) (sym signed) (no_minus parts.negative size a.under low.over_fits low.under_fits) in
+    let first = spelled (frac_text a) word parts.negative a signed apart low refl in
+    let second = spelled (frac_text a) word parts.negative b signed apart low' e in
+    let same = WordOf-unique word size a.under (unsigned_abs b.over) b.under first.word_of second.word_of in
+    first.is ∙ ap (λ m. parts_ratio parts.negative m a.under) same.0 ∙ ap (λ n. parts_ratio parts.negative (unsigned_abs b.over) n) same.1 ∙ sym second.is

@@ -1,3 +1,4 @@
 -- What the contracts of private functions cite.
+pub mod Inverses
 pub mod ProductParts
 pub mod Words

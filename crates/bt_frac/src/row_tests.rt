@@ -40,6 +40,36 @@ fn products(rt: HostRuntime) {
     }
 }
 
+/// The quotient of two fractions, or None where there is none.
+fn quotient(left: &str, right: &str) -> Option<Frac> {
+    let left = read(left)?;
+    let right = read(right)?;
+    if right.numerator() == 0 {
+        return None;
+    }
+    left.div(&right)
+}
+
+#[test]
+fn divisions(rt: HostRuntime) {
+    for (left, right, want) in [
+        ("2/3", "3/2", Some((4, 9))),
+        ("-2/3", "-4/3", Some((1, 2))),
+        ("0", "-5/7", Some((0, 1))),
+        ("1", "-9223372036854775808", Some((-1, 1 << 63))),
+        (
+            "170141183460469231731687303715884105727/2",
+            "170141183460469231731687303715884105727/3",
+            Some((3, 2)),
+        ),
+        ("170141183460469231731687303715884105727", "1/2", None),
+        ("1/2", "170141183460469231731687303715884105727", None),
+        ("1", "0", None),
+    ] {
+        assert!(rt; parts(quotient(left, right)) == want);
+    }
+}
+
 #[test]
 fn spellings(rt: HostRuntime) -> Result<(), Fail> {
     for text in [

@@ -1,9 +1,10 @@
-//! The product of fractions: each numerator loses what it shares with the other denominator, so
+//! The product of fractions, and their quotient: each numerator loses what it shares with the other denominator, so
 //! that what is multiplied is in lowest terms and no product is larger than it must be.
-ghost use Rattle.std.specs.Prelude.{ℕ, ◌<◌, IfSome, IfNone};
+ghost use Rattle.std.specs.Prelude.{◌≢◌, ℕ, pos, ◌<◌, IfSome, IfNone};
 ghost use Rattle.std.specs.Int.{IsGcd};
 ghost use Rattle.bt_frac.specs.Ratio.{Ratio, IsLowest};
-ghost use Rattle.bt_frac.specs.Products.{IsProduct};
+ghost use Rattle.bt_frac.specs.Products.{IsProduct, IsDivision};
+ghost use Rattle.bt_frac.specs.inner.Inverses.{IsInverse};
 ghost use Rattle.bt_frac.specs.inner.ProductParts.{IsProductSign, AreProductParts};
 
 use crate::frac::Frac;
@@ -29,6 +30,31 @@ impl Frac {
             over: signed(size, negative),
             under,
         })
+    }
+
+    /// The exact quotient, where the other isn't 0. None exactly where the magnitude of its numerator
+    /// or its denominator is above 2^127 - 1 in lowest terms.
+    pub fn div(&self, other: &Frac) -> Option<Frac>
+        requires { other.now.over ≢ pos 0 }
+        ensures known { IsLowest self.now × IsLowest other.now }
+        ensures some { IfSome result (IsDivision self.now other.now) }
+        ensures lowest { IfSome result IsLowest }
+        ensures none { IfNone result ((f : Ratio) → IsLowest f → IsDivision self.now other.now f → ⊥) }
+    {
+        self.mul(&other.inverse())
+    }
+
+    /// 1 over the fraction, where it isn't 0.
+    fn inverse(&self) -> Frac
+        requires { self.now.over ≢ pos 0 }
+        ensures inverse { IsInverse self.now result }
+        ensures lowest { IsLowest result }
+        ensures known { IsLowest self.now }
+    {
+        Frac {
+            over: signed(self.under, is_negative(self.over)),
+            under: magnitude(self.over),
+        }
     }
 }
 
