@@ -4,7 +4,8 @@ use Rattle.std.specs.List.{All, AllZip, zip}
 use Rattle.bt_frac.specs.Ratio.{Ratio}
 use Rattle.bt_frac.specs.Rows.{RowParts}
 use Rattle.bt_lin.specs.FalseSums.{MayWeigh}
-use Rattle.bt_lin.specs.Farkas.{IsFarkas, IsFirstWide}
+use Rattle.bt_lin.specs.Farkas.{IsFarkas, IsFirstWide, IsWidePlace}
+use Rattle.bt_lin.specs.declared.places.Place.{Place}
 use Rattle.bt_lin.specs.declared.wide.WideAt.{WideAt}
 use Rattle.bt_cnf.specs.Formulas.{FormulaParts, LitsBelow}
 use Rattle.bt_cnf.specs.declared.literal.Lit.{Lit}
@@ -72,9 +73,11 @@ IsWideStep f (Lemma lits weights) at =
     (w : IsWeighed f (map lit_of lits) weights) × IsFirstWide (zip w.rows weights) at
 IsWideStep f (Learnt lits hints) at = ⊥
 
--- the sum of no lemma leaves 128 bits
+-- the sum of a lemma, whose literals and weights are right, leaves 128 bits nowhere
 abbrev pub IsWideNowhere : FormulaParts → WrittenStep → Type 0
-IsWideNowhere f written = (at : WideAt) → IsWideStep f written at → ⊥
+IsWideNowhere f (Lemma lits weights) =
+    (w : IsWeighed f (map lit_of lits) weights) (row : ℕ) (place : Place) → IsWidePlace (zip w.rows weights) row place → ⊥
+IsWideNowhere f (Learnt lits hints) = Unit {0}
 
 -- the step is valid after these clauses, and no sum leaves 128 bits
 abbrev pub IsAccepted : FormulaParts → List (List Lit) → WrittenStep → Type 0
