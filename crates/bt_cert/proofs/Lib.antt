@@ -1,1 +1,14 @@
+pub mod Accepted
+pub mod CertificateLines
+pub mod Endings
+pub mod Feeding
+pub mod FracTexts
+pub mod ItemLists
+pub mod Numbers
+pub mod OneAnswer
+pub mod OneJudgement
+pub mod Pieces
+pub mod Stages
+pub mod Stops
+pub mod Takes
 pub mod WrittenLines

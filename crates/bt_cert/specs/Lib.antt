@@ -1,4 +1,7 @@
+pub mod Certificates
 pub mod Checking
 pub mod Judging
+pub mod Readings
 pub mod StepLines
 pub mod Views
+pub mod inner

@@ -1,10 +1,18 @@
 //! Certificates: the step lines of a log, read line by line and judged one after another.
 #![tactic(auto)]
 
+mod check;
+mod checker;
 mod fault;
+mod item;
+mod items;
+mod line;
+mod reading;
+mod stage;
 mod step_line;
 mod written;
 
+pub use check::check_log;
 pub use fault::{Cause, CertFault};
 pub use std::alloc::AllocError as Memory;
 pub use written::{StepKind, WrittenLit};
