@@ -1,4 +1,6 @@
 pub mod Accepted
+pub mod Assumed
+pub mod AtomRows
 pub mod CertificateLines
 pub mod Endings
 pub mod Feeding
@@ -9,6 +11,9 @@ pub mod OneAnswer
 pub mod OneJudgement
 pub mod Pieces
 pub mod Stages
+pub mod Stepped
 pub mod Stops
 pub mod Takes
+pub mod Told
+pub mod Walks
 pub mod WrittenLines

@@ -44,7 +44,7 @@ atom_same least end (a ∷ atoms) up v row other c d =
     same_row least end a atoms up v row other (λ later later'. atom_same (a.0 + 1) end atoms up.2 v row other later later') (first_or_later a atoms (v, row) c) (first_or_later a atoms (v, other) d)
 
 -- literals negate one list of rows
-rows_same : (f : FormulaParts) → IsFormula f → (lits : List Lit) (rows others : List RowParts) → Negate f lits rows → Negate f lits others → rows ≡ others
+pub rows_same : (f : FormulaParts) → IsFormula f → (lits : List Lit) (rows others : List RowParts) → Negate f lits rows → Negate f lits others → rows ≡ others
 rows_same f formula [] [] [] h k = refl
 rows_same f formula [] [] (s ∷ others) h k = absurd k
 rows_same f formula [] (r ∷ rows) others h k = absurd h
@@ -55,7 +55,7 @@ rows_same f formula (l ∷ lits) (r ∷ rows) (s ∷ others) h k =
     let more : rows ≡ others = rows_same f formula lits rows others h.1 k.1 in
     cc
 
-as_many : (f : FormulaParts) (lits : List Lit) (rows : List RowParts) → Negate f lits rows → length lits ≡ length rows
+pub as_many : (f : FormulaParts) (lits : List Lit) (rows : List RowParts) → Negate f lits rows → length lits ≡ length rows
 as_many f [] [] h = refl
 as_many f [] (r ∷ rows) h = absurd h
 as_many f (l ∷ lits) [] h = absurd h

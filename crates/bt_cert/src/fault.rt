@@ -34,6 +34,16 @@ pub enum StepFault {
     Memory,
 }
 
+impl From<AllocError> for StepFault {
+    ghost use Rattle.bt_cert.specs.declared.fault.StepFault.TheVariants as fault;
+
+    ghost from_gives = { λ _ e. e ≡ fault.Memory };
+
+    fn from(_: AllocError) -> Self {
+        StepFault::Memory
+    }
+}
+
 /// Why a text is no certificate that a formula is met by nothing.
 #[derive(Clone, Copy, Debug, PartialEq, Eq)]
 pub enum CertFault {

@@ -1,15 +1,20 @@
 //! Certificates: the step lines of a log, read line by line and judged one after another.
 #![tactic(auto)]
 
+mod assumptions;
 mod check;
 mod checker;
 mod fault;
 mod item;
 mod items;
+mod known;
+mod learnt;
+mod lemma;
 mod line;
 mod reading;
 mod stage;
 mod step_line;
+mod units;
 mod written;
 
 pub use check::check_log;

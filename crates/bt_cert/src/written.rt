@@ -1,4 +1,6 @@
 //! Steps as they are written.
+ghost use Rattle.std.specs.Prelude.{◌≡◌, ◌-◌};
+
 use bt_frac::Frac;
 
 /// The greatest number of a variable or a clause that a step may write: it has 18 digits.
@@ -34,4 +36,11 @@ pub enum WrittenView<'a> {
         lits: &'a [WrittenLit],
         hints: &'a [u64],
     },
+}
+
+/// The place that a number of a text names: numbers count from 1 there, and places from 0.
+pub fn place_of(number: u64) -> usize
+    ensures { result ≡ number - 1 }
+{
+    number.saturating_sub(1) as usize
 }
