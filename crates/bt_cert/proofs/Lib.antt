@@ -8,6 +8,7 @@ pub mod Numbers
 pub mod OneAnswer
 pub mod OneJudgement
 pub mod Pieces
+pub mod Printed
 pub mod Stages
 pub mod Stops
 pub mod Takes

@@ -6,6 +6,7 @@ mod checker;
 mod fault;
 mod item;
 mod items;
+mod law;
 mod line;
 mod reading;
 mod stage;
@@ -14,5 +15,6 @@ mod written;
 
 pub use check::check_log;
 pub use fault::{Cause, CertFault};
+pub use law::{printed_is_certificate, printed_is_read, text_tells_log};
 pub use std::alloc::AllocError as Memory;
 pub use written::{StepKind, WrittenLit};
