@@ -10,6 +10,7 @@ pub mod Numbers
 pub mod OneAnswer
 pub mod OneJudgement
 pub mod Pieces
+pub mod Printed
 pub mod Stages
 pub mod Stepped
 pub mod Stops

@@ -8,6 +8,7 @@ mod fault;
 mod item;
 mod items;
 mod known;
+mod law;
 mod learnt;
 mod lemma;
 mod line;
@@ -19,5 +20,6 @@ mod written;
 
 pub use check::check_log;
 pub use fault::{Cause, CertFault};
+pub use law::{printed_is_certificate, printed_is_read, text_tells_log};
 pub use std::alloc::AllocError as Memory;
 pub use written::{StepKind, WrittenLit};
