@@ -15,6 +15,8 @@ mod line;
 mod reading;
 mod stage;
 mod step_line;
+#[cfg(test)]
+mod tests;
 mod units;
 mod written;
 
