@@ -1,15 +1,12 @@
 -- What is assumed of variables, and clauses under it.
-use Rattle.std.proofs.Common.{◌≡◌, ◌≢◌, ℕ, ◌<◌, ◌⊎◌, inl, inr, arith, Bool, true, false, not, List, [], ◌∷◌, ◌++◌, length, get_or, set, Option, None, Some, ap, sym, ◌∙◌, refl, subst, length-append, length-set, get_or-set_same, get_or-set_other}
+use Rattle.std.proofs.Common.{◌≡◌, ℕ, ◌<◌, ◌⊎◌, inl, inr, arith, Bool, true, false, not, List, [], ◌∷◌, ◌++◌, length, get_or, set, Option, None, Some, ap, sym, ◌∙◌, refl, subst, length-append, length-set, get_or-set_same, get_or-set_other}
 use Rattle.std.specs.Prelude.{Contains}
 use Rattle.std.specs.List.{All}
-use Rattle.std.proofs.lemmas.Bool.{false≢true}
+use Rattle.std.proofs.lemmas.Bool.{false≢true, cases_eq}
 use Rattle.std.proofs.lemmas.List.{get_or_append_left}
 use Rattle.std.proofs.lemmas.List.Elements.{All-push, All-contains, All-from_get_or, All-weaker, Contains-push, Contains-push_cases, Contains-append_left}
 use Rattle.bt_cnf.specs.declared.literal.Lit.{Lit}
 use Rattle.bt_cert.specs.inner.Assuming.{value_at, AreTrailed, AreUnset, IsTrueIn, IsFalseIn, IsUnsetIn, IsUnitIn, HasNoUnit, IsUnitSoFar}
-
-same_or : (m n : ℕ) → (m ≡ n) ⊎ (m ≢ n)
-same_or m n = grind arith
 
 front_of : {X : Type 0} (P : X → Type 0) (xs ys : List X) (x : X) → xs ≡ ys ++ x ∷ [] → All P xs → All P ys × P x
 front_of P xs ys x is all =
@@ -25,7 +22,7 @@ trailed_pop values trail rest place is are =
     record {
       inside = All-weaker (λ var. var < length values) (λ var. var < length (set values place None)) (λ var below. omega (arith, below, length-set values place None)) rest parts.0;
       named = λ var value set_is.
-          elim (same_or var place) [
+          elim (cases_eq var place) [
             | inl same ↦ absurd (apart value (sym (get_or-set_same values place None None parts.1) ∙ ap (λ n. get_or (set values place None) n None) (sym same) ∙ set_is))
             | inr differs ↦
                 elim (Contains-push_cases rest place var (subst (λ xs. Contains xs var) is (are.named var value (sym (get_or-set_other values place var None None differs) ∙ set_is)))) [

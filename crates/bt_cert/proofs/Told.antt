@@ -1,26 +1,15 @@
 -- Values that tell which literals are false, and clauses that are units under both.
-use Rattle.std.proofs.Common.{◌≡◌, ◌≢◌, ℕ, zero, suc, ◌<◌, ◌⊎◌, inl, inr, ◌↔◌, arith, Bool, true, false, not, List, [], ◌∷◌, ◌++◌, length, get_or, Option, None, Some, ap, sym, ◌∙◌, refl, subst, length-set, get_or-set_same, get_or-set_other}
+use Rattle.std.proofs.Common.{◌≡◌, ◌≢◌, ℕ, zero, suc, ◌<◌, ◌⊎◌, inl, inr, ◌↔◌, arith, Bool, not, List, [], ◌∷◌, ◌++◌, length, get_or, Option, None, Some, ap, sym, ◌∙◌, refl, subst, length-set, get_or-set_same, get_or-set_other}
 use Rattle.std.specs.Prelude.{Contains}
 use Rattle.std.specs.List.{All}
+use Rattle.std.proofs.lemmas.Bool.{cases_eq}
 use Rattle.std.proofs.lemmas.List.Elements.{All-head, All-tail, All-contains, Contains-push, Contains-push_cases, Contains-append_left}
 use Rattle.bt_cnf.specs.Formulas.{LitsBelow}
 use Rattle.bt_cnf.specs.declared.literal.Lit.{Lit}
 use Rattle.bt_log.specs.Units.{opposite, IsUnit, UnitsRefute, HasNoBothSigns}
+use Rattle.bt_log.proofs.Sound.{true_or, twice}
 use Rattle.bt_cert.specs.inner.Assuming.{value_at, AreUnset, IsTrueIn, IsFalseIn, IsUnitIn, Propagates, Tells, with_value}
 use Rattle.bt_cert.proofs.Assumed.{true_not_false, unset_not_false, unset_not_true}
-
-same_or : (m n : ℕ) → (m ≡ n) ⊎ (m ≢ n)
-same_or m n = grind arith
-
-twice : (b : Bool) → not (not b) ≡ b
-twice true = refl
-twice false = refl
-
-same_or_opposite : (a b : Bool) → (a ≡ b) ⊎ (a ≡ not b)
-same_or_opposite true true = inl refl
-same_or_opposite true false = inr refl
-same_or_opposite false true = inr refl
-same_or_opposite false false = inl refl
 
 lit_is : (l m : Lit) → l.var ≡ m.var → l.positive ≡ m.positive → l ≡ m
 lit_is l m var positive = ap (λ v. record { var = v; positive = l.positive }) var ∙ ap (λ p. record { var = m.var; positive = p }) positive
@@ -84,7 +73,7 @@ tells_more values before after x tells joins inside not_true m below =
 
     forth : m.var < length values → IsFalseIn (with_value values x.var (not x.positive)) m → (x ≡ m) ⊎ Contains before m
     forth within is_false =
-        elim (same_or m.var x.var) [
+        elim (cases_eq m.var x.var) [
           | inl same ↦ inl (lit_is x m (sym same) (nots_same x.positive m.positive (some_same (not x.positive) (not m.positive) (sym (same_var same) ∙ is_false))))
           | inr differs ↦ inr ((tells m within).0 (sym (at_m differs) ∙ is_false))
         ]
@@ -93,9 +82,9 @@ tells_more values before after x tells joins inside not_true m below =
     back within (inl same) = subst (IsFalseIn (with_value values x.var (not x.positive))) same at_x
     back within (inr among) =
         let was : IsFalseIn values m = (tells m within).1 among in
-        elim (same_or m.var x.var) [
+        elim (cases_eq m.var x.var) [
           | inl same ↦
-              elim (same_or_opposite m.positive x.positive) [
+              elim (true_or m.positive x.positive) [
                 | inl alike ↦ subst (IsFalseIn (with_value values x.var (not x.positive))) (lit_is x m (sym same) (sym alike)) at_x
                 | inr opposed ↦ absurd (not_true (ap (value_at values) (sym same) ∙ was ∙ ap (λ b. Some (not b)) opposed ∙ ap Some (twice x.positive)))
               ]
@@ -150,7 +139,7 @@ module _ (values : List (Option Bool)) (falses : List Lit) (tells : Tells values
         none_left : (o : Option Bool) → value_at values l.var ≡ o → l.var < length values → o ≡ None
         none_left None is inside = refl
         none_left (Some b) is inside =
-            elim (same_or_opposite b l.positive) [
+            elim (true_or b l.positive) [
               | inl alike ↦ absurd (unit.not_true ((tells (opposite l) inside).0 (is ∙ ap Some alike ∙ ap Some (sym (twice l.positive)))))
               | inr opposed ↦ absurd (unit.unset ((tells l inside).0 (is ∙ ap Some opposed)))
             ]

@@ -98,7 +98,7 @@ impl<'a> Checker<'a> {
 
 /// Puts the literals of a formula that are written into `lits`, and tells whether each is of a variable
 /// of it.
-fn read_lits(
+pub fn read_lits(
     formula: &Formula,
     written: &[WrittenLit],
     lits: &mut Vec<Lit>,

@@ -24,7 +24,7 @@ pub enum Cause {
 }
 
 /// Why a step was not kept.
-#[derive(Clone, Copy)]
+#[derive(Clone, Copy, PartialEq, Eq)]
 pub enum StepFault {
     /// The step isn't valid.
     Fails(Cause),

@@ -4,6 +4,8 @@
 mod assumptions;
 mod check;
 mod checker;
+#[cfg(test)]
+mod checker_tests;
 mod fault;
 mod item;
 mod items;

@@ -36,7 +36,8 @@ IsPropagated old clause new false = HasNoUnit old clause
 
 -- whether the clauses refute that the literals are false that the values tell of
 abbrev pub IsRefuted : List (Option Bool) → List (List Lit) → Bool → Type 0
-IsRefuted values clauses refuted = (falses : List Lit) → Tells values falses → IsTrue refuted ↔ UnitsRefute falses clauses
+IsRefuted values clauses refuted =
+    (falses : List Lit) → Tells values falses → IsTrue refuted ↔ UnitsRefute falses clauses
 
 -- a learnt clause is valid, or fails for a cause
 abbrev pub JudgesLearnt : Checking → List Lit → List ℕ → Result (Unit {0}) StepFault → Type 0

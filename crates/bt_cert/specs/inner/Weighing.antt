@@ -20,7 +20,8 @@ rows_of f = map (λ a. a.1) f.atoms
 
 -- the literal is the negation of the atom whose row is at this place, or of none
 abbrev pub IsNegatedRow : FormulaParts → Lit → Option ℕ → Type 0
-IsNegatedRow f l (Some place) = (place < length (rows_of f)) × NegatesAtom f l (slice_index_or (rows_of f) place empty_row)
+IsNegatedRow f l (Some place) =
+    (place < length (rows_of f)) × NegatesAtom f l (slice_index_or (rows_of f) place empty_row)
 IsNegatedRow f l None = (row : RowParts) → NegatesAtom f l row → ⊥
 
 -- these are places of rows, whose atoms the literals negate; or the literals don't negate atoms
