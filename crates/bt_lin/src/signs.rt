@@ -1,5 +1,5 @@
 //! The signs of weights, against what their rows allow.
-ghost use Rattle.std.specs.Prelude.{◌≡◌, length, IsTrue, ◌↔◌};
+ghost use Rattle.std.specs.Prelude.{◌≡◌, ◌<◌, length, IsTrue, ◌↔◌};
 ghost use Rattle.std.specs.List.{All, Any};
 ghost use Rattle.bt_lin.specs.FalseSums.{MayHave, MakesStrict, MayWeigh, IsStrict};
 ghost use Rattle.bt_lin.specs.WeightedRows.{weighted};
@@ -7,9 +7,10 @@ ghost use Rattle.bt_lin.specs.inner.Totals.{ArePicks};
 
 use bt_frac::{Frac, Relation, Row};
 
-/// Whether no row that is no equation has a negative weight.
+/// Whether no row that is no equation has a negative weight, of the rows at the picked places, each with
+/// its weight.
 pub fn may_weigh(rows: &[Row], picks: &[usize], weights: &[Frac]) -> bool
-    requires picks { ArePicks rows.now picks.now }
+    requires picks { All (λ pick. pick < length rows.now) picks.now }
     requires weights { length weights.now ≡ length picks.now }
     ensures { IsTrue result ↔ All MayWeigh (weighted rows.now picks.now weights.now) }
 {

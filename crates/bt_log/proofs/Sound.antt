@@ -18,7 +18,7 @@ use Rattle.bt_log.specs.Units.{opposite, IsUnit, UnitsRefute}
 use Rattle.bt_log.specs.Validity.{NegatesAtom, clause_at, IsValidLemma, IsValidLearnt, IsValidStep, AreValid}
 
 -- a literal of a variable with two values is true or its opposite is
-true_or : (a b : Bool) → (a ≡ b) ⊎ (a ≡ not b)
+pub true_or : (a b : Bool) → (a ≡ b) ⊎ (a ≡ not b)
 true_or true true = inl refl
 true_or true false = inr refl
 true_or false true = inr refl
@@ -30,7 +30,7 @@ not_self true false p q = false≢true (sym p)
 not_self false true p q = false≢true p
 not_self false false p q = false≢true q
 
-twice : (b : Bool) → not (not b) ≡ b
+pub twice : (b : Bool) → not (not b) ≡ b
 twice true = refl
 twice false = refl
 

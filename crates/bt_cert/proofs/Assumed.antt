@@ -1,0 +1,125 @@
+-- What is assumed of variables, and clauses under it.
+use Rattle.std.proofs.Common.{◌≡◌, ℕ, ◌<◌, ◌⊎◌, inl, inr, arith, Bool, true, false, not, List, [], ◌∷◌, ◌++◌, length, get_or, set, Option, None, Some, ap, sym, ◌∙◌, refl, subst, length-append, length-set, get_or-set_same, get_or-set_other}
+use Rattle.std.specs.Prelude.{Contains}
+use Rattle.std.specs.List.{All}
+use Rattle.std.proofs.lemmas.Bool.{false≢true, cases_eq}
+use Rattle.std.proofs.lemmas.List.{get_or_append_left}
+use Rattle.std.proofs.lemmas.List.Elements.{All-push, All-contains, All-from_get_or, All-weaker, Contains-push, Contains-push_cases, Contains-append_left}
+use Rattle.bt_cnf.specs.declared.literal.Lit.{Lit}
+use Rattle.bt_cert.specs.inner.Assuming.{value_at, AreTrailed, AreUnset, IsTrueIn, IsFalseIn, IsUnsetIn, IsUnitIn, HasNoUnit, IsUnitSoFar}
+
+front_of : {X : Type 0} (P : X → Type 0) (xs ys : List X) (x : X) → xs ≡ ys ++ x ∷ [] → All P xs → All P ys × P x
+front_of P xs ys x is all =
+    let joined : All P (ys ++ x ∷ []) = subst (All P) is all in (
+      λ k d inside. subst P (get_or_append_left ys (x ∷ []) d k inside) (joined k d (omega (arith, inside, length-append ys (x ∷ [])))),
+      All-contains P (ys ++ x ∷ []) x joined (Contains-push ys x),
+    )
+
+-- the last variable on the trail has no value any more
+pub trailed_pop : (values : List (Option Bool)) (trail rest : List ℕ) (place : ℕ) → trail ≡ rest ++ place ∷ [] → AreTrailed values trail → AreTrailed (set values place None) rest
+trailed_pop values trail rest place is are =
+    let parts = front_of (λ var. var < length values) trail rest place is are.inside in
+    record {
+      inside = All-weaker (λ var. var < length values) (λ var. var < length (set values place None)) (λ var below. omega (arith, below, length-set values place None)) rest parts.0;
+      named = λ var value set_is.
+          elim (cases_eq var place) [
+            | inl same ↦ absurd (apart value (sym (get_or-set_same values place None None parts.1) ∙ ap (λ n. get_or (set values place None) n None) (sym same) ∙ set_is))
+            | inr differs ↦
+                elim (Contains-push_cases rest place var (subst (λ xs. Contains xs var) is (are.named var value (sym (get_or-set_other values place var None None differs) ∙ set_is)))) [
+                  | inl among ↦ among
+                  | inr last ↦ absurd (differs (sym last))
+                ]
+          ];
+    }
+  where
+    apart : (value : Bool) → None ≡ Some value → ⊥
+    apart value e = cc
+
+-- where nothing is on the trail, no variable has a value
+pub all_unset : (values : List (Option Bool)) (trail : List ℕ) → length trail ≡ 0 → AreTrailed values trail → AreUnset values
+all_unset values trail none are = All-from_get_or (λ value. value ≡ None) values None (λ i inside. none_is i (get_or values i None) refl)
+  where
+    none_is : (i : ℕ) (value : Option Bool) → get_or values i None ≡ value → value ≡ None
+    none_is i None is = refl
+    none_is i (Some value) is = let among = are.named i value is in absurd (omega (arith, none, among.1))
+
+opposites : (b : Bool) → b ≡ not b → ⊥
+opposites true e = false≢true (sym e)
+opposites false e = false≢true e
+
+-- a literal is not both
+pub true_not_false : (values : List (Option Bool)) (l : Lit) → IsTrueIn values l → IsFalseIn values l → ⊥
+true_not_false values l is_true is_false = opposites l.positive (some_same (sym is_true ∙ is_false))
+  where
+    some_same : {a b : Bool} → Some a ≡ Some b → a ≡ b
+    some_same e = cc
+
+set_or_not : (o : Option Bool) (b : Bool) → o ≡ None → o ≡ Some b → ⊥
+set_or_not o b none some = cc
+
+pub unset_not_false : (values : List (Option Bool)) (l : Lit) → IsUnsetIn values l → IsFalseIn values l → ⊥
+unset_not_false values l is_unset is_false = set_or_not (value_at values l.var) (not l.positive) is_unset is_false
+
+pub unset_not_true : (values : List (Option Bool)) (l : Lit) → IsUnsetIn values l → IsTrueIn values l → ⊥
+unset_not_true values l is_unset is_true = set_or_not (value_at values l.var) l.positive is_unset is_true
+
+module _ (values : List (Option Bool)) where
+  abbrev Other : Lit → Lit → Type 0
+  Other l other = (other ≡ l) ⊎ IsFalseIn values other
+
+  -- one more literal that is false
+  pub so_far_false : (front : List Lit) (lit : Lit) (unit : Option Lit) → IsUnitSoFar values front unit → IsFalseIn values lit → IsUnitSoFar values (front ++ lit ∷ []) unit
+  so_far_false front lit None so_far is_false = All-push (IsFalseIn values) front lit so_far is_false
+  so_far_false front lit (Some l) so_far is_false = record {
+    among = Contains-append_left front (lit ∷ []) l so_far.among;
+    unset = so_far.unset;
+    others = All-push (Other l) front lit so_far.others (inr is_false);
+  }
+
+  -- one more literal without a value: the first, or the same again
+  pub so_far_first : (front : List Lit) (lit : Lit) → IsUnitSoFar values front None → IsUnsetIn values lit → IsUnitIn values (front ++ lit ∷ []) lit
+  so_far_first front lit so_far is_unset = record {
+    among = Contains-push front lit;
+    unset = is_unset;
+    others = All-push (Other lit) front lit (All-weaker (IsFalseIn values) (Other lit) (λ other f. inr f) front so_far) (inl refl);
+  }
+
+  pub so_far_same : (front : List Lit) (lit : Lit) → IsUnitIn values front lit → IsUnitIn values (front ++ lit ∷ []) lit
+  so_far_same front lit so_far = record {
+    among = Contains-push front lit;
+    unset = so_far.unset;
+    others = All-push (Other lit) front lit so_far.others (inl refl);
+  }
+
+  -- a clause with a true literal
+  pub no_unit_true : (clause : List Lit) (lit : Lit) → Contains clause lit → IsTrueIn values lit → HasNoUnit values clause
+  no_unit_true clause lit among is_true l unit =
+      elim (All-contains (Other l) clause lit unit.others among) [
+        | inl same ↦ unset_not_true values l unit.unset (subst (IsTrueIn values) same is_true)
+        | inr is_false ↦ true_not_false values lit is_true is_false
+      ]
+
+  -- a clause with two literals without a value
+  pub no_unit_two : (clause : List Lit) (first second : Lit) → Contains clause first → Contains clause second → IsUnsetIn values first → IsUnsetIn values second → (first ≡ second → ⊥)
+      → HasNoUnit values clause
+  no_unit_two clause first second one two first_unset second_unset differ l unit =
+      differ (this first one first_unset ∙ sym (this second two second_unset))
+    where
+      this : (x : Lit) → Contains clause x → IsUnsetIn values x → x ≡ l
+      this x among is_unset =
+          elim (All-contains (Other l) clause x unit.others among) [
+            | inl same ↦ same
+            | inr is_false ↦ absurd (unset_not_false values x is_unset is_false)
+          ]
+
+  -- a clause of false literals
+  pub no_unit_false : (clause : List Lit) → All (IsFalseIn values) clause → HasNoUnit values clause
+  no_unit_false clause all l unit = unset_not_false values l unit.unset (All-contains (IsFalseIn values) clause l all unit.among)
+
+  -- the unit is the only one
+  pub one_unit : (clause : List Lit) (l other : Lit) → IsUnitIn values clause l → IsUnitIn values clause other → other ≡ l
+  one_unit clause l other unit also =
+      elim (All-contains (Other l) clause other unit.others also.among) [
+        | inl same ↦ same
+        | inr is_false ↦ absurd (unset_not_false values other also.unset is_false)
+      ]

@@ -1,0 +1,60 @@
+-- Step lines: how a step is written.
+use Rattle.std.specs.Prelude.{ℕ, ◌-◌, ◌<◌, ◌^◌, List, ◌∷◌, ◌++◌, All, map, codes, cond}
+use Rattle.std.specs.Fmt.{decimal}
+use Rattle.bt_frac.specs.Ratio.{Ratio, IsLowest}
+use Rattle.bt_frac.specs.Texts.{frac_text}
+use Rattle.bt_cnf.specs.declared.literal.Lit.{Lit}
+use Rattle.bt_log.specs.Logs.{Step}
+use Rattle.bt_log.specs.Logs as log
+use Rattle.bt_log.specs.LogText.{words}
+use Rattle.bt_cert.specs.declared.written.WrittenLit.{WrittenLit}
+use Rattle.bt_cert.specs.declared.written.StepKind.{StepKind}
+use Rattle.bt_cert.specs.declared.written.StepKind.TheVariants as kind
+
+-- a lemma has literals and weights; a learnt clause has literals and hints, the numbers of clauses from 1 on
+pub data WrittenStep : Type 0 where
+  Lemma : List WrittenLit → List Ratio → WrittenStep
+  Learnt : List WrittenLit → List ℕ → WrittenStep
+
+-- the number of a variable or of a clause: it isn't 0, and has at most 18 digits
+pub record IsNumber (n : ℕ) : Type 0 where
+  pub positive : 0 < n
+  pub short : n < 10 ^ 18
+
+-- the literal may be written
+abbrev pub IsWrittenLit : WrittenLit → Type 0
+IsWrittenLit l = IsNumber l.number
+
+-- the step may be written: its numbers are such, and its weights are in lowest terms
+abbrev pub IsWritten : WrittenStep → Type 0
+IsWritten (Lemma lits weights) = All IsWrittenLit lits × All IsLowest weights
+IsWritten (Learnt lits hints) = All IsWrittenLit lits × All IsNumber hints
+
+-- a written literal: the number of its variable, with a minus where it is negative
+abbrev pub written_lit_text : WrittenLit → List ℕ
+written_lit_text l = cond l.positive (decimal l.number) (45 ∷ decimal l.number)
+
+-- the line of a written step: `f`, the literals, 0, and the weights; or `r`, the literals, 0, the hints, and 0
+abbrev pub written_text : WrittenStep → List ℕ
+written_text (Lemma lits weights) = codes "f" ++ words written_lit_text lits ++ codes " 0" ++ words frac_text weights
+written_text (Learnt lits hints) = codes "r" ++ words written_lit_text lits ++ codes " 0" ++ words decimal hints ++ codes " 0"
+
+-- the literal that is written: variables are numbered from 1 on in a text, and from 0 on in a formula
+abbrev pub lit_of : WrittenLit → Lit
+lit_of l = record { var = l.number - 1; positive = l.positive }
+
+-- the step that is written, of which the clauses are numbered from 0 on
+abbrev pub step_of : WrittenStep → Step
+step_of (Lemma lits weights) = log.Lemma (map lit_of lits) weights
+step_of (Learnt lits hints) = log.Learnt (map lit_of lits) (map (λ hint. hint - 1) hints)
+
+-- the step of this kind with those of the lists that it has
+abbrev pub step_of_kind : StepKind → List WrittenLit → List Ratio → List ℕ → WrittenStep
+step_of_kind kind.Lemma lits weights hints = Lemma lits weights
+step_of_kind kind.Learnt lits weights hints = Learnt lits hints
+
+-- these lists may be written
+pub record AreWritten (lits : List WrittenLit) (weights : List Ratio) (hints : List ℕ) : Type 0 where
+  pub literals : All IsWrittenLit lits
+  pub fractions : All IsLowest weights
+  pub numbers : All IsNumber hints

@@ -1,0 +1,81 @@
+//! The clauses that are known before a step: those of the formula, and those of the steps so far.
+ghost use Rattle.std.specs.Prelude.{◌≡◌, ◌≤◌, length, IfOk, IfSome, IfNone, OnErr};
+ghost use Rattle.bt_cnf.specs.Formulas.{LitsBelow};
+ghost use Rattle.bt_cert.specs.Checking.{start_of};
+ghost use Rattle.bt_cert.specs.inner.Knowing.{AddsClause, IsClauseAt};
+ghost use Rattle.bt_cert.specs.inner.Refuting.{IsSound};
+
+use bt_arena::Pool;
+use bt_cnf::{Formula, Lit};
+use std::alloc::{AllocError, Global};
+use std::marker::Model;
+
+/// The kind of the clauses that steps added.
+pub struct Added;
+
+/// A formula, and the clauses that steps added.
+#[derive(Drop)]
+pub struct Known<'a> {
+    formula: &'a Formula,
+    added: Pool<Lit, Added>,
+}
+
+impl<'a> Model for Known<'a> {
+    ghost use Rattle.bt_cert.specs.Checking.{Checking};
+    ghost use Rattle.bt_cert.specs.inner.Knowing.{known_of, IsKnown};
+
+    ghost Value = { Checking };
+
+    ghost view = { λ k. known_of k.formula.now k.added };
+
+    ghost invariant = { λ k. IsKnown k.formula.now k.added };
+}
+
+impl<'a> Known<'a> {
+    /// The clauses of a formula.
+    pub fn new(alloc: Global, formula: &'a Formula) -> Result<Known<'a>, AllocError>
+        ensures { IfOk result (λ known. known ≡ start_of formula.now) }
+    {
+        // Tells the proof that the formula is one.
+        let _ = formula.rows();
+        Ok(Known {
+            formula,
+            added: Pool::new(alloc)?,
+        })
+    }
+
+    /// The formula.
+    pub fn formula(&self) -> &'a Formula
+        ensures value { result.now ≡ self.now.formula }
+        ensures sound { IsSound self.now }
+    {
+        let _ = &self.added;
+        self.formula
+    }
+
+    /// The clause at a place, where there is one.
+    pub fn get(&self, place: usize) -> Option<&[Lit]>
+        ensures some { IfSome result (λ clause. IsClauseAt self.now place clause.now) }
+        ensures none { IfNone result (length self.now.clauses ≤ place) }
+    {
+        match self.formula.clause_at(place) {
+            Some(id) => Some(self.formula.clause(id)),
+            None => {
+                let Some(id) = self.added.id_at(place - self.formula.clauses()) else {
+                    return None;
+                };
+                Some(self.added.slice(id))
+            }
+        }
+    }
+
+    /// Adds the clause of a step, and tells whether it is empty.
+    pub fn add(&mut self, lits: &[Lit]) -> Result<bool, AllocError>
+        requires { LitsBelow self.old.formula.vars lits.now }
+        ensures added { IfOk result (AddsClause self.old lits.now self.new) }
+        ensures same { OnErr result (self.new ≡ self.old) }
+    {
+        self.added.add_slice(lits)?;
+        Ok(lits.is_empty())
+    }
+}

@@ -1,0 +1,74 @@
+//! The judging of a lemma.
+ghost use Rattle.std.specs.Prelude.{◌≡◌, ◌<◌, length, IfOk, IsTrue, ◌↔◌};
+ghost use Rattle.std.specs.List.{All};
+ghost use Rattle.bt_cnf.specs.Formulas.{LitsBelow};
+ghost use Rattle.bt_frac.specs.Ratio.{IsLowest};
+ghost use Rattle.bt_lin.specs.WeightedRows.{picked};
+ghost use Rattle.bt_cert.specs.Judging.{MayWeighRows};
+ghost use Rattle.bt_cert.specs.inner.Weighing.{IsNegatedRow, IsPicked, JudgesLemma, rows_of};
+
+use crate::fault::{Cause, StepFault};
+use bt_cnf::{Formula, Lit};
+use bt_frac::Frac;
+use bt_lin::{farkas, may_weigh};
+use std::alloc::AllocError;
+
+/// Whether the rows of a lemma's atoms, each times its weight, add up to a row that no values meet, and
+/// if not, why. The places of the rows are put into `picks`.
+pub fn judge_lemma(
+    formula: &Formula,
+    lits: &[Lit],
+    weights: &[Frac],
+    picks: &mut Vec<usize>,
+) -> Result<(), StepFault>
+    requires lits { LitsBelow formula.now.vars lits.now }
+    requires fractions { All IsLowest weights.now }
+    ensures { JudgesLemma formula.now lits.now weights.now result }
+{
+    if !pick_atoms(formula, lits, picks)? {
+        return Err(StepFault::Fails(Cause::Literal));
+    }
+    if !may_weigh_picked(formula, picks, weights) {
+        return Err(StepFault::Fails(Cause::Weight));
+    }
+    match farkas(formula.rows(), picks, weights) {
+        Ok(true) => Ok(()),
+        Ok(false) => Err(StepFault::Fails(Cause::Sum)),
+        Err(at) => Err(StepFault::Wide(at)),
+    }
+}
+
+/// Puts the places of the rows whose atoms the literals negate into `picks`, and tells whether each
+/// literal negates an atom.
+fn pick_atoms(formula: &Formula, lits: &[Lit], picks: &mut Vec<usize>) -> Result<bool, AllocError>
+    requires { LitsBelow formula.now.vars lits.now }
+    ensures { IfOk result (IsPicked formula.now lits.now picks.new.items) }
+{
+    picks.clear();
+    for lit in lits {
+        let Some(place) = negated_row(formula, *lit) else {
+            return Ok(false);
+        };
+        picks.push(place)?;
+    }
+    Ok(true)
+}
+
+/// The place of the row whose atom a literal negates, where it negates one.
+fn negated_row(formula: &Formula, lit: Lit) -> Option<usize>
+    requires { lit.var < formula.now.vars }
+    ensures { IsNegatedRow formula.now lit result }
+{
+    if lit.positive {
+        return None;
+    }
+    formula.row_of(lit.var)
+}
+
+/// Whether there is a weight for each picked row, and only an equation has a negative one.
+fn may_weigh_picked(formula: &Formula, picks: &[usize], weights: &[Frac]) -> bool
+    requires { All (λ pick. pick < length (rows_of formula.now)) picks.now }
+    ensures { IsTrue result ↔ MayWeighRows (picked (rows_of formula.now) picks.now) weights.now }
+{
+    weights.len() == picks.len() && may_weigh(formula.rows(), picks, weights)
+}

@@ -1,0 +1,29 @@
+//! Certificates: the step lines of a log, read line by line and judged one after another.
+#![tactic(auto)]
+
+mod assumptions;
+mod check;
+mod checker;
+#[cfg(test)]
+mod checker_tests;
+mod fault;
+mod item;
+mod items;
+mod known;
+mod law;
+mod learnt;
+mod lemma;
+mod line;
+mod reading;
+mod stage;
+mod step_line;
+#[cfg(test)]
+mod tests;
+mod units;
+mod written;
+
+pub use check::check_log;
+pub use fault::{Cause, CertFault};
+pub use law::{printed_is_certificate, printed_is_read, text_tells_log};
+pub use std::alloc::AllocError as Memory;
+pub use written::{StepKind, WrittenLit};
