@@ -1,0 +1,4 @@
+pub mod Indicators
+pub mod Numbers
+pub mod Totals
+pub mod Walks
