@@ -1,5 +1,5 @@
 -- What a line is where 1 stands at one position and 0 at every other: the number of that position.
-use Rattle.std.proofs.Common.{◌≡◌, ◌≢◌, ℕ, ◌+◌, ◌-◌, ◌*◌, ◌^◌, ◌<◌, ◌≤◌, arith, ℤ, pos, ◌*ℤ◌, Bool, true, false, if◌then◌else◌, ◌==◌, List, [], ◌∷◌, ◌++◌, Option, Some, None, ap, sym, ◌∙◌, refl, subst, ◌⊎◌, inl, inr}
+use Rattle.std.proofs.Common.{◌≡◌, ◌≢◌, ℕ, ◌+◌, ◌-◌, ◌*◌, ◌^◌, ◌<◌, ◌≤◌, arith, ℤ, pos, ◌*ℤ◌, Bool, true, false, if◌then◌else◌, ◌==◌, List, [], ◌∷◌, ◌++◌, Option, Some, None, IfSome, ap, sym, ◌∙◌, refl, subst, ◌⊎◌, inl, inr}
 use Rattle.std.specs.List.{All}
 use Rattle.std.proofs.Math.IntN.{zero-*ℤ}
 use Rattle.std.proofs.lemmas.Int.{ints}
@@ -70,7 +70,7 @@ later_lacks p least (t ∷ terms) h line =
     let apart : t.0 ≢ p = λ e. omega arith in
     All-cons (λ u. u.0 ≢ p) t terms apart (later_lacks p (t.0 + 1) terms (omega arith) after)
 
-times_one : (a : Ratio) → Positive a → Alike (times a one) a
+pub times_one : (a : Ratio) → Positive a → Alike (times a one) a
 times_one a some = alike (times a one) a (times_positive a one some (omega arith)) some (parts a.over a.under)
   where
     parts : (x : ℤ) (m : ℕ) → x *ℤ pos 1 *ℤ pos m ≡ x *ℤ pos (m * 1)
@@ -92,7 +92,7 @@ having_total t terms number line =
 tail_line : (least : ℕ) (t : ℕ × Ratio) (terms : Terms) → IsLineFrom least (t ∷ terms) → IsLineFrom (t.0 + 1) terms
 tail_line least t terms line = record { ascends = line.ascends.2; numbers = All-tail HasNumber t terms line.numbers }
 
-decide : (p q : ℕ) → (p ≡ q) ⊎ (p ≢ q)
+pub decide : (p q : ℕ) → (p ≡ q) ⊎ (p ≢ q)
 decide p q = at (p == q) refl
   where
     at : (b : Bool) → (p == q) ≡ b → (p ≡ q) ⊎ (p ≢ q)
@@ -162,3 +162,17 @@ combination_lacks p left factor right terms some all all' line is lacks lacks' =
     (over_zero_of (total (indicator p) terms) (times factor nothing)
     (next (alike (total (indicator p) terms) (plus (total (indicator p) left) (times factor (total (indicator p) right))) (total_positive (indicator p) (indicator_some p) terms line.numbers) zero.left
     (is (indicator p) (indicator_some p))) zero) (times_zero factor nothing refl))
+
+-- a number of a line isn't 0
+pub number_has : (p : ℕ) (terms : Terms) (o : Option Ratio) → All HasNumber terms → o ≡ coefficient_at p terms → IfSome o (λ n. HasNumber (p, n))
+number_has p terms None all e = tt
+number_has p [] (Some number) all e = absurd cc
+number_has p (t ∷ terms) (Some number) all e = at (t.0 == p) refl (λ h. number_has p terms (Some number) (All-tail HasNumber t terms all) h)
+  where
+    at : (b : Bool) → (t.0 == p) ≡ b → (Some number ≡ coefficient_at p terms → HasNumber (p, number)) → HasNumber (p, number)
+    at true test rest =
+        let is : Some number ≡ Some t.1 = e ∙ ap (λ b. if b then Some t.1 else coefficient_at p terms) test in
+        let same : t.1 ≡ number = cc in
+        let here = All-head HasNumber t terms all in
+        (subst (λ r. IsLowest r) same here.0, subst (λ r. r.over ≢ pos 0) same here.1)
+    at false test rest = rest (e ∙ ap (λ b. if b then Some t.1 else coefficient_at p terms) test)

@@ -1,11 +1,12 @@
 -- Sums and products of fractions that are the same numbers.
-use Rattle.std.proofs.Common.{◌≡◌, ℕ, ◌*◌, ◌<◌, arith, ℤ, pos, ◌+ℤ◌, ◌*ℤ◌, ap, sym, ◌∙◌, refl}
+use Rattle.std.proofs.Common.{◌≡◌, ℕ, ◌*◌, ◌<◌, arith, ℤ, pos, neg_ℤ, ◌+ℤ◌, ◌*ℤ◌, ap, sym, ◌∙◌, refl}
 use Rattle.std.proofs.Math.IntN.{pos-*ℤ-pos, zero-*ℤ, *ℤ_comm}
 use Rattle.std.proofs.lemmas.Int.{ints}
-use Rattle.bt_frac.specs.Ratio.{Ratio, SameRatio}
+use Rattle.bt_frac.specs.Ratio.{Ratio, SameRatio, negated}
 use Rattle.bt_frac.specs.Values.{nothing, plus, times}
 use Rattle.bt_frac.proofs.Over.{under_positive}
-use Rattle.bt_frac.proofs.Ring.{products, sums, mul_distrib_right}
+use Rattle.bt_frac.proofs.Ring.{products, sums, mul_distrib_right, neg_mul}
+use Rattle.bt_frac.proofs.Order.{mul_cancel}
 use Rattle.bt_lin.proofs.SameNumbers.{same_trans}
 
 -- the denominator is positive
@@ -205,3 +206,42 @@ pub pair_plus : (a b c d : Ratio) → Positive a → Positive b → Positive c �
 pair_plus a b c d p q r s =
     next (group_plus a b (plus c d) p q (plus_positive c d r s))
     (next (both_plus (itself a p) (turn_plus b c d q r s)) (back (group_plus a c (plus b d) p r (plus_positive b d q s))))
+
+-- a number and the negated second cancel where both are the same
+pub differ_none : (a b : Ratio) → SameRatio a b → (plus a (negated b)).over ≡ pos 0
+differ_none a b e = ap (λ t. t +ℤ neg_ℤ b.over *ℤ pos a.under) e ∙ ap (λ t. b.over *ℤ pos a.under +ℤ t) (neg_mul b.over (pos a.under)) ∙ none (b.over *ℤ pos a.under)
+  where
+    none : (x : ℤ) → x +ℤ neg_ℤ x ≡ pos 0
+    none x = omega (arith, ints)
+
+-- and only there
+pub none_differ : (a b : Ratio) → (plus a (negated b)).over ≡ pos 0 → SameRatio a b
+none_differ a b e = same (a.over *ℤ pos b.under) (b.over *ℤ pos a.under) (sym (ap (λ t. a.over *ℤ pos b.under +ℤ t) (neg_mul b.over (pos a.under))) ∙ e)
+  where
+    same : (x y : ℤ) → x +ℤ neg_ℤ y ≡ pos 0 → x ≡ y
+    same x y h = omega (arith, ints)
+
+-- the sign of a factor is that of the product
+pub negated_times : (a b : Ratio) → times (negated a) b ≡ negated (times a b)
+negated_times a b = ap (λ z. make z (a.under * b.under)) (neg_mul a.over b.over)
+  where
+    make : ℤ → ℕ → Ratio
+    make z n = record { over = z; under = n }
+
+-- what is added to a number and leaves it is 0
+pub adds_none : (a b : Ratio) → Positive a → SameRatio (plus a b) a → b.over ≡ pos 0
+adds_none a b some e =
+    mul_cancel b.over (pos 0) a.under some
+    (mul_cancel (b.over *ℤ pos a.under) (pos 0 *ℤ pos a.under) a.under some
+    (zero_left (a.over *ℤ pos b.under *ℤ pos a.under) (b.over *ℤ pos a.under *ℤ pos a.under)
+    (sym (mul_distrib_right (a.over *ℤ pos b.under) (b.over *ℤ pos a.under) (pos a.under)) ∙ e ∙ parted a.over a.under b.under)
+    ∙ sym (ap (λ t. t *ℤ pos a.under) (zero-*ℤ (pos a.under)) ∙ zero-*ℤ (pos a.under))))
+  where
+    parted : (x : ℤ) (m n : ℕ) → x *ℤ pos (m * n) ≡ x *ℤ pos n *ℤ pos m
+    parted x m n = ap (λ t. x *ℤ t) (sym (pos-*ℤ-pos m n)) ∙ turned x (pos m) (pos n)
+      where
+        turned : (x m n : ℤ) → x *ℤ (m *ℤ n) ≡ x *ℤ n *ℤ m
+        turned x m n = simp products
+
+    zero_left : (x y : ℤ) → x +ℤ y ≡ x → y ≡ pos 0
+    zero_left x y h = omega (arith, ints)

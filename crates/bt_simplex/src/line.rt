@@ -1,6 +1,7 @@
 //! Lines of a solved form: the positions whose numbers aren't 0, in ascending order, with these numbers.
-ghost use Rattle.std.specs.Prelude.{◌≡◌};
-ghost use Rattle.bt_simplex.specs.Lines.{IsLine};
+ghost use Rattle.std.specs.Prelude.{◌≡◌, IfSome};
+ghost use Rattle.bt_lin.specs.WeightedRows.{coefficient_at};
+ghost use Rattle.bt_simplex.specs.Lines.{IsLine, HasNumber};
 
 use bt_frac::Frac;
 use std::marker::Model;
@@ -32,4 +33,24 @@ impl Line {
     {
         &self.terms
     }
+    /// The number of a position, where it isn't 0.
+    pub fn number_at(&self, position: usize) -> Option<Frac>
+        ensures number { result ≡ coefficient_at position self.now }
+        ensures known { IfSome result (λ n. HasNumber (position, n)) }
+        ensures line { IsLine self.now }
+    {
+        found(self.terms(), position)
+    }
+}
+
+/// The number of a position among terms, where it has one.
+fn found(terms: &[Term], position: usize) -> Option<Frac>
+    ensures { result ≡ coefficient_at position terms.now }
+{
+    for (other, number) in terms {
+        if *other == position {
+            return Some(*number);
+        }
+    }
+    None
 }
