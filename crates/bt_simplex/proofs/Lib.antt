@@ -1,6 +1,8 @@
 pub mod Indicators
 pub mod Numbers
 pub mod Standing
+pub mod FirstForms
+pub mod FirstLines
 pub mod Substitutions
 pub mod Totals
 pub mod Turned

@@ -132,7 +132,7 @@ changed_from enters zero (Some terms) new terms' (inr h) e =
       inr (h.0, h.1, subst (λ l. IsLine l) terms_is h.2.2, subst (λ l. IsCombination terms h.0 zero l) terms_is h.2.3),
     )
 
-total_along : (at at' : ℕ → Ratio) → AreValues at → AreValues at' → (terms : Terms) → All HasNumber terms → All (λ t. Alike (at t.0) (at' t.0)) terms → Alike (total at terms) (total at' terms)
+pub total_along : (at at' : ℕ → Ratio) → AreValues at → AreValues at' → (terms : Terms) → All HasNumber terms → All (λ t. Alike (at t.0) (at' t.0)) terms → Alike (total at terms) (total at' terms)
 total_along at at' values values' [] all same = itself nothing nothing_some
 total_along at at' values values' (t ∷ terms) all same =
     let here = All-head HasNumber t terms all in

@@ -1,3 +1,4 @@
 pub mod Lines
 pub mod SolvedForms
+pub mod Tableaus
 pub mod inner

@@ -1,3 +1,4 @@
 -- What the contracts of private functions cite.
+pub mod Starts
 pub mod Steps
 pub mod Turns

@@ -4,7 +4,10 @@
 
 mod line;
 mod merging;
+mod starting;
+mod tableau;
 mod turning;
 
 pub use line::{Line, Term};
+pub use tableau::Tableau;
 pub use std::alloc::AllocError as Memory;
