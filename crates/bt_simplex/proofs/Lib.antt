@@ -4,6 +4,7 @@ pub mod Standing
 pub mod FirstForms
 pub mod FirstLines
 pub mod Substitutions
+pub mod TableauTurns
 pub mod Totals
 pub mod Turned
 pub mod Walks

@@ -4,7 +4,7 @@ use Rattle.std.proofs.lemmas.Bool.{cases_lt}
 use Rattle.std.proofs.lemmas.List.{get_or-set_same, get_or-set_other, get_or_past}
 use Rattle.bt_simplex.specs.Lines.{Terms}
 use Rattle.bt_simplex.specs.SolvedForms.{Slots, slot_at}
-use Rattle.bt_simplex.specs.inner.Turns.{IsSubstituted, AreSubstituted}
+use Rattle.bt_simplex.specs.inner.TurnedSlots.{IsSubstituted, AreSubstituted}
 use Rattle.bt_simplex.proofs.Indicators.{decide}
 
 -- the slots before this one are changed, and the others stand as they were

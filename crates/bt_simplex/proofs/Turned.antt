@@ -18,7 +18,7 @@ use Rattle.bt_frac.specs.Values.{AreValues, nothing, plus, times}
 use Rattle.bt_lin.specs.WeightedRows.{coefficient_at}
 use Rattle.bt_simplex.specs.Lines.{Terms, HasNumber, IsLine, IsLineFrom, IsCombination, total}
 use Rattle.bt_simplex.specs.SolvedForms.{Slots, slot_at, basis_from, basis_of, at_position, IsOutside, IsSolvedForm}
-use Rattle.bt_simplex.specs.inner.Turns.{one, IsZeroLine, IsSubstituted, IsEntered, IsTurned}
+use Rattle.bt_simplex.specs.inner.TurnedSlots.{one, IsZeroLine, IsSubstituted, IsEntered, IsTurned}
 use Rattle.bt_simplex.proofs.Numbers.{Positive, Alike, alike, itself, back, next, both_plus, both_times, swap_plus, swap_times, group_times, drop_zero, plus_positive, times_positive, times_zero, differ_none, none_differ, negated_times, adds_none}
 use Rattle.bt_simplex.proofs.Standing.{stands_some}
 use Rattle.bt_simplex.proofs.Totals.{total_positive}
@@ -92,7 +92,7 @@ minus_one a some =
     (subst (λ t. Alike t (negated a)) (sym (negated_times one a)) (negated_alike (one_times a some)))
 
 -- terms that all have a property name only positions that do
-named_has : (P : ℕ → Type 0) (q : ℕ) (terms : Terms) (number : Ratio) → All (λ t. P t.0) terms → coefficient_at q terms ≡ Some number → P q
+pub named_has : (P : ℕ → Type 0) (q : ℕ) (terms : Terms) (number : Ratio) → All (λ t. P t.0) terms → coefficient_at q terms ≡ Some number → P q
 named_has P q [] number all e = absurd cc
 named_has P q (t ∷ terms) number all e = elim (decide t.0 q) [
     | inl same ↦ subst P same (All-head (λ u. P u.0) t terms all)
@@ -223,7 +223,7 @@ module _ (slots : Slots) (leaves enters : ℕ) (slots' : Slots) (turn : IsTurned
       cancelled ((enters, one) ∷ []) one turn.entering one_lowest entering_alone turn.is_entering.line turn.is_entering.combination
       (having_total (enters, one) [] (one_number enters) (record { ascends = tt; numbers = All-nil HasNumber }))
 
-  leaves_within : leaves < length slots
+  pub leaves_within : leaves < length slots
   leaves_within = elim (cases_lt leaves (length slots)) [
       | inl within ↦ within
       | inr past ↦ let none = get_or_past slots leaves None past in let some = turn.leaving in absurd cc
@@ -288,11 +288,11 @@ module _ (slots : Slots) (leaves enters : ℕ) (slots' : Slots) (turn : IsTurned
   entering_is : (terms : Terms) → slot_at slots' enters ≡ Some terms → turn.entering ≡ terms
   entering_is terms e = let same : Some turn.entering ≡ Some terms = sym turn.entered ∙ e in cc
 
-  not_leaving : (p : ℕ) (terms : Terms) → slot_at slots' p ≡ Some terms → p ≢ leaves
+  pub not_leaving : (p : ℕ) (terms : Terms) → slot_at slots' p ≡ Some terms → p ≢ leaves
   not_leaving p terms e same = let none = ap (λ n. slot_at slots' n) same ∙ turn.left in absurd cc
 
   -- the line of a position that isn't the entering one, as it was
-  was : (p : ℕ) (terms' : Terms) → p ≢ enters → slot_at slots' p ≡ Some terms' → (terms : Terms) × (slot_at slots p ≡ Some terms)
+  pub was : (p : ℕ) (terms' : Terms) → p ≢ enters → slot_at slots' p ≡ Some terms' → (terms : Terms) × (slot_at slots p ≡ Some terms)
       × (((coefficient_at enters terms ≡ None) × (terms' ≡ terms)) ⊎ ((number : Ratio) × (coefficient_at enters terms ≡ Some number) × IsLine terms' × IsCombination terms number turn.zero terms'))
   was p terms' other e = changed_from enters turn.zero (slot_at slots p) (slot_at slots' p) terms' (turn.others p (not_leaving p terms' e) other) e
 

@@ -1,4 +1,6 @@
 pub mod Lines
+pub mod Points
 pub mod SolvedForms
 pub mod Tableaus
+pub mod Turns
 pub mod inner

@@ -1,4 +1,4 @@
 -- What the contracts of private functions cite.
 pub mod Starts
 pub mod Steps
-pub mod Turns
+pub mod TurnedSlots

@@ -1,13 +1,21 @@
 //! Tableaus: rows over columns, of which some are bound, and a basis with its solved form.
-ghost use Rattle.std.specs.Prelude.{◌≡◌, ◌<◌, IfOk, length, true, false};
-ghost use Rattle.bt_frac.specs.Rows.{IsRow};
-ghost use Rattle.bt_simplex.specs.Tableaus.{AreOverColumns, IsNew, IsBoundAs, IsTableau};
+ghost use Rattle.std.specs.Prelude.{◌≡◌, ◌<◌, IfOk, OnErr, length, true, false, IsTrue};
+ghost use Rattle.bt_simplex.specs.Tableaus.{AreOverColumns, IsNew, IsBoundAs};
+ghost use Rattle.bt_simplex.specs.Turns.{CanTurn, IsTurnedBy};
 
 use crate::line::Line;
 use crate::starting::{all_known, copied, first_slots, unbound};
+use crate::turning::turned_copy;
 use bt_frac::Row;
 use std::alloc::{AllocError, Global};
 use std::marker::Model;
+
+/// One position leaves the basis, and another enters it.
+#[derive(Clone, Copy, PartialEq, Eq)]
+pub struct Turn {
+    pub leaves: usize,
+    pub enters: usize,
+}
 
 /// Rows over columns, of which some are bound, and a basis of positions with its solved form: the line of
 /// each position of the basis gives what stands there by what stands outside the basis.
@@ -65,5 +73,19 @@ impl Tableau {
         ensures { IsBoundAs false row self.old self.new }
     {
         self.bound[row] = false;
+    }
+    /// Turns the basis. False where a number of the new lines doesn't fit. The tableau is then as before,
+    /// and after a want of memory too.
+    pub fn turn(&mut self, alloc: Global, turn: Turn) -> Result<bool, AllocError>
+        requires { CanTurn self.old.slots turn }
+        ensures turned { IfOk result (λ done. IsTrue done → IsTurnedBy turn self.old self.new) }
+        ensures wide { IfOk result (λ done. done ≡ false → self.new ≡ self.old) }
+        ensures memory { OnErr result (self.new ≡ self.old) }
+    {
+        let Some(slots) = turned_copy(alloc, &self.slots, turn.leaves, turn.enters)? else {
+            return Ok(false);
+        };
+        self.slots = slots;
+        Ok(true)
     }
 }

@@ -2,7 +2,7 @@
 ghost use Rattle.std.specs.Prelude.{◌≡◌, ◌≢◌, ℕ, ◌<◌, ◌-◌, ◌^◌, pos, length, IfOk, IfSome, IsTrue, Ok, OnOk, Some, None, [], ◌∷◌};
 ghost use Rattle.bt_simplex.specs.Lines.{Terms, IsLine, HasNumber};
 ghost use Rattle.bt_simplex.specs.SolvedForms.{Slots, slot_at};
-ghost use Rattle.bt_simplex.specs.inner.Turns.{IsZeroLine, IsChange, AreSubstituted, IsEntering, IsEntered, IsTurned};
+ghost use Rattle.bt_simplex.specs.inner.TurnedSlots.{IsZeroLine, IsChange, AreSubstituted, IsEntering, IsEntered, IsTurned};
 
 use crate::line::{Line, Term};
 use crate::merging::combined;
@@ -121,7 +121,7 @@ fn enter(
 
 /// A turn of the basis: one position leaves it, and one that its line names enters. False where a product
 /// or a sum of the new lines doesn't fit; the slots are then between both bases.
-pub fn turn(
+fn turn(
     alloc: Global,
     slots: &mut [Option<Line>],
     leaves: usize,
@@ -143,4 +143,49 @@ pub fn turn(
         return Ok(false);
     };
     enter(alloc, slots, enters, zero.terms())
+}
+
+/// The slots after a turn of the basis. None where a product or a sum of the new lines doesn't fit.
+pub fn turned_copy(
+    alloc: Global,
+    slots: &[Option<Line>],
+    leaves: usize,
+    enters: usize,
+) -> Result<Option<Vec<Option<Line>>>, AllocError>
+    requires leaves { leaves < length slots.now }
+    requires enters { enters < length slots.now }
+    requires few { length slots.now < 2 ^ 64 }
+    requires apart { leaves ≢ enters }
+    ensures { IfOk result (λ o. IfSome o (λ v. IsTurned slots.now leaves enters v.items)) }
+{
+    let mut copies = copied_slots(alloc, slots)?;
+    if turn(alloc, &mut copies, leaves, enters)? {
+        Ok(Some(copies))
+    } else {
+        Ok(None)
+    }
+}
+
+/// The same lines.
+fn copied_slots(alloc: Global, slots: &[Option<Line>]) -> Result<Vec<Option<Line>>, AllocError>
+    ensures { IfOk result (λ v. v.items ≡ slots.now) }
+{
+    let mut copies = Vec::new(alloc);
+    for slot in slots {
+        let copy = copied_slot(alloc, slot)?;
+        copies.push(copy)?;
+    }
+    Ok(copies)
+}
+
+/// The same line.
+fn copied_slot(alloc: Global, slot: &Option<Line>) -> Result<Option<Line>, AllocError>
+    ensures { IfOk result (λ copy. copy ≡ slot.now) }
+{
+    match slot {
+        Some(line) => Ok(Some(Line {
+            terms: Vec::from_slice(alloc, line.terms())?,
+        })),
+        None => Ok(None),
+    }
 }

@@ -1,7 +1,7 @@
 use Rattle.std.proofs.Common.{◌≡◌, Some, None, sym, ◌∙◌, subst, IfOk, IfSome, IsTrue, set}
 use Rattle.std.proofs.lemmas.List.{get_or_default}
 use Rattle.bt_lin.specs.WeightedRows.{coefficient_at}
-use Rattle.bt_simplex.specs.inner.Turns.{IsZeroLine, IsEntered}
+use Rattle.bt_simplex.specs.inner.TurnedSlots.{IsZeroLine, IsEntered}
 use Rattle.bt_simplex.specs.SolvedForms.{slot_at}
 use Rattle.bt_simplex.proofs.Turned.{turned_ok}
 use Rattle.bt_simplex.proofs.turning.turn.Goals as goal
