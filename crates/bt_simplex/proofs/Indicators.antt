@@ -26,7 +26,7 @@ here_is : (p q : ℕ) → q ≡ p → indicator p q ≡ one
 unfolding indicator
 here_is p q e = let t : (q == p) ≡ true = grind (arith, nat_tests) in ap (λ b. if b then one else nothing) t
 
-other_is : (p q : ℕ) → q ≢ p → indicator p q ≡ nothing
+pub other_is : (p q : ℕ) → q ≢ p → indicator p q ≡ nothing
 unfolding indicator
 other_is p q h = let t : (q == p) ≡ false = grind (arith, nat_tests) in ap (λ b. if b then one else nothing) t
 
@@ -89,7 +89,7 @@ having_total t terms number line =
     let product : Alike (times t.1 (indicator t.0 t.0)) t.1 = subst (λ r. Alike (times t.1 r) t.1) (sym (here_is t.0 t.0 refl)) (times_one t.1 number.0.positive) in
     next (both_plus product rest) (next (swap_plus t.1 nothing number.0.positive nothing_some) (drop_zero nothing t.1 nothing_some number.0.positive refl))
 
-tail_line : (least : ℕ) (t : ℕ × Ratio) (terms : Terms) → IsLineFrom least (t ∷ terms) → IsLineFrom (t.0 + 1) terms
+pub tail_line : (least : ℕ) (t : ℕ × Ratio) (terms : Terms) → IsLineFrom least (t ∷ terms) → IsLineFrom (t.0 + 1) terms
 tail_line least t terms line = record { ascends = line.ascends.2; numbers = All-tail HasNumber t terms line.numbers }
 
 pub decide : (p q : ℕ) → (p ≡ q) ⊎ (p ≢ q)

@@ -1,5 +1,6 @@
 pub mod Indicators
 pub mod Numbers
+pub mod OneForm
 pub mod Standing
 pub mod FirstForms
 pub mod FirstLines

@@ -101,7 +101,7 @@ named_has P q (t ∷ terms) number all e = elim (decide t.0 q) [
         named_has P q terms number (All-tail (λ u. P u.0) t terms all) (sym (ap (λ b. if b then Some t.1 else coefficient_at q terms) test) ∙ e)
   ]
 
-named_or_lacks : (P : ℕ → Type 0) (q : ℕ) (terms : Terms) → All (λ t. P t.0) terms → P q ⊎ LacksPosition q terms
+pub named_or_lacks : (P : ℕ → Type 0) (q : ℕ) (terms : Terms) → All (λ t. P t.0) terms → P q ⊎ LacksPosition q terms
 named_or_lacks P q [] all = inr (All-nil (λ u. u.0 ≢ q))
 named_or_lacks P q (t ∷ terms) all = elim (decide t.0 q) [
     | inl same ↦ inl (subst P same (All-head (λ u. P u.0) t terms all))
@@ -111,7 +111,7 @@ named_or_lacks P q (t ∷ terms) all = elim (decide t.0 q) [
       ]
   ]
 
-all_from : (P : ℕ → Type 0) (terms : Terms) → ((q : ℕ) → P q ⊎ LacksPosition q terms) → All (λ t. P t.0) terms
+pub all_from : (P : ℕ → Type 0) (terms : Terms) → ((q : ℕ) → P q ⊎ LacksPosition q terms) → All (λ t. P t.0) terms
 all_from P [] h = All-nil (λ u. P u.0)
 all_from P (t ∷ terms) h =
     All-cons (λ u. P u.0) t terms

@@ -2,12 +2,14 @@
 //! weights that show that no values do.
 #![tactic(auto)]
 
+mod law;
 mod line;
 mod merging;
 mod starting;
 mod tableau;
 mod turning;
 
+pub use law::one_solved_form;
 pub use line::{Line, Term};
-pub use tableau::Tableau;
+pub use tableau::{Tableau, Turn};
 pub use std::alloc::AllocError as Memory;

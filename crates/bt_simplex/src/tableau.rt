@@ -74,6 +74,16 @@ impl Tableau {
     {
         self.bound[row] = false;
     }
+    /// Whether the first position of the turn is in the basis, and its line names the second.
+    pub fn can_turn(&self, turn: Turn) -> bool
+        ensures { IsTrue result → CanTurn self.now.slots turn }
+    {
+        match self.slots.get(turn.leaves) {
+            Some(Some(line)) => line.number_at(turn.enters).is_some(),
+            _ => false,
+        }
+    }
+
     /// Turns the basis. False where a number of the new lines doesn't fit. The tableau is then as before,
     /// and after a want of memory too.
     pub fn turn(&mut self, alloc: Global, turn: Turn) -> Result<bool, AllocError>
