@@ -7,9 +7,12 @@ mod line;
 mod merging;
 mod starting;
 mod tableau;
+#[cfg(test)]
+mod tests;
 mod turning;
 
 pub use law::one_solved_form;
 pub use line::{Line, Term};
+pub use starting::are_over;
 pub use tableau::{Tableau, Turn};
 pub use std::alloc::AllocError as Memory;

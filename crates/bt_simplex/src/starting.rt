@@ -1,7 +1,8 @@
 //! The first basis of a tableau: the rows, whose terms are their lines as they are given.
-ghost use Rattle.std.specs.Prelude.{◌≡◌, IfOk, replicate, false};
+ghost use Rattle.std.specs.Prelude.{◌≡◌, ◌<◌, IfOk, IsTrue, replicate, false};
 ghost use Rattle.std.specs.List.{All};
 ghost use Rattle.bt_frac.specs.Rows.{IsRow};
+ghost use Rattle.bt_simplex.specs.Tableaus.{AreOverColumns};
 ghost use Rattle.bt_simplex.specs.inner.Starts.{kept, start_slots};
 
 use crate::line::{Line, Term};
@@ -81,4 +82,28 @@ pub fn unbound(alloc: Global, count: usize) -> Result<Vec<bool>, AllocError>
         bound.push(false)?;
     }
     Ok(bound)
+}
+
+/// Whether the rows name only columns below this number.
+pub fn are_over(rows: &[Row], columns: usize) -> bool
+    ensures { IsTrue result → AreOverColumns columns rows.now }
+{
+    for row in rows {
+        if !terms_are_over(row.terms(), columns) {
+            return false;
+        }
+    }
+    true
+}
+
+/// Whether the terms name only columns below this number.
+fn terms_are_over(terms: &[Term], columns: usize) -> bool
+    ensures { IsTrue result → All (λ t. t.0 < columns) terms.now }
+{
+    for (column, _) in terms {
+        if *column >= columns {
+            return false;
+        }
+    }
+    true
 }
