@@ -1,5 +1,5 @@
 -- The first basis, of the rows, has their terms as its solved form.
-use Rattle.std.proofs.Common.{◌≡◌, ◌≢◌, ℕ, zero, suc, ◌+◌, ◌-◌, ◌<◌, ◌≤◌, arith, Bool, true, false, if◌then◌else◌, nat_lt, List, [], ◌∷◌, ◌++◌, length, replicate, map, get_or, Option, Some, None, ap, sym, ◌∙◌, refl, subst, ◌⊎◌, inl, inr}
+use Rattle.std.proofs.Common.{◌≡◌, ℕ, zero, suc, ◌+◌, ◌-◌, ◌<◌, ◌≤◌, arith, Bool, true, false, if◌then◌else◌, nat_lt, List, [], ◌∷◌, ◌++◌, length, replicate, map, get_or, Some, None, ap, sym, ◌∙◌, refl, subst, inl, inr}
 use Rattle.std.specs.List.{All}
 use Rattle.std.proofs.lemmas.Bool.{cases_lt}
 use Rattle.std.proofs.lemmas.Bool.Decides.{nat_tests}
@@ -7,12 +7,12 @@ use Rattle.bt_frac.specs.Ratio.{Ratio, SameRatio}
 use Rattle.bt_frac.specs.Rows.{RowParts, IsRow}
 use Rattle.bt_frac.specs.Values.{AreValues}
 use Rattle.bt_lin.specs.WeightedRows.{empty_row}
-use Rattle.bt_simplex.specs.Lines.{Terms, HasNumber, IsLine, total}
+use Rattle.bt_simplex.specs.Lines.{Terms, IsLine, total}
 use Rattle.bt_simplex.specs.SolvedForms.{Slots, slot_at, basis_from, basis_of, at_position, IsOutside, IsSolvedForm}
 use Rattle.bt_simplex.specs.Tableaus.{AreOverColumns, IsTableau, IsNew, positions_from}
 use Rattle.bt_simplex.specs.inner.Starts.{kept, start_slots}
 use Rattle.bt_simplex.proofs.FirstLines.{kept_line, kept_total, kept_over}
-use Rattle.bt_simplex.proofs.Numbers.{Alike, alike, itself, back, next}
+use Rattle.bt_simplex.proofs.Numbers.{Alike, itself, back, next}
 use Rattle.bt_simplex.proofs.Standing.{stands_some}
 use Rattle.bt_simplex.proofs.Turned.{total_along}
 
@@ -84,26 +84,26 @@ module _ (rows : List RowParts) (columns : ℕ) (are : All IsRow rows) (over : A
   line_of : (p : ℕ) (terms : Terms) → slot_at (start_slots rows columns) p ≡ Some terms
       → (columns ≤ p) × (p - columns < length rows) × (terms ≡ kept (get_or rows (p - columns) empty_row).terms)
   line_of p terms e = elim (cases_lt p columns) [
-      | inl low ↦ let none = slot_low columns p (map (λ row. Some (kept row.terms)) rows) low in absurd cc
-      | inr high ↦ elim (cases_lt (p - columns) (length rows)) [
-          | inl within ↦
-              let same : Some terms ≡ Some (kept (get_or rows (p - columns) empty_row).terms) = sym e ∙ slot_of p high ∙ slot_some rows (p - columns) within in
-              (high, within, cc)
-          | inr past ↦ let none = slot_of p high ∙ slot_none rows (p - columns) past in absurd cc
-        ]
+    | inl low ↦ let none = slot_low columns p (map (λ row. Some (kept row.terms)) rows) low in absurd cc
+    | inr high ↦ elim (cases_lt (p - columns) (length rows)) [
+      | inl within ↦
+          let same : Some terms ≡ Some (kept (get_or rows (p - columns) empty_row).terms) = sym e ∙ slot_of p high ∙ slot_some rows (p - columns) within in
+          (high, within, cc)
+      | inr past ↦ let none = slot_of p high ∙ slot_none rows (p - columns) past in absurd cc
     ]
+  ]
 
   low_outside : (p : ℕ) → p < columns → IsOutside (start_slots rows columns) p
   low_outside p h = record { within = let l = start_length rows columns in omega arith; outside = slot_low columns p (map (λ row. Some (kept row.terms)) rows) h }
 
   outside_low : (p : ℕ) → IsOutside (start_slots rows columns) p → p < columns
   outside_low p o = elim (cases_lt p columns) [
-      | inl low ↦ low
-      | inr high ↦
-          let within : p - columns < length rows = let l = start_length rows columns in let w = o.within in omega arith in
-          let some = slot_of p high ∙ slot_some rows (p - columns) within in
-          let none = o.outside in absurd cc
-    ]
+    | inl low ↦ low
+    | inr high ↦
+        let within : p - columns < length rows = let l = start_length rows columns in let w = o.within in omega arith in
+        let some = slot_of p high ∙ slot_some rows (p - columns) within in
+        let none = o.outside in absurd cc
+  ]
 
   row_line : (i : ℕ) → i < length rows → IsLine (kept (get_or rows i empty_row).terms)
   row_line i h = let row = are i empty_row h in kept_line 0 (get_or rows i empty_row).terms row.columns row.coefficients
@@ -128,7 +128,7 @@ module _ (rows : List RowParts) (columns : ℕ) (are : All IsRow rows) (over : A
       let along : Alike (total at (kept row.terms)) (total values (kept row.terms)) =
       total_along at values stands some (kept row.terms) (row_line (p - columns) of.1).numbers
       (λ k d h. let q : ℕ = (get_or (kept row.terms) k d).0 in
-        subst (λ r. Alike r (values q)) (sym (column_at rows columns values q (row_over (p - columns) of.1 k d h))) (itself (values q) (some q))) in
+      subst (λ r. Alike r (values q)) (sym (column_at rows columns values q (row_over (p - columns) of.1 k d h))) (itself (values q) (some q))) in
       let whole = next along (kept_total values some row.terms (are (p - columns) empty_row of.1).coefficients) in
       subst (λ l. SameRatio (at p) (total at l)) (sym of.2) (subst (λ r. SameRatio r (total at (kept row.terms))) (sym (row_at rows columns values p of.0)) (back whole).same)
 
@@ -139,10 +139,10 @@ module _ (rows : List RowParts) (columns : ℕ) (are : All IsRow rows) (over : A
     lines = lines;
     holds = holds;
     free = λ numbers some. (
-          numbers,
-          some,
-          λ p o. subst (λ r. SameRatio r (numbers p)) (sym (column_at rows columns numbers p (outside_low p o))) refl,
-        );
+      numbers,
+      some,
+      λ p o. subst (λ r. SameRatio r (numbers p)) (sym (column_at rows columns numbers p (outside_low p o))) refl,
+    );
   }
 
 -- a new tableau is one, whose basis is the rows

@@ -1,19 +1,18 @@
 -- The first basis has a solved form.
-use Rattle.std.proofs.Common.{◌≡◌, ◌≢◌, ℕ, ◌+◌, ◌-◌, ◌<◌, ◌≤◌, arith, pos, ◌*ℤ◌, unsigned_abs, Bool, true, false, if◌then◌else◌, ◌==◌, nat_lt, List, [], ◌∷◌, ◌++◌, length, replicate, map, get_or, Option, Some, None, ap, sym, ◌∙◌, refl, subst, append-nil, ℤ}
+use Rattle.std.proofs.Common.{◌≡◌, ◌≢◌, ℕ, ◌+◌, arith, pos, ◌*ℤ◌, unsigned_abs, Bool, true, false, if◌then◌else◌, ◌==◌, [], ◌∷◌, ap, ◌∙◌, refl, ℤ}
 use Rattle.std.specs.List.{All}
 use Rattle.std.proofs.Math.IntN.{zero-*ℤ}
 use Rattle.std.proofs.lemmas.Int.{ints}
 use Rattle.std.proofs.lemmas.Bool.Decides.{nat_tests}
 use Rattle.std.proofs.lemmas.List.Elements.{All-head, All-tail, All-cons, All-nil}
-use Rattle.bt_frac.specs.Ratio.{Ratio, SameRatio, IsLowest}
+use Rattle.bt_frac.specs.Ratio.{Ratio, IsLowest}
 use Rattle.bt_frac.specs.Columns.{AreColumnsFrom}
-use Rattle.bt_frac.specs.Rows.{RowParts, IsRow, columns_of}
+use Rattle.bt_frac.specs.Rows.{columns_of}
 use Rattle.bt_frac.specs.Values.{AreValues, nothing, plus, times}
-use Rattle.bt_simplex.specs.Lines.{Terms, HasNumber, IsLine, IsLineFrom, total}
+use Rattle.bt_simplex.specs.Lines.{Terms, HasNumber, IsLineFrom, total}
 use Rattle.bt_simplex.specs.inner.Starts.{kept}
-use Rattle.bt_simplex.proofs.Numbers.{Positive, Alike, alike, itself, back, next, both_plus, drop_zero, times_positive, times_zero, swap_times}
+use Rattle.bt_simplex.proofs.Numbers.{Alike, itself, back, next, both_plus, drop_zero, times_positive, swap_times}
 use Rattle.bt_simplex.proofs.Walks.{starts_before}
-use Rattle.bt_simplex.proofs.Standing.{row_some}
 
 none_size : (z : ℤ) → unsigned_abs z ≡ 0 → z ≡ pos 0
 none_size z e = grind (arith, ints)

@@ -1,22 +1,16 @@
 -- What a line is where 1 stands at one position and 0 at every other: the number of that position.
-use Rattle.std.proofs.Common.{◌≡◌, ◌≢◌, ℕ, ◌+◌, ◌-◌, ◌*◌, ◌^◌, ◌<◌, ◌≤◌, arith, ℤ, pos, ◌*ℤ◌, Bool, true, false, if◌then◌else◌, ◌==◌, List, [], ◌∷◌, ◌++◌, Option, Some, None, IfSome, ap, sym, ◌∙◌, refl, subst, ◌⊎◌, inl, inr}
+use Rattle.std.proofs.Common.{◌≡◌, ◌≢◌, ℕ, ◌+◌, ◌*◌, ◌<◌, arith, ℤ, pos, ◌*ℤ◌, Bool, true, false, if◌then◌else◌, ◌==◌, [], ◌∷◌, Option, Some, None, IfSome, ap, sym, ◌∙◌, refl, subst, ◌⊎◌, inl, inr}
 use Rattle.std.specs.List.{All}
-use Rattle.std.proofs.Math.IntN.{zero-*ℤ}
 use Rattle.std.proofs.lemmas.Int.{ints}
 use Rattle.std.proofs.lemmas.Bool.Decides.{nat_tests}
 use Rattle.std.proofs.lemmas.List.Elements.{All-head, All-tail, All-cons, All-nil}
-use Rattle.bt_frac.specs.Ratio.{Ratio, SameRatio, IsLowest}
+use Rattle.bt_frac.specs.Ratio.{Ratio, IsLowest}
 use Rattle.bt_frac.specs.Values.{AreValues, nothing, plus, times}
 use Rattle.bt_lin.specs.WeightedRows.{coefficient_at}
 use Rattle.bt_lin.proofs.SameNumbers.{zero_same}
-use Rattle.bt_simplex.specs.Lines.{Terms, HasNumber, IsLine, IsLineFrom, IsCombination, total}
-use Rattle.bt_simplex.proofs.Numbers.{Positive, Alike, alike, itself, back, next, both_plus, both_times, swap_plus, swap_times, drop_zero, plus_positive, times_positive, times_zero}
-use Rattle.bt_simplex.proofs.Totals.{total_positive}
-use Rattle.bt_simplex.proofs.Walks.{starts_before}
-
--- the whole number 1
-abbrev pub one : Ratio
-one = record { over = pos 1; under = 1 }
+use Rattle.bt_simplex.specs.Lines.{one, Terms, HasNumber, IsLine, IsLineFrom, IsCombination, total}
+use Rattle.bt_simplex.proofs.Numbers.{Positive, nothing_some, Alike, alike, itself, back, next, both_plus, both_times, swap_plus, drop_zero, times_positive, times_zero}
+use Rattle.bt_simplex.proofs.Totals.{total_positive, rest_line}
 
 -- 1 at this position, and 0 at every other
 pub indicator : ℕ → ℕ → Ratio
@@ -41,12 +35,6 @@ indicator_some p q = chosen_some (q == p)
 -- a position stands nowhere among terms
 abbrev pub LacksPosition : ℕ → Terms → Type 0
 LacksPosition p terms = All (λ t. t.0 ≢ p) terms
-
-nothing_some : Positive nothing
-nothing_some = omega arith
-
-zero_alike : (a : Ratio) → Positive a → a.over ≡ pos 0 → Alike a nothing
-zero_alike a some e = alike a nothing some nothing_some (ap (λ z. z *ℤ pos 1) e ∙ zero-*ℤ (pos 1) ∙ sym (zero-*ℤ (pos a.under)))
 
 pub over_zero_of : (a b : Ratio) → Alike a b → b.over ≡ pos 0 → a.over ≡ pos 0
 over_zero_of a b h e = (zero_same b a h.right h.left (back h).same).0 e
@@ -89,9 +77,6 @@ having_total t terms number line =
     let product : Alike (times t.1 (indicator t.0 t.0)) t.1 = subst (λ r. Alike (times t.1 r) t.1) (sym (here_is t.0 t.0 refl)) (times_one t.1 number.0.positive) in
     next (both_plus product rest) (next (swap_plus t.1 nothing number.0.positive nothing_some) (drop_zero nothing t.1 nothing_some number.0.positive refl))
 
-pub tail_line : (least : ℕ) (t : ℕ × Ratio) (terms : Terms) → IsLineFrom least (t ∷ terms) → IsLineFrom (t.0 + 1) terms
-tail_line least t terms line = record { ascends = line.ascends.2; numbers = All-tail HasNumber t terms line.numbers }
-
 pub decide : (p q : ℕ) → (p ≡ q) ⊎ (p ≢ q)
 decide p q = at (p == q) refl
   where
@@ -103,51 +88,51 @@ decide p q = at (p == q) refl
 pub zero_lacks : (p least : ℕ) (terms : Terms) → IsLineFrom least terms → (total (indicator p) terms).over ≡ pos 0 → LacksPosition p terms
 zero_lacks p least [] line e = All-nil (λ u. u.0 ≢ p)
 zero_lacks p least (t ∷ terms) line e = elim (decide t.0 p) [
-    | inl same ↦
-        let number = All-head HasNumber t terms line.numbers in
-        let seen : (total (indicator t.0) (t ∷ terms)).over ≡ pos 0 = subst (λ n. (total (indicator n) (t ∷ terms)).over ≡ pos 0) (sym same) e in
-        absurd (number.1 (over_zero_of t.1 (total (indicator t.0) (t ∷ terms)) (back (having_total t terms number (tail_line least t terms line))) seen))
-    | inr apart ↦
-        let number = All-head HasNumber t terms line.numbers in
-        let none : (indicator p t.0).over ≡ pos 0 = ap (λ r. r.over) (other_is p t.0 apart) in
-        let rest_some = total_positive (indicator p) (indicator_some p) terms (All-tail HasNumber t terms line.numbers) in
-        let dropped = drop_zero (times t.1 (indicator p t.0)) (total (indicator p) terms) (times_positive t.1 (indicator p t.0) number.0.positive (indicator_some p t.0)) rest_some
-        (times_zero t.1 (indicator p t.0) none) in
-        All-cons (λ u. u.0 ≢ p) t terms apart (zero_lacks p (t.0 + 1) terms (tail_line least t terms line) (over_zero_of (total (indicator p) terms) (plus (times t.1 (indicator p t.0)) (total (indicator p) terms)) (back dropped) e))
-  ]
+  | inl same ↦
+      let number = All-head HasNumber t terms line.numbers in
+      let seen : (total (indicator t.0) (t ∷ terms)).over ≡ pos 0 = subst (λ n. (total (indicator n) (t ∷ terms)).over ≡ pos 0) (sym same) e in
+      absurd (number.1 (over_zero_of t.1 (total (indicator t.0) (t ∷ terms)) (back (having_total t terms number (rest_line least t terms line))) seen))
+  | inr apart ↦
+      let number = All-head HasNumber t terms line.numbers in
+      let none : (indicator p t.0).over ≡ pos 0 = ap (λ r. r.over) (other_is p t.0 apart) in
+      let rest_some = total_positive (indicator p) (indicator_some p) terms (All-tail HasNumber t terms line.numbers) in
+      let dropped = drop_zero (times t.1 (indicator p t.0)) (total (indicator p) terms) (times_positive t.1 (indicator p t.0) number.0.positive (indicator_some p t.0)) rest_some
+      (times_zero t.1 (indicator p t.0) none) in
+      All-cons (λ u. u.0 ≢ p) t terms apart (zero_lacks p (t.0 + 1) terms (rest_line least t terms line) (over_zero_of (total (indicator p) terms) (plus (times t.1 (indicator p t.0)) (total (indicator p) terms)) (back dropped) e))
+]
 
 -- the number at a position
 pub total_at : (p least : ℕ) (terms : Terms) (number : Ratio) → IsLineFrom least terms → coefficient_at p terms ≡ Some number → Alike (total (indicator p) terms) number
 total_at p least [] number line e = absurd cc
 total_at p least (t ∷ terms) number line e = elim (decide t.0 p) [
-    | inl same ↦
-        let test : (t.0 == p) ≡ true = grind (arith, nat_tests) in
-        let is : Some t.1 ≡ Some number = sym (ap (λ b. if b then Some t.1 else coefficient_at p terms) test) ∙ e in
-        let number_is : t.1 ≡ number = cc in
-        subst (λ r. Alike (total (indicator p) (t ∷ terms)) r) number_is
-        (subst (λ n. Alike (total (indicator n) (t ∷ terms)) t.1) same (having_total t terms (All-head HasNumber t terms line.numbers) (tail_line least t terms line)))
-    | inr apart ↦
-        let test : (t.0 == p) ≡ false = grind (arith, nat_tests) in
-        let is : coefficient_at p terms ≡ Some number = sym (ap (λ b. if b then Some t.1 else coefficient_at p terms) test) ∙ e in
-        let here = All-head HasNumber t terms line.numbers in
-        let none : (indicator p t.0).over ≡ pos 0 = ap (λ r. r.over) (other_is p t.0 apart) in
-        let rest = total_at p (t.0 + 1) terms number (tail_line least t terms line) is in
-        next (drop_zero (times t.1 (indicator p t.0)) (total (indicator p) terms) (times_positive t.1 (indicator p t.0) here.0.positive (indicator_some p t.0)) rest.left
-        (times_zero t.1 (indicator p t.0) none)) rest
-  ]
+  | inl same ↦
+      let test : (t.0 == p) ≡ true = grind (arith, nat_tests) in
+      let is : Some t.1 ≡ Some number = sym (ap (λ b. if b then Some t.1 else coefficient_at p terms) test) ∙ e in
+      let number_is : t.1 ≡ number = cc in
+      subst (λ r. Alike (total (indicator p) (t ∷ terms)) r) number_is
+      (subst (λ n. Alike (total (indicator n) (t ∷ terms)) t.1) same (having_total t terms (All-head HasNumber t terms line.numbers) (rest_line least t terms line)))
+  | inr apart ↦
+      let test : (t.0 == p) ≡ false = grind (arith, nat_tests) in
+      let is : coefficient_at p terms ≡ Some number = sym (ap (λ b. if b then Some t.1 else coefficient_at p terms) test) ∙ e in
+      let here = All-head HasNumber t terms line.numbers in
+      let none : (indicator p t.0).over ≡ pos 0 = ap (λ r. r.over) (other_is p t.0 apart) in
+      let rest = total_at p (t.0 + 1) terms number (rest_line least t terms line) is in
+      next (drop_zero (times t.1 (indicator p t.0)) (total (indicator p) terms) (times_positive t.1 (indicator p t.0) here.0.positive (indicator_some p t.0)) rest.left
+      (times_zero t.1 (indicator p t.0) none)) rest
+]
 
 pub none_lacks : (p : ℕ) (terms : Terms) → coefficient_at p terms ≡ None → LacksPosition p terms
 none_lacks p [] e = All-nil (λ u. u.0 ≢ p)
 none_lacks p (t ∷ terms) e = elim (decide t.0 p) [
-    | inl same ↦
-        let test : (t.0 == p) ≡ true = grind (arith, nat_tests) in
-        let is : Some t.1 ≡ None = sym (ap (λ b. if b then Some t.1 else coefficient_at p terms) test) ∙ e in
-        absurd cc
-    | inr apart ↦
-        let test : (t.0 == p) ≡ false = grind (arith, nat_tests) in
-        let is : coefficient_at p terms ≡ None = sym (ap (λ b. if b then Some t.1 else coefficient_at p terms) test) ∙ e in
-        All-cons (λ u. u.0 ≢ p) t terms apart (none_lacks p terms is)
-  ]
+  | inl same ↦
+      let test : (t.0 == p) ≡ true = grind (arith, nat_tests) in
+      let is : Some t.1 ≡ None = sym (ap (λ b. if b then Some t.1 else coefficient_at p terms) test) ∙ e in
+      absurd cc
+  | inr apart ↦
+      let test : (t.0 == p) ≡ false = grind (arith, nat_tests) in
+      let is : coefficient_at p terms ≡ None = sym (ap (λ b. if b then Some t.1 else coefficient_at p terms) test) ∙ e in
+      All-cons (λ u. u.0 ≢ p) t terms apart (none_lacks p terms is)
+]
 
 -- a combination lacks what both lines lack
 pub combination_lacks : (p : ℕ) (left : Terms) (factor : Ratio) (right terms : Terms) → Positive factor → All HasNumber left → All HasNumber right → IsLine terms

@@ -245,3 +245,9 @@ adds_none a b some e =
 
     zero_left : (x y : ℤ) → x +ℤ y ≡ x → y ≡ pos 0
     zero_left x y h = omega (arith, ints)
+
+pub nothing_some : Positive nothing
+nothing_some = omega arith
+
+pub zero_alike : (a : Ratio) → Positive a → a.over ≡ pos 0 → Alike a nothing
+zero_alike a some e = alike a nothing some nothing_some (ap (λ z. z *ℤ pos 1) e ∙ zero-*ℤ (pos 1) ∙ sym (zero-*ℤ (pos a.under)))

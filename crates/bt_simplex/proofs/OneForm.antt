@@ -1,19 +1,19 @@
 -- Rows have one solved form at a basis.
-use Rattle.std.proofs.Common.{◌≡◌, ◌≢◌, ℕ, suc, ◌+◌, ◌<◌, ◌≤◌, arith, pos, List, [], ◌∷◌, length, Option, Some, None, ap, sym, ◌∙◌, refl, subst, ◌⊎◌, inl, inr, ◌↔◌}
+use Rattle.std.proofs.Common.{◌≡◌, ◌≢◌, ℕ, suc, ◌+◌, ◌<◌, arith, List, [], ◌∷◌, length, Option, Some, None, ap, sym, ◌∙◌, refl, subst, inl, inr, ◌↔◌}
 use Rattle.std.specs.List.{All}
 use Rattle.std.proofs.lemmas.Bool.{cases_lt}
 use Rattle.std.proofs.lemmas.List.Elements.{All-head, All-tail}
-use Rattle.bt_frac.specs.Ratio.{Ratio, SameRatio, IsLowest}
+use Rattle.bt_frac.specs.Ratio.{Ratio}
 use Rattle.bt_frac.specs.Rows.{RowParts, IsRow}
-use Rattle.bt_frac.specs.Values.{AreValues, nothing, times}
+use Rattle.bt_frac.specs.Values.{nothing, times}
 use Rattle.bt_frac.proofs.Euclid.{lowest_same}
-use Rattle.bt_simplex.specs.Lines.{Terms, HasNumber, IsLine, IsLineFrom, total}
+use Rattle.bt_simplex.specs.Lines.{Terms, HasNumber, IsLineFrom, total}
 use Rattle.bt_simplex.specs.SolvedForms.{Slots, slot_at, at_position, IsOutside, IsSolvedForm}
 use Rattle.bt_simplex.specs.Turns.{InBasis}
-use Rattle.bt_simplex.proofs.Indicators.{LacksPosition, decide, indicator, indicator_some, lacking_total, having_total, later_lacks, over_zero_of, other_is, tail_line}
-use Rattle.bt_simplex.proofs.Numbers.{Positive, Alike, alike, itself, back, next, drop_zero, times_positive, times_zero}
+use Rattle.bt_simplex.proofs.Indicators.{LacksPosition, decide, indicator, indicator_some, lacking_total, having_total, later_lacks, over_zero_of, other_is}
+use Rattle.bt_simplex.proofs.Numbers.{Alike, alike, back, next, drop_zero, times_positive, times_zero}
 use Rattle.bt_simplex.proofs.Standing.{stands_some}
-use Rattle.bt_simplex.proofs.Totals.{total_positive}
+use Rattle.bt_simplex.proofs.Totals.{total_positive, rest_line}
 use Rattle.bt_simplex.proofs.Turned.{named_or_lacks, all_from, total_along}
 
 -- the first number is seen, where the other line lacks its position
@@ -21,7 +21,7 @@ seen_first : (t : ℕ × Ratio) (terms others : Terms) (least : ℕ) → IsLineF
     → Alike (total (indicator t.0) (t ∷ terms)) (total (indicator t.0) others) → ⊥
 seen_first t terms others least line all lacks same =
     let number = All-head HasNumber t terms line.numbers in
-    number.1 (over_zero_of t.1 nothing (next (back (having_total t terms number (tail_line least t terms line))) (next same (lacking_total t.0 others all lacks))) refl)
+    number.1 (over_zero_of t.1 nothing (next (back (having_total t terms number (rest_line least t terms line))) (next same (lacking_total t.0 others all lacks))) refl)
 
 -- the rest where another position is seen
 rest_seen : (q : ℕ) (t : ℕ × Ratio) (terms : Terms) (least : ℕ) → IsLineFrom least (t ∷ terms) → t.0 ≢ q → Alike (total (indicator q) (t ∷ terms)) (total (indicator q) terms)
@@ -41,30 +41,30 @@ lines_same least (t ∷ terms) (u ∷ others) line line' same =
           let after : IsLineFrom (t.0 + 1) (u ∷ others) = record { ascends = (omega arith, line'.ascends.1, line'.ascends.2); numbers = line'.numbers } in
           absurd (seen_first t terms (u ∷ others) least line line'.numbers (later_lacks t.0 (t.0 + 1) (u ∷ others) (omega arith) after) (same t.0))
       | inr not_before ↦ elim (cases_lt u.0 t.0) [
-          | inl before ↦
-              let after : IsLineFrom (u.0 + 1) (t ∷ terms) = record { ascends = (omega arith, line.ascends.1, line.ascends.2); numbers = line.numbers } in
-              absurd (seen_first u others (t ∷ terms) least line' line.numbers (later_lacks u.0 (u.0 + 1) (t ∷ terms) (omega arith) after) (back (same u.0)))
-          | inr not_after ↦
-              let place : t.0 ≡ u.0 = omega arith in
-              let number = All-head HasNumber t terms line.numbers in
-              let number' = All-head HasNumber u others line'.numbers in
-              let tail = tail_line least t terms line in
-              let tail' = subst (λ n. IsLineFrom (n + 1) others) (sym place) (tail_line least u others line') in
-              let numbers : Alike t.1 u.1 =
-              next (back (having_total t terms number tail))
-              (next (same t.0) (subst (λ n. Alike (total (indicator n) (u ∷ others)) u.1) (sym place) (having_total u others number' (tail_line least u others line')))) in
-              let ratio : t.1 ≡ u.1 = lowest_same t.1 u.1 number.0 number'.0 numbers.same in
-              let rest = lines_same (t.0 + 1) terms others tail tail'
-              (λ q. elim (decide t.0 q) [
-                | inl here ↦
-                    let lacks = lacking_total t.0 terms tail.numbers (later_lacks t.0 (t.0 + 1) terms (omega arith) tail) in
-                    let lacks' = lacking_total t.0 others tail'.numbers (later_lacks t.0 (t.0 + 1) others (omega arith) tail') in
-                    subst (λ n. Alike (total (indicator n) terms) (total (indicator n) others)) here (next lacks (back lacks'))
-                | inr other ↦
-                    next (back (rest_seen q t terms least line other)) (next (same q) (rest_seen q u others least line' (λ e. other (place ∙ e))))
-              ]) in
-              ap (λ n. (n, t.1) ∷ terms) place ∙ ap (λ r. (u.0, r) ∷ terms) ratio ∙ ap (λ l. u ∷ l) rest
-        ]
+        | inl before ↦
+            let after : IsLineFrom (u.0 + 1) (t ∷ terms) = record { ascends = (omega arith, line.ascends.1, line.ascends.2); numbers = line.numbers } in
+            absurd (seen_first u others (t ∷ terms) least line' line.numbers (later_lacks u.0 (u.0 + 1) (t ∷ terms) (omega arith) after) (back (same u.0)))
+        | inr not_after ↦
+            let place : t.0 ≡ u.0 = omega arith in
+            let number = All-head HasNumber t terms line.numbers in
+            let number' = All-head HasNumber u others line'.numbers in
+            let tail = rest_line least t terms line in
+            let tail' = subst (λ n. IsLineFrom (n + 1) others) (sym place) (rest_line least u others line') in
+            let numbers : Alike t.1 u.1 =
+            next (back (having_total t terms number tail))
+            (next (same t.0) (subst (λ n. Alike (total (indicator n) (u ∷ others)) u.1) (sym place) (having_total u others number' (rest_line least u others line')))) in
+            let ratio : t.1 ≡ u.1 = lowest_same t.1 u.1 number.0 number'.0 numbers.same in
+            let rest = lines_same (t.0 + 1) terms others tail tail'
+            (λ q. elim (decide t.0 q) [
+              | inl here ↦
+                  let lacks = lacking_total t.0 terms tail.numbers (later_lacks t.0 (t.0 + 1) terms (omega arith) tail) in
+                  let lacks' = lacking_total t.0 others tail'.numbers (later_lacks t.0 (t.0 + 1) others (omega arith) tail') in
+                  subst (λ n. Alike (total (indicator n) terms) (total (indicator n) others)) here (next lacks (back lacks'))
+              | inr other ↦
+                  next (back (rest_seen q t terms least line other)) (next (same q) (rest_seen q u others least line' (λ e. other (place ∙ e))))
+            ]) in
+            ap (λ n. (n, t.1) ∷ terms) place ∙ ap (λ r. (u.0, r) ∷ terms) ratio ∙ ap (λ l. u ∷ l) rest
+      ]
     ]
 
 slots_same : (xs ys : Slots) → length xs ≡ length ys → ((p : ℕ) → slot_at xs p ≡ slot_at ys p) → xs ≡ ys
@@ -116,9 +116,9 @@ module _ (rows : List RowParts) (columns : ℕ) (slots slots' : Slots) (are : Al
       (λ q. elim (named_or_lacks (λ n. IsOutside slots n) q terms lines.1) [
         | inl o ↦ seen_at p terms terms' e e' q o
         | inr lacks ↦ elim (named_or_lacks (λ n. IsOutside slots' n) q terms' lines'.1) [
-            | inl o ↦ seen_at p terms terms' e e' q (outside_too q o)
-            | inr lacks' ↦ next (lacking_total q terms lines.0.numbers lacks) (back (lacking_total q terms' lines'.0.numbers lacks'))
-          ]
+          | inl o ↦ seen_at p terms terms' e e' q (outside_too q o)
+          | inr lacks' ↦ next (lacking_total q terms lines.0.numbers lacks) (back (lacking_total q terms' lines'.0.numbers lacks'))
+        ]
       ])
 
   slot_same : (p : ℕ) (slot slot' : Option Terms) → slot_at slots p ≡ slot → slot_at slots' p ≡ slot' → slot ≡ slot'

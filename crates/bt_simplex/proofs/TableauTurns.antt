@@ -1,6 +1,5 @@
 -- A turn of a tableau, of which only the slots change.
-use Rattle.std.proofs.Common.{◌≡◌, ◌≢◌, ℕ, ◌<◌, length, List, [], Option, Some, None, ap, sym, ◌∙◌, refl, subst, ◌⊎◌, inl, inr, ◌↔◌}
-use Rattle.std.specs.List.{All}
+use Rattle.std.proofs.Common.{◌≡◌, ◌≢◌, ℕ, List, Option, Some, None, ap, sym, ◌∙◌, refl, subst, ◌⊎◌, inl, inr}
 use Rattle.bt_frac.specs.Rows.{RowParts}
 use Rattle.bt_simplex.specs.Lines.{Terms}
 use Rattle.bt_simplex.specs.SolvedForms.{Slots, slot_at, IsOutside, IsSolvedForm}
@@ -9,7 +8,7 @@ use Rattle.bt_simplex.specs.Turns.{InBasis, CanTurn, IsTurnedBy}
 use Rattle.bt_simplex.specs.declared.tableau.Turn.{Turn}
 use Rattle.bt_simplex.specs.inner.TurnedSlots.{IsSubstituted, IsTurned}
 use Rattle.bt_simplex.proofs.Indicators.{decide}
-use Rattle.bt_simplex.proofs.Turned.{named_has, was, not_leaving, leaves_within, turn_solves}
+use Rattle.bt_simplex.proofs.Turned.{named_has, was, not_leaving, turn_solves}
 
 pub enters_outside : (rows : List RowParts) (columns : ℕ) (slots : Slots) (turn : Turn) → IsSolvedForm rows columns slots → CanTurn slots turn → IsOutside slots turn.enters
 enters_outside rows columns slots turn form can =
@@ -37,12 +36,12 @@ module _ (t : TableauParts) (turn : Turn) (slots' : Slots) (tableau : IsTableau 
 
   forth : (p : ℕ) → InBasis slots' p → (p ≡ turn.enters) ⊎ (InBasis t.slots p × (p ≢ turn.leaves))
   forth p basic = elim (decide p turn.enters) [
-      | inl same ↦ inl same
-      | inr other ↦
-          let leaving = tableau.solved.lines turn.leaves made.terms made.leaving in
-          let old = was t.slots turn.leaves turn.enters slots' made apart leaving.0 leaving.1 p basic.0 other basic.1 in
-          inr ((old.0, old.1), not_leaving t.slots turn.leaves turn.enters slots' made apart leaving.0 leaving.1 p basic.0 basic.1)
-    ]
+    | inl same ↦ inl same
+    | inr other ↦
+        let leaving = tableau.solved.lines turn.leaves made.terms made.leaving in
+        let old = was t.slots turn.leaves turn.enters slots' made apart leaving.0 leaving.1 p basic.0 other basic.1 in
+        inr ((old.0, old.1), not_leaving t.slots turn.leaves turn.enters slots' made apart leaving.0 leaving.1 p basic.0 basic.1)
+  ]
 
   entered : (p : ℕ) → p ≡ turn.enters → InBasis slots' p
   entered p same = (made.entering, ap (λ n. slot_at slots' n) same ∙ made.entered)
@@ -50,11 +49,11 @@ module _ (t : TableauParts) (turn : Turn) (slots' : Slots) (tableau : IsTableau 
   from : (p : ℕ) → (p ≡ turn.enters) ⊎ (InBasis t.slots p × (p ≢ turn.leaves)) → InBasis slots' p
   from p (inl same) = entered p same
   from p (inr stays) = elim (decide p turn.enters) [
-      | inl same ↦ entered p same
-      | inr other ↦
-          still_some turn.enters made.zero stays.0.0 (slot_at slots' p)
-          (subst (λ old. IsSubstituted turn.enters made.zero old (slot_at slots' p)) stays.0.1 (made.others p stays.1 other))
-    ]
+    | inl same ↦ entered p same
+    | inr other ↦
+        still_some turn.enters made.zero stays.0.0 (slot_at slots' p)
+        (subst (λ old. IsSubstituted turn.enters made.zero old (slot_at slots' p)) stays.0.1 (made.others p stays.1 other))
+  ]
 
   pub turned_by : IsTurnedBy turn t (record t { slots = slots' })
   turned_by = record { stays = refl; solved = solved; basis = λ p. (forth p, from p) }

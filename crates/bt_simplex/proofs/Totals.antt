@@ -1,19 +1,17 @@
 -- Sums of the terms of lines, and the steps of a walk over two lines.
-use Rattle.std.proofs.Common.{◌≡◌, ◌≢◌, ℕ, ◌+◌, ◌-◌, ◌*◌, ◌^◌, ◌<◌, ◌≤◌, arith, ℤ, pos, ◌*ℤ◌, List, [], ◌∷◌, length, take, drop, Option, Some, None, IfSome, ap, sym, ◌∙◌, refl, subst, unsigned_abs}
+use Rattle.std.proofs.Common.{◌≡◌, ◌≢◌, ℕ, ◌+◌, ◌*◌, ◌<◌, arith, pos, ◌*ℤ◌, [], ◌∷◌, Option, Some, None, IfSome, ap, sym, ◌∙◌, refl, subst, unsigned_abs}
 use Rattle.std.specs.List.{All}
-use Rattle.std.proofs.lemmas.Int.{ints, unsigned_abs-mul}
-use Rattle.std.proofs.lemmas.List.Elements.{All-head, All-tail, All-cons}
-use Rattle.bt_frac.specs.Ratio.{Ratio, SameRatio, IsLowest, IsSum}
-use Rattle.bt_frac.specs.Columns.{AreColumnsFrom}
-use Rattle.bt_frac.specs.Rows.{columns_of}
+use Rattle.std.proofs.lemmas.Int.{unsigned_abs-mul}
+use Rattle.std.proofs.lemmas.List.Elements.{All-head, All-tail}
+use Rattle.bt_frac.specs.Ratio.{Ratio, IsLowest, IsSum}
 use Rattle.bt_frac.specs.Products.{IsProduct}
 use Rattle.bt_frac.specs.Values.{AreValues, nothing, plus, times}
 use Rattle.std.proofs.Math.IntN.{zero-*ℤ}
 use Rattle.bt_frac.proofs.Over.{under_positive}
 use Rattle.bt_frac.proofs.Quotients.{nonzero_size}
 use Rattle.bt_simplex.specs.Lines.{Terms, HasNumber, IsLineFrom, total}
-use Rattle.bt_simplex.specs.inner.Steps.{IsStep, IsNext, IsNumbered, AddsTo, term_total}
-use Rattle.bt_simplex.proofs.Numbers.{Positive, Alike, alike, itself, back, next, both_plus, both_times, group_plus, group_times, spread, spread_right, drop_zero, turn_plus, pair_plus, plus_positive, times_positive, times_zero}
+use Rattle.bt_simplex.specs.inner.Steps.{IsStep, IsNumbered, AddsTo, term_total}
+use Rattle.bt_simplex.proofs.Numbers.{Positive, nothing_some, Alike, alike, itself, back, next, both_plus, both_times, group_plus, group_times, spread, spread_right, drop_zero, turn_plus, plus_positive, times_positive}
 
 pub total_positive : (at : ℕ → Ratio) → AreValues at → (terms : Terms) → All HasNumber terms → Positive (total at terms)
 total_positive at some [] all = omega arith
@@ -116,9 +114,6 @@ named_both : (position : ℕ) (sum : Ratio) (term : Option (ℕ × Ratio)) → I
 named_both position sum None low is = tt
 named_both position sum (Some t) low is =
     (ap (λ u. u.0) is.0, subst (λ u. HasNumber u) (sym is.0) (low, is.1))
-
-nothing_some : Positive nothing
-nothing_some = omega arith
 
 numbered_total : (at : ℕ → Ratio) (position : ℕ) (sum more : Ratio) (term : Option (ℕ × Ratio)) → AreValues at → Positive sum → Positive more → IsNumbered position sum term
     → Alike (plus (times sum (at position)) more) (plus (term_total at term) more)

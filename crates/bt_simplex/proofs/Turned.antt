@@ -1,7 +1,6 @@
 -- A turn keeps the solved form.
-use Rattle.std.proofs.Common.{◌≡◌, ◌≢◌, ℕ, ◌+◌, ◌*◌, ◌<◌, ◌≤◌, arith, lit<, pos, neg_ℤ, ◌*ℤ◌, Bool, true, false, if◌then◌else◌, ◌==◌, ◌-◌, suc, sum_by, set, get_or, length-set, Result, Ok, Err, IfOk, IsTrue, List, [], ◌∷◌, length, Option, Some, None, ap, sym, ◌∙◌, refl, subst, ◌⊎◌, inl, inr}
+use Rattle.std.proofs.Common.{◌≡◌, ◌≢◌, ℕ, ◌+◌, ◌<◌, arith, lit<, pos, neg_ℤ, Bool, true, false, if◌then◌else◌, ◌==◌, suc, sum_by, set, get_or, length-set, Result, Ok, Err, IfOk, IsTrue, List, [], ◌∷◌, length, Option, Some, None, ap, sym, ◌∙◌, refl, subst, ◌⊎◌, inl, inr}
 use Rattle.std.specs.List.{All}
-use Rattle.std.proofs.Math.IntN.{zero-*ℤ}
 use Rattle.std.proofs.lemmas.Int.{ints}
 use Rattle.std.proofs.lemmas.Bool.{cases_lt}
 use Rattle.std.proofs.lemmas.Bool.Decides.{nat_tests}
@@ -16,22 +15,16 @@ use Rattle.bt_frac.specs.Products.{IsDivision}
 use Rattle.bt_frac.specs.Rows.{RowParts, IsRow}
 use Rattle.bt_frac.specs.Values.{AreValues, nothing, plus, times}
 use Rattle.bt_lin.specs.WeightedRows.{coefficient_at}
-use Rattle.bt_simplex.specs.Lines.{Terms, HasNumber, IsLine, IsLineFrom, IsCombination, total}
+use Rattle.bt_simplex.specs.Lines.{one, Terms, HasNumber, IsLine, IsCombination, total}
 use Rattle.bt_simplex.specs.SolvedForms.{Slots, slot_at, basis_from, basis_of, at_position, IsOutside, IsSolvedForm}
-use Rattle.bt_simplex.specs.inner.TurnedSlots.{one, IsZeroLine, IsSubstituted, IsEntered, IsTurned}
-use Rattle.bt_simplex.proofs.Numbers.{Positive, Alike, alike, itself, back, next, both_plus, both_times, swap_plus, swap_times, group_times, drop_zero, plus_positive, times_positive, times_zero, differ_none, none_differ, negated_times, adds_none}
+use Rattle.bt_simplex.specs.inner.TurnedSlots.{IsZeroLine, IsSubstituted, IsEntered, IsTurned}
+use Rattle.bt_simplex.proofs.Numbers.{Positive, nothing_some, zero_alike, Alike, alike, itself, back, next, both_plus, both_times, swap_plus, swap_times, group_times, drop_zero, plus_positive, times_positive, times_zero, differ_none, none_differ, negated_times, adds_none}
 use Rattle.bt_simplex.proofs.Standing.{stands_some}
 use Rattle.bt_simplex.proofs.Totals.{total_positive}
 use Rattle.bt_simplex.proofs.Indicators.{LacksPosition, decide, indicator, indicator_some, lacking_total, having_total, total_at, none_lacks, zero_lacks, over_zero_of, combination_lacks, number_has, times_one}
 
 one_some : Positive one
 one_some = omega arith
-
-nothing_some : Positive nothing
-nothing_some = omega arith
-
-zero_alike : (a : Ratio) → Positive a → a.over ≡ pos 0 → Alike a nothing
-zero_alike a some e = alike a nothing some nothing_some (ap (λ z. z *ℤ pos 1) e ∙ zero-*ℤ (pos 1) ∙ sym (zero-*ℤ (pos a.under)))
 
 zero_of : (a : Ratio) → Alike a nothing → a.over ≡ pos 0
 zero_of a h = over_zero_of a nothing h refl
@@ -95,28 +88,28 @@ minus_one a some =
 pub named_has : (P : ℕ → Type 0) (q : ℕ) (terms : Terms) (number : Ratio) → All (λ t. P t.0) terms → coefficient_at q terms ≡ Some number → P q
 named_has P q [] number all e = absurd cc
 named_has P q (t ∷ terms) number all e = elim (decide t.0 q) [
-    | inl same ↦ subst P same (All-head (λ u. P u.0) t terms all)
-    | inr apart ↦
-        let test : (t.0 == q) ≡ false = grind (arith, nat_tests) in
-        named_has P q terms number (All-tail (λ u. P u.0) t terms all) (sym (ap (λ b. if b then Some t.1 else coefficient_at q terms) test) ∙ e)
-  ]
+  | inl same ↦ subst P same (All-head (λ u. P u.0) t terms all)
+  | inr apart ↦
+      let test : (t.0 == q) ≡ false = grind (arith, nat_tests) in
+      named_has P q terms number (All-tail (λ u. P u.0) t terms all) (sym (ap (λ b. if b then Some t.1 else coefficient_at q terms) test) ∙ e)
+]
 
 pub named_or_lacks : (P : ℕ → Type 0) (q : ℕ) (terms : Terms) → All (λ t. P t.0) terms → P q ⊎ LacksPosition q terms
 named_or_lacks P q [] all = inr (All-nil (λ u. u.0 ≢ q))
 named_or_lacks P q (t ∷ terms) all = elim (decide t.0 q) [
-    | inl same ↦ inl (subst P same (All-head (λ u. P u.0) t terms all))
-    | inr apart ↦ elim (named_or_lacks P q terms (All-tail (λ u. P u.0) t terms all)) [
-        | inl h ↦ inl h
-        | inr lacks ↦ inr (All-cons (λ u. u.0 ≢ q) t terms apart lacks)
-      ]
+  | inl same ↦ inl (subst P same (All-head (λ u. P u.0) t terms all))
+  | inr apart ↦ elim (named_or_lacks P q terms (All-tail (λ u. P u.0) t terms all)) [
+    | inl h ↦ inl h
+    | inr lacks ↦ inr (All-cons (λ u. u.0 ≢ q) t terms apart lacks)
   ]
+]
 
 pub all_from : (P : ℕ → Type 0) (terms : Terms) → ((q : ℕ) → P q ⊎ LacksPosition q terms) → All (λ t. P t.0) terms
 all_from P [] h = All-nil (λ u. P u.0)
 all_from P (t ∷ terms) h =
     All-cons (λ u. P u.0) t terms
-    (elim (h t.0) [ | inl p ↦ p | inr lacks ↦ absurd (All-head (λ u. u.0 ≢ t.0) t terms lacks refl) ])
-    (all_from P terms (λ q. elim (h q) [ | inl p ↦ inl p | inr lacks ↦ inr (All-tail (λ u. u.0 ≢ q) t terms lacks) ]))
+    (elim (h t.0) [ inl p ↦ p | inr lacks ↦ absurd (All-head (λ u. u.0 ≢ t.0) t terms lacks refl) ])
+    (all_from P terms (λ q. elim (h q) [ inl p ↦ inl p | inr lacks ↦ inr (All-tail (λ u. u.0 ≢ q) t terms lacks) ]))
 
 -- what a changed slot was before
 changed_from : (enters : ℕ) (zero : Terms) (old new : Option Terms) (terms' : Terms) → IsSubstituted enters zero old new → new ≡ Some terms'
@@ -225,9 +218,9 @@ module _ (slots : Slots) (leaves enters : ℕ) (slots' : Slots) (turn : IsTurned
 
   pub leaves_within : leaves < length slots
   leaves_within = elim (cases_lt leaves (length slots)) [
-      | inl within ↦ within
-      | inr past ↦ let none = get_or_past slots leaves None past in let some = turn.leaving in absurd cc
-    ]
+    | inl within ↦ within
+    | inr past ↦ let none = get_or_past slots leaves None past in let some = turn.leaving in absurd cc
+  ]
 
   -- the positions outside the new basis
   outside_after : (q : ℕ) → q ≢ enters → (q ≡ leaves) ⊎ IsOutside slots q → IsOutside slots' q
@@ -248,11 +241,11 @@ module _ (slots : Slots) (leaves enters : ℕ) (slots' : Slots) (turn : IsTurned
       (λ q. elim (decide leaves q) [
         | inl same ↦ inl (inl (sym same))
         | inr other ↦ elim (named_or_lacks (λ n. IsOutside slots n) q turn.terms outside) [
-            | inl was ↦ inl (inr was)
-            | inr lacks ↦
-                inr (combination_lacks q ((leaves, turn.is_zero.share) ∷ []) (negated turn.is_zero.share) turn.terms turn.zero turn.is_zero.share_lowest.positive alone line.numbers turn.is_zero.line
-                turn.is_zero.combination (All-cons (λ u. u.0 ≢ q) (leaves, turn.is_zero.share) [] other (All-nil (λ u. u.0 ≢ q))) lacks)
-          ]
+          | inl was ↦ inl (inr was)
+          | inr lacks ↦
+              inr (combination_lacks q ((leaves, turn.is_zero.share) ∷ []) (negated turn.is_zero.share) turn.terms turn.zero turn.is_zero.share_lowest.positive alone line.numbers turn.is_zero.line
+              turn.is_zero.combination (All-cons (λ u. u.0 ≢ q) (leaves, turn.is_zero.share) [] other (All-nil (λ u. u.0 ≢ q))) lacks)
+        ]
       ])
 
   -- a combination with the line names only positions outside the new basis
@@ -263,12 +256,12 @@ module _ (slots : Slots) (leaves enters : ℕ) (slots' : Slots) (turn : IsTurned
       (λ q. elim (decide q enters) [
         | inl same ↦ inr (subst (λ n. LacksPosition n terms') (sym same) lacks)
         | inr other ↦ elim (named_or_lacks (λ n. (n ≡ enters) ⊎ IsOutside slots n) q left named) [
-            | inl has ↦ elim has [ | inl same ↦ absurd (other same) | inr was ↦ inl (outside_after q other (inr was)) ]
-            | inr lacks_left ↦ elim (named_or_lacks (λ n. (n ≡ leaves) ⊎ IsOutside slots n) q turn.zero zero_named) [
-                | inl has ↦ inl (outside_after q other has)
-                | inr lacks_zero ↦ inr (combination_lacks q left number turn.zero terms' some all turn.is_zero.line.numbers line' is lacks_left lacks_zero)
-              ]
+          | inl has ↦ elim has [ inl same ↦ absurd (other same) | inr was ↦ inl (outside_after q other (inr was)) ]
+          | inr lacks_left ↦ elim (named_or_lacks (λ n. (n ≡ leaves) ⊎ IsOutside slots n) q turn.zero zero_named) [
+            | inl has ↦ inl (outside_after q other has)
+            | inr lacks_zero ↦ inr (combination_lacks q left number turn.zero terms' some all turn.is_zero.line.numbers line' is lacks_left lacks_zero)
           ]
+        ]
       ])
 
   -- a line that stays lacks the entering position
@@ -277,7 +270,7 @@ module _ (slots : Slots) (leaves enters : ℕ) (slots' : Slots) (turn : IsTurned
       all_from (λ q. IsOutside slots' q) terms
       (λ q. elim (decide q enters) [
         | inl same ↦ inr (subst (λ n. LacksPosition n terms) (sym same) (none_lacks enters terms none))
-        | inr other ↦ elim (named_or_lacks (λ n. IsOutside slots n) q terms named) [ | inl was ↦ inl (outside_after q other (inr was)) | inr lacks ↦ inr lacks ]
+        | inr other ↦ elim (named_or_lacks (λ n. IsOutside slots n) q terms named) [ inl was ↦ inl (outside_after q other (inr was)) | inr lacks ↦ inr lacks ]
       ])
 
   entering_named : All (λ t. IsOutside slots' t.0) turn.entering
@@ -299,24 +292,24 @@ module _ (slots : Slots) (leaves enters : ℕ) (slots' : Slots) (turn : IsTurned
   lines_after : ((p : ℕ) (terms : Terms) → slot_at slots p ≡ Some terms → IsLine terms × All (λ t. IsOutside slots t.0) terms)
       → (p : ℕ) (terms : Terms) → slot_at slots' p ≡ Some terms → IsLine terms × All (λ t. IsOutside slots' t.0) terms
   lines_after lines p terms' e = elim (decide p enters) [
-      | inl same ↦
-          let is = entering_is terms' (sym (ap (λ n. slot_at slots' n) same) ∙ e) in
-          (subst (λ l. IsLine l) is turn.is_entering.line, subst (λ l. All (λ t. IsOutside slots' t.0) l) is entering_named)
-      | inr other ↦
-          let old = was p terms' other e in
-          let before = lines p old.0 old.1 in
-          elim old.2 [
-            | inl stays ↦
-                (subst (λ l. IsLine l) (sym stays.1) before.0, subst (λ l. All (λ t. IsOutside slots' t.0) l) (sym stays.1) (stayed_after old.0 stays.0 before.1))
-            | inr changed ↦
-                let number = number_has enters old.0 (Some changed.0) before.0.numbers (sym changed.1) in (
-                  changed.2,
-                  named_after old.0 changed.0 terms' number.0.positive before.0.numbers changed.2 changed.3
-                  (cancelled old.0 changed.0 terms' number.0 before.0.numbers changed.2 changed.3 (total_at enters 0 old.0 changed.0 before.0 changed.1))
-                  (all_from (λ q. (q ≡ enters) ⊎ IsOutside slots q) old.0 (λ q. elim (named_or_lacks (λ n. IsOutside slots n) q old.0 before.1) [ | inl o ↦ inl (inr o) | inr lacks ↦ inr lacks ])),
-                )
-          ]
-    ]
+    | inl same ↦
+        let is = entering_is terms' (sym (ap (λ n. slot_at slots' n) same) ∙ e) in
+        (subst (λ l. IsLine l) is turn.is_entering.line, subst (λ l. All (λ t. IsOutside slots' t.0) l) is entering_named)
+    | inr other ↦
+        let old = was p terms' other e in
+        let before = lines p old.0 old.1 in
+        elim old.2 [
+          | inl stays ↦
+              (subst (λ l. IsLine l) (sym stays.1) before.0, subst (λ l. All (λ t. IsOutside slots' t.0) l) (sym stays.1) (stayed_after old.0 stays.0 before.1))
+          | inr changed ↦
+              let number = number_has enters old.0 (Some changed.0) before.0.numbers (sym changed.1) in (
+                changed.2,
+                named_after old.0 changed.0 terms' number.0.positive before.0.numbers changed.2 changed.3
+                    (cancelled old.0 changed.0 terms' number.0 before.0.numbers changed.2 changed.3 (total_at enters 0 old.0 changed.0 before.0 changed.1))
+                    (all_from (λ q. (q ≡ enters) ⊎ IsOutside slots q) old.0 (λ q. elim (named_or_lacks (λ n. IsOutside slots n) q old.0 before.1) [ inl o ↦ inl (inr o) | inr lacks ↦ inr lacks ])),
+              )
+        ]
+  ]
 
   -- the entering line holds where the leaving one does
   entering_holds : (at : ℕ → Ratio) → AreValues at → SameRatio (at leaves) (total at turn.terms) → Alike (at enters) (total at turn.entering)
@@ -328,23 +321,23 @@ module _ (slots : Slots) (leaves enters : ℕ) (slots' : Slots) (turn : IsTurned
       → ((p : ℕ) (terms : Terms) → slot_at slots p ≡ Some terms → SameRatio (at p) (total at terms))
       → (p : ℕ) (terms : Terms) → slot_at slots' p ≡ Some terms → SameRatio (at p) (total at terms)
   holds_after at values lines holds p terms' e = elim (decide p enters) [
-      | inl same ↦
-          let is = entering_is terms' (sym (ap (λ n. slot_at slots' n) same) ∙ e) in
-          subst (λ n. SameRatio (at n) (total at terms')) (sym same)
-          (subst (λ l. SameRatio (at enters) (total at l)) is (entering_holds at values (holds leaves turn.terms turn.leaving)).same)
-      | inr other ↦
-          let old = was p terms' other e in
-          let before = lines p old.0 old.1 in
-          let held = holds p old.0 old.1 in
-          elim old.2 [
-            | inl stays ↦ subst (λ l. SameRatio (at p) (total at l)) (sym stays.1) held
-            | inr changed ↦
-                let number = number_has enters old.0 (Some changed.0) before.0.numbers (sym changed.1) in
-                (next (alike (at p) (total at old.0) (values p) (total_positive at values old.0 before.0.numbers) held)
-                (back (plus_none at values old.0 changed.0 turn.zero terms' number.0.positive before.0.numbers turn.is_zero.line.numbers changed.2 changed.3
-                (zero_none at values (holds leaves turn.terms turn.leaving))))).same
-          ]
-    ]
+    | inl same ↦
+        let is = entering_is terms' (sym (ap (λ n. slot_at slots' n) same) ∙ e) in
+        subst (λ n. SameRatio (at n) (total at terms')) (sym same)
+        (subst (λ l. SameRatio (at enters) (total at l)) is (entering_holds at values (holds leaves turn.terms turn.leaving)).same)
+    | inr other ↦
+        let old = was p terms' other e in
+        let before = lines p old.0 old.1 in
+        let held = holds p old.0 old.1 in
+        elim old.2 [
+          | inl stays ↦ subst (λ l. SameRatio (at p) (total at l)) (sym stays.1) held
+          | inr changed ↦
+              let number = number_has enters old.0 (Some changed.0) before.0.numbers (sym changed.1) in
+              (next (alike (at p) (total at old.0) (values p) (total_positive at values old.0 before.0.numbers) held)
+              (back (plus_none at values old.0 changed.0 turn.zero terms' number.0.positive before.0.numbers turn.is_zero.line.numbers changed.2 changed.3
+              (zero_none at values (holds leaves turn.terms turn.leaving))))).same
+        ]
+  ]
 
   -- numbers outside the new basis, with what the entering line makes of them at the position that entered
   along : (ℕ → Ratio) → ℕ → Ratio
@@ -360,9 +353,9 @@ module _ (slots : Slots) (leaves enters : ℕ) (slots' : Slots) (turn : IsTurned
 
   along_some : (numbers : ℕ → Ratio) → AreValues numbers → AreValues (along numbers)
   along_some numbers values q = elim (decide q enters) [
-      | inl same ↦ subst (λ n. Positive (along numbers n)) (sym same) (subst (λ r. Positive r) (sym (along_entering numbers)) (total_positive numbers values turn.entering turn.is_entering.line.numbers))
-      | inr other ↦ subst (λ r. Positive r) (sym (along_other numbers q other)) (values q)
-    ]
+    | inl same ↦ subst (λ n. Positive (along numbers n)) (sym same) (subst (λ r. Positive r) (sym (along_entering numbers)) (total_positive numbers values turn.entering turn.is_entering.line.numbers))
+    | inr other ↦ subst (λ r. Positive r) (sym (along_other numbers q other)) (values q)
+  ]
 
   -- they make the line 0
   along_zero : (numbers : ℕ → Ratio) → AreValues numbers → Alike (total (along numbers) turn.zero) nothing
@@ -468,13 +461,13 @@ basis_after slots leaves enters slots' turn apart within out =
           subst (λ n. weight (slot_at slots' n) ≡ weight (slot_at both n)) (sym e)
           (ap weight turn.entered ∙ sym (ap weight (get_or-set_same left enters (Some turn.entering) None inside)))
       | inr other ↦ elim (decide p leaves) [
-          | inl e ↦
-              subst (λ n. weight (slot_at slots' n) ≡ weight (slot_at both n)) (sym e)
-              (ap weight turn.left ∙ sym (ap weight (get_or-set_other left enters leaves (Some turn.entering) None apart ∙ get_or-set_same slots leaves None None within)))
-          | inr stays ↦
-              substituted_weight enters turn.zero (slot_at slots p) (slot_at slots' p) (turn.others p stays other)
-              ∙ sym (ap weight (get_or-set_other left enters p (Some turn.entering) None other ∙ get_or-set_other slots leaves p None None stays))
-        ]
+        | inl e ↦
+            subst (λ n. weight (slot_at slots' n) ≡ weight (slot_at both n)) (sym e)
+            (ap weight turn.left ∙ sym (ap weight (get_or-set_other left enters leaves (Some turn.entering) None apart ∙ get_or-set_same slots leaves None None within)))
+        | inr stays ↦
+            substituted_weight enters turn.zero (slot_at slots p) (slot_at slots' p) (turn.others p stays other)
+            ∙ sym (ap weight (get_or-set_other left enters p (Some turn.entering) None other ∙ get_or-set_other slots leaves p None None stays))
+      ]
     ]) in
     let none : weight None ≡ 0 = refl in
     let one_more : weight (Some turn.entering) ≡ 1 = refl in

@@ -1,17 +1,14 @@
 -- The walk over two lines: what is written so far, and what is left of both.
-use Rattle.std.proofs.Common.{◌≡◌, ◌≢◌, ℕ, ◌+◌, ◌-◌, ◌*◌, ◌^◌, ◌<◌, ◌≤◌, arith, pos, ◌*ℤ◌, List, [], ◌∷◌, ◌++◌, length, Option, Some, None, ap, sym, ◌∙◌, refl, subst, append_assoc, append-nil}
+use Rattle.std.proofs.Common.{◌≡◌, ℕ, ◌+◌, ◌-◌, ◌*◌, ◌^◌, ◌<◌, ◌≤◌, arith, pos, ◌*ℤ◌, [], ◌∷◌, ◌++◌, Option, Some, None, ap, sym, ◌∙◌, refl, subst, append_assoc, append-nil}
 use Rattle.std.specs.List.{All}
-use Rattle.std.proofs.lemmas.List.Elements.{All-head, All-tail, All-cons, All-nil, All-append}
+use Rattle.std.proofs.lemmas.List.Elements.{All-head, All-tail, All-cons, All-nil}
 use Rattle.std.proofs.Math.IntN.{zero-*ℤ}
 use Rattle.bt_frac.specs.Ratio.{Ratio, SameRatio, IsLowest}
 use Rattle.bt_frac.specs.Values.{AreValues, nothing, plus, times}
 use Rattle.bt_simplex.specs.Lines.{Terms, HasNumber, IsLine, IsLineFrom, IsCombination, total}
-use Rattle.bt_simplex.specs.inner.Steps.{IsStep, IsNext, term_total}
-use Rattle.bt_simplex.proofs.Numbers.{Positive, Alike, alike, itself, back, next, both_plus, group_plus, swap_plus, drop_zero, plus_positive, times_positive, times_zero}
+use Rattle.bt_simplex.specs.inner.Steps.{IsStep, term_total}
+use Rattle.bt_simplex.proofs.Numbers.{Positive, nothing_some, Alike, alike, itself, back, next, both_plus, group_plus, swap_plus, drop_zero, plus_positive, times_positive, times_zero}
 use Rattle.bt_simplex.proofs.Totals.{total_positive}
-
-nothing_some : Positive nothing
-nothing_some = omega arith
 
 -- what is written grows by a term
 pub total_push : (at : ℕ → Ratio) → AreValues at → (terms : Terms) (t : ℕ × Ratio) → All HasNumber terms → Positive t.1

@@ -1,10 +1,14 @@
 -- Lines: sums of numbers times what stands at positions, of which only those that aren't 0 are kept.
-use Rattle.std.specs.Prelude.{◌≡◌, ◌≢◌, ℕ, pos, List}
+use Rattle.std.specs.Prelude.{◌≢◌, ℕ, pos, List}
 use Rattle.std.specs.List.{All}
 use Rattle.bt_frac.specs.Ratio.{Ratio, SameRatio, IsLowest}
 use Rattle.bt_frac.specs.Columns.{AreColumnsFrom}
 use Rattle.bt_frac.specs.Rows.{columns_of}
 use Rattle.bt_frac.specs.Values.{AreValues, plus, times, valued, sum_of_products}
+
+-- the whole number 1
+abbrev pub one : Ratio
+one = record { over = pos 1; under = 1 }
 
 -- positions, each with its number
 abbrev pub Terms : Type 0

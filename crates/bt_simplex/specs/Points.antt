@@ -1,5 +1,5 @@
 -- Where the positions of a tableau stand at its basis, with an infinitesimal for strict bounds.
-use Rattle.std.specs.Prelude.{ℕ, ◌-◌, pos, nat_lt, false, Option, Some, None, slice_index_or, if◌then◌else◌}
+use Rattle.std.specs.Prelude.{ℕ, ◌-◌, nat_lt, false, Option, Some, None, slice_index_or, if◌then◌else◌}
 use Rattle.bt_frac.specs.Ratio.{Ratio}
 use Rattle.bt_frac.specs.Rows.{RowParts}
 use Rattle.bt_frac.specs.Values.{nothing}
@@ -7,14 +7,14 @@ use Rattle.bt_frac.specs.declared.delta.Delta.{Delta}
 use Rattle.bt_frac.specs.declared.row.Relation.{Relation}
 use Rattle.bt_frac.specs.declared.row.Relation.TheVariants.{AtLeast, Above, Equal}
 use Rattle.bt_lin.specs.WeightedRows.{empty_row}
-use Rattle.bt_simplex.specs.Lines.{Terms, total}
+use Rattle.bt_simplex.specs.Lines.{one, Terms, total}
 use Rattle.bt_simplex.specs.SolvedForms.{slot_at}
 use Rattle.bt_simplex.specs.Tableaus.{TableauParts}
 
 -- how often the infinitesimal stands in a bound of this relation: once where it is strict
 abbrev pub tiny_of : Relation → Ratio
 tiny_of AtLeast = nothing
-tiny_of Above = record { over = pos 1; under = 1 }
+tiny_of Above = one
 tiny_of Equal = nothing
 
 -- the least that the sum of a row may be: its bound, and for a strict row the infinitesimal more

@@ -1,8 +1,7 @@
 -- A tableau: rows over columns, which of the rows are bound, and a basis with its solved form.
-use Rattle.std.specs.Prelude.{◌≡◌, ℕ, ◌+◌, ◌<◌, List, [], ◌∷◌, length, Bool, false, if◌then◌else◌, ◌==◌, unsigned_abs, replicate, slice_set}
+use Rattle.std.specs.Prelude.{◌≡◌, ℕ, ◌+◌, ◌<◌, List, [], ◌∷◌, length, Bool, false, replicate, slice_set}
 use Rattle.std.specs.List.{All}
 use Rattle.bt_frac.specs.Rows.{RowParts, IsRow}
-use Rattle.bt_simplex.specs.Lines.{Terms}
 use Rattle.bt_simplex.specs.SolvedForms.{Slots, IsSolvedForm, basis_of}
 
 -- the rows and columns, for each row whether it is bound, and for each position of the basis its line

@@ -1,5 +1,5 @@
 -- Turns of a basis by Bland's rule: the least position that fails leaves, and the least that can enter does.
-use Rattle.std.specs.Prelude.{◌≡◌, ◌≢◌, ◌⊎◌, ◌↔◌, ℕ, ◌≤◌, pos, ◌<ℤ◌, List, [], ◌∷◌, Option, Some, None}
+use Rattle.std.specs.Prelude.{◌≡◌, ◌≢◌, ◌⊎◌, ◌↔◌, ℕ, ◌≤◌, pos, ◌<ℤ◌, List, [], ◌∷◌, Some, None}
 use Rattle.bt_frac.specs.Ratio.{Ratio}
 use Rattle.bt_frac.specs.Rows.{RowParts}
 use Rattle.bt_frac.specs.Deltas.{IsLessDelta}

@@ -14,5 +14,5 @@ mod turning;
 pub use law::one_solved_form;
 pub use line::{Line, Term};
 pub use starting::are_over;
-pub use tableau::{Tableau, Turn};
 pub use std::alloc::AllocError as Memory;
+pub use tableau::{Tableau, Turn};

@@ -36,10 +36,18 @@ impl Model for Tableau {
     ghost Value = { TableauParts };
 
     ghost view = { λ t. record {
-        rows = t.rows.items; columns = t.columns; bound = t.bound.items; slots = t.slots.items } };
+      rows = t.rows.items;
+      columns = t.columns;
+      bound = t.bound.items;
+      slots = t.slots.items;
+    } };
 
     ghost invariant = { λ t. IsTableau (record {
-        rows = t.rows.items; columns = t.columns; bound = t.bound.items; slots = t.slots.items }) };
+      rows = t.rows.items;
+      columns = t.columns;
+      bound = t.bound.items;
+      slots = t.slots.items;
+    }) };
 }
 
 impl Tableau {

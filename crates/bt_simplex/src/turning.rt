@@ -83,11 +83,7 @@ fn substitute(
 
 /// The line of the entering position: the position itself and a line that is 0 and has its number -1
 /// there. None where a product or a sum doesn't fit.
-fn entering_line(
-    alloc: Global,
-    enters: usize,
-    zero: &[Term],
-) -> Result<Option<Line>, AllocError>
+fn entering_line(alloc: Global, enters: usize, zero: &[Term]) -> Result<Option<Line>, AllocError>
     requires position { enters < 2 ^ 64 - 1 }
     requires line { IsLine zero.now }
     ensures { IfOk result (λ o. IfSome o (IsEntering enters zero.now)) }

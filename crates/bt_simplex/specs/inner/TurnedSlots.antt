@@ -1,16 +1,12 @@
 -- A turn of a basis, slot by slot.
-use Rattle.std.specs.Prelude.{◌≡◌, ◌≢◌, ℕ, ◌⊎◌, pos, List, [], ◌∷◌, length, Option, Some, None}
+use Rattle.std.specs.Prelude.{◌≡◌, ◌≢◌, ℕ, ◌⊎◌, [], ◌∷◌, length, Option, Some, None}
 use Rattle.bt_frac.specs.Ratio.{Ratio, IsLowest, negated}
 use Rattle.bt_frac.specs.Products.{IsDivision}
 use Rattle.bt_lin.specs.WeightedRows.{coefficient_at}
-use Rattle.bt_simplex.specs.Lines.{Terms, IsLine, IsCombination}
+use Rattle.bt_simplex.specs.Lines.{one, Terms, IsLine, IsCombination}
 use Rattle.bt_simplex.specs.declared.turning.Change.{Change}
 use Rattle.bt_simplex.specs.declared.turning.Change.TheVariants.{Stays, Line, Wide}
 use Rattle.bt_simplex.specs.SolvedForms.{Slots, slot_at}
-
--- the whole number 1
-abbrev pub one : Ratio
-one = record { over = pos 1; under = 1 }
 
 -- 1 over the number times the position less its line: where the line holds, this is 0
 pub record IsZeroLine (position : ℕ) (terms : Terms) (number : Ratio) (zero : Terms) : Type 0 where

@@ -1,4 +1,4 @@
-use Rattle.std.proofs.Common.{refl, ◌≡◌, ◌≢◌, ◌∙◌, sym, pos}
+use Rattle.std.proofs.Common.{refl, ◌≢◌, ◌∙◌, sym, pos}
 use Rattle.std.proofs.lemmas.Bool.{false≢true}
 use Rattle.bt_simplex.proofs.merging.added.Goals as goal
 

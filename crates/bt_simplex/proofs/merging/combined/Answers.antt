@@ -1,4 +1,4 @@
-use Rattle.std.proofs.Common.{◌≡◌, [], sym, subst, Some, None, IfSome, length, arith}
+use Rattle.std.proofs.Common.{sym, subst}
 use Rattle.bt_simplex.specs.inner.Steps.{IsStep}
 use Rattle.bt_simplex.proofs.Walks.{IsWalk, walk_begins, walk_stays, walk_grows, walk_ends, walk_line}
 use Rattle.bt_simplex.proofs.merging.combined.Goals as goal

@@ -1,4 +1,4 @@
-use Rattle.std.proofs.Common.{◌<◌, ◌≡◌, arith, sym}
+use Rattle.std.proofs.Common.{◌<◌, ◌≡◌, arith}
 use Rattle.bt_simplex.proofs.Totals.{step_first, step_before, step_second, step_after, step_same}
 use Rattle.bt_simplex.proofs.merging.first_term.Goals as goal
 

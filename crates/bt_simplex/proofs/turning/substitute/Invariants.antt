@@ -1,4 +1,3 @@
-use Rattle.std.proofs.Common.{◌≡◌, ℕ, ◌<◌, ◌≤◌, length, get_or, None}
 use Rattle.bt_simplex.proofs.Substitutions.{ArePartlySubstituted}
 use Rattle.bt_simplex.proofs.turning.substitute.Given as goal
 

@@ -1,4 +1,4 @@
-use Rattle.std.proofs.Common.{◌≡◌, subst, ap, sym, ◌∙◌}
+use Rattle.std.proofs.Common.{ap, ◌∙◌}
 use Rattle.bt_lin.specs.WeightedRows.{coefficient_at}
 use Rattle.bt_simplex.proofs.Indicators.{number_has}
 use Rattle.bt_simplex.proofs.line.Line.number_at.Goals as goal

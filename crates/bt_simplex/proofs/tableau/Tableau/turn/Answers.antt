@@ -1,4 +1,4 @@
-use Rattle.std.proofs.Common.{◌<◌, ap, sym, subst, length, IfSome}
+use Rattle.std.proofs.Common.{◌<◌, sym, subst, length, IfSome}
 use Rattle.bt_simplex.specs.Turns.{CanTurn, IsTurnedBy}
 use Rattle.bt_simplex.specs.Tableaus.{TableauParts}
 use Rattle.bt_simplex.specs.inner.TurnedSlots.{IsTurned}
