@@ -1,0 +1,11 @@
+pub mod Indicators
+pub mod Numbers
+pub mod OneForm
+pub mod Standing
+pub mod FirstForms
+pub mod FirstLines
+pub mod Substitutions
+pub mod TableauTurns
+pub mod Totals
+pub mod Turned
+pub mod Walks

@@ -1,0 +1,30 @@
+use Rattle.std.proofs.Common.{sym, subst}
+use Rattle.bt_simplex.specs.inner.Steps.{IsStep}
+use Rattle.bt_simplex.proofs.Walks.{IsWalk, walk_begins, walk_stays, walk_grows, walk_ends, walk_line}
+use Rattle.bt_simplex.proofs.merging.combined.Goals as goal
+
+pub loop-first-init : goal.loop-first-init
+loop-first-init c =
+    subst (λ items. IsWalk c.args.left.now c.args.factor.now c.args.right.now items c.args.left.now c.args.right.now) (sym c.new-terms.ensures.items)
+    (walk_begins c.args.left.now c.args.factor.now c.args.right.now c.requires.lowest c.requires.left c.requires.right)
+
+pub loop-first-preserved-in_ok-push : goal.loop-first-preserved-in_ok-push
+loop-first-preserved-in_ok-push c =
+    let step = subst (λ t. IsStep c.loop-first.first.now c.args.factor.now c.loop-first.second.now t c.in-Some.first_rest.now c.in-Some.second_rest.now) c.in-Some-term.is c.in-Some.ensures in
+    subst (λ items. IsWalk c.args.left.now c.args.factor.now c.args.right.now items c.in-Some.first_rest.now c.in-Some.second_rest.now) (sym c.in_ok-push.ensures.items)
+    (walk_grows c.args.left.now c.args.factor.now c.args.right.now c.loop-first.terms.items c.loop-first.first.now c.loop-first.second.now c.in-Some.first_rest.now c.in-Some.second_rest.now
+    c.requires.lowest c.in-Some-term.term c.loop-first.invariant step)
+
+pub loop-first-preserved : goal.loop-first-preserved
+loop-first-preserved c =
+    let step = subst (λ t. IsStep c.loop-first.first.now c.args.factor.now c.loop-first.second.now t c.in-Some.first_rest.now c.in-Some.second_rest.now) c.in_default-term.is c.in-Some.ensures in
+    walk_stays c.args.left.now c.args.factor.now c.args.right.now c.loop-first.terms.items c.loop-first.first.now c.loop-first.second.now c.in-Some.first_rest.now c.in-Some.second_rest.now
+    c.requires.lowest c.loop-first.invariant step
+
+pub returns-clause-line : goal.returns-clause-line
+returns-clause-line c = walk_line c.args.left.now c.args.factor.now c.args.right.now c.loop-first.terms.items c.loop-first.first.now c.loop-first.second.now c.loop-first.invariant
+
+pub returns-clause-sum : goal.returns-clause-sum
+returns-clause-sum c =
+    let done = c.are_empty.ensures.0 c.loop-first-test.false in
+    walk_ends c.args.left.now c.args.factor.now c.args.right.now c.loop-first.terms.items c.loop-first.first.now c.loop-first.second.now c.requires.lowest done.0 done.1 c.loop-first.invariant

@@ -1,0 +1,76 @@
+-- Turns of a basis by Bland's rule: the least position that fails leaves, and the least that can enter does.
+use Rattle.std.specs.Prelude.{◌≡◌, ◌≢◌, ◌⊎◌, ◌↔◌, ℕ, ◌≤◌, pos, ◌<ℤ◌, List, [], ◌∷◌, Some, None}
+use Rattle.bt_frac.specs.Ratio.{Ratio}
+use Rattle.bt_frac.specs.Rows.{RowParts}
+use Rattle.bt_frac.specs.Deltas.{IsLessDelta}
+use Rattle.bt_frac.specs.declared.delta.Delta.{Delta}
+use Rattle.bt_frac.specs.declared.row.Relation.TheVariants.{Equal}
+use Rattle.bt_lin.specs.WeightedRows.{coefficient_at}
+use Rattle.bt_simplex.specs.Lines.{Terms}
+use Rattle.bt_simplex.specs.SolvedForms.{Slots, slot_at, IsSolvedForm}
+use Rattle.bt_simplex.specs.Tableaus.{TableauParts}
+use Rattle.bt_simplex.specs.Points.{bound_value, bound_row, point_at}
+use Rattle.bt_simplex.specs.declared.tableau.Turn.{Turn}
+
+-- the position is in the basis
+abbrev pub InBasis : Slots → ℕ → Type 0
+InBasis slots position = (terms : Terms) × (slot_at slots position ≡ Some terms)
+
+-- the line of the first position names the second, which is outside the basis
+abbrev pub CanTurn : Slots → Turn → Type 0
+CanTurn slots turn = (terms : Terms) × (slot_at slots turn.leaves ≡ Some terms) × ((number : Ratio) × (coefficient_at turn.enters terms ≡ Some number))
+
+-- a bound row doesn't hold where it stands: it is below its bound value, or it is an equation and above it
+abbrev pub Breaks : RowParts → Delta → Type 0
+Breaks row point = IsLessDelta point (bound_value row) ⊎ ((row.relation ≡ Equal) × IsLessDelta (bound_value row) point)
+
+-- the position is in the basis, and it is a bound row that doesn't hold at the point
+pub record Fails (t : TableauParts) (position : ℕ) : Type 0 where
+  pub basic : InBasis t.slots position
+  pub row : RowParts
+  pub is_bound : bound_row t position ≡ Some row
+  pub breaks : Breaks row (point_at t position)
+
+-- a position with this number in the row's line moves it towards its bound value where it is raised
+abbrev pub MovesTowards : RowParts → Delta → Ratio → Type 0
+MovesTowards row point number =
+    (IsLessDelta point (bound_value row) × (pos 0 <ℤ number.over)) ⊎ (IsLessDelta (bound_value row) point × (number.over <ℤ pos 0))
+
+-- the position may be moved: it is a column or a row that isn't bound, or a bound row that is no equation, and raising it moves the failing row towards its bound value
+abbrev pub MayMove : TableauParts → ℕ → ℕ → Ratio → Type 0
+MayMove t fails enters number =
+    (bound_row t enters ≡ None)
+    ⊎ ((other : RowParts) × (bound_row t enters ≡ Some other) × (other.relation ≢ Equal)
+    × ((row : RowParts) × (bound_row t fails ≡ Some row) × MovesTowards row (point_at t fails) number))
+
+-- the failing position's line names the position, which may be moved
+pub record CanEnter (t : TableauParts) (fails enters : ℕ) : Type 0 where
+  pub terms : Terms
+  pub line : slot_at t.slots fails ≡ Some terms
+  pub number : Ratio
+  pub names : coefficient_at enters terms ≡ Some number
+  pub may_move : MayMove t fails enters number
+
+-- the position has the property, and no lesser one has it
+abbrev pub IsLeast : (ℕ → Type 0) → ℕ → Type 0
+IsLeast P position = P position × ((other : ℕ) → P other → position ≤ other)
+
+-- the turn of Bland's rule
+pub record IsBlandTurn (t : TableauParts) (turn : Turn) : Type 0 where
+  pub leaves : IsLeast (λ p. Fails t p) turn.leaves
+  pub enters : IsLeast (λ e. CanEnter t turn.leaves e) turn.enters
+
+-- no position fails, or none can enter for the least that does
+abbrev pub IsFinal : TableauParts → Type 0
+IsFinal t = ((position : ℕ) → Fails t position → ⊥) ⊎ ((position : ℕ) × IsLeast (λ p. Fails t p) position × ((enters : ℕ) → CanEnter t position enters → ⊥))
+
+-- the same rows with the same ones bound, and a basis that one position has left and one has entered
+pub record IsTurnedBy (turn : Turn) (t t' : TableauParts) : Type 0 where
+  pub stays : t' ≡ record t { slots = t'.slots }
+  pub solved : IsSolvedForm t.rows t.columns t'.slots
+  pub basis : (position : ℕ) → InBasis t'.slots position ↔ ((position ≡ turn.enters) ⊎ (InBasis t.slots position × (position ≢ turn.leaves)))
+
+-- turns of Bland's rule, one after the other, lead from the first tableau to the second
+abbrev pub Follows : TableauParts → List Turn → TableauParts → Type 0
+Follows t [] t' = t ≡ t'
+Follows t (turn ∷ turns) t' = (between : TableauParts) × IsBlandTurn t turn × IsTurnedBy turn t between × Follows between turns t'

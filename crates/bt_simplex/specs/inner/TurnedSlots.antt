@@ -1,0 +1,63 @@
+-- A turn of a basis, slot by slot.
+use Rattle.std.specs.Prelude.{◌≡◌, ◌≢◌, ℕ, ◌⊎◌, [], ◌∷◌, length, Option, Some, None}
+use Rattle.bt_frac.specs.Ratio.{Ratio, IsLowest, negated}
+use Rattle.bt_frac.specs.Products.{IsDivision}
+use Rattle.bt_lin.specs.WeightedRows.{coefficient_at}
+use Rattle.bt_simplex.specs.Lines.{one, Terms, IsLine, IsCombination}
+use Rattle.bt_simplex.specs.declared.turning.Change.{Change}
+use Rattle.bt_simplex.specs.declared.turning.Change.TheVariants.{Stays, Line, Wide}
+use Rattle.bt_simplex.specs.SolvedForms.{Slots, slot_at}
+
+-- 1 over the number times the position less its line: where the line holds, this is 0
+pub record IsZeroLine (position : ℕ) (terms : Terms) (number : Ratio) (zero : Terms) : Type 0 where
+  pub line : IsLine zero
+  pub share : Ratio
+  pub share_lowest : IsLowest share
+  pub is_share : IsDivision one number share
+  pub combination : IsCombination ((position, share) ∷ []) (negated share) terms zero
+
+-- the slot's line lacks the position, or the new one has its number there times the zero line added to it
+abbrev pub IsSubstituted : ℕ → Terms → Option Terms → Option Terms → Type 0
+IsSubstituted position zero None slot = slot ≡ None
+IsSubstituted position zero (Some terms) slot =
+    ((coefficient_at position terms ≡ None) × (slot ≡ Some terms))
+    ⊎ ((number : Ratio) × (coefficient_at position terms ≡ Some number) × ((terms' : Terms) × (slot ≡ Some terms') × IsLine terms' × IsCombination terms number zero terms'))
+
+-- the same of every slot
+pub record AreSubstituted (position : ℕ) (zero : Terms) (slots slots' : Slots) : Type 0 where
+  pub same_length : length slots' ≡ length slots
+  pub each : (other : ℕ) → IsSubstituted position zero (slot_at slots other) (slot_at slots' other)
+
+-- what a turn makes of a slot
+abbrev pub IsChange : ℕ → Terms → Option Terms → Change → Type 0
+IsChange position zero slot Stays = IsSubstituted position zero slot slot
+IsChange position zero slot (Line line) = IsSubstituted position zero slot (Some line)
+IsChange position zero slot Wide = Unit {0}
+
+-- the position and the zero line, which has its number -1 there
+pub record IsEntering (position : ℕ) (zero entering : Terms) : Type 0 where
+  pub line : IsLine entering
+  pub combination : IsCombination ((position, one) ∷ []) one zero entering
+
+-- the position has its line, and every other slot is changed by the zero line
+pub record IsEntered (position : ℕ) (zero : Terms) (slots slots' : Slots) : Type 0 where
+  pub same_length : length slots' ≡ length slots
+  pub others : (other : ℕ) → other ≢ position → IsSubstituted position zero (slot_at slots other) (slot_at slots' other)
+  pub entering : Terms
+  pub entered : slot_at slots' position ≡ Some entering
+  pub is_entering : IsEntering position zero entering
+
+-- a position leaves the basis and another enters it
+pub record IsTurned (slots : Slots) (leaves enters : ℕ) (slots' : Slots) : Type 0 where
+  pub same_length : length slots' ≡ length slots
+  pub terms : Terms
+  pub leaving : slot_at slots leaves ≡ Some terms
+  pub number : Ratio
+  pub is_number : coefficient_at enters terms ≡ Some number
+  pub zero : Terms
+  pub is_zero : IsZeroLine leaves terms number zero
+  pub others : (position : ℕ) → position ≢ leaves → position ≢ enters → IsSubstituted enters zero (slot_at slots position) (slot_at slots' position)
+  pub left : slot_at slots' leaves ≡ None
+  pub entering : Terms
+  pub entered : slot_at slots' enters ≡ Some entering
+  pub is_entering : IsEntering enters zero entering

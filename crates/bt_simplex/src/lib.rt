@@ -1,0 +1,18 @@
+//! Linear constraints solved by turns of a basis: values that meet the rows that are bound, or rows and
+//! weights that show that no values do.
+#![tactic(auto)]
+
+mod law;
+mod line;
+mod merging;
+mod starting;
+mod tableau;
+#[cfg(test)]
+mod tests;
+mod turning;
+
+pub use law::one_solved_form;
+pub use line::{Line, Term};
+pub use starting::are_over;
+pub use std::alloc::AllocError as Memory;
+pub use tableau::{Tableau, Turn};

@@ -1,0 +1,109 @@
+//! The first basis of a tableau: the rows, whose terms are their lines as they are given.
+ghost use Rattle.std.specs.Prelude.{◌≡◌, ◌<◌, IfOk, IsTrue, replicate, false};
+ghost use Rattle.std.specs.List.{All};
+ghost use Rattle.bt_frac.specs.Rows.{IsRow};
+ghost use Rattle.bt_simplex.specs.Tableaus.{AreOverColumns};
+ghost use Rattle.bt_simplex.specs.inner.Starts.{kept, start_slots};
+
+use crate::line::{Line, Term};
+use crate::merging::is_zero;
+use bt_frac::Row;
+use std::alloc::{AllocError, Global};
+
+/// The line of a row: its terms whose numbers aren't 0.
+pub fn row_line(alloc: Global, row: &Row) -> Result<Line, AllocError>
+    ensures line { IfOk result (λ line. line ≡ kept row.now.terms) }
+    ensures known { IsRow row.now }
+{
+    let terms = kept_terms(alloc, row.terms())?;
+    Ok(Line { terms })
+}
+
+/// The terms whose numbers aren't 0.
+fn kept_terms(alloc: Global, terms: &[Term]) -> Result<Vec<Term>, AllocError>
+    ensures { IfOk result (λ v. v.items ≡ kept terms.now) }
+{
+    let mut left = Vec::new(alloc);
+    for (position, number) in terms {
+        if !is_zero(number) {
+            left.push((*position, *number))?;
+        }
+    }
+    Ok(left)
+}
+
+/// An empty slot for each column, and for each row its line.
+pub fn first_slots(
+    alloc: Global,
+    rows: &[Row],
+    columns: usize,
+) -> Result<Vec<Option<Line>>, AllocError>
+    ensures { IfOk result (λ v. v.items ≡ start_slots rows.now columns) }
+{
+    let mut slots = Vec::new(alloc);
+    for _ in 0..columns {
+        slots.push(None)?;
+    }
+    for row in rows {
+        let line = row_line(alloc, row)?;
+        slots.push(Some(line))?;
+    }
+    Ok(slots)
+}
+
+/// Tells a proof that each row of a list is a row. It does nothing when it runs.
+pub fn all_known(rows: &[Row])
+    ensures { All IsRow rows.now }
+{
+    for row in rows {
+        let _ = row.bound();
+    }
+}
+
+/// The same rows.
+pub fn copied(alloc: Global, rows: &[Row]) -> Result<Vec<Row>, AllocError>
+    ensures { IfOk result (λ v. v.items ≡ rows.now) }
+{
+    let mut copies = Vec::new(alloc);
+    for row in rows {
+        if let Some(copy) = Row::new(alloc, row.terms(), row.relation(), row.bound())? {
+            copies.push(copy)?;
+        }
+    }
+    Ok(copies)
+}
+
+/// So many rows, of which none is bound.
+pub fn unbound(alloc: Global, count: usize) -> Result<Vec<bool>, AllocError>
+    ensures { IfOk result (λ v. v.items ≡ replicate count false) }
+{
+    let mut bound = Vec::new(alloc);
+    for _ in 0..count {
+        bound.push(false)?;
+    }
+    Ok(bound)
+}
+
+/// Whether the rows name only columns below this number.
+pub fn are_over(rows: &[Row], columns: usize) -> bool
+    ensures { IsTrue result → AreOverColumns columns rows.now }
+{
+    for row in rows {
+        if !terms_are_over(row.terms(), columns) {
+            return false;
+        }
+    }
+    true
+}
+
+/// Whether the terms name only columns below this number.
+fn terms_are_over(terms: &[Term], columns: usize) -> bool
+    ensures { IsTrue result → All (λ t. t.0 < columns) terms.now }
+{
+    for (column, _) in terms {
+        if *column >= columns {
+            return false;
+        }
+    }
+    true
+}

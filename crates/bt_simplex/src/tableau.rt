@@ -1,0 +1,109 @@
+//! Tableaus: rows over columns, of which some are bound, and a basis with its solved form.
+ghost use Rattle.std.specs.Prelude.{◌≡◌, ◌<◌, IfOk, OnErr, length, true, false, IsTrue};
+ghost use Rattle.bt_simplex.specs.Tableaus.{AreOverColumns, IsNew, IsBoundAs};
+ghost use Rattle.bt_simplex.specs.Turns.{CanTurn, IsTurnedBy};
+
+use crate::line::Line;
+use crate::starting::{all_known, copied, first_slots, unbound};
+use crate::turning::turned_copy;
+use bt_frac::Row;
+use std::alloc::{AllocError, Global};
+use std::marker::Model;
+
+/// One position leaves the basis, and another enters it.
+#[derive(Clone, Copy, PartialEq, Eq)]
+pub struct Turn {
+    pub leaves: usize,
+    pub enters: usize,
+}
+
+/// Rows over columns, of which some are bound, and a basis of positions with its solved form: the line of
+/// each position of the basis gives what stands there by what stands outside the basis.
+///
+/// Position j below the number of columns is column j, and the positions from there on are the sums of
+/// the rows.
+#[derive(Drop)]
+pub struct Tableau {
+    rows: Vec<Row>,
+    columns: usize,
+    bound: Vec<bool>,
+    slots: Vec<Option<Line>>,
+}
+
+impl Model for Tableau {
+    ghost use Rattle.bt_simplex.specs.Tableaus.{TableauParts, IsTableau};
+
+    ghost Value = { TableauParts };
+
+    ghost view = { λ t. record {
+      rows = t.rows.items;
+      columns = t.columns;
+      bound = t.bound.items;
+      slots = t.slots.items;
+    } };
+
+    ghost invariant = { λ t. IsTableau (record {
+      rows = t.rows.items;
+      columns = t.columns;
+      bound = t.bound.items;
+      slots = t.slots.items;
+    }) };
+}
+
+impl Tableau {
+    /// The tableau of rows over so many columns, whose basis is the rows. No row is bound.
+    pub fn new(alloc: Global, rows: &[Row], columns: usize) -> Result<Tableau, AllocError>
+        requires { AreOverColumns columns rows.now }
+        ensures { IfOk result (IsNew rows.now columns) }
+    {
+        all_known(rows);
+        let bound = unbound(alloc, rows.len())?;
+        let slots = first_slots(alloc, rows, columns)?;
+        Ok(Tableau {
+            rows: copied(alloc, rows)?,
+            columns,
+            bound,
+            slots,
+        })
+    }
+
+    /// Requires the row from now on. The basis stays.
+    pub fn set_bound(&mut self, row: usize)
+        requires { row < length self.old.rows }
+        ensures { IsBoundAs true row self.old self.new }
+    {
+        self.bound[row] = true;
+    }
+
+    /// Requires the row no longer. The basis stays.
+    pub fn clear_bound(&mut self, row: usize)
+        requires { row < length self.old.rows }
+        ensures { IsBoundAs false row self.old self.new }
+    {
+        self.bound[row] = false;
+    }
+    /// Whether the first position of the turn is in the basis, and its line names the second.
+    pub fn can_turn(&self, turn: Turn) -> bool
+        ensures { IsTrue result → CanTurn self.now.slots turn }
+    {
+        match self.slots.get(turn.leaves) {
+            Some(Some(line)) => line.number_at(turn.enters).is_some(),
+            _ => false,
+        }
+    }
+
+    /// Turns the basis. False where a number of the new lines doesn't fit. The tableau is then as before,
+    /// and after a want of memory too.
+    pub fn turn(&mut self, alloc: Global, turn: Turn) -> Result<bool, AllocError>
+        requires { CanTurn self.old.slots turn }
+        ensures turned { IfOk result (λ done. IsTrue done → IsTurnedBy turn self.old self.new) }
+        ensures wide { IfOk result (λ done. done ≡ false → self.new ≡ self.old) }
+        ensures memory { OnErr result (self.new ≡ self.old) }
+    {
+        let Some(slots) = turned_copy(alloc, &self.slots, turn.leaves, turn.enters)? else {
+            return Ok(false);
+        };
+        self.slots = slots;
+        Ok(true)
+    }
+}

@@ -1,0 +1,45 @@
+use crate::{Tableau, Turn, are_over};
+use bt_frac::{Frac, Relation, Row};
+use std::alloc::Global;
+use std::test::Fail;
+
+/// A tableau of rows over so many columns.
+fn tableau(alloc: Global, rows: &[Row], columns: usize) -> Result<Tableau, Fail> {
+    if !are_over(rows, columns) {
+        return Err("a column is missing".into());
+    }
+    Ok(Tableau::new(alloc, rows, columns)?)
+}
+
+/// The row of one column.
+fn row(alloc: Global, coefficient: i64, relation: Relation, bound: i64) -> Result<Row, Fail> {
+    let terms = [(0, Frac::whole(coefficient))];
+    match Row::new(alloc, &terms, relation, Frac::whole(bound))? {
+        Some(row) => Ok(row),
+        None => Err("no row".into()),
+    }
+}
+
+/// Whether the tableau takes the turn.
+fn takes(alloc: Global, tableau: &mut Tableau, leaves: usize, enters: usize) -> Result<bool, Fail> {
+    let turn = Turn { leaves, enters };
+    if !tableau.can_turn(turn) {
+        return Ok(false);
+    }
+    Ok(tableau.turn(alloc, turn)?)
+}
+
+#[test]
+fn turns(rt: HostRuntime) -> Result<(), Fail> {
+    let alloc = rt.alloc();
+    let mut rows = Vec::new(alloc);
+    rows.push(row(alloc, 1, Relation::Above, 0)?)?;
+    rows.push(row(alloc, -1, Relation::AtLeast, -1)?)?;
+    let mut tableau = tableau(alloc, &rows, 1)?;
+    let mut answers = Vec::new(alloc);
+    for (leaves, enters) in [(0, 1), (1, 2), (1, 0), (1, 0), (2, 1), (0, 1), (0, 2)] {
+        answers.push(takes(alloc, &mut tableau, leaves, enters)?)?;
+    }
+    assert!(rt; answers[..] == [false, false, true, false, true, false, true]);
+    Ok(())
+}
