@@ -1,0 +1,4 @@
+-- How the search keeps its clauses and what is true, which no public clause cites.
+pub mod Truths
+pub mod Visits
+pub mod Watching
