@@ -1,4 +1,6 @@
 -- How the search keeps its clauses and what is true, which no public clause cites.
 pub mod Truths
 pub mod Visits
+pub mod Watchers
+pub mod WatchersParts
 pub mod Watching

@@ -2,9 +2,11 @@
 #![tactic(auto)]
 
 mod choosers;
+mod kept;
 mod law;
 mod truth;
 mod watched;
+mod watchers;
 
 pub use choosers::{Highest, Lowest, Recent};
 pub use law::settled_is_open;

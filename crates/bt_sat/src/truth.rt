@@ -9,9 +9,9 @@ use bt_cnf::{Lit, Variable};
 pub type Values = Arena<Option<bool>, Variable>;
 
 /// Whether a literal is true.
-pub fn is_true(values: &Values, lit: Lit) -> bool
-    requires { lit.var < length values.now }
-    ensures { IsTrue result ↔ IsTrueIn values.now lit }
+pub fn is_true(values: &Values, lit: &Lit) -> bool
+    requires { lit.now.var < length values.now }
+    ensures { IsTrue result ↔ IsTrueIn values.now lit.now }
 {
     match *values.get(lit.var) {
         Some(value) => value == lit.positive,
@@ -20,9 +20,9 @@ pub fn is_true(values: &Values, lit: Lit) -> bool
 }
 
 /// Whether a literal is false.
-pub fn is_false(values: &Values, lit: Lit) -> bool
-    requires { lit.var < length values.now }
-    ensures { IsTrue result ↔ IsFalseIn values.now lit }
+pub fn is_false(values: &Values, lit: &Lit) -> bool
+    requires { lit.now.var < length values.now }
+    ensures { IsTrue result ↔ IsFalseIn values.now lit.now }
 {
     match *values.get(lit.var) {
         Some(value) => value != lit.positive,

@@ -1,22 +1,66 @@
-//! One watched clause: which of its literals are watched where one of them becomes false.
-ghost use Rattle.std.specs.Prelude.{◌≡◌, ◌<◌, ◌≤◌, ◌↔◌, length};
+//! One watched clause, the first two of whose literals are watched: what becomes of it where one of the
+//! two is false.
+ghost use Rattle.std.specs.Prelude.{◌≡◌, ◌<◌, ◌≤◌, length};
 ghost use Rattle.bt_cnf.specs.Formulas.{LitsBelow};
-ghost use Rattle.bt_sat.specs.inner.Visits.{ReplacesSecond};
+ghost use Rattle.bt_sat.specs.inner.Visits.{BringsSecond, ReplacesSecond, Visits};
 
-use crate::truth::{Values, is_false};
+use crate::truth::{Values, is_false, is_true};
 use bt_cnf::Lit;
 
+/// What a clause does where its second literal has become false.
+#[derive(Clone, Copy)]
+pub enum Visit {
+    /// Its first literal is true.
+    Stays,
+    /// It watches this literal from now on, which isn't false, in place of its second.
+    Moves(Lit),
+    /// It is a unit, and makes this literal true.
+    Forces(Lit),
+    /// All its literals are false.
+    Fails,
+}
+
+/// Puts a literal into the second place, in exchange, where it stands in the first.
+pub fn bring_second(lits: &mut [Lit], gone: Lit)
+    requires { 2 ≤ length lits.old }
+    ensures { BringsSecond gone lits.old lits.new }
+{
+    if lits[0] == gone {
+        lits.swap(0, 1);
+    }
+}
+
+/// What the clause does, whose second literal is false.
+pub fn visit_second(lits: &mut [Lit], values: &Values) -> Visit
+    requires two { 2 ≤ length lits.old }
+    requires variables { LitsBelow (length values.now) lits.old }
+    ensures { Visits values.now lits.old lits.new result }
+{
+    let other = lits[0];
+    if is_true(values, &other) {
+        return Visit::Stays;
+    }
+    if let Some(lit) = replace_second(lits, values) {
+        return Visit::Moves(lit);
+    }
+    if is_false(values, &other) {
+        return Visit::Fails;
+    }
+    Visit::Forces(other)
+}
+
 /// Puts a literal that isn't false in the second place, in exchange, where one stands behind the first two.
-pub fn replace_second(lits: &mut [Lit], values: &Values) -> bool
+fn replace_second(lits: &mut [Lit], values: &Values) -> Option<Lit>
     requires two { 2 ≤ length lits.old }
     requires variables { LitsBelow (length values.now) lits.old }
     ensures { ReplacesSecond values.now lits.old lits.new result }
 {
     for place in 2..lits.len() {
-        if !is_false(values, lits[place]) {
+        let lit = lits[place];
+        if !is_false(values, &lit) {
             lits.swap(1, place);
-            return true;
+            return Some(lit);
         }
     }
-    false
+    None
 }

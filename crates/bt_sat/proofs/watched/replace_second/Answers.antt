@@ -1,9 +1,7 @@
-use Rattle.std.proofs.Common.{◌≡◌, ℕ, ◌<◌, ◌≤◌, arith, rules, length, sym, subst, ap, ◌∙◌}
+use Rattle.std.proofs.Common.{◌≡◌, ◌<◌, ◌≤◌, arith, length, sym, subst, ap, refl, ◌∙◌}
 use Rattle.std.specs.Prelude.{slice_index_or}
-use Rattle.std.specs.List.{HoldsAt, swap}
+use Rattle.std.specs.List.{swap}
 use Rattle.std.proofs.lemmas.Bool.{false≢true}
-use Rattle.bt_cnf.specs.declared.literal.Lit.{Lit}
-use Rattle.bt_sat.specs.inner.Truths.{IsFalseIn}
 use Rattle.bt_sat.proofs.Lists.{any_default}
 use Rattle.bt_sat.proofs.watched.replace_second.Goals as goal
 
@@ -20,9 +18,14 @@ returns-then-not-is_false c =
     let l = c.index-lits-place.result in
     let is : slice_index_or c.args.lits.now i l ≡ l = ap (λ ls. slice_index_or ls i l) (sym c.loop-place.invariant.same) ∙ sym c.index-lits-place.is in
     let below : i < length c.args.lits.now = omega arith in
-    let not_false : IsFalseIn c.args.values.now l → ⊥ = λ h. false≢true (sym c.if-not-is_false.true ∙ c.is_false.ensures.1 h) in
-    (i, omega arith, below, c.swap.ensures.after ∙ ap (λ ls. swap ls 1 i) c.loop-place.invariant.same,
-    any_default (λ m. IsFalseIn c.args.values.now m → ⊥) c.args.lits.now i l below is not_false)
+    record {
+      place = i;
+      behind = omega arith;
+      within = below;
+      swapped = c.swap.ensures.after ∙ ap (λ ls. swap ls 1 i) c.loop-place.invariant.same;
+      stood = any_default (λ m. m ≡ l) c.args.lits.now i l below is refl;
+      not_false = λ h. false≢true (sym c.if-not-is_false.true ∙ c.is_false.ensures.1 h);
+    }
 
 pub returns : goal.returns
-returns c = (c.loop-place.invariant.same, λ k d from below. c.loop-place.invariant.falses k d from (omega arith))
+returns c = record { same = c.loop-place.invariant.same; falses = λ k d from below. c.loop-place.invariant.falses k d from (omega arith) }
