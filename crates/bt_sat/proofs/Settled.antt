@@ -1,12 +1,12 @@
 -- What follows where propagation has come to its end.
-use Rattle.std.proofs.Common.{◌≡◌, ◌≢◌, ℕ, ◌⊎◌, inl, inr, List, [], ◌∷◌, sym, subst, refl, ap, ◌∙◌}
+use Rattle.std.proofs.Common.{◌≡◌, ◌≢◌, ◌⊎◌, inl, inr, List, [], ◌∷◌, sym, subst, refl, ◌∙◌}
 use Rattle.std.specs.Prelude.{Contains}
 use Rattle.std.specs.List.{All}
-use Rattle.std.proofs.lemmas.List.Elements.{All-nil, All-cons, All-contains, All-head, All-tail}
+use Rattle.std.proofs.lemmas.List.Elements.{All-nil, All-cons, All-contains}
 use Rattle.bt_cnf.specs.declared.literal.Lit.{Lit}
 use Rattle.bt_log.specs.Units.{opposite, HasNoBothSigns, IsUnit}
-use Rattle.bt_sat.specs.Propagation.{Reaches, begins, goes_on, IsFalseClause, MeetsFalse, MakesTrue, IsSettled}
-use Rattle.bt_sat.specs.Freshness.{AreOthers, IsOpen}
+use Rattle.bt_sat.specs.Propagation.{Reaches, begins, goes_on, IsFalseClause, IsSettled}
+use Rattle.bt_sat.specs.Freshness.{AreOthers}
 use Rattle.bt_sat.specs.Laws.{SettledIsOpen}
 use Rattle.bt_sat.specs.inner.Watching.{IsWatched}
 use Rattle.bt_sat.proofs.Lists.{contains_or, contains_here, contains_there, first_or, none_in, lit_or}

@@ -1,5 +1,5 @@
 -- Unit propagation: what follows where some literals are taken as false.
-use Rattle.std.specs.Prelude.{◌≡◌, List, [], ◌∷◌, Contains}
+use Rattle.std.specs.Prelude.{List, ◌∷◌, Contains}
 use Rattle.std.specs.List.{All}
 use Rattle.bt_cnf.specs.declared.literal.Lit.{Lit}
 use Rattle.bt_log.specs.Units.{opposite, IsUnit}

@@ -1,9 +1,11 @@
 //! A search for models of formulas that learns clauses, and the choosers that it comes with.
 #![tactic(auto)]
 
+mod assignment;
 mod choosers;
 mod kept;
 mod law;
+mod side;
 mod truth;
 mod watched;
 mod watchers;

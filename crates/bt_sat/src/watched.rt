@@ -2,7 +2,7 @@
 //! two is false.
 ghost use Rattle.std.specs.Prelude.{◌≡◌, ◌<◌, ◌≤◌, length};
 ghost use Rattle.bt_cnf.specs.Formulas.{LitsBelow};
-ghost use Rattle.bt_sat.specs.inner.Visits.{BringsSecond, ReplacesSecond, Visits};
+ghost use Rattle.bt_sat.specs.inner.Visits.{BringsSecond, CanWatch, ReplacesSecond, Visits};
 
 use crate::truth::{Values, is_false, is_true};
 use bt_cnf::Lit;
@@ -40,7 +40,7 @@ pub fn visit_second(lits: &mut [Lit], values: &Values) -> Visit
     if is_true(values, &other) {
         return Visit::Stays;
     }
-    if let Some(lit) = replace_second(lits, values) {
+    if let Some(lit) = replace_second(lits, &other, values) {
         return Visit::Moves(lit);
     }
     if is_false(values, &other) {
@@ -49,18 +49,27 @@ pub fn visit_second(lits: &mut [Lit], values: &Values) -> Visit
     Visit::Forces(other)
 }
 
-/// Puts a literal that isn't false in the second place, in exchange, where one stands behind the first two.
-fn replace_second(lits: &mut [Lit], values: &Values) -> Option<Lit>
+/// Puts a literal that isn't false and isn't the first in the second place, in exchange, where one stands
+/// behind the first two.
+fn replace_second(lits: &mut [Lit], first: &Lit, values: &Values) -> Option<Lit>
     requires two { 2 ≤ length lits.old }
     requires variables { LitsBelow (length values.now) lits.old }
-    ensures { ReplacesSecond values.now lits.old lits.new result }
+    ensures { ReplacesSecond values.now first.now lits.old lits.new result }
 {
     for place in 2..lits.len() {
         let lit = lits[place];
-        if !is_false(values, &lit) {
+        if can_watch(values, first, &lit) {
             lits.swap(1, place);
             return Some(lit);
         }
     }
     None
+}
+
+/// Whether a literal can be watched beside the first one: it is another, and isn't false.
+fn can_watch(values: &Values, first: &Lit, lit: &Lit) -> bool
+    requires { lit.now.var < length values.now }
+    ensures { CanWatch values.now first.now lit.now result }
+{
+    !is_false(values, lit) && *lit != *first
 }

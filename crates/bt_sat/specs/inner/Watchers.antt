@@ -1,24 +1,25 @@
 -- For each literal, the clauses that watch it.
-use Rattle.std.specs.Prelude.{◌≡◌, ◌≢◌, ℕ, ◌<◌, ◌++◌, ◌∷◌, [], Bool, true, false, List, length, cond, slice_index_or, Contains}
-use Rattle.std.specs.List.{take}
+use Rattle.std.specs.Prelude.{◌≡◌, ◌≢◌, ℕ, ◌++◌, ◌∷◌, [], List, length, cond, slice_index_or}
 use Rattle.bt_cnf.specs.declared.literal.Lit.{Lit}
+use Rattle.bt_sat.specs.inner.Sides.{IsWithout}
 use Rattle.bt_sat.specs.inner.WatchersParts.{WatchersParts}
 
 -- the clauses that watch a literal
 abbrev pub watchers : WatchersParts → Lit → List ℕ
 watchers w l = cond l.positive (slice_index_or w.positives l.var []) (slice_index_or w.negatives l.var [])
 
--- one more clause watches the literal, and nothing else was changed
+-- there are as many lists as before, and those of other literals stay
+pub record ChangesOne (old new : WatchersParts) (l : Lit) : Type 0 where
+  pub positives : length new.positives ≡ length old.positives
+  pub negatives : length new.negatives ≡ length old.negatives
+  pub others : (m : Lit) → m ≢ l → watchers new m ≡ watchers old m
+
+-- one more clause watches the literal
 pub record Watches (old new : WatchersParts) (l : Lit) (id : ℕ) : Type 0 where
   pub added : watchers new l ≡ watchers old l ++ id ∷ []
-  pub others : (m : Lit) → m ≢ l → watchers new m ≡ watchers old m
+  pub one : ChangesOne old new l
 
--- the clause at a place watches the literal no longer: those before it are where they were, all others are still there
+-- the clause at a place watches the literal no longer
 pub record Unwatches (old new : WatchersParts) (l : Lit) (place : ℕ) : Type 0 where
-  pub before : take place (watchers new l) ≡ take place (watchers old l)
-  pub still : (k id : ℕ) → k < length (watchers old l) → k ≢ place → slice_index_or (watchers old l) k id ≡ id → Contains (watchers new l) id
-  pub others : (m : Lit) → m ≢ l → watchers new m ≡ watchers old m
-
--- no clause watches any literal
-abbrev pub AreNone : WatchersParts → Type 0
-AreNone w = (l : Lit) → watchers w l ≡ []
+  pub without : IsWithout place (watchers old l) (watchers new l)
+  pub one : ChangesOne old new l

@@ -1,19 +1,18 @@
-use Rattle.std.proofs.Common.{◌≡◌, ◌<◌, ◌≤◌, arith, length, sym, subst, ap, refl, ◌∙◌}
+use Rattle.std.proofs.Common.{◌≡◌, ◌<◌, arith, length, sym, subst, ap, refl, ◌∙◌}
 use Rattle.std.specs.Prelude.{slice_index_or}
 use Rattle.std.specs.List.{swap}
-use Rattle.std.proofs.lemmas.Bool.{false≢true}
 use Rattle.bt_sat.proofs.Lists.{any_default}
 use Rattle.bt_sat.proofs.watched.replace_second.Goals as goal
 
-pub is_false-requires : goal.is_false-requires
-is_false-requires c =
+pub can_watch-requires : goal.can_watch-requires
+can_watch-requires c =
     let i = c.loop-place.place in
     let l = c.index-lits-place.result in
     let is : slice_index_or c.args.lits.now i l ≡ l = ap (λ ls. slice_index_or ls i l) (sym c.loop-place.invariant.same) ∙ sym c.index-lits-place.is in
     subst (λ m. m.var < length c.args.values.now) is (c.requires.variables i l (omega arith))
 
-pub returns-then-not-is_false : goal.returns-then-not-is_false
-returns-then-not-is_false c =
+pub returns-then-can_watch : goal.returns-then-can_watch
+returns-then-can_watch c =
     let i = c.loop-place.place in
     let l = c.index-lits-place.result in
     let is : slice_index_or c.args.lits.now i l ≡ l = ap (λ ls. slice_index_or ls i l) (sym c.loop-place.invariant.same) ∙ sym c.index-lits-place.is in
@@ -24,7 +23,8 @@ returns-then-not-is_false c =
       within = below;
       swapped = c.swap.ensures.after ∙ ap (λ ls. swap ls 1 i) c.loop-place.invariant.same;
       stood = any_default (λ m. m ≡ l) c.args.lits.now i l below is refl;
-      not_false = λ h. false≢true (sym c.if-not-is_false.true ∙ c.is_false.ensures.1 h);
+      not_false = c.if-can_watch.ensures.0;
+      differs = c.if-can_watch.ensures.1;
     }
 
 pub returns : goal.returns
