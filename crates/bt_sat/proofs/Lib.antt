@@ -1,3 +1,4 @@
+pub mod Attended
 pub mod Lists
 pub mod Settled
 pub mod Sides

@@ -33,9 +33,16 @@ watched_not_unit falses clause signs w l unit =
       ]
     ]
 
--- more literals are false
+-- what holds of each item, and what follows from it
 all_more : {X : Type 0} (P Q : X → Type 0) (xs : List X) → ((x : X) → P x → Q x) → All P xs → All Q xs
 all_more P Q xs more all = λ k d below. more _ (all k d below)
+
+-- where each clause is watched well, propagation has come to its end
+pub watched_is_settled : (clauses : List (List Lit)) (falses : List Lit) → HasNoBothSigns falses → All (IsWatched falses) clauses → IsSettled clauses falses
+watched_is_settled clauses falses signs all = record {
+  no_false = all_more (IsWatched falses) (λ c. IsFalseClause falses c → ⊥) clauses (λ c w. watched_not_false falses c signs w) all;
+  no_unit = all_more (IsWatched falses) (λ c. (l : Lit) → IsUnit falses c l → ⊥) clauses (λ c w. watched_not_unit falses c signs w) all;
+}
 
 -- what propagation comes to stays within a list where it has come to its end
 within : (clauses : List (List Lit)) (begun all : List Lit) → IsSettled clauses all → All (Contains all) begun → (falses : List Lit) → Reaches clauses begun falses → All (Contains all) falses

@@ -104,3 +104,51 @@ fn first_unset(clause: &[Lit], unset: &[Var]) -> usize
     }
     0
 }
+
+#[cfg(test)]
+mod tests {
+    use super::*;
+    use bt_cnf::Formula;
+    use std::test::Fail;
+
+    fn variables(alloc: Global, places: &[usize]) -> Result<Vec<Var>, Fail> {
+        let formula = Formula::new(alloc, 4)?;
+        let mut vars = Vec::new(alloc);
+        for place in places {
+            vars.push(formula.var_at(*place).ok_or("no variable")?)?;
+        }
+        Ok(vars)
+    }
+
+    fn literals(alloc: Global, places: &[usize]) -> Result<Vec<Lit>, Fail> {
+        let mut lits = Vec::new(alloc);
+        for var in variables(alloc, places)? {
+            lits.push(Lit {
+                var,
+                positive: true,
+            })?;
+        }
+        Ok(lits)
+    }
+
+    #[test]
+    fn finds_the_first_that_is_unset(rt: HostRuntime) -> Result<(), Fail> {
+        let unset = variables(rt.alloc(), &[0, 2, 3])?;
+        assert!(rt; unset.len() == 3);
+        let rows: [(&[usize], usize); 4] = [(&[3, 2], 2), (&[1, 2], 1), (&[1], 0), (&[], 0)];
+        for (clause, place) in rows {
+            let lits = literals(rt.alloc(), clause)?;
+            assert!(rt; first_unset(&lits, &unset) == place);
+        }
+        Ok(())
+    }
+
+    #[test]
+    fn sets_lowest_to_false_and_highest_to_true(rt: HostRuntime) -> Result<(), Fail> {
+        let unset = variables(rt.alloc(), &[1])?;
+        assert!(rt; unset.len() == 1);
+        assert!(rt; !Lowest::new().pick(&[unset[0]]).positive);
+        assert!(rt; Highest::new().pick(&[unset[0]]).positive);
+        Ok(())
+    }
+}

@@ -2,17 +2,21 @@
 //! two is false.
 ghost use Rattle.std.specs.Prelude.{◌≡◌, ◌<◌, ◌≤◌, length};
 ghost use Rattle.bt_cnf.specs.Formulas.{LitsBelow};
+ghost use Rattle.bt_sat.specs.inner.Attending.{Attends};
+ghost use Rattle.bt_sat.specs.inner.Truths.{IsFalseIn};
 ghost use Rattle.bt_sat.specs.inner.Visits.{BringsSecond, CanWatch, ReplacesSecond, Visits};
 
 use crate::truth::{Values, is_false, is_true};
 use bt_cnf::Lit;
 
-/// What a clause does where its second literal has become false.
+/// What a clause does where a literal has become false.
 #[derive(Clone, Copy)]
 pub enum Visit {
-    /// Its first literal is true.
+    /// It doesn't watch the literal.
+    Strays,
+    /// Its other watched literal is true.
     Stays,
-    /// It watches this literal from now on, which isn't false, in place of its second.
+    /// It watches this literal from now on, which isn't false, in place of the false one.
     Moves(Lit),
     /// It is a unit, and makes this literal true.
     Forces(Lit),
@@ -20,18 +24,32 @@ pub enum Visit {
     Fails,
 }
 
-/// Puts a literal into the second place, in exchange, where it stands in the first.
-pub fn bring_second(lits: &mut [Lit], gone: Lit)
-    requires { 2 ≤ length lits.old }
-    ensures { BringsSecond gone lits.old lits.new }
+/// What the clause does where a literal has become false. Where it watches it still, it stands second then.
+pub fn attend(lits: &mut [Lit], gone: &Lit, values: &Values) -> Visit
+    requires two { 2 ≤ length lits.old }
+    requires variables { LitsBelow (length values.now) lits.old }
+    requires gone { IsFalseIn values.now gone.now }
+    ensures { Attends values.now gone.now lits.old lits.new result }
 {
-    if lits[0] == gone {
+    bring_second(lits, gone);
+    if lits[1] != *gone {
+        return Visit::Strays;
+    }
+    visit_second(lits, values)
+}
+
+/// Puts a literal into the second place, in exchange, where it stands in the first.
+fn bring_second(lits: &mut [Lit], gone: &Lit)
+    requires { 2 ≤ length lits.old }
+    ensures { BringsSecond gone.now lits.old lits.new }
+{
+    if lits[0] == *gone {
         lits.swap(0, 1);
     }
 }
 
 /// What the clause does, whose second literal is false.
-pub fn visit_second(lits: &mut [Lit], values: &Values) -> Visit
+fn visit_second(lits: &mut [Lit], values: &Values) -> Visit
     requires two { 2 ≤ length lits.old }
     requires variables { LitsBelow (length values.now) lits.old }
     ensures { Visits values.now lits.old lits.new result }

@@ -3,7 +3,7 @@ use Rattle.std.specs.Prelude.{◌≡◌, ◌≢◌, ◌⊎◌, ℕ, ◌≤◌, �
 use Rattle.std.specs.List.{HoldsAt, AllWithin, swap}
 use Rattle.bt_cnf.specs.declared.literal.Lit.{Lit}
 use Rattle.bt_sat.specs.declared.watched.Visit.{Visit}
-use Rattle.bt_sat.specs.declared.watched.Visit.TheVariants.{Stays, Moves, Forces, Fails}
+use Rattle.bt_sat.specs.declared.watched.Visit.TheVariants.{Strays, Stays, Moves, Forces, Fails}
 use Rattle.bt_sat.specs.inner.Truths.{IsTrueIn, IsFalseIn}
 
 -- the first two were exchanged where the literal stood first, and nothing was changed where it didn't
@@ -42,6 +42,7 @@ StandsFirst lits l = HoldsAt (λ m. m ≡ l) lits 0
 
 -- what the clause does where its second literal is false
 abbrev pub Visits : List (Option Bool) → List Lit → List Lit → Visit → Type 0
+Visits values old new Strays = ⊥
 Visits values old new Stays = (new ≡ old) × HoldsAt (IsTrueIn values) old 0
 Visits values old new (Moves l) = (first : Lit) × StandsFirst old first × MovesTo values first old new l
 Visits values old new (Forces l) = StandsFirst old l × StandsStill values l old new × (IsTrueIn values l → ⊥) × (IsFalseIn values l → ⊥)
