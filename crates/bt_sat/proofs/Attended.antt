@@ -1,16 +1,16 @@
 -- What a watched clause does where a literal has become false.
-use Rattle.std.proofs.Common.{◌≡◌, ◌≢◌, ℕ, ◌≤◌, ◌<◌, ◌⊎◌, inl, inr, arith, Bool, List, [], ◌∷◌, length, get_or, zero, suc, sym, subst, refl, ap, ◌∙◌, Option}
+use Rattle.std.proofs.Common.{◌≡◌, ℕ, ◌≤◌, ◌<◌, ◌⊎◌, inl, inr, arith, Bool, List, length, get_or, zero, suc, sym, subst, ap, ◌∙◌, Option}
 use Rattle.std.specs.Prelude.{IsPermutation}
-use Rattle.std.specs.List.{All, HoldsAt, swap}
+use Rattle.std.specs.List.{All, swap}
 use Rattle.std.proofs.lemmas.List.{get_or_default}
 use Rattle.std.proofs.lemmas.List.Edits.{Swapped, swapped_from_swap}
 use Rattle.std.proofs.lemmas.List.Sorted.{IsPermutation-swap, IsPermutation-trans, IsPermutation-refl}
 use Rattle.bt_cnf.specs.declared.literal.Lit.{Lit}
 use Rattle.bt_sat.specs.declared.watched.Visit.{Visit}
 use Rattle.bt_sat.specs.declared.watched.Visit.TheVariants.{Strays, Stays, Moves, Forces, Fails}
-use Rattle.bt_sat.specs.inner.Attending.{no_lit, first, second, KeepsPair, LeavesOne, Leaves, WatchesNow, Attends}
+use Rattle.bt_sat.specs.inner.Attending.{no_lit, first, second, KeepsPair, LeavesOne, Attends}
 use Rattle.bt_sat.specs.inner.Truths.{IsTrueIn, IsFalseIn}
-use Rattle.bt_sat.specs.inner.Visits.{BringsSecond, MovesTo, StandsStill, Visits}
+use Rattle.bt_sat.specs.inner.Visits.{BringsSecond, Visits}
 use Rattle.bt_sat.proofs.Lists.{lit_or}
 
 -- the clause with the literal in the second place, where it was watched

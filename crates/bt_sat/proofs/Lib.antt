@@ -1,4 +1,6 @@
 pub mod Attended
+pub mod Keeping
 pub mod Lists
 pub mod Settled
 pub mod Sides
+pub mod Visiting

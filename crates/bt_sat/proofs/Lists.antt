@@ -29,7 +29,7 @@ bool_or true false = inr (λ e. cc)
 bool_or false true = inr (λ e. cc)
 bool_or false false = inl refl
 
-nat_or : (m n : ℕ) → (m ≡ n) ⊎ (m ≢ n)
+pub nat_or : (m n : ℕ) → (m ≡ n) ⊎ (m ≢ n)
 nat_or m n = grind arith
 
 pub lit_or : (a b : Lit) → (a ≡ b) ⊎ (a ≢ b)

@@ -1,6 +1,7 @@
 -- How the search keeps its clauses and what is true, which no public clause cites.
 pub mod Assigning
 pub mod Attending
+pub mod Keeping
 pub mod Sides
 pub mod Truths
 pub mod Visits
