@@ -65,29 +65,33 @@ attended values gone old mid new Stays two at is false_gone visits =
 attended values gone old mid new (Moves l) two at is false_gone visits =
     let moved = visits.2 in
     let by : Swapped (λ i. get_or mid i no_lit) (λ i. get_or new i no_lit) 1 moved.place =
-      swapped_from_swap mid new 1 moved.place no_lit (omega arith) moved.within moved.swapped in
-    let same : first new ≡ first mid = by.2 0 (λ e. absurd (omega arith)) (λ e. absurd (omega (arith, moved.behind))) in
-    (left_one gone old mid new at.kept (IsPermutation-swap mid new 1 moved.place (omega arith) moved.within moved.swapped) same is,
-    record {
-      stands = by.0 ∙ moved.stood no_lit;
-      not_false = moved.not_false;
-      differs = λ e. moved.differs (e ∙ same ∙ visits.1 no_lit);
-    })
+    swapped_from_swap mid new 1 moved.place no_lit (omega arith) moved.within moved.swapped in
+    let same : first new ≡ first mid = by.2 0 (λ e. absurd (omega arith)) (λ e. absurd (omega (arith, moved.behind))) in (
+      left_one gone old mid new at.kept (IsPermutation-swap mid new 1 moved.place (omega arith) moved.within moved.swapped) same is,
+      record {
+        stands = by.0 ∙ moved.stood no_lit;
+        not_false = moved.not_false;
+        differs = λ e. moved.differs (e ∙ same ∙ visits.1 no_lit);
+      },
+    )
 attended values gone old mid new (Forces l) two at is false_gone visits =
-    let still = visits.1 in
-    (kept_same old mid new at.kept still.same, ap second still.same ∙ is,
-    record {
-      stands = ap first still.same ∙ visits.0 no_lit;
-      others =
-          subst (All (λ m. (m ≡ l) ⊎ IsFalseIn values m)) (sym still.same)
-          (all_places (λ m. (m ≡ l) ⊎ IsFalseIn values m) mid (inl (visits.0 no_lit)) (inr (subst (IsFalseIn values) (sym is) false_gone)) still.falses);
-      not_true = visits.2;
-      not_false = visits.3;
-    })
+    let still = visits.1 in (
+      kept_same old mid new at.kept still.same,
+      ap second still.same ∙ is,
+      record {
+        stands = ap first still.same ∙ visits.0 no_lit;
+        others =
+            subst (All (λ m. (m ≡ l) ⊎ IsFalseIn values m)) (sym still.same)
+            (all_places (λ m. (m ≡ l) ⊎ IsFalseIn values m) mid (inl (visits.0 no_lit)) (inr (subst (IsFalseIn values) (sym is) false_gone)) still.falses);
+        not_true = visits.2;
+        not_false = visits.3;
+      },
+    )
 attended values gone old mid new Fails two at is false_gone visits =
     let still = visits.2 in
-    let false_first : IsFalseIn values (first mid) = subst (IsFalseIn values) (sym (visits.1 no_lit)) visits.3 in
-    (kept_same old mid new at.kept still.same,
-    subst (All (IsFalseIn values)) (sym still.same)
-    (all_places (IsFalseIn values) mid false_first (subst (IsFalseIn values) (sym is) false_gone)
-    (λ k d from below. elim (still.falses k d from below) [ inl e ↦ subst (IsFalseIn values) (sym e) visits.3 | inr f ↦ f ])))
+    let false_first : IsFalseIn values (first mid) = subst (IsFalseIn values) (sym (visits.1 no_lit)) visits.3 in (
+      kept_same old mid new at.kept still.same,
+      subst (All (IsFalseIn values)) (sym still.same)
+          (all_places (IsFalseIn values) mid false_first (subst (IsFalseIn values) (sym is) false_gone)
+          (λ k d from below. elim (still.falses k d from below) [ inl e ↦ subst (IsFalseIn values) (sym e) visits.3 | inr f ↦ f ])),
+    )

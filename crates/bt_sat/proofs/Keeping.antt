@@ -37,39 +37,39 @@ watchable_left vars values gone old new l is left now = record {
 
 pub listed_kept : (w : WatchersParts) (id : ℕ) (old new : List Lit) → IsListed w id old → KeepsPair old new → IsListed w id new
 listed_kept w id old new is kept = elim kept.pair [
-    | inl pair ↦ record {
-      by_first = subst (λ l. Contains (watchers w l) id) (sym pair.0) is.by_first;
-      by_second = subst (λ l. Contains (watchers w l) id) (sym pair.1) is.by_second;
-    }
-    | inr pair ↦ record {
-      by_first = subst (λ l. Contains (watchers w l) id) (sym pair.0) is.by_second;
-      by_second = subst (λ l. Contains (watchers w l) id) (sym pair.1) is.by_first;
-    }
-  ]
+  | inl pair ↦ record {
+    by_first = subst (λ l. Contains (watchers w l) id) (sym pair.0) is.by_first;
+    by_second = subst (λ l. Contains (watchers w l) id) (sym pair.1) is.by_second;
+  }
+  | inr pair ↦ record {
+    by_first = subst (λ l. Contains (watchers w l) id) (sym pair.0) is.by_second;
+    by_second = subst (λ l. Contains (watchers w l) id) (sym pair.1) is.by_first;
+  }
+]
 
 pub rest_kept : (part trail old new : List Lit) → IsAtRest part trail old → KeepsPair old new → IsAtRest part trail new
 rest_kept part trail old new is kept = elim kept.pair [
-    | inl pair ↦ record {
-      if_first = λ h. subst (Contains trail) (sym pair.1) (is.if_first (subst (λ l. Contains part (opposite l)) pair.0 h));
-      if_second = λ h. subst (Contains trail) (sym pair.0) (is.if_second (subst (λ l. Contains part (opposite l)) pair.1 h));
-    }
-    | inr pair ↦ record {
-      if_first = λ h. subst (Contains trail) (sym pair.1) (is.if_second (subst (λ l. Contains part (opposite l)) pair.0 h));
-      if_second = λ h. subst (Contains trail) (sym pair.0) (is.if_first (subst (λ l. Contains part (opposite l)) pair.1 h));
-    }
-  ]
+  | inl pair ↦ record {
+    if_first = λ h. subst (Contains trail) (sym pair.1) (is.if_first (subst (λ l. Contains part (opposite l)) pair.0 h));
+    if_second = λ h. subst (Contains trail) (sym pair.0) (is.if_second (subst (λ l. Contains part (opposite l)) pair.1 h));
+  }
+  | inr pair ↦ record {
+    if_first = λ h. subst (Contains trail) (sym pair.1) (is.if_second (subst (λ l. Contains part (opposite l)) pair.0 h));
+    if_second = λ h. subst (Contains trail) (sym pair.0) (is.if_first (subst (λ l. Contains part (opposite l)) pair.1 h));
+  }
+]
 
 pub done_kept : (gone : Lit) (trail old new : List Lit) → IsDone gone trail old → KeepsPair old new → IsDone gone trail new
 done_kept gone trail old new is kept = elim kept.pair [
-    | inl pair ↦ record {
-      if_first = λ h. subst (Contains trail) (sym pair.1) (is.if_first (sym pair.0 ∙ h));
-      if_second = λ h. subst (Contains trail) (sym pair.0) (is.if_second (sym pair.1 ∙ h));
-    }
-    | inr pair ↦ record {
-      if_first = λ h. subst (Contains trail) (sym pair.1) (is.if_second (sym pair.0 ∙ h));
-      if_second = λ h. subst (Contains trail) (sym pair.0) (is.if_first (sym pair.1 ∙ h));
-    }
-  ]
+  | inl pair ↦ record {
+    if_first = λ h. subst (Contains trail) (sym pair.1) (is.if_first (sym pair.0 ∙ h));
+    if_second = λ h. subst (Contains trail) (sym pair.0) (is.if_second (sym pair.1 ∙ h));
+  }
+  | inr pair ↦ record {
+    if_first = λ h. subst (Contains trail) (sym pair.1) (is.if_second (sym pair.0 ∙ h));
+    if_second = λ h. subst (Contains trail) (sym pair.0) (is.if_first (sym pair.1 ∙ h));
+  }
+]
 
 -- the clause at a number after one was changed
 pub kept_set : (P : ℕ → List Lit → Type 0) (clauses : List (List Lit)) (id other : ℕ) (new : List Lit) → id < length clauses → P id new → (other ≢ id → P other (kept_at clauses other))
@@ -150,7 +150,7 @@ truths_more values trail l truths inside not_true not_false =
       in_trail = λ m true_m. elim (nat_or m.var l.var) [
         | inl e ↦
             let sign : Some l.positive ≡ Some m.positive =
-              sym (get_or-set_same values l.var (Some l.positive) None inside) ∙ ap (λ n. get_or after n None) (sym e) ∙ true_m in
+            sym (get_or-set_same values l.var (Some l.positive) None inside) ∙ ap (λ n. get_or after n None) (sym e) ∙ true_m in
             subst (Contains (trail ++ l ∷ [])) (made l m (sym e) sign) (Contains-push trail l)
         | inr other ↦
             Contains-append_left trail (l ∷ []) m (truths.in_trail m (sym (get_or-set_other values l.var m.var (Some l.positive) None other) ∙ true_m))
@@ -162,6 +162,7 @@ truths_more values trail l truths inside not_true not_false =
     inner true false = inr refl
     inner false true = inr refl
     inner false false = inl refl
+
     unset : (m : Lit) → IsTrueIn values m → m.var ≡ l.var → ⊥
     unset m true_m e =
         let here : get_or values l.var None ≡ Some m.positive = ap (λ n. get_or values n None) (sym e) ∙ true_m in
@@ -169,6 +170,7 @@ truths_more values trail l truths inside not_true not_false =
           | inl same ↦ not_true (here ∙ ap (λ b. Some b) same)
           | inr differs ↦ not_false (here ∙ ap (λ b. Some b) differs)
         ]
+
     made : (a b : Lit) → a.var ≡ b.var → Some a.positive ≡ Some b.positive → a ≡ b
     made a b var sign =
         let same : a.positive ≡ b.positive = cc in

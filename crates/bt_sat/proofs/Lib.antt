@@ -1,3 +1,4 @@
+pub mod Advancing
 pub mod Attended
 pub mod Keeping
 pub mod Lists

@@ -1,6 +1,6 @@
 -- Lists of literals.
 use Rattle.std.proofs.Common.{◌≡◌, ◌≢◌, ℕ, ◌<◌, ◌⊎◌, inl, inr, arith, List, [], ◌∷◌, length, Bool, true, false, get_or, zero, suc, sym, subst, refl, ap, ap₂, ◌∙◌}
-use Rattle.std.specs.Prelude.{Contains}
+use Rattle.std.specs.Prelude.{Contains, slice_get, Some}
 use Rattle.std.specs.List.{HoldsAt}
 use Rattle.std.proofs.lemmas.List.{get_or_default}
 use Rattle.bt_cnf.specs.declared.literal.Lit.{Lit}
@@ -56,3 +56,8 @@ contains_or (m ∷ lits) l =
         | inr not ↦ inr (λ among. elim (first_or m l lits among) [ inl same ↦ differs same | inr rest ↦ not rest ])
       ]
     ]
+
+pub got_at : {X : Type 0} (xs : List X) (i : ℕ) (d x : X) → slice_get xs i ≡ Some x → get_or xs i d ≡ x
+got_at [] i d x is = cc
+got_at (y ∷ xs) zero d x is = cc
+got_at (y ∷ xs) (suc i) d x is = got_at xs i d x is

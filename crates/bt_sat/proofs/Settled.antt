@@ -50,16 +50,16 @@ within clauses begun all settled start falses begins = start
 within clauses begun all settled start _ (goes_on falses clause l reached among unit) =
     let before : All (Contains all) falses = within clauses begun all settled start falses reached in
     let others : All (λ m. (m ≡ l) ⊎ Contains all m) clause =
-      all_more (λ m. (m ≡ l) ⊎ Contains falses m) (λ m. (m ≡ l) ⊎ Contains all m) clause
-      (λ m h. elim h [ inl same ↦ inl same | inr false_m ↦ inr (All-contains (Contains all) falses m before false_m) ]) unit.others in
+    all_more (λ m. (m ≡ l) ⊎ Contains falses m) (λ m. (m ≡ l) ⊎ Contains all m) clause
+    (λ m h. elim h [ inl same ↦ inl same | inr false_m ↦ inr (All-contains (Contains all) falses m before false_m) ]) unit.others in
     All-cons (Contains all) (opposite l) falses
     (elim (contains_or all (opposite l)) [
       | inl made ↦ made
       | inr not_made ↦ elim (contains_or all l) [
         | inl false_l ↦ absurd (All-contains (λ c. IsFalseClause all c → ⊥) clauses clause settled.no_false among
-          (all_more (λ m. (m ≡ l) ⊎ Contains all m) (Contains all) clause (λ m h. elim h [ inl same ↦ subst (Contains all) (sym same) false_l | inr false_m ↦ false_m ]) others))
+            (all_more (λ m. (m ≡ l) ⊎ Contains all m) (Contains all) clause (λ m h. elim h [ inl same ↦ subst (Contains all) (sym same) false_l | inr false_m ↦ false_m ]) others))
         | inr unset ↦ absurd (All-contains (λ c. (m : Lit) → IsUnit all c m → ⊥) clauses clause settled.no_unit among l
-          (record { among = unit.among; unset = unset; not_true = not_made; others = others }))
+            (record { among = unit.among; unset = unset; not_true = not_made; others = others }))
       ]
     ])
     before
@@ -100,14 +100,14 @@ all_of P (x ∷ xs) holds = All-cons P x xs (holds x (contains_here x x xs refl)
 pub settled_is_open : SettledIsOpen
 settled_is_open clauses falses lits x settled among others not_made =
     let start : All (Contains falses) (others_of lits x) =
-      all_of (Contains falses) (others_of lits x) (λ l h. let both = (others_are lits x l).0 h in others l both.0 both.1) in
+    all_of (Contains falses) (others_of lits x) (λ l h. let both = (others_are lits x l).0 h in others l both.0 both.1) in
     record {
       among = among;
       others = others_of lits x;
       are_others = others_are lits x;
       no_false = λ met.
-        All-contains (λ c. IsFalseClause falses c → ⊥) clauses met.clause settled.no_false met.among
-        (all_more (Contains met.falses) (Contains falses) met.clause
-        (λ m h. All-contains (Contains falses) met.falses m (within clauses (others_of lits x) falses settled start met.falses met.reached) h) met.is_false);
+          All-contains (λ c. IsFalseClause falses c → ⊥) clauses met.clause settled.no_false met.among
+          (all_more (Contains met.falses) (Contains falses) met.clause
+          (λ m h. All-contains (Contains falses) met.falses m (within clauses (others_of lits x) falses settled start met.falses met.reached) h) met.is_false);
       not_made = λ made. not_made (All-contains (Contains falses) made.falses (opposite x) (within clauses (others_of lits x) falses settled start made.falses made.reached) made.holds);
     }

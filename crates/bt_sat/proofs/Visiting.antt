@@ -19,15 +19,15 @@ all_more : {X : Type 0} (P Q : X → Type 0) (xs : List X) → ((x : X) → P x 
 all_more P Q xs more all = λ k d below. more _ (all k d below)
 
 -- a clause is done that watches the literal no longer
-done_none : (gone : Lit) (trail clause : List Lit) → first clause ≢ gone → second clause ≢ gone → IsDone gone trail clause
+pub done_none : (gone : Lit) (trail clause : List Lit) → first clause ≢ gone → second clause ≢ gone → IsDone gone trail clause
 done_none gone trail clause not_first not_second = record { if_first = λ e. absurd (not_first e); if_second = λ e. absurd (not_second e) }
 
 -- the first of a pair that lost the literal isn't it
 first_left : (vars : ℕ) (gone : Lit) (old new : List Lit) → IsWatchable vars old → LeavesOne gone old new → first new ≢ gone
 first_left vars gone old new is left e = elim left.pair [
-    | inl pair ↦ is.differ (sym pair.0 ∙ e ∙ sym pair.1)
-    | inr pair ↦ is.differ (pair.1 ∙ sym e ∙ pair.0)
-  ]
+  | inl pair ↦ is.differ (sym pair.0 ∙ e ∙ sym pair.1)
+  | inr pair ↦ is.differ (pair.1 ∙ sym e ∙ pair.0)
+]
 
 -- the lists without one that a clause no longer watches
 unwatched : (w w' : WatchersParts) (gone m : Lit) (place id x : ℕ) → Unwatches w w' gone place → place < length (watchers w gone) → get_or (watchers w gone) place 0 ≡ id
@@ -99,7 +99,7 @@ watched_moved vars values clauses w w₁ w₂ id new l gone place are below left
       watchable = All-set (IsWatchable vars) clauses id new (watchable_left vars values gone old new l old_is left now) are.watchable;
       listed = λ other small. kept_set (IsListed w₂) clauses id other new below new_listed (others other (subst (λ n. other < n) size small));
       named = λ m. subst (λ n. All (λ k. k < n) (watchers w₂ m)) (sym size)
-        (named_less (length clauses) w₁ w₂ gone place un inside₁ (named_more (length clauses) w w₁ l id one below are.named) m);
+          (named_less (length clauses) w₁ w₂ gone place un inside₁ (named_more (length clauses) w w₁ l id one below are.named) m);
     }
 
 -- all is kept where a clause leaves a list that it watches no longer
@@ -149,7 +149,6 @@ done_next gone trail clauses ids id place new below new_done is done k before in
 
 module _ (part : List Lit) (gone : Lit) (place : ℕ) (values : List (Option Bool)) (trail : List Lit) (clauses : List (List Lit)) (w : WatchersParts) (id : ℕ) (new : List Lit)
     (v : IsVisiting part gone place values trail clauses w) (inside : place < length (watchers w gone)) (is : get_or (watchers w gone) place 0 ≡ id) where
-
   below : id < length clauses
   below = named_below (length values) clauses w gone place id v.watched inside is
 
@@ -197,7 +196,7 @@ module _ (part : List Lit) (gone : Lit) (place : ℕ) (values : List (Option Boo
         done = λ k before small.
             let early : k + 1 < length (watchers w₁ gone) = subst (λ ids. k + 1 < length ids) (sym same) (omega (arith, before, inside)) in
             let stays : get_or (watchers w₂ gone) k 0 ≡ get_or (watchers w gone) k 0 =
-              un.without.others k 0 (λ e. absurd (omega (arith, e, before))) early ∙ ap (λ ids. get_or ids k 0) same in
+            un.without.others k 0 (λ e. absurd (omega (arith, e, before))) early ∙ ap (λ ids. get_or ids k 0) same in
             subst (λ n. IsDone gone trail (kept_at (slice_set clauses id new) n)) (sym stays)
             (done_set gone trail clauses (watchers w gone) id place new below (done_none gone trail new not_first not_second) v.done k before (omega (arith, before, inside)));
       }
@@ -214,7 +213,7 @@ strays part gone place values trail clauses w w' id v inside is not_first not_se
   gone_false = v.gone_false;
   done = λ k before small.
       let stays : get_or (watchers w' gone) k 0 ≡ get_or (watchers w gone) k 0 =
-        un.without.others k 0 (λ e. absurd (omega (arith, e, before))) (omega (arith, before, inside)) in
+      un.without.others k 0 (λ e. absurd (omega (arith, e, before))) (omega (arith, before, inside)) in
       subst (λ n. IsDone gone trail (kept_at clauses n)) (sym stays) (v.done k before (omega (arith, before, inside)));
 }
 
@@ -249,7 +248,7 @@ pub visited : (part : List Lit) (gone : Lit) (place : ℕ) (values : List (Optio
 visited part gone place values trail clauses w v all id below =
     let listed = v.watched.listed id below in
     let on_list : Contains (watchers w gone) id → IsDone gone trail (kept_at clauses id) = λ (k, small, is).
-      subst (λ n. IsDone gone trail (kept_at clauses n)) (get_or_default (watchers w gone) k 0 id small ∙ is) (v.done k (omega (arith, all, small)) small) in
+    subst (λ n. IsDone gone trail (kept_at clauses n)) (get_or_default (watchers w gone) k 0 id small ∙ is) (v.done k (omega (arith, all, small)) small) in
     record {
       if_first = λ e. (on_list (subst (λ m. Contains (watchers w m) id) e listed.by_first)).if_first e;
       if_second = λ e. (on_list (subst (λ m. Contains (watchers w m) id) e listed.by_second)).if_second e;

@@ -9,7 +9,7 @@ use Rattle.bt_log.specs.Units.{opposite, IsUnit}
 pub data Reaches (clauses : List (List Lit)) (begun : List Lit) : List Lit → Type 0 where
   begins : Reaches clauses begun begun
   goes_on : (falses clause : List Lit) (l : Lit) → Reaches clauses begun falses → Contains clauses clause → IsUnit falses clause l
-    → Reaches clauses begun (opposite l ∷ falses)
+      → Reaches clauses begun (opposite l ∷ falses)
 
 -- the clause has only false literals
 abbrev pub IsFalseClause : List Lit → List Lit → Type 0

@@ -5,6 +5,7 @@ mod assignment;
 mod choosers;
 mod kept;
 mod law;
+mod search;
 mod side;
 mod truth;
 mod watched;
