@@ -1,0 +1,109 @@
+-- What one visit makes of the search.
+use Rattle.std.proofs.Common.{◌≡◌, ℕ, ◌<◌, ◌+◌, arith, List, [], ◌∷◌, ◌++◌, length, get_or, sym, subst, refl, ap, ◌∙◌, Some, None, length-set, get_or-set_same, append-nil}
+use Rattle.std.specs.Prelude.{IsPermutation, slice_set}
+use Rattle.std.specs.List.{All}
+use Rattle.std.proofs.lemmas.List.Sorted.{IsPermutation-refl}
+use Rattle.bt_cnf.specs.declared.literal.Lit.{Lit}
+use Rattle.bt_sat.specs.declared.assignment.Assignment.{Assignment}
+use Rattle.bt_sat.specs.declared.search.Search.{Search}
+use Rattle.bt_sat.specs.declared.search.Attended.TheVariants as attended
+use Rattle.bt_sat.specs.declared.watched.Visit.TheVariants as visit
+use Rattle.bt_sat.specs.inner.Assigning.{Assigns}
+use Rattle.bt_sat.specs.inner.Attending.{no_lit, first, second}
+use Rattle.bt_sat.specs.inner.AttendingIn.{AttendsIn}
+use Rattle.bt_sat.specs.inner.Keeping.{IsWatchable, kept_at, IsVisiting}
+use Rattle.bt_sat.specs.inner.Propagating.{GoesOn, Advances}
+use Rattle.bt_sat.specs.inner.Truths.{IsTrueIn, IsFalseIn}
+use Rattle.bt_sat.specs.inner.Watchers.{watchers, Watches, Unwatches}
+use Rattle.bt_sat.specs.inner.WatchersParts.{WatchersParts}
+use Rattle.bt_sat.proofs.Keeping.{watchable_kept, kept_set}
+use Rattle.bt_sat.proofs.Visiting.{done_none, done_true, goes_on, grows, keeps, moves, strays}
+
+-- the clauses are the same but for the order of one
+goes : (old : Search) (assignment : Assignment) (w : WatchersParts) (clauses : List (List Lit)) (id : ℕ) (new more : List Lit) → id < length old.clauses → clauses ≡ slice_set old.clauses id new
+    → IsPermutation (kept_at old.clauses id) new → assignment.trail.items ≡ old.assignment.trail.items ++ more → length assignment.values ≡ length old.assignment.values
+    → GoesOn old (record { assignment = assignment; clauses = clauses; watchers = w })
+goes old assignment w clauses id new more below one permuted trail variables = record {
+  more = more;
+  trail = trail;
+  variables = variables;
+  count = ap length one ∙ length-set old.clauses id new;
+  clauses = λ other.
+      subst (λ cs. IsPermutation (kept_at old.clauses other) (kept_at cs other)) (sym one)
+      (kept_set (λ n c. IsPermutation (kept_at old.clauses n) c) old.clauses id other new below permuted (λ _. IsPermutation-refl (kept_at old.clauses other)));
+}
+
+module _ (old : Search) (gone : Lit) (place id : ℕ) (clauses : List (List Lit)) (below : id < length old.clauses) (is_old : IsWatchable (length old.assignment.values) (kept_at old.clauses id))
+    (inside : place < length (watchers old.watchers gone)) (is : get_or (watchers old.watchers gone) place 0 ≡ id) where
+  pub stays : AttendsIn old.assignment.values gone id old.clauses clauses visit.Stays
+      → Advances gone place old (record { assignment = old.assignment; clauses = clauses; watchers = old.watchers }) attended.Stays
+  stays at =
+      let kept = at.attends.0 in (
+        goes old old.assignment old.watchers clauses id at.clause [] below at.one kept.permuted (sym (append-nil old.assignment.trail.items)) refl,
+        refl,
+        λ part v.
+            subst (λ cs. IsVisiting part gone (place + 1) old.assignment.values old.assignment.trail.items cs old.watchers) (sym at.one)
+            (goes_on part gone place old.assignment.values old.assignment.trail.items old.clauses old.watchers id at.clause v inside is kept
+            (done_true old.assignment.values old.assignment.trail.items gone at.clause v.truths
+            (watchable_kept (length old.assignment.values) (kept_at old.clauses id) at.clause is_old kept).differ at.attends.1 at.attends.2)),
+      )
+
+  pub forces : (l : Lit) (now : Assignment) → AttendsIn old.assignment.values gone id old.clauses clauses (visit.Forces l) → Assigns old.assignment now l
+      → Advances gone place old (record { assignment = now; clauses = clauses; watchers = old.watchers }) attended.Stays
+  forces l now at assigns =
+      let kept = at.attends.0 in
+      let leaves = at.attends.2 in
+      let good = watchable_kept (length old.assignment.values) (kept_at old.clauses id) at.clause is_old kept in
+      let inside_l : l.var < length old.assignment.values = subst (λ (m : Lit). m.var < length old.assignment.values) leaves.stands (good.below 0 no_lit (omega (arith, good.two))) in
+      let after = slice_set old.assignment.values l.var (Some l.positive) in (
+        goes old now old.watchers clauses id at.clause (l ∷ []) below at.one kept.permuted assigns.trail (ap length assigns.values ∙ length-set old.assignment.values l.var (Some l.positive)),
+        refl,
+        λ part v.
+            let v' = grows part gone place old.assignment.values old.assignment.trail.items old.clauses old.watchers l v inside_l leaves.not_true leaves.not_false in
+            let true_first : IsTrueIn after (first at.clause) =
+            subst (IsTrueIn after) (sym leaves.stands) (get_or-set_same old.assignment.values l.var (Some l.positive) None inside_l) in
+            subst (λ vs. IsVisiting part gone (place + 1) vs now.trail.items clauses old.watchers) (sym assigns.values)
+            (subst (λ ts. IsVisiting part gone (place + 1) after ts clauses old.watchers) (sym assigns.trail)
+            (subst (λ cs. IsVisiting part gone (place + 1) after (old.assignment.trail.items ++ l ∷ []) cs old.watchers) (sym at.one)
+            (goes_on part gone place after (old.assignment.trail.items ++ l ∷ []) old.clauses old.watchers id at.clause v' inside is kept
+            (done_true after (old.assignment.trail.items ++ l ∷ []) gone at.clause v'.truths good.differ at.attends.1 true_first)))),
+      )
+
+  pub leaves : (l : Lit) (w₁ w₂ : WatchersParts) → IsFalseIn old.assignment.values gone → AttendsIn old.assignment.values gone id old.clauses clauses (visit.Moves l) → Watches old.watchers w₁ l id
+      → Unwatches w₁ w₂ gone place → Advances gone place old (record { assignment = old.assignment; clauses = clauses; watchers = w₂ }) attended.Leaves
+  leaves l w₁ w₂ false_gone at one un =
+      let left = at.attends.0 in
+      let now = at.attends.1 in
+      let same : watchers w₁ gone ≡ watchers old.watchers gone = one.one.others gone (λ e. now.not_false (subst (IsFalseIn old.assignment.values) e false_gone)) in (
+        goes old old.assignment w₂ clauses id at.clause [] below at.one left.permuted (sym (append-nil old.assignment.trail.items)) refl,
+        un.without.size ∙ ap length same,
+        λ part v.
+            subst (λ cs. IsVisiting part gone place old.assignment.values old.assignment.trail.items cs w₂) (sym at.one)
+            (moves part gone place old.assignment.values old.assignment.trail.items old.clauses old.watchers id at.clause v inside is w₁ w₂ l left now one un),
+      )
+
+  pub strayed : (w : WatchersParts) → AttendsIn old.assignment.values gone id old.clauses clauses visit.Strays → Unwatches old.watchers w gone place
+      → Advances gone place old (record { assignment = old.assignment; clauses = clauses; watchers = w }) attended.Leaves
+  strayed w at un =
+      let kept = at.attends.0 in
+      let here : kept_at (slice_set old.clauses id at.clause) id ≡ at.clause = get_or-set_same old.clauses id at.clause [] below in (
+        goes old old.assignment w clauses id at.clause [] below at.one kept.permuted (sym (append-nil old.assignment.trail.items)) refl,
+        un.without.size,
+        λ part v.
+            subst (λ cs. IsVisiting part gone place old.assignment.values old.assignment.trail.items cs w) (sym at.one)
+            (strays part gone place old.assignment.values old.assignment.trail.items (slice_set old.clauses id at.clause) old.watchers w id
+            (keeps part gone place old.assignment.values old.assignment.trail.items old.clauses old.watchers id at.clause v inside is kept
+            (done_none gone old.assignment.trail.items at.clause at.attends.1 at.attends.2)) inside is
+            (λ e. at.attends.1 (sym (ap first here) ∙ e)) (λ e. at.attends.2 (sym (ap second here) ∙ e)) un),
+      )
+
+  pub fails : AttendsIn old.assignment.values gone id old.clauses clauses visit.Fails
+      → Advances gone place old (record { assignment = old.assignment; clauses = clauses; watchers = old.watchers }) (attended.Fails id)
+  fails at =
+      let here : kept_at clauses id ≡ at.clause = ap (λ cs. kept_at cs id) at.one ∙ get_or-set_same old.clauses id at.clause [] below in (
+        goes old old.assignment old.watchers clauses id at.clause [] below at.one at.attends.0.permuted (sym (append-nil old.assignment.trail.items)) refl,
+        (
+          subst (λ n. id < n) (sym (ap length at.one ∙ length-set old.clauses id at.clause)) below,
+          subst (All (IsFalseIn old.assignment.values)) (sym here) at.attends.1,
+        ),
+      )

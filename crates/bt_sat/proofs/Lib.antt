@@ -1,0 +1,7 @@
+pub mod Advancing
+pub mod Attended
+pub mod Keeping
+pub mod Lists
+pub mod Settled
+pub mod Sides
+pub mod Visiting

@@ -1,0 +1,4 @@
+pub mod Freshness
+pub mod Laws
+pub mod Propagation
+pub mod inner

@@ -1,0 +1,12 @@
+-- How the search keeps its clauses and what is true, which no public clause cites.
+pub mod Assigning
+pub mod Attending
+pub mod AttendingIn
+pub mod Keeping
+pub mod Propagating
+pub mod Sides
+pub mod Truths
+pub mod Visits
+pub mod Watchers
+pub mod WatchersParts
+pub mod Watching

@@ -1,0 +1,60 @@
+-- What the search keeps true of its clauses, of the lists of those that watch a literal, and of the trail.
+use Rattle.std.specs.Prelude.{◌≡◌, ◌≢◌, ◌≤◌, ◌<◌, ℕ, Bool, List, [], Option, length, slice_index_or, Contains}
+use Rattle.std.specs.List.{All}
+use Rattle.bt_cnf.specs.Formulas.{LitsBelow}
+use Rattle.bt_cnf.specs.declared.literal.Lit.{Lit}
+use Rattle.bt_log.specs.Units.{opposite}
+use Rattle.bt_sat.specs.inner.Attending.{first, second}
+use Rattle.bt_sat.specs.inner.Truths.{IsTrueIn, IsFalseIn}
+use Rattle.bt_sat.specs.inner.Watchers.{watchers}
+use Rattle.bt_sat.specs.inner.WatchersParts.{WatchersParts}
+
+-- a clause has two or more literals of variables, and the two that it watches differ
+pub record IsWatchable (vars : ℕ) (clause : List Lit) : Type 0 where
+  pub two : 2 ≤ length clause
+  pub below : LitsBelow vars clause
+  pub differ : first clause ≢ second clause
+
+-- a clause is on the lists of both literals that it watches
+pub record IsListed (w : WatchersParts) (id : ℕ) (clause : List Lit) : Type 0 where
+  pub by_first : Contains (watchers w (first clause)) id
+  pub by_second : Contains (watchers w (second clause)) id
+
+-- the clause with this number
+abbrev pub kept_at : List (List Lit) → ℕ → List Lit
+kept_at clauses id = slice_index_or clauses id []
+
+-- each clause is watchable and on its two lists, and the lists name clauses
+pub record AreWatched (vars : ℕ) (clauses : List (List Lit)) (w : WatchersParts) : Type 0 where
+  pub positives : length w.positives ≡ vars
+  pub negatives : length w.negatives ≡ vars
+  pub watchable : All (IsWatchable vars) clauses
+  pub listed : (id : ℕ) → id < length clauses → IsListed w id (kept_at clauses id)
+  pub named : (l : Lit) → All (λ id. id < length clauses) (watchers w l)
+
+-- the trail has exactly the literals that are true
+pub record AreTrue (values : List (Option Bool)) (trail : List Lit) : Type 0 where
+  pub below : LitsBelow (length values) trail
+  pub true_in : (l : Lit) → Contains trail l → IsTrueIn values l
+  pub in_trail : (l : Lit) → IsTrueIn values l → Contains trail l
+
+-- where one of the two literals that a clause watches has its opposite in a part of the trail, the other is true
+pub record IsAtRest (part trail clause : List Lit) : Type 0 where
+  pub if_first : Contains part (opposite (first clause)) → Contains trail (second clause)
+  pub if_second : Contains part (opposite (second clause)) → Contains trail (first clause)
+
+-- where a clause watches this literal, the other one that it watches is true
+pub record IsDone (gone : Lit) (trail clause : List Lit) : Type 0 where
+  pub if_first : first clause ≡ gone → Contains trail (second clause)
+  pub if_second : second clause ≡ gone → Contains trail (first clause)
+
+-- the clauses that watch a false literal are being visited: all is kept, nothing is unsettled by a part of the trail, and
+-- the first so many of the literal's list are done
+pub record IsVisiting (part : List Lit) (gone : Lit) (place : ℕ) (values : List (Option Bool)) (trail : List Lit)
+    (clauses : List (List Lit)) (w : WatchersParts) : Type 0 where
+  pub watched : AreWatched (length values) clauses w
+  pub truths : AreTrue values trail
+  pub rest : All (IsAtRest part trail) clauses
+  pub part_in : All (Contains trail) part
+  pub gone_false : IsFalseIn values gone
+  pub done : (k : ℕ) → k < place → k < length (watchers w gone) → IsDone gone trail (kept_at clauses (slice_index_or (watchers w gone) k 0))

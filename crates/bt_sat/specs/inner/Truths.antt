@@ -1,0 +1,11 @@
+-- What literals are worth while some variables are set.
+use Rattle.std.specs.Prelude.{◌≡◌, Bool, not, List, Option, None, Some, slice_index_or}
+use Rattle.bt_cnf.specs.declared.literal.Lit.{Lit}
+
+-- the variable of the literal is set so that the literal is true
+abbrev pub IsTrueIn : List (Option Bool) → Lit → Type 0
+IsTrueIn values l = slice_index_or values l.var None ≡ Some l.positive
+
+-- the variable of the literal is set so that the literal is false
+abbrev pub IsFalseIn : List (Option Bool) → Lit → Type 0
+IsFalseIn values l = slice_index_or values l.var None ≡ Some (not l.positive)

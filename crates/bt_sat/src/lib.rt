@@ -1,0 +1,16 @@
+//! A search for models of formulas that learns clauses, and the choosers that it comes with.
+#![tactic(auto)]
+
+mod assignment;
+mod choosers;
+mod kept;
+mod law;
+mod search;
+mod side;
+mod truth;
+mod watched;
+mod watchers;
+
+pub use choosers::{Highest, Lowest, Recent};
+pub use law::settled_is_open;
+pub use std::alloc::AllocError as Memory;

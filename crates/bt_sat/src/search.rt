@@ -1,0 +1,80 @@
+//! Propagation over watched clauses.
+ghost use Rattle.std.specs.Prelude.{◌≡◌, ◌<◌, ◌≤◌, length, OnOk, IfOk, List};
+ghost use Rattle.bt_sat.specs.inner.Keeping.{AreWatched, AreTrue, IsWatchable, kept_at};
+ghost use Rattle.bt_sat.specs.inner.AttendingIn.{AttendsIn};
+ghost use Rattle.bt_sat.specs.inner.Truths.{IsFalseIn};
+ghost use Rattle.bt_sat.specs.inner.Watchers.{watchers};
+ghost use Rattle.bt_sat.specs.inner.Propagating.{Advances};
+
+use crate::assignment::{Assignment, assign};
+use crate::kept::Watched;
+use crate::truth::Values;
+use crate::watched::{Visit, attend};
+use crate::watchers::Watchers;
+use bt_arena::{Id, Pool};
+use bt_cnf::Lit;
+use std::alloc::AllocError;
+
+/// What is true, and the clauses that say what follows.
+#[derive(Drop)]
+pub struct Search {
+    pub assignment: Assignment,
+    /// The clauses of two or more literals, whose first two are watched.
+    pub clauses: Pool<Lit, Watched>,
+    pub watchers: Watchers,
+}
+
+/// What became of a clause on the list of a literal that is false.
+#[derive(Clone, Copy)]
+pub enum Attended {
+    /// It stays on the list.
+    Stays,
+    /// It is on the list no longer.
+    Leaves,
+    /// All its literals are false.
+    Fails(Id<Watched>),
+}
+
+/// Visits a clause where a literal has become false.
+fn attend_in(
+    clauses: &mut Pool<Lit, Watched>,
+    id: Id<Watched>,
+    gone: &Lit,
+    values: &Values,
+) -> Visit
+    requires id { id < length clauses.old }
+    requires watchable { IsWatchable (length values.now) (kept_at clauses.old id) }
+    requires gone { IsFalseIn values.now gone.now }
+    ensures { AttendsIn values.now gone.now id clauses.old clauses.new result }
+{
+    attend(clauses.slice_mut(id), gone, values)
+}
+
+/// Visits the clause at a place of the list of a literal that is false.
+pub fn attend_at(search: &mut Search, gone: &Lit, place: usize) -> Result<Attended, AllocError>
+    requires watched { AreWatched (length search.old.assignment.values) search.old.clauses search.old.watchers }
+    requires truths { AreTrue search.old.assignment.values search.old.assignment.trail.items }
+    requires gone { IsFalseIn search.old.assignment.values gone.now }
+    requires variable { gone.now.var < length search.old.assignment.values }
+    requires place { place < length (watchers search.old.watchers gone.now) }
+    ensures { IfOk result (Advances gone.now place search.old search.new) }
+{
+    let id = search.watchers.at(gone, place);
+    match attend_in(&mut search.clauses, id, gone, &search.assignment.values) {
+        Visit::Strays => {
+            search.watchers.unwatch(gone, place);
+            Ok(Attended::Leaves)
+        }
+        Visit::Stays => Ok(Attended::Stays),
+        Visit::Moves(lit) => {
+            search.watchers.watch(&lit, id)?;
+            search.watchers.unwatch(gone, place);
+            Ok(Attended::Leaves)
+        }
+        Visit::Forces(lit) => {
+            assign(&mut search.assignment, &lit)?;
+            Ok(Attended::Stays)
+        }
+        Visit::Fails => Ok(Attended::Fails(id)),
+    }
+}

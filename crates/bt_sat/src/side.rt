@@ -1,0 +1,46 @@
+//! For each variable, the kept clauses that watch one of its two literals.
+ghost use Rattle.std.specs.Prelude.{◌≡◌, ◌<◌, length, OnOk, slice_index_or, slice_get, Some, []};
+ghost use Rattle.bt_sat.specs.inner.Sides.{lists_of, Gains, Loses};
+
+use crate::kept::Watched;
+use bt_arena::Id;
+use bt_cnf::Var;
+use std::alloc::AllocError;
+
+/// For each variable, the clauses that watch its positive literal, or those that watch its negative one.
+pub type Side = Vec<Vec<Id<Watched>>>;
+
+/// The number of clauses on a variable's list.
+pub fn list_len(side: &Side, var: Var) -> usize
+    requires { var < length (lists_of side.now) }
+    ensures { result ≡ length (slice_index_or (lists_of side.now) var []) }
+{
+    side[var.place()].len()
+}
+
+/// The clause at a place of a variable's list.
+pub fn list_at(side: &Side, var: Var, place: usize) -> Id<Watched>
+    requires var { var < length (lists_of side.now) }
+    requires place { place < length (slice_index_or (lists_of side.now) var []) }
+    ensures { result ≡ slice_index_or (slice_index_or (lists_of side.now) var []) place result }
+{
+    side[var.place()][place]
+}
+
+/// Puts a clause on a variable's list.
+pub fn list_add(side: &mut Side, var: Var, id: Id<Watched>) -> Result<(), AllocError>
+    requires { var < length (lists_of side.old) }
+    ensures { OnOk result (Gains (lists_of side.old) (lists_of side.new) var id) }
+{
+    side[var.place()].push(id)?;
+    Ok(())
+}
+
+/// Takes the clause at a place off a variable's list.
+pub fn list_remove(side: &mut Side, var: Var, place: usize)
+    requires var { var < length (lists_of side.old) }
+    requires place { place < length (slice_index_or (lists_of side.old) var []) }
+    ensures { Loses (lists_of side.old) (lists_of side.new) var place }
+{
+    let _ = side[var.place()].swap_remove(place);
+}

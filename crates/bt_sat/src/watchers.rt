@@ -1,0 +1,85 @@
+//! For each literal, the kept clauses that watch it.
+ghost use Rattle.std.specs.Prelude.{◌≡◌, ◌<◌, length, OnOk, slice_index_or};
+ghost use Rattle.bt_sat.specs.inner.Watchers.{watchers, Watches, Unwatches};
+
+use crate::kept::Watched;
+use crate::side::{Side, list_add, list_at, list_len, list_remove};
+use bt_arena::Id;
+use bt_cnf::Lit;
+use std::alloc::AllocError;
+use std::marker::Model;
+
+/// For each literal, the kept clauses that watch it, in no order.
+#[derive(Drop)]
+pub struct Watchers {
+    positives: Side,
+    negatives: Side,
+}
+
+impl Model for Watchers {
+    ghost use Rattle.bt_sat.specs.inner.WatchersParts.{WatchersParts};
+    ghost use Rattle.bt_sat.specs.inner.Sides.{lists_of};
+
+    ghost Value = { WatchersParts };
+
+    ghost view = { λ w. record {
+      positives = lists_of w.positives;
+      negatives = lists_of w.negatives;
+    } };
+}
+
+impl Watchers {
+    /// The number of clauses that watch a literal.
+    pub fn len(&self, lit: &Lit) -> usize
+        requires positives { lit.now.var < length self.now.positives }
+        requires negatives { lit.now.var < length self.now.negatives }
+        ensures { result ≡ length (watchers self.now lit.now) }
+    {
+        if lit.positive {
+            list_len(&self.positives, lit.var)
+        } else {
+            list_len(&self.negatives, lit.var)
+        }
+    }
+
+    /// A clause that watches a literal.
+    pub fn at(&self, lit: &Lit, place: usize) -> Id<Watched>
+        requires positives { lit.now.var < length self.now.positives }
+        requires negatives { lit.now.var < length self.now.negatives }
+        requires place { place < length (watchers self.now lit.now) }
+        ensures { result ≡ slice_index_or (watchers self.now lit.now) place result }
+    {
+        if lit.positive {
+            list_at(&self.positives, lit.var, place)
+        } else {
+            list_at(&self.negatives, lit.var, place)
+        }
+    }
+
+    /// Lets a clause watch a literal.
+    pub fn watch(&mut self, lit: &Lit, id: Id<Watched>) -> Result<(), AllocError>
+        requires positives { lit.now.var < length self.old.positives }
+        requires negatives { lit.now.var < length self.old.negatives }
+        ensures { OnOk result (Watches self.old self.new lit.now id) }
+    {
+        if lit.positive {
+            list_add(&mut self.positives, lit.var, id)
+        } else {
+            list_add(&mut self.negatives, lit.var, id)
+        }
+    }
+
+    /// Lets the clause at a place watch a literal no longer.
+    pub fn unwatch(&mut self, lit: &Lit, place: usize)
+        requires positives { lit.now.var < length self.old.positives }
+        requires negatives { lit.now.var < length self.old.negatives }
+        requires place { place < length (watchers self.old lit.now) }
+        ensures { Unwatches self.old self.new lit.now place }
+    {
+        if lit.positive {
+            list_remove(&mut self.positives, lit.var, place);
+        } else {
+            list_remove(&mut self.negatives, lit.var, place);
+        }
+    }
+}
