@@ -6,7 +6,7 @@ use Rattle.bt_net.specs.declared.network.Edge.{Edge}
 use Rattle.bt_net.specs.Network.{Network}
 use Rattle.bt_flow.specs.declared.ports.Port.{Port}
 use Rattle.bt_flow.specs.declared.ports.Role.{Role}
-use Rattle.bt_flow.specs.inner.Ports.{numbers_of, numbers_where, plays, IsPort}
+use Rattle.bt_flow.specs.Ports.{numbers_of, numbers_where, plays, IsPort}
 use Rattle.bt_flow.specs.Steady.{HasEdge}
 
 at_head : (P : ℕ → Type 0) (m : ℕ) (b : Bool) (rest : List ℕ) → b ≡ true → AllByRecursion P (cond b (m ∷ rest) rest) → P m
