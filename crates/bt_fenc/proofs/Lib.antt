@@ -1,0 +1,5 @@
+pub mod Loops
+pub mod Merges
+pub mod Columns
+pub mod Numbers
+pub mod Withins

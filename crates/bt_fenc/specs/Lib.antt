@@ -1,0 +1,6 @@
+pub mod Columns
+pub mod Families
+pub mod Properties
+pub mod FlowFormula
+pub mod Numbering
+pub mod inner

@@ -1,0 +1,5 @@
+-- What private functions alone cite.
+pub mod Listed
+pub mod Merging
+pub mod Within
+pub mod Adding
