@@ -3,3 +3,5 @@ pub mod Merges
 pub mod Columns
 pub mod Numbers
 pub mod Withins
+pub mod TrueClaims
+pub mod RowValues

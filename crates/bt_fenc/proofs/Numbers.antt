@@ -9,7 +9,7 @@ use Rattle.bt_cnf.specs.Formulas.{FormulaParts}
 use Rattle.bt_fenc.specs.declared.claim.Claim.{Claim}
 use Rattle.bt_fenc.specs.declared.claim.Claim.TheVariants.{Mark, Says}
 use Rattle.bt_fenc.specs.Numbering.{mentioned, rows_in, literals_from, clauses_from, atoms_from, formula_of}
-use Rattle.bt_fenc.specs.inner.Within.{IsWithin, AreWithin}
+use Rattle.bt_fenc.specs.Within.{IsWithin, AreWithin}
 use Rattle.bt_fenc.specs.inner.Adding.{AreBelow, IsAfter, IsWithClause}
 
 pub atoms-append : (m : ℕ) (rows more : List RowParts) → atoms_from m (rows ++ more) ≡ atoms_from m rows ++ atoms_from (m + length rows) more

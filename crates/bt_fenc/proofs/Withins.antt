@@ -15,7 +15,7 @@ use Rattle.bt_fenc.specs.Columns.{input_edge, output_edge, input_edges, output_e
 use Rattle.bt_fenc.specs.Families.{clauses_at, places, family_clauses, families, even_clauses, backing_clause}
 use Rattle.bt_fenc.specs.Properties.{property_clauses, loaded_clauses, open_clauses, short_clauses, unequal_clause, differ}
 use Rattle.bt_fenc.specs.FlowFormula.{flow_clauses}
-use Rattle.bt_fenc.specs.inner.Within.{IsWithin, AreWithin}
+use Rattle.bt_fenc.specs.Within.{IsWithin, AreWithin}
 
 pub each-append : {X : Type 0} (P : X → Type 0) (xs ys : List X) → AllByRecursion P xs → AllByRecursion P ys → AllByRecursion P (xs ++ ys)
 each-append P [] ys h g = g

@@ -3,4 +3,6 @@ pub mod Families
 pub mod Properties
 pub mod FlowFormula
 pub mod Numbering
+pub mod Within
+pub mod Laws
 pub mod inner

@@ -229,7 +229,8 @@ pub fn add_families(
     draft: &mut Draft,
 ) -> Result<(), AllocError>
     requires { ArePorts net.now ports.now }
-    ensures { OnOk result (draft.new ≡ draft.old ++ flat_map (families.family_clauses net.now) families.families) }
+    ensures { OnOk result (draft.new ≡ draft.old
+        ++ flat_map (families.family_clauses net.now) families.families) }
 {
     for family in FAMILIES {
         add_family(alloc, net, ports, draft, family)?;

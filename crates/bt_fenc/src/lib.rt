@@ -8,6 +8,7 @@ mod encoding;
 mod ends;
 mod families;
 mod family;
+mod law;
 mod numbering;
 mod properties;
 mod rows;
@@ -16,4 +17,5 @@ mod splitters;
 mod tests;
 
 pub use encoding::encode;
+pub use law::true_claims_meet;
 pub use std::alloc::AllocError as Memory;

@@ -2,7 +2,7 @@
 ghost use Rattle.std.specs.Prelude.{◌≡◌, ◌+◌, ◌<◌, ◌≤◌, ◌^◌, ◌++◌, ◌∷◌, [], IfOk, OnOk, length, map, flat_map};
 ghost use Rattle.bt_fenc.specs.Numbering as numbering;
 ghost use Rattle.std.specs.List.{AllByRecursion};
-ghost use Rattle.bt_fenc.specs.inner.Within.{IsWithin, AreWithin};
+ghost use Rattle.bt_fenc.specs.Within.{IsWithin, AreWithin};
 ghost use Rattle.bt_fenc.specs.inner.Adding.{AreBelow, IsAfter, IsWithClause};
 
 use crate::claim::Claim;

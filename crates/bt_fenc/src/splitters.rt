@@ -106,7 +106,8 @@ fn add_backing_at(
     leaving: &[usize],
 ) -> Result<(), AllocError>
     requires { All (λ x. x < 2 ^ 64 - 1) leaving.now }
-    ensures { OnOk result (draft.new ≡ draft.old ++ map (families.backing_clause net.now entering) leaving.now) }
+    ensures { OnOk result (draft.new ≡ draft.old
+        ++ map (families.backing_clause net.now entering) leaving.now) }
 {
     for edge in leaving {
         add_backing_of(alloc, net, draft, entering, *edge)?;

@@ -1,6 +1,6 @@
 use Rattle.std.proofs.Common.{length, sym, subst}
 use Rattle.bt_fenc.specs.FlowFormula.{flow_clauses}
-use Rattle.bt_fenc.specs.inner.Within.{AreWithin}
+use Rattle.bt_fenc.specs.Within.{AreWithin}
 use Rattle.bt_fenc.proofs.Withins.{flow_within}
 use Rattle.bt_fenc.proofs.encoding.encode.Goals as goal
 

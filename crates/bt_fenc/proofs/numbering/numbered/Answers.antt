@@ -3,7 +3,7 @@ use Rattle.std.proofs.lemmas.List.{map_push, map-append}
 use Rattle.bt_cnf.specs.Formulas.{FormulaParts}
 use Rattle.bt_fenc.specs.declared.claim.Claim.{Claim}
 use Rattle.bt_fenc.specs.Numbering.{rows_in, clauses_from, atoms_from}
-use Rattle.bt_fenc.specs.inner.Within.{AreWithin}
+use Rattle.bt_fenc.specs.Within.{AreWithin}
 use Rattle.bt_fenc.proofs.Numbers as numbers
 use Rattle.bt_fenc.proofs.numbering.numbered.Goals as goal
 
