@@ -5,3 +5,4 @@ pub mod Numbers
 pub mod Withins
 pub mod TrueClaims
 pub mod RowValues
+pub mod Admitted

@@ -102,6 +102,9 @@ module _ (n : Network) (is : IsNetwork n) where
   family_within : (f : Family) → AreWithin (length n.edges) (family_clauses n f)
   family_within f = each-flat_map _ (λ x. Unit {0}) (clauses_at n f) (range_with_len 0 (places n f)) (each_any (range_with_len 0 (places n f))) (λ k t. at_within f k)
 
+  pub families_within : AreWithin (length n.edges) (flat_map (family_clauses n) families)
+  families_within = each-flat_map (AllByRecursion (IsWithin (length n.edges))) (λ x. Unit {0}) (family_clauses n) families (each_any families) (λ f t. family_within f)
+
   loaded_within : AreWithin (length n.edges) (loaded_clauses n)
   loaded_within = each-map _ (λ x. Unit {0}) _ (range_with_len 0 n.inputs) (each_any (range_with_len 0 n.inputs)) (λ i t. (tt, tt))
 
@@ -122,4 +125,4 @@ module _ (n : Network) (is : IsNetwork n) where
   property_within Full = each-three (AllByRecursion (IsWithin (length n.edges))) (loaded_clauses n) (open_clauses n) (short_clauses n) loaded_within open_within short_within
 
   pub flow_within : (p : Property) → AreWithin (length n.edges) (flow_clauses n p)
-  flow_within p = each-append (AllByRecursion (IsWithin (length n.edges))) (flat_map (family_clauses n) families) (property_clauses n p) (each-flat_map (AllByRecursion (IsWithin (length n.edges))) (λ x. Unit {0}) (family_clauses n) families (each_any families) (λ f t. family_within f)) (property_within p)
+  flow_within p = each-append (AllByRecursion (IsWithin (length n.edges))) (flat_map (family_clauses n) families) (property_clauses n p) families_within (property_within p)
