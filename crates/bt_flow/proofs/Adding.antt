@@ -4,7 +4,7 @@ use Rattle.std.proofs.lemmas.List.{take_more, take-append-drop, length-take-le, 
 use Rattle.std.proofs.Math.Seq.{drop-cons}
 use Rattle.bt_flow.specs.declared.ports.Port.{Port}
 use Rattle.bt_flow.specs.declared.ports.Port.TheVariants.{One, Two}
-use Rattle.bt_flow.specs.inner.Ports.{numbers_of}
+use Rattle.bt_flow.specs.Ports.{numbers_of}
 use Rattle.bt_frac.specs.Ratio.{Ratio, IsWide}
 use Rattle.bt_net.specs.declared.network.Edge.{Edge}
 use Rattle.bt_net.specs.declared.network.Start.TheVariants as from

@@ -5,7 +5,7 @@ use Rattle.std.proofs.lemmas.Option.{slice_get-get_or, get_or_from_slice_get, sl
 use Rattle.bt_net.specs.declared.network.Edge.{Edge}
 use Rattle.bt_net.specs.Network.{Network}
 use Rattle.bt_flow.specs.declared.ports.Role.{Role}
-use Rattle.bt_flow.specs.inner.Ports.{plays}
+use Rattle.bt_flow.specs.Ports.{plays}
 use Rattle.bt_flow.specs.States.{Flows, Fractions, StandsFor, flow_at}
 use Rattle.bt_flow.specs.Steady.{HasEdge}
 

@@ -12,7 +12,7 @@ use Rattle.std.specs.List.{AllByRecursion}
 use Rattle.bt_flow.specs.declared.ports.Port.{Port}
 use Rattle.bt_flow.specs.declared.ports.Port.TheVariants.{One, Two}
 use Rattle.bt_flow.specs.declared.ports.Role.{Role}
-use Rattle.bt_flow.specs.inner.Ports.{numbers_of, plays}
+use Rattle.bt_flow.specs.Ports.{numbers_of, plays}
 use Rattle.bt_flow.specs.inner.AtPorts.{Admits, Rests}
 
 -- an item of a list of fractions over a denominator

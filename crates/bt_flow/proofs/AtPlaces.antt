@@ -8,7 +8,7 @@ use Rattle.bt_flow.specs.declared.ports.Ports.{Ports}
 use Rattle.bt_flow.specs.declared.ports.Role.{Role}
 use Rattle.bt_flow.specs.declared.ports.Role.TheVariants.{FromInput, ToOutput, OutOf, Into}
 use Rattle.bt_flow.specs.States.{Fractions}
-use Rattle.bt_flow.specs.inner.Ports.{IsPort}
+use Rattle.bt_flow.specs.Ports.{IsPort}
 use Rattle.bt_flow.specs.inner.AtPorts.{AtEach}
 use Rattle.bt_flow.specs.inner.Trials.{IsReady}
 use Rattle.bt_flow.proofs.Each.{port_below}

@@ -4,7 +4,7 @@ use Rattle.std.specs.List.{AllByRecursion}
 use Rattle.std.proofs.lemmas.Bool.{false≢true}
 use Rattle.bt_flow.specs.declared.ports.Port.{Port}
 use Rattle.bt_flow.specs.declared.ports.Port.TheVariants.{One, Two}
-use Rattle.bt_flow.specs.inner.Ports.{numbers_of}
+use Rattle.bt_flow.specs.Ports.{numbers_of}
 
 -- a test that fails answers for both
 pub fails_first : {P Q : Type 0} (b : Bool) → b ≡ false → IsTrue b ↔ P → IsTrue b ↔ (P × Q)

@@ -6,7 +6,7 @@ use Rattle.bt_net.specs.declared.network.Edge.{Edge}
 use Rattle.bt_net.specs.Network.{Network}
 use Rattle.bt_flow.specs.declared.ports.Port.{Port}
 use Rattle.bt_flow.specs.declared.ports.Role.{Role}
-use Rattle.bt_flow.specs.inner.Ports.{numbers_of, numbers_where, plays, IsPort}
+use Rattle.bt_flow.specs.Ports.{numbers_of, numbers_where, plays, IsPort}
 use Rattle.bt_flow.specs.Steady.{HasEdge}
 
 at_head : (P : ℕ → Type 0) (m : ℕ) (b : Bool) (rest : List ℕ) → b ≡ true → AllByRecursion P (cond b (m ∷ rest) rest) → P m
@@ -29,7 +29,7 @@ numbers_all p P m (x ∷ es) h zero e is t =
 numbers_all p P m (x ∷ es) h (suc i) e is t =
     subst P (let z : m + 1 + i ≡ m + suc i = omega arith in z) (numbers_all p P (m + 1) es (at_tail P m (p x) (numbers_where p (m + 1) es) h) i e is t)
 
-numbers_from : (p : Edge → Bool) (P : ℕ → Type 0) (m : ℕ) (es : List Edge) → ((i : ℕ) (e : Edge) → slice_get es i ≡ Some e → p e ≡ true → P (m + i))
+pub numbers_from : (p : Edge → Bool) (P : ℕ → Type 0) (m : ℕ) (es : List Edge) → ((i : ℕ) (e : Edge) → slice_get es i ≡ Some e → p e ≡ true → P (m + i))
     → AllByRecursion P (numbers_where p m es)
 numbers_from p P m [] f = tt
 numbers_from p P m (x ∷ es) f =

@@ -15,7 +15,7 @@ use Rattle.bt_flow.specs.declared.ports.Port.{Port}
 use Rattle.bt_flow.specs.declared.ports.Port.TheVariants.{Unused}
 use Rattle.bt_flow.specs.declared.ports.Role.{Role}
 use Rattle.bt_flow.specs.declared.ports.Role.TheVariants.{FromInput, ToOutput, OutOf, Into}
-use Rattle.bt_flow.specs.inner.Ports.{numbers_where, numbers_of, plays}
+use Rattle.bt_flow.specs.Ports.{numbers_where, numbers_of, plays}
 
 -- with one more edge
 pub numbers_where-append : (p : Edge → Bool) (n : ℕ) (edges : List Edge) (e : Edge)

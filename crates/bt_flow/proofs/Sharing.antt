@@ -12,7 +12,7 @@ use Rattle.bt_net.specs.Network.{Network, leaves, enters}
 use Rattle.bt_flow.specs.declared.ports.Port.{Port}
 use Rattle.bt_flow.specs.declared.ports.Role.{Role}
 use Rattle.bt_flow.specs.declared.ports.Role.TheVariants.{OutOf}
-use Rattle.bt_flow.specs.inner.Ports.{numbers_of, plays, IsPort}
+use Rattle.bt_flow.specs.Ports.{numbers_of, plays, IsPort}
 use Rattle.bt_flow.specs.States.{Flows, flow_at, backed_at}
 use Rattle.bt_flow.specs.Steady.{HasEdge, IsFull, Backs}
 use Rattle.bt_flow.specs.inner.AtPorts.{Rests}

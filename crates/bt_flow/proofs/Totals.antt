@@ -7,7 +7,7 @@ use Rattle.bt_net.specs.declared.network.Edge.{Edge}
 use Rattle.bt_net.specs.Network.{Network}
 use Rattle.bt_flow.specs.declared.ports.Port.{Port}
 use Rattle.bt_flow.specs.declared.ports.Role.{Role}
-use Rattle.bt_flow.specs.inner.Ports.{numbers_of, numbers_where, plays, IsPort}
+use Rattle.bt_flow.specs.Ports.{numbers_of, numbers_where, plays, IsPort}
 use Rattle.bt_flow.specs.Steady.{sum_where}
 use Rattle.bt_flow.specs.Properties.{total}
 use Rattle.bt_flow.specs.Sums.{nothing, AddsTo, RunsTo, fractions_where}

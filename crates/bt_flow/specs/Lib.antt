@@ -5,6 +5,7 @@ pub mod Properties
 pub mod Tests
 pub mod Sums
 pub mod Judging
+pub mod Ports
 pub mod Names
 pub mod StateText
 pub mod StateLines

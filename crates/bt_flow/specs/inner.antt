@@ -1,6 +1,5 @@
 -- What the contracts of private functions cite.
 pub mod Compared
-pub mod Ports
 pub mod AtPorts
 pub mod Lines
 pub mod Trials

@@ -18,6 +18,7 @@ mod trial;
 pub use fault::StateFault;
 pub use judge::{breaks, steady};
 pub use judgement::{FIRST_LAW, Judgement, LAST_LAW, LAST_TEST, TESTS, Test, WideSum};
+pub use ports::{Port, Ports, Role};
 pub use property::Property;
 pub use reading::{one_state, read_state};
 pub use state::State;

@@ -1,7 +1,7 @@
 //! The edges at each input, output and splitter, found once, so that no test looks for them.
 ghost use Rattle.std.specs.Prelude.{◌≡◌, ◌==◌, ◌<◌, ◌++◌, ◌∷◌, [], ℕ, false, IfSome, IfNone, length};
 ghost use Rattle.bt_net.specs.Network.{IsNetwork};
-ghost use Rattle.bt_flow.specs.inner.Ports.{numbers_of, plays, AreAt, ArePorts};
+ghost use Rattle.bt_flow.specs.Ports.{numbers_of, plays, AreAt, ArePorts};
 
 use bt_net::{Edge, MOST_OF_EACH, Net, Start, Target};
 

@@ -3,7 +3,7 @@ ghost use Rattle.std.specs.Prelude.{◌≡◌, ◌<◌, IfOk, IfErr, length};
 ghost use Rattle.bt_frac.specs.Ratio.{IsWide};
 ghost use Rattle.bt_flow.specs.Sums.{nothing, AddsTo, RunsTo, IsWideIn, fractions_where};
 ghost use Rattle.bt_flow.specs.Properties.{is_last};
-ghost use Rattle.bt_flow.specs.inner.Ports.{flows_of};
+ghost use Rattle.bt_flow.specs.Ports.{flows_of};
 ghost use Rattle.bt_flow.specs.inner.AtPorts.{AtEach};
 
 use crate::ports::Port;

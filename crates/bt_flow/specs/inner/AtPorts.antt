@@ -10,7 +10,7 @@ use Rattle.bt_flow.specs.declared.sums.Wide.{Wide}
 use Rattle.bt_flow.specs.States.{Flows, Fractions, StandsFor, flow_at, backed_at, cap_in}
 use Rattle.bt_flow.specs.Steady.{HasEdge, IsFull}
 use Rattle.bt_flow.specs.Sums.{AllFit, IsFirstWide}
-use Rattle.bt_flow.specs.inner.Ports.{numbers_of, plays}
+use Rattle.bt_flow.specs.Ports.{numbers_of, plays}
 
 -- this is whether the claim is true of the whole numbers for which the fractions stand
 abbrev pub Tells : Network → Fractions → (Flows → Type 0) → Bool → Type 0

@@ -13,7 +13,7 @@ use Rattle.bt_flow.specs.States.{Flows, Fractions, AreLowest, StandsFor, Fits}
 use Rattle.bt_flow.specs.Tests.{order_of, places, PassesAt, IsAmong}
 use Rattle.bt_flow.specs.Sums.{sums_of, AllFit, IsFirstWide}
 use Rattle.bt_flow.specs.Judging.{IsWideSum}
-use Rattle.bt_flow.specs.inner.Ports.{ArePorts}
+use Rattle.bt_flow.specs.Ports.{ArePorts}
 use Rattle.bt_flow.specs.inner.AtPorts.{Tells, TellsBySums}
 
 -- what a trial is of: a state of a network, for a property

@@ -2,7 +2,7 @@ use Rattle.std.proofs.Common.{◌≡◌, ◌+◌, ◌≤◌, length, ap, sym, �
 use Rattle.std.proofs.lemmas.List.{get_or-replicate, length-replicate, length-set, take_all}
 use Rattle.bt_net.specs.declared.network.TheConstants.{MOST_OF_EACH}
 use Rattle.bt_flow.specs.declared.ports.Port.TheVariants.{Unused}
-use Rattle.bt_flow.specs.inner.Ports.{numbers_of, plays, numbers_where}
+use Rattle.bt_flow.specs.Ports.{numbers_of, plays, numbers_where}
 use Rattle.bt_flow.proofs.Numbers.{Fill, port_has_room, number_fits, filled_with, filled_without}
 use Rattle.bt_flow.proofs.ports.ports_of.Goals as goal
 use Rattle.bt_flow.proofs.ports.ports_of.Goals.{in-Some, in_default}

@@ -1,0 +1,279 @@
+-- A state that is admissible and steady makes true a claim of each clause of each family.
+use Rattle.std.proofs.Common.{◌≡◌, ◌≢◌, ℕ, ◌<◌, ◌≤◌, ◌+◌, ◌*◌, ◌⊎◌, inl, inr, Bool, true, false, IsTrue, ℤ, pos, ◌≤ℤ◌, List, [], ◌∷◌, ◌++◌, length, map, get_or, slice_get, Some, cond, ltb, ap, sym, ◌∙◌, refl, subst, arith, zero, suc, length-append}
+use Rattle.std.specs.List.{AllByRecursion, flat_map, range_with_len}
+use Rattle.std.proofs.lemmas.Int.{ints}
+use Rattle.std.proofs.Math.Bool.{not}
+use Rattle.std.proofs.lemmas.Bool.{ltb-false, cases_eq, false≢true}
+use Rattle.std.proofs.lemmas.List.{get_or_append_left, get_or-append-add, get_or-map}
+use Rattle.std.proofs.lemmas.Option.{slice_get-get_or, slice_get_within, get_or_from_slice_get}
+use Rattle.bt_frac.specs.Values.{RowHolds}
+use Rattle.bt_net.specs.declared.network.Edge.{Edge}
+use Rattle.bt_net.specs.Network.{Network, IsNetwork, leaves, enters, is_input, is_output}
+use Rattle.bt_flow.specs.Ports.{numbers_where}
+use Rattle.bt_flow.specs.States.{Flows, IsStateOf, flow_at, backed_at, load_at, room_at, cap_in}
+use Rattle.bt_flow.specs.Steady.{HasEdge, IsFull, IsSteady}
+use Rattle.bt_flow.specs.Properties.{IsAdmissible}
+use Rattle.bt_flow.proofs.Each.{numbers_from}
+use Rattle.bt_flow.proofs.Numbers.{length-numbers_where}
+use Rattle.bt_flow.proofs.Adding.{no_edge}
+use Rattle.bt_fenc.specs.declared.claim.Claim.{Claim}
+use Rattle.bt_fenc.specs.declared.claim.Claim.TheVariants.{Mark, Says}
+use Rattle.bt_fenc.specs.declared.family.Family.{Family}
+use Rattle.bt_fenc.specs.declared.family.Family.TheVariants as of
+use Rattle.bt_fenc.specs.Columns.{input_edge, output_edge, in_edges, out_edges, cap_at, load_column, room_column, at_least, not_below}
+use Rattle.bt_fenc.specs.Families.{clauses_at, places, family_clauses, families, range_clauses, end_clauses, even_clause, even_clauses, backing_clause}
+use Rattle.bt_fenc.specs.Laws.{IsTrueOf, HasTrue}
+use Rattle.bt_fenc.proofs.RowValues as rows
+use Rattle.bt_fenc.proofs.Withins.{each-append, each-flat_map, each-map, each-range, each_any, input_below, output_below}
+
+-- the whole number in a column
+abbrev pub column_of : Flows → ℕ → ℤ
+column_of s c = get_or (s.flows ++ s.loads ++ s.rooms) c (pos 0)
+
+-- the list has a first number, and it is one of them
+first_holds : (P : ℕ → Type 0) (numbers : List ℕ) → 0 < length numbers → AllByRecursion P numbers → P (get_or numbers 0 0)
+first_holds P [] l h = absurd (omega arith)
+first_holds P (x ∷ xs) l h = h.0
+
+module _ (n : Network) (is : IsNetwork n) (s : Flows) (state : IsStateOf n s) where
+  abbrev pub w : ℕ → ℤ
+  w = column_of s
+
+  flow_column : (a : ℕ) → a < length n.edges → w a ≡ flow_at s a
+  flow_column a l =
+      let f = state.flows in
+      let more = length-append s.flows s.loads in
+      get_or_append_left (s.flows ++ s.loads) s.rooms (pos 0) a (omega (arith, f, more, l)) ∙ get_or_append_left s.flows s.loads (pos 0) a (omega (arith, f, l))
+
+  load_column_is : (i : ℕ) → i < n.inputs → w (load_column n i) ≡ load_at s i
+  load_column_is i l =
+      let f = state.flows in
+      let g = state.loads in
+      let more = length-append s.flows s.loads in
+      get_or_append_left (s.flows ++ s.loads) s.rooms (pos 0) (length n.edges + i) (omega (arith, f, g, more, l))
+      ∙ ap (λ k. get_or (s.flows ++ s.loads) (k + i) (pos 0)) (sym f) ∙ get_or-append-add s.flows s.loads i (pos 0)
+
+  room_column_is : (o : ℕ) → o < n.outputs → w (room_column n o) ≡ room_at s o
+  room_column_is o l =
+      let f = state.flows in
+      let g = state.loads in
+      let more = length-append s.flows s.loads in
+      ap (λ k. get_or (s.flows ++ s.loads ++ s.rooms) (k + o) (pos 0)) (let e : length n.edges + n.inputs ≡ length (s.flows ++ s.loads) = omega (arith, f, g, more) in e)
+      ∙ get_or-append-add (s.flows ++ s.loads) s.rooms o (pos 0)
+
+  -- the edge with a number has its cap
+  cap_is : (a : ℕ) (e : Edge) → HasEdge n a e → cap_at n a ≡ e.cap
+  cap_is a e h =
+      let l = slice_get_within n.edges a e h in
+      get_or-map (λ x. x.cap) n.edges a e 0 l ∙ ap (λ x. x.cap) (get_or_from_slice_get n.edges a e e h)
+
+  -- the numbers of the edges that pass a test are of such edges
+  abbrev pub IsEdgeWith : (Edge → Bool) → ℕ → Type 0
+  IsEdgeWith p a = (e : Edge) × HasEdge n a e × IsTrue (p e)
+
+  edges_with : (p : Edge → Bool) → AllByRecursion (IsEdgeWith p) (numbers_where p 0 n.edges)
+  edges_with p = numbers_from p (IsEdgeWith p) 0 n.edges (λ i e h t. (e, subst (λ k. HasEdge n k e) (let z : i ≡ 0 + i = omega arith in z) h, t))
+
+mul_mono : (m n d : ℕ) → m ≤ n → m * d ≤ n * d
+mul_mono m n d l = grind arith
+
+same_or_not : (m mark : Bool) → (m ≡ mark) ⊎ (m ≡ not mark)
+same_or_not true true = inl refl
+same_or_not true false = inr refl
+same_or_not false true = inr refl
+same_or_not false false = inl refl
+
+module _ (n : Network) (is : IsNetwork n) (s : Flows) (state : IsStateOf n s) (steady : IsSteady n s) where
+  abbrev True : List Claim → Type 0
+  True claims = HasTrue (backed_at s) (rows.over (w n is s state) s.denominator) claims
+
+  abbrev AllTrue : List (List Claim) → Type 0
+  AllTrue clauses = AllByRecursion True clauses
+
+  range_true : (c k : ℕ) → pos 0 ≤ℤ w n is s state c → w n is s state c ≤ℤ pos (k * s.denominator) → AllTrue (range_clauses c k)
+  range_true c k low high =
+      let zero_is : pos (0 * s.denominator) ≡ pos 0 = omega (arith, ints) in
+      let least = subst (λ z. z ≤ℤ w n is s state c) (sym zero_is) low in
+      (inl (rows.at_least_holds (w n is s state) s.denominator state.positive c 0 least), (inl (rows.at_most_holds (w n is s state) s.denominator state.positive c k high), tt))
+
+  there : (a : ℕ) → a < length n.edges → HasEdge n a (get_or n.edges a no_edge)
+  there a l = slice_get-get_or n.edges a no_edge l
+
+  below : (a : ℕ) (e : Edge) → HasEdge n a e → a < length n.edges
+  below a e h = slice_get_within n.edges a e h
+
+  flow_is : (a : ℕ) (e : Edge) → HasEdge n a e → w n is s state a ≡ flow_at s a
+  flow_is a e h = flow_column n is s state a (below a e h)
+
+  cap_over : (a : ℕ) (e : Edge) → HasEdge n a e → pos (cap_at n a * s.denominator) ≡ cap_in s e
+  cap_over a e h = ap (λ c. pos (c * s.denominator)) (cap_is n is s state a e h)
+
+  -- one flow is at least another
+  not_below_true : (a b : ℕ) (e f : Edge) → HasEdge n a e → HasEdge n b f → flow_at s b ≤ℤ flow_at s a → RowHolds (not_below a b) (rows.over (w n is s state) s.denominator)
+  not_below_true a b e f h g l =
+      let x = flow_is a e h in
+      let y = flow_is b f g in
+      rows.not_below_holds (w n is s state) s.denominator state.positive a b (omega (arith, ints, x, y, l))
+
+  full_true : (a : ℕ) (e : Edge) → HasEdge n a e → flow_at s a ≡ cap_in s e → RowHolds (at_least a (cap_at n a)) (rows.over (w n is s state) s.denominator)
+  full_true a e h full =
+      let x = flow_is a e h in
+      let c = cap_over a e h in
+      rows.at_least_holds (w n is s state) s.denominator state.positive a (cap_at n a) (omega (arith, ints, x, c, full))
+
+  pub flows_true : (a : ℕ) → a < length n.edges → AllTrue (clauses_at n of.Flows a)
+  flows_true a l =
+      let e = get_or n.edges a no_edge in
+      let h = there a l in
+      let x = flow_is a e h in
+      let c = cap_over a e h in
+      let r = steady.range a l e h in
+      let low = r.0 in
+      let high = r.1 in
+      range_true a (cap_at n a) (omega (arith, ints, x, low)) (omega (arith, ints, x, c, high))
+
+  pub conserve_true : (k : ℕ) → k < n.splitters → AllTrue (clauses_at n of.Conserve k)
+  conserve_true k l =
+      (inl (rows.conserve_holds (w n is s state) s.denominator state.positive k n.edges s.flows state.flows (λ i b. flow_column n is s state i b) (steady.conserve k l)), tt)
+
+  -- the edge of an input, and of an output
+  input_is : (i : ℕ) → i < n.inputs → IsEdgeWith n is s state (is_input i) (input_edge n i)
+  input_is i l =
+      let one = is.wired.one_in i l in
+      let long = length-numbers_where (is_input i) 0 n.edges in
+      first_holds (IsEdgeWith n is s state (is_input i)) (numbers_where (is_input i) 0 n.edges) (omega (arith, one, long)) (edges_with n is s state (is_input i))
+
+  output_is : (o : ℕ) → o < n.outputs → IsEdgeWith n is s state (is_output o) (output_edge n o)
+  output_is o l =
+      let one = is.wired.one_out o l in
+      let long = length-numbers_where (is_output o) 0 n.edges in
+      first_holds (IsEdgeWith n is s state (is_output o)) (numbers_where (is_output o) 0 n.edges) (omega (arith, one, long)) (edges_with n is s state (is_output o))
+
+  pub loads_true : IsAdmissible n s → (i : ℕ) → i < n.inputs → AllTrue (clauses_at n of.Loads i)
+  loads_true admits i l =
+      let edge = input_is i l in
+      let x = load_column_is n is s state i l in
+      let c = cap_over (input_edge n i) edge.0 edge.1 in
+      let r = admits.loads i l (input_edge n i) edge.0 edge.1 edge.2 in
+      let low = r.0 in
+      let high = r.1 in
+      range_true (load_column n i) (cap_at n (input_edge n i)) (omega (arith, ints, x, low)) (omega (arith, ints, x, c, high))
+
+  pub rooms_true : IsAdmissible n s → (o : ℕ) → o < n.outputs → AllTrue (clauses_at n of.Rooms o)
+  rooms_true admits o l =
+      let edge = output_is o l in
+      let x = room_column_is n is s state o l in
+      let c = cap_over (output_edge n o) edge.0 edge.1 in
+      let r = admits.rooms o l (output_edge n o) edge.0 edge.1 edge.2 in
+      let low = r.0 in
+      let high = r.1 in
+      range_true (room_column n o) (cap_at n (output_edge n o)) (omega (arith, ints, x, low)) (omega (arith, ints, x, c, high))
+
+  end_true : (c a : ℕ) (mark : Bool) → w n is s state a ≤ℤ w n is s state c → (backed_at s a ≡ not mark → w n is s state c ≤ℤ w n is s state a) → AllTrue (end_clauses c a mark)
+  end_true c a mark most least = (
+    inl (rows.not_below_holds (w n is s state) s.denominator state.positive c a most),
+    (
+      elim (same_or_not (backed_at s a) mark) [
+        | inl x ↦ inl x
+        | inr y ↦ inr (inl (rows.not_below_holds (w n is s state) s.denominator state.positive a c (least y)))
+      ],
+      tt,
+    ),
+  )
+
+  pub inputs_true : (i : ℕ) → i < n.inputs → AllTrue (clauses_at n of.Inputs i)
+  inputs_true i l =
+      let a = input_edge n i in
+      let edge = input_is i l in
+      let x = load_column_is n is s state i l in
+      let y = flow_is a edge.0 edge.1 in
+      let law = steady.input i l a edge.0 edge.1 edge.2 in
+      let most = law.0 in
+      end_true (load_column n i) a true (omega (arith, ints, x, y, most)) (λ free. let same = law.1 free in omega (arith, ints, x, y, same))
+
+  pub outputs_true : (o : ℕ) → o < n.outputs → AllTrue (clauses_at n of.Outputs o)
+  outputs_true o l =
+      let a = output_edge n o in
+      let edge = output_is o l in
+      let x = room_column_is n is s state o l in
+      let y = flow_is a edge.0 edge.1 in
+      let law = steady.output o l a edge.0 edge.1 edge.2 in
+      let most = law.0 in
+      end_true (room_column n o) a false (omega (arith, ints, x, y, most)) (λ backed. let same = law.1 backed in omega (arith, ints, x, y, same))
+
+  full_clause : (mark : Bool) (a b : ℕ) (e f : Edge) → HasEdge n a e → HasEdge n b f → IsFull s a e → (t : Bool) → ltb (cap_at n a) (cap_at n b) ≡ t
+      → True (Mark a mark ∷ Says (not_below a b) ∷ cond t (Says (at_least a (cap_at n a)) ∷ []) [])
+  full_clause mark a b e f h g full true u = inr (inr (inl (full_true a e h full)))
+  full_clause mark a b e f h g full false u =
+      let x = cap_over a e h in
+      let y = cap_over b f g in
+      let high = (steady.range b (below b f g) f g).1 in
+      let caps = mul_mono (cap_at n b) (cap_at n a) s.denominator (ltb-false (cap_at n a) (cap_at n b) u) in
+      inr (inl (not_below_true a b e f h g (omega (arith, ints, x, y, high, caps, full))))
+
+  even_true : (mark : Bool) (a b : ℕ) (e f : Edge) → HasEdge n a e → HasEdge n b f
+      → (b ≢ a → backed_at s a ≡ not mark → (flow_at s b ≤ℤ flow_at s a) ⊎ IsFull s a e) → True (even_clause n mark a b)
+  even_true mark a b e f h g law =
+      elim (same_or_not (backed_at s a) mark) [
+        | inl x ↦ inl x
+        | inr y ↦ elim (cases_eq b a) [
+          | inl same ↦ let z : flow_at s b ≡ flow_at s a = ap (flow_at s) same in inr (inl (not_below_true a b e f h g (omega (arith, ints, z))))
+          | inr other ↦ elim (law other y) [
+            | inl l ↦ inr (inl (not_below_true a b e f h g l))
+            | inr full ↦ full_clause mark a b e f h g full (ltb (cap_at n a) (cap_at n b)) refl
+          ]
+        ]
+      ]
+
+  evens_true : (p : Edge → Bool) (mark : Bool)
+      → ((a b : ℕ) (e f : Edge) → HasEdge n a e → HasEdge n b f → IsTrue (p e) → IsTrue (p f) → b ≢ a → backed_at s a ≡ not mark → (flow_at s b ≤ℤ flow_at s a) ⊎ IsFull s a e)
+      → (edges : List ℕ) → AllByRecursion (IsEdgeWith n is s state p) edges → AllTrue (even_clauses n mark edges)
+  evens_true p mark law [] h = tt
+  evens_true p mark law (a ∷ []) h = tt
+  evens_true p mark law (a ∷ b ∷ []) h =
+      let x = h.0 in
+      let y = h.1.0 in
+      (even_true mark a b x.0 y.0 x.1 y.1 (λ o m. law a b x.0 y.0 x.1 y.1 x.2 y.2 o m), (even_true mark b a y.0 x.0 y.1 x.1 (λ o m. law b a y.0 x.0 y.1 x.1 y.2 x.2 o m), tt))
+  evens_true p mark law (a ∷ b ∷ c ∷ edges) h = tt
+
+  pub even_out_true : (k : ℕ) → AllTrue (clauses_at n of.EvenOut k)
+  even_out_true k =
+      evens_true (leaves k) true (λ a b e f h g p q o m. steady.even_out a (below a e h) k b e f h g o p q m) (out_edges n k) (edges_with n is s state (leaves k))
+
+  pub even_in_true : (k : ℕ) → AllTrue (clauses_at n of.EvenIn k)
+  even_in_true k =
+      evens_true (enters k) false (λ a b e f h g p q o m. steady.even_in a (below a e h) k b e f h g o p q m) (in_edges n k) (edges_with n is s state (enters k))
+
+  back_true : (k a x : ℕ) → IsEdgeWith n is s state (enters k) a → IsEdgeWith n is s state (leaves k) x → True (backing_clause n a x)
+  back_true k a x i o =
+      elim (same_or_not (backed_at s a) false) [
+        | inl free ↦ inl free
+        | inr backed ↦ elim (steady.backing a (below a i.0 i.1) k x i.0 o.0 i.1 o.1 i.2 o.2 backed) [
+          | inl also ↦ inr (inl also)
+          | inr full ↦ inr (inr (inl (full_true x o.0 o.1 full)))
+        ]
+      ]
+
+  pub backing_true : (k : ℕ) → AllTrue (clauses_at n of.Backing k)
+  backing_true k =
+      each-flat_map True (IsEdgeWith n is s state (enters k)) (λ a. map (backing_clause n a) (out_edges n k)) (in_edges n k) (edges_with n is s state (enters k))
+      (λ a i. each-map True (IsEdgeWith n is s state (leaves k)) (backing_clause n a) (out_edges n k) (edges_with n is s state (leaves k)) (λ x o. back_true k a x i o))
+
+  at_true : IsAdmissible n s → (f : Family) (k : ℕ) → k < places n f → AllTrue (clauses_at n f k)
+  at_true admits of.Flows k l = flows_true k l
+  at_true admits of.Loads k l = loads_true admits k l
+  at_true admits of.Rooms k l = rooms_true admits k l
+  at_true admits of.Conserve k l = conserve_true k l
+  at_true admits of.EvenOut k l = even_out_true k
+  at_true admits of.EvenIn k l = even_in_true k
+  at_true admits of.Backing k l = backing_true k
+  at_true admits of.Inputs k l = inputs_true k l
+  at_true admits of.Outputs k l = outputs_true k l
+
+  family_true : IsAdmissible n s → (f : Family) → AllTrue (family_clauses n f)
+  family_true admits f =
+      each-flat_map True (λ k. k < places n f) (clauses_at n f) (range_with_len 0 (places n f)) (each-range (λ k. k < places n f) 0 (places n f) (λ k l m. omega (arith, m)))
+      (λ k l. at_true admits f k l)
+
+  pub families_true : IsAdmissible n s → AllTrue (flat_map (family_clauses n) families)
+  families_true admits = each-flat_map True (λ f. Unit {0}) (family_clauses n) families (each_any families) (λ f t. family_true admits f)

@@ -1,0 +1,97 @@
+-- The columns of the flow formula, and rows over them.
+use Rattle.std.specs.List.{range_with_len}
+use Rattle.std.specs.Prelude.{ℕ, ◌+◌, ◌*◌, ◌==◌, nat_lt, ℤ, pos, Bool, List, [], ◌∷◌, ◌++◌, length, map, slice_index_or, if◌then◌else◌}
+use Rattle.bt_frac.specs.Ratio.{Ratio, negated}
+use Rattle.bt_frac.specs.Rows.{RowParts}
+use Rattle.bt_frac.specs.declared.row.Relation.{Relation}
+use Rattle.bt_frac.specs.declared.row.Relation.TheVariants.{AtLeast, Above, Equal}
+use Rattle.bt_net.specs.declared.network.Edge.{Edge}
+use Rattle.bt_net.specs.Network.{Network, leaves, enters, is_input, is_output}
+use Rattle.bt_flow.specs.Ports.{numbers_where}
+use Rattle.bt_flow.specs.Properties.{is_last}
+
+-- the numbers of the edges that leave a splitter, in ascending order
+abbrev pub out_edges : Network → ℕ → List ℕ
+out_edges n k = numbers_where (leaves k) 0 n.edges
+
+-- the numbers of the edges that enter a splitter, in ascending order
+abbrev pub in_edges : Network → ℕ → List ℕ
+in_edges n k = numbers_where (enters k) 0 n.edges
+
+-- the number of the edge of an input
+abbrev pub input_edge : Network → ℕ → ℕ
+input_edge n i = slice_index_or (numbers_where (is_input i) 0 n.edges) 0 0
+
+-- the number of the edge of an output
+abbrev pub output_edge : Network → ℕ → ℕ
+output_edge n o = slice_index_or (numbers_where (is_output o) 0 n.edges) 0 0
+
+-- the edges of the inputs, in the order of inputs
+abbrev pub input_edges : Network → List ℕ
+input_edges n = map (input_edge n) (range_with_len 0 n.inputs)
+
+-- the edges of the outputs, in the order of outputs
+abbrev pub output_edges : Network → List ℕ
+output_edges n = map (output_edge n) (range_with_len 0 n.outputs)
+
+-- the cap of the edge with this number
+abbrev pub cap_at : Network → ℕ → ℕ
+cap_at n a = slice_index_or (map (λ e. e.cap) n.edges) a 0
+
+-- the column of an input's load; that of an edge's flow is the edge's number
+abbrev pub load_column : Network → ℕ → ℕ
+load_column n i = length n.edges + i
+
+-- the column of an output's room
+abbrev pub room_column : Network → ℕ → ℕ
+room_column n o = length n.edges + n.inputs + o
+
+-- a whole number as a fraction
+abbrev pub whole : ℕ → Ratio
+whole k = record { over = pos k; under = 1 }
+
+-- a column, added
+abbrev pub plus : ℕ → ℕ × Ratio
+plus column = (column, whole 1)
+
+-- a column, subtracted
+abbrev pub minus : ℕ → ℕ × Ratio
+minus column = (column, negated (whole 1))
+
+-- the row of terms that are at least, above or equal to 0
+abbrev pub zero_row : List (ℕ × Ratio) → Relation → RowParts
+zero_row terms relation = record { terms = terms; relation = relation; bound = whole 0 }
+
+-- a column is at least a whole number
+abbrev pub at_least : ℕ → ℕ → RowParts
+at_least column k = record { terms = plus column ∷ []; relation = AtLeast; bound = whole k }
+
+-- a column is at most a whole number: its negative is at least the negative of that
+abbrev pub at_most : ℕ → ℕ → RowParts
+at_most column k = record { terms = minus column ∷ []; relation = AtLeast; bound = negated (whole k) }
+
+-- one column less another, the lower column first; nothing where they are one column
+abbrev pub less : ℕ → ℕ → List (ℕ × Ratio)
+less a b = if nat_lt a b then plus a ∷ minus b ∷ [] else (if nat_lt b a then minus b ∷ plus a ∷ [] else [])
+
+-- a column is at least another
+abbrev pub not_below : ℕ → ℕ → RowParts
+not_below a b = zero_row (less a b) AtLeast
+
+-- a column is above another
+abbrev pub above : ℕ → ℕ → RowParts
+above a b = zero_row (less a b) Above
+
+-- the edge with this number, at a splitter: added where it enters it, subtracted where it leaves it, and left
+-- out where it does both or neither
+abbrev pub at_splitter : ℕ → ℕ → Edge → List (ℕ × Ratio)
+at_splitter k a e = if enters k e then (if leaves k e then [] else plus a ∷ []) else (if leaves k e then minus a ∷ [] else [])
+
+-- the flows into a splitter less those out of it, of edges of which the first has this number
+abbrev pub in_less_out : ℕ → ℕ → List Edge → List (ℕ × Ratio)
+in_less_out k a [] = []
+in_less_out k a (e ∷ edges) = at_splitter k a e ++ in_less_out k (a + 1) edges
+
+-- what so many columns from one on add up to, less the flows to outputs, is above 0
+abbrev pub above_outputs : Network → ℕ → ℕ → RowParts
+above_outputs n first count = zero_row (map minus (numbers_where is_last 0 n.edges) ++ map plus (range_with_len first count)) Above

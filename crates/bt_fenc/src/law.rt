@@ -1,0 +1,14 @@
+//! Laws of the flow formula, as contracts of functions that do nothing.
+ghost use Rattle.bt_fenc.specs.Laws.{TrueClaimsMeet, SteadyMeets};
+
+/// Marks and values of which each clause has a true claim give an assignment, which begins with the marks
+/// and meets the formula of the clauses with the values. So nothing is lost by the numbering.
+pub fn true_claims_meet()
+    ensures { TrueClaimsMeet }
+{}
+
+/// Each admissible steady state meets the clauses of all families: its marks are the first variables, and
+/// its flows, loads and rooms the values. So these clauses rule out no steady state.
+pub fn steady_meets()
+    ensures { SteadyMeets }
+{}

@@ -1,0 +1,21 @@
+//! The flow formula: the states of a network that break a property, as a formula over the marks of edges
+//! and rows over flows, loads and rooms.
+#![tactic(auto)]
+
+mod claim;
+mod draft;
+mod encoding;
+mod ends;
+mod families;
+mod family;
+mod law;
+mod numbering;
+mod properties;
+mod rows;
+mod splitters;
+#[cfg(test)]
+mod tests;
+
+pub use encoding::encode;
+pub use law::{steady_meets, true_claims_meet};
+pub use std::alloc::AllocError as Memory;

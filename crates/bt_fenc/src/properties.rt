@@ -1,0 +1,140 @@
+//! The clauses that say that a state meets the condition of a property and fails its conclusion.
+ghost use Rattle.std.specs.Prelude.{◌≡◌, ◌++◌, ◌∷◌, [], ◌<◌, ◌≤◌, ◌+◌, ◌-◌, ◌^◌, All, OnOk, IfOk, length};
+ghost use Rattle.bt_flow.specs.Ports.{ArePorts};
+ghost use Rattle.bt_fenc.specs.Columns as columns;
+ghost use Rattle.bt_fenc.specs.Properties as properties;
+
+use crate::claim::Claim;
+use crate::draft::Draft;
+use crate::ends::{cap_at, input_edge, last_edges, load_column, output_edge, room_column};
+use crate::rows::{above, at_least, minus, plus, row_of};
+use bt_flow::{Ports, Property};
+use bt_frac::{Frac, Relation, Row};
+use bt_net::Net;
+use std::alloc::{AllocError, Global};
+
+/// Adds that every load is at its cap.
+fn add_loaded(alloc: Global, net: &Net, ports: &Ports, draft: &mut Draft) -> Result<(), AllocError>
+    requires { ArePorts net.now ports.now }
+    ensures { OnOk result (draft.new ≡ draft.old ++ properties.loaded_clauses net.now) }
+{
+    for input in 0..net.inputs() as usize {
+        let cap = cap_at(net, input_edge(net, ports, input));
+        let full = at_least(alloc, load_column(net, input), cap)?;
+        draft.add_row(alloc, full)?;
+    }
+    Ok(())
+}
+
+/// Adds that every room is at its cap.
+fn add_open(alloc: Global, net: &Net, ports: &Ports, draft: &mut Draft) -> Result<(), AllocError>
+    requires { ArePorts net.now ports.now }
+    ensures { OnOk result (draft.new ≡ draft.old ++ properties.open_clauses net.now) }
+{
+    for output in 0..net.outputs() as usize {
+        let cap = cap_at(net, output_edge(net, ports, output));
+        let full = at_least(alloc, room_column(net, output), cap)?;
+        draft.add_row(alloc, full)?;
+    }
+    Ok(())
+}
+
+/// The edges of the inputs.
+fn input_edges(alloc: Global, net: &Net, ports: &Ports) -> Result<Vec<usize>, AllocError>
+    requires { ArePorts net.now ports.now }
+    ensures { IfOk result (λ edges. (edges.items ≡ columns.input_edges net.now)
+        × All (λ a. a < 2 ^ 64 - 1) edges.items) }
+{
+    let mut edges = Vec::new(alloc);
+    for input in 0..net.inputs() as usize {
+        edges.push(input_edge(net, ports, input))?;
+    }
+    Ok(edges)
+}
+
+/// The edges of the outputs.
+fn output_edges(alloc: Global, net: &Net, ports: &Ports) -> Result<Vec<usize>, AllocError>
+    requires { ArePorts net.now ports.now }
+    ensures { IfOk result (λ edges. (edges.items ≡ columns.output_edges net.now)
+        × All (λ a. a < 2 ^ 64 - 1) edges.items) }
+{
+    let mut edges = Vec::new(alloc);
+    for output in 0..net.outputs() as usize {
+        edges.push(output_edge(net, ports, output))?;
+    }
+    Ok(edges)
+}
+
+/// The clause that the flow of the first edge differs from that of another.
+fn unequal_clause(alloc: Global, edges: &[usize]) -> Result<Vec<Claim>, AllocError>
+    requires { All (λ a. a < 2 ^ 64 - 1) edges.now }
+    ensures { IfOk result (λ claims. claims.items ≡ properties.unequal_clause edges.now) }
+{
+    let mut claims = Vec::new(alloc);
+    if let [first, others @ ..] = edges {
+        for other in others {
+            let more = above(alloc, *first, *other)?;
+            claims.push(Claim::Says(more))?;
+            let less = above(alloc, *other, *first)?;
+            claims.push(Claim::Says(less))?;
+        }
+    }
+    Ok(claims)
+}
+
+/// The row that so many columns from one on add up to more than the flows to outputs.
+fn above_outputs(alloc: Global, net: &Net, first: usize, count: usize) -> Result<Row, AllocError>
+    requires first { length net.now.edges ≤ first }
+    requires last { first + count < 2 ^ 64 }
+    ensures { IfOk result (λ row. row ≡ columns.above_outputs net.now first count) }
+{
+    let mut terms = Vec::new(alloc);
+    for edge in &last_edges(alloc, net)? {
+        terms.push(minus(*edge))?;
+    }
+    for column in first..first + count {
+        terms.push(plus(column))?;
+    }
+    row_of(alloc, &terms, Relation::Above, Frac::whole(0))
+}
+
+/// Adds that the sum of output flows is below that of loads, and below that of rooms.
+fn add_short(alloc: Global, net: &Net, draft: &mut Draft) -> Result<(), AllocError>
+    ensures { OnOk result (draft.new ≡ draft.old ++ properties.short_clauses net.now) }
+{
+    let loads = above_outputs(alloc, net, load_column(net, 0), net.inputs() as usize)?;
+    draft.add_row(alloc, loads)?;
+    let rooms = above_outputs(alloc, net, room_column(net, 0), net.outputs() as usize)?;
+    draft.add_row(alloc, rooms)
+}
+
+/// Adds the clauses of a property.
+pub fn add_property(
+    alloc: Global,
+    net: &Net,
+    ports: &Ports,
+    draft: &mut Draft,
+    property: Property,
+) -> Result<(), AllocError>
+    requires { ArePorts net.now ports.now }
+    ensures { OnOk result (draft.new ≡ draft.old ++ properties.property_clauses net.now property) }
+{
+    match property {
+        Property::Balanced => {
+            add_open(alloc, net, ports, draft)?;
+            let edges = output_edges(alloc, net, ports)?;
+            draft.add(unequal_clause(alloc, &edges)?)
+        }
+        Property::DrawnEvenly => {
+            add_loaded(alloc, net, ports, draft)?;
+            let edges = input_edges(alloc, net, ports)?;
+            draft.add(unequal_clause(alloc, &edges)?)
+        }
+        Property::Unlimited => add_short(alloc, net, draft),
+        Property::Full => {
+            add_loaded(alloc, net, ports, draft)?;
+            add_open(alloc, net, ports, draft)?;
+            add_short(alloc, net, draft)
+        }
+    }
+}

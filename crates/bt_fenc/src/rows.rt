@@ -1,0 +1,89 @@
+//! Rows over the columns of the flow formula.
+ghost use Rattle.std.specs.Prelude.{◌≡◌, ◌<◌, ◌-◌, ◌^◌, IfOk};
+ghost use Rattle.bt_frac.specs.Rows.{HaveColumns};
+ghost use Rattle.bt_fenc.specs.Columns as columns;
+
+use bt_frac::{Frac, Relation, Row};
+use std::alloc::{AllocError, Global};
+
+/// The row of terms whose columns ascend.
+pub fn row_of(
+    alloc: Global,
+    terms: &[(usize, Frac)],
+    relation: Relation,
+    bound: Frac,
+) -> Result<Row, AllocError>
+    requires { HaveColumns terms.now }
+    ensures { IfOk result (λ row. row ≡ record { terms = terms.now; relation = relation; bound = bound }) }
+{
+    match Row::new(alloc, terms, relation, bound)? {
+        Some(row) => Ok(row),
+        None => unreachable!(),
+    }
+}
+
+/// A column, added.
+pub fn plus(column: usize) -> (usize, Frac)
+    ensures { result ≡ columns.plus column }
+{
+    (column, Frac::whole(1))
+}
+
+/// A column, subtracted.
+pub fn minus(column: usize) -> (usize, Frac)
+    ensures { result ≡ columns.minus column }
+{
+    (column, Frac::whole(1).negate())
+}
+
+/// A column is at least a whole number.
+pub fn at_least(alloc: Global, column: usize, least: u32) -> Result<Row, AllocError>
+    requires { column < 2 ^ 64 - 1 }
+    ensures { IfOk result (λ row. row ≡ columns.at_least column least) }
+{
+    let bound = Frac::whole(i64::from(least));
+    row_of(alloc, &[plus(column)], Relation::AtLeast, bound)
+}
+
+/// A column is at most a whole number.
+pub fn at_most(alloc: Global, column: usize, most: u32) -> Result<Row, AllocError>
+    requires { column < 2 ^ 64 - 1 }
+    ensures { IfOk result (λ row. row ≡ columns.at_most column most) }
+{
+    let bound = Frac::whole(i64::from(most)).negate();
+    row_of(alloc, &[minus(column)], Relation::AtLeast, bound)
+}
+
+/// One column less another is at least or above 0.
+fn less(alloc: Global, a: usize, b: usize, relation: Relation) -> Result<Row, AllocError>
+    requires a { a < 2 ^ 64 - 1 }
+    requires b { b < 2 ^ 64 - 1 }
+    ensures { IfOk result (λ row. row ≡ columns.zero_row (columns.less a b) relation) }
+{
+    let zero = Frac::whole(0);
+    if a < b {
+        row_of(alloc, &[plus(a), minus(b)], relation, zero)
+    } else if b < a {
+        row_of(alloc, &[minus(b), plus(a)], relation, zero)
+    } else {
+        row_of(alloc, &[], relation, zero)
+    }
+}
+
+/// A column is at least another.
+pub fn not_below(alloc: Global, a: usize, b: usize) -> Result<Row, AllocError>
+    requires a { a < 2 ^ 64 - 1 }
+    requires b { b < 2 ^ 64 - 1 }
+    ensures { IfOk result (λ row. row ≡ columns.not_below a b) }
+{
+    less(alloc, a, b, Relation::AtLeast)
+}
+
+/// A column is above another.
+pub fn above(alloc: Global, a: usize, b: usize) -> Result<Row, AllocError>
+    requires a { a < 2 ^ 64 - 1 }
+    requires b { b < 2 ^ 64 - 1 }
+    ensures { IfOk result (λ row. row ≡ columns.above a b) }
+{
+    less(alloc, a, b, Relation::Above)
+}
