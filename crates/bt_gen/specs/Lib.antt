@@ -1,0 +1,4 @@
+pub mod Orders
+pub mod Edges
+pub mod Butterfly
+pub mod Chain

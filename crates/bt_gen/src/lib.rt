@@ -1,0 +1,14 @@
+//! Networks that are made by a rule of their order: butterflies and chains.
+#![tactic(auto)]
+
+mod butterflies;
+mod chains;
+mod fault;
+mod order;
+#[cfg(test)]
+mod tests;
+
+pub use butterflies::{MOST_STAGES, butterfly, one_splitter_has_a_line};
+pub use chains::{MOST_IN_CHAIN, chain};
+pub use fault::GenFault;
+pub use std::alloc::AllocError as Memory;

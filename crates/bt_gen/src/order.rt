@@ -1,0 +1,40 @@
+//! What both kinds of networks are made with.
+ghost use Rattle.std.specs.Prelude.{◌≡◌, ◌^◌, ◌≤◌};
+ghost use Rattle.bt_net.specs.Network.{Network, IsNetwork, network_of};
+
+use bt_net::{Edge, Net, Start, Target};
+
+/// The cap of each edge of a network that is made: one belt of the slowest tier.
+const CAP: u32 = 1;
+
+/// An edge between two ends.
+pub fn edge(start: Start, target: Target) -> Edge
+    ensures { result ≡ record { start = start; target = target; cap = 1 } }
+{
+    Edge {
+        start,
+        target,
+        cap: CAP,
+    }
+}
+
+/// Two to this power.
+pub fn power(exponent: u32) -> u32
+    requires { exponent ≤ 6 }
+    ensures power { result ≡ 2 ^ exponent }
+    ensures positive { 1 ≤ result }
+    ensures small { result ≤ 64 }
+{
+    1 << exponent
+}
+
+/// The network of these numbers and edges, which are known to be those of one.
+pub fn made(inputs: u32, outputs: u32, splitters: u32, edges: Vec<Edge>) -> Net
+    requires { IsNetwork (network_of inputs outputs splitters edges.items) }
+    ensures { result ≡ network_of inputs outputs splitters edges.items }
+{
+    match Net::new(inputs, outputs, splitters, edges) {
+        Ok(net) => net,
+        Err(_) => unreachable!(),
+    }
+}
