@@ -1,8 +1,10 @@
 -- What one visit makes of the search.
-use Rattle.std.proofs.Common.{◌≡◌, ℕ, ◌<◌, ◌+◌, arith, List, [], ◌∷◌, ◌++◌, length, get_or, sym, subst, refl, ap, ◌∙◌, Some, None, length-set, get_or-set_same, append-nil}
-use Rattle.std.specs.Prelude.{IsPermutation, slice_set}
+use Rattle.std.proofs.Common.{◌≡◌, ℕ, ◌<◌, ◌+◌, arith, List, [], ◌∷◌, ◌++◌, length, get_or, sym, subst, refl, ap, ◌∙◌, Some, None, length-set, get_or-set_same, append-nil, append_assoc}
+use Rattle.std.specs.Prelude.{Contains, IsPermutation, slice_set}
 use Rattle.std.specs.List.{All}
-use Rattle.std.proofs.lemmas.List.Sorted.{IsPermutation-refl}
+use Rattle.std.proofs.lemmas.List.Elements.{All-nil}
+use Rattle.bt_sat.proofs.Lists.{none_in}
+use Rattle.std.proofs.lemmas.List.Sorted.{IsPermutation-refl, IsPermutation-trans}
 use Rattle.bt_cnf.specs.declared.literal.Lit.{Lit}
 use Rattle.bt_sat.specs.declared.assignment.Assignment.{Assignment}
 use Rattle.bt_sat.specs.declared.search.Search.{Search}
@@ -11,8 +13,8 @@ use Rattle.bt_sat.specs.declared.watched.Visit.TheVariants as visit
 use Rattle.bt_sat.specs.inner.Assigning.{Assigns}
 use Rattle.bt_sat.specs.inner.Attending.{no_lit, first, second}
 use Rattle.bt_sat.specs.inner.AttendingIn.{AttendsIn}
-use Rattle.bt_sat.specs.inner.Keeping.{IsWatchable, kept_at, IsVisiting}
-use Rattle.bt_sat.specs.inner.Propagating.{GoesOn, Advances}
+use Rattle.bt_sat.specs.inner.Keeping.{IsWatchable, kept_at, IsVisiting, AreWatched, AreTrue}
+use Rattle.bt_sat.specs.inner.Propagating.{GoesOn, Visiting, Advances}
 use Rattle.bt_sat.specs.inner.Truths.{IsTrueIn, IsFalseIn}
 use Rattle.bt_sat.specs.inner.Watchers.{watchers, Watches, Unwatches}
 use Rattle.bt_sat.specs.inner.WatchersParts.{WatchersParts}
@@ -107,3 +109,29 @@ module _ (old : Search) (gone : Lit) (place id : ℕ) (clauses : List (List Lit)
           subst (All (IsFalseIn old.assignment.values)) (sym here) at.attends.1,
         ),
       )
+
+-- one visit after the other
+pub goes_twice : (old mid new : Search) → GoesOn old mid → GoesOn mid new → GoesOn old new
+goes_twice old mid new a b = record {
+  more = a.more ++ b.more;
+  trail = b.trail ∙ ap (λ ls. ls ++ b.more) a.trail ∙ append_assoc old.assignment.trail.items a.more b.more;
+  variables = b.variables ∙ a.variables;
+  count = b.count ∙ a.count;
+  clauses = λ id. IsPermutation-trans (kept_at old.clauses id) (kept_at mid.clauses id) (kept_at new.clauses id) (a.clauses id) (b.clauses id);
+}
+
+-- nothing was visited
+pub goes_not : (s : Search) → GoesOn s s
+goes_not s = record { more = []; trail = sym (append-nil s.assignment.trail.items); variables = refl; count = refl; clauses = λ id. IsPermutation-refl (kept_at s.clauses id) }
+
+-- nothing is unsettled by no part of the trail
+pub starts : (gone : Lit) (s : Search) → AreWatched (length s.assignment.values) s.clauses s.watchers → AreTrue s.assignment.values s.assignment.trail.items
+    → IsFalseIn s.assignment.values gone → Visiting [] gone 0 s
+starts gone s watched truths false_gone = record {
+  watched = watched;
+  truths = truths;
+  rest = λ k d below. record { if_first = λ h. absurd (none_in _ h); if_second = λ h. absurd (none_in _ h) };
+  part_in = All-nil (Contains s.assignment.trail.items);
+  gone_false = false_gone;
+  done = λ k before small. absurd (omega (arith, before));
+}

@@ -1,10 +1,10 @@
 //! Propagation over watched clauses.
-ghost use Rattle.std.specs.Prelude.{◌≡◌, ◌<◌, ◌≤◌, length, OnOk, IfOk, List};
+ghost use Rattle.std.specs.Prelude.{◌≡◌, ◌<◌, ◌≤◌, length, IfOk};
 ghost use Rattle.bt_sat.specs.inner.Keeping.{AreWatched, AreTrue, IsWatchable, kept_at};
 ghost use Rattle.bt_sat.specs.inner.AttendingIn.{AttendsIn};
 ghost use Rattle.bt_sat.specs.inner.Truths.{IsFalseIn};
 ghost use Rattle.bt_sat.specs.inner.Watchers.{watchers};
-ghost use Rattle.bt_sat.specs.inner.Propagating.{Advances};
+ghost use Rattle.bt_sat.specs.inner.Propagating.{Advances, Settles};
 
 use crate::assignment::{Assignment, assign};
 use crate::kept::Watched;
@@ -77,4 +77,24 @@ pub fn attend_at(search: &mut Search, gone: &Lit, place: usize) -> Result<Attend
         }
         Visit::Fails => Ok(Attended::Fails(id)),
     }
+}
+
+/// Visits all clauses that watch a literal that is false. Tells the clause whose literals are all false,
+/// where there is one.
+pub fn settle(search: &mut Search, gone: &Lit) -> Result<Option<Id<Watched>>, AllocError>
+    requires watched { AreWatched (length search.old.assignment.values) search.old.clauses search.old.watchers }
+    requires truths { AreTrue search.old.assignment.values search.old.assignment.trail.items }
+    requires gone { IsFalseIn search.old.assignment.values gone.now }
+    requires variable { gone.now.var < length search.old.assignment.values }
+    ensures { IfOk result (Settles gone.now search.old search.new) }
+{
+    let mut place = 0;
+    while place < search.watchers.len(gone) {
+        match attend_at(search, gone, place)? {
+            Attended::Stays => place += 1,
+            Attended::Leaves => {}
+            Attended::Fails(id) => return Ok(Some(id)),
+        }
+    }
+    Ok(None)
 }

@@ -1,5 +1,5 @@
 -- Propagation over watched clauses.
-use Rattle.std.specs.Prelude.{◌≡◌, ◌+◌, ◌<◌, ℕ, List, ◌++◌, length, IsPermutation}
+use Rattle.std.specs.Prelude.{◌≡◌, ◌+◌, ◌<◌, ◌≤◌, ℕ, Option, Some, None, List, ◌++◌, length, IsPermutation}
 use Rattle.std.specs.List.{All}
 use Rattle.bt_cnf.specs.declared.literal.Lit.{Lit}
 use Rattle.bt_sat.specs.declared.search.Search.{Search}
@@ -34,3 +34,9 @@ Advances gone place old new Leaves =
     GoesOn old new × (length (watchers new.watchers gone) + 1 ≡ length (watchers old.watchers gone))
     × ((part : List Lit) → Visiting part gone place old → Visiting part gone place new)
 Advances gone place old new (Fails id) = GoesOn old new × FailsAt new id
+
+-- all clauses on the literal's list were visited, or one was found whose literals are all false
+abbrev pub Settles : Lit → Search → Search → Option ℕ → Type 0
+Settles gone old new None = GoesOn old new
+    × ((part : List Lit) → Visiting part gone 0 old → (place : ℕ) × (length (watchers new.watchers gone) ≤ place) × Visiting part gone place new)
+Settles gone old new (Some id) = GoesOn old new × FailsAt new id
