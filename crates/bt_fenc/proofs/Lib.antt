@@ -6,3 +6,4 @@ pub mod Withins
 pub mod TrueClaims
 pub mod RowValues
 pub mod Admitted
+pub mod Formulas

@@ -63,13 +63,13 @@ all_below m n atoms rows e h =
     (subst (λ k. All (λ a. a.0 < k) (atoms_from m rows)) (sym e) (all_from _ (atoms_from m rows) (atoms_below m rows)))
 
 -- a claim within a number of marks is within a greater one
-within_more : (m n : ℕ) → m ≤ n → (claims : List Claim) → AllByRecursion (IsWithin m) claims → AllByRecursion (IsWithin n) claims
+pub within_more : (m n : ℕ) → m ≤ n → (claims : List Claim) → AllByRecursion (IsWithin m) claims → AllByRecursion (IsWithin n) claims
 within_more m n l [] h = tt
 within_more m n l (Mark a b ∷ claims) h = (let x = h.0 in omega (arith, x, l), within_more m n l claims h.1)
 within_more m n l (Says row ∷ claims) h = (tt, within_more m n l claims h.1)
 
 -- the literals of claims are of variables in range
-literals_below : (n m : ℕ) (claims : List Claim) → AllByRecursion (IsWithin n) claims → m + length (flat_map mentioned claims) ≤ n → AllByRecursion (λ l. l.var < n) (literals_from m claims)
+pub literals_below : (n m : ℕ) (claims : List Claim) → AllByRecursion (IsWithin n) claims → m + length (flat_map mentioned claims) ≤ n → AllByRecursion (λ l. l.var < n) (literals_from m claims)
 literals_below n m [] h l = tt
 literals_below n m (Mark a b ∷ claims) h l = (h.0, literals_below n m claims h.1 l)
 literals_below n m (Says row ∷ claims) h l = (omega arith, literals_below n (m + 1) claims h.1 (omega arith))
