@@ -53,7 +53,8 @@ fn propagate(known: &Known, hint: u64, assumed: &mut Assumptions) -> Result<bool
     requires inside { hint - 1 < length known.now.clauses }
     requires size { length assumed.old ≡ known.now.formula.vars }
     ensures size { length assumed.new ≡ length assumed.old }
-    ensures unit { IfOk result (IsPropagated assumed.old (clause_at known.now.clauses (hint - 1)) assumed.new) }
+    ensures unit { IfOk result
+        (IsPropagated assumed.old (clause_at known.now.clauses (hint - 1)) assumed.new) }
 {
     let Some(clause) = known.get(place_of(hint)) else {
         return Ok(false);

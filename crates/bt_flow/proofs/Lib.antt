@@ -15,6 +15,7 @@ pub mod Each
 pub mod EqualCaps
 pub mod Judged
 pub mod Numbers
+pub mod Printed
 pub mod Sharing
 pub mod Totals
 pub mod Decided

@@ -1,5 +1,5 @@
 -- The text of a state that is written for a property.
-use Rattle.std.specs.Prelude.{◌≡◌, ℕ, ◌⊎◌, Bool, true, false, List, ◌∷◌, ◌++◌, map, codes, All}
+use Rattle.std.specs.Prelude.{◌≡◌, ℕ, ◌⊎◌, Bool, true, false, List, [], ◌∷◌, ◌++◌, map, codes, All}
 use Rattle.std.specs.List.{flat_map}
 use Rattle.bt_text.specs.Blanks.{IsBlank}
 use Rattle.bt_text.specs.Lines.{line}
@@ -26,6 +26,10 @@ state_text p t =
     ++ line (codes "flow" ++ spaced (map frac_text t.flows))
     ++ line (codes "mark" ++ spaced (map mark_text t.backed))
     ++ codes "end"
+
+-- the text as it is written: each of its six lines ends with a line feed
+abbrev pub printed_state : Property → Fractions → List ℕ
+printed_state p t = state_text p t ++ 10 ∷ []
 
 -- the bytes are the text of the state for the property, of which each fraction is in lowest terms; the
 -- last line feed may be missing, and blanks may follow it

@@ -3,3 +3,4 @@ pub mod Compared
 pub mod AtPorts
 pub mod Lines
 pub mod Trials
+pub mod Printing

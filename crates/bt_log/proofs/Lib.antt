@@ -1,3 +1,2 @@
 pub mod KeptLists
-pub mod Pieces
 pub mod Sound

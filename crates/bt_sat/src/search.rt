@@ -52,7 +52,8 @@ fn attend_in(
 
 /// Visits the clause at a place of the list of a literal that is false.
 pub fn attend_at(search: &mut Search, gone: &Lit, place: usize) -> Result<Attended, AllocError>
-    requires watched { AreWatched (length search.old.assignment.values) search.old.clauses search.old.watchers }
+    requires watched { AreWatched (length search.old.assignment.values)
+        search.old.clauses search.old.watchers }
     requires truths { AreTrue search.old.assignment.values search.old.assignment.trail.items }
     requires gone { IsFalseIn search.old.assignment.values gone.now }
     requires variable { gone.now.var < length search.old.assignment.values }
@@ -82,7 +83,8 @@ pub fn attend_at(search: &mut Search, gone: &Lit, place: usize) -> Result<Attend
 /// Visits all clauses that watch a literal that is false. Tells the clause whose literals are all false,
 /// where there is one.
 pub fn settle(search: &mut Search, gone: &Lit) -> Result<Option<Id<Watched>>, AllocError>
-    requires watched { AreWatched (length search.old.assignment.values) search.old.clauses search.old.watchers }
+    requires watched { AreWatched (length search.old.assignment.values)
+        search.old.clauses search.old.watchers }
     requires truths { AreTrue search.old.assignment.values search.old.assignment.trail.items }
     requires gone { IsFalseIn search.old.assignment.values gone.now }
     requires variable { gone.now.var < length search.old.assignment.values }

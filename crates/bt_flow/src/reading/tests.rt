@@ -1,7 +1,8 @@
 //! Texts of states that are read, or refused at a line.
 ghost use Rattle.std.specs.Prelude.{◌≡◌, [], ◌∷◌, IfOk};
 
-use crate::{Property, StateFault, read_state};
+use crate::{Property, StateFault, print_state, read_state};
+use bt_io::MemSink;
 use bt_net::{Edge, Net, Start, Target};
 use std::alloc::{AllocError, Global};
 use std::test::Fail;
@@ -103,5 +104,16 @@ fn reads_each_list(rt: HostRuntime) -> Result<(), Fail> {
         _ => false,
     };
     assert!(rt; read);
+    Ok(())
+}
+
+#[test]
+fn prints_what_it_reads(rt: HostRuntime) -> Result<(), Fail> {
+    let net = Net::new(1, 1, 0, one_belt(rt.alloc())?)?;
+    let text = b"no drawn-evenly\nload 1/2\nroom 0\nflow -3\nmark b\nend\n";
+    let state = read_state(rt.alloc(), &net, text, Property::DrawnEvenly)?;
+    let mut sink = MemSink::new(rt.alloc(), 99, Vec::new(rt.alloc()), 5)?;
+    print_state(&state, Property::DrawnEvenly, &mut sink)?;
+    assert!(rt; sink.held() == text);
     Ok(())
 }

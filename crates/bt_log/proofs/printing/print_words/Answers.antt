@@ -1,6 +1,6 @@
 use Rattle.std.proofs.Common.{◌∷◌, ◌∙◌}
 use Rattle.std.proofs.lemmas.Result.{err_from_is_err_and}
-use Rattle.bt_log.proofs.Pieces.{last_failed}
+use Rattle.bt_io.proofs.Pieces.{last_failed}
 use Rattle.bt_log.proofs.printing.print_words.Goals as goal
 
 pub returns-in_err-write_all_of-2 : goal.returns-in_err-write_all_of-2

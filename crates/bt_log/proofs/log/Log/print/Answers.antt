@@ -6,7 +6,7 @@ use Rattle.bt_cnf.proofs.Atoms.{got}
 use Rattle.bt_io.proofs.Written.{writes_both}
 use Rattle.bt_log.specs.LogText.{step_line}
 use Rattle.bt_log.specs.Views.{step_of}
-use Rattle.bt_log.proofs.Pieces.{piece_written, piece_failed, all_written}
+use Rattle.bt_io.proofs.Pieces.{piece_written, piece_failed, all_written}
 use Rattle.bt_log.proofs.log.Log.print.Goals as goal
 
 pub returns-in_err-print_step : goal.returns-in_err-print_step

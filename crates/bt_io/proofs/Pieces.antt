@@ -57,3 +57,25 @@ module _ {X : Type 0} (f : X → List ℕ) (xs : List X) (head : List ℕ) where
         → piece ≡ f x → WritesText {T = Unit {0}} {E = WriteFault} (passage held faults between now) piece (Err e) → Written now (head ++ flat_map f xs) (Err d)
     last_failed between now i x piece e d so_far inside here is w =
         subst (λ t. Written now t (Err d)) (append-nil (head ++ flat_map f xs)) (piece_failed between now i x piece [] e d so_far inside here is w)
+
+module _ {K : Type 0} (held : K → Option (List ℕ)) (faults : K → ℕ) (zero one two three : K) (a b c : List ℕ) where
+  -- the first of three texts was not written whole
+  pub first_failed : (e f : WriteFault) → WritesText {T = Unit {0}} {E = WriteFault} (passage held faults zero one) a (Err e)
+      → WritesText {T = Unit {0}} {E = WriteFault} (passage held faults zero one) (a ++ b ++ c) (Err f)
+  first_failed e f w = rw append_assoc (writes_no_more e f (passage held faults zero one) a (b ++ c) w)
+
+  -- the second of three texts was not written whole
+  pub second_failed : (e f : WriteFault) → WritesText {T = Unit {0}} {E = WriteFault} (passage held faults zero one) a (Ok tt)
+      → WritesText {T = Unit {0}} {E = WriteFault} (passage held faults one two) b (Err e)
+      → WritesText {T = Unit {0}} {E = WriteFault} (passage held faults zero two) (a ++ b ++ c) (Err f)
+  second_failed e f v w =
+      let both : WritesText {T = Unit {0}} {E = WriteFault} (passage held faults zero two) (a ++ b) (Err e) = writes_both held faults zero one two a b tt (Err e) v w in
+      writes_no_more e f (passage held faults zero two) (a ++ b) c both
+
+  -- three texts in turn
+  pub three_written : (result : Result (Unit {0}) WriteFault) → WritesText {T = Unit {0}} {E = WriteFault} (passage held faults zero one) a (Ok tt)
+      → WritesText {T = Unit {0}} {E = WriteFault} (passage held faults one two) b (Ok tt) → WritesText (passage held faults two three) c result
+      → WritesText (passage held faults zero three) (a ++ b ++ c) result
+  three_written result u v w =
+      let both : WritesText {T = Unit {0}} {E = WriteFault} (passage held faults zero two) (a ++ b) (Ok tt) = writes_both held faults zero one two a b tt (Ok tt) u v in
+      writes_both held faults zero two three (a ++ b) c tt result both w

@@ -1,0 +1,8 @@
+use Rattle.std.specs.Prelude.{codes}
+use Rattle.bt_io.proofs.Written.{writes_both}
+use Rattle.bt_flow.proofs.printing.print_word.Goals as goal
+
+pub returns : goal.returns
+returns g c =
+    writes_both g.K.Sink.held g.K.Sink.faults c.args.sink.now c.write_all_of.new.sink c.write_all_of-2.new.sink (codes " ") (g.T.Spelled.word c.args.item.now) _ c.write_all_of-2.result c.in_ok-write_all_of.ensures
+    (rw c.spell-len.ensures.written at c.write_all_of-2.ensures)
