@@ -114,6 +114,6 @@ fn prints_what_it_reads(rt: HostRuntime) -> Result<(), Fail> {
     let state = read_state(rt.alloc(), &net, text, Property::DrawnEvenly)?;
     let mut sink = MemSink::new(rt.alloc(), 99, Vec::new(rt.alloc()), 5)?;
     print_state(&state, Property::DrawnEvenly, &mut sink)?;
-    assert!(rt; sink.held() == text);
+    assert!(rt; sink.held() == text.as_slice());
     Ok(())
 }

@@ -1,0 +1,23 @@
+use Rattle.std.proofs.Common.{pos, ◌∙◌, ap, arith, ◌≤◌, ◌++◌, length}
+use Rattle.std.specs.Prelude.{codes}
+use Rattle.std.specs.List.{join_with_byte}
+use Rattle.bt_parts.specs.declared.part.Dir.TheVariants.{North}
+use Rattle.bt_parts.specs.declared.part.Kind.TheVariants.{Belt}
+use Rattle.bt_parts.specs.declared.part.Part.{Part}
+use Rattle.bt_parts.specs.declared.part.Tier.TheVariants.{Basic}
+use Rattle.bt_write.proofs.Joining.{entity_pushed, all_pushed}
+use Rattle.bt_write.proofs.blueprint.text_of.Goals as goal
+
+-- the part that stands for one past the end
+abbrev no_part : Part
+no_part = record { kind = Belt; tier = Basic; dir = North; cell = record { x = pos 0; y = pos 0 } }
+
+pub loop-i-preserved : goal.loop-i-preserved
+loop-i-preserved c =
+    entity_pushed c.args.parts.now c.loop-i.i no_part (codes "{\"blueprint\":{\"item\":\"blueprint\",\"entities\":[") c.loop-i.text.items c.push_entity.new.text.items c.loop-i-test.true c.loop-i.invariant c.in_ok-push_entity.ensures
+
+pub returns : goal.returns
+returns c =
+    let ended : length c.args.parts.now ≤ c.loop-i.i = omega arith in
+    c.in_ok-extend_from_slice.ensures.items
+    ∙ ap (λ t. t ++ codes "],\"version\":281479271677952}}\n") (c.loop-i.invariant ∙ ap (λ es. codes "{\"blueprint\":{\"item\":\"blueprint\",\"entities\":[" ++ join_with_byte 44 es) (all_pushed c.args.parts.now c.loop-i.i ended))

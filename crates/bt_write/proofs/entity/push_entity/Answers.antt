@@ -1,0 +1,14 @@
+use Rattle.std.proofs.Common.{◌+◌, ◌∙◌, ap, ◌++◌}
+use Rattle.bt_write.specs.Written.{comma_before, number_member, name_member, position_member, direction_member, type_member}
+use Rattle.bt_write.proofs.Behind.{four_behind, entity_parts}
+use Rattle.bt_write.proofs.entity.push_entity.Goals as goal
+
+pub returns : goal.returns
+returns c =
+    let old = c.args.text.now.items in
+    let part = c.args.part in
+    let n = number_member (c.args.index + 1) in
+    four_behind old c.push_comma.new.text.items c.push_head.new.text.items c.push_position.new.text.items c.push_turn.new.text.items
+    (comma_before c.args.index) (n ++ name_member part) (position_member part) (direction_member part ++ type_member part.kind)
+    c.in_ok-push_comma.ensures c.in_ok-push_head.ensures c.in_ok-push_position.ensures c.in_ok-push_turn.ensures
+    ∙ ap (λ t. old ++ t) (entity_parts (comma_before c.args.index) n (name_member part) (position_member part) (direction_member part) (type_member part.kind))

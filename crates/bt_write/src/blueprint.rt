@@ -1,0 +1,22 @@
+//! The text of a blueprint, entity by entity.
+ghost use Rattle.std.specs.Prelude.{◌≡◌, IfOk};
+ghost use Rattle.bt_write.specs.Written.{blueprint_text};
+
+use crate::entity::push_entity;
+use bt_parts::Part;
+use std::alloc::{AllocError, Global};
+
+/// The blueprint of these parts: one line of uncompressed JSON without blanks, which ends with a line
+/// feed. The entities stand in the order of the parts and are numbered from 1, and their directions are
+/// in eighths of a turn, as in the version of the game that is named there.
+pub fn text_of(alloc: Global, parts: &[Part]) -> Result<Vec<u8>, AllocError>
+    ensures { IfOk result (λ text. text.items ≡ blueprint_text parts.now) }
+{
+    let front = b"{\"blueprint\":{\"item\":\"blueprint\",\"entities\":[";
+    let mut text = Vec::from_slice(alloc, front)?;
+    for (i, part) in parts.iter().enumerate() {
+        push_entity(&mut text, i, *part)?;
+    }
+    text.extend_from_slice(b"],\"version\":281479271677952}}\n")?;
+    Ok(text)
+}

@@ -1,0 +1,11 @@
+//! The one text of a list of parts as a blueprint's uncompressed JSON.
+#![tactic(auto)]
+
+mod blueprint;
+mod entity;
+mod number;
+#[cfg(test)]
+mod tests;
+
+pub use blueprint::text_of;
+pub use std::alloc::AllocError as Memory;
