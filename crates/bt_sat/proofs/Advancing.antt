@@ -14,11 +14,11 @@ use Rattle.bt_sat.specs.inner.Assigning.{Assigns}
 use Rattle.bt_sat.specs.inner.Attending.{no_lit, first, second}
 use Rattle.bt_sat.specs.inner.AttendingIn.{AttendsIn}
 use Rattle.bt_sat.specs.inner.Keeping.{IsWatchable, kept_at, IsVisiting, AreWatched, AreTrue}
-use Rattle.bt_sat.specs.inner.Propagating.{GoesOn, Visiting, Advances}
+use Rattle.bt_sat.specs.inner.Propagating.{GoesOn, IsWhole, Visiting, Advances}
 use Rattle.bt_sat.specs.inner.Truths.{IsTrueIn, IsFalseIn, unset}
 use Rattle.bt_sat.specs.inner.Watchers.{watchers, Watches, Unwatches}
 use Rattle.bt_sat.specs.inner.WatchersParts.{WatchersParts}
-use Rattle.bt_sat.proofs.Keeping.{watchable_kept, kept_set}
+use Rattle.bt_sat.proofs.Keeping.{watchable_kept, watched_kept, kept_set}
 use Rattle.bt_sat.proofs.Visiting.{done_none, done_true, goes_on, grows, keeps, moves, strays}
 
 -- an unset variable that is set
@@ -136,6 +136,12 @@ module _ (old : Search) (gone : Lit) (place id : ℕ) (clauses : List (List Lit)
           subst (λ n. id < n) (sym (ap length at.one ∙ length-set old.clauses id at.clause)) below,
           subst (All (IsFalseIn old.assignment.values)) (sym here) at.attends.1,
         ),
+        λ whole. record {
+          watched =
+              subst (λ cs. AreWatched (length old.assignment.values) cs old.watchers) (sym at.one)
+              (watched_kept (length old.assignment.values) old.clauses old.watchers id at.clause whole.watched below at.attends.0);
+          truths = whole.truths;
+        },
       )
 
 -- one visit after the other

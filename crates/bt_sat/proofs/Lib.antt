@@ -1,5 +1,6 @@
 pub mod Advancing
 pub mod Attended
+pub mod Ending
 pub mod Keeping
 pub mod Lists
 pub mod Settled

@@ -4,11 +4,11 @@ ghost use Rattle.bt_sat.specs.inner.Keeping.{AreWatched, AreTrue, IsWatchable, k
 ghost use Rattle.bt_sat.specs.inner.AttendingIn.{AttendsIn};
 ghost use Rattle.bt_sat.specs.inner.Truths.{IsFalseIn};
 ghost use Rattle.bt_sat.specs.inner.Watchers.{watchers};
-ghost use Rattle.bt_sat.specs.inner.Propagating.{Advances, Settles};
+ghost use Rattle.bt_sat.specs.inner.Propagating.{Advances, IsSettledTo, Propagates, Settles};
 
 use crate::assignment::{Assignment, assign};
 use crate::kept::Watched;
-use crate::truth::Values;
+use crate::truth::{Values, negation};
 use crate::watched::{Visit, attend};
 use crate::watchers::Watchers;
 use bt_arena::{Id, Pool};
@@ -97,6 +97,24 @@ pub fn settle(search: &mut Search, gone: &Lit) -> Result<Option<Id<Watched>>, Al
             Attended::Leaves => {}
             Attended::Fails(id) => return Ok(Some(id)),
         }
+    }
+    Ok(None)
+}
+
+/// Lets follow what follows from the literals that are true, the first so many of which are settled. Where
+/// it ends without a clause whose literals are all false, none of the clauses that were given is false, and
+/// none is a unit. Else it tells such a clause.
+pub fn propagate(search: &mut Search, settled: usize) -> Result<Option<Id<Watched>>, AllocError>
+    requires { IsSettledTo settled search.old }
+    ensures { IfOk result (Propagates search.old search.new) }
+{
+    let mut head = settled;
+    while head < search.assignment.trail.len() {
+        let gone = negation(&search.assignment.trail[head]);
+        if let Some(id) = settle(search, &gone)? {
+            return Ok(Some(id));
+        }
+        head += 1;
     }
     Ok(None)
 }

@@ -20,6 +20,11 @@ pub record GoesOn (old new : Search) : Type 0 where
   pub clauses : (id : ℕ) → IsPermutation (kept_at old.clauses id) (kept_at new.clauses id)
   pub room : unset new.assignment.values + length new.assignment.trail.items ≡ unset old.assignment.values + length old.assignment.trail.items
 
+-- the clauses are watched, and the trail has what is true
+pub record IsWhole (s : Search) : Type 0 where
+  pub watched : AreWatched (length s.assignment.values) s.clauses s.watchers
+  pub truths : AreTrue s.assignment.values s.assignment.trail.items
+
 -- the search visits the list of a false literal, and came to this place
 abbrev pub Visiting : List Lit → Lit → ℕ → Search → Type 0
 Visiting part gone place s = IsVisiting part gone place s.assignment.values s.assignment.trail.items s.clauses s.watchers
@@ -36,18 +41,17 @@ Advances gone place old new Stays =
 Advances gone place old new Leaves =
     GoesOn old new × (length (watchers new.watchers gone) + 1 ≡ length (watchers old.watchers gone))
     × ((part : List Lit) → Visiting part gone place old → Visiting part gone place new)
-Advances gone place old new (Fails id) = GoesOn old new × FailsAt new id
+Advances gone place old new (Fails id) = GoesOn old new × FailsAt new id × (IsWhole old → IsWhole new)
 
 -- all clauses on the literal's list were visited, or one was found whose literals are all false
 abbrev pub Settles : Lit → Search → Search → Option ℕ → Type 0
 Settles gone old new None = GoesOn old new
     × ((part : List Lit) → Visiting part gone 0 old → (place : ℕ) × (length (watchers new.watchers gone) ≤ place) × Visiting part gone place new)
-Settles gone old new (Some id) = GoesOn old new × FailsAt new id
+Settles gone old new (Some id) = GoesOn old new × FailsAt new id × (IsWhole old → IsWhole new)
 
--- the clauses are watched, the trail has what is true, and nothing is unsettled by its first so many literals
+-- nothing is unsettled by the first so many literals of the trail
 pub record IsSettledTo (head : ℕ) (s : Search) : Type 0 where
-  pub watched : AreWatched (length s.assignment.values) s.clauses s.watchers
-  pub truths : AreTrue s.assignment.values s.assignment.trail.items
+  pub whole : IsWhole s
   pub part : List Lit
   pub part_in : All (Contains s.assignment.trail.items) part
   pub covers : (k : ℕ) (d : Lit) → k < head → k < length s.assignment.trail.items → Contains part (slice_index_or s.assignment.trail.items k d)
@@ -73,4 +77,4 @@ falses_of s = map opposite s.assignment.trail.items
 abbrev pub Propagates : Search → Search → Option ℕ → Type 0
 Propagates old new None = GoesOn old new × IsSettledTo (length new.assignment.trail.items) new
     × ((given : List (List Lit)) → All (IsKept old) given → IsSettled given (falses_of new))
-Propagates old new (Some id) = GoesOn old new × FailsAt new id
+Propagates old new (Some id) = GoesOn old new × FailsAt new id × IsWhole new
