@@ -4,7 +4,7 @@ ghost use Rattle.bt_sat.specs.inner.Keeping.{AreWatched, AreTrue, IsWatchable, k
 ghost use Rattle.bt_sat.specs.inner.AttendingIn.{AttendsIn};
 ghost use Rattle.bt_sat.specs.inner.Truths.{IsFalseIn};
 ghost use Rattle.bt_sat.specs.inner.Watchers.{watchers};
-ghost use Rattle.bt_sat.specs.inner.Propagating.{Advances, IsSettledTo, Propagates, Settles};
+ghost use Rattle.bt_sat.specs.inner.Propagating.{Advances, IsSettledTo, Keeps, Propagates, Settles};
 
 use crate::assignment::{Assignment, assign};
 use crate::kept::Watched;
@@ -117,4 +117,17 @@ pub fn propagate(search: &mut Search, settled: usize) -> Result<Option<Id<Watche
         head += 1;
     }
     Ok(None)
+}
+
+/// Keeps a clause of two or more literals, the first two of which it watches.
+pub fn keep(search: &mut Search, lits: &[Lit]) -> Result<Id<Watched>, AllocError>
+    requires watched { AreWatched (length search.old.assignment.values)
+        search.old.clauses search.old.watchers }
+    requires watchable { IsWatchable (length search.old.assignment.values) lits.now }
+    ensures { IfOk result (Keeps lits.now search.old search.new) }
+{
+    let id = search.clauses.add_slice(lits)?;
+    search.watchers.watch(&lits[0], id)?;
+    search.watchers.watch(&lits[1], id)?;
+    Ok(id)
 }

@@ -1,5 +1,5 @@
 -- Propagation over watched clauses.
-use Rattle.std.specs.Prelude.{◌≡◌, ◌↔◌, ◌+◌, ◌<◌, ◌≤◌, ℕ, Option, Some, None, List, ◌++◌, length, map, slice_index_or, Contains, IsPermutation}
+use Rattle.std.specs.Prelude.{◌≡◌, ◌↔◌, ◌+◌, ◌<◌, ◌≤◌, ℕ, Option, Some, None, List, [], ◌∷◌, ◌++◌, length, map, slice_index_or, Contains, IsPermutation}
 use Rattle.std.specs.List.{All}
 use Rattle.bt_cnf.specs.declared.literal.Lit.{Lit}
 use Rattle.bt_log.specs.Units.{opposite}
@@ -78,3 +78,10 @@ abbrev pub Propagates : Search → Search → Option ℕ → Type 0
 Propagates old new None = GoesOn old new × IsSettledTo (length new.assignment.trail.items) new
     × ((given : List (List Lit)) → All (IsKept old) given → IsSettled given (falses_of new))
 Propagates old new (Some id) = GoesOn old new × FailsAt new id × IsWhole new
+
+-- one more clause is watched, with this number, behind the others, and nothing else has changed
+pub record Keeps (lits : List Lit) (old new : Search) (id : ℕ) : Type 0 where
+  pub assignment : new.assignment ≡ old.assignment
+  pub clauses : new.clauses ≡ old.clauses ++ lits ∷ []
+  pub is_id : id ≡ length old.clauses
+  pub watched : AreWatched (length new.assignment.values) new.clauses new.watchers
