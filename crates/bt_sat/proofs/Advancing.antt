@@ -14,7 +14,7 @@ use Rattle.bt_sat.specs.inner.Assigning.{Assigns}
 use Rattle.bt_sat.specs.inner.Attending.{no_lit, first, second}
 use Rattle.bt_sat.specs.inner.AttendingIn.{AttendsIn}
 use Rattle.bt_sat.specs.inner.Keeping.{IsWatchable, kept_at, IsVisiting, AreWatched, AreTrue}
-use Rattle.bt_sat.specs.inner.Propagating.{GoesOn, IsWhole, Visiting, Advances}
+use Rattle.bt_sat.specs.inner.Propagating.{GoesOn, Visiting, Advances}
 use Rattle.bt_sat.specs.inner.Truths.{IsTrueIn, IsFalseIn, unset}
 use Rattle.bt_sat.specs.inner.Watchers.{watchers, Watches, Unwatches}
 use Rattle.bt_sat.specs.inner.WatchersParts.{WatchersParts}

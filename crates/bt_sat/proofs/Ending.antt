@@ -1,5 +1,5 @@
 -- Where propagation comes to its end.
-use Rattle.std.proofs.Common.{◌≡◌, ◌≢◌, ℕ, ◌≤◌, ◌<◌, ◌+◌, ◌⊎◌, inl, inr, arith, Bool, true, false, not, List, [], ◌∷◌, ◌++◌, length, map, get_or, sym, subst, ap, ◌∙◌, Option, None, Some}
+use Rattle.std.proofs.Common.{◌≡◌, ℕ, ◌≤◌, ◌<◌, ◌+◌, ◌⊎◌, inl, inr, arith, Bool, true, false, not, List, [], ◌∷◌, ◌++◌, length, map, get_or, sym, subst, ap, ◌∙◌, Option, None, Some}
 use Rattle.std.specs.Prelude.{Contains}
 use Rattle.std.specs.List.{All}
 use Rattle.std.proofs.lemmas.List.{get_or_default, get_or_append_left}
@@ -11,8 +11,8 @@ use Rattle.bt_log.proofs.Sound.{twice}
 use Rattle.bt_sat.specs.Propagation.{IsFalseClause, IsSettled}
 use Rattle.bt_sat.specs.declared.search.Search.{Search}
 use Rattle.bt_sat.specs.inner.Attending.{no_lit, first, second}
-use Rattle.bt_sat.specs.inner.Keeping.{kept_at, AreTrue, IsAtRest, IsDone, IsVisiting}
-use Rattle.bt_sat.specs.inner.Propagating.{GoesOn, Visiting, Settles, IsWhole, IsSettledTo, IsKept, among_watched, alone, both_signs, falses_of, Propagates}
+use Rattle.bt_sat.specs.inner.Keeping.{kept_at, IsAtRest, IsDone}
+use Rattle.bt_sat.specs.inner.Propagating.{GoesOn, Visiting, Settles, IsSettledTo, IsKept, among_watched, alone, both_signs, falses_of, Propagates}
 use Rattle.bt_sat.specs.inner.Truths.{IsTrueIn, IsFalseIn}
 use Rattle.bt_sat.specs.inner.Watching.{IsWatched}
 use Rattle.bt_sat.proofs.Keeping.{not_both}

@@ -1,4 +1,4 @@
-use Rattle.std.proofs.Common.{◌≡◌, ◌<◌, arith, length, sym, subst, refl, ◌∙◌}
+use Rattle.std.proofs.Common.{◌≡◌, arith, length, sym, subst, refl, ◌∙◌}
 use Rattle.std.proofs.lemmas.List.{get_or_default}
 use Rattle.bt_cnf.specs.declared.literal.Lit.{Lit}
 use Rattle.bt_sat.specs.inner.Attending.{no_lit, first, second}

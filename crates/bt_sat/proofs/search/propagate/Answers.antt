@@ -1,4 +1,4 @@
-use Rattle.std.proofs.Common.{◌≡◌, ◌<◌, arith, length, sym, subst, ◌∙◌, None}
+use Rattle.std.proofs.Common.{◌<◌, arith, length, sym, subst, ◌∙◌, None}
 use Rattle.std.proofs.lemmas.List.{get_or_default}
 use Rattle.bt_cnf.specs.declared.literal.Lit.{Lit}
 use Rattle.bt_sat.specs.inner.Propagating.{Settles}
