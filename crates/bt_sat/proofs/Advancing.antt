@@ -1,5 +1,5 @@
 -- What one visit makes of the search.
-use Rattle.std.proofs.Common.{◌≡◌, ℕ, ◌<◌, ◌+◌, arith, List, [], ◌∷◌, ◌++◌, length, get_or, sym, subst, refl, ap, ◌∙◌, Some, None, length-set, get_or-set_same, append-nil, append_assoc}
+use Rattle.std.proofs.Common.{◌≡◌, ℕ, ◌<◌, ◌+◌, arith, List, [], ◌∷◌, ◌++◌, length, get_or, sym, subst, refl, ap, ◌∙◌, Some, None, length-set, length-append, get_or-set_same, append-nil, Bool, true, false, not, Option, zero, suc, append_assoc}
 use Rattle.std.specs.Prelude.{Contains, IsPermutation, slice_set}
 use Rattle.std.specs.List.{All}
 use Rattle.std.proofs.lemmas.List.Elements.{All-nil}
@@ -15,17 +15,43 @@ use Rattle.bt_sat.specs.inner.Attending.{no_lit, first, second}
 use Rattle.bt_sat.specs.inner.AttendingIn.{AttendsIn}
 use Rattle.bt_sat.specs.inner.Keeping.{IsWatchable, kept_at, IsVisiting, AreWatched, AreTrue}
 use Rattle.bt_sat.specs.inner.Propagating.{GoesOn, Visiting, Advances}
-use Rattle.bt_sat.specs.inner.Truths.{IsTrueIn, IsFalseIn}
+use Rattle.bt_sat.specs.inner.Truths.{IsTrueIn, IsFalseIn, unset}
 use Rattle.bt_sat.specs.inner.Watchers.{watchers, Watches, Unwatches}
 use Rattle.bt_sat.specs.inner.WatchersParts.{WatchersParts}
-use Rattle.bt_sat.proofs.Keeping.{watchable_kept, kept_set}
+use Rattle.bt_sat.proofs.Keeping.{watchable_kept, watched_kept, kept_set}
 use Rattle.bt_sat.proofs.Visiting.{done_none, done_true, goes_on, grows, keeps, moves, strays}
+
+-- an unset variable that is set
+unset_less : (values : List (Option Bool)) (var : ℕ) (value : Bool) → var < length values → get_or values var None ≡ None → unset (slice_set values var (Some value)) + 1 ≡ unset values
+unset_less [] var value below is = absurd (omega (arith, below))
+unset_less (None ∷ values) zero value below is = refl
+unset_less (Some old ∷ values) zero value below is = cc
+unset_less (None ∷ values) (suc var) value below is = ap (λ n. n + 1) (unset_less values var value (omega (arith, below)) is)
+unset_less (Some old ∷ values) (suc var) value below is = unset_less values var value (omega (arith, below)) is
+
+-- a variable is unset that is neither true nor false
+neither : (value : Option Bool) (b : Bool) → (value ≡ Some b → ⊥) → (value ≡ Some (not b) → ⊥) → value ≡ None
+neither None b not_true not_false = refl
+neither (Some true) true not_true not_false = absurd (not_true refl)
+neither (Some true) false not_true not_false = absurd (not_false refl)
+neither (Some false) true not_true not_false = absurd (not_false refl)
+neither (Some false) false not_true not_false = absurd (not_true refl)
+
+-- the trail is longer by one, and one variable fewer is unset
+room_kept : (old now : Assignment) (l : Lit) → Assigns old now l → l.var < length old.values → (IsTrueIn old.values l → ⊥) → (IsFalseIn old.values l → ⊥)
+    → unset now.values + length now.trail.items ≡ unset old.values + length old.trail.items
+room_kept old now l assigns below not_true not_false =
+    let less = unset_less old.values l.var l.positive below (neither (get_or old.values l.var None) l.positive not_true not_false) in
+    let longer : length now.trail.items ≡ length old.trail.items + 1 = ap length assigns.trail ∙ length-append old.trail.items (l ∷ []) in
+    let fewer : unset now.values + 1 ≡ unset old.values = ap (λ vs. unset vs + 1) assigns.values ∙ less in
+    omega (arith, longer, fewer)
 
 -- the clauses are the same but for the order of one
 goes : (old : Search) (assignment : Assignment) (w : WatchersParts) (clauses : List (List Lit)) (id : ℕ) (new more : List Lit) → id < length old.clauses → clauses ≡ slice_set old.clauses id new
     → IsPermutation (kept_at old.clauses id) new → assignment.trail.items ≡ old.assignment.trail.items ++ more → length assignment.values ≡ length old.assignment.values
+    → unset assignment.values + length assignment.trail.items ≡ unset old.assignment.values + length old.assignment.trail.items
     → GoesOn old (record { assignment = assignment; clauses = clauses; watchers = w })
-goes old assignment w clauses id new more below one permuted trail variables = record {
+goes old assignment w clauses id new more below one permuted trail variables room = record {
   more = more;
   trail = trail;
   variables = variables;
@@ -33,6 +59,7 @@ goes old assignment w clauses id new more below one permuted trail variables = r
   clauses = λ other.
       subst (λ cs. IsPermutation (kept_at old.clauses other) (kept_at cs other)) (sym one)
       (kept_set (λ n c. IsPermutation (kept_at old.clauses n) c) old.clauses id other new below permuted (λ _. IsPermutation-refl (kept_at old.clauses other)));
+  room = room;
 }
 
 module _ (old : Search) (gone : Lit) (place id : ℕ) (clauses : List (List Lit)) (below : id < length old.clauses) (is_old : IsWatchable (length old.assignment.values) (kept_at old.clauses id))
@@ -41,7 +68,7 @@ module _ (old : Search) (gone : Lit) (place id : ℕ) (clauses : List (List Lit)
       → Advances gone place old (record { assignment = old.assignment; clauses = clauses; watchers = old.watchers }) attended.Stays
   stays at =
       let kept = at.attends.0 in (
-        goes old old.assignment old.watchers clauses id at.clause [] below at.one kept.permuted (sym (append-nil old.assignment.trail.items)) refl,
+        goes old old.assignment old.watchers clauses id at.clause [] below at.one kept.permuted (sym (append-nil old.assignment.trail.items)) refl refl,
         refl,
         λ part v.
             subst (λ cs. IsVisiting part gone (place + 1) old.assignment.values old.assignment.trail.items cs old.watchers) (sym at.one)
@@ -58,7 +85,8 @@ module _ (old : Search) (gone : Lit) (place id : ℕ) (clauses : List (List Lit)
       let good = watchable_kept (length old.assignment.values) (kept_at old.clauses id) at.clause is_old kept in
       let inside_l : l.var < length old.assignment.values = subst (λ (m : Lit). m.var < length old.assignment.values) leaves.stands (good.below 0 no_lit (omega (arith, good.two))) in
       let after = slice_set old.assignment.values l.var (Some l.positive) in (
-        goes old now old.watchers clauses id at.clause (l ∷ []) below at.one kept.permuted assigns.trail (ap length assigns.values ∙ length-set old.assignment.values l.var (Some l.positive)),
+        goes old now old.watchers clauses id at.clause (l ∷ []) below at.one kept.permuted assigns.trail (ap length assigns.values ∙ length-set old.assignment.values l.var (Some l.positive))
+            (room_kept old.assignment now l assigns inside_l leaves.not_true leaves.not_false),
         refl,
         λ part v.
             let v' = grows part gone place old.assignment.values old.assignment.trail.items old.clauses old.watchers l v inside_l leaves.not_true leaves.not_false in
@@ -77,7 +105,7 @@ module _ (old : Search) (gone : Lit) (place id : ℕ) (clauses : List (List Lit)
       let left = at.attends.0 in
       let now = at.attends.1 in
       let same : watchers w₁ gone ≡ watchers old.watchers gone = one.one.others gone (λ e. now.not_false (subst (IsFalseIn old.assignment.values) e false_gone)) in (
-        goes old old.assignment w₂ clauses id at.clause [] below at.one left.permuted (sym (append-nil old.assignment.trail.items)) refl,
+        goes old old.assignment w₂ clauses id at.clause [] below at.one left.permuted (sym (append-nil old.assignment.trail.items)) refl refl,
         un.without.size ∙ ap length same,
         λ part v.
             subst (λ cs. IsVisiting part gone place old.assignment.values old.assignment.trail.items cs w₂) (sym at.one)
@@ -89,7 +117,7 @@ module _ (old : Search) (gone : Lit) (place id : ℕ) (clauses : List (List Lit)
   strayed w at un =
       let kept = at.attends.0 in
       let here : kept_at (slice_set old.clauses id at.clause) id ≡ at.clause = get_or-set_same old.clauses id at.clause [] below in (
-        goes old old.assignment w clauses id at.clause [] below at.one kept.permuted (sym (append-nil old.assignment.trail.items)) refl,
+        goes old old.assignment w clauses id at.clause [] below at.one kept.permuted (sym (append-nil old.assignment.trail.items)) refl refl,
         un.without.size,
         λ part v.
             subst (λ cs. IsVisiting part gone place old.assignment.values old.assignment.trail.items cs w) (sym at.one)
@@ -103,11 +131,17 @@ module _ (old : Search) (gone : Lit) (place id : ℕ) (clauses : List (List Lit)
       → Advances gone place old (record { assignment = old.assignment; clauses = clauses; watchers = old.watchers }) (attended.Fails id)
   fails at =
       let here : kept_at clauses id ≡ at.clause = ap (λ cs. kept_at cs id) at.one ∙ get_or-set_same old.clauses id at.clause [] below in (
-        goes old old.assignment old.watchers clauses id at.clause [] below at.one at.attends.0.permuted (sym (append-nil old.assignment.trail.items)) refl,
+        goes old old.assignment old.watchers clauses id at.clause [] below at.one at.attends.0.permuted (sym (append-nil old.assignment.trail.items)) refl refl,
         (
           subst (λ n. id < n) (sym (ap length at.one ∙ length-set old.clauses id at.clause)) below,
           subst (All (IsFalseIn old.assignment.values)) (sym here) at.attends.1,
         ),
+        λ whole. record {
+          watched =
+              subst (λ cs. AreWatched (length old.assignment.values) cs old.watchers) (sym at.one)
+              (watched_kept (length old.assignment.values) old.clauses old.watchers id at.clause whole.watched below at.attends.0);
+          truths = whole.truths;
+        },
       )
 
 -- one visit after the other
@@ -117,12 +151,13 @@ goes_twice old mid new a b = record {
   trail = b.trail ∙ ap (λ ls. ls ++ b.more) a.trail ∙ append_assoc old.assignment.trail.items a.more b.more;
   variables = b.variables ∙ a.variables;
   count = b.count ∙ a.count;
+  room = b.room ∙ a.room;
   clauses = λ id. IsPermutation-trans (kept_at old.clauses id) (kept_at mid.clauses id) (kept_at new.clauses id) (a.clauses id) (b.clauses id);
 }
 
 -- nothing was visited
 pub goes_not : (s : Search) → GoesOn s s
-goes_not s = record { more = []; trail = sym (append-nil s.assignment.trail.items); variables = refl; count = refl; clauses = λ id. IsPermutation-refl (kept_at s.clauses id) }
+goes_not s = record { more = []; trail = sym (append-nil s.assignment.trail.items); variables = refl; count = refl; room = refl; clauses = λ id. IsPermutation-refl (kept_at s.clauses id) }
 
 -- nothing is unsettled by no part of the trail
 pub starts : (gone : Lit) (s : Search) → AreWatched (length s.assignment.values) s.clauses s.watchers → AreTrue s.assignment.values s.assignment.trail.items

@@ -1,5 +1,7 @@
+pub mod Adding
 pub mod Advancing
 pub mod Attended
+pub mod Ending
 pub mod Keeping
 pub mod Lists
 pub mod Settled

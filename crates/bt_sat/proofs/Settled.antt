@@ -93,7 +93,7 @@ others_are (m ∷ lits) x l =
     ]
 
 -- each item of a list has P, where those that it contains do
-all_of : {X : Type 0} (P : X → Type 0) (xs : List X) → ((x : X) → Contains xs x → P x) → All P xs
+pub all_of : {X : Type 0} (P : X → Type 0) (xs : List X) → ((x : X) → Contains xs x → P x) → All P xs
 all_of P [] holds = All-nil P
 all_of P (x ∷ xs) holds = All-cons P x xs (holds x (contains_here x x xs refl)) (all_of P xs (λ y among. holds y (contains_there x y xs among)))
 

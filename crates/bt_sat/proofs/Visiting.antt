@@ -15,7 +15,7 @@ use Rattle.bt_sat.proofs.Lists.{lit_or}
 use Rattle.bt_sat.proofs.Keeping.{watchable_left, rest_kept, rest_left, rest_grows, done_grows, watched_kept, kept_set, truths_more, watch_grows, without_keeps, without_all}
 
 -- what holds of each clause, and what follows from it
-all_more : {X : Type 0} (P Q : X → Type 0) (xs : List X) → ((x : X) → P x → Q x) → All P xs → All Q xs
+pub all_more : {X : Type 0} (P Q : X → Type 0) (xs : List X) → ((x : X) → P x → Q x) → All P xs → All Q xs
 all_more P Q xs more all = λ k d below. more _ (all k d below)
 
 -- a clause is done that watches the literal no longer
@@ -51,7 +51,7 @@ named_less count w w' gone place un inside all l =
       | inr differs ↦ subst (All (λ id. id < count)) (sym (un.one.others l differs)) (all l)
     ]
 
-named_more : (count : ℕ) (w w' : WatchersParts) (l : Lit) (id : ℕ) → Watches w w' l id → id < count
+pub named_more : (count : ℕ) (w w' : WatchersParts) (l : Lit) (id : ℕ) → Watches w w' l id → id < count
     → ((m : Lit) → All (λ n. n < count) (watchers w m)) → (m : Lit) → All (λ n. n < count) (watchers w' m)
 named_more count w w' l id one below all m =
     elim (lit_or m l) [

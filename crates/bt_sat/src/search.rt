@@ -4,11 +4,11 @@ ghost use Rattle.bt_sat.specs.inner.Keeping.{AreWatched, AreTrue, IsWatchable, k
 ghost use Rattle.bt_sat.specs.inner.AttendingIn.{AttendsIn};
 ghost use Rattle.bt_sat.specs.inner.Truths.{IsFalseIn};
 ghost use Rattle.bt_sat.specs.inner.Watchers.{watchers};
-ghost use Rattle.bt_sat.specs.inner.Propagating.{Advances, Settles};
+ghost use Rattle.bt_sat.specs.inner.Propagating.{Advances, IsSettledTo, Keeps, Propagates, Settles};
 
 use crate::assignment::{Assignment, assign};
 use crate::kept::Watched;
-use crate::truth::Values;
+use crate::truth::{Values, negation};
 use crate::watched::{Visit, attend};
 use crate::watchers::Watchers;
 use bt_arena::{Id, Pool};
@@ -99,4 +99,35 @@ pub fn settle(search: &mut Search, gone: &Lit) -> Result<Option<Id<Watched>>, Al
         }
     }
     Ok(None)
+}
+
+/// Lets follow what follows from the literals that are true, the first so many of which are settled. Where
+/// it ends without a clause whose literals are all false, none of the clauses that were given is false, and
+/// none is a unit. Else it tells such a clause.
+pub fn propagate(search: &mut Search, settled: usize) -> Result<Option<Id<Watched>>, AllocError>
+    requires { IsSettledTo settled search.old }
+    ensures { IfOk result (Propagates search.old search.new) }
+{
+    let mut head = settled;
+    while head < search.assignment.trail.len() {
+        let gone = negation(&search.assignment.trail[head]);
+        if let Some(id) = settle(search, &gone)? {
+            return Ok(Some(id));
+        }
+        head += 1;
+    }
+    Ok(None)
+}
+
+/// Keeps a clause of two or more literals, the first two of which it watches.
+pub fn keep(search: &mut Search, lits: &[Lit]) -> Result<Id<Watched>, AllocError>
+    requires watched { AreWatched (length search.old.assignment.values)
+        search.old.clauses search.old.watchers }
+    requires watchable { IsWatchable (length search.old.assignment.values) lits.now }
+    ensures { IfOk result (Keeps lits.now search.old search.new) }
+{
+    let id = search.clauses.add_slice(lits)?;
+    search.watchers.watch(&lits[0], id)?;
+    search.watchers.watch(&lits[1], id)?;
+    Ok(id)
 }

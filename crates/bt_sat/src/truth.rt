@@ -1,5 +1,6 @@
 //! What literals are worth while some variables are set.
 ghost use Rattle.std.specs.Prelude.{◌≡◌, ◌<◌, ◌↔◌, length, IsTrue, not, Some};
+ghost use Rattle.bt_log.specs.Units.{opposite};
 ghost use Rattle.bt_sat.specs.inner.Truths.{IsTrueIn, IsFalseIn};
 
 use bt_arena::Arena;
@@ -27,5 +28,15 @@ pub fn is_false(values: &Values, lit: &Lit) -> bool
     match *values.get(lit.var) {
         Some(value) => value != lit.positive,
         None => false,
+    }
+}
+
+/// The literal that is true where this one is false.
+pub fn negation(lit: &Lit) -> Lit
+    ensures { result ≡ opposite lit.now }
+{
+    Lit {
+        var: lit.var,
+        positive: !lit.positive,
     }
 }

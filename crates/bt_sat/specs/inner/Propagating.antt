@@ -1,21 +1,29 @@
 -- Propagation over watched clauses.
-use Rattle.std.specs.Prelude.{◌≡◌, ◌+◌, ◌<◌, ◌≤◌, ℕ, Option, Some, None, List, ◌++◌, length, IsPermutation}
+use Rattle.std.specs.Prelude.{◌≡◌, ◌↔◌, ◌+◌, ◌<◌, ◌≤◌, ℕ, Option, Some, None, List, [], ◌∷◌, ◌++◌, length, map, slice_index_or, Contains, IsPermutation}
 use Rattle.std.specs.List.{All}
 use Rattle.bt_cnf.specs.declared.literal.Lit.{Lit}
+use Rattle.bt_log.specs.Units.{opposite}
+use Rattle.bt_sat.specs.Propagation.{IsSettled}
 use Rattle.bt_sat.specs.declared.search.Search.{Search}
 use Rattle.bt_sat.specs.declared.search.Attended.{Attended}
 use Rattle.bt_sat.specs.declared.search.Attended.TheVariants.{Stays, Leaves, Fails}
-use Rattle.bt_sat.specs.inner.Keeping.{kept_at, IsVisiting}
-use Rattle.bt_sat.specs.inner.Truths.{IsFalseIn}
+use Rattle.bt_sat.specs.inner.Keeping.{kept_at, AreWatched, AreTrue, IsAtRest, IsVisiting}
+use Rattle.bt_sat.specs.inner.Truths.{IsFalseIn, unset}
 use Rattle.bt_sat.specs.inner.Watchers.{watchers}
 
--- literals were added to the trail, and each clause has its literals still, in some order
+-- unset literals were added to the trail, and each clause has its literals still, in some order
 pub record GoesOn (old new : Search) : Type 0 where
   pub more : List Lit
   pub trail : new.assignment.trail.items ≡ old.assignment.trail.items ++ more
   pub variables : length new.assignment.values ≡ length old.assignment.values
   pub count : length new.clauses ≡ length old.clauses
   pub clauses : (id : ℕ) → IsPermutation (kept_at old.clauses id) (kept_at new.clauses id)
+  pub room : unset new.assignment.values + length new.assignment.trail.items ≡ unset old.assignment.values + length old.assignment.trail.items
+
+-- the clauses are watched, and the trail has what is true
+pub record IsWhole (s : Search) : Type 0 where
+  pub watched : AreWatched (length s.assignment.values) s.clauses s.watchers
+  pub truths : AreTrue s.assignment.values s.assignment.trail.items
 
 -- the search visits the list of a false literal, and came to this place
 abbrev pub Visiting : List Lit → Lit → ℕ → Search → Type 0
@@ -33,10 +41,47 @@ Advances gone place old new Stays =
 Advances gone place old new Leaves =
     GoesOn old new × (length (watchers new.watchers gone) + 1 ≡ length (watchers old.watchers gone))
     × ((part : List Lit) → Visiting part gone place old → Visiting part gone place new)
-Advances gone place old new (Fails id) = GoesOn old new × FailsAt new id
+Advances gone place old new (Fails id) = GoesOn old new × FailsAt new id × (IsWhole old → IsWhole new)
 
 -- all clauses on the literal's list were visited, or one was found whose literals are all false
 abbrev pub Settles : Lit → Search → Search → Option ℕ → Type 0
 Settles gone old new None = GoesOn old new
     × ((part : List Lit) → Visiting part gone 0 old → (place : ℕ) × (length (watchers new.watchers gone) ≤ place) × Visiting part gone place new)
-Settles gone old new (Some id) = GoesOn old new × FailsAt new id
+Settles gone old new (Some id) = GoesOn old new × FailsAt new id × (IsWhole old → IsWhole new)
+
+-- nothing is unsettled by the first so many literals of the trail
+pub record IsSettledTo (head : ℕ) (s : Search) : Type 0 where
+  pub whole : IsWhole s
+  pub part : List Lit
+  pub part_in : All (Contains s.assignment.trail.items) part
+  pub covers : (k : ℕ) (d : Lit) → k < head → k < length s.assignment.trail.items → Contains part (slice_index_or s.assignment.trail.items k d)
+  pub rest : All (IsAtRest part s.assignment.trail.items) s.clauses
+
+-- the same literals, in any order and each however often
+abbrev pub AreSame : List Lit → List Lit → Type 0
+AreSame a b = (l : Lit) → Contains a l ↔ Contains b l
+
+-- where a clause that was given is kept: it is one of the watched ones, or it has one literal alone, once or
+-- repeated, which is true, or it has a variable with both signs
+pub data IsKept (s : Search) (clause : List Lit) : Type 0 where
+  among_watched : (id : ℕ) → id < length s.clauses → AreSame clause (kept_at s.clauses id) → IsKept s clause
+  alone : (l : Lit) → Contains clause l → All (λ m. m ≡ l) clause → Contains s.assignment.trail.items l → IsKept s clause
+  both_signs : (l : Lit) → Contains clause l → Contains clause (opposite l) → IsKept s clause
+
+-- the literals that are false
+abbrev pub falses_of : Search → List Lit
+falses_of s = map opposite s.assignment.trail.items
+
+-- propagation came to its end: all is settled, and of the clauses that were given none is false and none is a unit;
+-- or it came to a clause whose literals are all false
+abbrev pub Propagates : Search → Search → Option ℕ → Type 0
+Propagates old new None = GoesOn old new × IsSettledTo (length new.assignment.trail.items) new
+    × ((given : List (List Lit)) → All (IsKept old) given → IsSettled given (falses_of new))
+Propagates old new (Some id) = GoesOn old new × FailsAt new id × IsWhole new
+
+-- one more clause is watched, with this number, behind the others, and nothing else has changed
+pub record Keeps (lits : List Lit) (old new : Search) (id : ℕ) : Type 0 where
+  pub assignment : new.assignment ≡ old.assignment
+  pub clauses : new.clauses ≡ old.clauses ++ lits ∷ []
+  pub is_id : id ≡ length old.clauses
+  pub watched : AreWatched (length new.assignment.values) new.clauses new.watchers

@@ -1,5 +1,5 @@
 -- What literals are worth while some variables are set.
-use Rattle.std.specs.Prelude.{◌≡◌, Bool, not, List, Option, None, Some, slice_index_or}
+use Rattle.std.specs.Prelude.{◌≡◌, ℕ, ◌+◌, Bool, not, List, [], ◌∷◌, Option, None, Some, slice_index_or}
 use Rattle.bt_cnf.specs.declared.literal.Lit.{Lit}
 
 -- the variable of the literal is set so that the literal is true
@@ -9,3 +9,9 @@ IsTrueIn values l = slice_index_or values l.var None ≡ Some l.positive
 -- the variable of the literal is set so that the literal is false
 abbrev pub IsFalseIn : List (Option Bool) → Lit → Type 0
 IsFalseIn values l = slice_index_or values l.var None ≡ Some (not l.positive)
+
+-- how many variables aren't set
+abbrev pub unset : List (Option Bool) → ℕ
+unset [] = 0
+unset (None ∷ values) = unset values + 1
+unset (Some value ∷ values) = unset values

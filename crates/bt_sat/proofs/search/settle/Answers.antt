@@ -46,7 +46,8 @@ loop-place-preserved c =
 pub returns-in-Fails : goal.returns-in-Fails
 returns-in-Fails c =
     let now = subst (Advances c.args.gone.now c.loop-place.place c.loop-place.search c.attend_at.new.search) c.in-Fails.is c.in_ok-attend_at.ensures in
-    (goes_twice c.args.search.now c.loop-place.search c.attend_at.new.search c.loop-place.invariant.goes now.0, now.1)
+    let v = c.loop-place.invariant.visiting [] (starts c.args.gone.now c.args.search.now c.requires.watched c.requires.truths c.requires.gone) in
+    (goes_twice c.args.search.now c.loop-place.search c.attend_at.new.search c.loop-place.invariant.goes now.0, now.1, (λ whole. now.2 (record { watched = v.watched; truths = v.truths })))
 
 pub returns : goal.returns
 returns c = (

@@ -1,0 +1,27 @@
+use Rattle.std.proofs.Common.{◌≡◌, arith, length, sym, subst, refl, ◌∙◌}
+use Rattle.std.proofs.lemmas.List.{get_or_default}
+use Rattle.bt_cnf.specs.declared.literal.Lit.{Lit}
+use Rattle.bt_sat.specs.inner.Attending.{no_lit, first, second}
+use Rattle.bt_sat.specs.inner.Keeping.{AreWatched}
+use Rattle.bt_sat.specs.inner.Watchers.{Watches}
+use Rattle.bt_sat.proofs.Adding.{watched_more}
+use Rattle.bt_sat.proofs.search.keep.Goals as goal
+
+pub returns : goal.returns
+returns c =
+    let old = c.args.search.now in
+    let lits = c.args.lits.now in
+    let id = c.in_ok-id.id in
+    let added = c.in_ok-id.ensures.added.right in
+    let at_first : first lits ≡ c.index-lits-0.result = get_or_default lits 0 no_lit c.index-lits-0.result (omega (arith, c.requires.watchable.two)) ∙ sym c.index-lits-0.is in
+    let at_second : second lits ≡ c.index-lits-1.result = get_or_default lits 1 no_lit c.index-lits-1.result (omega (arith, c.requires.watchable.two)) ∙ sym c.index-lits-1.is in
+    let one = subst (λ (l : Lit). Watches old.watchers c.watch.new.self l id) (sym at_first) c.in_ok-watch.ensures in
+    let two = subst (λ (l : Lit). Watches c.watch.new.self c.watch-2.new.self l id) (sym at_second) c.in_ok-watch-2.ensures in
+    record {
+      assignment = refl;
+      clauses = added.0;
+      is_id = added.1;
+      watched =
+          subst (λ cs. AreWatched (length old.assignment.values) cs c.watch-2.new.self) (sym added.0)
+          (watched_more (length old.assignment.values) old.clauses old.watchers c.watch.new.self c.watch-2.new.self lits id c.requires.watched c.requires.watchable added.1 one two);
+    }
