@@ -1,4 +1,5 @@
 -- What the contracts of private functions cite.
+pub mod Bases
 pub mod Starts
 pub mod Steps
 pub mod TurnedSlots

@@ -2,9 +2,11 @@
 //! weights that show that no values do.
 #![tactic(auto)]
 
+mod bland;
 mod law;
 mod line;
 mod merging;
+mod points;
 mod starting;
 mod tableau;
 #[cfg(test)]
