@@ -1,11 +1,11 @@
 -- The same point fails alike, and is moved alike.
-use Rattle.std.proofs.Common.{◌≡◌, ◌≢◌, ℕ, ◌<◌, ◌≤◌, arith, ℤ, pos, ◌*ℤ◌, ◌<ℤ◌, ◌≤ℤ◌, ◌↔◌, length, get_or, Option, Some, None, ap, sym, ◌∙◌, refl, subst, ◌⊎◌, inl, inr}
+use Rattle.std.proofs.Common.{◌≡◌, ℕ, ◌<◌, ◌≤◌, arith, pos, ◌*ℤ◌, ◌<ℤ◌, ◌↔◌, length, Option, Some, None, ap, sym, ◌∙◌, subst, inl, inr}
 use Rattle.std.proofs.lemmas.List.{get_or_past}
 use Rattle.bt_frac.specs.Ratio.{Ratio, SameRatio, IsLess}
 use Rattle.bt_frac.specs.Rows.{RowParts}
 use Rattle.bt_frac.specs.Deltas.{IsLessDelta}
 use Rattle.bt_frac.specs.declared.delta.Delta.{Delta}
-use Rattle.bt_frac.specs.declared.row.Relation.TheVariants.{Above, Equal}
+use Rattle.bt_frac.specs.declared.row.Relation.TheVariants.{Above}
 use Rattle.bt_frac.proofs.Order.{mul_lt, lt_from_mul}
 use Rattle.bt_frac.proofs.Ring.{turn_last}
 use Rattle.bt_lin.proofs.SameNumbers.{same_trans, stands_same}
@@ -98,11 +98,12 @@ enters_told t fails enters terms row point line is_bound same = (forth, from)
     enter : (number : Ratio) → MayMove t fails enters number → MayEnter t row point enters number
     enter number (inl none) = inl none
     enter number (inr (other, is_other, unequal, (row', is_row, moves))) =
-        inr
-        (other,
-        is_other,
-        unequal,
-        subst (λ r. MovesTowards r point number) (row_is row' row (bound_row t fails) is_row is_bound) (moves_by row' (point_at t fails) point number (same_back point (point_at t fails) here) moves))
+        inr (
+          other,
+          is_other,
+          unequal,
+          subst (λ r. MovesTowards r point number) (row_is row' row (bound_row t fails) is_row is_bound) (moves_by row' (point_at t fails) point number (same_back point (point_at t fails) here) moves),
+        )
 
     line_is : (terms' : Terms) → slot_at t.slots fails ≡ Some terms' → terms' ≡ terms
     line_is terms' is = let both : Some terms' ≡ Some terms = sym is ∙ line in cc

@@ -6,6 +6,7 @@ pub mod Indicators
 pub mod Numbers
 pub mod OneForm
 pub mod Resting
+pub mod Runs
 pub mod Standing
 pub mod Substitutions
 pub mod TableauTurns

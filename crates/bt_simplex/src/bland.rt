@@ -59,13 +59,7 @@ fn moves_towards(row: &Row, point: &Delta, number: &Frac) -> bool
 }
 
 /// Whether a position with this number in the failing row's line may be moved.
-fn may_enter(
-    tableau: &Tableau,
-    row: &Row,
-    point: &Delta,
-    position: usize,
-    number: &Frac,
-) -> bool
+fn may_enter(tableau: &Tableau, row: &Row, point: &Delta, position: usize, number: &Frac) -> bool
     ensures { IsTrue result ↔ MayEnter tableau.now row.now point.now position number.now }
 {
     match tableau.bound_row(position) {

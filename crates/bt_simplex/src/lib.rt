@@ -7,6 +7,7 @@ mod law;
 mod line;
 mod merging;
 mod points;
+mod running;
 mod starting;
 mod tableau;
 #[cfg(test)]

@@ -1,4 +1,4 @@
-use Rattle.std.proofs.Common.{◌≤◌, ℕ, arith, length, below_more}
+use Rattle.std.proofs.Common.{◌≤◌, arith, length, below_more}
 use Rattle.std.proofs.lemmas.Bool.{iff_false}
 use Rattle.bt_simplex.specs.Turns.{Fails}
 use Rattle.bt_simplex.specs.inner.Bases.{with_slots}

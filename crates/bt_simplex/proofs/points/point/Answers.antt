@@ -1,4 +1,4 @@
-use Rattle.bt_simplex.specs.inner.Bases.{with_slots, IsSamePoint}
+use Rattle.bt_simplex.specs.inner.Bases.{with_slots}
 use Rattle.bt_simplex.proofs.Resting.{line_stands, rest_stands}
 use Rattle.bt_simplex.proofs.points.point.Goals as goal
 
