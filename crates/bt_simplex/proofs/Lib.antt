@@ -1,9 +1,13 @@
+pub mod Entering
+pub mod Failing
+pub mod FirstForms
+pub mod FirstLines
 pub mod Indicators
 pub mod Numbers
 pub mod OneForm
+pub mod Resting
+pub mod Runs
 pub mod Standing
-pub mod FirstForms
-pub mod FirstLines
 pub mod Substitutions
 pub mod TableauTurns
 pub mod Totals

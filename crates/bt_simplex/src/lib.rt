@@ -2,9 +2,12 @@
 //! weights that show that no values do.
 #![tactic(auto)]
 
+mod bland;
 mod law;
 mod line;
 mod merging;
+mod points;
+mod running;
 mod starting;
 mod tableau;
 #[cfg(test)]

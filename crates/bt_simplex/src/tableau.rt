@@ -1,6 +1,7 @@
 //! Tableaus: rows over columns, of which some are bound, and a basis with its solved form.
-ghost use Rattle.std.specs.Prelude.{◌≡◌, ◌<◌, IfOk, OnErr, length, true, false, IsTrue};
-ghost use Rattle.bt_simplex.specs.Tableaus.{AreOverColumns, IsNew, IsBoundAs};
+ghost use Rattle.std.specs.Prelude.{◌≡◌, ◌<◌, IfOk, OnErr, MatchOption, Some, None, length, true, false, IsTrue, slice_index_or};
+ghost use Rattle.bt_simplex.specs.Points.{bound_row};
+ghost use Rattle.bt_simplex.specs.Tableaus.{AreOverColumns, IsNew, IsBoundAs, IsTableau};
 ghost use Rattle.bt_simplex.specs.Turns.{CanTurn, IsTurnedBy};
 
 use crate::line::Line;
@@ -82,6 +83,29 @@ impl Tableau {
     {
         self.bound[row] = false;
     }
+
+    /// The row of a position, where that is a row and bound.
+    pub fn bound_row(&self, position: usize) -> Option<&Row>
+        ensures { MatchOption result (bound_row self.now position ≡ None)
+            (λ row. bound_row self.now position ≡ Some row.now) }
+    {
+        if position < self.columns {
+            return None;
+        }
+        let row = position - self.columns;
+        if !is_bound(&self.bound, row) {
+            return None;
+        }
+        self.rows.get(row)
+    }
+
+    /// Tells a proof that the tableau is one. It does nothing when it runs.
+    pub fn all_known(&self)
+        ensures { IsTableau self.now }
+    {
+        let _ = &self.rows;
+    }
+
     /// Whether the first position of the turn is in the basis, and its line names the second.
     pub fn can_turn(&self, turn: Turn) -> bool
         ensures { IsTrue result → CanTurn self.now.slots turn }
@@ -106,4 +130,11 @@ impl Tableau {
         self.slots = slots;
         Ok(true)
     }
+}
+
+/// Whether a row is bound.
+fn is_bound(bound: &[bool], row: usize) -> bool
+    ensures { result ≡ slice_index_or bound.now row false }
+{
+    row < bound.len() && bound[row]
 }

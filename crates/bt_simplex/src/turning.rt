@@ -141,6 +141,27 @@ fn turn(
     enter(alloc, slots, enters, zero.terms())
 }
 
+/// The same slots after a turn of the basis. None where a product or a sum of the new lines doesn't fit.
+pub fn turned(
+    alloc: Global,
+    slots: Vec<Option<Line>>,
+    leaves: usize,
+    enters: usize,
+) -> Result<Option<Vec<Option<Line>>>, AllocError>
+    requires leaves { leaves < length slots.items }
+    requires enters { enters < length slots.items }
+    requires few { length slots.items < 2 ^ 64 }
+    requires apart { leaves ≢ enters }
+    ensures { IfOk result (λ o. IfSome o (λ v. IsTurned slots.items leaves enters v.items)) }
+{
+    let mut slots = slots;
+    if turn(alloc, &mut slots, leaves, enters)? {
+        Ok(Some(slots))
+    } else {
+        Ok(None)
+    }
+}
+
 /// The slots after a turn of the basis. None where a product or a sum of the new lines doesn't fit.
 pub fn turned_copy(
     alloc: Global,

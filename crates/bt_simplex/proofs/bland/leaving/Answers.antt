@@ -1,0 +1,19 @@
+use Rattle.std.proofs.Common.{◌≤◌, arith, length, below_more}
+use Rattle.std.proofs.lemmas.Bool.{iff_false}
+use Rattle.bt_simplex.specs.Turns.{Fails}
+use Rattle.bt_simplex.specs.inner.Bases.{with_slots}
+use Rattle.bt_simplex.proofs.Failing.{no_slot, least_here}
+use Rattle.bt_simplex.proofs.bland.leaving.Goals as goal
+
+pub returns-then-told : goal.returns-then-told
+returns-then-told c =
+    least_here (λ p. Fails (with_slots c.args.tableau.now c.args.slots.now) p) c.loop-position.position c.loop-position.invariant (c.in-Some.ensures.0 c.if-told.true)
+
+pub loop-position-preserved : goal.loop-position-preserved
+loop-position-preserved c =
+    below_more (λ p. Fails (with_slots c.args.tableau.now c.args.slots.now) p → ⊥) c.loop-position.position c.loop-position.invariant (iff_false c.in-Some.ensures c.if-told.false)
+
+pub returns : goal.returns
+returns c p fails =
+    let within : length c.args.slots.now ≤ p → ⊥ = λ past. no_slot (with_slots c.args.tableau.now c.args.slots.now) p past fails in
+    c.loop-position.invariant p (omega arith) fails

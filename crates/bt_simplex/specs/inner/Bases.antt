@@ -1,0 +1,65 @@
+-- What Bland's rule says of a tableau at a basis.
+use Rattle.std.specs.Prelude.{◌≡◌, ◌≢◌, ◌⊎◌, ℕ, ◌<◌, Option, Some, None}
+use Rattle.bt_frac.specs.Ratio.{Ratio}
+use Rattle.bt_frac.specs.Rows.{RowParts}
+use Rattle.bt_frac.specs.Deltas.{SameDelta}
+use Rattle.bt_frac.specs.declared.delta.Delta.{Delta}
+use Rattle.bt_frac.specs.declared.row.Relation.TheVariants.{Equal}
+use Rattle.bt_lin.specs.WeightedRows.{coefficient_at}
+use Rattle.bt_simplex.specs.Lines.{Terms}
+use Rattle.bt_simplex.specs.SolvedForms.{Slots}
+use Rattle.bt_simplex.specs.Tableaus.{TableauParts}
+use Rattle.bt_simplex.specs.Points.{bound_row}
+use Rattle.bt_simplex.specs.Turns.{Fails, MovesTowards, CanEnter, IsLeast, IsBlandTurn}
+use Rattle.bt_simplex.specs.declared.bland.Least.{Least}
+use Rattle.bt_simplex.specs.declared.bland.Least.TheVariants.{At, Nowhere, Wide as NoLeast}
+use Rattle.bt_simplex.specs.declared.bland.Next.{Next}
+use Rattle.bt_simplex.specs.declared.bland.Next.TheVariants.{Turn as Turns, Met, Stuck, Wide}
+
+-- the tableau with these slots
+abbrev pub with_slots : TableauParts → Slots → TableauParts
+with_slots t slots = record t { slots = slots }
+
+-- two points with positive denominators are the same
+pub record IsSamePoint (a b : Delta) : Type 0 where
+  pub left_value : 0 < a.value.under
+  pub left_tiny : 0 < a.tiny.under
+  pub right_value : 0 < b.value.under
+  pub right_tiny : 0 < b.tiny.under
+  pub same : SameDelta a b
+
+-- the position may be moved: it is a column or a row that isn't bound, or a bound row that is no equation, and raising it moves the failing row towards its bound value
+abbrev pub MayEnter : TableauParts → RowParts → Delta → ℕ → Ratio → Type 0
+MayEnter t row point enters number =
+    (bound_row t enters ≡ None) ⊎ ((other : RowParts) × (bound_row t enters ≡ Some other) × (other.relation ≢ Equal) × MovesTowards row point number)
+
+-- the terms name the position with a number of this property
+abbrev pub Names : Terms → (ℕ → Ratio → Type 0) → ℕ → Type 0
+Names terms P position = (number : Ratio) × (coefficient_at position terms ≡ Some number) × P position number
+
+-- the least position of the property, or none where no position has it
+abbrev pub IsLeastOf : (ℕ → Type 0) → Option ℕ → Type 0
+IsLeastOf P (Some position) = IsLeast P position
+IsLeastOf P None = (position : ℕ) → P position → ⊥
+
+-- the same, and nothing where a number doesn't fit
+abbrev pub Finds : (ℕ → Type 0) → Least → Type 0
+Finds P (At position) = IsLeast P position
+Finds P Nowhere = (position : ℕ) → P position → ⊥
+Finds P NoLeast = Unit {0}
+
+-- no position fails
+abbrev pub IsMet : TableauParts → Type 0
+IsMet t = (position : ℕ) → Fails t position → ⊥
+
+-- this position is the least that fails, and none can enter for it
+pub record IsStuckAt (t : TableauParts) (position : ℕ) : Type 0 where
+  pub least : IsLeast (λ p. Fails t p) position
+  pub none : (enters : ℕ) → CanEnter t position enters → ⊥
+
+-- Bland's turn, or how the basis is final
+abbrev pub IsNext : TableauParts → Next → Type 0
+IsNext t (Turns turn) = IsBlandTurn t turn
+IsNext t Met = IsMet t
+IsNext t (Stuck position) = IsStuckAt t position
+IsNext t Wide = Unit {0}

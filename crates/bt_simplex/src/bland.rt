@@ -1,0 +1,147 @@
+//! Bland's rule: of the positions that fail the least leaves the basis, and of those that can enter the
+//! least does.
+ghost use Rattle.std.specs.Prelude.{◌≡◌, ℕ, IfSome, IsTrue, ◌↔◌};
+ghost use Rattle.bt_simplex.specs.Lines.{IsLine};
+ghost use Rattle.bt_simplex.specs.Turns.{Breaks, Fails, MovesTowards, CanEnter};
+ghost use Rattle.bt_simplex.specs.inner.Bases.{with_slots, MayEnter, Names, Finds, IsLeastOf, IsNext};
+
+use crate::line::{Line, Term};
+use crate::points::{bound_value, line_point, terms_at};
+use crate::tableau::{Tableau, Turn};
+use bt_frac::{Delta, Frac, Relation, Row};
+use std::cmp::Ordering;
+
+/// The least position that has a property.
+#[derive(Clone, Copy)]
+pub enum Least {
+    /// It stands here.
+    At(usize),
+    /// No position has the property.
+    Nowhere,
+    /// A number that the property asks for doesn't fit.
+    Wide,
+}
+
+/// What Bland's rule says of a basis.
+#[derive(Clone, Copy)]
+pub enum Next {
+    /// This turn comes next.
+    Turn(Turn),
+    /// No position fails.
+    Met,
+    /// This position fails, and none can enter for it.
+    Stuck(usize),
+    /// A number that the rule asks for doesn't fit.
+    Wide,
+}
+
+/// Whether a bound row doesn't hold where it stands.
+fn breaks(row: &Row, point: &Delta) -> bool
+    ensures { IsTrue result ↔ Breaks row.now point.now }
+{
+    match point.compare(&bound_value(row)) {
+        Ordering::Less => true,
+        Ordering::Equal => false,
+        Ordering::Greater => row.relation() == Relation::Equal,
+    }
+}
+
+/// Whether a position with this number in the row's line moves it towards its bound value where it is
+/// raised.
+fn moves_towards(row: &Row, point: &Delta, number: &Frac) -> bool
+    ensures { IsTrue result ↔ MovesTowards row.now point.now number.now }
+{
+    match point.compare(&bound_value(row)) {
+        Ordering::Less => number.numerator() > 0,
+        Ordering::Equal => false,
+        Ordering::Greater => number.numerator() < 0,
+    }
+}
+
+/// Whether a position with this number in the failing row's line may be moved.
+fn may_enter(tableau: &Tableau, row: &Row, point: &Delta, position: usize, number: &Frac) -> bool
+    ensures { IsTrue result ↔ MayEnter tableau.now row.now point.now position number.now }
+{
+    match tableau.bound_row(position) {
+        Some(other) => other.relation() != Relation::Equal && moves_towards(row, point, number),
+        None => true,
+    }
+}
+
+/// Whether a position is a bound row of the basis that doesn't hold. None where its point doesn't fit.
+fn fails(tableau: &Tableau, slots: &[Option<Line>], position: usize) -> Option<bool>
+    ensures { IfSome result (λ told. IsTrue told ↔ Fails (with_slots tableau.now slots.now) position) }
+{
+    let Some(terms) = terms_at(slots, position) else {
+        return Some(false);
+    };
+    let Some(row) = tableau.bound_row(position) else {
+        return Some(false);
+    };
+    let Some(point) = line_point(tableau, terms) else {
+        return None;
+    };
+    Some(breaks(row, &point))
+}
+
+/// The least position that fails.
+pub fn leaving(tableau: &Tableau, slots: &[Option<Line>]) -> Least
+    ensures { Finds (λ p. Fails (with_slots tableau.now slots.now) p) result }
+{
+    for position in 0..slots.len() {
+        let Some(told) = fails(tableau, slots, position) else {
+            return Least::Wide;
+        };
+        if told {
+            return Least::At(position);
+        }
+    }
+    Least::Nowhere
+}
+
+/// The least position of the failing row's line that may be moved.
+fn first_entering(tableau: &Tableau, row: &Row, point: &Delta, terms: &[Term]) -> Option<usize>
+    requires { IsLine terms.now }
+    ensures { IsLeastOf (λ e. Names terms.now (MayEnter tableau.now row.now point.now) e) result }
+{
+    for (position, number) in terms {
+        if may_enter(tableau, row, point, *position, number) {
+            return Some(*position);
+        }
+    }
+    None
+}
+
+/// The least position that can enter for one that fails.
+pub fn entering(tableau: &Tableau, slots: &[Option<Line>], leaves: usize) -> Least
+    ensures { Finds (λ e. CanEnter (with_slots tableau.now slots.now) leaves e) result }
+{
+    let Some(terms) = terms_at(slots, leaves) else {
+        return Least::Nowhere;
+    };
+    let Some(row) = tableau.bound_row(leaves) else {
+        return Least::Wide;
+    };
+    let Some(point) = line_point(tableau, terms) else {
+        return Least::Wide;
+    };
+    match first_entering(tableau, row, &point, terms) {
+        Some(enters) => Least::At(enters),
+        None => Least::Nowhere,
+    }
+}
+
+/// Bland's turn of a basis, or how the basis is final.
+pub fn blands_next(tableau: &Tableau, slots: &[Option<Line>]) -> Next
+    ensures { IsNext (with_slots tableau.now slots.now) result }
+{
+    match leaving(tableau, slots) {
+        Least::At(leaves) => match entering(tableau, slots, leaves) {
+            Least::At(enters) => Next::Turn(Turn { leaves, enters }),
+            Least::Nowhere => Next::Stuck(leaves),
+            Least::Wide => Next::Wide,
+        },
+        Least::Nowhere => Next::Met,
+        Least::Wide => Next::Wide,
+    }
+}
