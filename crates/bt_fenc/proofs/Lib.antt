@@ -6,4 +6,5 @@ pub mod Withins
 pub mod TrueClaims
 pub mod RowValues
 pub mod Admitted
+pub mod FlowRows
 pub mod Formulas
