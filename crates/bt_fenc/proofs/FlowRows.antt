@@ -1,11 +1,11 @@
 -- The rows of the flow formula are rows: their columns ascend, and their numbers are in lowest terms.
-use Rattle.std.proofs.Common.{◌≡◌, ℕ, ◌<◌, ◌≤◌, ◌+◌, ◌-◌, ◌^◌, Bool, true, false, ℤ, pos, neg_ℤ, List, [], ◌∷◌, ◌++◌, length, map, cond, ltb, refl, arith, zero, suc, lit<, get_or}
-use Rattle.std.specs.List.{All, AllByRecursion, flat_map, range_with_len}
+use Rattle.std.proofs.Common.{◌≡◌, ℕ, ◌<◌, ◌≤◌, ◌+◌, ◌-◌, ◌^◌, Bool, true, false, pos, neg_ℤ, List, [], ◌∷◌, ◌++◌, length, map, cond, ltb, refl, arith, zero, suc, lit<, get_or}
+use Rattle.std.specs.List.{AllByRecursion, flat_map, range_with_len}
 use Rattle.std.proofs.lemmas.Int.{ints}
 use Rattle.std.proofs.lemmas.Bool.{ltb-true}
 use Rattle.bt_frac.specs.Ratio.{Ratio, IsLowest, negated}
 use Rattle.bt_frac.specs.Columns.{AreColumnsFrom}
-use Rattle.bt_frac.specs.Rows.{RowParts, IsRow, columns_of}
+use Rattle.bt_frac.specs.Rows.{IsRow, columns_of}
 use Rattle.bt_frac.specs.declared.row.Relation.{Relation}
 use Rattle.bt_frac.specs.declared.row.Relation.TheVariants.{AtLeast, Above, Equal}
 use Rattle.bt_frac.proofs.Gcds.{whole_lowest}
@@ -16,7 +16,7 @@ use Rattle.bt_flow.specs.declared.property.Property.TheVariants.{Balanced, Drawn
 use Rattle.bt_flow.specs.Ports.{numbers_where}
 use Rattle.bt_flow.specs.Properties.{is_last}
 use Rattle.bt_fenc.specs.declared.claim.Claim.{Claim}
-use Rattle.bt_fenc.specs.declared.claim.Claim.TheVariants.{Mark, Says}
+use Rattle.bt_fenc.specs.declared.claim.Claim.TheVariants.{Says}
 use Rattle.bt_fenc.specs.declared.family.Family.{Family}
 use Rattle.bt_fenc.specs.declared.family.Family.TheVariants as of
 use Rattle.bt_fenc.specs.Columns.{input_edge, output_edge, input_edges, output_edges, in_edges, out_edges, cap_at, load_column, room_column, whole, plus, minus, zero_row, at_least, at_most, less, not_below, above, in_less_out, above_outputs}

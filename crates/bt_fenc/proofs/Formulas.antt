@@ -1,11 +1,11 @@
 -- Clauses of claims whose marks are in range and whose rows are rows are numbered as a formula.
-use Rattle.std.proofs.Common.{ℕ, ◌<◌, ◌≤◌, ◌+◌, List, [], ◌∷◌, ◌++◌, length, map, arith, zero, suc, length-append}
+use Rattle.std.proofs.Common.{ℕ, ◌<◌, ◌≤◌, ◌+◌, List, [], ◌∷◌, length, map, arith, length-append}
 use Rattle.std.specs.List.{AllByRecursion, flat_map}
 use Rattle.bt_frac.specs.Rows.{RowParts, IsRow}
 use Rattle.bt_cnf.specs.Formulas.{LitsBelow, AscendBelow, IsFormula}
 use Rattle.bt_fenc.specs.declared.claim.Claim.{Claim}
 use Rattle.bt_fenc.specs.Numbering.{mentioned, rows_in, literals_from, clauses_from, atoms_from, formula_of}
-use Rattle.bt_fenc.specs.Within.{IsWithin, AreWithin}
+use Rattle.bt_fenc.specs.Within.{AreWithin}
 use Rattle.bt_fenc.specs.FlowFormula.{flow_formula, flow_clauses}
 use Rattle.bt_fenc.proofs.Numbers.{all_from, literals_below, within_more}
 use Rattle.bt_fenc.proofs.Withins.{flow_within}
