@@ -1,5 +1,5 @@
--- What follows from claims that are true, the claims that are true of steady states and of states that break a
--- property, and what follows from a log that refutes the flow formula.
+-- What follows from claims that are true, the claims that are true of steady states and of states that
+-- break a property, and what follows from a log that refutes the flow formula.
 use Rattle.std.specs.Prelude.{◌≡◌, ℕ, ◌<◌, ◌⊎◌, Bool, List, [], ◌∷◌, ◌++◌, pos, length, flat_map, slice_index_or}
 use Rattle.std.specs.List.{AllByRecursion}
 use Rattle.bt_frac.specs.Ratio.{Ratio}
@@ -30,19 +30,22 @@ HasTrue mark values [] = ⊥
 HasTrue mark values (claim ∷ claims) = IsTrueOf mark values claim ⊎ HasTrue mark values claims
 
 -- an assignment that begins with these marks meets the formula with the values
-pub record IsMetWith (marks : ℕ) (clauses : List (List Claim)) (mark : ℕ → Bool) (values : ℕ → Ratio) : Type 0 where
+pub record IsMetWith (marks : ℕ) (clauses : List (List Claim)) (mark : ℕ → Bool) (values : ℕ → Ratio)
+    : Type 0 where
   pub assignment : ℕ → Bool
   pub begins : (a : ℕ) → a < marks → assignment a ≡ mark a
   pub meets : Meets (formula_of marks clauses) assignment values
 
--- where each clause has a claim that is true of marks and values, these give an assignment that meets the formula
+-- where each clause has a claim that is true of marks and values, these give an assignment that meets the
+-- formula
 abbrev pub TrueClaimsMeet : Type 0
-TrueClaimsMeet = (marks : ℕ) (clauses : List (List Claim)) (mark : ℕ → Bool) (values : ℕ → Ratio) → AreWithin marks clauses
-    → AllByRecursion (HasTrue mark values) clauses → IsMetWith marks clauses mark values
+TrueClaimsMeet = (marks : ℕ) (clauses : List (List Claim)) (mark : ℕ → Bool) (values : ℕ → Ratio)
+    → AreWithin marks clauses → AllByRecursion (HasTrue mark values) clauses → IsMetWith marks clauses mark values
 
 -- the values of a state: its flows, loads and rooms in the order of columns, over its denominator
 abbrev pub values_of : Flows → ℕ → Ratio
-values_of s column = record { over = slice_index_or (s.flows ++ s.loads ++ s.rooms) column (pos 0); under = s.denominator }
+values_of s column =
+    record { over = slice_index_or (s.flows ++ s.loads ++ s.rooms) column (pos 0); under = s.denominator }
 
 -- the marks and values of each state that is admissible and steady meet the formula of the families' clauses
 abbrev pub SteadyMeets : Type 0
@@ -56,4 +59,5 @@ BreakingMeets = (n : Network) (p : Property) (s : Flows) → IsNetwork n → Bre
 
 -- where a log refutes the flow formula of a network and a property, the network has the property
 abbrev pub RefutedHolds : Type 0
-RefutedHolds = (n : Network) (p : Property) (steps : List Step) → IsNetwork n → Refutes (flow_formula n p) steps → Holds n p
+RefutedHolds =
+    (n : Network) (p : Property) (steps : List Step) → IsNetwork n → Refutes (flow_formula n p) steps → Holds n p
