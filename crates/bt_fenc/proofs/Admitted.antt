@@ -1,9 +1,9 @@
 -- A state that is admissible and steady makes true a claim of each clause of each family.
-use Rattle.std.proofs.Common.{◌≡◌, ◌≢◌, ℕ, ◌<◌, ◌≤◌, ◌+◌, ◌*◌, ◌⊎◌, inl, inr, Bool, true, false, IsTrue, ℤ, pos, ◌≤ℤ◌, List, [], ◌∷◌, ◌++◌, length, map, get_or, slice_get, Some, cond, ltb, ap, sym, ◌∙◌, refl, subst, arith, zero, suc, length-append}
+use Rattle.std.proofs.Common.{◌≡◌, ◌≢◌, ℕ, ◌<◌, ◌≤◌, ◌+◌, ◌*◌, ◌⊎◌, inl, inr, Bool, true, false, IsTrue, ℤ, pos, ◌≤ℤ◌, List, [], ◌∷◌, ◌++◌, length, map, get_or, cond, ltb, ap, sym, ◌∙◌, refl, subst, arith, length-append}
 use Rattle.std.specs.List.{AllByRecursion, flat_map, range_with_len}
 use Rattle.std.proofs.lemmas.Int.{ints}
 use Rattle.std.proofs.Math.Bool.{not}
-use Rattle.std.proofs.lemmas.Bool.{ltb-false, cases_eq, false≢true}
+use Rattle.std.proofs.lemmas.Bool.{ltb-false, cases_eq}
 use Rattle.std.proofs.lemmas.List.{get_or_append_left, get_or-append-add, get_or-map}
 use Rattle.std.proofs.lemmas.Option.{slice_get-get_or, slice_get_within, get_or_from_slice_get}
 use Rattle.bt_frac.specs.Values.{RowHolds}
@@ -22,9 +22,9 @@ use Rattle.bt_fenc.specs.declared.family.Family.{Family}
 use Rattle.bt_fenc.specs.declared.family.Family.TheVariants as of
 use Rattle.bt_fenc.specs.Columns.{input_edge, output_edge, in_edges, out_edges, cap_at, load_column, room_column, at_least, not_below}
 use Rattle.bt_fenc.specs.Families.{clauses_at, places, family_clauses, families, range_clauses, end_clauses, even_clause, even_clauses, backing_clause}
-use Rattle.bt_fenc.specs.Laws.{IsTrueOf, HasTrue}
+use Rattle.bt_fenc.specs.Laws.{HasTrue}
 use Rattle.bt_fenc.proofs.RowValues as rows
-use Rattle.bt_fenc.proofs.Withins.{each-append, each-flat_map, each-map, each-range, each_any, input_below, output_below}
+use Rattle.bt_fenc.proofs.Withins.{each-flat_map, each-map, each-range, each_any}
 
 -- the whole number in a column
 abbrev pub column_of : Flows → ℕ → ℤ
@@ -39,13 +39,13 @@ module _ (n : Network) (is : IsNetwork n) (s : Flows) (state : IsStateOf n s) wh
   abbrev pub w : ℕ → ℤ
   w = column_of s
 
-  flow_column : (a : ℕ) → a < length n.edges → w a ≡ flow_at s a
+  pub flow_column : (a : ℕ) → a < length n.edges → w a ≡ flow_at s a
   flow_column a l =
       let f = state.flows in
       let more = length-append s.flows s.loads in
       get_or_append_left (s.flows ++ s.loads) s.rooms (pos 0) a (omega (arith, f, more, l)) ∙ get_or_append_left s.flows s.loads (pos 0) a (omega (arith, f, l))
 
-  load_column_is : (i : ℕ) → i < n.inputs → w (load_column n i) ≡ load_at s i
+  pub load_column_is : (i : ℕ) → i < n.inputs → w (load_column n i) ≡ load_at s i
   load_column_is i l =
       let f = state.flows in
       let g = state.loads in
@@ -53,7 +53,7 @@ module _ (n : Network) (is : IsNetwork n) (s : Flows) (state : IsStateOf n s) wh
       get_or_append_left (s.flows ++ s.loads) s.rooms (pos 0) (length n.edges + i) (omega (arith, f, g, more, l))
       ∙ ap (λ k. get_or (s.flows ++ s.loads) (k + i) (pos 0)) (sym f) ∙ get_or-append-add s.flows s.loads i (pos 0)
 
-  room_column_is : (o : ℕ) → o < n.outputs → w (room_column n o) ≡ room_at s o
+  pub room_column_is : (o : ℕ) → o < n.outputs → w (room_column n o) ≡ room_at s o
   room_column_is o l =
       let f = state.flows in
       let g = state.loads in
@@ -84,10 +84,10 @@ same_or_not false true = inr refl
 same_or_not false false = inl refl
 
 module _ (n : Network) (is : IsNetwork n) (s : Flows) (state : IsStateOf n s) (steady : IsSteady n s) where
-  abbrev True : List Claim → Type 0
+  abbrev pub True : List Claim → Type 0
   True claims = HasTrue (backed_at s) (rows.over (w n is s state) s.denominator) claims
 
-  abbrev AllTrue : List (List Claim) → Type 0
+  abbrev pub AllTrue : List (List Claim) → Type 0
   AllTrue clauses = AllByRecursion True clauses
 
   range_true : (c k : ℕ) → pos 0 ≤ℤ w n is s state c → w n is s state c ≤ℤ pos (k * s.denominator) → AllTrue (range_clauses c k)
@@ -102,10 +102,10 @@ module _ (n : Network) (is : IsNetwork n) (s : Flows) (state : IsStateOf n s) (s
   below : (a : ℕ) (e : Edge) → HasEdge n a e → a < length n.edges
   below a e h = slice_get_within n.edges a e h
 
-  flow_is : (a : ℕ) (e : Edge) → HasEdge n a e → w n is s state a ≡ flow_at s a
+  pub flow_is : (a : ℕ) (e : Edge) → HasEdge n a e → w n is s state a ≡ flow_at s a
   flow_is a e h = flow_column n is s state a (below a e h)
 
-  cap_over : (a : ℕ) (e : Edge) → HasEdge n a e → pos (cap_at n a * s.denominator) ≡ cap_in s e
+  pub cap_over : (a : ℕ) (e : Edge) → HasEdge n a e → pos (cap_at n a * s.denominator) ≡ cap_in s e
   cap_over a e h = ap (λ c. pos (c * s.denominator)) (cap_is n is s state a e h)
 
   -- one flow is at least another
@@ -137,13 +137,13 @@ module _ (n : Network) (is : IsNetwork n) (s : Flows) (state : IsStateOf n s) (s
       (inl (rows.conserve_holds (w n is s state) s.denominator state.positive k n.edges s.flows state.flows (λ i b. flow_column n is s state i b) (steady.conserve k l)), tt)
 
   -- the edge of an input, and of an output
-  input_is : (i : ℕ) → i < n.inputs → IsEdgeWith n is s state (is_input i) (input_edge n i)
+  pub input_is : (i : ℕ) → i < n.inputs → IsEdgeWith n is s state (is_input i) (input_edge n i)
   input_is i l =
       let one = is.wired.one_in i l in
       let long = length-numbers_where (is_input i) 0 n.edges in
       first_holds (IsEdgeWith n is s state (is_input i)) (numbers_where (is_input i) 0 n.edges) (omega (arith, one, long)) (edges_with n is s state (is_input i))
 
-  output_is : (o : ℕ) → o < n.outputs → IsEdgeWith n is s state (is_output o) (output_edge n o)
+  pub output_is : (o : ℕ) → o < n.outputs → IsEdgeWith n is s state (is_output o) (output_edge n o)
   output_is o l =
       let one = is.wired.one_out o l in
       let long = length-numbers_where (is_output o) 0 n.edges in

@@ -1,13 +1,13 @@
 -- The columns of rows ascend.
-use Rattle.std.proofs.Common.{◌≡◌, ℕ, ◌<◌, ◌≤◌, ◌+◌, ◌-◌, ◌^◌, Bool, true, false, List, [], ◌∷◌, ◌++◌, length, map, cond, ap, sym, ◌∙◌, refl, subst, arith, zero, suc}
+use Rattle.std.proofs.Common.{ℕ, ◌<◌, ◌≤◌, ◌+◌, ◌-◌, ◌^◌, Bool, true, false, List, [], ◌∷◌, ◌++◌, length, map, cond, arith, zero, suc}
 use Rattle.std.specs.List.{range_with_len}
 use Rattle.bt_frac.specs.Ratio.{Ratio}
 use Rattle.bt_frac.specs.Columns.{AreColumnsFrom}
-use Rattle.bt_frac.specs.Rows.{columns_of, HaveColumns}
+use Rattle.bt_frac.specs.Rows.{columns_of}
 use Rattle.bt_net.specs.declared.network.Edge.{Edge}
 use Rattle.bt_net.specs.Network.{leaves, enters}
 use Rattle.bt_flow.specs.Ports.{numbers_where}
-use Rattle.bt_fenc.specs.Columns.{plus, minus, at_splitter, in_less_out}
+use Rattle.bt_fenc.specs.Columns.{plus, minus, in_less_out}
 
 earlier : (m n : ℕ) (columns : List ℕ) → m ≤ n → AreColumnsFrom n columns → AreColumnsFrom m columns
 earlier m n [] l h = tt

@@ -1,12 +1,17 @@
 -- Clauses of claims whose marks are in range and whose rows are rows are numbered as a formula.
-use Rattle.std.proofs.Common.{ℕ, ◌<◌, ◌≤◌, ◌+◌, List, [], ◌∷◌, ◌++◌, length, map, arith, zero, suc, length-append}
+use Rattle.std.proofs.Common.{ℕ, ◌<◌, ◌≤◌, ◌+◌, List, [], ◌∷◌, length, map, arith, length-append}
 use Rattle.std.specs.List.{AllByRecursion, flat_map}
 use Rattle.bt_frac.specs.Rows.{RowParts, IsRow}
 use Rattle.bt_cnf.specs.Formulas.{LitsBelow, AscendBelow, IsFormula}
 use Rattle.bt_fenc.specs.declared.claim.Claim.{Claim}
 use Rattle.bt_fenc.specs.Numbering.{mentioned, rows_in, literals_from, clauses_from, atoms_from, formula_of}
-use Rattle.bt_fenc.specs.Within.{IsWithin, AreWithin}
+use Rattle.bt_fenc.specs.Within.{AreWithin}
+use Rattle.bt_fenc.specs.FlowFormula.{flow_formula, flow_clauses}
 use Rattle.bt_fenc.proofs.Numbers.{all_from, literals_below, within_more}
+use Rattle.bt_fenc.proofs.Withins.{flow_within}
+use Rattle.bt_fenc.proofs.FlowRows.{flow_rows}
+use Rattle.bt_net.specs.Network.{Network, IsNetwork}
+use Rattle.bt_flow.specs.declared.property.Property.{Property}
 
 clauses_in_range : (n m : ℕ) (clauses : List (List Claim)) → AreWithin n clauses → m + length (rows_in clauses) ≤ n → AllByRecursion (LitsBelow n) (clauses_from m clauses)
 clauses_in_range n m [] h l = tt
@@ -37,3 +42,7 @@ numbered_is_formula marks clauses h rows =
       atoms = ascend 0 marks vars (rows_in clauses) (omega arith) (omega arith);
       rows = all_from (λ a. IsRow a.1) (atoms_from marks (rows_in clauses)) (are_rows marks (rows_in clauses) rows);
     }
+
+-- the flow formula of a network is a formula
+pub is_formula : (n : Network) (p : Property) → IsNetwork n → IsFormula (flow_formula n p)
+is_formula n p is = numbered_is_formula (length n.edges) (flow_clauses n p) (flow_within n is p) (flow_rows n is p)

@@ -6,4 +6,8 @@ pub mod Withins
 pub mod TrueClaims
 pub mod RowValues
 pub mod Admitted
+pub mod FlowRows
+pub mod EdgeSums
+pub mod Breaking
 pub mod Formulas
+pub mod Refuted

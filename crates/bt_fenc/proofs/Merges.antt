@@ -1,5 +1,5 @@
 -- The terms of a splitter's in edges and out edges, merged, are those of all edges in their order.
-use Rattle.std.proofs.Common.{◌≡◌, ℕ, ◌<◌, ◌≤◌, ◌+◌, Bool, true, false, List, [], ◌∷◌, ◌++◌, length, map, cond, ap, sym, ◌∙◌, refl, subst, arith, zero, suc, ltb, take, drop, ◌-◌, ◌⊎◌, inl, inr, append-nil, append_assoc}
+use Rattle.std.proofs.Common.{◌≡◌, ℕ, ◌<◌, ◌≤◌, ◌+◌, Bool, true, false, List, [], ◌∷◌, ◌++◌, length, map, cond, ap, sym, ◌∙◌, refl, arith, ltb, take, drop, ◌-◌, ◌⊎◌, inl, inr, append-nil}
 use Rattle.std.specs.List.{AllByRecursion}
 use Rattle.std.proofs.lemmas.Bool.{lt-ltb, le-ltb}
 use Rattle.std.proofs.lemmas.List.{take_all, drop_all, length-drop}
@@ -7,7 +7,7 @@ use Rattle.bt_frac.specs.Ratio.{Ratio}
 use Rattle.bt_net.specs.declared.network.Edge.{Edge}
 use Rattle.bt_net.specs.Network.{leaves, enters}
 use Rattle.bt_flow.specs.Ports.{numbers_where}
-use Rattle.bt_fenc.specs.Columns.{plus, minus, at_splitter, in_less_out}
+use Rattle.bt_fenc.specs.Columns.{plus, minus, in_less_out}
 use Rattle.bt_fenc.specs.inner.Merging.{merged, merged_from}
 
 -- numbers are above a number

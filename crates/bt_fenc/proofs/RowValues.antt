@@ -1,19 +1,22 @@
 -- What rows over the columns say of values that are whole numbers over one denominator.
-use Rattle.std.proofs.Common.{◌≡◌, ℕ, ◌<◌, ◌≤◌, ◌+◌, ◌*◌, Bool, true, false, ℤ, pos, ◌+ℤ◌, ◌*ℤ◌, neg_ℤ, ◌≤ℤ◌, ◌<ℤ◌, List, [], ◌∷◌, ◌++◌, length, get_or, cond, ltb, ap, sym, ◌∙◌, refl, subst, arith, zero, suc}
+use Rattle.std.proofs.Common.{◌≡◌, ℕ, ◌<◌, ◌+◌, ◌*◌, Bool, true, false, ℤ, pos, ◌+ℤ◌, ◌*ℤ◌, neg_ℤ, ◌≤ℤ◌, ◌<ℤ◌, List, [], ◌∷◌, ◌++◌, length, map, get_or, cond, ltb, ap, sym, ◌∙◌, refl, subst, arith, suc}
+use Rattle.std.specs.List.{range_with_len}
 use Rattle.std.proofs.lemmas.Int.{ints}
 use Rattle.std.proofs.lemmas.Bool.{ltb-false}
 use Rattle.std.proofs.Math.IntN.{*ℤ_comm, *ℤ-one}
 use Rattle.bt_frac.specs.Ratio.{Ratio, IsOver, negated}
 use Rattle.bt_frac.specs.Values as values
 use Rattle.bt_frac.specs.Values.{RowHolds, sum_of_products, valued, times, nothing}
-use Rattle.bt_frac.specs.declared.row.Relation.TheVariants.{AtLeast, Above, Equal}
+use Rattle.bt_frac.specs.declared.row.Relation.TheVariants.{Equal}
 use Rattle.bt_frac.proofs.Over.{over_sum, over_zero, over_at_most, over_less, over_same, under_positive}
 use Rattle.bt_frac.proofs.Ring.{neg_mul}
 use Rattle.bt_net.specs.declared.network.Edge.{Edge}
-use Rattle.bt_net.specs.Network.{leaves, enters}
+use Rattle.bt_net.specs.Network.{Network, leaves, enters}
+use Rattle.bt_flow.specs.Ports.{numbers_where}
+use Rattle.bt_flow.specs.Properties.{is_last, total}
 use Rattle.bt_flow.specs.Steady.{sum_where}
 use Rattle.bt_flow.proofs.Compared.{over_cap}
-use Rattle.bt_fenc.specs.Columns.{plus, minus, whole, zero_row, at_least, at_most, less, not_below, above, in_less_out}
+use Rattle.bt_fenc.specs.Columns.{plus, minus, whole, zero_row, at_least, at_most, less, not_below, above, in_less_out, above_outputs}
 
 -- the values of columns that are whole numbers over a denominator
 abbrev pub over : (ℕ → ℤ) → ℕ → ℕ → Ratio
@@ -114,3 +117,40 @@ module _ (w : ℕ → ℤ) (d : ℕ) (some : 0 < d) where
   conserve_holds k es fs l h e =
       let s = adds_conserve k 0 es fs l (λ i b. ap w (let z : 0 + i ≡ i = omega arith in z) ∙ h i b) in
       (over_same _ (whole 0) _ (pos 0) d some s.0 one s.1 zero_over).1 (omega (arith, ints, e))
+
+  -- columns that are counted from one on, added
+  adds_counted : (first : ℕ) (xs : List ℤ) → ((i : ℕ) → i < length xs → w (first + i) ≡ get_or xs i (pos 0)) → AddsUp (map plus (range_with_len first (length xs))) (total xs)
+  adds_counted first [] h = adds_none
+  adds_counted first (x ∷ xs) h =
+      let e : w first ≡ x = ap w (let z : first ≡ first + 0 = omega arith in z) ∙ h 0 (omega arith) in
+      adds_same (map plus (range_with_len first (length (x ∷ xs)))) (w first +ℤ total xs) (x +ℤ total xs) (ap (λ z. z +ℤ total xs) e)
+      (adds_plus first (total xs) (map plus (range_with_len (first + 1) (length xs)))
+      (adds_counted (first + 1) xs (λ i l. ap w (let z : first + 1 + i ≡ first + suc i = omega arith in z) ∙ h (suc i) (omega arith))))
+
+  -- the flows of edges that pass a test, subtracted from more
+  adds_without : (p : Edge → Bool) (m : ℕ) (es : List Edge) (fs : List ℤ) (more : List (ℕ × Ratio)) (y : ℤ) → length fs ≡ length es
+      → ((i : ℕ) → i < length es → w (m + i) ≡ get_or fs i (pos 0)) → AddsUp more y → AddsUp (map minus (numbers_where p m es) ++ more) (neg_ℤ (sum_where p es fs) +ℤ y)
+  adds_without p m [] fs more y l h g = adds_same more y (neg_ℤ (pos 0) +ℤ y) (omega (arith, ints)) g
+  adds_without p m (e ∷ es) [] more y l h g = absurd (omega arith)
+  adds_without p m (e ∷ es) (f ∷ fs) more y l h g =
+      let first : w m ≡ f = ap w (let z : m ≡ m + 0 = omega arith in z) ∙ h 0 (omega arith) in
+      let again = adds_without p (m + 1) es fs more y (omega arith) (λ i b. ap w (let z : m + 1 + i ≡ m + suc i = omega arith in z) ∙ h (suc i) (omega arith)) g in
+      edge_without (p e) m f (sum_where p es fs) y (numbers_where p (m + 1) es) more first again
+    where
+      edge_without : (b : Bool) (m : ℕ) (f x y : ℤ) (numbers : List ℕ) (more : List (ℕ × Ratio)) → w m ≡ f → AddsUp (map minus numbers ++ more) (neg_ℤ x +ℤ y)
+          → AddsUp (map minus (cond b (m ∷ numbers) numbers) ++ more) (neg_ℤ (cond b f (pos 0) +ℤ x) +ℤ y)
+      edge_without true m f x y numbers more e h =
+          adds_same (minus m ∷ (map minus numbers ++ more)) (neg_ℤ (w m) +ℤ (neg_ℤ x +ℤ y)) (neg_ℤ (f +ℤ x) +ℤ y) (omega (arith, ints, e)) (adds_minus m (neg_ℤ x +ℤ y) (map minus numbers ++ more) h)
+      edge_without false m f x y numbers more e h = adds_same (map minus numbers ++ more) (neg_ℤ x +ℤ y) (neg_ℤ (pos 0 +ℤ x) +ℤ y) (omega (arith, ints)) h
+
+  -- more than the flows to outputs
+  pub above_outputs_holds : (n : Network) (fs xs : List ℤ) (first count : ℕ) → length xs ≡ count → length fs ≡ length n.edges
+      → ((i : ℕ) → i < length n.edges → w i ≡ get_or fs i (pos 0)) → ((i : ℕ) → i < length xs → w (first + i) ≡ get_or xs i (pos 0))
+      → sum_where is_last n.edges fs <ℤ total xs → RowHolds (above_outputs n first count) (over w d)
+  above_outputs_holds n fs xs first count e l f g h =
+      let terms : ℕ → List (ℕ × Ratio) = λ c. map minus (numbers_where is_last 0 n.edges) ++ map plus (range_with_len first c) in
+      let z : ℤ = neg_ℤ (sum_where is_last n.edges fs) +ℤ total xs in
+      let s : AddsUp (terms (length xs)) z =
+      adds_without is_last 0 n.edges fs (map plus (range_with_len first (length xs))) (total xs) l (λ i b. ap w (let y : 0 + i ≡ i = omega arith in y) ∙ f i b) (adds_counted first xs g) in
+      let t : AddsUp (terms count) z = subst (λ c. AddsUp (terms c) z) e s in
+      (over_less (whole 0) _ (pos 0) z d some one t.0 zero_over t.1).1 (omega (arith, ints, h))

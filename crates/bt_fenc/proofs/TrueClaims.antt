@@ -1,17 +1,16 @@
 -- An assignment that makes true, of each clause, one row that holds or none.
-use Rattle.std.proofs.Common.{◌≡◌, ℕ, ◌<◌, ◌≤◌, ◌+◌, ◌-◌, ◌⊎◌, inl, inr, Bool, true, false, List, [], ◌∷◌, ◌++◌, length, get_or, cond, ap, sym, ◌∙◌, refl, subst, arith, zero, suc, ltb, length-append}
-use Rattle.std.specs.List.{All, Any, AllByRecursion, flat_map}
+use Rattle.std.proofs.Common.{◌≡◌, ℕ, ◌<◌, ◌+◌, ◌-◌, inl, inr, Bool, true, false, List, [], ◌∷◌, ◌++◌, length, get_or, cond, ap, sym, ◌∙◌, refl, subst, arith, suc, ltb}
+use Rattle.std.specs.List.{Any, AllByRecursion, flat_map}
 use Rattle.std.proofs.lemmas.Bool.{lt-ltb, le-ltb, false≢true}
 use Rattle.bt_frac.specs.Ratio.{Ratio}
-use Rattle.bt_frac.specs.Rows.{RowParts}
 use Rattle.bt_frac.specs.Values.{RowHolds}
 use Rattle.bt_cnf.specs.declared.literal.Lit.{Lit}
-use Rattle.bt_cnf.specs.Meeting.{IsTrueUnder, MeetsClause, Meets}
+use Rattle.bt_cnf.specs.Meeting.{IsTrueUnder, MeetsClause}
 use Rattle.bt_fenc.specs.declared.claim.Claim.{Claim}
 use Rattle.bt_fenc.specs.declared.claim.Claim.TheVariants.{Mark, Says}
-use Rattle.bt_fenc.specs.Numbering.{mentioned, rows_in, literals_from, clauses_from, atoms_from, formula_of}
+use Rattle.bt_fenc.specs.Numbering.{mentioned, rows_in, literals_from, clauses_from, atoms_from}
 use Rattle.bt_fenc.specs.Within.{IsWithin, AreWithin}
-use Rattle.bt_fenc.specs.Laws.{IsTrueOf, HasTrue, IsMetWith, TrueClaimsMeet}
+use Rattle.bt_fenc.specs.Laws.{HasTrue, TrueClaimsMeet}
 use Rattle.bt_fenc.proofs.Numbers.{all_from, atoms-append}
 use Rattle.bt_fenc.proofs.Withins.{each-append}
 

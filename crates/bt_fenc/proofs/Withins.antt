@@ -1,5 +1,5 @@
 -- The marks of the flow formula are of edges of the network.
-use Rattle.std.proofs.Common.{◌≡◌, ℕ, ◌<◌, ◌≤◌, ◌+◌, ◌-◌, ◌^◌, Bool, true, false, List, [], ◌∷◌, ◌++◌, length, map, cond, ap, sym, ◌∙◌, refl, subst, arith, zero, suc, get_or, ltb}
+use Rattle.std.proofs.Common.{◌≡◌, ℕ, ◌<◌, ◌≤◌, ◌+◌, ◌-◌, ◌^◌, Bool, true, false, List, [], ◌∷◌, ◌++◌, length, map, cond, sym, subst, arith, zero, suc, get_or, ltb}
 use Rattle.bt_fenc.proofs.Numbers.{all_from}
 use Rattle.std.specs.List.{All, AllByRecursion, flat_map, range_with_len, count_by}
 use Rattle.bt_net.specs.declared.network.Edge.{Edge}
@@ -7,11 +7,10 @@ use Rattle.bt_net.specs.Network.{Network, IsNetwork, leaves, enters, is_input, i
 use Rattle.bt_flow.specs.declared.property.Property.{Property}
 use Rattle.bt_flow.specs.declared.property.Property.TheVariants.{Balanced, DrawnEvenly, Unlimited, Full}
 use Rattle.bt_flow.specs.Ports.{numbers_where}
-use Rattle.bt_fenc.specs.declared.claim.Claim.{Claim}
-use Rattle.bt_fenc.specs.declared.claim.Claim.TheVariants.{Mark, Says}
+use Rattle.bt_fenc.specs.declared.claim.Claim.TheVariants.{Says}
 use Rattle.bt_fenc.specs.declared.family.Family.{Family}
 use Rattle.bt_fenc.specs.declared.family.Family.TheVariants as of
-use Rattle.bt_fenc.specs.Columns.{input_edge, output_edge, input_edges, output_edges, in_edges, out_edges, at_least, cap_at, load_column, room_column, above}
+use Rattle.bt_fenc.specs.Columns.{input_edge, output_edge, input_edges, output_edges, in_edges, out_edges, at_least, cap_at}
 use Rattle.bt_fenc.specs.Families.{clauses_at, places, family_clauses, families, even_clauses, backing_clause}
 use Rattle.bt_fenc.specs.Properties.{property_clauses, loaded_clauses, open_clauses, short_clauses, unequal_clause, differ}
 use Rattle.bt_fenc.specs.FlowFormula.{flow_clauses}

@@ -1,18 +1,23 @@
--- What follows from claims that are true, and the claims that are true of steady states.
+-- What follows from claims that are true, the claims that are true of steady states and of states that
+-- break a property, and what follows from a log that refutes the flow formula.
 use Rattle.std.specs.Prelude.{◌≡◌, ℕ, ◌<◌, ◌⊎◌, Bool, List, [], ◌∷◌, ◌++◌, pos, length, flat_map, slice_index_or}
 use Rattle.std.specs.List.{AllByRecursion}
 use Rattle.bt_frac.specs.Ratio.{Ratio}
-use Rattle.bt_frac.specs.Values.{RowHolds}
+use Rattle.bt_frac.specs.Values.{RowHolds, AreValues}
 use Rattle.bt_net.specs.Network.{Network, IsNetwork}
 use Rattle.bt_flow.specs.States.{Flows, IsStateOf, backed_at}
 use Rattle.bt_flow.specs.Steady.{IsSteady}
-use Rattle.bt_flow.specs.Properties.{IsAdmissible}
+use Rattle.bt_flow.specs.declared.property.Property.{Property}
+use Rattle.bt_flow.specs.Properties.{IsAdmissible, Breaks, Holds}
 use Rattle.bt_cnf.specs.Meeting.{Meets}
+use Rattle.bt_log.specs.Logs.{Step}
+use Rattle.bt_log.specs.Refuting.{Refutes}
 use Rattle.bt_fenc.specs.declared.claim.Claim.{Claim}
 use Rattle.bt_fenc.specs.declared.claim.Claim.TheVariants.{Mark, Says}
 use Rattle.bt_fenc.specs.Numbering.{formula_of}
 use Rattle.bt_fenc.specs.Within.{AreWithin}
 use Rattle.bt_fenc.specs.Families.{family_clauses, families}
+use Rattle.bt_fenc.specs.FlowFormula.{flow_clauses, flow_formula}
 
 -- the claim is true of marks and values: the edge has this mark, or the row holds
 abbrev pub IsTrueOf : (ℕ → Bool) → (ℕ → Ratio) → Claim → Type 0
@@ -25,21 +30,34 @@ HasTrue mark values [] = ⊥
 HasTrue mark values (claim ∷ claims) = IsTrueOf mark values claim ⊎ HasTrue mark values claims
 
 -- an assignment that begins with these marks meets the formula with the values
-pub record IsMetWith (marks : ℕ) (clauses : List (List Claim)) (mark : ℕ → Bool) (values : ℕ → Ratio) : Type 0 where
+pub record IsMetWith (marks : ℕ) (clauses : List (List Claim)) (mark : ℕ → Bool) (values : ℕ → Ratio)
+    : Type 0 where
   pub assignment : ℕ → Bool
   pub begins : (a : ℕ) → a < marks → assignment a ≡ mark a
   pub meets : Meets (formula_of marks clauses) assignment values
 
--- where each clause has a claim that is true of marks and values, these give an assignment that meets the formula
+-- where each clause has a claim that is true of marks and values, these give an assignment that meets the
+-- formula
 abbrev pub TrueClaimsMeet : Type 0
-TrueClaimsMeet = (marks : ℕ) (clauses : List (List Claim)) (mark : ℕ → Bool) (values : ℕ → Ratio) → AreWithin marks clauses
-    → AllByRecursion (HasTrue mark values) clauses → IsMetWith marks clauses mark values
+TrueClaimsMeet = (marks : ℕ) (clauses : List (List Claim)) (mark : ℕ → Bool) (values : ℕ → Ratio)
+    → AreWithin marks clauses → AllByRecursion (HasTrue mark values) clauses → IsMetWith marks clauses mark values
 
 -- the values of a state: its flows, loads and rooms in the order of columns, over its denominator
 abbrev pub values_of : Flows → ℕ → Ratio
-values_of s column = record { over = slice_index_or (s.flows ++ s.loads ++ s.rooms) column (pos 0); under = s.denominator }
+values_of s column =
+    record { over = slice_index_or (s.flows ++ s.loads ++ s.rooms) column (pos 0); under = s.denominator }
 
 -- the marks and values of each state that is admissible and steady meet the formula of the families' clauses
 abbrev pub SteadyMeets : Type 0
 SteadyMeets = (n : Network) → IsNetwork n → (s : Flows) → IsStateOf n s → IsAdmissible n s → IsSteady n s
     → IsMetWith (length n.edges) (flat_map (family_clauses n) families) (backed_at s) (values_of s)
+
+-- the marks and values of each state that breaks a property meet the flow formula
+abbrev pub BreakingMeets : Type 0
+BreakingMeets = (n : Network) (p : Property) (s : Flows) → IsNetwork n → Breaks n p s
+    → AreValues (values_of s) × IsMetWith (length n.edges) (flow_clauses n p) (backed_at s) (values_of s)
+
+-- where a log refutes the flow formula of a network and a property, the network has the property
+abbrev pub RefutedHolds : Type 0
+RefutedHolds =
+    (n : Network) (p : Property) (steps : List Step) → IsNetwork n → Refutes (flow_formula n p) steps → Holds n p

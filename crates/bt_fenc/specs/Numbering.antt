@@ -1,5 +1,5 @@
 -- The numbering of claims: each mention of a row is a variable of its own, in the order of mention.
-use Rattle.std.specs.Prelude.{ℕ, ◌+◌, true, List, [], ◌∷◌, ◌++◌, length, flat_map}
+use Rattle.std.specs.Prelude.{ℕ, ◌+◌, true, List, [], ◌∷◌, length, flat_map}
 use Rattle.bt_frac.specs.Rows.{RowParts}
 use Rattle.bt_cnf.specs.declared.literal.Lit.{Lit}
 use Rattle.bt_cnf.specs.Formulas.{FormulaParts}

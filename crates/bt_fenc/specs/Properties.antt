@@ -1,11 +1,11 @@
 -- The clauses that say that a state meets the condition of a property and fails its conclusion.
 use Rattle.std.specs.List.{range_with_len}
-use Rattle.std.specs.Prelude.{ℕ, ◌+◌, ◌-◌, List, [], ◌∷◌, ◌++◌, length, map, flat_map}
+use Rattle.std.specs.Prelude.{ℕ, List, [], ◌∷◌, ◌++◌, map, flat_map}
 use Rattle.bt_net.specs.Network.{Network}
 use Rattle.bt_flow.specs.declared.property.Property.{Property}
 use Rattle.bt_flow.specs.declared.property.Property.TheVariants.{Balanced, DrawnEvenly, Unlimited, Full}
 use Rattle.bt_fenc.specs.declared.claim.Claim.{Claim}
-use Rattle.bt_fenc.specs.declared.claim.Claim.TheVariants.{Mark, Says}
+use Rattle.bt_fenc.specs.declared.claim.Claim.TheVariants.{Says}
 use Rattle.bt_fenc.specs.Columns.{input_edge, output_edge, input_edges, output_edges, cap_at, load_column, room_column, at_least, above, above_outputs}
 
 -- every load is at its cap

@@ -1,5 +1,5 @@
 //! Laws of the flow formula, as contracts of functions that do nothing.
-ghost use Rattle.bt_fenc.specs.Laws.{TrueClaimsMeet, SteadyMeets};
+ghost use Rattle.bt_fenc.specs.Laws.{TrueClaimsMeet, SteadyMeets, BreakingMeets, RefutedHolds};
 
 /// Marks and values of which each clause has a true claim give an assignment, which begins with the marks
 /// and meets the formula of the clauses with the values. So nothing is lost by the numbering.
@@ -11,4 +11,16 @@ pub fn true_claims_meet()
 /// its flows, loads and rooms the values. So these clauses rule out no steady state.
 pub fn steady_meets()
     ensures { SteadyMeets }
+{}
+
+/// Each state that breaks a property meets the flow formula of the network and the property: its marks are
+/// the first variables, and its flows, loads and rooms the values.
+pub fn breaking_meets()
+    ensures { BreakingMeets }
+{}
+
+/// Where a log, whoever wrote it, refutes the flow formula of a network and a property, no state breaks the
+/// property: the network has it.
+pub fn refuted_holds()
+    ensures { RefutedHolds }
 {}

@@ -17,5 +17,5 @@ mod splitters;
 mod tests;
 
 pub use encoding::encode;
-pub use law::{steady_meets, true_claims_meet};
+pub use law::{breaking_meets, refuted_holds, steady_meets, true_claims_meet};
 pub use std::alloc::AllocError as Memory;

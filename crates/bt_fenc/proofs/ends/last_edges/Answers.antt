@@ -1,4 +1,4 @@
-use Rattle.std.proofs.Common.{◌≡◌, ◌<◌, ◌+◌, ◌∷◌, [], ◌++◌, Vec, Bool, true, false, ℕ, List, take, length, cond, get_or, ◌∙◌, ap, sym, subst, append-nil, refl}
+use Rattle.std.proofs.Common.{◌≡◌, ◌<◌, ◌+◌, ◌∷◌, [], ◌++◌, Bool, true, false, ℕ, List, take, length, cond, get_or, ◌∙◌, ap, sym, subst, append-nil}
 use Rattle.bt_net.specs.declared.network.Edge.{Edge}
 use Rattle.bt_flow.specs.Ports.{numbers_where}
 use Rattle.bt_flow.specs.Properties.{is_last}

@@ -1,4 +1,4 @@
-use Rattle.std.proofs.Common.{◌≡◌, ◌<◌, arith, ◌∙◌}
+use Rattle.std.proofs.Common.{◌<◌, arith, ◌∙◌}
 use Rattle.bt_net.specs.declared.network.TheConstants.{MOST_OF_EACH}
 use Rattle.bt_net.specs.Network.{leaves}
 use Rattle.bt_fenc.proofs.Withins.{small_numbers}

@@ -1,4 +1,4 @@
-use Rattle.std.proofs.Common.{◌≡◌, ◌<◌, List, ◌++◌, ◌∷◌, [], ap, sym, ◌∙◌, subst, append-nil, append_assoc, refl, arith}
+use Rattle.std.proofs.Common.{◌<◌, List, ◌++◌, ◌∷◌, [], ap, sym, ◌∙◌, subst, append-nil, append_assoc, refl, arith}
 use Rattle.std.specs.List.{All}
 use Rattle.bt_cnf.specs.declared.literal.Lit.{Lit}
 use Rattle.bt_cnf.specs.Formulas.{FormulaParts}

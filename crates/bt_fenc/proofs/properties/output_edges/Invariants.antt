@@ -1,4 +1,4 @@
-use Rattle.std.proofs.Common.{◌≡◌, ◌<◌, ◌-◌, ◌^◌, ◌++◌, ◌∷◌, [], map}
+use Rattle.std.proofs.Common.{◌≡◌, ◌<◌, ◌-◌, ◌^◌, map}
 use Rattle.std.specs.List.{range_with_len, All}
 use Rattle.bt_fenc.specs.Columns.{output_edge}
 use Rattle.bt_fenc.proofs.properties.output_edges.Given as goal

@@ -1,5 +1,4 @@
-use Rattle.std.proofs.Common.{◌≡◌, ◌≤◌, ◌++◌, ◌-◌, ◌∷◌, [], map, take, drop, length, ap, sym, ◌∙◌, append-nil, inl, inr, subst}
-use Rattle.std.proofs.lemmas.List.{take_all}
+use Rattle.std.proofs.Common.{◌++◌, ◌-◌, ◌∷◌, [], map, take, drop, length, ap, sym, ◌∙◌, append-nil, inl, inr}
 use Rattle.bt_fenc.specs.Columns.{plus, minus}
 use Rattle.bt_fenc.proofs.Loops.{mapped_more}
 use Rattle.bt_fenc.proofs.Merges.{merge_end, rest_is}

@@ -1,4 +1,4 @@
-use Rattle.std.proofs.Common.{◌≡◌, ◌<◌, ◌≤◌, ◌+◌, ◌-◌, ◌++◌, length, map, take, drop}
+use Rattle.std.proofs.Common.{◌≡◌, ◌≤◌, ◌+◌, ◌-◌, ◌++◌, length, map, take, drop}
 use Rattle.bt_fenc.specs.Columns.{plus, minus}
 use Rattle.bt_fenc.specs.inner.Merging.{merged}
 use Rattle.bt_fenc.proofs.splitters.merge.Given as goal
