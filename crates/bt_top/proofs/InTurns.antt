@@ -10,17 +10,22 @@ same_value v w e = cc
 same_fault : {A E : Type 0} (e f : E) → ◌≡◌ {A = Result A E} (Err e) (Err f) → e ≡ f
 same_fault e f i = cc
 
-not_both : {A E : Type 0} (v : A) (e : E) → ◌≡◌ {A = Result A E} (Ok v) (Err e) → ⊥
+pub not_both : {A E : Type 0} (v : A) (e : E) → ◌≡◌ {A = Result A E} (Ok v) (Err e) → ⊥
 not_both v e i = cc
+
+-- two steps have one answer where the first has one, and the second has one to what the first may give
+pub one_in_turn_of : {A B E F : Type 0} (First : Result A E → Type 0) (told : E → Result B F) (Second : A → Result B F → Type 0)
+    → HasOneAnswer First → ((value : A) → First (Ok value) → HasOneAnswer (Second value)) → HasOneAnswer (InTurn First told Second)
+one_in_turn_of First told Second one two a b (stopped e h i) (stopped f k j) = i ∙ ap told (same_fault e f (one (Err e) (Err f) h k)) ∙ sym j
+one_in_turn_of First told Second one two a b (stopped e h i) (went_on v k j) = absurd (not_both v e (one (Ok v) (Err e) k h))
+one_in_turn_of First told Second one two a b (went_on v h i) (stopped e k j) = absurd (not_both v e (one (Ok v) (Err e) h k))
+one_in_turn_of First told Second one two a b (went_on v h i) (went_on w k j) =
+    two v h a b i (subst (λ x. Second x b) (sym (same_value v w (one (Ok v) (Ok w) h k))) j)
 
 -- two steps have one answer where each has one
 pub one_in_turn : {A B E F : Type 0} (First : Result A E → Type 0) (told : E → Result B F) (Second : A → Result B F → Type 0)
     → HasOneAnswer First → ((value : A) → HasOneAnswer (Second value)) → HasOneAnswer (InTurn First told Second)
-one_in_turn First told Second one two a b (stopped e h i) (stopped f k j) = i ∙ ap told (same_fault e f (one (Err e) (Err f) h k)) ∙ sym j
-one_in_turn First told Second one two a b (stopped e h i) (went_on v k j) = absurd (not_both v e (one (Ok v) (Err e) k h))
-one_in_turn First told Second one two a b (went_on v h i) (stopped e k j) = absurd (not_both v e (one (Ok v) (Err e) h k))
-one_in_turn First told Second one two a b (went_on v h i) (went_on w k j) =
-    two v a b i (subst (λ x. Second x b) (sym (same_value v w (one (Ok v) (Ok w) h k))) j)
+one_in_turn First told Second one two = one_in_turn_of First told Second one (λ value first. two value)
 
 -- the second step's answer is that of both
 pub went : {A B E F : Type 0} (memory : F) (First : Result A E → Type 0) (told : E → Result B F) (Second : A → Result B F → Type 0) (value : A) (answer : Result B F)

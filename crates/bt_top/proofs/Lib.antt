@@ -5,3 +5,4 @@ pub mod OneDesign
 pub mod OneAnswer
 pub mod OneCommand
 pub mod Ended
+pub mod Certified

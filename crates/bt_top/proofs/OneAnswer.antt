@@ -1,32 +1,46 @@
 -- A command has one answer to the bytes of its input.
 use Rattle.std.proofs.Common.{◌≡◌, ℕ, List, length, drop, inl, inr, ap, sym, subst, ◌∙◌, arith, Ok}
 use Rattle.bt_answers.specs.Answers.{HasOneAnswer}
-use Rattle.bt_net.specs.Network.{Network}
+use Rattle.bt_text.proofs.FirstLines.{IsFirstLine-unique}
+use Rattle.bt_net.specs.Network.{Network, IsNetwork}
+use Rattle.bt_fenc.specs.FlowFormula.{flow_formula}
+use Rattle.bt_fenc.proofs.Formulas.{is_formula}
+use Rattle.bt_cert.specs.Certificates.{IsCertRead}
+use Rattle.bt_cert.proofs.OneAnswer.{one_answer}
 use Rattle.bt_flow.specs.declared.property.Property.{Property}
 use Rattle.bt_flow.specs.States.{Fractions}
 use Rattle.bt_flow.specs.StateReading.{IsStateRead}
 use Rattle.bt_flow.proofs.OneAnswer.{one_breaking_answer}
 use Rattle.bt_flow.proofs.StateTexts.{one_state_read}
+use Rattle.bt_top.specs.declared.answer.Answer.{Answer}
 use Rattle.bt_top.specs.declared.answer.Answer.TheVariants as answer
 use Rattle.bt_top.specs.declared.command.Command.{Command}
-use Rattle.bt_top.specs.declared.command.Command.TheVariants.{FlowCheck, Recover}
+use Rattle.bt_top.specs.declared.command.Command.TheVariants.{FlowCheck, Recover, Check}
 use Rattle.bt_top.specs.declared.refusal.Refusal.{Refusal}
 use Rattle.bt_top.specs.Designs.{IsDesign}
-use Rattle.bt_top.specs.Inputs.{verdict, design_told, state_told, IsJudged, IsStateChecked, IsChecked, IsRefusedAt, IsEnded, IsRecoveredFrom, IsRightTo}
+use Rattle.bt_top.specs.Certificates.{cert_told, SaysYes, IsYesChecked, IsTextChecked, IsCertificateChecked, IsCertified}
+use Rattle.bt_top.specs.Inputs.{IsRightTo}
+use Rattle.bt_top.specs.Recovering.{IsRefusedAt, IsEnded, IsRecoveredFrom}
+use Rattle.bt_top.specs.Replies.{design_told}
+use Rattle.bt_top.specs.States.{verdict, state_told, IsJudged, IsStateJudged, IsStateChecked, IsChecked}
 use Rattle.bt_top.specs.Steps.{InTurn}
 use Rattle.bt_top.proofs.Blanks.{one_rest}
-use Rattle.bt_top.proofs.InTurns.{one_in_turn}
-use Rattle.bt_top.proofs.OneDesign.{one_design}
+use Rattle.bt_top.proofs.InTurns.{one_in_turn, one_in_turn_of}
+use Rattle.bt_top.proofs.OneDesign.{one_design, design_network}
 
 -- ---- flow-check
 
-one_judged : (n : Network) (p : Property) (t : Fractions) → HasOneAnswer (IsJudged n p t)
-one_judged n p t a b h k = h.2 ∙ ap (λ told. Ok (verdict p told)) (one_breaking_answer n p t h.0 k.0 h.1 k.1) ∙ sym k.2
+one_judged : (n : Network) (p : Property) (broken : Answer) (t : Fractions) → HasOneAnswer (IsJudged n p broken t)
+one_judged n p broken t a b h k = h.2 ∙ ap (λ told. Ok (verdict broken told)) (one_breaking_answer n p t h.0 k.0 h.1 k.1) ∙ sym k.2
+
+one_state_judged : (n : Network) (p : Property) (broken : Answer) (text : List ℕ) → HasOneAnswer (IsStateJudged n p broken text)
+one_state_judged n p broken text =
+    one_in_turn (IsStateRead n p text) state_told (IsJudged n p broken) (one_state_read n p text) (one_judged n p broken)
 
 one_state_checked : (n : Network) (p : Property) (rest : List ℕ) → HasOneAnswer (IsStateChecked n p rest)
 one_state_checked n p rest a b h k =
-    one_in_turn (IsStateRead n p k.0) state_told (IsJudged n p) (one_state_read n p k.0) (one_judged n p) a b
-    (subst (λ text. InTurn (IsStateRead n p text) state_told (IsJudged n p) a) (one_rest rest h.0 k.0 h.1 k.1) h.2) k.2
+    one_state_judged n p (answer.Breaks p) k.0 a b
+    (subst (λ text. IsStateJudged n p (answer.Breaks p) text a) (one_rest rest h.0 k.0 h.1 k.1) h.2) k.2
 
 one_checked : (p : Property) (bytes : List ℕ) → HasOneAnswer (IsChecked p bytes)
 one_checked p bytes =
@@ -52,9 +66,32 @@ one_recovered bytes = one_in_turn (IsDesign bytes) design_told _ (one_design byt
     (λ found a b h k. one_ended bytes found.0 k.0 a b
     (subst (λ text. IsEnded bytes found.0 text a) (one_rest (drop found.1 bytes) h.0 k.0 h.1 k.1) h.2) k.2)
 
--- ---- both
+-- ---- check
+
+one_yes : (n : Network) (p : Property) → IsNetwork n → (lines : List ℕ) → HasOneAnswer (IsYesChecked n p lines)
+one_yes n p net lines =
+    one_in_turn (IsCertRead (flow_formula n p) lines) cert_told _ (one_answer (flow_formula n p) (is_formula n p net) lines) (λ done a b h k. h.1 ∙ sym k.1)
+
+one_text_checked : (n : Network) (p : Property) → IsNetwork n → (text : List ℕ) → HasOneAnswer (IsTextChecked n p text)
+one_text_checked n p net text a b (inl h) (inl k) =
+    one_yes n p net k.0 a b (subst (λ lines. IsYesChecked n p lines a) (IsFirstLine-unique text _ _ h.0 k.0 h.1 k.1).1 h.2) k.2
+one_text_checked n p net text a b (inl h) (inr k) = absurd (k.0 h.0 h.1)
+one_text_checked n p net text a b (inr h) (inl k) = absurd (h.0 k.0 k.1)
+one_text_checked n p net text a b (inr h) (inr k) = one_state_judged n p (answer.No p) text a b h.1 k.1
+
+one_certificate : (n : Network) (p : Property) → IsNetwork n → (rest : List ℕ) → HasOneAnswer (IsCertificateChecked n p rest)
+one_certificate n p net rest a b h k =
+    one_text_checked n p net k.0 a b (subst (λ text. IsTextChecked n p text a) (one_rest rest h.0 k.0 h.1 k.1) h.2) k.2
+
+one_certified : (p : Property) (bytes : List ℕ) → HasOneAnswer (IsCertified p bytes)
+one_certified p bytes =
+    one_in_turn_of (IsDesign bytes) design_told _ (one_design bytes)
+    (λ found is. one_certificate found.0 p (design_network bytes found is) (drop found.1 bytes))
+
+-- ---- all
 
 -- two right answers of a command to the same bytes are equal
 pub one_right_to : (command : Command) (bytes : List ℕ) → HasOneAnswer (IsRightTo command bytes)
 one_right_to (FlowCheck p) bytes = one_checked p bytes
 one_right_to Recover bytes = one_recovered bytes
+one_right_to (Check p) bytes = one_certified p bytes

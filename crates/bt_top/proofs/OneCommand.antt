@@ -5,7 +5,7 @@ use Rattle.bt_flow.specs.declared.property.Property.{Property}
 use Rattle.bt_flow.specs.declared.property.Property.TheVariants.{Balanced, DrawnEvenly, Unlimited, Full}
 use Rattle.bt_flow.specs.Names.{property_name}
 use Rattle.bt_top.specs.declared.command.Command.{Command}
-use Rattle.bt_top.specs.declared.command.Command.TheVariants.{FlowCheck, Recover}
+use Rattle.bt_top.specs.declared.command.Command.TheVariants.{FlowCheck, Recover, Check}
 use Rattle.bt_top.specs.Commands.{IsCommand}
 
 -- the property whose name begins with this byte
@@ -27,4 +27,9 @@ pub same_command : (c d : Command) (words : List (List ℕ)) → IsCommand c wor
 same_command (FlowCheck p) (FlowCheck q) words h k = ap FlowCheck (same_property p q (ap (λ zs. get_or zs 1 []) (sym h ∙ k)))
 same_command (FlowCheck p) Recover words h k = absurd (omega (arith, ap (λ zs. length zs) (sym h ∙ k)))
 same_command Recover (FlowCheck q) words h k = absurd (omega (arith, ap (λ zs. length zs) (sym h ∙ k)))
+same_command (FlowCheck p) (Check q) words h k = absurd (omega (arith, ap (λ zs. length (get_or zs 0 [])) (sym h ∙ k)))
+same_command (Check p) (FlowCheck q) words h k = absurd (omega (arith, ap (λ zs. length (get_or zs 0 [])) (sym h ∙ k)))
+same_command (Check p) (Check q) words h k = ap Check (same_property p q (ap (λ zs. get_or zs 1 []) (sym h ∙ k)))
+same_command (Check p) Recover words h k = absurd (omega (arith, ap (λ zs. length zs) (sym h ∙ k)))
+same_command Recover (Check q) words h k = absurd (omega (arith, ap (λ zs. length zs) (sym h ∙ k)))
 same_command Recover Recover words h k = refl

@@ -1,11 +1,12 @@
 -- Bytes have one design at their front, or one refusal.
-use Rattle.std.proofs.Common.{ℕ, List, inl, inr, ap, sym, ◌∙◌}
+use Rattle.std.proofs.Common.{◌≡◌, ℕ, List, Result, Ok, Err, inl, inr, refl, ap, sym, subst, ◌∙◌}
 use Rattle.bt_answers.specs.Answers.{HasOneAnswer, seen}
 use Rattle.bt_json.specs.Json.{Json}
 use Rattle.bt_json.specs.Answers.{IsRead}
 use Rattle.bt_json.proofs.OneRead.{one_read}
 use Rattle.bt_entities.specs.Answers.{IsPartsOf}
 use Rattle.bt_entities.proofs.OneAnswer.{one_parts}
+use Rattle.bt_net.specs.Network.{Network, IsNetwork}
 use Rattle.bt_net.specs.Readings.{IsNetRead}
 use Rattle.bt_net.proofs.OneNet.{one_read as one_net_read}
 use Rattle.bt_parts.specs.declared.part.Part.{Part}
@@ -14,7 +15,10 @@ use Rattle.bt_grid.proofs.OneAnswer.{one_placed}
 use Rattle.bt_recover.specs.Recovered.{IsRecovered}
 use Rattle.bt_recover.proofs.OneRecovery.{one_recovery}
 use Rattle.bt_top.specs.Designs.{IsPlacedNet, IsLayoutNet, IsBlueprintNet, IsJsonDesign, IsTextDesign, IsDesign}
-use Rattle.bt_top.proofs.InTurns.{one_in_turn}
+use Rattle.bt_top.specs.declared.fault.DesignFault.{DesignFault}
+use Rattle.bt_top.specs.Refusals.{json_told, entity_told, grid_told, layout_told, net_told}
+use Rattle.bt_top.specs.Steps.{stopped, went_on}
+use Rattle.bt_top.proofs.InTurns.{one_in_turn, same_value, not_both}
 
 one_placed_net : (parts : List Part) → HasOneAnswer (IsPlacedNet parts)
 one_placed_net parts = one_in_turn (IsRecovered parts) _ _ (one_recovery parts) (λ found a b h k. h ∙ sym k)
@@ -38,3 +42,40 @@ one_design bytes a b (inl h) (inl k) = one_json_design bytes a b h.1 k.1
 one_design bytes a b (inl h) (inr k) = absurd (k.0 h.0)
 one_design bytes a b (inr h) (inl k) = absurd (h.0 k.0)
 one_design bytes a b (inr h) (inr k) = one_text_design bytes a b h.1 k.1
+
+-- ---- what is found is a network
+
+placed_network : (parts : List Part) (answer : Result Network DesignFault) (n : Network) → answer ≡ Ok n → IsPlacedNet parts answer → IsNetwork n
+placed_network parts answer n is (stopped fault h e) = absurd (not_both n (layout_told fault) (sym is ∙ e))
+placed_network parts answer n is (went_on found h e) = subst IsNetwork (same_value found.0 n (sym e ∙ is)) h.1
+
+layout_network : (parts : List Part) (answer : Result Network DesignFault) (n : Network) → answer ≡ Ok n → IsLayoutNet parts answer → IsNetwork n
+layout_network parts answer n is (stopped fault h e) = absurd (not_both n (grid_told fault) (sym is ∙ e))
+layout_network parts answer n is (went_on placed h k) = placed_network placed answer n is k
+
+blueprint_network : (value : Json) (answer : Result Network DesignFault) (n : Network) → answer ≡ Ok n → IsBlueprintNet value answer → IsNetwork n
+blueprint_network value answer n is (stopped fault h e) = absurd (not_both n (entity_told fault) (sym is ∙ e))
+blueprint_network value answer n is (went_on parts h k) = layout_network parts answer n is k
+
+-- what is seen of a result is a value's where the result is one
+seen_ok : {A B E : Type 0} (f : A → B) (r : Result A E) (b : B) → Ok b ≡ seen f r → (a : A) × (r ≡ Ok a) × (b ≡ f a)
+seen_ok f (Ok a) b e = (a, refl, same_value b (f a) e)
+seen_ok f (Err fault) b e = absurd (not_both b fault e)
+
+json_network : (bytes : List ℕ) (answer : Result (Network × ℕ) DesignFault) (found : Network × ℕ) → answer ≡ Ok found
+    → IsJsonDesign bytes answer → IsNetwork found.0
+json_network bytes answer found is (stopped fault h e) = absurd (not_both found (json_told fault) (sym is ∙ e))
+json_network bytes answer found is (went_on read h k) =
+    let net = seen_ok (λ n. (n, read.1)) k.0 found (sym is ∙ k.2) in
+    subst IsNetwork (ap (λ (pair : Network × ℕ). pair.0) (sym net.2)) (blueprint_network read.0 k.0 net.0 net.1 k.1)
+
+text_network : (bytes : List ℕ) (answer : Result (Network × ℕ) DesignFault) (found : Network × ℕ) → answer ≡ Ok found
+    → IsTextDesign bytes answer → IsNetwork found.0
+text_network bytes answer found is (stopped fault h e) = absurd (not_both found (net_told fault) (sym is ∙ e))
+text_network bytes answer found is (went_on read h e) =
+    subst IsNetwork (ap (λ (pair : Network × ℕ). pair.0) (same_value (read.net, read.used) found (sym e ∙ is))) h.network
+
+-- what a design is found to be is a network
+pub design_network : (bytes : List ℕ) (found : Network × ℕ) → IsDesign bytes (Ok found) → IsNetwork found.0
+design_network bytes found (inl h) = json_network bytes (Ok found) found refl h.1
+design_network bytes found (inr h) = text_network bytes (Ok found) found refl h.1

@@ -3,6 +3,10 @@ pub mod Refusals
 pub mod Answers
 pub mod Commands
 pub mod Designs
+pub mod Replies
+pub mod States
+pub mod Recovering
+pub mod Certificates
 pub mod Inputs
 pub mod Endings
 pub mod inner

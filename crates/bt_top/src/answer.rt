@@ -1,9 +1,11 @@
 //! The answers of the program. Each has a status and a text.
 ghost use Rattle.std.specs.Prelude.{◌≡◌};
-ghost use Rattle.bt_top.specs.Inputs.{design_told};
+ghost use Rattle.bt_top.specs.Answers.{status_of};
+ghost use Rattle.bt_top.specs.Replies.{design_told};
 
 use crate::fault::DesignFault;
 use crate::refusal::Refusal;
+use bt_cert::Cause;
 use bt_flow::{Property, Test};
 use bt_net::Net;
 use std::alloc::AllocError;
@@ -13,6 +15,10 @@ use std::alloc::AllocError;
 pub enum Answer {
     /// The read state breaks the property.
     Breaks(Property),
+    /// The certificate shows that the design's network has the property.
+    Yes(Property),
+    /// The certificate's state breaks the property.
+    No(Property),
     /// The design has this network.
     Recovered(Net),
     /// The words are no command.
@@ -21,12 +27,39 @@ pub enum Answer {
     Refused(Refusal),
     /// A sum that a test at a place needs leaves 128 bits.
     WideState(Test, usize),
-    /// This line, from 1, isn't the line of a written state that belongs there.
+    /// This line, from 1, isn't one of a written state or of a certificate that belongs there.
     CertLine(usize),
+    /// The step on this line isn't valid.
+    BadStep(usize, Cause),
+    /// The steps of the certificate end without the empty clause.
+    NoVerdict,
+    /// The sum of a lemma leaves 128 bits: the line, and the row and the column in the sum.
+    CertWide(usize, usize, usize),
     /// The read state doesn't break the property: the first test that fails, and its place.
     NotBreaking(Test, usize),
     /// The input is longer than the command reads.
     TooLong,
+}
+
+impl Answer {
+    /// The status with which the program ends, but for a fault of the sink or want of memory.
+    pub fn status(&self) -> u8
+        ensures { result ≡ status_of self.now }
+    {
+        match self {
+            Answer::Breaks(_) | Answer::Yes(_) | Answer::Recovered(_) => 0,
+            Answer::No(_) => 1,
+            Answer::Usage => 2,
+            Answer::Refused(_) => 3,
+            Answer::WideState(..) => 5,
+            Answer::CertLine(_)
+            | Answer::BadStep(..)
+            | Answer::NoVerdict
+            | Answer::CertWide(..)
+            | Answer::NotBreaking(..) => 9,
+            Answer::TooLong => 11,
+        }
+    }
 }
 
 /// The answer where there is no design.

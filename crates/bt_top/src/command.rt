@@ -6,7 +6,7 @@ ghost use Rattle.bt_top.specs.Commands.{IsCommand, IsUsage, input_limit};
 
 use bt_flow::Property;
 
-/// The most bytes that `flow-check` reads: a written state may be long.
+/// The most bytes that `flow-check` and `check` read: a written state or a certificate may be long.
 pub const MOST_CHECKED: usize = 1_073_741_824;
 
 /// The most bytes that `recover` reads.
@@ -19,6 +19,8 @@ pub enum Command {
     FlowCheck(Property),
     /// `recover`: which network has the design?
     Recover,
+    /// `check`: does the certificate show that the design has the property, or that it hasn't?
+    Check(Property),
 }
 
 impl Command {
@@ -27,7 +29,7 @@ impl Command {
         ensures { result ≡ input_limit self }
     {
         match self {
-            Command::FlowCheck(_) => MOST_CHECKED,
+            Command::FlowCheck(_) | Command::Check(_) => MOST_CHECKED,
             Command::Recover => MOST_RECOVERED,
         }
     }
@@ -38,8 +40,11 @@ pub fn command_of(words: &[String]) -> Option<Command>
     ensures { MatchOption result (IsUsage (map string_bytes words.now))
         (λ command. IsCommand command (map string_bytes words.now)) }
 {
-    if let Some(property) = flow_check_property(words) {
+    if let Some(property) = property_after("flow-check", words) {
         return Some(Command::FlowCheck(property));
+    }
+    if let Some(property) = property_after("check", words) {
+        return Some(Command::Check(property));
     }
     if is_recover(words) {
         return Some(Command::Recover);
@@ -56,14 +61,14 @@ fn is_recover(words: &[String]) -> bool
     }
 }
 
-/// The property that the words name after `flow-check`.
-fn flow_check_property(words: &[String]) -> Option<Property>
+/// The property that the words name after a command's word.
+fn property_after(word: &str, words: &[String]) -> Option<Property>
     ensures { MatchOption result
-        ((p : AProperty) → map string_bytes words.now ≡ codes "flow-check" ∷ property_name p ∷ [] → ⊥)
-        (λ p. map string_bytes words.now ≡ codes "flow-check" ∷ property_name p ∷ []) }
+        ((p : AProperty) → map string_bytes words.now ≡ word.now ∷ property_name p ∷ [] → ⊥)
+        (λ p. map string_bytes words.now ≡ word.now ∷ property_name p ∷ []) }
 {
     match words {
-        [command, name] if command.as_str() == "flow-check" => Property::named(name.as_str()),
+        [command, name] if command.as_str() == word => Property::named(name.as_str()),
         _ => None,
     }
 }

@@ -2,7 +2,7 @@
 ghost use Rattle.std.specs.Prelude.{◌≡◌, Ok, alloc_error};
 ghost use Rattle.bt_answers.specs.Answers.{UnlessMemory};
 ghost use Rattle.bt_flow.specs.States.{Fits};
-ghost use Rattle.bt_top.specs.Inputs.{IsChecked, IsStateChecked, IsJudged, state_told};
+ghost use Rattle.bt_top.specs.States.{IsChecked, IsStateChecked, IsStateJudged, IsJudged, state_told};
 
 use crate::answer::{Answer, refused};
 use crate::design::read_design;
@@ -33,8 +33,22 @@ fn check_state(
 ) -> Result<Answer, AllocError>
     ensures { UnlessMemory alloc_error (IsStateChecked net.now property rest.now) result }
 {
-    match read_state(alloc, net, skip_blanks(rest), property) {
-        Ok(state) => Ok(judge(property, net, &state)),
+    let text = skip_blanks(rest);
+    judge_text(alloc, property, net, text, Answer::Breaks(property))
+}
+
+/// The answer to the text of a state, which is this one where the state breaks the property.
+pub fn judge_text(
+    alloc: Global,
+    property: Property,
+    net: &Net,
+    text: &[u8],
+    broken: Answer,
+) -> Result<Answer, AllocError>
+    ensures { UnlessMemory alloc_error (IsStateJudged net.now property broken text.now) result }
+{
+    match read_state(alloc, net, text, property) {
+        Ok(state) => Ok(judge(property, net, &state, broken)),
         Err(fault) => unwritten(fault),
     }
 }
@@ -49,13 +63,13 @@ fn unwritten(fault: StateFault) -> Result<Answer, AllocError>
     }
 }
 
-/// The answer to a written state.
-fn judge(property: Property, net: &Net, state: &State) -> Answer
+/// The answer to a written state, which is this one where the state breaks the property.
+fn judge(property: Property, net: &Net, state: &State, broken: Answer) -> Answer
     requires { Fits net.now state.now }
-    ensures { IsJudged net.now property state.now (Ok result) }
+    ensures { IsJudged net.now property broken state.now (Ok result) }
 {
     match breaks(net, property, state) {
-        Ok(Judgement::Passes) => Answer::Breaks(property),
+        Ok(Judgement::Passes) => broken,
         Ok(Judgement::Fails { test, place }) => Answer::NotBreaking(test, place),
         Err(WideSum { test, place, .. }) => Answer::WideState(test, place),
     }

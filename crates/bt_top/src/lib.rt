@@ -1,10 +1,11 @@
 //! All that the program does, over words, a source of bytes and a sink of bytes.
 //!
-//! `program` reads the words and the source and writes the answer; `design`, `flow_check` and
-//! `recover` find the answer to the bytes; `text` writes it.
+//! `program` reads the words and the source and writes the answer; `design`, `flow_check`,
+//! `certificate` and `recover` find the answer to the bytes; `text` writes it.
 #![tactic(auto)]
 
 mod answer;
+mod certificate;
 mod command;
 mod design;
 mod fault;

@@ -1,20 +1,21 @@
 //! The program over a source and a sink: it reads its words and its input, and writes its answer.
-ghost use Rattle.std.specs.Prelude.{◌≡◌, ℕ, List, IfOk, alloc_error, map, string_bytes};
+ghost use Rattle.std.specs.Prelude.{◌≡◌, ◌≤◌, ℕ, List, IfOk, alloc_error, length, map, string_bytes};
 ghost use Rattle.bt_answers.specs.Answers.{UnlessMemory};
 ghost use Rattle.bt_io.specs.Bytes.{WritesText};
 ghost use Rattle.bt_io.specs.Passages.{passage};
 ghost use Rattle.bt_net.specs.NetText.{net_text};
-ghost use Rattle.bt_top.specs.Commands.{IsCommand, IsUsage};
+ghost use Rattle.bt_top.specs.Commands.{IsCommand, IsUsage, input_limit};
 ghost use Rattle.bt_top.specs.Inputs.{IsRightTo};
 ghost use Rattle.bt_top.specs.Endings.{Ends, status_after};
 ghost use Rattle.bt_top.specs.inner.Lines.{line_text};
 ghost use Rattle.bt_top.specs.inner.Telling.{IsAnswered, IsAnsweredTo, IsToldUnlessMemory, IsLineTold};
 
 use crate::answer::Answer;
+use crate::certificate::certified;
 use crate::command::{Command, command_of};
 use crate::flow_check::check;
 use crate::recover::recovered;
-use crate::text::{Detail, Line, refusal_line, text_of};
+use crate::text::{Line, answer_line, text_of};
 use bt_io::{ReadAll, Sink, Source, WriteFault, read_all, write_all_of};
 use bt_net::print;
 use std::alloc::{AllocError, Global};
@@ -72,11 +73,13 @@ fn answer_of<S: Source>(alloc: Global, command: Command, source: &mut S) -> Resu
 
 /// The answer of a command to the bytes of its input.
 fn right_answer(alloc: Global, command: Command, bytes: &[u8]) -> Result<Answer, AllocError>
+    requires { length bytes.now ≤ input_limit command }
     ensures { UnlessMemory alloc_error (IsRightTo command bytes.now) result }
 {
     match command {
         Command::FlowCheck(property) => check(alloc, property, bytes),
         Command::Recover => recovered(alloc, bytes),
+        Command::Check(property) => certified(alloc, property, bytes),
     }
 }
 
@@ -88,26 +91,7 @@ fn told<K: Sink>(alloc: Global, answer: Answer, sink: &mut K) -> u8
         Answer::Recovered(net) => status_after(0, print(&net, sink)),
         Answer::Usage => status_after(2, write_all_of(sink, b"usage\n")),
         Answer::TooLong => status_after(11, write_all_of(sink, b"too long\n")),
-        Answer::Breaks(property) => {
-            let line = Line("breaks", Detail::Name(property.name()));
-            line_told(alloc, 0, &line, sink)
-        }
-        Answer::Refused(refusal) => line_told(alloc, 3, &refusal_line(refusal), sink),
-        Answer::WideState(test, place) => {
-            let line = Line("wide state", Detail::NameAndNumber(test.name(), place));
-            line_told(alloc, 5, &line, sink)
-        }
-        Answer::CertLine(number) => {
-            let line = Line("refused 50 CertLine", Detail::Number(number));
-            line_told(alloc, 9, &line, sink)
-        }
-        Answer::NotBreaking(test, place) => {
-            let line = Line(
-                "refused 54 NotBreaking",
-                Detail::NameAndNumber(test.name(), place),
-            );
-            line_told(alloc, 9, &line, sink)
-        }
+        said => line_told(alloc, said.status(), &answer_line(&said), sink),
     }
 }
 

@@ -1,7 +1,7 @@
 //! `recover`: the network of a design that nothing follows.
 ghost use Rattle.std.specs.Prelude.{◌≡◌, ◌≤◌, Ok, alloc_error, drop, length};
 ghost use Rattle.bt_answers.specs.Answers.{UnlessMemory};
-ghost use Rattle.bt_top.specs.Inputs.{IsRecoveredFrom, IsRefusedAt, line_at};
+ghost use Rattle.bt_top.specs.Recovering.{IsRecoveredFrom, IsRefusedAt, line_at};
 
 use crate::answer::{Answer, refused};
 use crate::design::{Design, is_json, read_design};

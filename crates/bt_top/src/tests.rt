@@ -2,6 +2,7 @@
 //! out by hand.
 ghost use Rattle.std.specs.Prelude.{◌≤◌};
 
+mod certificates;
 mod designs;
 mod large;
 mod networks;

@@ -1,10 +1,13 @@
 //! The texts of answers: a line each, of fixed words and of numbers and names that are said with them.
 ghost use Rattle.std.specs.Prelude.{◌≡◌, ◌++◌, codes, decimal, IfOk, OnOk};
 ghost use Rattle.bt_net.specs.NetText.{line};
+ghost use Rattle.bt_top.specs.Answers.{cause_name, text_of as answer_text};
 ghost use Rattle.bt_top.specs.Refusals.{member_name, refusal_text};
-ghost use Rattle.bt_top.specs.inner.Lines.{detail_text, line_text};
+ghost use Rattle.bt_top.specs.inner.Lines.{IsLine, IsOfCertificate, detail_text, line_text};
 
+use crate::answer::Answer;
 use crate::refusal::Refusal;
+use bt_cert::Cause;
 use bt_entities::Member;
 use itoa::Buffer;
 use std::alloc::{AllocError, Global};
@@ -16,6 +19,7 @@ pub enum Detail {
     Name(&'static str),
     Number(usize),
     Numbers(usize, usize),
+    ThreeNumbers(usize, usize, usize),
     NameAndNumber(&'static str, usize),
     NumberAndName(usize, &'static str),
 }
@@ -45,6 +49,11 @@ fn push_detail(text: &mut Vec<u8>, detail: Detail) -> Result<(), AllocError>
             push_number(text, first)?;
             push_number(text, second)
         }
+        Detail::ThreeNumbers(first, second, third) => {
+            push_number(text, first)?;
+            push_number(text, second)?;
+            push_number(text, third)
+        }
         Detail::NameAndNumber(name, number) => {
             push_name(text, name)?;
             push_number(text, number)
@@ -69,6 +78,48 @@ fn push_number(text: &mut Vec<u8>, number: usize) -> Result<(), AllocError>
     let mut buffer = Buffer::new();
     text.push(b' ')?;
     text.extend_from_slice(buffer.format(number).as_bytes())
+}
+
+/// The line of an answer, but for a recovered network, whose text has several.
+pub fn answer_line(answer: &Answer) -> Line
+    ensures { IsLine answer.now → line_text result ≡ answer_text answer.now }
+{
+    match *answer {
+        Answer::Recovered(_) => Line("", Detail::Nothing),
+        Answer::Usage => Line("usage", Detail::Nothing),
+        Answer::TooLong => Line("too long", Detail::Nothing),
+        Answer::Breaks(property) => Line("breaks", Detail::Name(property.name())),
+        Answer::Yes(property) => Line("yes", Detail::Name(property.name())),
+        Answer::No(property) => Line("no", Detail::Name(property.name())),
+        Answer::Refused(refusal) => refusal_line(refusal),
+        Answer::WideState(test, place) => {
+            Line("wide state", Detail::NameAndNumber(test.name(), place))
+        }
+        Answer::NotBreaking(test, place) => Line(
+            "refused 54 NotBreaking",
+            Detail::NameAndNumber(test.name(), place),
+        ),
+        Answer::CertLine(_) | Answer::BadStep(..) | Answer::NoVerdict | Answer::CertWide(..) =>
+            certificate_line(answer),
+    }
+}
+
+/// The line of an answer to a text that is no certificate; of another answer, some line.
+fn certificate_line(answer: &Answer) -> Line
+    ensures { IsOfCertificate answer.now → line_text result ≡ answer_text answer.now }
+{
+    match *answer {
+        Answer::CertLine(line) => Line("refused 50 CertLine", Detail::Number(line)),
+        Answer::BadStep(line, cause) => Line(
+            "refused 51 BadStep",
+            Detail::NumberAndName(line, name_of_cause(cause)),
+        ),
+        Answer::CertWide(line, row, column) => Line(
+            "refused 53 CertWide",
+            Detail::ThreeNumbers(line, row, column),
+        ),
+        _ => Line("refused 52 NoVerdict", Detail::Nothing),
+    }
 }
 
 /// The line of a refused design: the number and the name of the refusal, and of what it is said.
@@ -100,6 +151,19 @@ pub fn refusal_line(refusal: Refusal) -> Line
         Refusal::NetLine(line) => Line("refused 40 NetLine", Detail::Number(line)),
         Refusal::TooLarge => Line("refused 41 TooLarge", Detail::Nothing),
         Refusal::NoEnds => Line("refused 42 NoEnds", Detail::Nothing),
+    }
+}
+
+/// The word for why a step isn't valid.
+pub fn name_of_cause(cause: Cause) -> &'static str
+    ensures { result.now ≡ cause_name cause }
+{
+    match cause {
+        Cause::Literal => "literal",
+        Cause::Weight => "weight",
+        Cause::Sum => "sum",
+        Cause::Hint => "hint",
+        Cause::Unit => "unit",
     }
 }
 

@@ -1,8 +1,10 @@
 -- Lines while they are formed: words, and numbers and names that are said with them.
 use Rattle.std.specs.Prelude.{ℕ, List, [], ◌++◌, codes, decimal}
 use Rattle.bt_net.specs.NetText.{line}
+use Rattle.bt_top.specs.declared.answer.Answer.{Answer}
+use Rattle.bt_top.specs.declared.answer.Answer.TheVariants.{Recovered, CertLine, BadStep, NoVerdict, CertWide}
 use Rattle.bt_top.specs.declared.text.Detail.{Detail}
-use Rattle.bt_top.specs.declared.text.Detail.TheVariants.{Nothing, Name, Number, Numbers, NameAndNumber, NumberAndName}
+use Rattle.bt_top.specs.declared.text.Detail.TheVariants.{Nothing, Name, Number, Numbers, ThreeNumbers, NameAndNumber, NumberAndName}
 use Rattle.bt_top.specs.declared.text.Line.{Line}
 
 -- each detail after a space
@@ -11,9 +13,23 @@ detail_text Nothing = []
 detail_text (Name name) = codes " " ++ name.now
 detail_text (Number n) = codes " " ++ decimal n
 detail_text (Numbers m n) = codes " " ++ decimal m ++ codes " " ++ decimal n
+detail_text (ThreeNumbers l m n) = codes " " ++ decimal l ++ codes " " ++ decimal m ++ codes " " ++ decimal n
 detail_text (NameAndNumber name n) = codes " " ++ name.now ++ codes " " ++ decimal n
 detail_text (NumberAndName n name) = codes " " ++ decimal n ++ codes " " ++ name.now
 
 -- the words and the details, and a line feed
 abbrev pub line_text : Line → List ℕ
 line_text l = line (l.0.now ++ detail_text l.1)
+
+-- the answer's text is one line, and it is formed
+abbrev pub IsLine : Answer → Type 0
+IsLine (Recovered n) = ⊥
+IsLine other = Unit {0}
+
+-- the answer is that a text is no certificate
+abbrev pub IsOfCertificate : Answer → Type 0
+IsOfCertificate (CertLine k) = Unit {0}
+IsOfCertificate (BadStep k cause) = Unit {0}
+IsOfCertificate NoVerdict = Unit {0}
+IsOfCertificate (CertWide k row column) = Unit {0}
+IsOfCertificate other = ⊥

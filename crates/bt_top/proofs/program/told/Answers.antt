@@ -1,6 +1,9 @@
-use Rattle.std.proofs.Common.{refl, ap, inl, ◌++◌}
-use Rattle.std.specs.Prelude.{codes, decimal}
-use Rattle.bt_net.specs.NetText.{line}
+use Rattle.std.proofs.Common.{◌≡◌, refl, inl, subst}
+use Rattle.bt_io.specs.Passages.{passage}
+use Rattle.bt_net.specs.Network.{Network}
+use Rattle.bt_top.specs.declared.answer.Answer.{Answer}
+use Rattle.bt_top.specs.inner.Lines.{IsLine, line_text}
+use Rattle.bt_top.specs.inner.Telling.{IsLineTold}
 use Rattle.bt_top.specs.declared.answer.Answer.TheVariants as answer
 use Rattle.bt_top.proofs.Ended.{line_is_told, same_told}
 use Rattle.bt_top.proofs.program.told.Goals as goal
@@ -14,26 +17,24 @@ returns-in-Usage g c = same_told _ _ _ _ c.in-Usage.is (inl (c.write_all_of.resu
 pub returns-in-TooLong : goal.returns-in-TooLong
 returns-in-TooLong g c = same_told _ _ _ _ c.in-TooLong.is (inl (c.write_all_of-in-TooLong.result, c.write_all_of-in-TooLong.ensures, c.status_after-in-TooLong.ensures))
 
-pub returns-in-Breaks : goal.returns-in-Breaks
-returns-in-Breaks g c = same_told _ _ _ _ c.in-Breaks.is
-    (line_is_told (answer.Breaks c.in-Breaks.property) _ _ _ (ap (λ name. line (codes "breaks " ++ name)) c.name.ensures) (λ e. cc) (λ e. cc) c.line_told.ensures)
+-- each answer but a network has one line
+is_line : (a : Answer) → ((n : Network) → a ≡ answer.Recovered n → ⊥) → IsLine a
+is_line (answer.Recovered n) none = none n refl
+is_line (answer.Breaks p) none = tt
+is_line (answer.Yes p) none = tt
+is_line (answer.No p) none = tt
+is_line answer.Usage none = tt
+is_line (answer.Refused r) none = tt
+is_line (answer.WideState t a) none = tt
+is_line (answer.CertLine k) none = tt
+is_line (answer.BadStep k cause) none = tt
+is_line answer.NoVerdict none = tt
+is_line (answer.CertWide k row column) none = tt
+is_line (answer.NotBreaking t a) none = tt
+is_line answer.TooLong none = tt
 
-pub returns-in-Refused : goal.returns-in-Refused
-returns-in-Refused g c = same_told _ _ _ _ c.in-Refused.is
-    (line_is_told (answer.Refused c.in-Refused.refusal) _ _ _ c.refusal_line.ensures (λ e. cc) (λ e. cc) c.line_told-in-Refused.ensures)
-
-pub returns-in-WideState : goal.returns-in-WideState
-returns-in-WideState g c = same_told _ _ _ _ c.in-WideState.is
-    (line_is_told (answer.WideState c.in-WideState.test c.in-WideState.place) _ _ _
-    (ap (λ name. line (codes "wide state " ++ name ++ codes " " ++ decimal c.in-WideState.place)) c.name-in-WideState.ensures)
-    (λ e. cc) (λ e. cc) c.line_told-in-WideState.ensures)
-
-pub returns-in-CertLine : goal.returns-in-CertLine
-returns-in-CertLine g c = same_told _ _ _ _ c.in-CertLine.is
-    (line_is_told (answer.CertLine c.in-CertLine.number) _ _ _ refl (λ e. cc) (λ e. cc) c.line_told-in-CertLine.ensures)
-
-pub returns-in-NotBreaking : goal.returns-in-NotBreaking
-returns-in-NotBreaking g c = same_told _ _ _ _ c.in-NotBreaking.is
-    (line_is_told (answer.NotBreaking c.in-NotBreaking.test c.in-NotBreaking.place) _ _ _
-    (ap (λ name. line (codes "refused 54 NotBreaking " ++ name ++ codes " " ++ decimal c.in-NotBreaking.place)) c.name-in-NotBreaking.ensures)
-    (λ e. cc) (λ e. cc) c.line_told-in-NotBreaking.ensures)
+pub returns-in_default : goal.returns-in_default
+returns-in_default g c =
+    line_is_told c.args.answer _ _ _ (c.answer_line.ensures (is_line c.args.answer c.in_default.not-Recovered))
+    c.in_default.not-Usage c.in_default.not-TooLong (subst (λ due. IsLineTold due (line_text c.answer_line.result) (passage g.K.Sink.held g.K.Sink.faults c.args.sink.now c.line_told.new.sink) c.line_told.result)
+    c.status.ensures c.line_told.ensures)

@@ -2,7 +2,8 @@ use Rattle.std.proofs.Common.{◌≡◌, ◌<◌, ℕ, List, length, refl, drop,
 use Rattle.bt_text.specs.Blanks.{SkipsBlanks}
 use Rattle.bt_top.specs.declared.fault.DesignFault.TheVariants.{Memory}
 use Rattle.bt_top.specs.Designs.{IsDesign}
-use Rattle.bt_top.specs.Inputs.{design_told, IsEnded}
+use Rattle.bt_top.specs.Recovering.{IsEnded}
+use Rattle.bt_top.specs.Replies.{design_told}
 use Rattle.bt_top.specs.Steps.{went_on}
 use Rattle.bt_top.proofs.Blanks.{nil_of}
 use Rattle.bt_top.proofs.InTurns.{stops}

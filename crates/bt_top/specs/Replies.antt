@@ -1,0 +1,16 @@
+-- What a command replies to bytes, unless memory ran out.
+use Rattle.std.specs.Prelude.{Result, Ok, Err, alloc_error}
+use Rattle.std.specs.declared.alloc.AllocError.{AllocError}
+use Rattle.bt_top.specs.declared.answer.Answer.{Answer}
+use Rattle.bt_top.specs.declared.answer.Answer.TheVariants as answer
+use Rattle.bt_top.specs.declared.fault.DesignFault.{DesignFault}
+use Rattle.bt_top.specs.declared.fault.DesignFault.TheVariants as design
+
+-- what is answered, or that memory ran out
+abbrev pub Reply : Type 0
+Reply = Result Answer AllocError
+
+-- the refusal of a design
+abbrev pub design_told : DesignFault → Reply
+design_told (design.Refused r) = Ok (answer.Refused r)
+design_told design.Memory = Err alloc_error

@@ -1,0 +1,45 @@
+-- What `flow-check` answers: a design, blanks, and a written state, which blanks may follow.
+use Rattle.std.specs.Prelude.{◌≡◌, ℕ, List, drop, Result, Ok, Err, alloc_error}
+use Rattle.bt_text.specs.Blanks.{SkipsBlanks}
+use Rattle.bt_net.specs.Network.{Network}
+use Rattle.bt_flow.specs.declared.fault.StateFault.{StateFault}
+use Rattle.bt_flow.specs.declared.fault.StateFault.TheVariants as state
+use Rattle.bt_flow.specs.declared.judgement.Judgement.{Judgement}
+use Rattle.bt_flow.specs.declared.judgement.Judgement.TheVariants.{Passes, Fails}
+use Rattle.bt_flow.specs.declared.judgement.WideSum.{WideSum}
+use Rattle.bt_flow.specs.declared.property.Property.{Property}
+use Rattle.bt_flow.specs.Judging.{IsBreakingAnswer}
+use Rattle.bt_flow.specs.States.{Fractions}
+use Rattle.bt_flow.specs.StateReading.{IsStateRead}
+use Rattle.bt_top.specs.declared.answer.Answer.{Answer}
+use Rattle.bt_top.specs.declared.answer.Answer.TheVariants as answer
+use Rattle.bt_top.specs.Designs.{IsDesign}
+use Rattle.bt_top.specs.Replies.{Reply, design_told}
+use Rattle.bt_top.specs.Steps.{InTurn}
+
+-- the line at which a text stops to be that of a state
+abbrev pub state_told : StateFault → Reply
+state_told (state.CertLine k) = Ok (answer.CertLine k)
+state_told state.Memory = Err alloc_error
+
+-- the verdict on a state: this answer where it breaks the property, the first test that it fails and at which place, or a sum that leaves 128 bits
+abbrev pub verdict : Answer → Result Judgement WideSum → Answer
+verdict broken (Ok Passes) = broken
+verdict broken (Ok (Fails test place)) = answer.NotBreaking test place
+verdict broken (Err wide) = answer.WideState wide.test wide.place
+
+-- what is answered to a state of the network: the verdict on it
+abbrev pub IsJudged : Network → Property → Answer → Fractions → Reply → Type 0
+IsJudged n p broken t reply = (told : Result Judgement WideSum) × IsBreakingAnswer n p t told × (reply ≡ Ok (verdict broken told))
+
+-- what is answered to a text: the first line that isn't that of a state which is written for the property, or the verdict on the state
+abbrev pub IsStateJudged : Network → Property → Answer → List ℕ → Reply → Type 0
+IsStateJudged n p broken text = InTurn (IsStateRead n p text) state_told (IsJudged n p broken)
+
+-- what is answered to what follows a design: behind blanks, the answer to the text of a state
+abbrev pub IsStateChecked : Network → Property → List ℕ → Reply → Type 0
+IsStateChecked n p rest reply = (text : List ℕ) × SkipsBlanks rest text × IsStateJudged n p (answer.Breaks p) text reply
+
+-- what `flow-check` answers to bytes: the refusal of the design at their front, or what is answered to what follows it
+abbrev pub IsChecked : Property → List ℕ → Reply → Type 0
+IsChecked p bytes = InTurn (IsDesign bytes) design_told (λ found. IsStateChecked found.0 p (drop found.1 bytes))
