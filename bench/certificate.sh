@@ -1,7 +1,7 @@
 #!/usr/bin/env bash
 # Times the checker of certificates on 100 MB of hinted steps and on 20 MB of lemmas, against a plain Rust program that
 # checks the same (bench/certificate.rs, compiled by `rustc -O`), and on twice as much, and prints the ratios and the
-# most memory that it takes. Both print the number of steps, and the script compares it.
+# most memory that it takes. Both print that the formula is refuted, and the script compares it.
 set -euo pipefail
 top=$(cd "$(dirname "${BASH_SOURCE[0]}")/.." && pwd)
 folder=$(mktemp -d)
@@ -86,7 +86,7 @@ for name, size in SIZES.items():
             best[key] = min(best.get(key, (time, memory)), (time, memory))
             if path == once:
                 texts.add(text)
-    if len(texts) != 1 or b"failed" in texts:
+    if texts != {b"refuted\n"}:
         sys.exit(f"{name}: {texts}")
     (time, memory), (plain, _), (double, _) = best["ours"], best["plain"], best["twice"]
     length = os.path.getsize(once)

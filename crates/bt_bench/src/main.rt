@@ -1,15 +1,19 @@
 //! Loops that time the crates, for the scripts of bench/. The first word names the loop, and the
 //! second is the number of rounds. The loops over JSON and over a blueprint read their text from
-//! standard input.
+//! standard input. `check` checks the steps of a log on standard input against the formula that the
+//! second word names.
 #![tactic(auto)]
 
+mod certificates;
 mod fractions;
 
+use bt_cert::check_log;
 use bt_entities::parts_of;
 use bt_frac::Frac;
 use bt_grid::{Grid, pairs};
 use bt_io::{Source, StdSource, read_all};
 use bt_json::{Tree, read};
+use certificates::formula_named;
 use fractions::{repeated_sum, small_fractions, wide_fractions};
 use std::alloc::Global;
 use std::mem::forget;
@@ -74,6 +78,14 @@ fn parts_placed_often(alloc: Global, text: &[u8], rounds: u64) -> Option<usize> 
     Some(number)
 }
 
+/// Whether the log that the source tells refutes the formula of this name.
+fn refutes<S: Source>(alloc: Global, name: &str, source: &mut S) -> bool {
+    match formula_named(alloc, name) {
+        Ok(Some(formula)) => check_log(alloc, &formula, &[], source, INPUT_LIMIT).is_ok(),
+        _ => false,
+    }
+}
+
 /// What the loop of this name comes to, or `None` where it fails or there is no such loop.
 fn outcome_of<S: Source>(
     alloc: Global,
@@ -103,8 +115,16 @@ fn main(rt: HostRuntime) -> io::Result<()> {
     let (Some(name), Some(rounds)) = (name, rounds) else {
         return println!(rt; "usage: bt_bench LOOP ROUNDS");
     };
-    let rounds = rounds.as_str().parse::<u64>().unwrap_or(0);
     let mut source = StdSource::new(rt.stdin());
+    if name.as_str() == "check" {
+        let word = if refutes(rt.alloc(), rounds.as_str(), &mut source) {
+            "refuted"
+        } else {
+            "failed"
+        };
+        return println!(rt; "{word}");
+    }
+    let rounds = rounds.as_str().parse::<u64>().unwrap_or(0);
     match outcome_of(rt.alloc(), name.as_str(), rounds, &mut source) {
         Some(Outcome::Sum(over, under)) => println!(rt; "{over}/{under}"),
         Some(Outcome::Count(count)) => println!(rt; "{count}"),

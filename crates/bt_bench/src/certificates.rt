@@ -1,0 +1,106 @@
+//! The formulas whose certificates are checked: the same as in bench/certificate.rs.
+ghost use Rattle.std.specs.Prelude.{◌≡◌, ◌<◌, [], OnOk};
+ghost use Rattle.std.specs.List.{All};
+
+use bt_cnf::{Formula, Lit};
+use bt_frac::{Frac, Relation, Row};
+use std::alloc::{AllocError, Global};
+
+/// The variables of the formula of implications.
+const CHAIN: usize = 100_000;
+
+/// The columns of the formula of differences.
+const COLUMNS: usize = 30;
+
+/// The formula of this name.
+pub fn formula_named(alloc: Global, name: &str) -> Result<Option<Formula>, AllocError> {
+    match name {
+        "implications" => Ok(Some(implications(alloc)?)),
+        "differences" => Ok(Some(differences(alloc)?)),
+        _ => Ok(None),
+    }
+}
+
+/// Each variable implies the next; the first is true and the last is false.
+fn implications(alloc: Global) -> Result<Formula, AllocError> {
+    let mut formula = Formula::new(alloc, CHAIN)?;
+    for place in 1..CHAIN {
+        add_clause(alloc, &mut formula, &[(place - 1, false), (place, true)])?;
+    }
+    add_clause(alloc, &mut formula, &[(0, true)])?;
+    add_clause(alloc, &mut formula, &[(CHAIN - 1, false)])?;
+    Ok(formula)
+}
+
+/// For each two columns, a variable that says that the first is at least 1 more than the second; all are
+/// true.
+fn differences(alloc: Global) -> Result<Formula, AllocError> {
+    let mut formula = Formula::new(alloc, COLUMNS * (COLUMNS - 1))?;
+    set_atoms(&mut formula, difference_rows(alloc)?)?;
+    for place in 0..formula.vars() {
+        add_clause(alloc, &mut formula, &[(place, true)])?;
+    }
+    Ok(formula)
+}
+
+/// Adds the clause of these literals, as far as they are of variables.
+fn add_clause(
+    alloc: Global,
+    formula: &mut Formula,
+    lits: &[(usize, bool)],
+) -> Result<(), AllocError> {
+    let mut clause = Vec::new(alloc);
+    for (place, positive) in lits {
+        if let Some(var) = formula.var_at(*place) {
+            clause.push(Lit {
+                var,
+                positive: *positive,
+            })?;
+        }
+    }
+    if clause.iter().all(|lit| lit.var.place() < formula.vars()) {
+        formula.add_clause(&clause)?;
+    }
+    Ok(())
+}
+
+/// Gives the first variables these rows.
+fn set_atoms(formula: &mut Formula, rows: Vec<Row>) -> Result<(), AllocError>
+    requires { formula.old.atoms ≡ [] }
+{
+    let mut rest = rows.into_iter();
+    for place in 0..formula.vars() {
+        let Some(var) = formula.var_at(place) else {
+            return Ok(());
+        };
+        let Some(row) = rest.next() else {
+            return Ok(());
+        };
+        formula.set_atom(var, row)?;
+    }
+    Ok(())
+}
+
+/// A row for each two columns, ordered by the first and then by the second.
+fn difference_rows(alloc: Global) -> Result<Vec<Row>, AllocError> {
+    let mut rows = Vec::new(alloc);
+    for first in 0..COLUMNS {
+        for second in 0..COLUMNS {
+            if let Some(row) = difference(alloc, first, second)? {
+                rows.push(row)?;
+            }
+        }
+    }
+    Ok(rows)
+}
+
+/// The first column is at least 1 more than the second; there is no such row of a column and itself.
+fn difference(alloc: Global, first: usize, second: usize) -> Result<Option<Row>, AllocError> {
+    let (plus, minus) = (Frac::whole(1), Frac::whole(-1));
+    let terms = if first < second {
+        [(first, plus), (second, minus)]
+    } else {
+        [(second, minus), (first, plus)]
+    };
+    Row::new(alloc, &terms, Relation::AtLeast, Frac::whole(1))
+}
