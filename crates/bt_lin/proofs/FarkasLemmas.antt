@@ -10,14 +10,15 @@ use Rattle.bt_answers.specs.Answers.{HasOneAnswer}
 use Rattle.bt_frac.specs.Ratio.{Ratio}
 use Rattle.bt_frac.specs.Rows.{RowParts, columns_in, end_of}
 use Rattle.bt_frac.specs.Values.{nothing, sum_of_products}
-use Rattle.bt_lin.specs.Farkas.{IsWidePlace, ComesFirst, IsFirstWide, IsFarkas}
+use Rattle.bt_lin.specs.Farkas.{IsWidePlace, ComesFirst, IsFirstWide, IsFarkas, IsSumJudged}
 use Rattle.bt_lin.specs.FalseSums.{MayWeigh, IsStrict, IsFalseBound, Cancels, IsFalseSum}
 use Rattle.bt_lin.specs.RunningSums.{RunsTo}
 use Rattle.bt_lin.specs.WeightedRows.{pairs_at, number_of}
 use Rattle.bt_lin.specs.inner.Totals.{IsTotal, IsLeastFrom, IsFirstColumn, AreColumnsBelow, AreColumns, IsAfterColumn}
 use Rattle.bt_lin.specs.declared.places.Place.{Place}
 use Rattle.bt_lin.specs.declared.places.Place.TheVariants.{Column, Bound}
-use Rattle.bt_lin.specs.declared.weighing.Columns.{Columns}
+use Rattle.bt_lin.specs.declared.columns.Columns.{Columns}
+use Rattle.bt_lin.specs.declared.wide.SumFault.TheVariants.{Wide, Memory}
 use Rattle.bt_lin.specs.declared.wide.WideAt.{WideAt}
 use Rattle.bt_lin.proofs.EvalLemmas.{same_test}
 use Rattle.bt_lin.proofs.PlaceLemmas.{unwide_by_run, unwide_before, row_within, wide_named, no_pairs}
@@ -53,6 +54,16 @@ one_farkas sum (Ok a) (Ok b) p q = ap Ok (same_test (IsFalseSum sum) a b p.1 q.1
 one_farkas sum (Ok a) (Err b) p q = absurd (p.0 q.0 b.row q.1.place q.1.wide)
 one_farkas sum (Err a) (Ok b) p q = absurd (q.0 p.0 a.row p.1.place p.1.wide)
 one_farkas sum (Err a) (Err b) p q = ap Err (one_first sum a b p.1 q.1)
+
+-- the same of a call that takes memory
+pub one_sum_judged : (sum : List (RowParts × Ratio)) → HasOneAnswer (IsSumJudged sum)
+one_sum_judged sum (Ok a) (Ok b) p q = let e = one_farkas sum (Ok a) (Ok b) p q in let f : a ≡ b = cc in ap Ok f
+one_sum_judged sum (Ok a) (Err (Wide b)) p q = let e = one_farkas sum (Ok a) (Err b) p q in cc
+one_sum_judged sum (Ok a) (Err Memory) p q = absurd q
+one_sum_judged sum (Err (Wide a)) (Ok b) p q = let e = one_farkas sum (Err a) (Ok b) p q in cc
+one_sum_judged sum (Err (Wide a)) (Err (Wide b)) p q = let e = one_farkas sum (Err a) (Err b) p q in let f : a ≡ b = cc in ap (λ at. Err (Wide at)) f
+one_sum_judged sum (Err (Wide a)) (Err Memory) p q = absurd q
+one_sum_judged sum (Err Memory) b p q = absurd p
 
 -- an end above all columns, and one more than one of them, is their end
 above_all : (columns : List ℕ) (end : ℕ) → All (λ c. c < end) columns → end_of columns ≤ end

@@ -1,10 +1,13 @@
 pub mod ColumnLemmas
 pub mod EvalLemmas
 pub mod FarkasLemmas
+pub mod GatherLemmas
+pub mod GatheredLemmas
 pub mod Lens
 pub mod PlaceLemmas
 pub mod Ranges
 pub mod RunLemmas
+pub mod RunTotals
 pub mod SameNumbers
 pub mod Sound
 pub mod Tested

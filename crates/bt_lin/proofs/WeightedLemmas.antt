@@ -1,14 +1,17 @@
 -- Weighted rows, place by place.
-use Rattle.std.proofs.Common.{◌≡◌, ℕ, ◌<◌, ◌+◌, arith, List, [], ◌∷◌, ◌++◌, length, get_or, take, None, Some, map, ap, sym, ◌∙◌, refl, zero, suc, append-nil}
+use Rattle.std.proofs.Common.{◌≡◌, ℕ, ◌<◌, ◌+◌, arith, List, [], ◌∷◌, ◌++◌, length, get_or, take, None, Some, map, ap, sym, ◌∙◌, refl, subst, zero, suc, append-nil, append_assoc, length-append}
 use Rattle.std.specs.List.{filter_map}
 use Rattle.std.specs.Option.{option_map}
 use Rattle.std.proofs.lemmas.List.{take_more, get_or_default}
 use Rattle.std.proofs.lemmas.List.Elements.{filter_map-append}
+use Rattle.std.proofs.Math.Seq.{get_or-append_seam}
 use Rattle.bt_frac.specs.Ratio.{Ratio}
 use Rattle.bt_frac.specs.Rows.{RowParts}
 use Rattle.bt_frac.specs.Values.{nothing}
 use Rattle.bt_lin.specs.WeightedRows.{empty_row, picked, weighted, part_of, pairs_at}
+use Rattle.bt_lin.specs.inner.Gathering.{AreGathered, AreEntriesOf, HaveWeights}
 use Rattle.bt_lin.specs.inner.Totals.{ArePicks}
+use Rattle.bt_lin.specs.declared.gathering.Entry.{Entry}
 use Rattle.bt_lin.specs.declared.places.Place.{Place}
 
 pub length-weighted : (rows : List RowParts) (picks : List ℕ) (weights : List Ratio) → length weights ≡ length picks → length (weighted rows picks weights) ≡ length picks
@@ -60,3 +63,24 @@ weighted_here rows picks weights i row weight same are inside row_is weight_is =
     let row_at : get_or rows (get_or picks i 0) empty_row ≡ row = get_or_default rows (get_or picks i 0) empty_row row (are i 0 inside) ∙ sym row_is in
     let weight_at : get_or weights i nothing ≡ weight = get_or_default weights i nothing weight (omega arith) ∙ sym weight_is in
     weighted_at rows picks weights i (row, weight) same inside ∙ ap (λ r. (r, get_or weights i nothing)) row_at ∙ ap (λ w. (row, w)) weight_at
+
+front_more : (front : List Ratio) (weight : Ratio) (rest : List Ratio) → (front ++ weight ∷ []) ++ rest ≡ front ++ weight ∷ rest
+front_more front weight rest = rw append_assoc refl
+
+have_from : (rows : List RowParts) (picks : List ℕ) (front weights : List Ratio) → HaveWeights (front ++ weights) (length front) (weighted rows picks weights)
+have_from rows [] front weights = tt
+have_from rows (pick ∷ picks) front [] = tt
+have_from rows (pick ∷ picks) front (weight ∷ weights) = (
+  get_or-append_seam front weight weights nothing,
+  subst (λ n. HaveWeights (front ++ weight ∷ weights) n (weighted rows picks weights)) (length-append front (weight ∷ []))
+      (subst (λ ws. HaveWeights ws (length (front ++ weight ∷ [])) (weighted rows picks weights)) (front_more front weight weights) (have_from rows picks (front ++ weight ∷ []) weights)),
+)
+
+-- the sum's terms, where they were gathered of the picked rows
+pub entries_of_picked : (rows : List RowParts) (picks : List ℕ) (weights : List Ratio) (entries : List Entry) → length weights ≡ length picks → AreGathered (picked rows picks) entries
+    → AreEntriesOf (weighted rows picks weights) weights entries
+entries_of_picked rows picks weights entries same are = record {
+  gathered = subst (λ rs. AreGathered rs entries) (sym (rows_of_weighted rows picks weights same)) are;
+  weights_are = have_from rows picks [] weights;
+  counted = length-weighted rows picks weights same ∙ sym same;
+}

@@ -8,6 +8,8 @@ use Rattle.bt_lin.specs.FalseSums.{MayWeigh, IsFalseSum}
 use Rattle.bt_lin.specs.RunningSums.{IsWideStep, RunsTo}
 use Rattle.bt_lin.specs.WeightedRows.{part_of, pairs_at, number_of}
 use Rattle.bt_lin.specs.declared.places.Place.{Place}
+use Rattle.bt_lin.specs.declared.wide.SumFault.{SumFault}
+use Rattle.bt_lin.specs.declared.wide.SumFault.TheVariants.{Wide, Memory}
 use Rattle.bt_lin.specs.declared.wide.WideAt.{WideAt}
 
 -- the sum at a place, formed from 0 on over the rows in their order, is wide at a row and at no row before it
@@ -39,3 +41,9 @@ pub record IsFirstWide (sum : List (RowParts × Ratio)) (at : WideAt) : Type 0 w
 abbrev pub IsFarkas : List (RowParts × Ratio) → Result Bool WideAt → Type 0
 IsFarkas sum (Ok is_false) = (All MayWeigh sum → (row : ℕ) (place : Place) → IsWidePlace sum row place → ⊥) × (IsTrue is_false ↔ IsFalseSum sum)
 IsFarkas sum (Err at) = All MayWeigh sum × IsFirstWide sum at
+
+-- the same of a call that takes memory: want of it is no right answer
+abbrev pub IsSumJudged : List (RowParts × Ratio) → Result Bool SumFault → Type 0
+IsSumJudged sum (Ok is_false) = IsFarkas sum (Ok is_false)
+IsSumJudged sum (Err (Wide at)) = IsFarkas sum (Err at)
+IsSumJudged sum (Err Memory) = ⊥

@@ -1,4 +1,4 @@
-use crate::{WideAt, eval, farkas};
+use crate::{SumFault, Weigher, WideAt, eval, farkas};
 use bt_frac::{Frac, Relation, Row};
 use std::alloc::Global;
 use std::test::Fail;
@@ -25,12 +25,20 @@ fn evaluated(row: &Row, values: &[Frac]) -> Option<Result<bool, WideAt>> {
     Some(eval(row, values))
 }
 
-// What `farkas` answers, where each pick names a row.
-fn weighed(rows: &[Row], picks: [usize; 3], weights: [Frac; 3]) -> Option<Result<bool, WideAt>> {
+// What `farkas` answers, and a weigher, where each pick names a row.
+fn weighed(
+    weigher: &mut Weigher,
+    rows: &[Row],
+    picks: [usize; 3],
+    weights: [Frac; 3],
+) -> Option<(Result<bool, WideAt>, Result<bool, SumFault>)> {
     if picks.iter().any(|pick| *pick >= rows.len()) {
         return None;
     }
-    Some(farkas(rows, &picks, &weights))
+    Some((
+        farkas(rows, &picks, &weights),
+        weigher.farkas(rows, &picks, &weights),
+    ))
 }
 
 #[test]
@@ -114,6 +122,7 @@ fn weighted_sums(rt: HostRuntime) -> Result<(), Fail> {
     let tiny = fraction(b"1/85070591730234615865843651857942052864")?;
     let third = fraction(b"1/3")?;
     let one = Frac::whole(1);
+    let mut weigher = Weigher::new(rt.alloc());
     for (picks, weights, answer) in [
         ([0, 1, 1], [one, one, Frac::whole(0)], Ok(true)),
         ([0, 1, 1], [one, one, one], Ok(false)),
@@ -131,7 +140,8 @@ fn weighted_sums(rt: HostRuntime) -> Result<(), Fail> {
             Err(WideAt { row: 2, column: 0 }),
         ),
     ] {
-        assert!(rt; weighed(&rows, picks, weights) == Some(answer));
+        let told = answer.map_err(SumFault::Wide);
+        assert!(rt; weighed(&mut weigher, &rows, picks, weights) == Some((answer, told)));
     }
     Ok(())
 }

@@ -1,14 +1,15 @@
 //! Whether a weighted sum of rows is false: the test that Farkas' lemma gives for a set of rows that no
 //! values meet.
-ghost use Rattle.std.specs.Prelude.{◌≡◌, ◌<◌, ◌-◌, ◌^◌, length, IsTrue, ◌↔◌};
+ghost use Rattle.std.specs.Prelude.{◌≡◌, ◌<◌, length, IsTrue, ◌↔◌};
 ghost use Rattle.std.specs.List.{All};
 ghost use Rattle.bt_answers.specs.Answers.{AnswersAlways};
 ghost use Rattle.bt_lin.specs.Farkas.{IsFarkas};
-ghost use Rattle.bt_lin.specs.FalseSums.{IsFalseBound};
+ghost use Rattle.bt_lin.specs.FalseSums.{IsFalseBound, MayWeigh};
 ghost use Rattle.bt_frac.specs.Rows.{columns_in};
 ghost use Rattle.bt_lin.specs.WeightedRows.{picked, weighted};
-ghost use Rattle.bt_lin.specs.inner.Totals.{ArePicks, AreColumns, IsAfterColumn};
+ghost use Rattle.bt_lin.specs.inner.Totals.{ArePicks, AreColumns};
 
+use crate::columns::{Columns, after_column, no_columns};
 use crate::combining::{next_column, total};
 use crate::places::Place;
 use crate::signs::{has_strict, may_weigh};
@@ -29,6 +30,24 @@ pub fn farkas(rows: &[Row], picks: &[usize], weights: &[Frac]) -> Result<bool, W
         return Ok(false);
     }
     let columns = sum_columns(rows, picks, weights);
+    judged(rows, picks, weights, columns)
+}
+
+/// Whether rows that may have their weights add up to one that no values meet, by what their columns add
+/// up to.
+pub(crate) fn judged(
+    rows: &[Row],
+    picks: &[usize],
+    weights: &[Frac],
+    columns: Columns,
+) -> Result<bool, WideAt>
+    requires picks { ArePicks rows.now picks.now }
+    requires weights { length weights.now ≡ length picks.now }
+    requires may_weigh { All MayWeigh (weighted rows.now picks.now weights.now) }
+    requires columns { AreColumns (weighted rows.now picks.now weights.now)
+        (columns_in (picked rows.now picks.now)) columns }
+    ensures { IsFarkas (weighted rows.now picks.now weights.now) result }
+{
     match total(rows, picks, weights, Place::Bound, columns.limit) {
         Err(row) => Err(WideAt {
             row,
@@ -44,19 +63,6 @@ pub fn farkas(rows: &[Row], picks: &[usize], weights: &[Frac]) -> Result<bool, W
     }
 }
 
-/// What the columns of weighted rows add up to.
-#[derive(Clone, Copy)]
-struct Columns {
-    /// Whether each column adds up to 0, where none is wide.
-    cancel: bool,
-    /// The first column that is wide at the row `limit`, and none where no column is wide.
-    wide: Option<usize>,
-    /// The rows before this one are wide at no column.
-    limit: usize,
-    /// One more than the greatest column, or 0 where there is none.
-    end: usize,
-}
-
 /// The sums at all columns. Once a column is wide at a row, only the rows before it can be first.
 fn sum_columns(rows: &[Row], picks: &[usize], weights: &[Frac]) -> Columns
     requires picks { ArePicks rows.now picks.now }
@@ -64,38 +70,12 @@ fn sum_columns(rows: &[Row], picks: &[usize], weights: &[Frac]) -> Columns
     ensures { AreColumns (weighted rows.now picks.now weights.now)
         (columns_in (picked rows.now picks.now)) result }
 {
-    let mut columns = Columns {
-        cancel: true,
-        wide: None,
-        limit: picks.len(),
-        end: 0,
-    };
+    let mut columns = no_columns(picks.len());
     while let Some(column) = next_column(rows, picks, columns.end) {
         let sum = total(rows, picks, weights, Place::Column(column), columns.limit);
         columns = after_column(columns, column, sum);
     }
     columns
-}
-
-/// What is known of the columns with one more of them, and what it adds up to.
-fn after_column(columns: Columns, column: usize, sum: Result<Frac, usize>) -> Columns
-    requires { column < 2 ^ 64 - 1 }
-    ensures { IsAfterColumn columns column sum result }
-{
-    let end = column + 1;
-    match sum {
-        Ok(sum) => Columns {
-            cancel: columns.cancel && sum.numerator() == 0,
-            end,
-            ..columns
-        },
-        Err(row) => Columns {
-            wide: Some(column),
-            limit: row,
-            end,
-            ..columns
-        },
-    }
 }
 
 /// Whether 0 can't stand to the bound of a sum, which is strict or not.

@@ -10,7 +10,7 @@ use Rattle.bt_lin.specs.RunningSums.{RunsTo}
 use Rattle.bt_lin.specs.WeightedRows.{pairs_at}
 use Rattle.bt_lin.specs.declared.places.Place.{Place}
 use Rattle.bt_lin.specs.declared.places.Place.TheVariants.{Column}
-use Rattle.bt_lin.specs.declared.weighing.Columns.{Columns}
+use Rattle.bt_lin.specs.declared.columns.Columns.{Columns}
 
 -- each pick is the place of a row
 abbrev pub ArePicks : List RowParts → List ℕ → Type 0

@@ -1,6 +1,7 @@
-use Rattle.std.proofs.Common.{arith, sym, ap}
+use Rattle.std.proofs.Common.{arith, sym, ap, subst}
 use Rattle.bt_frac.specs.Rows.{columns_in}
 use Rattle.bt_lin.specs.WeightedRows.{picked, weighted}
+use Rattle.bt_lin.specs.inner.Totals.{AreColumnsBelow}
 use Rattle.bt_lin.proofs.FarkasLemmas.{no_columns, columns_more}
 use Rattle.bt_lin.proofs.WeightedLemmas.{length-weighted, rows_of_weighted}
 use Rattle.bt_lin.proofs.weighing.sum_columns.Goals as goal
@@ -10,7 +11,8 @@ loop-column-init c =
     let rows = c.args.rows.now in
     let picks = c.args.picks.now in
     let weights = c.args.weights.now in
-    no_columns (weighted rows picks weights) (columns_in (picked rows picks)) _ (sym (length-weighted rows picks weights c.requires.weights))
+    subst (AreColumnsBelow (weighted rows picks weights) (columns_in (picked rows picks))) (sym c.no_columns-columns.ensures)
+    (no_columns (weighted rows picks weights) (columns_in (picked rows picks)) _ (sym (length-weighted rows picks weights c.requires.weights)))
 
 pub total-sum-requires-clause-within : goal.total-sum-requires-clause-within
 total-sum-requires-clause-within c =

@@ -1,0 +1,62 @@
+//! The sums at all columns, from the terms in the order of their columns.
+ghost use Rattle.std.specs.Prelude.{◌<◌, ◌-◌, ◌^◌, List, length, map};
+ghost use Rattle.std.specs.List.{All};
+ghost use Rattle.bt_frac.specs.Ratio.{Ratio};
+ghost use Rattle.bt_frac.specs.Rows.{RowParts, columns_in};
+ghost use Rattle.bt_lin.specs.inner.Gathering.{AreEntriesOf, IsRunLength, IsRunTotal};
+ghost use Rattle.bt_lin.specs.inner.Totals.{AreColumns};
+
+use crate::columns::{Columns, after_column, no_columns};
+use crate::gathering::Entry;
+use crate::running::add_product;
+use bt_frac::Frac;
+
+/// The sums at all columns of the rows that these entries are of. Once a column is wide at a row, only
+/// the rows before it can be first.
+pub fn sum_runs(entries: &[Entry], weights: &[Frac]) -> Columns
+    requires rows { All (λ e. e.row < length weights.now) entries.now }
+    requires columns { All (λ e. e.column < 2 ^ 64 - 1) entries.now }
+    ensures { (sum : List (RowParts × Ratio)) → AreEntriesOf sum weights.now entries.now
+        → AreColumns sum (columns_in (map (λ r. r.0) sum)) result }
+{
+    let mut columns = no_columns(weights.len());
+    let mut rest = entries;
+    while let Some(first) = rest.first() {
+        let column = first.column;
+        let (run, later) = rest.split_at(run_length(rest, column));
+        columns = after_column(columns, column, run_total(run, weights, columns.limit));
+        rest = later;
+    }
+    columns
+}
+
+/// How many entries from the first on are of this column.
+fn run_length(entries: &[Entry], column: usize) -> usize
+    ensures { IsRunLength column entries.now result }
+{
+    for (i, entry) in entries.iter().enumerate() {
+        if entry.column != column {
+            return i;
+        }
+    }
+    entries.len()
+}
+
+/// The sum of the entries of a column over the rows before a limit, or the first of these rows at which
+/// it is wide.
+fn run_total(run: &[Entry], weights: &[Frac], limit: usize) -> Result<Frac, usize>
+    requires { All (λ e. e.row < length weights.now) run.now }
+    ensures { IsRunTotal weights.now run.now limit result }
+{
+    let mut sum = Frac::whole(0);
+    for entry in run {
+        if limit <= entry.row {
+            return Ok(sum);
+        }
+        let Some(next) = add_product(&sum, &weights[entry.row], &entry.coefficient) else {
+            return Err(entry.row);
+        };
+        sum = next;
+    }
+    Ok(sum)
+}
