@@ -8,9 +8,8 @@ use Rattle.bt_cnf.specs.declared.literal.Lit.{Lit}
 use Rattle.bt_log.specs.Logs.{clause_of}
 use Rattle.bt_log.specs.Refuting.{EndsEmpty}
 use Rattle.bt_log.specs.Validity.{AreValid}
-use Rattle.bt_cert.specs.StepLines.{WrittenStep, IsWritten, step_of}
+use Rattle.bt_cert.specs.StepLines.{WrittenStep, IsWritten, step_of, written_clause}
 use Rattle.bt_cert.specs.Judging.{IsAccepted, IsWideNowhere}
-use Rattle.bt_cert.specs.Checking.{written_clause}
 use Rattle.bt_cert.specs.Certificates.{AreAccepted, AreRight, clauses_after, log_of}
 
 -- one more step

@@ -12,7 +12,7 @@ use Rattle.bt_text.proofs.FirstLines.{BeginsWithLines-push}
 use Rattle.bt_cnf.specs.Formulas.{FormulaParts}
 use Rattle.bt_cert.specs.StepLines.{WrittenStep, Lemma, Learnt, written_text}
 use Rattle.bt_cert.specs.Judging.{IsAccepted}
-use Rattle.bt_cert.specs.Checking.{Checking}
+use Rattle.bt_cert.specs.inner.Checking.{Checking}
 use Rattle.bt_cert.specs.Certificates.{ComesTo, IsCertRead, SpellsNoStep, line_after, end_line}
 use Rattle.bt_cert.specs.inner.Lines.{IsFound}
 use Rattle.bt_cert.specs.inner.Stages.{Progress, StandsAfterSteps, StandsAfterEnd, HasFault, IsAtStage, HasRead, ReadsOn, IsEnded, step_lines, fault_on, advanced, answer_at, stage_after_end}

@@ -9,7 +9,8 @@ use Rattle.bt_cnf.specs.declared.literal.Lit.{Lit}
 use Rattle.bt_lin.specs.declared.wide.WideAt.{WideAt}
 use Rattle.bt_log.specs.Refuting.{EndsEmpty}
 use Rattle.bt_cert.specs.StepLines.{WrittenStep, IsWritten, written_text}
-use Rattle.bt_cert.specs.Judging.{Judgement, Valid, Fails, IsWideAt, IsJudged, IsAccepted, FailsFor, IsWideStep}
+use Rattle.bt_cert.specs.inner.Judgements.{Judgement, Valid, Fails, IsWideAt, IsJudged}
+use Rattle.bt_cert.specs.Judging.{IsAccepted, FailsFor, IsWideStep}
 use Rattle.bt_cert.specs.Certificates.{IsCertRead, ComesTo, SpellsNoStep, HasByteAfter, MeetsStep, clauses_after, line_after, log_of, end_line}
 use Rattle.bt_cert.specs.declared.fault.CertFault.{CertFault}
 use Rattle.bt_cert.specs.declared.fault.CertFault.TheVariants.{CertLine, BadStep, NoVerdict, CertWide, ReadFault, TooLong, Memory}

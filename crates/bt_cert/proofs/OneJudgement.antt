@@ -11,7 +11,8 @@ use Rattle.bt_cnf.specs.declared.literal.Lit.{Lit}
 use Rattle.bt_log.specs.Units.{UnitsRefute}
 use Rattle.bt_log.specs.Validity.{clause_at}
 use Rattle.bt_cert.specs.StepLines.{WrittenStep, Lemma, Learnt, lit_of}
-use Rattle.bt_cert.specs.Judging.{Judgement, Valid, Fails, IsWideAt, IsJudged, Negate, MayWeighRows, AreLearntLits, AreHints}
+use Rattle.bt_cert.specs.inner.Judgements.{Judgement, Valid, Fails, IsWideAt, IsJudged}
+use Rattle.bt_cert.specs.Judging.{Negate, MayWeighRows, AreLearntLits, AreHints}
 use Rattle.bt_cert.specs.declared.written.WrittenLit.{WrittenLit}
 use Rattle.bt_cert.specs.declared.fault.Cause.TheVariants as cause
 

@@ -9,9 +9,9 @@ use Rattle.bt_answers.specs.Answers.{UnlessMemory}
 use Rattle.bt_text.specs.Blanks.{IsBlank}
 use Rattle.bt_text.specs.Lines.{Lacks, line, IsFirstLine}
 use Rattle.bt_cnf.specs.Formulas.{FormulaParts}
-use Rattle.bt_cert.specs.StepLines.{WrittenStep, IsWritten, written_text}
+use Rattle.bt_cert.specs.StepLines.{WrittenStep, IsWritten, written_text, written_clause}
 use Rattle.bt_cert.specs.Judging.{IsAccepted, FailsFor, IsWideStep}
-use Rattle.bt_cert.specs.Checking.{Checking, written_clause, start_of}
+use Rattle.bt_cert.specs.inner.Checking.{Checking, start_of}
 use Rattle.bt_cert.specs.Certificates.{AreRight, ComesTo, IsCertRead, clauses_after, line_after, end_line}
 use Rattle.bt_cert.specs.inner.Lines.{IsFound}
 use Rattle.bt_cert.specs.inner.Stages.{Progress, StandsAfterSteps, HasFault, IsRefused, IsAtStage, HasRead, ReadsOn, step_lines, fault_on, advanced, stage_after_end}

@@ -4,7 +4,7 @@ use Rattle.std.proofs.lemmas.List.{length-map, get_or-map}
 use Rattle.bt_frac.specs.Ratio.{Ratio}
 use Rattle.bt_cnf.specs.Formulas.{LitsBelow, IsFormula}
 use Rattle.bt_cnf.specs.declared.literal.Lit.{Lit}
-use Rattle.bt_cert.specs.Checking.{Checking, JudgesStep}
+use Rattle.bt_cert.specs.inner.Checking.{Checking, JudgesStep}
 use Rattle.bt_cert.specs.StepLines.{Lemma, Learnt, lit_of}
 use Rattle.bt_cert.specs.declared.written.WrittenLit.{WrittenLit}
 use Rattle.bt_cert.specs.declared.fault.Cause.TheVariants as cause

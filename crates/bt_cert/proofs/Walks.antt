@@ -8,7 +8,7 @@ use Rattle.bt_cnf.specs.Formulas.{LitsBelow}
 use Rattle.bt_cnf.specs.declared.literal.Lit.{Lit}
 use Rattle.bt_log.specs.Units.{UnitsRefute}
 use Rattle.bt_log.specs.Validity.{clause_at}
-use Rattle.bt_cert.specs.Checking.{Checking}
+use Rattle.bt_cert.specs.inner.Checking.{Checking}
 use Rattle.bt_cert.specs.Judging.{AreHints}
 use Rattle.bt_cert.specs.inner.Assuming.{Propagates, with_value, IsFalseIn}
 use Rattle.bt_cert.specs.inner.Refuting.{IsSound, IsPropagated, IsRefuted, hinted, places_of}

@@ -6,9 +6,8 @@ use Rattle.bt_cnf.specs.Formulas.{FormulaParts}
 use Rattle.bt_cnf.specs.declared.literal.Lit.{Lit}
 use Rattle.bt_log.specs.Logs.{Step}
 use Rattle.bt_log.specs.Refuting.{Refutes, EndsEmpty}
-use Rattle.bt_cert.specs.StepLines.{WrittenStep, IsWritten, written_text, step_of}
+use Rattle.bt_cert.specs.StepLines.{WrittenStep, IsWritten, written_text, step_of, written_clause}
 use Rattle.bt_cert.specs.Judging.{IsAccepted, IsWideNowhere, FailsFor, IsWideStep}
-use Rattle.bt_cert.specs.Checking.{written_clause}
 use Rattle.bt_cert.specs.declared.fault.CertFault.{CertFault}
 use Rattle.bt_cert.specs.declared.fault.CertFault.TheVariants.{CertLine, BadStep, NoVerdict, CertWide, ReadFault, TooLong, Memory}
 use Rattle.bt_cert.specs.declared.reading.TheConstants.{FIRST_LINE}

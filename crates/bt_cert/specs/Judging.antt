@@ -15,12 +15,6 @@ use Rattle.bt_cert.specs.StepLines.{WrittenStep, Lemma, Learnt, lit_of, step_of}
 use Rattle.bt_cert.specs.declared.fault.Cause.{Cause}
 use Rattle.bt_cert.specs.declared.fault.Cause.TheVariants as cause
 
--- a step is valid, or fails for a cause, or its sum leaves 128 bits there
-pub data Judgement : Type 0 where
-  Valid : Judgement
-  Fails : Cause → Judgement
-  IsWideAt : WideAt → Judgement
-
 -- the literals are the negations of the atoms that have these rows
 abbrev pub Negate : FormulaParts → List Lit → List RowParts → Type 0
 Negate f lits rows = AllZip (NegatesAtom f) lits rows
@@ -82,9 +76,3 @@ IsWideNowhere f (Learnt lits hints) = Unit {0}
 -- the step is valid after these clauses, and no sum leaves 128 bits
 abbrev pub IsAccepted : FormulaParts → List (List Lit) → WrittenStep → Type 0
 IsAccepted f clauses written = IsValidStep f clauses (step_of written) × IsWideNowhere f written
-
--- what is right to say of a written step after these clauses of the formula and of the earlier steps
-abbrev pub IsJudged : FormulaParts → List (List Lit) → WrittenStep → Judgement → Type 0
-IsJudged f clauses written Valid = IsAccepted f clauses written
-IsJudged f clauses written (Fails cause) = FailsFor f clauses written cause
-IsJudged f clauses written (IsWideAt at) = IsWideStep f written at

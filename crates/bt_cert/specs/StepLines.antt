@@ -4,12 +4,10 @@ use Rattle.std.specs.Fmt.{decimal}
 use Rattle.bt_frac.specs.Ratio.{Ratio, IsLowest}
 use Rattle.bt_frac.specs.Texts.{frac_text}
 use Rattle.bt_cnf.specs.declared.literal.Lit.{Lit}
-use Rattle.bt_log.specs.Logs.{Step}
+use Rattle.bt_log.specs.Logs.{Step, clause_of}
 use Rattle.bt_log.specs.Logs as log
 use Rattle.bt_log.specs.LogText.{words}
 use Rattle.bt_cert.specs.declared.written.WrittenLit.{WrittenLit}
-use Rattle.bt_cert.specs.declared.written.StepKind.{StepKind}
-use Rattle.bt_cert.specs.declared.written.StepKind.TheVariants as kind
 
 -- a lemma has literals and weights; a learnt clause has literals and hints, the numbers of clauses from 1 on
 pub data WrittenStep : Type 0 where
@@ -48,13 +46,6 @@ abbrev pub step_of : WrittenStep → Step
 step_of (Lemma lits weights) = log.Lemma (map lit_of lits) weights
 step_of (Learnt lits hints) = log.Learnt (map lit_of lits) (map (λ hint. hint - 1) hints)
 
--- the step of this kind with those of the lists that it has
-abbrev pub step_of_kind : StepKind → List WrittenLit → List Ratio → List ℕ → WrittenStep
-step_of_kind kind.Lemma lits weights hints = Lemma lits weights
-step_of_kind kind.Learnt lits weights hints = Learnt lits hints
-
--- these lists may be written
-pub record AreWritten (lits : List WrittenLit) (weights : List Ratio) (hints : List ℕ) : Type 0 where
-  pub literals : All IsWrittenLit lits
-  pub fractions : All IsLowest weights
-  pub numbers : All IsNumber hints
+-- the clause that a written step adds
+abbrev pub written_clause : WrittenStep → List Lit
+written_clause written = clause_of (step_of written)

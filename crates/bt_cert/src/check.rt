@@ -29,8 +29,6 @@ pub fn check_log<S: Source>(
     requires { limit < 2 ^ 62 }
     ensures { ChecksLog formula.now head.now limit (passage S.left S.faults source.old source.new) result }
 {
-    // That it is a formula is told by its rows.
-    let _ = formula.rows();
     let mut reading = Reading::new(alloc, formula)?;
     reading.take(head);
     let mut block = [0u8; BLOCK];

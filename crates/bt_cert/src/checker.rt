@@ -1,8 +1,9 @@
 //! The judging of steps, one after another.
 ghost use Rattle.std.specs.Prelude.{◌≡◌, length, map, IfOk, IsTrue, ◌↔◌};
 ghost use Rattle.std.specs.List.{All};
+ghost use Rattle.bt_cnf.specs.Formulas.{IsFormula};
 ghost use Rattle.bt_frac.specs.Ratio.{IsLowest};
-ghost use Rattle.bt_cert.specs.Checking.{JudgesStep, start_of};
+ghost use Rattle.bt_cert.specs.inner.Checking.{JudgesStep, start_of};
 ghost use Rattle.bt_cert.specs.StepLines.{Lemma, Learnt};
 ghost use Rattle.bt_cert.specs.inner.Reading.{AreRead};
 
@@ -10,7 +11,7 @@ use crate::assumptions::Assumptions;
 use crate::fault::{Cause, StepFault};
 use crate::known::Known;
 use crate::learnt::judge_learnt;
-use crate::lemma::judge_lemma;
+use crate::lemma::{LemmaRoom, judge_lemma};
 use crate::step_line::StepLine;
 use crate::written::{WrittenLit, WrittenView, place_of};
 use bt_cnf::{Formula, Lit};
@@ -28,12 +29,11 @@ pub struct Checker<'a> {
     assumed: Assumptions,
     /// The literals of the step.
     lits: Vec<Lit>,
-    /// The places of the rows of a lemma.
-    picks: Vec<usize>,
+    room: LemmaRoom,
 }
 
 impl<'a> Model for Checker<'a> {
-    ghost use Rattle.bt_cert.specs.Checking.{Checking};
+    ghost use Rattle.bt_cert.specs.inner.Checking.{Checking};
     ghost use Rattle.bt_cert.specs.inner.Reading.{AssumesNothing};
 
     ghost Value = { Checking };
@@ -46,18 +46,20 @@ impl<'a> Model for Checker<'a> {
 impl<'a> Checker<'a> {
     /// A checker before the first step.
     pub fn new(alloc: Global, formula: &'a Formula) -> Result<Checker<'a>, AllocError>
-        ensures { IfOk result (λ checker. checker ≡ start_of formula.now) }
+        ensures start { IfOk result (λ checker. checker ≡ start_of formula.now) }
+        ensures known { IfOk result (λ _. IsFormula formula.now) }
     {
+        let assumed = Assumptions::new(alloc, formula.vars())?;
         Ok(Checker {
             known: Known::new(alloc, formula)?,
-            assumed: Assumptions::new(alloc, formula.vars())?,
+            assumed,
             lits: Vec::new(alloc),
-            picks: Vec::new(alloc),
+            room: LemmaRoom::new(alloc),
         })
     }
 
     /// Judges a step, keeps its clause where it is valid, and tells whether that is empty. The cost is
-    /// that of the step's own lists, of the hinted clauses and of a lemma's rows.
+    /// that of the step's own lists, of the hinted clauses and of sorting the terms of a lemma's rows.
     pub fn judge(&mut self, step: &StepLine) -> Result<bool, StepFault>
         ensures { JudgesStep self.old step.now self.new result }
     {
@@ -75,7 +77,7 @@ impl<'a> Checker<'a> {
         if !read_lits(formula, lits, &mut self.lits)? {
             return Err(StepFault::Fails(Cause::Literal));
         }
-        if let Err(fault) = judge_lemma(formula, &self.lits, weights, &mut self.picks) {
+        if let Err(fault) = judge_lemma(formula, &self.lits, weights, &mut self.room) {
             return Err(fault);
         }
         Ok(self.known.add(&self.lits)?)

@@ -1,7 +1,7 @@
 //! The clauses that are known before a step: those of the formula, and those of the steps so far.
 ghost use Rattle.std.specs.Prelude.{◌≡◌, ◌≤◌, length, IfOk, IfSome, IfNone, OnErr};
-ghost use Rattle.bt_cnf.specs.Formulas.{LitsBelow};
-ghost use Rattle.bt_cert.specs.Checking.{start_of};
+ghost use Rattle.bt_cnf.specs.Formulas.{IsFormula, LitsBelow};
+ghost use Rattle.bt_cert.specs.inner.Checking.{start_of};
 ghost use Rattle.bt_cert.specs.inner.Knowing.{AddsClause, IsClauseAt};
 ghost use Rattle.bt_cert.specs.inner.Refuting.{IsSound};
 
@@ -21,7 +21,7 @@ pub struct Known<'a> {
 }
 
 impl<'a> Model for Known<'a> {
-    ghost use Rattle.bt_cert.specs.Checking.{Checking};
+    ghost use Rattle.bt_cert.specs.inner.Checking.{Checking};
     ghost use Rattle.bt_cert.specs.inner.Knowing.{known_of, IsKnown};
 
     ghost Value = { Checking };
@@ -34,10 +34,9 @@ impl<'a> Model for Known<'a> {
 impl<'a> Known<'a> {
     /// The clauses of a formula.
     pub fn new(alloc: Global, formula: &'a Formula) -> Result<Known<'a>, AllocError>
+        requires { IsFormula formula.now }
         ensures { IfOk result (λ known. known ≡ start_of formula.now) }
     {
-        // Tells the proof that the formula is one.
-        let _ = formula.rows();
         Ok(Known {
             formula,
             added: Pool::new(alloc)?,

@@ -10,31 +10,50 @@ ghost use Rattle.bt_cert.specs.inner.Weighing.{IsNegatedRow, IsPicked, JudgesLem
 use crate::fault::{Cause, StepFault};
 use bt_cnf::{Formula, Lit};
 use bt_frac::Frac;
-use bt_lin::{farkas, may_weigh};
-use std::alloc::AllocError;
+use bt_lin::{SumFault, Weigher, may_weigh};
+use std::alloc::{AllocError, Global};
+
+/// Room in which a lemma is judged, and which serves each lemma anew.
+#[derive(Drop)]
+pub struct LemmaRoom {
+    /// The places of the rows of the atoms.
+    picks: Vec<usize>,
+    weigher: Weigher,
+}
+
+impl LemmaRoom {
+    /// Room before the first lemma.
+    pub fn new(alloc: Global) -> LemmaRoom {
+        LemmaRoom {
+            picks: Vec::new(alloc),
+            weigher: Weigher::new(alloc),
+        }
+    }
+}
 
 /// Whether the rows of a lemma's atoms, each times its weight, add up to a row that no values meet, and
-/// if not, why. The places of the rows are put into `picks`.
+/// if not, why.
 pub fn judge_lemma(
     formula: &Formula,
     lits: &[Lit],
     weights: &[Frac],
-    picks: &mut Vec<usize>,
+    room: &mut LemmaRoom,
 ) -> Result<(), StepFault>
     requires lits { LitsBelow formula.now.vars lits.now }
     requires fractions { All IsLowest weights.now }
     ensures { JudgesLemma formula.now lits.now weights.now result }
 {
-    if !pick_atoms(formula, lits, picks)? {
+    if !pick_atoms(formula, lits, &mut room.picks)? {
         return Err(StepFault::Fails(Cause::Literal));
     }
-    if !may_weigh_picked(formula, picks, weights) {
+    if !may_weigh_picked(formula, &room.picks, weights) {
         return Err(StepFault::Fails(Cause::Weight));
     }
-    match farkas(formula.rows(), picks, weights) {
+    match room.weigher.farkas(formula.rows(), &room.picks, weights) {
         Ok(true) => Ok(()),
         Ok(false) => Err(StepFault::Fails(Cause::Sum)),
-        Err(at) => Err(StepFault::Wide(at)),
+        Err(SumFault::Wide(at)) => Err(StepFault::Wide(at)),
+        Err(SumFault::Memory) => Err(StepFault::Memory),
     }
 }
 

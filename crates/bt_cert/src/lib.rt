@@ -26,4 +26,4 @@ pub use check::check_log;
 pub use fault::{Cause, CertFault};
 pub use law::{printed_is_certificate, printed_is_read, text_tells_log};
 pub use std::alloc::AllocError as Memory;
-pub use written::{StepKind, WrittenLit};
+pub use written::WrittenLit;

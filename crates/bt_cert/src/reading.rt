@@ -4,8 +4,9 @@
 ghost use Rattle.std.specs.Prelude.{◌≡◌, ℕ, ◌+◌, ◌<◌, ◌≤◌, ◌^◌, List, [], ◌∷◌, ◌++◌, ◌↔◌, IsTrue, false, length, IfOk};
 ghost use Rattle.bt_answers.specs.Answers.{UnlessMemory};
 ghost use Rattle.bt_text.specs.Lines.{Lacks};
+ghost use Rattle.bt_cnf.specs.Formulas.{IsFormula};
 ghost use Rattle.bt_cert.specs.Certificates.{IsCertRead};
-ghost use Rattle.bt_cert.specs.Checking.{start_of};
+ghost use Rattle.bt_cert.specs.inner.Checking.{start_of};
 ghost use Rattle.bt_cert.specs.declared.fault.CertFault.TheVariants.{Memory};
 ghost use Rattle.bt_cert.specs.declared.stage.Stage.TheVariants.{Steps, Blanks};
 ghost use Rattle.bt_cert.specs.inner.Lines.{IsFound};
@@ -59,6 +60,7 @@ impl<'a> Reading<'a> {
         ensures formula { IfOk result (λ r. r.known.formula ≡ formula.now) }
         ensures line { IfOk result (λ r. r.line ≡ FIRST_LINE) }
         ensures read { IfOk result (HasRead []) }
+        ensures known { IfOk result (λ _. IsFormula formula.now) }
     {
         Ok(Reading {
             checker: Checker::new(alloc, formula)?,

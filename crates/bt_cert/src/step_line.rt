@@ -2,7 +2,7 @@
 ghost use Rattle.std.specs.Prelude.{◌≡◌, [], ◌∷◌, IfOk};
 ghost use Rattle.bt_cert.specs.StepLines.{Lemma, IsWritten};
 ghost use Rattle.bt_cert.specs.inner.Lines.{IsStepRead};
-ghost use Rattle.bt_cert.specs.Views.{written_of};
+ghost use Rattle.bt_cert.specs.inner.Views.{written_of};
 
 use crate::items::read_items;
 use crate::written::{StepKind, WrittenLit, WrittenView};
@@ -21,7 +21,8 @@ pub struct StepLine {
 }
 
 impl Model for StepLine {
-    ghost use Rattle.bt_cert.specs.StepLines.{WrittenStep, step_of_kind, AreWritten};
+    ghost use Rattle.bt_cert.specs.StepLines.{WrittenStep};
+    ghost use Rattle.bt_cert.specs.inner.Views.{step_of_kind, AreWritten};
 
     ghost Value = { WrittenStep };
 

@@ -79,7 +79,8 @@ impl Formula {
 
     /// The number of variables.
     pub fn vars(&self) -> usize
-        ensures { result ≡ self.now.vars }
+        ensures value { result ≡ self.now.vars }
+        ensures known { IsFormula self.now }
     {
         self.places.len()
     }

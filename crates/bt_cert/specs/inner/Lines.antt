@@ -2,7 +2,7 @@
 use Rattle.std.specs.Prelude.{◌≡◌, ◌≢◌, ℕ, List, Bool, true, false, Ok, Err}
 use Rattle.bt_cert.specs.StepLines.{WrittenStep, IsWritten, written_text}
 use Rattle.bt_cert.specs.Certificates.{SpellsNoStep, end_line}
-use Rattle.bt_cert.specs.Checking.{Checking, JudgesStep}
+use Rattle.bt_cert.specs.inner.Checking.{Checking, JudgesStep}
 use Rattle.bt_cert.specs.declared.fault.StepFault.TheVariants as fault
 use Rattle.bt_cert.specs.declared.line.Found.{Found}
 use Rattle.bt_cert.specs.declared.line.Found.TheVariants.{End, Step, Other, Refused}

@@ -5,7 +5,7 @@ use Rattle.bt_cnf.specs.Formulas.{LitsBelow, IsFormula}
 use Rattle.bt_cnf.specs.declared.literal.Lit.{Lit}
 use Rattle.bt_log.specs.Units.{HasNoBothSigns, UnitsRefute}
 use Rattle.bt_log.specs.Validity.{clause_at, IsValidLearnt}
-use Rattle.bt_cert.specs.Checking.{Checking}
+use Rattle.bt_cert.specs.inner.Checking.{Checking}
 use Rattle.bt_cert.specs.Judging.{FailsLearnt}
 use Rattle.bt_cert.specs.declared.fault.StepFault.{StepFault}
 use Rattle.bt_cert.specs.declared.fault.StepFault.TheVariants as fault

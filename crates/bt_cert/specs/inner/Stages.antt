@@ -8,7 +8,7 @@ use Rattle.bt_text.specs.Lines.{Lacks, line, line_feeds}
 use Rattle.bt_log.specs.Refuting.{EndsEmpty}
 use Rattle.bt_cert.specs.StepLines.{WrittenStep, written_text}
 use Rattle.bt_cert.specs.Certificates.{AreRight, IsCertRead, clauses_after, line_after, log_of, end_line}
-use Rattle.bt_cert.specs.Checking.{Checking}
+use Rattle.bt_cert.specs.inner.Checking.{Checking}
 use Rattle.bt_cert.specs.declared.fault.StepFault.{StepFault}
 use Rattle.bt_cert.specs.declared.fault.StepFault.TheVariants as step_fault
 use Rattle.bt_cert.specs.declared.fault.CertFault.{CertFault}

@@ -21,7 +21,7 @@ returns-then-count-eq0 g c =
     let source = passage g.S.Source.left g.S.Source.faults c.args.source.now c.read.new.self in
     let cause = c.in-Ok.ensures.cause in
     record {
-      checked = fed_whole c.args.formula.now c.rows.ensures.known c.args.head.now c.args.limit c.loop-taken.taken source (g.S.Source.left c.loop-taken.source)
+      checked = fed_whole c.args.formula.now c.in_ok-reading.ensures.known c.args.head.now c.args.limit c.loop-taken.taken source (g.S.Source.left c.loop-taken.source)
           c.loop-taken.reading c.finish.result c.loop-taken.invariant.fed
           (subst (λ n. Consumes (g.S.Source.left c.loop-taken.source) (g.S.Source.left c.read.new.self) (take n c.read.new.buf)) none c.in-Ok.ensures.bytes.0)
           (c.in-Ok.ensures.bytes.1 none some) c.loop-taken-test.true c.finish.ensures;

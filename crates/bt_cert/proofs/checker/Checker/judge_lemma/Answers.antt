@@ -1,6 +1,6 @@
 use Rattle.std.proofs.Common.{map, Ok, Err, ap, sym, subst, ◌∙◌}
 use Rattle.bt_cnf.specs.Formulas.{LitsBelow, IsFormula}
-use Rattle.bt_cert.specs.Checking.{Checking}
+use Rattle.bt_cert.specs.inner.Checking.{Checking}
 use Rattle.bt_cert.specs.StepLines.{lit_of}
 use Rattle.bt_cert.specs.inner.Knowing.{AddsClause}
 use Rattle.bt_cert.specs.inner.Reading.{AreRead}

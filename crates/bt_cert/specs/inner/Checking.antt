@@ -2,9 +2,8 @@
 use Rattle.std.specs.Prelude.{◌≡◌, List, [], ◌∷◌, ◌++◌, Bool, IsTrue, ◌↔◌, Result, Ok, Err}
 use Rattle.bt_cnf.specs.Formulas.{FormulaParts}
 use Rattle.bt_cnf.specs.declared.literal.Lit.{Lit}
-use Rattle.bt_log.specs.Logs.{clause_of}
-use Rattle.bt_cert.specs.StepLines.{WrittenStep, step_of}
-use Rattle.bt_cert.specs.Judging.{Valid, Fails, IsWideAt, IsJudged}
+use Rattle.bt_cert.specs.StepLines.{WrittenStep, written_clause}
+use Rattle.bt_cert.specs.inner.Judgements.{Valid, Fails, IsWideAt, IsJudged}
 use Rattle.bt_cert.specs.declared.fault.StepFault.{StepFault}
 use Rattle.bt_cert.specs.declared.fault.StepFault.TheVariants as fault
 
@@ -16,10 +15,6 @@ pub record Checking : Type 0 where
 -- what is known before the first step
 abbrev pub start_of : FormulaParts → Checking
 start_of f = record { formula = f; clauses = f.clauses }
-
--- the clause that a written step adds
-abbrev pub written_clause : WrittenStep → List Lit
-written_clause written = clause_of (step_of written)
 
 -- what is known after one more step
 abbrev pub with_step : Checking → WrittenStep → Checking
