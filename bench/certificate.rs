@@ -11,6 +11,9 @@ const CHAIN: usize = 100_000;
 /// The columns of the formula of differences.
 const COLUMNS: usize = 30;
 
+/// The columns of the formula of the ring.
+const RING: usize = 100_000;
+
 type Literal = (usize, bool);
 
 #[derive(Clone, Copy, PartialEq)]
@@ -113,23 +116,28 @@ fn implications() -> Formula {
     Formula { variables: CHAIN, clauses, rows: (0..CHAIN).map(|_| None).collect() }
 }
 
-/// For each two columns, a variable that says that the first is at least 1 more than the second; all are true.
+/// The first column is at least 1 more than the second.
+fn difference(first: usize, second: usize) -> Row {
+    let sign = if first < second { 1 } else { -1 };
+    let terms = vec![(first.min(second), Fraction::whole(sign)), (first.max(second), Fraction::whole(-sign))];
+    Row { terms, bound: Fraction::whole(1) }
+}
+
+/// A variable for each row, and all are true.
+fn all_true(rows: impl Iterator<Item = Row>) -> Formula {
+    let rows: Vec<Option<Row>> = rows.map(Some).collect();
+    Formula { variables: rows.len(), clauses: (0..rows.len()).map(|v| vec![(v, true)]).collect(), rows }
+}
+
+/// A row for each two columns.
 fn differences() -> Formula {
-    let mut formula = Formula { variables: COLUMNS * (COLUMNS - 1), clauses: vec![], rows: vec![] };
-    for first in 0..COLUMNS {
-        for second in (0..COLUMNS).filter(|&second| second != first) {
-            let sign = if first < second { 1 } else { -1 };
-            formula.clauses.push(vec![(formula.rows.len(), true)]);
-            formula.rows.push(Some(Row {
-                terms: vec![
-                    (first.min(second), Fraction::whole(sign)),
-                    (first.max(second), Fraction::whole(-sign)),
-                ],
-                bound: Fraction::whole(1),
-            }));
-        }
-    }
-    formula
+    let others = |first| (0..COLUMNS).filter(move |&second| second != first).map(move |second| difference(first, second));
+    all_true((0..COLUMNS).flat_map(others))
+}
+
+/// A row for each column and the next, and after the last comes the first.
+fn ring() -> Formula {
+    all_true((0..RING).map(|first| difference(first, (first + 1) % RING)))
 }
 
 /// The clauses of the steps so far, one after another in one list.
@@ -287,6 +295,7 @@ fn main() {
     let formula = match env::args().nth(1).as_deref() {
         Some("implications") => implications(),
         Some("differences") => differences(),
+        Some("ring") => ring(),
         _ => return println!("usage: certificate FORMULA"),
     };
     let values = vec![None; formula.variables];

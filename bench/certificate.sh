@@ -1,7 +1,8 @@
 #!/usr/bin/env bash
-# Times the checker of certificates on 100 MB of hinted steps and on 20 MB of lemmas, against a plain Rust program that
-# checks the same (bench/certificate.rs, compiled by `rustc -O`), and on twice as much, and prints the ratios and the
-# most memory that it takes. Both print that the formula is refuted, and the script compares it.
+# Times the checker of certificates on 100 MB of hinted steps, on 20 MB of lemmas, and on one lemma of 20 MB over many
+# columns, against a plain Rust program that checks the same (bench/certificate.rs, compiled by `rustc -O`), and on
+# twice as much, and prints the ratios and the most memory that it takes. Both print that the formula is refuted, and
+# the script compares it.
 set -euo pipefail
 top=$(cd "$(dirname "${BASH_SOURCE[0]}")/.." && pwd)
 folder=$(mktemp -d)
@@ -14,7 +15,8 @@ import os, random, resource, subprocess, sys
 ours, theirs, folder = sys.argv[1:]
 CHAIN = 100_000
 COLUMNS = 30
-SIZES = {"implications": 100_000_000, "differences": 20_000_000}
+RING = 100_000
+SIZES = {"implications": 100_000_000, "differences": 20_000_000, "ring": 20_000_000}
 
 
 def implied(chance):
@@ -37,6 +39,18 @@ def round_about(chance):
     return f"f {' '.join(map(str, literals))} 0 {' '.join(map(str, weights))}\n"
 
 
+def ring_lemma(chance, size):
+    """One lemma: rounds of the ring, each with another weight."""
+    literals = " ".join(str(-number) for number in range(1, RING + 1))
+    rounds = size // (len(literals) + 3 * RING) + 1
+    weights = (" ".join([str(chance.randrange(10, 100))] * RING) for _ in range(rounds))
+    return f"f {' '.join([literals] * rounds)} 0 {' '.join(weights)}\n"
+
+
+def ring_end():
+    return f"r 0 {' '.join(map(str, range(1, RING + 2)))} 0\nend\n"
+
+
 def chain_end():
     hints = [CHAIN, *range(1, CHAIN), CHAIN + 1]
     return f"r 0 {' '.join(map(str, hints))} 0\nend\n"
@@ -53,8 +67,11 @@ def write(name, size):
     """A certificate of so many bytes; gives its path."""
     chance = random.Random(1)
     path = os.path.join(folder, f"{name}-{size}")
-    step = {"implications": implied, "differences": round_about}[name]
     with open(path, "w") as file:
+        if name == "ring":
+            file.write(ring_lemma(chance, size) + ring_end())
+            return path
+        step = {"implications": implied, "differences": round_about}[name]
         if name == "differences":
             file.write(f"f -{number_of(0, 1)} -{number_of(1, 0)} 0 1 1\n")
         while file.tell() < size:

@@ -12,11 +12,15 @@ const CHAIN: usize = 100_000;
 /// The columns of the formula of differences.
 const COLUMNS: usize = 30;
 
+/// The columns of the formula of the ring.
+const RING: usize = 100_000;
+
 /// The formula of this name.
 pub fn formula_named(alloc: Global, name: &str) -> Result<Option<Formula>, AllocError> {
     match name {
         "implications" => Ok(Some(implications(alloc)?)),
-        "differences" => Ok(Some(differences(alloc)?)),
+        "differences" => Ok(Some(all_true(alloc, difference_rows(alloc)?)?)),
+        "ring" => Ok(Some(all_true(alloc, ring_rows(alloc)?)?)),
         _ => Ok(None),
     }
 }
@@ -32,11 +36,10 @@ fn implications(alloc: Global) -> Result<Formula, AllocError> {
     Ok(formula)
 }
 
-/// For each two columns, a variable that says that the first is at least 1 more than the second; all are
-/// true.
-fn differences(alloc: Global) -> Result<Formula, AllocError> {
-    let mut formula = Formula::new(alloc, COLUMNS * (COLUMNS - 1))?;
-    set_atoms(&mut formula, difference_rows(alloc)?)?;
+/// A variable for each row, and all are true.
+fn all_true(alloc: Global, rows: Vec<Row>) -> Result<Formula, AllocError> {
+    let mut formula = Formula::new(alloc, rows.len())?;
+    set_atoms(&mut formula, rows)?;
     for place in 0..formula.vars() {
         add_clause(alloc, &mut formula, &[(place, true)])?;
     }
@@ -89,6 +92,17 @@ fn difference_rows(alloc: Global) -> Result<Vec<Row>, AllocError> {
             if let Some(row) = difference(alloc, first, second)? {
                 rows.push(row)?;
             }
+        }
+    }
+    Ok(rows)
+}
+
+/// A row for each column and the next, and after the last comes the first.
+fn ring_rows(alloc: Global) -> Result<Vec<Row>, AllocError> {
+    let mut rows = Vec::new(alloc);
+    for first in 0..RING {
+        if let Some(row) = difference(alloc, first, (first + 1) % RING)? {
+            rows.push(row)?;
         }
     }
     Ok(rows)
