@@ -6,7 +6,7 @@ use Rattle.bt_text.specs.Lines.{Lacks}
 use Rattle.bt_text.specs.Pieces.{BeginsWith}
 use Rattle.bt_log.specs.LogText.{words}
 use Rattle.bt_cert.specs.inner.Items.{LeadsToItem, LeadsToNone, HaveNoSpace, StopsAfter}
-use Rattle.bt_cert.proofs.Pieces.{piece_is}
+use Rattle.bt_text.proofs.Pieces.{piece_is}
 
 -- the word of the first item, and what follows it
 first_word : {A : Type 0} (word : A → List ℕ) (x : A) (xs : List A) (rest : List ℕ) → words word (x ∷ xs) ++ rest ≡ 32 ∷ (word x ++ (words word xs ++ rest))

@@ -4,12 +4,10 @@ pub mod AtomRows
 pub mod CertificateLines
 pub mod Endings
 pub mod Feeding
-pub mod FracTexts
 pub mod ItemLists
 pub mod Numbers
 pub mod OneAnswer
 pub mod OneJudgement
-pub mod Pieces
 pub mod Printed
 pub mod Stages
 pub mod Stepped

@@ -15,9 +15,9 @@ use Rattle.bt_cert.specs.declared.written.WrittenLit.{WrittenLit}
 use Rattle.bt_cert.specs.Certificates.{SpellsNoStep}
 use Rattle.bt_cert.specs.inner.Lines.{IsStepRead}
 use Rattle.bt_cert.specs.inner.Items.{LeadsToNone, HaveNoSpace, StopsAfter}
-use Rattle.bt_cert.proofs.Pieces.{piece_is}
+use Rattle.bt_text.proofs.Pieces.{piece_is}
 use Rattle.bt_cert.proofs.Numbers.{number_lacks, number_same, number_not_zero, lit_lacks, lit_same, lit_not_zero}
-use Rattle.bt_cert.proofs.FracTexts.{frac_text_lacks}
+use Rattle.bt_frac.proofs.FracTexts.{frac_text_lacks}
 use Rattle.bt_cert.proofs.ItemLists.{words_begin, words_same, words_lack, map_same, stops_at}
 
 -- texts with other first bytes are apart

@@ -21,7 +21,8 @@ use Rattle.bt_flow.specs.StateLines.{SpellsFractions, SpellsMarks, Follows, just
 use Rattle.bt_answers.specs.Answers.{HasOneAnswer}
 use Rattle.bt_flow.specs.declared.fault.StateFault.TheVariants.{CertLine, Memory}
 use Rattle.bt_flow.specs.StateReading.{IsStateRead}
-use Rattle.bt_flow.proofs.Words.{piece_is, spaced_begins}
+use Rattle.bt_text.proofs.Pieces.{piece_is}
+use Rattle.bt_flow.proofs.Words.{spaced_begins}
 use Rattle.bt_frac.proofs.Words.{frac_text_same}
 use Rattle.bt_flow.proofs.FracTexts.{frac_text_lacks, frac_text_in_line}
 use Rattle.bt_flow.proofs.MarkTexts.{mark_same, mark_lacks, mark_in_line}

@@ -1,38 +1,14 @@
--- Pieces of a text, and words of a line, each after a space.
+-- Words of a line, each after a space.
 use Rattle.std.proofs.Common.{◌≡◌, ◌≢◌, ℕ, ◌+◌, ◌-◌, ◌<◌, List, [], ◌∷◌, ◌++◌, length, map, refl, sym, ◌∙◌, ap, inl, inr, arith, append_assoc, append-nil}
 use Rattle.std.specs.List.{All}
 use Rattle.std.proofs.lemmas.List.{length_push, map_push}
 use Rattle.std.proofs.lemmas.List.Elements.{All-head, All-tail, All-push}
 use Rattle.bt_text.specs.Lines.{Lacks}
-use Rattle.bt_text.specs.Pieces.{BeginsWith, LeadsTo}
+use Rattle.bt_text.specs.Pieces.{BeginsWith}
+use Rattle.bt_text.proofs.Pieces.{piece_is}
 use Rattle.bt_flow.specs.StateText.{spaced}
 use Rattle.bt_flow.specs.StateLines.{SpellsItems}
 use Rattle.bt_flow.specs.inner.Lines.{HaveNoSpace, LeadsToItem}
-
--- a rest that begins with the byte begins with no other
-ends_apart : (byte : ℕ) (rest : List ℕ) (other : ℕ) (more : List ℕ) → BeginsWith byte rest → other ≢ byte → rest ≡ other ∷ more → ⊥
-ends_apart byte rest other more begins apart e = elim begins [ inl none ↦ cc | inr found ↦ let same = found.1 in apart cc ]
-
--- a text has one piece before a byte
-pub piece_is : (byte : ℕ) (a x b y : List ℕ) → Lacks byte a → Lacks byte b → BeginsWith byte x → BeginsWith byte y → a ++ x ≡ b ++ y
-    → (a ≡ b) × (x ≡ y)
-piece_is byte [] x [] y lacks lacks' begins begins' e = (refl, e)
-piece_is byte [] x (d ∷ b) y lacks lacks' begins begins' e =
-    absurd (ends_apart byte x d (b ++ y) begins (All-head (λ o. o ≢ byte) d b lacks') e)
-piece_is byte (c ∷ a) x [] y lacks lacks' begins begins' e =
-    absurd (ends_apart byte y c (a ++ x) begins' (All-head (λ o. o ≢ byte) c a lacks) (sym e))
-piece_is byte (c ∷ a) x (d ∷ b) y lacks lacks' begins begins' e =
-    let heads : c ≡ d = cc in
-    let tails : a ++ x ≡ b ++ y = cc in
-    let more = piece_is byte a x b y (All-tail (λ o. o ≢ byte) c a lacks) (All-tail (λ o. o ≢ byte) d b lacks') begins begins' tails in
-    let fronts = more.0 in
-    (cc, more.1)
-
--- a text has one piece after a byte
-pub piece_apart : (byte : ℕ) (text a x b y : List ℕ) → LeadsTo byte text a x → LeadsTo byte text b y → a ≡ b
-piece_apart byte text a x b y h k =
-    let same : a ++ x ≡ b ++ y = let e = h.text_is in let f = k.text_is in cc in
-    (piece_is byte a x b y h.lacks k.lacks h.begins k.begins same).0
 
 -- words after spaces are nothing, or begin with a space
 pub spaced_begins : (words : List (List ℕ)) → BeginsWith 32 (spaced words)

@@ -1,5 +1,6 @@
 pub mod Divisions
 pub mod Euclid
+pub mod FracTexts
 pub mod Gcds
 pub mod Numerals
 pub mod Order

@@ -1,6 +1,6 @@
 use Rattle.std.proofs.Common.{Option, None, Some}
 use Rattle.std.specs.Option.{IfNone}
-use Rattle.bt_cert.proofs.Pieces.{piece_apart}
+use Rattle.bt_text.proofs.Pieces.{piece_apart}
 use Rattle.bt_cert.proofs.items.next_item.Goals as goal
 
 if_none : {X : Type 0} (P : Type 0) (r : Option X) → P → IfNone r P
