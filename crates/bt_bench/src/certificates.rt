@@ -3,7 +3,10 @@ ghost use Rattle.std.specs.Prelude.{◌≡◌, ◌<◌, [], OnOk};
 ghost use Rattle.std.specs.List.{All};
 
 use bt_cnf::{Formula, Lit};
+use bt_fenc::encode;
+use bt_flow::Property;
 use bt_frac::{Frac, Relation, Row};
+use bt_net::read;
 use std::alloc::{AllocError, Global};
 
 /// The variables of the formula of implications.
@@ -15,13 +18,21 @@ const COLUMNS: usize = 30;
 /// The columns of the formula of the ring.
 const RING: usize = 100_000;
 
-/// The formula of this name.
+/// The formula of this name, or of the network of this text and the property `unlimited`.
 pub fn formula_named(alloc: Global, name: &str) -> Result<Option<Formula>, AllocError> {
     match name {
         "implications" => Ok(Some(implications(alloc)?)),
         "differences" => Ok(Some(all_true(alloc, difference_rows(alloc)?)?)),
         "ring" => Ok(Some(all_true(alloc, ring_rows(alloc)?)?)),
-        _ => Ok(None),
+        _ => flow_formula(alloc, name.as_bytes()),
+    }
+}
+
+/// The formula of a network, where the text is that of one, and the property `unlimited`.
+fn flow_formula(alloc: Global, text: &[u8]) -> Result<Option<Formula>, AllocError> {
+    match read(alloc, text) {
+        Ok(read) => Ok(Some(encode(alloc, &read.net, Property::Unlimited)?)),
+        Err(_) => Ok(None),
     }
 }
 

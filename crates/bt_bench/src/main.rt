@@ -1,7 +1,7 @@
 //! Loops that time the crates, for the scripts of bench/. The first word names the loop, and the
 //! second is the number of rounds. The loops over JSON and over a blueprint read their text from
 //! standard input. `check` checks the steps of a log on standard input against the formula that the
-//! second word names.
+//! second word names, or against the flow formula of the network whose text it is.
 #![tactic(auto)]
 
 mod certificates;
