@@ -1,9 +1,19 @@
 //! Texts that are made: of many names, of many kinds of objects, and of as many levels as there may be.
-use super::members::last_member;
-use super::{Told, answer, told_of};
-use crate::{JsonFault, MOST_LEVELS, read};
+use super::answer;
+use crate::{JsonFault, MOST_LEVELS, Tree, read};
 use std::alloc::Global;
 use std::test::Fail;
+
+/// The member of that name of a list's last object, where it is a whole number.
+fn last_member(tree: &Tree, name: &str) -> Option<u64> {
+    let Tree::List(items) = tree else {
+        return None;
+    };
+    match items.last()?.member(name)? {
+        Tree::Num(number) => number.whole(),
+        _ => None,
+    }
+}
 
 /// Objects of more kinds than the reader keeps the names of.
 #[test]
@@ -30,6 +40,14 @@ fn numbered(alloc: Global, count: u64) -> Result<String, Fail> {
     Ok(text)
 }
 
+/// Whether a member is this text.
+fn has_text(member: Option<&Tree>, wanted: &str) -> bool {
+    match member {
+        Some(Tree::Text(text)) => text.as_str() == wanted,
+        _ => false,
+    }
+}
+
 #[test]
 fn many_names(rt: HostRuntime) -> Result<(), Fail> {
     let alloc = rt.alloc();
@@ -38,8 +56,7 @@ fn many_names(rt: HostRuntime) -> Result<(), Fail> {
         let (tree, _) = read(alloc, format!(in alloc; "{front}}}")?.as_bytes())?;
         for number in 0..count {
             let name = format!(in alloc; "{number}")?;
-            let member = tree.member(&name).map(told_of);
-            assert!(rt; member == Some(Told::Text(&name)), "{name} of {count}");
+            assert!(rt; has_text(tree.member(&name), &name), "{name} of {count}");
             let twice = format!(in alloc; "{front}, \"{name}\"")?;
             let told = answer(alloc, twice.as_bytes());
             let wanted = Err(JsonFault::DuplicateKey(front.len().saturating_add(2)));
