@@ -11,21 +11,6 @@ use std::test::Fail;
 // A step's line, and what is answered to it.
 type Judged = (&'static [u8], Result<bool, StepFault>);
 
-const LEARNT: [Judged; 12] = [
-    (b"r 0 1 2 3 0", Err(StepFault::Fails(Cause::Unit))),
-    (b"f -1 0 1", Err(StepFault::Fails(Cause::Literal))),
-    (b"r 1 -1 0 1 0", Err(StepFault::Fails(Cause::Literal))),
-    (b"r 3 0 9 0", Err(StepFault::Fails(Cause::Literal))),
-    (b"r 0 4 0", Err(StepFault::Fails(Cause::Hint))),
-    (b"r 0 1 5 0", Err(StepFault::Fails(Cause::Hint))),
-    (b"r 0 0", Err(StepFault::Fails(Cause::Unit))),
-    (b"r 0 1 0", Err(StepFault::Fails(Cause::Unit))),
-    (b"r 2 0 3 1 0", Err(StepFault::Fails(Cause::Unit))),
-    (b"r 2 2 0 2 1 0", Ok(false)),
-    (b"r 0 4 3 0", Ok(true)),
-    (b"r 0 5 0", Ok(true)),
-];
-
 const LEMMAS: [Judged; 8] = [
     (b"f 1 -2 0 1 1", Err(StepFault::Fails(Cause::Literal))),
     (b"f -1 -2 0 1", Err(StepFault::Fails(Cause::Weight))),
@@ -55,15 +40,6 @@ fn add_clause(
     }
     formula.add_clause(&lits)?;
     Ok(true)
-}
-
-// The clauses `1 2`, `-1` and `-2`.
-fn two_variables(alloc: Global) -> Result<Formula, Fail> {
-    let mut formula = Formula::new(alloc, 2)?;
-    add_clause(alloc, &mut formula, &[lit(1, true), lit(2, true)])?;
-    add_clause(alloc, &mut formula, &[lit(1, false)])?;
-    add_clause(alloc, &mut formula, &[lit(2, false)])?;
-    Ok(formula)
 }
 
 // The row that says that the column 0 times this is at least a bound.
@@ -106,14 +82,6 @@ fn answers(alloc: Global, formula: &Formula, table: &[Judged]) -> Result<bool, A
         }
     }
     Ok(true)
-}
-
-#[test]
-fn judges_learnt_clauses(rt: HostRuntime) -> Result<(), Fail> {
-    let formula = two_variables(rt.alloc())?;
-    let is_right = answers(rt.alloc(), &formula, &LEARNT)?;
-    assert!(rt; formula.clauses() == 3 && is_right);
-    Ok(())
 }
 
 #[test]

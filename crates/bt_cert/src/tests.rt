@@ -45,8 +45,9 @@ fn answer(
 }
 
 // Texts, and what is answered to them.
-const TEXTS: [(&str, Result<(), CertFault>); 28] = [
+const TEXTS: [(&str, Result<(), CertFault>); 30] = [
     ("r 0 2 3 1 0\nend\n", Ok(())),
+    ("r 2 2 0 2 1 0\nr 0 4 3 0\nend\n", Ok(())),
     ("r 0 2 3 1 0\nend", Ok(())),
     ("r 0 2 3 1 0\nend\n \t\r\n\n", Ok(())),
     ("r 1 0 3 1 0\nr 0 2 4 0\nend\n", Ok(())),
@@ -68,6 +69,10 @@ const TEXTS: [(&str, Result<(), CertFault>); 28] = [
         Err(CertFault::BadStep(2, Cause::Literal)),
     ),
     ("r 0 4 0\nend\n", Err(CertFault::BadStep(2, Cause::Hint))),
+    (
+        "r 2 0 3 1 0\nend\n",
+        Err(CertFault::BadStep(2, Cause::Unit)),
+    ),
     ("f 0 1\nend\n", Err(CertFault::BadStep(2, Cause::Weight))),
     ("f 0\nend\n", Err(CertFault::BadStep(2, Cause::Sum))),
     ("r 0 0\nend\n", Err(CertFault::BadStep(2, Cause::Unit))),
@@ -108,32 +113,25 @@ fn answers_the_first_fault(rt: HostRuntime) -> Result<(), Fail> {
 
 const CERTIFICATE: &[u8] = b"r 1 0 3 1 0\nr 0 2 4 0\nend\n";
 
+// The answer to so many bytes of the certificate.
+fn wanted_of(length: usize) -> Result<(), CertFault> {
+    match length {
+        0..11 => Err(CertFault::CertLine(2)),
+        11..21 => Err(CertFault::CertLine(3)),
+        21..25 => Err(CertFault::CertLine(4)),
+        _ => Ok(()),
+    }
+}
+
 #[test]
 fn joins_head_and_source(rt: HostRuntime) -> Result<(), Fail> {
     let formula = formula(rt.alloc())?;
     for at in 0..CERTIFICATE.len() {
         let (head, bytes) = CERTIFICATE.split_at(at);
-        let told = answer(rt.alloc(), &formula, head, bytes, 3, bytes.len())?;
-        assert!(rt; told == Ok(()));
-        let told = answer(rt.alloc(), &formula, head, bytes, 3, bytes.len() - 1)?;
-        assert!(rt; told == Err(CertFault::TooLong));
-    }
-    Ok(())
-}
-
-#[test]
-fn refuses_what_is_cut(rt: HostRuntime) -> Result<(), Fail> {
-    let formula = formula(rt.alloc())?;
-    for length in 0..CERTIFICATE.len() {
-        let (text, _) = CERTIFICATE.split_at(length);
-        let wanted = match length {
-            0..11 => Err(CertFault::CertLine(2)),
-            11..21 => Err(CertFault::CertLine(3)),
-            21..25 => Err(CertFault::CertLine(4)),
-            _ => Ok(()),
-        };
-        let told = answer(rt.alloc(), &formula, text, b"", 1, 0)?;
-        assert!(rt; told == wanted);
+        let whole = answer(rt.alloc(), &formula, head, bytes, 3, bytes.len())?;
+        let short = answer(rt.alloc(), &formula, head, bytes, 3, bytes.len() - 1)?;
+        let cut = answer(rt.alloc(), &formula, head, b"", 1, 0)?;
+        assert!(rt; whole == Ok(()) && short == Err(CertFault::TooLong) && cut == wanted_of(at));
     }
     Ok(())
 }
