@@ -1,12 +1,15 @@
-//! What a layout of belts means: which part hands to which, and the network that it shows.
+//! What a layout of belts means: which part hands to which, the network that it shows, and the requests
+//! that it meets.
 #![tactic(auto)]
 
 mod giving;
 mod laws;
 mod plain;
+mod request;
 mod ringing;
 
 pub use giving::{hands, pair};
 pub use laws::{numbered_shows, one_network};
 pub use plain::is_kind;
+pub use request::{MOST_ACROSS, MOST_REQUESTED, Request};
 pub use ringing::ring;

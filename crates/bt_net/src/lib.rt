@@ -15,7 +15,7 @@ mod words;
 pub use fault::NetFault;
 pub use law::{one_net, printed_is_read};
 pub use net::Net;
-pub use network::{Edge, End, MOST_CAP, MOST_OF_EACH, Pin, Start, Target};
+pub use network::{Block, Edge, End, MOST_CAP, MOST_OF_EACH, Pin, Start, Target};
 pub use printing::print;
 pub use reading::{NetRead, read};
 pub use std::alloc::AllocError as Memory;

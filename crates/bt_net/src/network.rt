@@ -1,6 +1,8 @@
 //! What a network of splitters is made of: ends, edges between them, and the cells where its ends
 //! stand.
 
+use bt_parts::Dir;
+
 /// The most inputs, outputs, splitters and edges that a network has, of each kind.
 pub const MOST_OF_EACH: usize = 2048;
 
@@ -38,11 +40,20 @@ pub enum End {
     Output(u32),
 }
 
-/// A cell on which the first part of an input or the last part of an output stands, and the line
-/// of the text, from 1, that says so.
+/// A cell on which the first part of an input or the last part of an output stands, which points in the
+/// direction where one is named; and the line of the text, from 1, that says so.
 #[derive(Clone, Copy, PartialEq, Eq)]
 pub struct Pin {
     pub end: End,
+    pub x: u32,
+    pub y: u32,
+    pub dir: Option<Dir>,
+    pub line: usize,
+}
+
+/// A cell on which no part stands, and the line of the text, from 1, that says so.
+#[derive(Clone, Copy, PartialEq, Eq)]
+pub struct Block {
     pub x: u32,
     pub y: u32,
     pub line: usize,
