@@ -2,12 +2,15 @@
 //! that it meets.
 #![tactic(auto)]
 
+mod fault;
 mod giving;
 mod laws;
 mod plain;
+mod refusing;
 mod request;
 mod ringing;
 
+pub use fault::RequestFault;
 pub use giving::{hands, pair};
 pub use laws::{numbered_shows, one_network};
 pub use plain::is_kind;

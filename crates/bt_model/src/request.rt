@@ -1,6 +1,9 @@
 //! Requests for a layout as values: what was checked once, each call above may rely on.
 ghost use Rattle.std.specs.Prelude.{◌≡◌};
+ghost use Rattle.bt_answers.specs.Answers.{AnswersAlways};
 
+use crate::fault::RequestFault;
+use crate::refusing::{other_cap, refused_block, refused_pin};
 use bt_net::{Block, Net, Pin};
 use bt_parts::{Rect, Tier};
 use std::marker::Model;
@@ -38,7 +41,41 @@ impl Model for Request {
 }
 
 impl Request {
-    ghost use Rattle.bt_model.specs.Requests.{IsRequest};
+    ghost use Rattle.bt_model.specs.Requests.{IsGrid, IsRequest, request_of};
+    ghost use Rattle.bt_model.specs.RequestFaults.{IsMade};
+
+    /// The request for these, or the first cause in the order of `RequestFault` why there is none. It
+    /// takes no memory.
+    pub fn new(
+        net: Net,
+        rect: Rect,
+        tier: Tier,
+        pins: Vec<Pin>,
+        blocks: Vec<Block>,
+    ) -> Result<Request, RequestFault>
+        requires { IsGrid rect }
+        ensures { AnswersAlways (IsMade (request_of net rect tier pins.items blocks.items)) result }
+    {
+        if net.edges().len() > MOST_REQUESTED || net.splitters() as usize > MOST_REQUESTED {
+            return Err(RequestFault::TooLarge);
+        }
+        if let Some(edge) = other_cap(&net) {
+            return Err(RequestFault::Cap(edge));
+        }
+        if let Some(line) = refused_pin(&net, rect, &pins) {
+            return Err(RequestFault::Pin(line));
+        }
+        if let Some(line) = refused_block(rect, &pins, &blocks) {
+            return Err(RequestFault::Block(line));
+        }
+        Ok(Request {
+            net,
+            rect,
+            tier,
+            pins,
+            blocks,
+        })
+    }
 
     /// The network that is asked for.
     pub fn net(&self) -> &Net
