@@ -11,11 +11,11 @@ use Rattle.bt_parts.specs.Cells.{IsInside}
 use Rattle.bt_net.specs.declared.network.Edge.{Edge}
 use Rattle.bt_net.specs.declared.network.End.{End}
 use Rattle.bt_net.specs.declared.network.End.TheVariants as end
-use Rattle.bt_net.specs.Network.{Network, IsNetwork}
+use Rattle.bt_net.specs.Network.{Network, IsNetwork, HasEnd}
 use Rattle.bt_model.specs.declared.fault.RequestFault.{RequestFault}
 use Rattle.bt_model.specs.declared.fault.RequestFault.TheVariants as fault
 use Rattle.bt_model.specs.declared.request.TheConstants.{MOST_REQUESTED}
-use Rattle.bt_model.specs.Requests.{LayoutRequest, cell_at, IsGrid, IsRequest, HasEnd, pinned, blocked}
+use Rattle.bt_model.specs.Requests.{LayoutRequest, cell_at, IsGrid, IsRequest, pinned, blocked}
 use Rattle.bt_model.specs.RequestFaults.{HasNone, IsLeast, IsTooLarge, HasOtherCap, IsLineOfBad, IsLaterOfTwo, IsOutOfPlace, IsPinRefused, IsPinned, IsInTheWay, IsBlockRefused, IsMade}
 
 -- an edge of another cap, as it is found

@@ -3,13 +3,13 @@ use Rattle.std.specs.Prelude.{◌≡◌, ◌≢◌, ℕ, ◌<◌, ◌≤◌, ◌
 use Rattle.bt_net.specs.declared.network.Block.{Block}
 use Rattle.bt_net.specs.declared.network.Edge.{Edge}
 use Rattle.bt_net.specs.declared.network.Pin.{Pin}
-use Rattle.bt_net.specs.Network.{Network}
+use Rattle.bt_net.specs.Network.{Network, HasEnd}
 use Rattle.bt_parts.specs.declared.part.Rect.{Rect}
 use Rattle.bt_parts.specs.Cells.{IsInside}
 use Rattle.bt_model.specs.declared.fault.RequestFault.{RequestFault}
 use Rattle.bt_model.specs.declared.fault.RequestFault.TheVariants as fault
 use Rattle.bt_model.specs.declared.request.TheConstants.{MOST_REQUESTED}
-use Rattle.bt_model.specs.Requests.{LayoutRequest, IsRequest, HasEnd, pinned, blocked}
+use Rattle.bt_model.specs.Requests.{LayoutRequest, IsRequest, pinned, blocked}
 
 -- no number has P
 abbrev pub HasNone : (ℕ → Type 0) → Type 0

@@ -1,14 +1,12 @@
 -- What a layout is asked for: a network in a rectangle, with pinned ends and blocked cells.
-use Rattle.std.specs.Prelude.{◌≡◌, ◌≢◌, ℕ, ◌<◌, ◌≤◌, pos, List, length, All, AllPairs}
+use Rattle.std.specs.Prelude.{◌≡◌, ◌≢◌, ℕ, ◌≤◌, pos, List, length, All, AllPairs}
 use Rattle.bt_parts.specs.declared.part.Cell.{Cell}
 use Rattle.bt_parts.specs.declared.part.Rect.{Rect}
 use Rattle.bt_parts.specs.declared.part.Tier.{Tier}
 use Rattle.bt_parts.specs.Cells.{IsInside}
 use Rattle.bt_net.specs.declared.network.Block.{Block}
-use Rattle.bt_net.specs.declared.network.End.{End}
-use Rattle.bt_net.specs.declared.network.End.TheVariants.{Input, Output}
 use Rattle.bt_net.specs.declared.network.Pin.{Pin}
-use Rattle.bt_net.specs.Network.{Network, IsNetwork}
+use Rattle.bt_net.specs.Network.{Network, IsNetwork, HasEnd}
 use Rattle.bt_model.specs.declared.request.TheConstants.{MOST_ACROSS, MOST_REQUESTED}
 
 -- the network to be shown, the rectangle in which the parts are to lie, their tier, the cells on which ends are to stand, and those on which no part is to stand
@@ -34,11 +32,6 @@ pinned pin = cell_at pin.x pin.y
 -- the cell that a block names
 abbrev pub blocked : Block → Cell
 blocked block = cell_at block.x block.y
-
--- the network has this end
-abbrev pub HasEnd : Network → End → Type 0
-HasEnd net (Input k) = k < net.inputs
-HasEnd net (Output k) = k < net.outputs
 
 -- from 1 to `MOST_ACROSS` cells each way
 pub record IsGrid (rect : Rect) : Type 0 where

@@ -5,7 +5,8 @@
 //! pins that are not refused there is at most one of each end, and among such blocks one of each cell.
 ghost use Rattle.std.specs.Prelude.{◌≡◌, ◌↔◌, ℕ, ◌<◌, ◌≤◌, length, max, Some, IsTrue};
 ghost use Rattle.bt_parts.specs.Cells.{IsInside};
-ghost use Rattle.bt_model.specs.Requests.{HasEnd, cell_at, pinned, blocked};
+ghost use Rattle.bt_net.specs.Network.{HasEnd};
+ghost use Rattle.bt_model.specs.Requests.{cell_at, blocked};
 ghost use Rattle.bt_model.specs.RequestFaults.{HasOtherCap, IsOutOfPlace, IsPinned, IsInTheWay};
 ghost use Rattle.bt_model.specs.RequestFaults.{IsPinRefused, IsBlockRefused};
 ghost use Rattle.bt_model.specs.inner.Least.{IsLeastIfAny, lesser, MayPrecede, IsRefusedHere};

@@ -10,6 +10,9 @@ pub const MOST_OF_EACH: usize = 2048;
 /// smallest is 1.
 pub const MOST_CAP: u32 = 4;
 
+/// The least number that is too long for a coordinate in a text, which has at most nine digits.
+pub const NO_COORDINATE: u32 = 1_000_000_000;
+
 /// Where an edge starts: at an input or at a splitter, by its number from 0.
 #[derive(Clone, Copy, Debug, PartialEq, Eq)]
 pub enum Start {
