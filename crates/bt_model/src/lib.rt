@@ -16,3 +16,6 @@ pub use laws::{numbered_shows, one_network};
 pub use plain::is_kind;
 pub use request::{MOST_ACROSS, MOST_REQUESTED, Request};
 pub use ringing::ring;
+
+#[cfg(test)]
+mod tests;
