@@ -1,8 +1,7 @@
 -- What stands behind the header of a network's text: edges, pins and blocks in one way, and then one line.
-use Rattle.std.proofs.Common.{◌≡◌, ℕ, ◌+◌, ◌<◌, ◌≤◌, ◌⊎◌, List, [], ◌∷◌, ◌++◌, length, get_or, refl, sym, ◌∙◌, ap, subst, inl, inr, ⊎_elim, arith, length-append}
+use Rattle.std.proofs.Common.{◌≡◌, ℕ, ◌+◌, ◌<◌, ◌⊎◌, List, [], length, get_or, refl, sym, ap, subst, inl, inr, ⊎_elim, arith}
 use Rattle.std.specs.Prelude.{codes}
-use Rattle.std.specs.List.{All, AllZip}
-use Rattle.bt_text.specs.Lines.{IsFirstLine, BeginsWithLines}
+use Rattle.bt_text.specs.Lines.{IsFirstLine}
 use Rattle.bt_text.proofs.FirstLines.{fork, first_line_of, IsFirstLine-unique}
 use Rattle.bt_net.specs.declared.fault.NetFault.{NetFault}
 use Rattle.bt_net.specs.declared.fault.NetFault.TheVariants.{NetLine, TooLarge, NoEnds, Memory}
@@ -10,14 +9,14 @@ use Rattle.bt_net.specs.declared.network.Block.{Block}
 use Rattle.bt_net.specs.declared.network.Edge.{Edge}
 use Rattle.bt_net.specs.declared.network.Pin.{Pin}
 use Rattle.bt_net.specs.declared.network.TheConstants.{MOST_OF_EACH}
-use Rattle.bt_net.specs.Network.{Network, IsWired, IsNetwork}
+use Rattle.bt_net.specs.Network.{Network}
 use Rattle.bt_net.specs.NetText.{IsEdgeLine}
 use Rattle.bt_net.specs.PinText.{IsPinLine, IsBlockLine}
-use Rattle.bt_net.specs.Refusals.{GoesOn, LineRefused}
-use Rattle.bt_net.specs.PinRefusals.{MayNotFollow, LineRefusedAfter, BeginsWithItems, GoesOnAfter}
+use Rattle.bt_net.specs.Refusals.{GoesOn}
+use Rattle.bt_net.specs.PinRefusals.{LineRefusedAfter, BeginsWithItems, GoesOnAfter}
 use Rattle.bt_net.specs.Wiring.{IsPartlyWired, with_edge, HasSmallSizes}
 use Rattle.bt_net.specs.inner.Lines.{SameSizes}
-use Rattle.bt_net.proofs.NetLines.{edges_fit, edges-lack, edge-ne_end, HasSmallSizes-same}
+use Rattle.bt_net.proofs.NetLines.{edges_fit, edges-lack, edge-ne_end}
 use Rattle.bt_net.proofs.Refusing.{behind}
 use Rattle.bt_net.proofs.PinSpelling.{pin_apart, block_apart, pin_first, block_first, edge_first, pin-lacks, block-lacks, some_bytes}
 use Rattle.bt_net.proofs.ItemLines.{NoMore, items_same, items_first}

@@ -2,7 +2,7 @@
 use Rattle.std.proofs.Common.{◌≡◌, ℕ, ◌+◌, ◌<◌, ◌≤◌, ◌⊎◌, List, [], ◌∷◌, ◌++◌, length, refl, sym, ◌∙◌, ap, subst, inl, inr, arith, length-append}
 use Rattle.std.specs.List.{All}
 use Rattle.std.proofs.lemmas.List.{append_assoc, append-nil}
-use Rattle.std.proofs.lemmas.List.Elements.{All-nil, All-cons, All-head, All-tail}
+use Rattle.std.proofs.lemmas.List.Elements.{All-head, All-tail}
 use Rattle.bt_text.specs.Lines.{Lacks, IsFirstLine, BeginsWithLines}
 use Rattle.bt_text.proofs.FirstLines.{first_line_of, BeginsWithLines-tail, BeginsWithLines-push, IsFirstLine-unique}
 use Rattle.bt_net.specs.PinText.{AreLinesFrom}

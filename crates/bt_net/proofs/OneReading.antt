@@ -2,12 +2,12 @@
 use Rattle.std.proofs.Common.{◌≡◌, ℕ, ◌+◌, ◌<◌, ◌≤◌, ◌-◌, ◌⊎◌, List, [], ◌∷◌, ◌++◌, length, drop, refl, sym, ◌∙◌, ap, subst, inl, inr, ⊎_elim, arith, length-append}
 use Rattle.std.specs.Prelude.{Result, Ok, Err, codes}
 use Rattle.std.specs.List.{All, AllZip, flat_map}
-use Rattle.std.proofs.lemmas.List.{append_assoc, append-nil, drop_all}
+use Rattle.std.proofs.lemmas.List.{append_assoc}
 use Rattle.std.proofs.lemmas.List.Elements.{All-nil, All-cons}
 use Rattle.std.proofs.lemmas.List.Concat.{flat_map-append}
 use Rattle.bt_answers.specs.Answers.{UnlessMemory, Answers, HasOneAnswer}
 use Rattle.bt_answers.proofs.OneAnswer.{answers_of}
-use Rattle.bt_text.specs.Lines.{Lacks, line, IsFirstLine, BeginsWithLines}
+use Rattle.bt_text.specs.Lines.{line, IsFirstLine, BeginsWithLines}
 use Rattle.bt_text.proofs.FirstLines.{BeginsWithLines-nil, first_line_of, BeginsWithLines-tail, BeginsWithLines-push, BeginsWithLines-cons, BeginsWithLines-used, IsFirstLine-unique}
 use Rattle.bt_net.specs.declared.fault.NetFault.{NetFault}
 use Rattle.bt_net.specs.declared.fault.NetFault.TheVariants.{NetLine, TooLarge, NoEnds, Memory}
@@ -15,19 +15,19 @@ use Rattle.bt_net.specs.declared.network.Block.{Block}
 use Rattle.bt_net.specs.declared.network.Edge.{Edge}
 use Rattle.bt_net.specs.declared.network.Pin.{Pin}
 use Rattle.bt_net.specs.Network.{Network, IsWired, IsNetwork, IsNetOf}
-use Rattle.bt_net.specs.NetText.{header, net_text, edge_text, IsEdgeLine}
+use Rattle.bt_net.specs.NetText.{header, net_text, IsEdgeLine}
 use Rattle.bt_net.specs.PinText.{IsPinLine, IsBlockLine}
-use Rattle.bt_net.specs.Refusals.{HeaderRefused, LineRefused, GoesOn, BeginsWithEdges}
+use Rattle.bt_net.specs.Refusals.{HeaderRefused, GoesOn}
 use Rattle.bt_net.specs.PinRefusals.{MayNotFollow, LineRefusedAfter, BeginsWithItems, GoesOnAfter, BodyRefused, RefusesAll}
 use Rattle.bt_net.specs.Readings.{Reading, BeginsWithAll, StandsAtFront, StandsPlain, IsNetRead, PrintedIsRead, whole_reading}
 use Rattle.bt_net.specs.Wiring.{HasSmallSizes}
 use Rattle.bt_net.specs.inner.Lines.{IsStarted, SameSizes, EdgesEnd, AreEdgesRead, ItemsEnd, IsEndRead}
-use Rattle.bt_net.proofs.NetLines.{lacks, header-same, HasSmallSizes-same, edges_fit, edges-lack, edge-ne_end, edge-some, header-lacks, header_stands, HasSmallSizes-network, SameSizes-header, partly_of_wired, printed_begins}
+use Rattle.bt_net.proofs.NetLines.{lacks, header-same, HasSmallSizes-same, edges_fit, edges-lack, edge-ne_end, edge-some, header-lacks, header_stands, HasSmallSizes-network, SameSizes-header, partly_of_wired}
 use Rattle.bt_net.proofs.Refusing.{header_same, line_same}
 use Rattle.bt_net.proofs.OneNet.{same_used, printed_plain}
 use Rattle.bt_net.proofs.PinSpelling.{pin_apart, block_apart, pin-lacks, block-lacks}
 use Rattle.bt_net.proofs.ItemLines.{more_lines, lines_items, items_lines}
-use Rattle.bt_net.proofs.Bodies.{Stops, end_stops, refused_stops, one_body, SameBody, pin-some, block-some}
+use Rattle.bt_net.proofs.Bodies.{end_stops, refused_stops, one_body, pin-some, block-some}
 
 -- sizes that are the same are so in both directions
 back : (m n : Network) → SameSizes m n → SameSizes n m

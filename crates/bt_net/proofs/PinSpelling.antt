@@ -1,8 +1,7 @@
 -- What the words of the lines of pins and blocks spell.
-use Rattle.std.proofs.Common.{◌≡◌, ◌≢◌, ℕ, ◌^◌, ◌<◌, ◌≤◌, List, [], ◌∷◌, ◌++◌, Option, Some, None, length, get_or, drop, refl, sym, ◌∙◌, ap, subst, arith, length-append}
+use Rattle.std.proofs.Common.{◌≡◌, ◌≢◌, ℕ, ◌^◌, ◌<◌, List, [], ◌∷◌, ◌++◌, Option, Some, None, length, get_or, drop, refl, sym, ◌∙◌, ap, subst, arith}
 use Rattle.std.specs.Prelude.{codes, decimal}
 use Rattle.std.specs.Int.{IsInRange}
-use Rattle.std.specs.List.{All}
 use Rattle.std.proofs.lemmas.List.{append_assoc, append-nil}
 use Rattle.std.proofs.lemmas.List.Elements.{All-cons, All-append, All-nil}
 use Rattle.bt_text.specs.Lines.{Lacks, SplitsAt}
@@ -17,7 +16,7 @@ use Rattle.bt_net.specs.declared.network.End.TheVariants as end
 use Rattle.bt_net.specs.declared.network.Pin.{Pin}
 use Rattle.bt_net.specs.declared.network.TheConstants.{NO_COORDINATE}
 use Rattle.bt_net.specs.Network.{Network, HasEnd}
-use Rattle.bt_net.specs.NetText.{start_text, IsEdgeLine}
+use Rattle.bt_net.specs.NetText.{IsEdgeLine}
 use Rattle.bt_net.specs.PinText.{end_text, dir_text, way_text, pin_text, block_text, IsPinLine, IsBlockLine}
 use Rattle.bt_net.specs.Wiring.{HasSmallSizes}
 use Rattle.bt_net.specs.inner.Lines.{EndFits}

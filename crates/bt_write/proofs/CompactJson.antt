@@ -1,22 +1,21 @@
 -- JSON text without blanks: texts of plain characters, numbers, and lists and objects of what has such text.
-use Rattle.std.proofs.Common.{◌≡◌, ◌≢◌, ℕ, ◌+◌, ◌*◌, ◌^◌, ◌<◌, ◌≤◌, Bool, true, false, not, ◌&&◌, List, [], ◌∷◌, ◌++◌, length, get_or, map, refl, sym, ◌∙◌, ap, subst, arith, append_assoc}
-use Rattle.std.specs.Prelude.{nat_le, nat_lt, ◌==◌, pos, negsuc, ◌-ℤ◌, min}
+use Rattle.std.proofs.Common.{◌≡◌, ℕ, ◌+◌, ◌*◌, ◌<◌, ◌≤◌, Bool, true, false, not, ◌&&◌, List, [], ◌∷◌, ◌++◌, length, map, refl, sym, subst, arith}
+use Rattle.std.specs.Prelude.{nat_le, nat_lt, ◌==◌, pos, ◌-ℤ◌, min}
 use Rattle.std.proofs.lemmas.Bool.{false≢true}
 use Rattle.std.proofs.lemmas.Bool.Decides.{nat_tests}
 use Rattle.bt_json.specs.Value.{signed}
 use Rattle.bt_json.proofs.Characters.{scalar_low}
 use Rattle.std.specs.List.{list_all, AllByRecursion}
-use Rattle.std.specs.Char.{digit_value, encode_utf8, IsScalar}
-use Rattle.std.specs.Str.Parse.{AllDigits, digits_value, digits_value_after}
+use Rattle.std.specs.Char.{digit_value, encode_utf8}
+use Rattle.std.specs.Str.Parse.{AllDigits, digits_value_after}
 use Rattle.std.specs.Int.Digits.{number_from_digits, number_from_digits_after}
 use Rattle.std.proofs.lemmas.Str.{digit_value_digit, encode_ascii}
 use Rattle.std.proofs.lemmas.Str.Parse.{digit_from_value}
 use Rattle.std.proofs.lemmas.List.{append-nil}
 use Rattle.bt_frac.specs.Numbers.{Spells}
-use Rattle.bt_frac.proofs.Numerals.{Spells-decimal}
 use Rattle.bt_json.specs.declared.limits.TheConstants.{MOST_EXPONENT}
-use Rattle.bt_json.specs.Json.{Number, Json, null, boolean, number, text, list, object, Items, no_items, item, Members, no_members, member}
-use Rattle.bt_json.specs.Grammar.{Texts, ◌▸◌, Byte, Blanks, Digits, Sign, Whole, Fraction, Exponent, IsNumber, Piece, plain, IsPiece, Pieces, text_of, IsText, IsValue, MoreItems, MoreMembers}
+use Rattle.bt_json.specs.Json.{Number, Json, list, object, Items, no_items, item, Members, no_members, member}
+use Rattle.bt_json.specs.Grammar.{◌▸◌, Digits, Sign, Whole, Fraction, Exponent, IsNumber, plain, Pieces, text_of, IsText, IsValue, MoreItems, MoreMembers}
 use Rattle.bt_json.proofs.Joins.{join}
 
 -- ---- texts

@@ -1,24 +1,24 @@
 -- What is written of parts is JSON text of a value that is a blueprint of these parts.
-use Rattle.std.proofs.Common.{◌≡◌, ◌≢◌, ℕ, zero, suc, ◌+◌, ◌*◌, ◌/◌, ◌%◌, ◌^◌, ◌<◌, ◌≤◌, max, Bool, true, false, List, [], ◌∷◌, ◌++◌, length, take, drop, map, get_or, refl, sym, ◌∙◌, ap, subst, inl, inr, ⊎_elim, lit<, arith, append_assoc, length-append, All}
-use Rattle.std.specs.Prelude.{ℤ, pos, negsuc, ◌+ℤ◌, ◌-ℤ◌, ◌*ℤ◌, neg_ℤ, unsigned_abs, ◌==◌, if◌then◌else◌, codes, decimal, min, slice_get, Some, None, Ok, Contains}
+use Rattle.std.proofs.Common.{◌≡◌, ℕ, zero, suc, ◌+◌, ◌*◌, ◌/◌, ◌%◌, ◌^◌, ◌<◌, ◌≤◌, Bool, true, false, List, [], ◌∷◌, ◌++◌, length, drop, map, refl, sym, ◌∙◌, ap, subst, inl, inr, lit<, arith, append_assoc, length-append, All}
+use Rattle.std.specs.Prelude.{ℤ, pos, negsuc, ◌+ℤ◌, ◌-ℤ◌, ◌*ℤ◌, unsigned_abs, ◌==◌, if◌then◌else◌, codes, decimal, min, slice_get, Some, None, Ok, Contains}
 use Rattle.std.specs.List.{enumerate_from, join_with_byte, list_all}
 use Rattle.std.specs.Int.Digits.{number_from_digits}
-use Rattle.std.proofs.lemmas.Bool.{false≢true, cases_eq, ne_eqb}
+use Rattle.std.proofs.lemmas.Bool.{false≢true}
 use Rattle.std.proofs.Math.Seq.{take-append_seam, drop-append_seam}
 use Rattle.std.proofs.lemmas.Bool.Decides.{nat_tests}
 use Rattle.std.proofs.lemmas.Int.{ints}
-use Rattle.std.proofs.lemmas.List.{append-nil, length-map, get_or-map}
+use Rattle.std.proofs.lemmas.List.{append-nil, length-map}
 use Rattle.std.proofs.lemmas.List.Elements.{All-head, All-tail}
-use Rattle.std.proofs.lemmas.List.FromFn.{length-enumerate_from, get_or-enumerate_from}
-use Rattle.std.proofs.lemmas.Option.{none-some, same_Some, slice_get_within, slice_get-get_or, get_or_from_slice_get}
+use Rattle.std.proofs.lemmas.List.FromFn.{length-enumerate_from}
+use Rattle.std.proofs.lemmas.Option.{none-some, same_Some, slice_get_within, get_or_from_slice_get}
 use Rattle.bt_frac.specs.Numbers.{Spells}
 use Rattle.bt_frac.proofs.Numerals.{Spells-decimal}
-use Rattle.bt_json.specs.declared.limits.TheConstants.{MOST_EXPONENT, MOST_HALVES, MOST_LEVELS}
-use Rattle.bt_json.specs.Json.{Number, Json, number, text, list, object, Items, no_items, item, Members, no_members, member, value_at}
+use Rattle.bt_json.specs.declared.limits.TheConstants.{MOST_EXPONENT, MOST_HALVES}
+use Rattle.bt_json.specs.Json.{Number, Json, number, text, list, object, Members, no_members, member, value_at}
 use Rattle.bt_json.specs.Stands.{items_of}
 use Rattle.bt_json.specs.Value.{IsScaled, IsTimes, signed}
-use Rattle.bt_json.specs.Grammar.{◌▸◌, Blanks, Sign, Fraction, IsNumber, IsText, IsValue, MoreItems, MoreMembers}
-use Rattle.bt_json.specs.Answers.{depth_of, items_depth, members_depth, HasDistinctNames, ItemsHaveDistinctNames, AreNew, IsFront, IsJsonAt, IsRead}
+use Rattle.bt_json.specs.Grammar.{◌▸◌, Blanks, Sign, Fraction, IsNumber, IsValue, MoreItems, MoreMembers}
+use Rattle.bt_json.specs.Answers.{depth_of, items_depth, members_depth, HasDistinctNames, ItemsHaveDistinctNames, AreNew, IsRead}
 use Rattle.bt_json.specs.inner.Reading.{has_name}
 use Rattle.bt_json.proofs.Joins.{join}
 use Rattle.bt_json.proofs.Digits.{number_append}
@@ -32,17 +32,15 @@ use Rattle.bt_parts.specs.declared.part.Tier.{Tier}
 use Rattle.bt_parts.specs.declared.part.Tier.TheVariants.{Basic, Fast, Express, Turbo}
 use Rattle.bt_entities.specs.declared.name.Family.{Family}
 use Rattle.bt_entities.specs.declared.name.Family.TheVariants.{Belts, Undergrounds, Splitters}
-use Rattle.bt_entities.specs.declared.shift.Shift.{Shift}
 use Rattle.bt_entities.specs.declared.blueprint.TheConstants.{MOST_ENTITIES}
 use Rattle.bt_entities.specs.Members.{IsWhole}
 use Rattle.bt_entities.specs.Names.{name_of}
 use Rattle.bt_entities.specs.Places.{width_of, height_of, IsMiddle}
-use Rattle.bt_entities.specs.Entities.{HasFamily, HasKind, HasTier, HasDirection, direction_value, IsHalves, HasPosition, IsPlaced, SetsShift, IsInCell, IsPlain, IsEntity}
-use Rattle.bt_entities.specs.Blueprints.{IsVersion, HasMajor, HasEntities, IsBlueprint, HasEntity, AreParts, IsBlueprintOf}
-use Rattle.bt_entities.specs.Answers.{IsPartsOf}
+use Rattle.bt_entities.specs.Entities.{HasKind, HasDirection, direction_value, IsHalves, IsPlaced, IsPlain, IsEntity}
+use Rattle.bt_entities.specs.Blueprints.{AreParts, IsBlueprintOf}
 use Rattle.bt_entities.proofs.Whole.{all_in_range}
-use Rattle.bt_write.specs.Written.{family_of, half_text, halves_text, twice_middle, entity_text, entity_texts, blueprint_text, type_member}
-use Rattle.bt_write.specs.ReadBack.{HasCentreInRange, IsReadBack, WrittenIsRead}
+use Rattle.bt_write.specs.Written.{family_of, half_text, halves_text, twice_middle, entity_text, blueprint_text, type_member}
+use Rattle.bt_write.specs.ReadBack.{HasCentreInRange, WrittenIsRead}
 use Rattle.bt_write.proofs.CompactJson.{is_simple, quoted, simple_text, values, value_after, number_by, number_spelled, no_more_members, more_member, first_member, no_more_items, more_item, first_item, empty_list}
 
 -- ---- numbers
