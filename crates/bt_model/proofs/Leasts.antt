@@ -1,10 +1,10 @@
 -- The least line that is refused, while a list is gone through.
-use Rattle.std.proofs.Common.{◌≡◌, ◌≢◌, ℕ, ◌+◌, ◌<◌, ◌≤◌, ◌⊎◌, max, min, List, length, Option, Some, None, refl, sym, ◌∙◌, ap, subst, inl, inr, ⊎_elim, arith}
+use Rattle.std.proofs.Common.{◌≡◌, ℕ, ◌+◌, ◌<◌, ◌≤◌, ◌⊎◌, max, min, List, length, Option, Some, None, refl, sym, ◌∙◌, ap, subst, inl, inr, ⊎_elim, arith}
 use Rattle.std.specs.Prelude.{slice_get}
 use Rattle.std.proofs.lemmas.Option.{same_Some, slice_get_within}
 use Rattle.std.proofs.lemmas.Bool.{cases_lt}
 use Rattle.bt_model.specs.RequestFaults.{HasNone, IsLeast, IsLineOfBad, IsLaterOfTwo}
-use Rattle.bt_model.specs.inner.Least.{IsLeastIfAny, lesser, MayPrecede, IsLaterHere, IsBadHere, IsRefusedHere, IsRefusedBelow}
+use Rattle.bt_model.specs.inner.Least.{IsLeastIfAny, lesser, MayPrecede, IsLaterHere, IsRefusedHere, IsRefusedBelow}
 
 -- below the next number is below this one or at it
 below_or_at : (n k : ℕ) → n < k + 1 → (n < k) ⊎ (n ≡ k)

@@ -1,5 +1,5 @@
 -- Requests and why there is none: one answer is right, and nothing is refused of a request.
-use Rattle.std.proofs.Common.{◌≡◌, ◌≢◌, ℕ, ◌<◌, ◌≤◌, ◌⊎◌, max, List, length, All, AllPairs, Option, Some, None, refl, sym, ◌∙◌, ap, subst, inl, inr, ⊎_elim, arith, get_or}
+use Rattle.std.proofs.Common.{◌≡◌, ◌≢◌, ℕ, ◌<◌, max, List, length, All, AllPairs, Some, refl, sym, ◌∙◌, ap, subst, inl, inr, ⊎_elim, arith, get_or}
 use Rattle.std.specs.Prelude.{slice_get, Result, Ok, Err}
 use Rattle.std.proofs.lemmas.Bool.{cases_lt, cases_order}
 use Rattle.std.proofs.lemmas.Int.{ints}
@@ -16,7 +16,7 @@ use Rattle.bt_model.specs.declared.fault.RequestFault.{RequestFault}
 use Rattle.bt_model.specs.declared.fault.RequestFault.TheVariants as fault
 use Rattle.bt_model.specs.declared.request.TheConstants.{MOST_REQUESTED}
 use Rattle.bt_model.specs.Requests.{LayoutRequest, cell_at, IsGrid, IsRequest, pinned, blocked}
-use Rattle.bt_model.specs.RequestFaults.{HasNone, IsLeast, IsTooLarge, HasOtherCap, IsLineOfBad, IsLaterOfTwo, IsOutOfPlace, IsPinRefused, IsPinned, IsInTheWay, IsBlockRefused, IsMade}
+use Rattle.bt_model.specs.RequestFaults.{HasNone, IsLeast, IsTooLarge, HasOtherCap, IsLineOfBad, IsLaterOfTwo, IsOutOfPlace, IsPinRefused, IsInTheWay, IsBlockRefused, IsMade}
 
 -- an edge of another cap, as it is found
 pub other_cap_here : (net : Network) (edges : List Edge) (k : ℕ) (edge : Edge) → edges ≡ net.edges → slice_get edges k ≡ Some edge → edge.cap ≢ 1 → HasOtherCap net k

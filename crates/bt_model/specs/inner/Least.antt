@@ -1,5 +1,5 @@
 -- The least number that has a property, where there is one, and the lines of some of a list.
-use Rattle.std.specs.Prelude.{◌≡◌, ℕ, ◌<◌, ◌≤◌, ◌⊎◌, max, min, List, slice_get, Option, Some, None, ⊤}
+use Rattle.std.specs.Prelude.{◌≡◌, ℕ, ◌<◌, ◌⊎◌, max, min, List, slice_get, Option, Some, None, ⊤}
 use Rattle.bt_model.specs.RequestFaults.{IsLeast, HasNone}
 
 -- the least number that has P, or None where none has

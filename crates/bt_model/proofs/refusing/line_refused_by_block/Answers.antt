@@ -4,7 +4,7 @@ use Rattle.std.proofs.lemmas.Option.{slice_get-get_or}
 use Rattle.bt_model.specs.Requests.{blocked}
 use Rattle.bt_model.specs.RequestFaults.{IsInTheWay}
 use Rattle.bt_model.specs.inner.Least.{IsLeastIfAny, IsLaterHere, lesser}
-use Rattle.bt_model.proofs.Leasts.{bad_least, good_least, later_same, later_other}
+use Rattle.bt_model.proofs.Leasts.{good_least, later_same, later_other}
 use Rattle.bt_model.proofs.refusing.line_refused_by_block.Goals as goal
 use Rattle.bt_model.proofs.refusing.line_refused_by_block.Goals.{then-is_same_cell, else-is_same_cell}
 

@@ -3,7 +3,7 @@ use Rattle.std.proofs.lemmas.Bool.{iff_false}
 use Rattle.std.proofs.lemmas.Option.{slice_get-get_or}
 use Rattle.bt_model.specs.RequestFaults.{IsOutOfPlace}
 use Rattle.bt_model.specs.inner.Least.{IsLeastIfAny, IsLaterHere, lesser}
-use Rattle.bt_model.proofs.Leasts.{bad_least, good_least, later_same, later_other}
+use Rattle.bt_model.proofs.Leasts.{good_least, later_same, later_other}
 use Rattle.bt_model.proofs.refusing.line_refused_by_pin.Goals as goal
 use Rattle.bt_model.proofs.refusing.line_refused_by_pin.Goals.{then-is_same_end, else-is_same_end}
 

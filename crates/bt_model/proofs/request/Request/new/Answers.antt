@@ -1,5 +1,4 @@
 use Rattle.std.proofs.Common.{ap, length, subst, ⊎_elim, arith, refl}
-use Rattle.bt_net.specs.Network.{Network}
 use Rattle.bt_model.specs.Requests.{request_of}
 use Rattle.bt_model.specs.RequestFaults.{IsLeast, HasNone, IsTooLarge, IsPinRefused, IsBlockRefused}
 use Rattle.bt_model.proofs.Requested.{made_answers, request_where_none}
