@@ -6,7 +6,8 @@ use Rattle.bt_parts.specs.declared.part.Tier.{Tier}
 use Rattle.bt_parts.specs.Cells.{IsInside}
 use Rattle.bt_net.specs.declared.network.Block.{Block}
 use Rattle.bt_net.specs.declared.network.Pin.{Pin}
-use Rattle.bt_net.specs.Network.{Network, IsNetwork, HasEnd}
+use Rattle.bt_net.specs.Network.{Network, IsNetwork}
+pub use Rattle.bt_net.specs.Network.{HasEnd}
 use Rattle.bt_model.specs.declared.request.TheConstants.{MOST_ACROSS, MOST_REQUESTED}
 
 -- the network to be shown, the rectangle in which the parts are to lie, their tier, the cells on which ends are to stand, and those on which no part is to stand
