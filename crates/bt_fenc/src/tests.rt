@@ -11,7 +11,7 @@ const SPLITTER: &[u8] = b"net 2 2 1\nedge i0 s0\nedge i1 s0\nedge s0 o0\nedge s0
 const MIXED: &[u8] = b"net 1 2 1\nedge i0 s0 4\nedge s0 o0\nedge s0 o1 4\nend\n";
 
 fn formula_of(alloc: Global, network: &[u8], property: Property) -> Result<Formula, Fail> {
-    let net = bt_net::read(alloc, network)?.net;
+    let net = bt_net::read_plain(alloc, network)?.net;
     Ok(encode(alloc, &net, property)?)
 }
 

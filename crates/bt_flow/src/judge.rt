@@ -106,7 +106,7 @@ mod tests {
     #[test]
     fn judges(rt: HostRuntime) -> Result<(), Fail> {
         for (network, text, broken, at_rest) in CASES {
-            let net = bt_net::read(rt.alloc(), network)?.net;
+            let net = bt_net::read_plain(rt.alloc(), network)?.net;
             let state = read_state(rt.alloc(), &net, text, Property::Unlimited)?;
             assert!(rt; breaks(&net, Property::Unlimited, &state) == Ok(broken));
             assert!(rt; steady(&net, &state) == Ok(at_rest));
@@ -137,7 +137,7 @@ mod tests {
     #[test]
     fn judges_caps(rt: HostRuntime) -> Result<(), Fail> {
         for (text, judgement) in CAPPED {
-            let net = bt_net::read(rt.alloc(), MIXED)?.net;
+            let net = bt_net::read_plain(rt.alloc(), MIXED)?.net;
             let state = read_state(rt.alloc(), &net, text, Property::Balanced)?;
             assert!(rt; breaks(&net, Property::Balanced, &state) == Ok(judgement));
         }
@@ -146,7 +146,7 @@ mod tests {
 
     #[test]
     fn names_a_wide_sum(rt: HostRuntime) -> Result<(), Fail> {
-        let net = bt_net::read(rt.alloc(), SPLITTER)?.net;
+        let net = bt_net::read_plain(rt.alloc(), SPLITTER)?.net;
         let wide =
             b"no unlimited\nload 1 1\nroom 1 1\nflow 1/85070591730234615865843651857942052864 1/3 0 0\nmark f f f f\nend";
         let state = read_state(rt.alloc(), &net, wide, Property::Unlimited)?;

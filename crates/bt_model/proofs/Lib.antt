@@ -5,3 +5,5 @@ pub mod PathLemmas
 pub mod Covering
 pub mod Sorted
 pub mod SpeedLemmas
+pub mod Leasts
+pub mod Requested

@@ -1,5 +1,9 @@
 pub mod Chains
 pub mod Clean
 pub mod Handing
+pub mod Laying
+pub mod RequestFaults
+pub mod Requests
 pub mod Shown
 pub mod Speeds
+pub mod inner

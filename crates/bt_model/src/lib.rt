@@ -1,12 +1,21 @@
-//! What a layout of belts means: which part hands to which, and the network that it shows.
+//! What a layout of belts means: which part hands to which, the network that it shows, and the requests
+//! that it meets.
 #![tactic(auto)]
 
+mod fault;
 mod giving;
 mod laws;
 mod plain;
+mod refusing;
+mod request;
 mod ringing;
 
+pub use fault::RequestFault;
 pub use giving::{hands, pair};
 pub use laws::{numbered_shows, one_network};
 pub use plain::is_kind;
+pub use request::{MOST_ACROSS, MOST_REQUESTED, Request};
 pub use ringing::ring;
+
+#[cfg(test)]
+mod tests;

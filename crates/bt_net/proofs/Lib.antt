@@ -4,3 +4,7 @@ pub mod OneNet
 pub mod Refusing
 pub mod Spelling
 pub mod Tallying
+pub mod PinSpelling
+pub mod ItemLines
+pub mod Bodies
+pub mod OneReading

@@ -31,13 +31,13 @@ pub record EndsWith (n : Network) (text rest : List ℕ) : Type 0 where
   pub begins : BeginsWithLines text (lines ++ codes "end" ∷ []) rest
 
 -- the line that is printed of an edge is its line
-printed_line : (e : Edge) → IsEdgeLine (edge_text e) e
+pub printed_line : (e : Edge) → IsEdgeLine (edge_text e) e
 printed_line e = ⊎_elim
     (λ one. inr (rw (eq-eqb e.cap 1 one) (append-nil (ends_text e)), one))
     (λ other. inl (rw (ne_eqb e.cap 1 other) refl))
     (cases_eq e.cap 1)
 
-printed_lines : (es : List Edge) → AllZip IsEdgeLine (map edge_text es) es
+pub printed_lines : (es : List Edge) → AllZip IsEdgeLine (map edge_text es) es
 printed_lines [] = tt
 printed_lines (e ∷ es) = (printed_line e, printed_lines es)
 
@@ -46,7 +46,7 @@ lines_of [] = refl
 lines_of (e ∷ es) = ap (λ x. line (edge_text e) ++ x) (lines_of es)
 
 -- the text that is printed is its lines
-net_text_lines : (n : Network) → net_text n ≡ flat_map line (header n ∷ map edge_text n.edges ++ codes "end" ∷ [])
+pub net_text_lines : (n : Network) → net_text n ≡ flat_map line (header n ∷ map edge_text n.edges ++ codes "end" ∷ [])
 net_text_lines n =
     append_assoc (line (header n)) (flat_map (λ e. line (edge_text e)) n.edges) (line (codes "end"))
     ∙ ap (λ x. line (header n) ++ x) (ap (λ x. x ++ line (codes "end")) (sym (lines_of n.edges)) ∙ sym (flat_map-append line (map edge_text n.edges) (codes "end" ∷ [])))
@@ -60,7 +60,7 @@ printed_begins n rest = record {
 }
 
 -- no byte of these is that byte
-lacks : (byte : ℕ) (xs : List ℕ) → list_all (λ x. not (eqb x byte)) xs ≡ true → Lacks byte xs
+pub lacks : (byte : ℕ) (xs : List ℕ) → list_all (λ x. not (eqb x byte)) xs ≡ true → Lacks byte xs
 lacks byte xs e = All-weaker (λ x. not (eqb x byte) ≡ true) (λ x. x ≢ byte) (λ x t same. cc (ap not (eq-eqb x byte same))) xs (AllPass-from_list_all (λ x. not (eqb x byte)) xs e)
 
 -- no line feed in an edge line
@@ -80,7 +80,7 @@ edge-lacks bytes e fits is =
     (λ short. rw short.0 ends)
     is
 
-header-lacks : (n : Network) → HasSmallSizes n → Lacks 10 (header n)
+pub header-lacks : (n : Network) → HasSmallSizes n → Lacks 10 (header n)
 header-lacks n small =
     let P : ℕ → Type 0 = λ b. b ≢ 10 in
     let i : Lacks 10 (decimal n.inputs) = decimal-lacks n.inputs 10 (omega (arith, small.few_inputs)) (λ r. omega (arith, r.0)) in

@@ -24,10 +24,10 @@ go_edges : (ks : List (List ℕ)) (es : List Edge) (ls : List (List ℕ)) (fs : 
 go_edges ks es ls fs more p q is = go_over [] nothing_no_edge ks es ls fs more p q (append-nil ls ∙ is)
 
 -- the line behind the edges of one network so far, where the edges of another begin with these: the networks are one, or it is the line of the other's next edge
-abbrev Behind : (n m : Network) (bytes rest s : List ℕ) → Type 0
+abbrev pub Behind : (n m : Network) (bytes rest s : List ℕ) → Type 0
 Behind n m bytes rest s = ((n ≡ m) × (rest ≡ s)) ⊎ ((g : Edge) × IsEdgeLine bytes g × IsPartlyWired (with_edge n g) × (length n.edges < MOST_OF_EACH))
 
-behind : (n m : Network) (text bytes after s : List ℕ) (on : GoesOn n text bytes after) → HasSmallSizes n → HasSmallSizes m → SameSizes n m → IsPartlyWired m → length m.edges ≤ MOST_OF_EACH
+pub behind : (n m : Network) (text bytes after s : List ℕ) (on : GoesOn n text bytes after) → HasSmallSizes n → HasSmallSizes m → SameSizes n m → IsPartlyWired m → length m.edges ≤ MOST_OF_EACH
     → (ls more : List (List ℕ)) → AllZip IsEdgeLine ls m.edges → ls ≡ on.edges.lines ++ more → BeginsWithLines on.rest more s → Behind n m bytes on.rest s
 behind n m text bytes after s on small smaller sizes wired few ls more are is begins =
     let p : AreLines on.edges.lines n.edges = record { fit = edges_fit n small on.wired; are_edges = on.edges.are_edges } in
@@ -52,7 +52,7 @@ not_next n bytes NoEnds g refused is wired few = edge-ne_end g (subst (λ l. IsE
 not_next n bytes Memory g refused is wired few = refused
 
 -- a line is refused for one cause
-line_same : (n : Network) (bytes : List ℕ) (f g : NetFault) → LineRefused n bytes f → LineRefused n bytes g → f ≡ g
+pub line_same : (n : Network) (bytes : List ℕ) (f g : NetFault) → LineRefused n bytes f → LineRefused n bytes g → f ≡ g
 line_same n bytes (NetLine k) (NetLine j) p q = ap NetLine (p.1 ∙ sym q.1)
 line_same n bytes (NetLine k) TooLarge p q = absurd (p.0.no_edge q.0 q.1 q.2)
 line_same n bytes (NetLine k) NoEnds p q = absurd (p.0.no_end q.0 q.1)
@@ -66,7 +66,7 @@ line_same n bytes f Memory p q = absurd q
 line_same n bytes Memory g p q = absurd p
 
 -- a header is refused for one cause
-header_same : (bytes : List ℕ) (f g : NetFault) → HeaderRefused bytes f → HeaderRefused bytes g → f ≡ g
+pub header_same : (bytes : List ℕ) (f g : NetFault) → HeaderRefused bytes f → HeaderRefused bytes g → f ≡ g
 header_same bytes (NetLine k) (NetLine j) p q = ap NetLine (p.0 ∙ sym q.0)
 header_same bytes (NetLine k) TooLarge p q = absurd (p.1 q.0 q.1 q.2 q.3)
 header_same bytes TooLarge (NetLine j) p q = absurd (q.1 p.0 p.1 p.2 p.3)

@@ -3,6 +3,8 @@ use Rattle.std.specs.Prelude.{◌≡◌, ℕ, ◌<◌, ◌≤◌, ◌==◌, ◌�
 use Rattle.bt_net.specs.declared.fault.NetFault.{NetFault}
 use Rattle.bt_net.specs.declared.fault.NetFault.TheVariants.{NetLine, TooLarge, NoEnds, Memory}
 use Rattle.bt_net.specs.declared.network.Edge.{Edge}
+use Rattle.bt_net.specs.declared.network.End.{End}
+use Rattle.bt_net.specs.declared.network.End.TheVariants as end
 use Rattle.bt_net.specs.declared.network.Start.{Start}
 use Rattle.bt_net.specs.declared.network.Start.TheVariants as from
 use Rattle.bt_net.specs.declared.network.Target.{Target}
@@ -61,6 +63,11 @@ StartsIn n (from.Split s) = s < n.splitters
 abbrev pub EndsIn : Network → Target → Type 0
 EndsIn n (to.Split s) = s < n.splitters
 EndsIn n (to.Output o) = o < n.outputs
+
+-- the network has this end
+abbrev pub HasEnd : Network → End → Type 0
+HasEnd n (end.Input i) = i < n.inputs
+HasEnd n (end.Output o) = o < n.outputs
 
 -- an edge may have this cap: one from 1 to `MOST_CAP`
 abbrev pub IsCap : ℕ → Type 0

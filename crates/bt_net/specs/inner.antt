@@ -1,3 +1,4 @@
 -- What the contracts of private functions cite.
 pub mod Lines
+pub mod PinWords
 pub mod Tallies

@@ -2,7 +2,7 @@
 ghost use Rattle.std.specs.Prelude.{◌≡◌, ℕ, List};
 ghost use Rattle.bt_net.specs.Network.{Network, IsNetwork};
 ghost use Rattle.bt_net.specs.NetText.{BeginsWithNet};
-ghost use Rattle.bt_net.specs.Readings.{PrintedIsRead};
+ghost use Rattle.bt_net.specs.Readings.{PrintedIsRead, PrintedIsPlain};
 
 /// Bytes begin with the text of one network at most, and what follows it is one.
 pub fn one_net()
@@ -12,5 +12,6 @@ pub fn one_net()
 
 /// The text that `print` writes of a network is read as that network, to its end.
 pub fn printed_is_read()
-    ensures { PrintedIsRead }
+    ensures read { PrintedIsRead }
+    ensures plain { PrintedIsPlain }
 {}

@@ -1,4 +1,4 @@
-//! Networks of splitters and their text.
+//! Networks of splitters and their text, which may also say where ends and no parts stand.
 #![tactic(auto)]
 
 mod fault;
@@ -7,6 +7,7 @@ mod law;
 mod line_buffer;
 mod net;
 mod network;
+mod pins;
 mod printing;
 mod reading;
 mod wiring;
@@ -15,7 +16,7 @@ mod words;
 pub use fault::NetFault;
 pub use law::{one_net, printed_is_read};
 pub use net::Net;
-pub use network::{Edge, End, MOST_CAP, MOST_OF_EACH, Pin, Start, Target};
+pub use network::{Block, Edge, End, MOST_CAP, MOST_OF_EACH, NO_COORDINATE, Pin, Start, Target};
 pub use printing::print;
-pub use reading::{NetRead, read};
+pub use reading::{NetRead, read, read_plain};
 pub use std::alloc::AllocError as Memory;

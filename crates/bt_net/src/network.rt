@@ -1,12 +1,17 @@
 //! What a network of splitters is made of: ends, edges between them, and the cells where its ends
 //! stand.
 
+use bt_parts::Dir;
+
 /// The most inputs, outputs, splitters and edges that a network has, of each kind.
 pub const MOST_OF_EACH: usize = 2048;
 
 /// The largest cap of an edge: four belts of the slowest tier, which is one of the fastest. The
 /// smallest is 1.
 pub const MOST_CAP: u32 = 4;
+
+/// The least number that is too long for a coordinate in a text, which has at most nine digits.
+pub const NO_COORDINATE: u32 = 1_000_000_000;
 
 /// Where an edge starts: at an input or at a splitter, by its number from 0.
 #[derive(Clone, Copy, Debug, PartialEq, Eq)]
@@ -38,11 +43,20 @@ pub enum End {
     Output(u32),
 }
 
-/// A cell on which the first part of an input or the last part of an output stands, and the line
-/// of the text, from 1, that says so.
+/// A cell on which the first part of an input or the last part of an output stands, which points in the
+/// direction where one is named; and the line of the text, from 1, that says so.
 #[derive(Clone, Copy, PartialEq, Eq)]
 pub struct Pin {
     pub end: End,
+    pub x: u32,
+    pub y: u32,
+    pub dir: Option<Dir>,
+    pub line: usize,
+}
+
+/// A cell on which no part stands, and the line of the text, from 1, that says so.
+#[derive(Clone, Copy, PartialEq, Eq)]
+pub struct Block {
     pub x: u32,
     pub y: u32,
     pub line: usize,

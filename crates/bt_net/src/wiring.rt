@@ -5,7 +5,7 @@ ghost use Rattle.bt_net.specs.inner.Tallies.{IsBelow, IsFreeStart, IsFreeTarget,
 
 use crate::fault::NetFault;
 use crate::net::Net;
-use crate::network::{Edge, Start, Target};
+use crate::network::{Edge, End, Start, Target};
 use std::alloc::{AllocError, Global};
 use std::marker::Model;
 
@@ -32,7 +32,7 @@ impl Model for Wiring {
 }
 
 impl Wiring {
-    ghost use Rattle.bt_net.specs.Network.{IsCap, IsWired, IsNetOf, network_of};
+    ghost use Rattle.bt_net.specs.Network.{HasEnd, IsCap, IsWired, IsNetOf, network_of};
     ghost use Rattle.bt_net.specs.Wiring.{IsPartlyWired, with_edge, HasSmallSizes};
 
     /// No edges yet.
@@ -59,6 +59,16 @@ impl Wiring {
         ensures { result ≡ length self.now.edges }
     {
         self.edges.len()
+    }
+
+    /// Whether the network has this end.
+    pub fn has_end(&self, end: End) -> bool
+        ensures { IsTrue result ↔ HasEnd self.now end }
+    {
+        match end {
+            End::Input(i) => (i as usize) < self.inputs.len(),
+            End::Output(o) => (o as usize) < self.outputs.len(),
+        }
     }
 
     /// Whether this edge may come next.

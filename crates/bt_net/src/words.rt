@@ -1,4 +1,4 @@
-//! The words of an edge line.
+//! The words of an edge line, and numbers.
 ghost use Rattle.std.specs.Prelude.{◌≡◌, ℕ, ◌^◌, ◌<◌, decimal, IfSome, IfNone};
 ghost use Rattle.bt_net.specs.NetText.{start_text, target_text, IsEdgeLine};
 ghost use Rattle.bt_net.specs.Network.{IsCap};
@@ -75,7 +75,7 @@ fn read_target(word: &[u8]) -> Option<Target>
 }
 
 /// A whole number of at most 32 bits.
-fn read_number(word: &[u8]) -> Option<u32>
+pub fn read_number(word: &[u8]) -> Option<u32>
     ensures some { IfSome result (λ n. word.now ≡ decimal n) }
     ensures none { IfNone result ((n : ℕ) → n < 2 ^ 32 → word.now ≡ decimal n → ⊥) }
 {

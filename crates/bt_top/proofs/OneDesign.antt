@@ -7,8 +7,8 @@ use Rattle.bt_json.proofs.OneRead.{one_read}
 use Rattle.bt_entities.specs.Answers.{IsPartsOf}
 use Rattle.bt_entities.proofs.OneAnswer.{one_parts}
 use Rattle.bt_net.specs.Network.{Network, IsNetwork}
-use Rattle.bt_net.specs.Readings.{IsNetRead}
-use Rattle.bt_net.proofs.OneNet.{one_read as one_net_read}
+use Rattle.bt_net.specs.Readings.{IsPlainRead}
+use Rattle.bt_net.proofs.OneNet.{one_plain}
 use Rattle.bt_parts.specs.declared.part.Part.{Part}
 use Rattle.bt_grid.specs.Placing.{IsPlaced}
 use Rattle.bt_grid.proofs.OneAnswer.{one_placed}
@@ -34,7 +34,7 @@ one_json_design bytes = one_in_turn (IsRead bytes) _ _ (one_read bytes)
     (λ read a b h k. h.2 ∙ ap (seen (λ n. (n, read.1))) (one_blueprint_net read.0 h.0 k.0 h.1 k.1) ∙ sym k.2)
 
 one_text_design : (bytes : List ℕ) → HasOneAnswer (IsTextDesign bytes)
-one_text_design bytes = one_in_turn (IsNetRead bytes) _ _ (one_net_read bytes) (λ read a b h k. h ∙ sym k)
+one_text_design bytes = one_in_turn (IsPlainRead bytes) _ _ (one_plain bytes) (λ read a b h k. h ∙ sym k)
 
 -- two right answers to the bytes of a design are equal
 pub one_design : (bytes : List ℕ) → HasOneAnswer (IsDesign bytes)

@@ -9,7 +9,7 @@ use Rattle.bt_parts.specs.declared.part.Part.{Part}
 use Rattle.bt_grid.specs.Placing.{IsPlaced}
 use Rattle.bt_recover.specs.Recovered.{IsRecovered}
 use Rattle.bt_net.specs.Network.{Network}
-use Rattle.bt_net.specs.Readings.{IsNetRead}
+use Rattle.bt_net.specs.Readings.{IsPlainRead}
 use Rattle.bt_top.specs.declared.fault.DesignFault.{DesignFault}
 use Rattle.bt_top.specs.Refusals.{json_told, entity_told, grid_told, layout_told, net_told}
 use Rattle.bt_top.specs.Steps.{InTurn}
@@ -37,7 +37,7 @@ IsJsonDesign bytes = InTurn (IsRead bytes) (λ fault. Err (json_told fault)) (λ
 
 -- what comes of network text: the network at its front and the place after it, or the first refusal
 abbrev pub IsTextDesign : List ℕ → Result (Network × ℕ) DesignFault → Type 0
-IsTextDesign bytes = InTurn (IsNetRead bytes) (λ fault. Err (net_told fault)) (λ read answer. answer ≡ Ok (read.net, read.used))
+IsTextDesign bytes = InTurn (IsPlainRead bytes) (λ fault. Err (net_told fault)) (λ read answer. answer ≡ Ok (read.net, read.used))
 
 -- what comes of bytes: the network of the design at their front and the place after it, or the first refusal; they are read as JSON text, or else as network text
 abbrev pub IsDesign : List ℕ → Result (Network × ℕ) DesignFault → Type 0

@@ -59,7 +59,7 @@ fn read_text(alloc: Global, bytes: &[u8]) -> Result<Design, DesignFault>
     ensures design { UnlessMemory DesignFault.Memory (IsTextDesign bytes.now) (seen net_and_used result) }
     ensures within { IfOk result (λ design. design.used ≤ length bytes.now) }
 {
-    match bt_net::read(alloc, bytes) {
+    match bt_net::read_plain(alloc, bytes) {
         Ok(read) => Ok(Design {
             net: read.net,
             used: read.used,

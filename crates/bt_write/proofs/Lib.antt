@@ -1,2 +1,4 @@
 pub mod Behind
 pub mod Joining
+pub mod CompactJson
+pub mod ReadBack

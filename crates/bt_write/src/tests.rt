@@ -1,5 +1,7 @@
 //! Blueprints of one part, byte by byte.
 use crate::text_of;
+use bt_entities::parts_of;
+use bt_json::read;
 use bt_parts::{Cell, Dir, Kind, Part, Tier};
 use std::alloc::Global;
 use std::test::Fail;
@@ -82,5 +84,32 @@ fn no_part(rt: HostRuntime) -> Result<(), Fail> {
     let front = "{\"blueprint\":{\"item\":\"blueprint\",\"entities\":[";
     let wanted = format!(in rt.alloc(); "{front}],\"version\":281479271677952}}}}\n")?;
     assert!(rt; text.as_slice() == wanted.as_bytes());
+    Ok(())
+}
+
+/// A part of this kind and direction at this cell.
+const fn part(kind: Kind, tier: Tier, dir: Dir, x: i32, y: i32) -> Part {
+    Part {
+        kind,
+        tier,
+        dir,
+        cell: Cell { x, y },
+    }
+}
+
+#[test]
+fn what_is_written_is_read_back(rt: HostRuntime) -> Result<(), Fail> {
+    let parts = [
+        part(Kind::Splitter, Tier::Fast, Dir::East, 3, -4),
+        part(Kind::Belt, Tier::Basic, Dir::North, 0, 0),
+        part(Kind::Entrance, Tier::Turbo, Dir::South, -7, 12),
+        part(Kind::Exit, Tier::Express, Dir::West, 524287, -524288),
+        part(Kind::Splitter, Tier::Turbo, Dir::North, -1, 9),
+    ];
+    let text = text_of(rt.alloc(), &parts)?;
+    let (tree, used) = read(rt.alloc(), &text)?;
+    let found = parts_of(rt.alloc(), &tree).ok();
+    assert!(rt; used + 1 == text.len());
+    assert!(rt; found.is_some_and(|found| found.as_slice() == parts.as_slice()));
     Ok(())
 }

@@ -1,8 +1,12 @@
 -- What the lines of a network's text say while they are read.
-use Rattle.std.specs.Prelude.{◌≡◌, ℕ, ◌<◌, ◌^◌, ◌⊎◌, List, [], ◌++◌, codes, length, Option, Some, None, Result, Ok, Err}
+use Rattle.std.specs.Prelude.{◌≡◌, ℕ, ◌+◌, ◌<◌, ◌≤◌, ◌^◌, ◌⊎◌, List, [], ◌++◌, codes, length, Option, Some, None, Result, Ok, Err}
 use Rattle.bt_frac.specs.Numbers.{IsLimited}
+use Rattle.bt_text.specs.Lines.{IsFirstLine}
 use Rattle.bt_net.specs.declared.fault.NetFault.{NetFault}
+use Rattle.bt_net.specs.declared.fault.NetFault.TheVariants.{NetLine, TooLarge, NoEnds, Memory}
 use Rattle.bt_net.specs.declared.network.Edge.{Edge}
+use Rattle.bt_net.specs.declared.network.End.{End}
+use Rattle.bt_net.specs.declared.network.End.TheVariants as end
 use Rattle.bt_net.specs.declared.network.Start.{Start}
 use Rattle.bt_net.specs.declared.network.Start.TheVariants as from
 use Rattle.bt_net.specs.declared.network.Target.{Target}
@@ -10,7 +14,8 @@ use Rattle.bt_net.specs.declared.network.Target.TheVariants as to
 use Rattle.bt_net.specs.declared.network.TheConstants.{MOST_OF_EACH}
 use Rattle.bt_net.specs.Network.{Network, IsWired, IsCap}
 use Rattle.bt_net.specs.NetText.{header, target_text, cap_text, IsEdgeLine}
-use Rattle.bt_net.specs.Refusals.{IsHeader, HeaderRefused, LineRefused, GoesOn, EdgesRefused}
+use Rattle.bt_net.specs.PinRefusals.{BeginsWithItems}
+use Rattle.bt_net.specs.Refusals.{IsHeader, HeaderRefused, BeginsWithEdges, EdgesRefused}
 use Rattle.bt_net.specs.Wiring.{IsPartlyWired, with_edge, HasSmallSizes}
 
 -- a network without edges yet, of which this is the first line
@@ -35,6 +40,11 @@ abbrev pub TargetFits : Target → Type 0
 TargetFits (to.Split s) = s < 2 ^ 32
 TargetFits (to.Output o) = o < 2 ^ 32
 
+-- the number of an end has at most 32 bits
+abbrev pub EndFits : End → Type 0
+EndFits (end.Input i) = i < 2 ^ 32
+EndFits (end.Output o) = o < 2 ^ 32
+
 -- the numbers of an edge's two ends have at most 32 bits, and its cap is one that an edge may have
 abbrev pub EdgeFits : Edge → Type 0
 EdgeFits e = StartFits e.start × TargetFits e.target × IsCap e.cap
@@ -52,13 +62,41 @@ abbrev pub IsHeaderRead : List ℕ → Result Network NetFault → Type 0
 IsHeaderRead bytes (Ok n) = IsStarted n bytes
 IsHeaderRead bytes (Err fault) = HeaderRefused bytes fault
 
--- what a line says after the edges of the network so far: the next edge, or that the network ends, or why the line is refused
-abbrev pub IsNextLine : Network → List ℕ → Result (Option Edge) NetFault → Type 0
-IsNextLine n bytes (Ok (Some e)) = IsEdgeLine bytes e × IsPartlyWired (with_edge n e) × (length n.edges < MOST_OF_EACH)
-IsNextLine n bytes (Ok None) = (bytes ≡ codes "end") × IsWired n
-IsNextLine n bytes (Err fault) = LineRefused n bytes fault
+-- what a line says after the edges of the network so far: the edge that comes next, or that it is the line of none that may
+abbrev pub IsNextEdge : Network → List ℕ → Option Edge → Type 0
+IsNextEdge n bytes (Some e) = IsEdgeLine bytes e × IsPartlyWired (with_edge n e)
+IsNextEdge n bytes None = (e : Edge) → IsEdgeLine bytes e → IsPartlyWired (with_edge n e) → ⊥
 
--- what the lines behind a header say: the network's edges up to the line `end`, behind which this follows, or why one of them is refused
+-- the text is lines of the network's edges, which may stand, and then this, whose first line is that of no edge that may come next
+pub record EdgesEnd (n : Network) (text rest : List ℕ) : Type 0 where
+  pub wired : IsPartlyWired n
+  pub few : length n.edges ≤ MOST_OF_EACH
+  pub edges : BeginsWithEdges text n.edges rest
+  pub bytes : List ℕ
+  pub after : List ℕ
+  pub next : IsFirstLine rest bytes after
+  pub no_edge : IsNextEdge n bytes None
+
+-- what the lines behind a header say: the network's edges and what follows them, or that there is one edge too many
 abbrev pub AreEdgesRead : Network → List ℕ → Result (List ℕ) NetFault → Type 0
-AreEdgesRead n text (Ok rest) = GoesOn n text (codes "end") rest × IsWired n
-AreEdgesRead n text (Err fault) = EdgesRefused n text fault
+AreEdgesRead n text (Ok rest) = EdgesEnd n text rest
+AreEdgesRead n text (Err (NetLine k)) = ⊥
+AreEdgesRead n text (Err TooLarge) = EdgesRefused n text TooLarge
+AreEdgesRead n text (Err NoEnds) = ⊥
+AreEdgesRead n text (Err Memory) = ⊥
+
+-- the text is lines of these, of which the first has this number, and then this, whose first line is that of no other
+pub record ItemsEnd {X : Type 0} (IsLine : ℕ → List ℕ → X → Type 0) (number : ℕ) (text : List ℕ) (items : List X) (rest : List ℕ) : Type 0 where
+  pub starts : BeginsWithItems IsLine number text items rest
+  pub bytes : List ℕ
+  pub after : List ℕ
+  pub next : IsFirstLine rest bytes after
+  pub no_more : (x : X) → IsLine (number + length items) bytes x → ⊥
+
+-- what the line says that follows the edges, pins and blocks of a network: that it ends there, behind which this follows, or that the line, with this number, may not stand
+abbrev pub IsEndRead : Network → ℕ → List ℕ → Result (List ℕ) NetFault → Type 0
+IsEndRead n number text (Ok rest) = IsFirstLine text (codes "end") rest × IsWired n
+IsEndRead n number text (Err (NetLine k)) = (bytes after : List ℕ) × IsFirstLine text bytes after × (bytes ≡ codes "end" → IsWired n → ⊥) × (k ≡ number)
+IsEndRead n number text (Err TooLarge) = ⊥
+IsEndRead n number text (Err NoEnds) = ⊥
+IsEndRead n number text (Err Memory) = ⊥

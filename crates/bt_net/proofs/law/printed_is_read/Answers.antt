@@ -1,5 +1,9 @@
-use Rattle.bt_net.proofs.OneNet.{printed_reading}
+use Rattle.bt_net.proofs.OneNet.{printed_plain}
+use Rattle.bt_net.proofs.OneReading.{printed_reading}
 use Rattle.bt_net.proofs.law.printed_is_read.Goals as goal
 
-pub returns : goal.returns
-returns c = printed_reading
+pub returns-clause-read : goal.returns-clause-read
+returns-clause-read c = printed_reading
+
+pub returns-clause-plain : goal.returns-clause-plain
+returns-clause-plain c = printed_plain

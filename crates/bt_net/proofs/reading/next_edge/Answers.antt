@@ -1,16 +1,7 @@
-use Rattle.std.proofs.Common.{sym, ◌∙◌, arith}
-use Rattle.std.proofs.lemmas.Bool.{false≢true}
-use Rattle.std.proofs.lemmas.Bool.Decides.{Decides-eqb}
-use Rattle.std.proofs.lemmas.Slice.Eq.{slice_eq-Decides}
+use Rattle.std.proofs.lemmas.Bool.{iff_false}
 use Rattle.bt_net.proofs.NetLines.{last_same}
 use Rattle.bt_net.proofs.reading.next_edge.Goals as goal
 
-pub returns-in_default : goal.returns-in_default
-returns-in_default c =
-    let other = (slice_eq-Decides Decides-eqb _ _ _ c.eq.ensures).1 in (
-      record {
-        no_end = λ is _. false≢true (sym c.if-eq.false ∙ other (is ∙ sym c.as_slice.ensures));
-        no_edge = λ e is new. false≢true (sym c.if-admits.false ∙ c.admits.ensures.1 (last_same c.args.wiring.now c.args.line.now e c.in-Some.edge c.requires.small new c.in-Some.ensures.fits c.in-Some.ensures.some is));
-      },
-      omega arith,
-    )
+pub returns-else-admits : goal.returns-else-admits
+returns-else-admits c = λ e is new. iff_false c.admits.ensures c.if-admits.false
+    (last_same c.args.wiring.now c.args.line.now e c.in_ok-edge.edge c.requires new c.in_ok-edge.ensures.fits c.in_ok-edge.ensures.some is)

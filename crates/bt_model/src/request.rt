@@ -1,0 +1,115 @@
+//! Requests for a layout as values: what was checked once, each call above may rely on.
+ghost use Rattle.std.specs.Prelude.{◌≡◌};
+ghost use Rattle.bt_answers.specs.Answers.{AnswersAlways};
+
+use crate::fault::RequestFault;
+use crate::refusing::{other_cap, refused_block, refused_pin};
+use bt_net::{Block, Net, Pin};
+use bt_parts::{Rect, Tier};
+use std::marker::Model;
+
+/// The most cells of a request's rectangle, each way.
+pub const MOST_ACROSS: u32 = 16;
+
+/// The most edges, and the most splitters, of the network that a request asks for.
+pub const MOST_REQUESTED: usize = 128;
+
+/// What a layout is asked for: a network, the rectangle with the corner (0, 0) in which its parts are to
+/// lie, their tier, the cells on which ends of the network are to stand, and the cells on which no part
+/// is to stand.
+///
+/// The network has at most `MOST_REQUESTED` edges and splitters, and every cap is 1. The rectangle has
+/// from 1 to `MOST_ACROSS` cells each way, and pins and blocks name cells of it. No two pins name one end,
+/// no two blocks one cell, and no block names a pinned cell.
+#[derive(Drop)]
+pub struct Request {
+    net: Net,
+    rect: Rect,
+    tier: Tier,
+    pins: Vec<Pin>,
+    blocks: Vec<Block>,
+}
+
+impl Model for Request {
+    ghost use Rattle.bt_model.specs.Requests.{LayoutRequest, IsRequest, request_of};
+
+    ghost Value = { LayoutRequest };
+
+    ghost view = { λ r. request_of r.net r.rect r.tier r.pins.items r.blocks.items };
+
+    ghost invariant = { λ r. IsRequest (request_of r.net r.rect r.tier r.pins.items r.blocks.items) };
+}
+
+impl Request {
+    ghost use Rattle.bt_model.specs.Requests.{IsGrid, IsRequest, request_of};
+    ghost use Rattle.bt_model.specs.RequestFaults.{IsMade};
+
+    /// The request for these, or the first cause in the order of `RequestFault` why there is none. It
+    /// takes no memory.
+    pub fn new(
+        net: Net,
+        rect: Rect,
+        tier: Tier,
+        pins: Vec<Pin>,
+        blocks: Vec<Block>,
+    ) -> Result<Request, RequestFault>
+        requires { IsGrid rect }
+        ensures { AnswersAlways (IsMade (request_of net rect tier pins.items blocks.items)) result }
+    {
+        if net.edges().len() > MOST_REQUESTED || net.splitters() as usize > MOST_REQUESTED {
+            return Err(RequestFault::TooLarge);
+        }
+        if let Some(edge) = other_cap(&net) {
+            return Err(RequestFault::Cap(edge));
+        }
+        if let Some(line) = refused_pin(&net, rect, &pins) {
+            return Err(RequestFault::Pin(line));
+        }
+        if let Some(line) = refused_block(rect, &pins, &blocks) {
+            return Err(RequestFault::Block(line));
+        }
+        Ok(Request {
+            net,
+            rect,
+            tier,
+            pins,
+            blocks,
+        })
+    }
+
+    /// The network that is asked for.
+    pub fn net(&self) -> &Net
+        ensures net { result.now ≡ self.now.net }
+        ensures request { IsRequest self.now }
+    {
+        &self.net
+    }
+
+    /// The rectangle in which the parts are to lie.
+    pub fn rect(&self) -> Rect
+        ensures { result ≡ self.now.rect }
+    {
+        self.rect
+    }
+
+    /// The tier that the parts are to have.
+    pub fn tier(&self) -> Tier
+        ensures { result ≡ self.now.tier }
+    {
+        self.tier
+    }
+
+    /// The cells on which ends are to stand.
+    pub fn pins(&self) -> &[Pin]
+        ensures { result.now ≡ self.now.pins }
+    {
+        &self.pins
+    }
+
+    /// The cells on which no part is to stand.
+    pub fn blocks(&self) -> &[Block]
+        ensures { result.now ≡ self.now.blocks }
+    {
+        &self.blocks
+    }
+}

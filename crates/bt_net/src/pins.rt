@@ -1,0 +1,116 @@
+//! The lines that say where ends stand, and where no part does, and their words.
+ghost use Rattle.std.specs.Prelude.{◌≡◌, ℕ, ◌^◌, ◌<◌, ◌++◌, Option, codes, decimal, IfSome, IfNone};
+ghost use Rattle.bt_parts.specs.declared.part.Dir.{Dir};
+ghost use Rattle.bt_net.specs.declared.network.Block.{Block};
+ghost use Rattle.bt_net.specs.declared.network.End.{End};
+ghost use Rattle.bt_net.specs.declared.network.Pin.{Pin};
+ghost use Rattle.bt_net.specs.PinText.{end_text, dir_text, way_text, IsPinLine, IsBlockLine};
+ghost use Rattle.bt_net.specs.Wiring.{HasSmallSizes};
+ghost use Rattle.bt_net.specs.inner.Lines.{EndFits};
+ghost use Rattle.bt_net.specs.inner.PinWords.{AreCellAndWay, AreRowAndWay};
+
+use crate::network::{Block, End, NO_COORDINATE, Pin};
+use crate::wiring::Wiring;
+use crate::words::read_number;
+use bt_parts::Dir;
+use bt_text::{after_word, split_once};
+
+/// The pin of a pin line that has this number and names an end of the network.
+pub fn read_pin(wiring: &Wiring, number: usize, line: &[u8]) -> Option<Pin>
+    requires { HasSmallSizes wiring.now }
+    ensures some { IfSome result (IsPinLine wiring.now number line.now) }
+    ensures none { IfNone result ((pin : Pin) → IsPinLine wiring.now number line.now pin → ⊥) }
+{
+    let (end, words) = split_once(after_word(line, b"pin ")?, b' ')?;
+    let end = read_end(end)?;
+    let (x, y, dir) = read_cell_and_way(words)?;
+    if !wiring.has_end(end) {
+        return None;
+    }
+    Some(Pin {
+        end,
+        x,
+        y,
+        dir,
+        line: number,
+    })
+}
+
+/// The block of a block line that has this number.
+pub fn read_block(number: usize, line: &[u8]) -> Option<Block>
+    ensures some { IfSome result (IsBlockLine number line.now) }
+    ensures none { IfNone result ((block : Block) → IsBlockLine number line.now block → ⊥) }
+{
+    let (x, y) = split_once(after_word(line, b"block ")?, b' ')?;
+    Some(Block {
+        x: read_coordinate(x)?,
+        y: read_coordinate(y)?,
+        line: number,
+    })
+}
+
+/// An end: `i` and the number of an input, or `o` and that of an output.
+fn read_end(word: &[u8]) -> Option<End>
+    ensures some { IfSome result (λ e. word.now ≡ end_text e) }
+    ensures fits { IfSome result EndFits }
+    ensures none { IfNone result ((e : End) → EndFits e → word.now ≡ end_text e → ⊥) }
+{
+    match word {
+        [b'i', digits @ ..] => Some(End::Input(read_number(digits)?)),
+        [b'o', digits @ ..] => Some(End::Output(read_number(digits)?)),
+        _ => None,
+    }
+}
+
+/// The two numbers of a cell, and the direction where there is one.
+fn read_cell_and_way(words: &[u8]) -> Option<(u32, u32, Option<Dir>)>
+    ensures some { IfSome result (λ found. AreCellAndWay words.now found.0 found.1 found.2) }
+    ensures none { IfNone result ((x y : ℕ) (way : Option Dir) → AreCellAndWay words.now x y way → ⊥) }
+{
+    let (x, words) = split_once(words, b' ')?;
+    let x = read_coordinate(x)?;
+    let (y, way) = read_row_and_way(words)?;
+    Some((x, y, way))
+}
+
+/// The second number of a cell, and the direction where there is one.
+fn read_row_and_way(words: &[u8]) -> Option<(u32, Option<Dir>)>
+    ensures some { IfSome result (λ found. AreRowAndWay words.now found.0 found.1) }
+    ensures none { IfNone result ((y : ℕ) (way : Option Dir) → AreRowAndWay words.now y way → ⊥) }
+{
+    let Some((y, way)) = split_once(words, b' ') else {
+        return Some((read_coordinate(words)?, None));
+    };
+    Some((read_coordinate(y)?, Some(read_dir(way)?)))
+}
+
+/// A direction by its word.
+fn read_dir(word: &[u8]) -> Option<Dir>
+    ensures some { IfSome result (λ dir. word.now ≡ dir_text dir) }
+    ensures none { IfNone result ((dir : Dir) → word.now ≡ dir_text dir → ⊥) }
+{
+    if word == b"north".as_slice() {
+        Some(Dir::North)
+    } else if word == b"east".as_slice() {
+        Some(Dir::East)
+    } else if word == b"south".as_slice() {
+        Some(Dir::South)
+    } else if word == b"west".as_slice() {
+        Some(Dir::West)
+    } else {
+        None
+    }
+}
+
+/// A whole number of at most nine digits.
+fn read_coordinate(word: &[u8]) -> Option<u32>
+    ensures some { IfSome result (λ n. (word.now ≡ decimal n) × (n < NO_COORDINATE)) }
+    ensures none { IfNone result ((n : ℕ) → n < NO_COORDINATE → word.now ≡ decimal n → ⊥) }
+{
+    let number = read_number(word)?;
+    if number < NO_COORDINATE {
+        Some(number)
+    } else {
+        None
+    }
+}
