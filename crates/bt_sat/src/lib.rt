@@ -3,14 +3,17 @@
 
 mod assignment;
 mod choosers;
+mod core;
 mod kept;
 mod law;
 mod search;
 mod side;
+mod solver;
 mod truth;
 mod watched;
 mod watchers;
 
 pub use choosers::{Highest, Lowest, Recent};
 pub use law::settled_is_open;
+pub use solver::{Added, Answer, EPOCH_STEPS, Solver};
 pub use std::alloc::AllocError as Memory;
