@@ -3,8 +3,8 @@
 
 mod assignment;
 mod choosers;
-mod core;
 mod kept;
+mod kernel;
 mod law;
 mod search;
 mod side;

@@ -8,14 +8,14 @@ use std::marker::Model;
 
 /// A search, without its choosers.
 #[derive(Drop)]
-pub struct Core {
+pub struct Kernel {
     formula: Formula,
     log: Log,
     limit: u64,
     served: u64,
 }
 
-impl Model for Core {
+impl Model for Kernel {
     ghost use Rattle.bt_sat.specs.Solving.{SolverParts, Searches};
 
     ghost Value = { SolverParts };
@@ -31,7 +31,7 @@ impl Model for Core {
     ghost invariant = { λ _. ⊥ };
 }
 
-impl Core {
+impl Kernel {
     /// The steps so far.
     pub fn log(&self) -> &Log
         ensures { result.now ≡ log_of self.now }
