@@ -1,13 +1,13 @@
 -- What is chosen within a model settles a literal of each clause.
-use Rattle.std.proofs.Common.{◌≡◌, ℕ, ◌<◌, ◌+◌, ◌⊎◌, inl, inr, Bool, true, false, List, length, get_or, Option, Some, None, slice_get, take, ap, sym, ◌∙◌, refl, subst, arith}
-use Rattle.std.specs.List.{All, Any}
+use Rattle.std.proofs.Common.{◌≡◌, ℕ, ◌<◌, ◌+◌, inl, inr, Bool, true, List, length, get_or, Option, Some, None, slice_get, take, ap, sym, ◌∙◌, refl, subst}
+use Rattle.std.specs.List.{All}
 use Rattle.std.proofs.lemmas.Bool.{false≢true, cases_Bool}
 use Rattle.std.proofs.lemmas.Option.{slice_get_within, get_or_from_slice_get}
 use Rattle.std.proofs.lemmas.List.Elements.{All-more}
 use Rattle.bt_cnf.specs.Assignments.{truth_in}
 use Rattle.bt_cnf.specs.Meeting.{IsTrueUnder, MeetsClause}
 use Rattle.bt_cnf.specs.declared.literal.Lit.{Lit}
-use Rattle.bt_theory.specs.inner.Choosing.{IsWithin, IsSettled, HasSettled, IsChoice, Settles, IsChosen}
+use Rattle.bt_theory.specs.inner.Choosing.{IsWithin, IsSettled, HasSettled, IsChoice, IsChosen}
 
 -- so far: no literal is true in the model, or this one is
 abbrev pub Found : List Bool → List Lit → ℕ → Option ℕ → Type 0

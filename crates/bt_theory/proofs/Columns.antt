@@ -1,8 +1,7 @@
 -- The columns of rows are below the end of all columns.
-use Rattle.std.proofs.Common.{◌≡◌, ℕ, ◌<◌, ◌≤◌, ◌+◌, max, List, [], ◌∷◌, ◌++◌, length, get_or, map, ap, sym, ◌∙◌, refl, subst, arith, zero, suc}
+use Rattle.std.proofs.Common.{ℕ, ◌<◌, List, [], ◌∷◌, get_or, arith}
 use Rattle.std.specs.List.{All}
-use Rattle.std.proofs.lemmas.List.Elements.{All-nil, All-cons, All-head, All-tail, All-contains, All-contains_itself, Contains-append_left, Contains-append_right, Contains-get_or, All-weaker}
-use Rattle.std.specs.Prelude.{Contains}
+use Rattle.std.proofs.lemmas.List.Elements.{All-nil, All-cons, All-head, All-tail, All-contains, Contains-append_left, Contains-append_right, Contains-get_or, All-weaker}
 use Rattle.bt_frac.specs.Ratio.{Ratio}
 use Rattle.bt_frac.specs.Rows.{RowParts, columns_in, columns_of, end_of}
 use Rattle.bt_simplex.specs.Tableaus.{AreOverColumns}

@@ -1,7 +1,6 @@
 -- Turns of Bland's rule lead from reachable bases to reachable ones.
 use Rattle.std.proofs.Common.{◌≡◌, ℕ, Bool, List, [], ◌∷◌, map, ap, sym, ◌∙◌, refl, subst}
 use Rattle.std.specs.List.{All}
-use Rattle.bt_cnf.specs.Assignments.{truth_in}
 use Rattle.bt_cnf.specs.Formulas.{FormulaParts}
 use Rattle.bt_cnf.specs.Meeting.{MeetsClause}
 use Rattle.bt_simplex.specs.SolvedForms.{IsSolvedForm, basis_of}

@@ -1,10 +1,10 @@
 -- What one round comes to.
-use Rattle.std.proofs.Common.{◌≡◌, ℕ, ◌<◌, ◌≤◌, ◌+◌, Bool, true, false, IsTrue, List, [], ◌∷◌, ◌++◌, length, get_or, map, Option, Some, None, ap, sym, ◌∙◌, refl, subst, arith, zero, suc, length-append}
+use Rattle.std.proofs.Common.{◌≡◌, ℕ, ◌<◌, Bool, true, false, List, [], ◌∷◌, ◌++◌, length, get_or, map, Option, Some, None, ap, sym, ◌∙◌, refl, subst, arith, length-append}
 use Rattle.std.specs.Prelude.{Contains, Ok}
 use Rattle.std.specs.List.{All, AllZip, zip}
 use Rattle.std.proofs.lemmas.Bool.{false≢true}
 use Rattle.std.proofs.lemmas.List.{length-map, get_or-map}
-use Rattle.std.proofs.lemmas.List.Elements.{All-nil, All-cons, All-head, All-tail, All-push, All-append, All-map, All-contains, All-weaker, Contains-get_or, Contains-append_left}
+use Rattle.std.proofs.lemmas.List.Elements.{All-nil, All-cons, All-head, All-tail, All-append, All-map, All-contains, All-weaker, Contains-get_or, Contains-append_left}
 use Rattle.bt_frac.specs.Ratio.{Ratio, IsLowest}
 use Rattle.bt_frac.specs.Rows.{RowParts}
 use Rattle.bt_frac.specs.Values.{value_in, RowHolds}
@@ -13,27 +13,25 @@ use Rattle.bt_lin.specs.WeightedRows.{empty_row, picked}
 use Rattle.bt_cnf.specs.Assignments.{truth_in}
 use Rattle.bt_cnf.specs.Formulas.{FormulaParts}
 use Rattle.bt_cnf.specs.Meeting.{IsTrueUnder, MeetsClause, Meets}
-use Rattle.bt_cnf.specs.declared.literal.Lit.{Lit}
-use Rattle.bt_log.specs.Logs.{Step, Lemma, Learnt, clause_of}
+use Rattle.bt_log.specs.Logs.{Step, Lemma, Learnt}
 use Rattle.bt_log.specs.Validity.{NegatesAtom, IsValidLemma}
-use Rattle.bt_sat.specs.Solving.{SolverParts, IsLearnt, GoesOnBy, IsSoundLog, IsSpent, IsLemmaOf, clauses_of}
+use Rattle.bt_sat.specs.Solving.{SolverParts, IsLearnt, GoesOnBy, IsSoundLog, IsSpent, IsLemmaOf}
 use Rattle.bt_sat.specs.Answering.{GivesNext}
 use Rattle.bt_sat.specs.declared.solver.Answer.{Answer}
 use Rattle.bt_sat.specs.declared.solver.Answer.TheVariants as answer
 use Rattle.bt_sat.specs.declared.solver.Added.TheVariants as added
 use Rattle.bt_simplex.specs.SolvedForms.{basis_of}
 use Rattle.bt_simplex.specs.Tableaus.{TableauParts}
-use Rattle.bt_simplex.specs.Checks.{IsBound, MeetsBoundRows, RefutesBoundRows, IsCheck}
-use Rattle.bt_simplex.specs.declared.answers.Check.TheVariants as check
+use Rattle.bt_simplex.specs.Checks.{IsBound, MeetsBoundRows, RefutesBoundRows}
 use Rattle.bt_theory.specs.Reaching.{atom_rows, atom_vars, IsTableauOf, IsReachable, IsReached}
-use Rattle.bt_theory.specs.Outcomes.{FitsLemma, Fits, IsSound, IsRefutation, IsUsedUp}
-use Rattle.bt_theory.specs.inner.Choosing.{IsWithin, IsChosen}
-use Rattle.bt_theory.specs.inner.Rounds.{negations, weights_of, IsReady, HasModel, MakesLemma, IsLemmaAdded, IsEnd, GoesOnOrEnds, IsRound}
+use Rattle.bt_theory.specs.Outcomes.{FitsLemma, Fits, IsSound, IsUsedUp}
+use Rattle.bt_theory.specs.inner.Choosing.{IsChosen}
+use Rattle.bt_theory.specs.inner.Rounds.{negations, weights_of, IsReady, HasModel, MakesLemma, IsLemmaAdded, IsEnd, IsRound}
 use Rattle.bt_theory.specs.declared.round.End.{End}
 use Rattle.bt_theory.specs.declared.round.End.TheVariants as end
 use Rattle.bt_theory.proofs.Truths.{below_true}
 use Rattle.bt_theory.proofs.Chosen.{chosen_meets}
-use Rattle.bt_theory.proofs.Reached.{reached_on, bound_reached}
+use Rattle.bt_theory.proofs.Reached.{bound_reached}
 
 -- what holds of all of a list holds of all of its front
 pub all_front : {X : Type 0} (P : X → Type 0) (xs ys : List X) → All P (xs ++ ys) → All P xs

@@ -55,11 +55,7 @@ fn choice(lits: &[Lit], model: &[bool], chosen: &[bool]) -> Option<usize>
 }
 
 /// The model's values of the variables that are no atoms, and false for the atoms.
-fn without_atoms(
-    alloc: Global,
-    formula: &Formula,
-    model: &[bool],
-) -> Result<Vec<bool>, AllocError>
+fn without_atoms(alloc: Global, formula: &Formula, model: &[bool]) -> Result<Vec<bool>, AllocError>
     ensures size { IfOk result (λ chosen. length chosen.items ≡ length model.now) }
     ensures within { IfOk result (λ chosen. IsWithin model.now chosen.items) }
 {

@@ -8,7 +8,11 @@ use bt_frac::Frac;
 use std::alloc::{AllocError, Global};
 
 /// The negations of the atoms that have the weighed rows.
-pub fn negations(alloc: Global, atoms: &[Var], weighed: &[(usize, Frac)]) -> Result<Vec<Lit>, AllocError>
+pub fn negations(
+    alloc: Global,
+    atoms: &[Var],
+    weighed: &[(usize, Frac)],
+) -> Result<Vec<Lit>, AllocError>
     requires { All (λ w. w.0 < length atoms.now) weighed.now }
     ensures { IfOk result (λ lits. lits.items ≡ negations atoms.now weighed.now) }
 {

@@ -1,9 +1,7 @@
 -- An assignment that is chosen within a model: it keeps some true literal of each clause.
-use Rattle.std.specs.Prelude.{◌≡◌, ◌⊎◌, ℕ, ◌<◌, Bool, true, false, List, length, take, Option, Some, None}
+use Rattle.std.specs.Prelude.{◌≡◌, ◌⊎◌, ℕ, Bool, true, false, List, length, Option, Some, None}
 use Rattle.std.specs.List.{All, Any}
 use Rattle.bt_cnf.specs.Assignments.{truth_in}
-use Rattle.bt_cnf.specs.Formulas.{FormulaParts}
-use Rattle.bt_cnf.specs.Meeting.{MeetsClause}
 use Rattle.bt_cnf.specs.declared.literal.Lit.{Lit}
 
 -- what is chosen is true in the model

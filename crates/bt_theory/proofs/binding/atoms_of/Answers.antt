@@ -1,5 +1,5 @@
-use Rattle.std.proofs.Common.{◌≡◌, ◌∷◌, [], ◌++◌, ◌+◌, ◌<◌, ◌≤◌, ℕ, List, Option, None, Some, sym, subst, ap, ◌∙◌, arith, refl, true, false}
-use Rattle.std.specs.Option.{is_some, IsNone}
+use Rattle.std.proofs.Common.{◌≡◌, ◌∷◌, [], ◌++◌, ◌+◌, ℕ, List, Option, sym, subst, ap, ◌∙◌, arith, true, false}
+use Rattle.std.specs.Option.{is_some}
 use Rattle.bt_cnf.specs.Places.{IsPlaceOf}
 use Rattle.bt_theory.specs.Reaching.{atom_vars}
 use Rattle.bt_theory.proofs.Atoms.{IsSplitAt, split_found, split_other, split_all, found_at, not_found}

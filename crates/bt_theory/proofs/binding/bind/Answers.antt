@@ -1,4 +1,4 @@
-use Rattle.std.proofs.Common.{◌≡◌, ◌<◌, ◌+◌, ◌≤◌, ◌++◌, ◌∷◌, [], Bool, true, false, ℕ, List, take, drop, map, length, get_or, ◌∙◌, ap, sym, arith}
+use Rattle.std.proofs.Common.{◌≡◌, ◌<◌, ◌+◌, ◌++◌, ◌∷◌, [], Bool, true, false, ℕ, List, take, drop, map, length, get_or, ◌∙◌, ap, sym, arith}
 use Rattle.std.proofs.lemmas.List.{length-map, length-take-le, set_at, drop_more, map_more, append_assoc}
 use Rattle.std.proofs.Math.ListN.{set}
 use Rattle.bt_cnf.specs.Assignments.{truth_in}

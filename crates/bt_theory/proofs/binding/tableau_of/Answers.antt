@@ -1,6 +1,4 @@
-use Rattle.std.proofs.Common.{sym, subst, map}
-use Rattle.bt_frac.specs.Rows.{RowParts}
-use Rattle.std.specs.Prelude.{List, ℕ}
+use Rattle.std.proofs.Common.{sym, subst}
 use Rattle.bt_simplex.specs.Tableaus.{AreOverColumns}
 use Rattle.bt_theory.specs.Reaching.{atom_rows, columns_of}
 use Rattle.bt_theory.proofs.Columns.{over_end}

@@ -1,12 +1,10 @@
-use Rattle.std.proofs.Common.{◌≡◌, ◌<◌, ◌+◌, ◌≤◌, take, length, get_or, [], ◌∙◌, ap, sym, subst, arith, refl}
-use Rattle.std.specs.List.{All}
-use Rattle.std.specs.Vec.{with_items}
+use Rattle.std.proofs.Common.{◌≡◌, ◌+◌, take, length, ◌∙◌, ap, sym, subst}
 use Rattle.std.proofs.lemmas.List.{with_items_is}
 use Rattle.std.proofs.lemmas.List.Elements.{All-get_or}
 use Rattle.std.proofs.lemmas.Option.{slice_get_within, get_or_from_slice_get}
 use Rattle.bt_cnf.specs.Assignments.{truth_in}
 use Rattle.bt_cnf.specs.Meeting.{MeetsClause}
-use Rattle.bt_theory.specs.inner.Choosing.{IsWithin, HasSettled, IsChosen}
+use Rattle.bt_theory.specs.inner.Choosing.{IsChosen}
 use Rattle.bt_theory.proofs.Chosen.{chosen_more}
 use Rattle.bt_theory.proofs.choosing.choose.Goals as goal
 

@@ -1,6 +1,6 @@
-use Rattle.std.proofs.Common.{map, subst, ◌∙◌, sym, ap}
+use Rattle.std.proofs.Common.{map, subst}
 use Rattle.bt_sat.specs.Answering.{GivesNext}
-use Rattle.bt_theory.proofs.Rounds.{ready_next, refuted_round, spent_round, round_after}
+use Rattle.bt_theory.proofs.Rounds.{ready_next, refuted_round, spent_round}
 use Rattle.bt_theory.proofs.round.round.Goals as goal
 
 pub try_model-requires-clause-ready : goal.try_model-requires-clause-ready

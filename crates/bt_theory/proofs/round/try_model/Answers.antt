@@ -1,10 +1,9 @@
-use Rattle.std.proofs.Common.{◌≡◌, ◌<◌, List, Bool, ℕ, map, length, ◌∙◌, ap, sym, subst, refl, Some, None}
+use Rattle.std.proofs.Common.{◌≡◌, ◌<◌, List, Bool, ℕ, map, length, ◌∙◌, ap, sym, subst}
 use Rattle.std.specs.List.{All}
 use Rattle.bt_cnf.specs.Assignments.{truth_in}
 use Rattle.bt_cnf.specs.Formulas.{FormulaParts}
 use Rattle.bt_cnf.specs.Meeting.{MeetsClause}
 use Rattle.bt_log.specs.Logs.{clause_of}
-use Rattle.bt_sat.specs.Solving.{SolverParts}
 use Rattle.bt_simplex.specs.Tableaus.{TableauParts}
 use Rattle.bt_simplex.specs.Checks.{IsCheck}
 use Rattle.bt_theory.specs.inner.Choosing.{IsChosen}
@@ -12,7 +11,7 @@ use Rattle.bt_sat.specs.declared.solver.Added.TheVariants as added
 use Rattle.bt_theory.specs.inner.Rounds.{MakesLemma, IsLemmaAdded}
 use Rattle.bt_theory.specs.declared.round.End.TheVariants as end
 use Rattle.bt_theory.proofs.Reached.{reached_on}
-use Rattle.bt_theory.proofs.Rounds.{all_front, reached, values_meet, sat_round, rows_below, makes_lemma, kept_round, lemma_spent}
+use Rattle.bt_theory.proofs.Rounds.{all_front, reached, values_meet, sat_round, rows_below, makes_lemma, kept_round}
 use Rattle.bt_theory.proofs.round.try_model.Goals as goal
 
 -- what was chosen for the formula that was lent, and the rows that were bound

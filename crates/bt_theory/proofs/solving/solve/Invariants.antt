@@ -8,7 +8,7 @@ invariant-loop-solver g l = record {
   formula : l.solver.kernel.formula ≡ l.fn.formula;
   limit : l.solver.kernel.limit ≡ l.limits.learnt;
   ready : IsReady l.solver.kernel l.tableau;
-  atoms : l.atoms.items ≡ atom_vars l.fn.formula
+  atoms : l.atoms.items ≡ atom_vars l.fn.formula;
 }
 
 abbrev pub decreases-loop-solver : goal.decreases-loop-solver
