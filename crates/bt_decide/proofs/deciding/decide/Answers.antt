@@ -1,17 +1,16 @@
 use Rattle.std.proofs.Common.{List, Bool, sym, subst, ◌≡◌}
 use Rattle.bt_frac.specs.Ratio.{Ratio}
 use Rattle.bt_frac.specs.Values.{value_in}
-use Rattle.bt_net.specs.Network.{Network, IsNetwork}
+use Rattle.bt_net.specs.Network.{Network}
 use Rattle.bt_flow.specs.declared.property.Property.{Property}
 use Rattle.bt_flow.specs.States.{Fractions, IsTrueOf}
 use Rattle.bt_flow.specs.Properties.{Breaks}
 use Rattle.bt_cnf.specs.Assignments.{truth_in}
-use Rattle.bt_cnf.specs.Formulas.{FormulaParts}
 use Rattle.bt_cnf.specs.Meeting.{Meets}
 use Rattle.bt_fenc.specs.FlowFormula.{flow_formula}
 use Rattle.bt_fenc.specs.Solutions.{BreaksWhatIsMet}
 use Rattle.bt_fenc.proofs.Refuted.{refuted_holds}
-use Rattle.bt_theory.specs.Outcomes.{IsOutcome, IsRefutation}
+use Rattle.bt_theory.specs.Outcomes.{IsOutcome}
 use Rattle.bt_decide.proofs.deciding.decide.Goals as goal
 
 -- the values that meet the formula are those that were lent to form the state
@@ -34,4 +33,4 @@ returns-in-Refuted g c =
     let p = c.args.property in
     let outcome = subst (λ f. IsOutcome f c.args.limits c.in_ok-values.field-0) c.in_ok-formula.ensures c.in_ok-values.ensures in
     let refutes = subst (IsOutcome (flow_formula n p) c.args.limits) c.in-Refuted.is outcome in
-    (refutes, refuted_holds n p c.in-Refuted.log.steps c.edges.ensures.network refutes.refutes)
+    (refuted_holds n p c.in-Refuted.log.steps c.edges.ensures.network refutes.refutes, refutes)
