@@ -15,3 +15,4 @@ pub mod Refuted
 pub mod Claimed
 pub mod Solved
 pub mod States
+pub mod Sizes

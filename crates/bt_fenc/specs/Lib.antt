@@ -6,4 +6,5 @@ pub mod Numbering
 pub mod Within
 pub mod Laws
 pub mod Solutions
+pub mod Sizes
 pub mod inner

@@ -1,6 +1,7 @@
 //! Laws of the flow formula, as contracts of functions that do nothing.
 ghost use Rattle.bt_fenc.specs.Laws.{TrueClaimsMeet, SteadyMeets, BreakingMeets, RefutedHolds};
 ghost use Rattle.bt_fenc.specs.Solutions.{MeetingBreaks};
+ghost use Rattle.bt_fenc.specs.Sizes.{FlowFormulasAreSmall};
 
 /// Marks and values of which each clause has a true claim give an assignment, which begins with the marks
 /// and meets the formula of the clauses with the values. So nothing is lost by the numbering.
@@ -30,4 +31,10 @@ pub fn meeting_breaks()
 /// property: the network has it.
 pub fn refuted_holds()
     ensures { RefutedHolds }
+{}
+
+/// A network's flow formulas have fewer than 2 ^ 20 variables, and fewer clauses than that. So their numbers
+/// are short in a text.
+pub fn flow_formulas_are_small()
+    ensures { FlowFormulasAreSmall }
 {}
