@@ -70,7 +70,7 @@ module _ (old new : SolverParts) (t : TableauParts) (waiting left : List (Option
       record {
         formula = gives.goes_on.formula;
         limit = gives.goes_on.limit;
-        says = record { sound = sound_log new gives.sound (ready_next answer.Refuted gives).fits; refutes = gives.says.1 };
+        says = (record { sound = sound_log new gives.sound (ready_next answer.Refuted gives).fits; refutes = gives.says.1 }, gives.sound.within);
       }
 
   pub spent_round : (pivots : ℕ) → GivesNext old waiting new left answer.Spent → IsRound pivots old new t (Some end.Spent)

@@ -1,5 +1,5 @@
 -- What is right to say of a formula that is decided within limits.
-use Rattle.std.specs.Prelude.{◌≡◌, ℕ, List, [], ◌∷◌, ◌++◌, length, map, true, Ok}
+use Rattle.std.specs.Prelude.{◌≡◌, ◌≤◌, ℕ, List, [], ◌∷◌, ◌++◌, length, map, true, Ok}
 use Rattle.std.specs.List.{All, AllZip, zip}
 use Rattle.bt_frac.specs.Ratio.{Ratio}
 use Rattle.bt_frac.specs.Rows.{RowParts}
@@ -71,7 +71,7 @@ pub record IsTooWide (f : FormulaParts) (pivots : ℕ) (at : wide.Wide) : Type 0
 -- what is right to say of a formula within limits
 abbrev pub IsOutcome : FormulaParts → Limits → Outcome → Type 0
 IsOutcome f limits (Sat values assignment) = Meets f (truth_in assignment.items) (value_in values.items)
-IsOutcome f limits (Refuted log) = IsRefutation f log.steps
+IsOutcome f limits (Refuted log) = IsRefutation f log.steps × (length log.steps ≤ limits.learnt)
 IsOutcome f limits (Spent log) = IsUsedUp f limits.learnt log.steps
 IsOutcome f limits (Pivots trail) = TurnsOn f limits.pivots trail
 IsOutcome f limits (Wide at) = IsTooWide f limits.pivots at

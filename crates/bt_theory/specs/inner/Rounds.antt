@@ -56,7 +56,7 @@ IsLemmaAdded old new atoms weighed added.Spent = (new ≡ old) × IsSpent old
 -- what is right to say at the end of a search
 abbrev pub IsEnd : ℕ → SolverParts → End → Type 0
 IsEnd pivots s (end.Sat values assignment) = Meets s.formula (truth_in assignment.items) (value_in values.items)
-IsEnd pivots s end.Refuted = IsRefutation s.formula s.steps
+IsEnd pivots s end.Refuted = IsRefutation s.formula s.steps × (length s.steps ≤ s.limit)
 IsEnd pivots s end.Spent = IsUsedUp s.formula s.limit s.steps
 IsEnd pivots s (end.Pivots trail) = TurnsOn s.formula pivots trail
 IsEnd pivots s (end.Wide at) = IsTooWide s.formula pivots at

@@ -33,4 +33,4 @@ returns-in-Refuted g c =
     let p = c.args.property in
     let outcome = subst (λ f. IsOutcome f c.args.limits c.in_ok-values.field-0) c.in_ok-formula.ensures c.in_ok-values.ensures in
     let refutes = subst (IsOutcome (flow_formula n p) c.args.limits) c.in-Refuted.is outcome in
-    (refuted_holds n p c.in-Refuted.log.steps c.edges.ensures.network refutes.refutes, refutes)
+    (refuted_holds n p c.in-Refuted.log.steps c.edges.ensures.network refutes.0.refutes, refutes.0, refutes.1)
