@@ -38,7 +38,7 @@ printed_lines [] = refl
 printed_lines (s ∷ steps) =
     ap (λ t. (t ++ 10 ∷ []) ++ flat_map step_line steps) (printed_step s) ∙ ap (λ t. line (written_text (written_step s)) ++ t) (printed_lines steps)
 
-lits_back : (lits : List Lit) → map lit_of (map written_lit lits) ≡ lits
+pub lits_back : (lits : List Lit) → map lit_of (map written_lit lits) ≡ lits
 lits_back [] = refl
 lits_back (l ∷ lits) =
     let same : l.var + 1 - 1 ≡ l.var = omega arith in

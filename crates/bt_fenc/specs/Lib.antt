@@ -5,4 +5,6 @@ pub mod FlowFormula
 pub mod Numbering
 pub mod Within
 pub mod Laws
+pub mod Solutions
+pub mod Sizes
 pub mod inner

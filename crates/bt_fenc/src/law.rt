@@ -1,5 +1,7 @@
 //! Laws of the flow formula, as contracts of functions that do nothing.
 ghost use Rattle.bt_fenc.specs.Laws.{TrueClaimsMeet, SteadyMeets, BreakingMeets, RefutedHolds};
+ghost use Rattle.bt_fenc.specs.Solutions.{MeetingBreaks};
+ghost use Rattle.bt_fenc.specs.Sizes.{FlowFormulasAreSmall};
 
 /// Marks and values of which each clause has a true claim give an assignment, which begins with the marks
 /// and meets the formula of the clauses with the values. So nothing is lost by the numbering.
@@ -19,8 +21,20 @@ pub fn breaking_meets()
     ensures { BreakingMeets }
 {}
 
+/// Each state whose marks and values are those of an assignment that meets the flow formula of a network and
+/// a property breaks the property. So the formula is met by nothing but such states.
+pub fn meeting_breaks()
+    ensures { MeetingBreaks }
+{}
+
 /// Where a log, whoever wrote it, refutes the flow formula of a network and a property, no state breaks the
 /// property: the network has it.
 pub fn refuted_holds()
     ensures { RefutedHolds }
+{}
+
+/// A network's flow formulas have fewer than 2 ^ 20 variables, and fewer clauses than that. So their numbers
+/// are short in a text.
+pub fn flow_formulas_are_small()
+    ensures { FlowFormulasAreSmall }
 {}
