@@ -1,0 +1,8 @@
+//! The placement formula of a request: the layouts that lay the request, as a formula over what each cell holds.
+#![tactic(auto)]
+
+mod fact;
+
+pub use fact::{Content, Fact, Half, Shape};
+pub use std::alloc::AllocError as Memory;
+
