@@ -1,3 +1,5 @@
 pub mod Meeting
 pub mod Placing
 pub mod Matching
+pub mod Reading
+pub mod Deciding
