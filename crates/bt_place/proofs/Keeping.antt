@@ -120,6 +120,14 @@ pub each_both : {X : Type 0} (P : X → Type 0) (xs ys : List X) → AllByRecurs
 each_both P [] ys h k = k
 each_both P (x ∷ xs) ys h k = (h.0, each_both P xs ys h.1 k)
 
+pub each_three : {X : Type 0} (P : X → Type 0) (xs ys zs : List X) → AllByRecursion P xs → AllByRecursion P ys → AllByRecursion P zs
+    → AllByRecursion P (xs ++ ys ++ zs)
+each_three P xs ys zs h k l = each_both P (xs ++ ys) zs (each_both P xs ys h k) l
+
+pub each_four : {X : Type 0} (P : X → Type 0) (ws xs ys zs : List X) → AllByRecursion P ws → AllByRecursion P xs → AllByRecursion P ys → AllByRecursion P zs
+    → AllByRecursion P (ws ++ xs ++ ys ++ zs)
+each_four P ws xs ys zs g h k l = each_both P (ws ++ xs ++ ys) zs (each_three P ws xs ys g h k) l
+
 pub each_flat : {X Y : Type 0} (P : Y → Type 0) (f : X → List Y) (xs : List X) → ((x : X) → In xs x → AllByRecursion P (f x)) → AllByRecursion P (flat_map f xs)
 each_flat P f [] h = tt
 each_flat P f (x ∷ xs) h = each_both P (f x) (flat_map f xs) (h x (inl refl)) (each_flat P f xs (λ y at. h y (inr at)))

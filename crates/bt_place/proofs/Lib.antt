@@ -6,3 +6,6 @@ pub mod Deciding
 pub mod Keeping
 pub mod Geometry
 pub mod Chaining
+pub mod Laid
+pub mod ContentsKept
+pub mod StandingKept
