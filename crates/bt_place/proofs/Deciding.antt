@@ -166,7 +166,7 @@ module _ (parts : List Part) (orderly : IsOrderly parts) where
           (both (same_kind part.kind (kind_of of)) (both (same_dir part.dir dir) (same_cell c (cell_of of part))))
       by (inr none) = inr (λ s. none s.index (stands_at c of dir s))
 
-  goes_decided : (c : Cell) (dir : Dir) → Decided (Goes parts c dir)
+  pub goes_decided : (c : Cell) (dir : Dir) → Decided (Goes parts c dir)
   goes_decided c dir = by (at_cases parts c) (at_cases parts (step dir c))
     where
       by : ((j : ℕ) × IsAt parts j c) ⊎ ((j : ℕ) → IsAt parts j c → ⊥) → ((j : ℕ) × IsAt parts j (step dir c)) ⊎ ((j : ℕ) → IsAt parts j (step dir c) → ⊥)

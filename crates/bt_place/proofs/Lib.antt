@@ -9,3 +9,4 @@ pub mod Chaining
 pub mod Laid
 pub mod ContentsKept
 pub mod StandingKept
+pub mod GoingKept
