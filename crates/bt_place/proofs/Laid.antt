@@ -57,6 +57,10 @@ pub from_inside : {X : Type 0} (rect : Rect) (c : Cell) (xs : List X) (x : X) �
 from_inside rect c xs x h =
     ⊎_elim (λ i. (i.0, subst (λ b. In (cond b xs []) x) i.1 h)) (λ o. absurd (subst (λ b. In (cond b xs []) x) o.1 h)) (inside_cases rect c)
 
+pub in_outside : {X : Type 0} (rect : Rect) (c : Cell) (xs : List X) (x : X) → (IsInside rect c → ⊥) → In xs x → In (where_outside rect c xs) x
+in_outside rect c xs x out h =
+    ⊎_elim (λ i. absurd (out i.0)) (λ o. subst (λ b. In (cond b [] xs) x) (sym o.1) h) (inside_cases rect c)
+
 -- ---- shapes
 
 -- the shape of a part on a cell that it covers

@@ -10,3 +10,6 @@ pub mod Laid
 pub mod ContentsKept
 pub mod StandingKept
 pub mod GoingKept
+pub mod EndsKept
+pub mod UndergroundKept
+pub mod LabelsKept
