@@ -17,7 +17,7 @@ use Rattle.bt_recover.proofs.ChainLemmas.{orderly_of, no_link, path_stop, longes
 use Rattle.bt_recover.proofs.ExistLemmas.{run_from, front_of, giver_cases, giver_part, part_cases, half_chain, empty_chain, input_chain, unhanded_input, splitter_feeds, output_link}
 use Rattle.bt_recover.proofs.HandLaws.{output_hands_none, one_giver}
 use Rattle.bt_recover.proofs.SameChain.{source_cell}
-use Rattle.bt_place.proofs.Reading.{last_link}
+use Rattle.bt_place.proofs.Reading.{last_link, ComesFromCell}
 
 -- a path and another from its end on are one path, which has all of the other
 join : (parts : List Part) (i j last : ℕ) (xs ys : List ℕ) → Path parts i j xs → Path parts j last ys
@@ -49,6 +49,12 @@ path_last_of parts i last xs (more j m l rest link hands path) head (next ∷ li
 
 pub path_last : (parts : List Part) (i last head : ℕ) (links : List ℕ) → Path parts i last (head ∷ links) → last_link head links ≡ last
 path_last parts i last head links path = path_last_of parts i last (head ∷ links) path head links refl
+
+-- what is handed on at the end of a path comes from the cell of its last part
+pub comes_cell : (parts : List Part) (source : Source) (links : List ℕ) (first last : ℕ) (cell : Cell) → Path parts first last links → IsAt parts last cell
+    → ComesFromCell parts source links cell
+comes_cell parts source [] first last cell path at = let head = path_head parts first last [] 0 path in let lt = head.0 in absurd (omega arith)
+comes_cell parts source (i ∷ links) first last cell path at = subst (λ j. IsAt parts j cell) (sym (path_last parts first last i links path)) at
 
 -- ---- at a place of a longest chain
 
