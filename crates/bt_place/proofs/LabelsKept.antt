@@ -169,7 +169,7 @@ module _ (r : LayoutRequest) (parts : List Part) (lays : Lays parts r) where
   split_at s i named splitter = record { index = i; named = named; part = splitter.0; is_part = splitter.1; kind = splitter.2 }
 
   -- the half that stands on the cell where something is handed to a splitter
-  half_behind : (dir : Dir) (c : Cell) (half : Half) → (s : Stands parts (step dir c) (shape.Half half) dir) → behind s.part.dir (half_at half s.part.dir s.part.cell) ≡ c
+  pub half_behind : (dir : Dir) (c : Cell) (half : Half) → (s : Stands parts (step dir c) (shape.Half half) dir) → behind s.part.dir (half_at half s.part.dir s.part.cell) ≡ c
   half_behind dir c half s = ap (behind s.part.dir) (sym s.cell) ∙ ap (λ d. behind d (step dir c)) s.turned ∙ behind_step dir c
 
   into_stay : (c : Cell) (dir : Dir) (e : ℕ) (target : Target) → IsTargetOf lays.naming (m.chain_of e).sink target → AllStay S (into_half_rules c dir e target)

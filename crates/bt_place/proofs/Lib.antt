@@ -13,3 +13,4 @@ pub mod GoingKept
 pub mod EndsKept
 pub mod UndergroundKept
 pub mod LabelsKept
+pub mod PortsKept

@@ -49,7 +49,7 @@ module _ (r : LayoutRequest) (parts : List Part) (lays : Lays parts r) where
   abbrev pub split_of : (i : ℕ) (splitter : IsSplitter parts i) (s : ℕ) → Bears lays.naming.splitters s i → Splits parts lays.naming s
   split_of i splitter s named = record { index = i; named = named; part = splitter.0; is_part = splitter.1; kind = splitter.2 }
 
-  one_split : (s : ℕ) (a b : Splits parts lays.naming s) → (a.index ≡ b.index) × (a.part ≡ b.part)
+  pub one_split : (s : ℕ) (a b : Splits parts lays.naming s) → (a.index ≡ b.index) × (a.part ≡ b.part)
   one_split s a b = same_split parts (is_orderly r parts lays) lays.naming lays.shows.names.splitters s a b
 
   owners_stay : (c : Cell) (dir : Dir) → Stays S (owner_rule r.net.splitters c dir)
