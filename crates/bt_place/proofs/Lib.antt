@@ -14,3 +14,5 @@ pub mod EndsKept
 pub mod UndergroundKept
 pub mod LabelsKept
 pub mod PortsKept
+pub mod PinningKept
+pub mod Counting

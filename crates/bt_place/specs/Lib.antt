@@ -9,5 +9,6 @@ pub mod Labels
 pub mod Ports
 pub mod Pinning
 pub mod Numbering
+pub mod Within
 pub mod PlaceFormula
 pub mod Laws
