@@ -84,3 +84,7 @@ get_joined (xs ∷ lists) (suc k) j d lt =
       ap (λ n. get_or (xs ++ joined lists) n d) (let z : length xs + before_list lists k + j ≡ length xs + (before_list lists k + j) = omega arith in z)
           ∙ get_right xs (joined lists) (before_list lists k + j) d ∙ more.1,
     )
+
+pub length_joined : {X : Type 0} (lists : List (List X)) → length (joined lists) ≡ before_list lists (length lists)
+length_joined [] = refl
+length_joined (xs ∷ lists) = let more = length_joined lists in length-append xs (joined lists) ∙ ap (λ n. length xs + n) more

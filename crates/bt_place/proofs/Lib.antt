@@ -16,3 +16,4 @@ pub mod LabelsKept
 pub mod PortsKept
 pub mod PinningKept
 pub mod Counting
+pub mod Inverse
