@@ -17,3 +17,4 @@ pub mod PortsKept
 pub mod PinningKept
 pub mod Counting
 pub mod Inverse
+pub mod Ranking
