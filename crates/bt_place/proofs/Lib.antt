@@ -18,3 +18,4 @@ pub mod PinningKept
 pub mod Counting
 pub mod Inverse
 pub mod Ranking
+pub mod RulesWithin
