@@ -19,3 +19,4 @@ pub mod Counting
 pub mod Inverse
 pub mod Ranking
 pub mod RulesWithin
+pub mod Laying

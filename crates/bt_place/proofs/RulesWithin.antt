@@ -52,6 +52,12 @@ pub all_outside : {X : Type 0} (rect : Rect) (c : Cell) (P : X → Type 0) (xs :
 all_outside rect c P xs h =
     ⊎_elim (λ i. subst (λ b. AllByRecursion P (cond b [] xs)) (sym i.1) tt) (λ o. subst (λ b. AllByRecursion P (cond b [] xs)) (sym o.1) h) (inside_cases rect c)
 
+-- what is so of all items is so of each
+pub all_of : {X : Type 0} (P : X → Type 0) (xs : List X) (x : X) → All P xs → In xs x → P x
+all_of P [] x all h = absurd h
+all_of P (y ∷ xs) x all (inl e) = subst P (sym e) (all 0 x (omega arith))
+all_of P (y ∷ xs) x all (inr h) = all_of P xs x (λ k d lt. all (suc k) d (omega arith)) h
+
 module _ (z : Sizes) where
   at_most_within : (facts : List Fact) → AllByRecursion (IsWithin z) facts → AllByRecursion (HasWithin z) (at_most_one facts)
   at_most_within [] h = tt
@@ -378,3 +384,112 @@ module _ (r : LayoutRequest) (is : IsRequest r) where
       each_three (HasWithin z) (start_rules c p.0 p.1.start) (target_rules c p.0 p.1.target) (flat_map (label_way_rules r.rect c p.0 p.1) dirs)
       (starts_within c p.0 p.1.start h edge.0 edge.1) (targets_within c p.0 p.1.target h edge.0 edge.2)
       (each_flat (HasWithin z) (label_way_rules r.rect c p.0 p.1) dirs (λ d k. way_within c p.0 p.1 d h edge.0 edge.1 edge.2))))
+
+  -- ---- ports
+
+  one_port_within : (port : Half → Fact) (b : Bool) → IsWithin z (port Lesser) → IsWithin z (port Greater) → R (one_port_rules port b)
+  one_port_within port true l g = (record { given = tt; one_of = (l, (g, tt)) }, (record { given = (l, (g, tt)); one_of = tt }, tt))
+  one_port_within port false l g = (record { given = (l, tt); one_of = tt }, (record { given = (g, tt); one_of = tt }, tt))
+
+  leaving_edge : (s : ℕ) (p : ℕ × Edge) → In (edges_from r.net.edges s) p → (p.0 < length r.net.edges) × StartsIn r.net p.1.start × EndsIn r.net p.1.target
+  leaving_edge s p h = edge_within p (from_filter (λ numbered. leaves s numbered.1) (enumerate_from 0 r.net.edges) p h).0
+
+  entering_edge : (s : ℕ) (p : ℕ × Edge) → In (edges_into r.net.edges s) p → (p.0 < length r.net.edges) × StartsIn r.net p.1.start × EndsIn r.net p.1.target
+  entering_edge s p h = edge_within p (from_filter (λ numbered. enters s numbered.1) (enumerate_from 0 r.net.edges) p h).0
+
+  goes_on_within : (c : Cell) (e : ℕ) (target : Target) → I c → e < length r.net.edges → EndsIn r.net target → A (goes_on c e target)
+  goes_on_within c e (to.Output o) h lt s = ((h, lt), tt)
+  goes_on_within c e (to.Split t) h lt s = ((h, lt), ((h, s), tt))
+
+  at_once_within : (at port : Fact) (c : Cell) (d : Dir) (e : ℕ) (target : Target) → IsWithin z at → IsWithin z port → I c → e < length r.net.edges → EndsIn r.net target → R (at_once_rules at port c d e target)
+  at_once_within at port c d e (to.Output o) a p h lt s = tt
+  at_once_within at port c d e (to.Split t) a p h lt s =
+      each_map (HasWithin z) (λ half. rule (at ∷ port ∷ holds c (shape.Half half) d ∷ []) (fact.Enters t e half ∷ [])) halves
+      (λ half k. record { given = (a, (p, (h, tt))); one_of = ((s, lt), tt) })
+
+  half_ports_within : (at : Fact) (s : ℕ) (half : Half) (c : Cell) (d : Dir) → IsWithin z at → s < r.net.splitters → I c → R (half_port_rules r.rect r.net.edges at s half c d)
+  half_ports_within at s half c d a lt h = (
+    record { given = (a, tt); one_of = (h, each_map (IsWithin z) (λ numbered. fact.Leaves s numbered.0 half) (edges_from r.net.edges s) (λ p k. (lt, (leaving_edge s p k).0))) },
+    each_both (HasWithin z) (flat_map (leaving_rules r.rect at s half c d) (edges_from r.net.edges s)) (map (entering_rule r.rect at s half c d) (edges_into r.net.edges s))
+        (each_flat (HasWithin z) (leaving_rules r.rect at s half c d) (edges_from r.net.edges s) (λ p k.
+        let edge = leaving_edge s p k in (
+          record { given = (a, ((lt, edge.0), (h, tt))); one_of = tt },
+          all_inside r.rect (step d c) (HasWithin z) (rule (at ∷ fact.Leaves s p.0 half ∷ []) (goes_on (step d c) p.0 p.1.target) ∷ at_once_rules at (fact.Leaves s p.0 half) (step d c) d p.0 p.1.target)
+              (λ n. (
+                record { given = (a, ((lt, edge.0), tt)); one_of = goes_on_within (step d c) p.0 p.1.target n edge.0 edge.2 },
+                at_once_within at (fact.Leaves s p.0 half) (step d c) d p.0 p.1.target a (lt, edge.0) n edge.0 edge.2,
+              )),
+        )))
+        (each_map (HasWithin z) (entering_rule r.rect at s half c d) (edges_into r.net.edges s) (λ p k.
+        record { given = (a, ((lt, (entering_edge s p k).0), still_within c d)); one_of = tt })),
+  )
+
+  ports_within : (s : ℕ) → s < r.net.splitters → R (port_rules r.rect r.net.edges s)
+  ports_within s lt = each_four (HasWithin z)
+      (flat_map (λ numbered. one_port_rules (fact.Leaves s numbered.0) (leaves s numbered.1)) (enumerate_from 0 r.net.edges))
+      (flat_map (λ numbered. one_port_rules (fact.Enters s numbered.0) (enters s numbered.1)) (enumerate_from 0 r.net.edges))
+      (flat_map (apart_rules r.net.edges s) halves)
+      (flat_map (λ c. flat_map (standing_port_rules r.rect r.net.edges s c) dirs) (cells_of r.rect))
+      (each_flat (HasWithin z) (λ numbered. one_port_rules (fact.Leaves s numbered.0) (leaves s numbered.1)) (enumerate_from 0 r.net.edges)
+      (λ p h. let e = (edge_within p h).0 in one_port_within (fact.Leaves s p.0) (leaves s p.1) (lt, e) (lt, e)))
+      (each_flat (HasWithin z) (λ numbered. one_port_rules (fact.Enters s numbered.0) (enters s numbered.1)) (enumerate_from 0 r.net.edges)
+      (λ p h. let e = (edge_within p h).0 in one_port_within (fact.Enters s p.0) (enters s p.1) (lt, e) (lt, e)))
+      (each_flat (HasWithin z) (apart_rules r.net.edges s) halves (λ half h. each_both (HasWithin z)
+      (at_most_one (map (λ numbered. fact.Leaves s numbered.0 half) (edges_from r.net.edges s))) (at_most_one (map (λ numbered. fact.Enters s numbered.0 half) (edges_into r.net.edges s)))
+      (at_most_within z (map (λ numbered. fact.Leaves s numbered.0 half) (edges_from r.net.edges s))
+      (each_map (IsWithin z) (λ numbered. fact.Leaves s numbered.0 half) (edges_from r.net.edges s) (λ p k. (lt, (leaving_edge s p k).0))))
+      (at_most_within z (map (λ numbered. fact.Enters s numbered.0 half) (edges_into r.net.edges s))
+      (each_map (IsWithin z) (λ numbered. fact.Enters s numbered.0 half) (edges_into r.net.edges s) (λ p k. (lt, (entering_edge s p k).0))))))
+      (each_flat (HasWithin z) (λ c. flat_map (standing_port_rules r.rect r.net.edges s c) dirs) (cells_of r.rect)
+      (λ c h. each_flat (HasWithin z) (standing_port_rules r.rect r.net.edges s c) dirs
+      (λ d k. each_flat (HasWithin z) (λ half. where_inside r.rect (half_at half d c) (half_port_rules r.rect r.net.edges (fact.At s c d) s half (half_at half d c) d)) halves
+      (λ half l. all_inside r.rect (half_at half d c) (HasWithin z) (half_port_rules r.rect r.net.edges (fact.At s c d) s half (half_at half d c) d)
+      (λ here. half_ports_within (fact.At s c d) s half (half_at half d c) d (lt, from_cells r.rect c h) lt here)))))
+
+  -- ---- pins and blocks
+
+  end_within : (c : Cell) (end : End) → I c → HasEnd r.net end → IsWithin z (stands_there c end)
+  end_within c (Input k) h e = (h, e)
+  end_within c (Output k) h e = (h, e)
+
+  turned_within : (c : Cell) (end : End) (dir : Option Dir) → I c → R (turned_rules c end dir)
+  turned_within c end None h = tt
+  turned_within c end (Some d) h =
+      each_flat (HasWithin z) (λ of. map (λ other. not_all (holds c of other ∷ [])) (others_than d)) (end_shapes end)
+      (λ of k. each_map (HasWithin z) (λ other. not_all (holds c of other ∷ [])) (others_than d) (λ other l. record { given = (h, tt); one_of = tt }))
+
+  -- ---- all rules
+
+  cell_within : (c : Cell) → I c → R (cell_rules r c)
+  cell_within c h =
+      let n = length r.net.edges in
+      let a = content_rules c in let b = half_rules c in let m = mate_rules r.rect c in let s = standing_rules r.rect r.net.splitters c in
+      let g = handing_rules r.rect r.net.outputs c in let e = end_rules r.rect r.net.inputs r.net.outputs c in
+      let u = underground_rules r.rect (most_distance r) n c in let l = labelling_rules r.rect r.net.edges c in
+      each_both (HasWithin z) (a ++ b ++ m ++ s ++ g ++ e ++ u) l
+      (each_both (HasWithin z) (a ++ b ++ m ++ s ++ g ++ e) u
+      (each_both (HasWithin z) (a ++ b ++ m ++ s ++ g) e
+      (each_both (HasWithin z) (a ++ b ++ m ++ s) g
+      (each_four (HasWithin z) a b m s (contents_within c h) (halves_within c h) (mates_within c h) (standing_within c h))
+      (handing_within c h)) (ends_within c h)) (underground_within c h)) (labelling_within c h)
+
+  pub rules_within : R (rules_of r)
+  rules_within =
+      let a = flat_map (cell_rules r) (cells_of r.rect) in
+      let b = flat_map (splitter_rules r) (range_with_len 0 r.net.splitters) in
+      let i = flat_map (input_rules r.rect) (range_with_len 0 r.net.inputs) in
+      let o = flat_map (output_rules r.rect) (range_with_len 0 r.net.outputs) in
+      let p = flat_map pin_rules r.pins in
+      each_both (HasWithin z) (a ++ b ++ i ++ o ++ p) (map block_rule r.blocks)
+      (each_both (HasWithin z) (a ++ b ++ i ++ o) p
+      (each_four (HasWithin z) a b i o
+      (each_flat (HasWithin z) (cell_rules r) (cells_of r.rect) (λ c h. cell_within c (from_cells r.rect c h)))
+      (each_flat (HasWithin z) (splitter_rules r) (range_with_len 0 r.net.splitters) (λ s h. let lt = below r.net.splitters s h in
+      each_both (HasWithin z) (place_rules r.rect s) (port_rules r.rect r.net.edges s) (places_within s lt) (ports_within s lt)))
+      (each_flat (HasWithin z) (input_rules r.rect) (range_with_len 0 r.net.inputs) (λ k h. inputs_within k (below r.net.inputs k h)))
+      (each_flat (HasWithin z) (output_rules r.rect) (range_with_len 0 r.net.outputs) (λ k h. outputs_within k (below r.net.outputs k h))))
+      (each_flat (HasWithin z) pin_rules r.pins (λ pin h. (
+        record { given = tt; one_of = (end_within (pinned pin) pin.end (all_of (λ q. I (pinned q)) r.pins pin is.pins_inside h) (all_of (λ q. HasEnd r.net q.end) r.pins pin is.ends h), tt) },
+        turned_within (pinned pin) pin.end pin.dir (all_of (λ q. I (pinned q)) r.pins pin is.pins_inside h),
+      ))))
+      (each_map (HasWithin z) block_rule r.blocks (λ block h. record { given = tt; one_of = (all_of (λ q. I (blocked q)) r.blocks block is.blocks_inside h, tt) }))
