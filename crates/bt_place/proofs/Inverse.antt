@@ -271,8 +271,9 @@ module _ (z : Sizes) where
           ∙ ap (λ n. n * (spots z * 4)) (length-reverse order ∙ ranks.long);
     }
 
-    total : length (joined (blocks order)) ≡ variables z
-    total =
+    -- there are as many variables as facts
+    pub blocks_long : length (joined (blocks order)) ≡ variables z
+    blocks_long =
         let l = lengths in
         let e : before_list (blocks order) 16 ≡ variables z =
         omega (arith, l.kinds, l.names, l.labels, l.firsts, l.lasts, l.distances, l.leaving, l.entering, l.columns, l.rows, l.points, l.on, l.begins, l.tunnels, l.stills, l.places) in
@@ -393,5 +394,5 @@ module _ (z : Sizes) where
     fact_at x h =
         let at = stands x h in
         let found = get_joined (blocks order) at.block at.place x at.there.within in
-        let lt = found.0 in let e = at.number in let all = total in
+        let lt = found.0 in let e = at.number in let all = blocks_long in
         (omega (arith, lt, e, all), ap (λ n. get_or (joined (blocks order)) n x) at.number ∙ found.1 ∙ at.there.is)

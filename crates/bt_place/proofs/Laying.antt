@@ -28,7 +28,7 @@ use Rattle.bt_place.proofs.Deciding.{Decided}
 use Rattle.bt_place.proofs.EndsKept.{ends_stay, inputs_stay, outputs_stay}
 use Rattle.bt_place.proofs.Geometry.{from_cells}
 use Rattle.bt_place.proofs.GoingKept.{handing_stay}
-use Rattle.bt_place.proofs.Inverse.{blocks, fact_at}
+use Rattle.bt_place.proofs.Inverse.{blocks, fact_at, blocks_long}
 use Rattle.bt_place.proofs.Keeping.{In, from_range, each_both, each_four, each_flat, each_map, OneSaid, Stays, AllStay}
 use Rattle.bt_place.proofs.LabelsKept.{labelling_stay}
 use Rattle.bt_place.proofs.Laid.{Said, said}
@@ -112,11 +112,56 @@ module _ (r : LayoutRequest) (parts : List Part) (lays : Lays parts r) where
       (each_flat (Stays S) pin_rules r.pins (λ pin h. pin_stays r parts lays pin (all_of (KeepsPin parts lays.naming) r.pins pin lays.pins h))))
       (each_map (Stays S) block_rule r.blocks (λ block h. block_stays r parts lays block (in_contains r.blocks block h)))
 
+  -- what is read off at a place of a list of facts
+  read_off : List Fact → ℕ → Bool
+  read_off [] v = false
+  read_off (f ∷ facts) zero = told (said r parts lays f)
+  read_off (f ∷ facts) (suc v) = read_off facts v
+
+  read_at : (facts : List Fact) (v : ℕ) (f : Fact) → get_or facts v f ≡ f → v < length facts → read_off facts v ≡ told (said r parts lays f)
+  unfolding read_off
+  read_at [] v f e lt = absurd (omega arith)
+  read_at (g ∷ facts) zero f e lt = ap (λ x. told (said r parts lays x)) e
+  read_at (g ∷ facts) (suc v) f e lt = read_at facts v f e (omega arith)
+
   -- the assignment that is read off
   assigned : ℕ → Bool
-  assigned v = by (joined (blocks (sizes_of r) (splitter_order r.net))) v
-    where
-      by : List Fact → ℕ → Bool
-      by [] v = false
-      by (f ∷ facts) zero = told (said r parts lays f)
-      by (f ∷ facts) (suc v) = by facts v
+  assigned v = read_off (joined (blocks (sizes_of r) (splitter_order r.net))) v
+
+  assigned_at : (f : Fact) → IsWithin (sizes_of r) f → assigned (variable_of (sizes_of r) f) ≡ told (said r parts lays f)
+  unfolding assigned
+  assigned_at f h =
+      let at = fact_at (sizes_of r) (splitter_order r.net) (ranked r) f h in
+      let long = blocks_long (sizes_of r) (splitter_order r.net) (ranked r) in
+      let lt = at.0 in
+      read_at (joined (blocks (sizes_of r) (splitter_order r.net))) (variable_of (sizes_of r) f) f at.1 (omega (arith, lt, long))
+
+  conclude : (facts : List Fact) → AllByRecursion (IsWithin (sizes_of r)) facts → OneSaid S facts → MeetsClause assigned (map (literal (sizes_of r) true) facts)
+  conclude [] w h = absurd h
+  conclude (f ∷ facts) w (inl q) = any_here (IsTrueUnder assigned) (literal (sizes_of r) true f) (map (literal (sizes_of r) true) facts)
+      (assigned_at f w.0 ∙ told_true (said r parts lays f) q)
+  conclude (f ∷ facts) w (inr h) = any_later (IsTrueUnder assigned) (literal (sizes_of r) true f) (map (literal (sizes_of r) true) facts) (conclude facts w.1 h)
+
+  clause_met : (given one_of : List Fact) → AllByRecursion (IsWithin (sizes_of r)) given → AllByRecursion (IsWithin (sizes_of r)) one_of → (AllByRecursion S given → OneSaid S one_of)
+      → MeetsClause assigned (map (literal (sizes_of r) false) given ++ map (literal (sizes_of r) true) one_of)
+  clause_met [] one_of w v h = conclude one_of v (h tt)
+  clause_met (f ∷ given) one_of w v h =
+      ⊎_elim
+      (λ q. any_later (IsTrueUnder assigned) (literal (sizes_of r) false f) (map (literal (sizes_of r) false) given ++ map (literal (sizes_of r) true) one_of)
+      (clause_met given one_of w.1 v (λ all. h (q, all))))
+      (λ n. any_here (IsTrueUnder assigned) (literal (sizes_of r) false f) (map (literal (sizes_of r) false) given ++ map (literal (sizes_of r) true) one_of)
+      (assigned_at f w.0 ∙ told_false (said r parts lays f) n))
+      (said r parts lays f)
+
+  rules_met : (rules : List Rule) → AllByRecursion (HasWithin (sizes_of r)) rules → AllStay S rules → AllByRecursion (MeetsClause assigned) (map (clause_of (sizes_of r)) rules)
+  rules_met [] w h = tt
+  rules_met (rule ∷ rules) w h = (clause_met rule.given rule.one_of w.0.given w.0.one_of h.0, rules_met rules w.1 h.1)
+
+pub laying_meets : LayingMeets
+laying_meets r parts is lays = (
+  assigned r parts lays,
+  λ values. record {
+    clauses = from_all (MeetsClause (assigned r parts lays)) (map (clause_of (sizes_of r)) (rules_of r)) (rules_met r parts lays (rules_of r) (rules_within r is) (rules_stay r parts lays));
+    atoms = λ k d lt. absurd (omega arith);
+  },
+)

@@ -5,6 +5,6 @@ mod fact;
 mod law;
 
 pub use fact::{Content, Fact, Half, Shape};
-pub use law::meeting_keeps;
+pub use law::{laying_meets, meeting_keeps};
 pub use std::alloc::AllocError as Memory;
 
