@@ -1,21 +1,20 @@
 -- In a clean layout each belt and underground piece lies on one chain, which goes along with what is handed.
-use Rattle.std.proofs.Common.{◌≡◌, ◌⊎◌, inl, inr, ℕ, zero, suc, ◌+◌, ◌<◌, List, [], ◌∷◌, length, get_or, refl, sym, ◌∙◌, ap, subst, ⊎_elim, arith}
+use Rattle.std.proofs.Common.{◌≡◌, ◌⊎◌, inl, inr, ℕ, suc, List, [], ◌∷◌, length, get_or, refl, sym, ◌∙◌, ap, subst, ⊎_elim, arith}
 use Rattle.std.specs.List.{Contains}
 use Rattle.std.proofs.lemmas.List.{get_or_default}
 use Rattle.bt_parts.specs.declared.part.Cell.{Cell}
 use Rattle.bt_parts.specs.declared.part.Part.{Part}
-use Rattle.bt_parts.specs.Cells.{step}
-use Rattle.bt_parts.specs.Layouts.{HasPart, IsAt}
-use Rattle.bt_model.specs.Handing.{FeedsFrom, Feeds, Hands}
-use Rattle.bt_model.specs.Chains.{IsSplitter, IsLink, LinksTo, Path, one, more, IsInput, IsOutput, Source, begins, leaves, Sink, ends, enters, Chain, StartsAs, EndsAs, IsLongest, IsEmptyChain, IsChain}
+use Rattle.bt_parts.specs.Layouts.{IsAt}
+use Rattle.bt_model.specs.Handing.{FeedsFrom, Hands}
+use Rattle.bt_model.specs.Chains.{IsSplitter, IsLink, LinksTo, Path, one, more, IsOutput, Source, begins, leaves, Sink, ends, enters, Chain, StartsAs, EndsAs, IsLongest, IsChain}
 use Rattle.bt_model.specs.Clean.{IsClean}
-use Rattle.bt_model.proofs.HandLemmas.{one_handed, one_fed}
+use Rattle.bt_model.proofs.HandLemmas.{one_handed}
 use Rattle.bt_model.proofs.PathLemmas.{path_start, path_head, path_next, path_front}
 use Rattle.bt_model.proofs.Sorted.{contains_head, contains_more, contains_none}
-use Rattle.bt_recover.specs.Recovered.{IsOrderly, Never}
-use Rattle.bt_recover.proofs.ChainLemmas.{orderly_of, no_link, path_stop, longest_same, same_first, no_links_before, chain_from}
-use Rattle.bt_recover.proofs.ExistLemmas.{run_from, front_of, giver_cases, giver_part, part_cases, half_chain, empty_chain, input_chain, unhanded_input, splitter_feeds, output_link}
-use Rattle.bt_recover.proofs.HandLaws.{output_hands_none, one_giver}
+use Rattle.bt_recover.specs.Recovered.{IsOrderly}
+use Rattle.bt_recover.proofs.ChainLemmas.{orderly_of, no_link, path_stop, same_first, no_links_before, chain_from}
+use Rattle.bt_recover.proofs.ExistLemmas.{run_from, front_of, giver_cases, giver_part, part_cases, half_chain, empty_chain, input_chain, unhanded_input, splitter_feeds}
+use Rattle.bt_recover.proofs.HandLaws.{output_hands_none}
 use Rattle.bt_recover.proofs.SameChain.{source_cell}
 use Rattle.bt_place.proofs.Reading.{last_link, ComesFromCell}
 

@@ -1,18 +1,14 @@
 -- Layouts keep the rules of what a cell holds.
-use Rattle.std.proofs.Common.{◌≡◌, ◌≢◌, ◌⊎◌, inl, inr, ℕ, List, [], ◌∷◌, ◌++◌, map, refl, sym, ◌∙◌, ap, subst, ⊎_elim}
-use Rattle.std.specs.List.{flat_map}
+use Rattle.std.proofs.Common.{◌≡◌, inl, inr, List, [], ◌∷◌, map, refl, sym, ◌∙◌, ap, subst, ⊎_elim}
 use Rattle.bt_parts.specs.declared.part.Cell.{Cell}
 use Rattle.bt_parts.specs.declared.part.Dir.{Dir}
-use Rattle.bt_parts.specs.declared.part.Kind.TheVariants as kind
 use Rattle.bt_parts.specs.declared.part.Part.{Part}
 use Rattle.bt_parts.specs.Cells.{beside}
-use Rattle.bt_parts.specs.Layouts.{IsAt}
 use Rattle.bt_model.specs.Laying.{Lays}
 use Rattle.bt_model.specs.Requests.{LayoutRequest}
 use Rattle.bt_recover.proofs.ExistLemmas.{at_cases}
 use Rattle.bt_place.specs.declared.fact.Content.{Content}
 use Rattle.bt_place.specs.declared.fact.Content.TheVariants.{Empty, Turned}
-use Rattle.bt_place.specs.declared.fact.Fact.{Fact}
 use Rattle.bt_place.specs.declared.fact.Fact.TheVariants.{Kind, HalfOn}
 use Rattle.bt_place.specs.declared.fact.Half.{Half}
 use Rattle.bt_place.specs.declared.fact.Half.TheVariants.{Lesser, Greater}
@@ -24,8 +20,8 @@ use Rattle.bt_place.specs.Contents.{holds, shapes, contents, content_rules, half
 use Rattle.bt_place.proofs.Deciding.{stands_at}
 use Rattle.bt_place.proofs.Geometry.{in_dirs, in_halves, distinct_dirs, before_beside}
 use Rattle.bt_place.proofs.Keeping.{In, in_map, from_map, in_flat, from_flat, Distinct, distinct_map, distinct_flat, each_flat, each_map, one_in, at_most_stays, AllStay, Stays}
-use Rattle.bt_place.proofs.Laid.{Said, is_orderly, placed_of, inside_at, stands_there, one_stands, half_there, one_inside}
-use Rattle.bt_place.proofs.Reading.{kind_of, cell_of, Stands}
+use Rattle.bt_place.proofs.Laid.{Said, is_orderly, inside_at, stands_there, one_stands, half_there, one_inside}
+use Rattle.bt_place.proofs.Reading.{cell_of, Stands}
 
 in_shapes : (of : Shape) → In shapes of
 in_shapes shape.Belt = inl refl

@@ -1,5 +1,5 @@
 -- Items of lists of lists, by their numbers.
-use Rattle.std.proofs.Common.{◌≡◌, ◌⊎◌, inl, inr, ℕ, zero, suc, ◌<◌, ◌≤◌, ◌+◌, ◌-◌, ◌*◌, List, [], ◌∷◌, ◌++◌, length, map, get_or, refl, sym, ◌∙◌, ap, subst, ⊎_elim, arith, length-append}
+use Rattle.std.proofs.Common.{◌≡◌, ℕ, zero, suc, ◌<◌, ◌≤◌, ◌+◌, ◌*◌, List, [], ◌∷◌, ◌++◌, length, map, get_or, refl, ◌∙◌, ap, arith, length-append}
 use Rattle.std.proofs.Math.Nat.{mul-le-mul_right}
 use Rattle.std.specs.List.{flat_map, range_with_len}
 
@@ -78,8 +78,7 @@ get_joined (xs ∷ lists) zero j d lt =
 get_joined (xs ∷ lists) (suc k) j d lt =
     let more = get_joined lists k j d lt in
     let less = more.0 in
-    let long = length-append xs (joined lists) in
-    (
+    let long = length-append xs (joined lists) in (
       omega (arith, long, less),
       ap (λ n. get_or (xs ++ joined lists) n d) (let z : length xs + before_list lists k + j ≡ length xs + (before_list lists k + j) = omega arith in z)
           ∙ get_right xs (joined lists) (before_list lists k + j) d ∙ more.1,

@@ -1,6 +1,6 @@
 -- It can be told of each fact whether a layout says so.
-use Rattle.std.proofs.Common.{◌≡◌, ◌≢◌, ◌⊎◌, inl, inr, ℕ, zero, suc, ◌<◌, ◌≤◌, ◌+◌, ℤ, pos, negsuc, List, [], ◌∷◌, length, get_or, Option, Some, None, refl, sym, ◌∙◌, ap, subst, ⊎_elim, arith}
-use Rattle.std.specs.List.{Contains, slice_get, All}
+use Rattle.std.proofs.Common.{◌≡◌, ◌≢◌, ◌⊎◌, inl, inr, ℕ, zero, suc, ◌<◌, ℤ, pos, negsuc, List, [], ◌∷◌, length, get_or, Option, Some, None, refl, sym, ◌∙◌, ap, subst, ⊎_elim, arith}
+use Rattle.std.specs.List.{Contains, slice_get}
 use Rattle.std.specs.Prelude.{unsigned_abs}
 use Rattle.std.proofs.lemmas.Bool.{cases_eq, cases_lt}
 use Rattle.std.proofs.lemmas.Int.{ints}
@@ -11,17 +11,16 @@ use Rattle.bt_parts.specs.declared.part.Dir.TheVariants.{North, East, South, Wes
 use Rattle.bt_parts.specs.declared.part.Kind.{Kind}
 use Rattle.bt_parts.specs.declared.part.Kind.TheVariants as kind
 use Rattle.bt_parts.specs.declared.part.Part.{Part}
-use Rattle.bt_parts.specs.Cells.{Covers, step, steps, beside}
+use Rattle.bt_parts.specs.Cells.{Covers, step, steps}
 use Rattle.bt_parts.specs.Layouts.{HasPart, IsAt, IsWellPlaced, Pairs}
 use Rattle.bt_parts.proofs.Places.{same_part, one_there, covers_at, own_cell}
 use Rattle.bt_net.specs.declared.network.Edge.{Edge}
-use Rattle.bt_model.specs.Chains.{IsSplitter, IsLink, IsInput, IsOutput, Source, begins, leaves, Sink, ends, enters}
-use Rattle.bt_model.specs.Handing.{FeedsFrom}
-use Rattle.bt_model.specs.Shown.{Naming, ListsEach, IsNaming}
+use Rattle.bt_model.specs.Chains.{IsSplitter, IsInput, Source, begins, leaves, Sink, ends, enters}
+use Rattle.bt_model.specs.Shown.{Naming, ListsEach}
 use Rattle.bt_recover.specs.Recovered.{IsOrderly}
 use Rattle.bt_model.proofs.HandLemmas.{entrance_paired, one_handed}
 use Rattle.bt_recover.proofs.ExistLemmas.{at_cases, giver_cases, unhanded_input, input_link, input_unhanded, part_cases}
-use Rattle.bt_recover.proofs.HandLaws.{front_fed, pair_enters}
+use Rattle.bt_recover.proofs.HandLaws.{front_fed}
 use Rattle.bt_recover.proofs.ChainLemmas.{no_link}
 use Rattle.bt_place.specs.declared.fact.Content.TheVariants.{Empty, Turned}
 use Rattle.bt_place.specs.declared.fact.Fact.{Fact}
@@ -31,7 +30,7 @@ use Rattle.bt_place.specs.declared.fact.Shape.{Shape}
 use Rattle.bt_place.specs.declared.fact.Shape.TheVariants as shape
 use Rattle.bt_place.specs.Spots.{half_at, behind}
 use Rattle.bt_place.proofs.Matching.{Matched}
-use Rattle.bt_place.proofs.Reading.{kind_of, cell_of, Stands, Goes, Bears, Splits, NamedAt, last_link, ComesFromCell, Runs, Reaches, Says}
+use Rattle.bt_place.proofs.Reading.{kind_of, cell_of, Stands, Goes, Splits, NamedAt, last_link, ComesFromCell, Runs, Reaches, Says}
 
 -- it holds, or it doesn't
 abbrev pub Decided : Type 0 → Type 0

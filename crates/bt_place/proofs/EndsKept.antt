@@ -1,31 +1,30 @@
 -- Layouts keep the rules of where inputs begin and outputs end.
-use Rattle.std.proofs.Common.{◌≡◌, ◌≢◌, ◌⊎◌, inl, inr, ℕ, ◌<◌, ◌+◌, List, [], ◌∷◌, ◌++◌, length, map, get_or, Some, refl, sym, ◌∙◌, ap, subst, ⊎_elim, arith}
-use Rattle.std.specs.List.{flat_map, range_with_len, slice_get}
+use Rattle.std.proofs.Common.{◌≡◌, ◌≢◌, inl, inr, ℕ, ◌<◌, List, [], ◌∷◌, map, get_or, refl, sym, ◌∙◌, ap, subst, ⊎_elim, arith}
+use Rattle.std.specs.List.{range_with_len}
 use Rattle.std.proofs.lemmas.Option.{slice_get-get_or, same_Some}
 use Rattle.bt_parts.specs.declared.part.Cell.{Cell}
-use Rattle.bt_parts.specs.declared.part.Dir.{Dir}
 use Rattle.bt_parts.specs.declared.part.Kind.TheVariants as kind
 use Rattle.bt_parts.specs.declared.part.Part.{Part}
 use Rattle.bt_parts.specs.Cells.{step, opposite, IsInside}
-use Rattle.bt_parts.specs.Layouts.{HasPart, IsAt}
-use Rattle.bt_parts.proofs.Places.{same_part, covers_at, own_cell}
+use Rattle.bt_parts.specs.Layouts.{IsAt}
+use Rattle.bt_parts.proofs.Places.{covers_at, own_cell}
 use Rattle.bt_model.specs.Chains.{IsInput, IsOutput}
 use Rattle.bt_model.specs.Laying.{Lays}
 use Rattle.bt_model.specs.Requests.{LayoutRequest}
-use Rattle.bt_recover.proofs.ExistLemmas.{input_no_splitter, output_link}
+use Rattle.bt_recover.proofs.ExistLemmas.{input_no_splitter}
 use Rattle.bt_place.specs.declared.fact.Fact.{Fact}
 use Rattle.bt_place.specs.declared.fact.Fact.TheVariants.{First, Last, Begins}
 use Rattle.bt_place.specs.declared.fact.Shape.TheVariants as shape
-use Rattle.bt_place.specs.Rules.{rule, at_most_one}
+use Rattle.bt_place.specs.Rules.{rule}
 use Rattle.bt_place.specs.Spots.{dirs, behind, where_outside, border_of}
 use Rattle.bt_place.specs.Contents.{holds}
 use Rattle.bt_place.specs.Ends.{starters, enders, end_rules, input_rules, output_rules}
 use Rattle.bt_place.proofs.Deciding.{contains_at}
 use Rattle.bt_place.proofs.Geometry.{in_dirs, in_border, distinct_border}
-use Rattle.bt_place.proofs.GoingKept.{input_number, output_number}
+use Rattle.bt_place.proofs.GoingKept.{input_number}
 use Rattle.bt_place.proofs.Keeping.{In, in_map, from_map, in_flat, in_range, distinct_map, each_both, each_map, one_in, at_most_stays, AllStay, Stays, OneSaid}
 use Rattle.bt_place.proofs.Laid.{Said, inside_at, in_outside}
-use Rattle.bt_place.proofs.Reading.{Stands, Bears, NamedAt}
+use Rattle.bt_place.proofs.Reading.{Bears}
 
 module _ (r : LayoutRequest) (parts : List Part) (lays : Lays parts r) where
   abbrev S : Fact → Type 0
@@ -91,12 +90,14 @@ module _ (r : LayoutRequest) (parts : List Part) (lays : Lays parts r) where
         one_in S (map (First c) (range_with_len 0 r.net.inputs)) (First c number.0)
         (in_map (First c) (range_with_len 0 r.net.inputs) number.0 (let lt = number.1 in in_range 0 r.net.inputs number.0 (omega arith) (omega (arith, lt))))
         (record { index = begins.0; named = number.2; at = begins.2 }),
-    ((λ given. starts_said given.0.0 c given.0.1 given.0.2),
-    each_both (Stays S) (map (λ i. rule (First c i ∷ []) (Begins c ∷ [])) (range_with_len 0 r.net.inputs)) (map (λ o. rule (Last c o ∷ []) (enders r.rect c)) (range_with_len 0 r.net.outputs))
-        (each_map (Stays S) (λ i. rule (First c i ∷ []) (Begins c ∷ [])) (range_with_len 0 r.net.inputs)
-        (λ i at given. inl (given.0.index, named_input i given.0.index given.0.named, given.0.at)))
-        (each_map (Stays S) (λ o. rule (Last c o ∷ []) (enders r.rect c)) (range_with_len 0 r.net.outputs)
-        (λ o at given. ends_said given.0.index c (named_output o given.0.index given.0.named) given.0.at))),
+    (
+      (λ given. starts_said given.0.0 c given.0.1 given.0.2),
+      each_both (Stays S) (map (λ i. rule (First c i ∷ []) (Begins c ∷ [])) (range_with_len 0 r.net.inputs)) (map (λ o. rule (Last c o ∷ []) (enders r.rect c)) (range_with_len 0 r.net.outputs))
+          (each_map (Stays S) (λ i. rule (First c i ∷ []) (Begins c ∷ [])) (range_with_len 0 r.net.inputs)
+          (λ i at given. inl (given.0.index, named_input i given.0.index given.0.named, given.0.at)))
+          (each_map (Stays S) (λ o. rule (Last c o ∷ []) (enders r.rect c)) (range_with_len 0 r.net.outputs)
+          (λ o at given. ends_said given.0.index c (named_output o given.0.index given.0.named) given.0.at)),
+    ),
   )
 
   pub inputs_stay : (k : ℕ) → k < r.net.inputs → AllStay S (input_rules r.rect k)

@@ -1,6 +1,6 @@
 -- Cells of a rectangle, and steps there and back.
-use Rattle.std.proofs.Common.{◌≡◌, ◌≢◌, ◌⊎◌, inl, inr, ℕ, suc, ◌+◌, ◌-◌, ◌<◌, ◌≤◌, ℤ, pos, negsuc, Bool, true, false, not, cond, ◌&&◌, ◌||◌, List, [], ◌∷◌, map, refl, sym, ◌∙◌, ap, subst, ⊎_elim, arith}
-use Rattle.std.specs.List.{flat_map, range_with_len, filter, list_any}
+use Rattle.std.proofs.Common.{◌≡◌, ◌≢◌, ◌⊎◌, inl, inr, ℕ, ◌+◌, ◌<◌, ◌≤◌, ℤ, pos, negsuc, Bool, true, false, not, ◌&&◌, ◌||◌, List, [], ◌∷◌, refl, sym, ◌∙◌, ap, subst, ⊎_elim, arith}
+use Rattle.std.specs.List.{range_with_len, list_any}
 use Rattle.std.specs.Prelude.{int_lt, unsigned_abs, ◌<ℤ◌, ◌≤ℤ◌}
 use Rattle.std.proofs.lemmas.Bool.{lt-ltb, le-ltb, cases_lt}
 use Rattle.std.proofs.lemmas.Int.{ints}
@@ -12,7 +12,7 @@ use Rattle.bt_parts.specs.Cells.{step, steps, opposite, beside, IsInside}
 use Rattle.bt_model.specs.Requests.{cell_at}
 use Rattle.bt_place.specs.declared.fact.Half.{Half}
 use Rattle.bt_place.specs.declared.fact.Half.TheVariants.{Lesser, Greater}
-use Rattle.bt_place.specs.Spots.{dirs, sides_of, others_than, halves, behind, before, mate, half_at, is_inside, where_inside, where_outside, row_cells, cells_of, is_border, border_of}
+use Rattle.bt_place.specs.Spots.{dirs, sides_of, others_than, halves, behind, before, is_inside, row_cells, cells_of, is_border, border_of}
 use Rattle.bt_place.proofs.Keeping.{In, in_map, in_flat, from_map, from_flat, in_range, from_range, in_filter, Distinct, distinct_map, distinct_flat, distinct_range, distinct_filter}
 
 -- ---- directions
@@ -100,14 +100,22 @@ inside_cases rect c = by (int_lt c.x (pos 0)) (int_lt c.x (pos rect.width)) (int
         → ((e ≡ true) × (c.y <ℤ pos rect.height)) ⊎ ((e ≡ false) × (pos rect.height ≤ℤ c.y))
         → (IsInside rect c × ((not a && b && not d && e) ≡ true)) ⊎ ((IsInside rect c → ⊥) × ((not a && b && not d && e) ≡ false))
     by a b d e (inl p) q r s = inr ((λ h. let l = h.0 in let k = p.1 in omega (arith, ints, l, k)), ap (λ z. not z && b && not d && e) p.0)
-    by a b d e (inr p) (inr q) r s = inr ((λ h. let l = h.1 in let k = q.1 in omega (arith, ints, l, k)),
-        ap (λ z. not z && b && not d && e) p.0 ∙ ap (λ z. z && not d && e) q.0)
-    by a b d e (inr p) (inl q) (inl r) s = inr ((λ h. let l = h.2 in let k = r.1 in omega (arith, ints, l, k)),
-        ap (λ z. not z && b && not d && e) p.0 ∙ ap (λ z. z && not d && e) q.0 ∙ ap (λ z. not z && e) r.0)
-    by a b d e (inr p) (inl q) (inr r) (inr s) = inr ((λ h. let l = h.3 in let k = s.1 in omega (arith, ints, l, k)),
-        ap (λ z. not z && b && not d && e) p.0 ∙ ap (λ z. z && not d && e) q.0 ∙ ap (λ z. not z && e) r.0 ∙ s.0)
-    by a b d e (inr p) (inl q) (inr r) (inl s) = inl ((p.1, q.1, r.1, s.1),
-        ap (λ z. not z && b && not d && e) p.0 ∙ ap (λ z. z && not d && e) q.0 ∙ ap (λ z. not z && e) r.0 ∙ s.0)
+    by a b d e (inr p) (inr q) r s = inr (
+      (λ h. let l = h.1 in let k = q.1 in omega (arith, ints, l, k)),
+      ap (λ z. not z && b && not d && e) p.0 ∙ ap (λ z. z && not d && e) q.0,
+    )
+    by a b d e (inr p) (inl q) (inl r) s = inr (
+      (λ h. let l = h.2 in let k = r.1 in omega (arith, ints, l, k)),
+      ap (λ z. not z && b && not d && e) p.0 ∙ ap (λ z. z && not d && e) q.0 ∙ ap (λ z. not z && e) r.0,
+    )
+    by a b d e (inr p) (inl q) (inr r) (inr s) = inr (
+      (λ h. let l = h.3 in let k = s.1 in omega (arith, ints, l, k)),
+      ap (λ z. not z && b && not d && e) p.0 ∙ ap (λ z. z && not d && e) q.0 ∙ ap (λ z. not z && e) r.0 ∙ s.0,
+    )
+    by a b d e (inr p) (inl q) (inr r) (inl s) = inl (
+      (p.1, q.1, r.1, s.1),
+      ap (λ z. not z && b && not d && e) p.0 ∙ ap (λ z. z && not d && e) q.0 ∙ ap (λ z. not z && e) r.0 ∙ s.0,
+    )
 
 -- cells between two cells of the rectangle are inside
 pub inside_between : (rect : Rect) (dir : Dir) (j k : ℕ) (c : Cell) → IsInside rect c → IsInside rect (steps k dir c) → j ≤ k → IsInside rect (steps j dir c)

@@ -1,6 +1,6 @@
 -- Layouts keep the rules of what is handed on.
-use Rattle.std.proofs.Common.{◌≡◌, ◌≢◌, ◌⊎◌, inl, inr, ℕ, ◌<◌, ◌+◌, cond, List, [], ◌∷◌, ◌++◌, length, map, Some, refl, sym, ◌∙◌, ap, subst, ⊎_elim, arith}
-use Rattle.std.specs.List.{flat_map, range_with_len, AllByRecursion}
+use Rattle.std.proofs.Common.{◌≡◌, ◌≢◌, ◌⊎◌, inl, inr, ℕ, ◌<◌, cond, List, [], ◌∷◌, ◌++◌, map, refl, sym, ◌∙◌, ap, subst, ⊎_elim, arith}
+use Rattle.std.specs.List.{flat_map, range_with_len}
 use Rattle.std.proofs.lemmas.Bool.{cases_eq}
 use Rattle.bt_parts.specs.declared.part.Cell.{Cell}
 use Rattle.bt_parts.specs.declared.part.Dir.{Dir}
@@ -8,14 +8,14 @@ use Rattle.bt_parts.specs.declared.part.Kind.{Kind}
 use Rattle.bt_parts.specs.declared.part.Kind.TheVariants as kind
 use Rattle.bt_parts.specs.declared.part.Part.{Part}
 use Rattle.bt_parts.specs.declared.part.Side.{Side}
-use Rattle.bt_parts.specs.declared.part.Side.TheVariants.{Behind, Across, Ahead}
+use Rattle.bt_parts.specs.declared.part.Side.TheVariants.{Behind, Ahead}
 use Rattle.bt_parts.specs.Cells.{Covers, step, opposite, IsInside}
 use Rattle.bt_parts.specs.Handing.{ComesFrom, TakesFrom}
 use Rattle.bt_parts.specs.Layouts.{HasPart, IsAt}
 use Rattle.bt_parts.proofs.Places.{same_part, one_there, covers_at, own_cell}
 use Rattle.bt_parts.proofs.Steps.{opposite-opposite}
 use Rattle.bt_model.specs.Chains.{IsLink, IsInput, IsOutput}
-use Rattle.bt_model.specs.Handing.{FeedsFrom, Feeds, Hands}
+use Rattle.bt_model.specs.Handing.{FeedsFrom, Feeds}
 use Rattle.bt_model.specs.Laying.{Lays}
 use Rattle.bt_model.specs.Requests.{LayoutRequest}
 use Rattle.bt_recover.proofs.EdgeLemmas.{contained_at}
@@ -26,19 +26,18 @@ use Rattle.bt_place.specs.declared.fact.Content.TheVariants.{Empty}
 use Rattle.bt_place.specs.declared.fact.Fact.{Fact}
 use Rattle.bt_place.specs.declared.fact.Fact.TheVariants.{First, Last, Begins, Still}
 use Rattle.bt_place.specs.declared.fact.Fact.TheVariants as fact
-use Rattle.bt_place.specs.declared.fact.Half.{Half}
 use Rattle.bt_place.specs.declared.fact.Half.TheVariants.{Lesser, Greater}
 use Rattle.bt_place.specs.declared.fact.Shape.{Shape}
 use Rattle.bt_place.specs.declared.fact.Shape.TheVariants as shape
 use Rattle.bt_place.specs.Rules.{rule, not_all, all_but_one}
-use Rattle.bt_place.specs.Spots.{dirs, halves, sides_of, others_than, behind, where_inside, where_outside}
+use Rattle.bt_place.specs.Spots.{dirs, halves, sides_of, others_than, behind}
 use Rattle.bt_place.specs.Contents.{holds}
 use Rattle.bt_place.specs.Going.{runners, givers, takers, inner_rules, outer_rules, going_rules, still_into, fed_belt, fed_entrance, once_rules, handing_rules}
 use Rattle.bt_place.proofs.Deciding.{stands_at, goes_decided, same_dir}
-use Rattle.bt_place.proofs.Geometry.{inside_cases, in_dirs, in_halves, in_others, in_sides, distinct_dirs, behind_step, step_behind}
-use Rattle.bt_place.proofs.Keeping.{In, in_left, in_right, in_map, from_map, in_flat, from_flat, in_range, Distinct, distinct_map, distinct_flat, each_both, each_three, each_four, each_flat, each_map, one_in, all_in, all_but_stays, AllStay, Stays, OneSaid, AllSaid}
-use Rattle.bt_place.proofs.Laid.{Said, said, is_orderly, placed_of, inside_at, stands_there, stands_as, one_outside, in_inside, from_inside, shape_on}
-use Rattle.bt_place.proofs.Reading.{kind_of, cell_of, Stands, Goes, Bears, NamedAt}
+use Rattle.bt_place.proofs.Geometry.{inside_cases, in_halves, in_others, in_sides, distinct_dirs, behind_step, step_behind}
+use Rattle.bt_place.proofs.Keeping.{In, in_left, in_right, in_map, from_map, in_flat, from_flat, in_range, Distinct, distinct_map, distinct_flat, each_both, each_three, each_four, each_flat, each_map, one_in, all_in, all_but_stays, AllStay, Stays, OneSaid}
+use Rattle.bt_place.proofs.Laid.{Said, said, is_orderly, placed_of, inside_at, one_outside, in_inside, from_inside, shape_on}
+use Rattle.bt_place.proofs.Reading.{kind_of, cell_of, Stands, Goes, Bears}
 
 module _ (r : LayoutRequest) (parts : List Part) (lays : Lays parts r) where
   abbrev S : Fact → Type 0
@@ -170,11 +169,13 @@ module _ (r : LayoutRequest) (parts : List Part) (lays : Lays parts r) where
     λ none. ⊎_elim (λ g. let found = goes_shape c dir g in
         inr (one_in S (map (λ of. holds c of dir) givers) (holds c found.0 dir) (in_map (λ of. holds c of dir) givers found.0 found.1) found.2)) (λ still. inl still)
         (goes_decided parts (is_orderly r parts lays) c dir),
-    ((λ none. ⊎_elim (λ g. inr (taker_said c dir g)) (λ still. inl still) (goes_decided parts (is_orderly r parts lays) c dir)),
-    each_both (Stays S) (map (λ of. not_all (holds c of dir ∷ Still c dir ∷ [])) runners) (map (λ half. rule (holds c (shape.Half half) dir ∷ Still c dir ∷ []) (fact.Kind (step dir c) Empty ∷ [])) halves)
-        (each_map (Stays S) (λ of. not_all (holds c of dir ∷ Still c dir ∷ [])) runners (λ of at given. given.1.0 (runs_on c of dir (runner_cases of at) here given.0)))
-        (each_map (Stays S) (λ half. rule (holds c (shape.Half half) dir ∷ Still c dir ∷ []) (fact.Kind (step dir c) Empty ∷ [])) halves
-        (λ half at given. ⊎_elim (λ found. absurd (given.1.0 (goes_to c (shape.Half half) dir found.0 given.0 (λ e. cc) found.1))) (λ none. inl none) (at_cases parts (step dir c))))),
+    (
+      (λ none. ⊎_elim (λ g. inr (taker_said c dir g)) (λ still. inl still) (goes_decided parts (is_orderly r parts lays) c dir)),
+      each_both (Stays S) (map (λ of. not_all (holds c of dir ∷ Still c dir ∷ [])) runners) (map (λ half. rule (holds c (shape.Half half) dir ∷ Still c dir ∷ []) (fact.Kind (step dir c) Empty ∷ [])) halves)
+          (each_map (Stays S) (λ of. not_all (holds c of dir ∷ Still c dir ∷ [])) runners (λ of at given. given.1.0 (runs_on c of dir (runner_cases of at) here given.0)))
+          (each_map (Stays S) (λ half. rule (holds c (shape.Half half) dir ∷ Still c dir ∷ []) (fact.Kind (step dir c) Empty ∷ [])) halves
+          (λ half at given. ⊎_elim (λ found. absurd (given.1.0 (goes_to c (shape.Half half) dir found.0 given.0 (λ e. cc) found.1))) (λ none. inl none) (at_cases parts (step dir c)))),
+    ),
   )
 
   -- what is outside is handed nothing

@@ -1,5 +1,5 @@
 -- Each fact of a request stands at its variable in a list of all facts.
-use Rattle.std.proofs.Common.{◌≡◌, ◌⊎◌, inl, inr, ℕ, zero, suc, ◌<◌, ◌≤◌, ◌+◌, ◌-◌, ◌*◌, ℤ, pos, negsuc, Bool, true, false, cond, ltb, List, [], ◌∷◌, ◌++◌, length, map, get_or, reverse, refl, sym, ◌∙◌, ap, subst, ⊎_elim, arith}
+use Rattle.std.proofs.Common.{◌≡◌, ℕ, ◌<◌, ◌+◌, ◌-◌, ◌*◌, ℤ, pos, negsuc, Bool, true, false, cond, ltb, List, [], ◌∷◌, length, map, get_or, reverse, refl, ◌∙◌, ap, subst, arith}
 use Rattle.std.specs.List.{flat_map, range_with_len}
 use Rattle.std.specs.Prelude.{unsigned_abs, slice_index, ◌<ℤ◌, ◌≤ℤ◌}
 use Rattle.std.proofs.lemmas.Int.{ints}
@@ -8,7 +8,6 @@ use Rattle.bt_parts.specs.declared.part.Cell.{Cell}
 use Rattle.bt_parts.specs.declared.part.Dir.{Dir}
 use Rattle.bt_parts.specs.declared.part.Dir.TheVariants.{North, East, South, West}
 use Rattle.bt_parts.specs.declared.part.Rect.{Rect}
-use Rattle.bt_parts.specs.Cells.{IsInside}
 use Rattle.bt_model.specs.Requests.{cell_at}
 use Rattle.bt_place.specs.declared.fact.Content.{Content}
 use Rattle.bt_place.specs.declared.fact.Content.TheVariants.{Empty, Turned}
@@ -16,10 +15,9 @@ use Rattle.bt_place.specs.declared.fact.Fact.{Fact}
 use Rattle.bt_place.specs.declared.fact.Fact.TheVariants as fact
 use Rattle.bt_place.specs.declared.fact.Half.{Half}
 use Rattle.bt_place.specs.declared.fact.Half.TheVariants.{Lesser, Greater}
-use Rattle.bt_place.specs.declared.fact.Shape.{Shape}
 use Rattle.bt_place.specs.declared.fact.Shape.TheVariants as shape
 use Rattle.bt_place.specs.Contents.{contents}
-use Rattle.bt_place.specs.Numbering.{Sizes, spot_of, dir_number, half_number, shape_number, content_number, along, spots, names_from, labels_from, firsts_from, lasts_from, distances_from, leaving_from, entering_from, columns_from, rows_from, points_from, halves_from, begins_from, tunnels_from, stills_from, places_from, variables, variable_of}
+use Rattle.bt_place.specs.Numbering.{Sizes, spot_of, dir_number, half_number, content_number, along, spots, variables, variable_of}
 use Rattle.bt_place.specs.Spots.{dirs, halves, row_cells, cells_of}
 use Rattle.bt_place.specs.Within.{IsSpot, IsWithin}
 use Rattle.bt_place.proofs.Counting.{get_map, length_map, length_range, get_range, length_flat, get_flat, group_within, joined, before_list, list_at, get_joined, length_joined}

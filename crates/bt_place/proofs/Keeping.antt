@@ -3,7 +3,7 @@ use Rattle.std.proofs.Common.{◌≡◌, ◌⊎◌, inl, inr, ℕ, zero, suc, �
 use Rattle.std.specs.List.{AllByRecursion, flat_map, filter, range_with_len}
 use Rattle.std.proofs.lemmas.Bool.{cases_eq}
 use Rattle.bt_place.specs.declared.fact.Fact.{Fact}
-use Rattle.bt_place.specs.Rules.{Rule, rule, some_of, not_all, at_most_one, all_but_one}
+use Rattle.bt_place.specs.Rules.{Rule, some_of, not_all, at_most_one, all_but_one}
 use Rattle.bt_place.proofs.Deciding.{Decided}
 
 -- ---- members of lists

@@ -1,33 +1,31 @@
 -- Layouts keep the rules of labels.
-use Rattle.std.proofs.Common.{◌≡◌, ◌≢◌, ◌⊎◌, inl, inr, ℕ, zero, suc, ◌<◌, ◌≤◌, ◌+◌, ◌-◌, cond, List, [], ◌∷◌, ◌++◌, length, map, get_or, Some, refl, sym, ◌∙◌, ap, subst, ⊎_elim, arith}
+use Rattle.std.proofs.Common.{◌≡◌, inl, inr, ℕ, suc, ◌<◌, ◌≤◌, ◌+◌, ◌-◌, cond, List, [], ◌∷◌, length, map, get_or, refl, sym, ◌∙◌, ap, subst, ⊎_elim, arith}
 use Rattle.std.specs.List.{flat_map, range_with_len, enumerate_from, Contains}
 use Rattle.std.proofs.lemmas.Option.{same_Some}
 use Rattle.bt_parts.specs.declared.part.Cell.{Cell}
 use Rattle.bt_parts.specs.declared.part.Dir.{Dir}
-use Rattle.bt_parts.specs.declared.part.Kind.TheVariants as kind
 use Rattle.bt_parts.specs.declared.part.Part.{Part}
 use Rattle.bt_parts.specs.Cells.{step, IsInside}
-use Rattle.bt_parts.specs.Layouts.{HasPart, IsAt}
-use Rattle.bt_parts.proofs.Places.{same_part, one_there}
+use Rattle.bt_parts.specs.Layouts.{IsAt}
+use Rattle.bt_parts.proofs.Places.{one_there}
 use Rattle.bt_net.specs.declared.network.Edge.{Edge}
 use Rattle.bt_net.specs.declared.network.Start.{Start}
 use Rattle.bt_net.specs.declared.network.Start.TheVariants as from
 use Rattle.bt_net.specs.declared.network.Target.{Target}
 use Rattle.bt_net.specs.declared.network.Target.TheVariants as to
 use Rattle.bt_model.specs.Chains.{IsSplitter, IsLink, Source, begins, leaves, Sink, ends, enters}
-use Rattle.bt_model.specs.Handing.{FeedsFrom, Hands}
+use Rattle.bt_model.specs.Handing.{Hands}
 use Rattle.bt_model.specs.Laying.{Lays}
 use Rattle.bt_model.specs.Requests.{LayoutRequest}
-use Rattle.bt_model.specs.Shown.{Naming, IsStartOf, IsTargetOf, IsEdgeOf}
+use Rattle.bt_model.specs.Shown.{IsStartOf, IsTargetOf, IsEdgeOf}
 use Rattle.bt_recover.proofs.ChainLemmas.{no_link}
 use Rattle.bt_recover.proofs.ExistLemmas.{at_cases, part_cases}
 use Rattle.bt_place.specs.declared.fact.Content.TheVariants.{Empty}
 use Rattle.bt_place.specs.declared.fact.Fact.{Fact}
 use Rattle.bt_place.specs.declared.fact.Fact.TheVariants.{Kind, Name, Label, First, Last, Leaves, Enters, HalfOn, Still}
 use Rattle.bt_place.specs.declared.fact.Half.{Half}
-use Rattle.bt_place.specs.declared.fact.Shape.{Shape}
 use Rattle.bt_place.specs.declared.fact.Shape.TheVariants as shape
-use Rattle.bt_place.specs.Rules.{Rule, rule, not_all, at_most_one}
+use Rattle.bt_place.specs.Rules.{rule, not_all, at_most_one}
 use Rattle.bt_place.specs.Spots.{dirs, halves, behind, half_at}
 use Rattle.bt_place.specs.Contents.{holds}
 use Rattle.bt_place.specs.Going.{runners}
@@ -36,10 +34,10 @@ use Rattle.bt_place.proofs.Chaining.{chain_through, one_chain, contained_link, g
 use Rattle.bt_place.proofs.Deciding.{goes_decided, stands_at}
 use Rattle.bt_place.proofs.Geometry.{inside_cases, behind_step}
 use Rattle.bt_place.proofs.GoingKept.{taker_there, runner_cases, runs_out}
-use Rattle.bt_place.proofs.Keeping.{In, in_map, from_map, in_range, Distinct, distinct_map, distinct_range, each_both, each_three, each_flat, each_map, one_in, at_most_stays, AllStay, Stays, OneSaid}
+use Rattle.bt_place.proofs.Keeping.{In, in_map, from_map, in_range, distinct_map, distinct_range, each_both, each_three, each_flat, each_map, one_in, at_most_stays, AllStay, Stays, OneSaid}
 use Rattle.bt_place.proofs.Laid.{Said, match_of, is_orderly, placed_of, inside_at}
 use Rattle.bt_place.proofs.Matching.{Matched}
-use Rattle.bt_place.proofs.Reading.{Stands, Goes, Bears, Splits, NamedAt, ComesFromCell}
+use Rattle.bt_place.proofs.Reading.{Stands, Goes, Bears, Splits, ComesFromCell}
 
 -- a numbered item of a list
 pub from_enumerate : {X : Type 0} (a : ℕ) (xs : List X) (p : ℕ × X) → In (enumerate_from a xs) p → (a ≤ p.0) × (p.0 < a + length xs) × ((d : X) → get_or xs (p.0 - a) d ≡ p.1)
@@ -192,8 +190,13 @@ module _ (r : LayoutRequest) (parts : List Part) (lays : Lays parts r) where
         let splitter : IsSplitter parts s.index = (s.part, s.is_part, s.kind) in
         let ends = ends_there c dir e g given.0 (subst (λ j. IsSplitter parts j) index splitter) in
         let sink : (m.chain_of e).sink ≡ enters s.index = ends.0 ∙ ap enters (sym index) in
-        inl (given.0.0, (split_at t s.index (subst (λ x. IsTargetOf lays.naming x (to.Split t)) sink is) splitter,
-        (sink, subst (ComesFromCell parts (m.chain_of e).source (m.chain_of e).links) (sym (half_behind dir c half s)) ends.1))))),
+        inl (
+          given.0.0,
+          (
+            split_at t s.index (subst (λ x. IsTargetOf lays.naming x (to.Split t)) sink is) splitter,
+            (sink, subst (ComesFromCell parts (m.chain_of e).source (m.chain_of e).links) (sym (half_behind dir c half s)) ends.1),
+          ),
+        ))),
   )
 
   from_stay : (c : Cell) (dir : Dir) (e : ℕ) (start : Start) → IsStartOf lays.naming (m.chain_of e).source start → AllStay S (from_half_rules c dir e start)
@@ -226,15 +229,24 @@ module _ (r : LayoutRequest) (parts : List Part) (lays : Lays parts r) where
         (λ splitter. inr (inl (g.taker, splitter, there)))
         (λ link. inl (given.0.0, (g.taker, there, goes_on parts lays.shows.clean (m.chain_of e) g.giver g.taker (m.is_chain e given.0.0) (giver_on c dir e g given.0) (hands_of c dir g) link)))
         (part_cases parts g.taker there.part there.is_i)),
-    ((λ given. by_going c dir (Label c e ∷ HalfOn c ∷ []) (λ g.
-    let here = g.feeds.look.giver in
-    ⊎_elim
-    (λ splitter. inr (inl (g.giver, splitter, here)))
-    (λ link. inl (given.0.0, (g.giver, here, comes_on parts lays.shows.clean (m.chain_of e) g.giver g.taker (m.is_chain e given.0.0)
-    (subst (Contains (m.chain_of e).links) (taker_is c dir given.0.1.0 g given.0.1.1) given.0.1.2) link (hands_of c dir g))))
-    (part_cases parts g.giver here.part here.is_i))),
-    each_both (Stays S) (into_half_rules c dir e edge.target) (from_half_rules c dir e edge.start)
-        (into_stay c dir e edge.target is.1.target) (from_stay c dir e edge.start is.1.start)),
+    (
+      (λ given. by_going c dir (Label c e ∷ HalfOn c ∷ []) (λ g.
+          let here = g.feeds.look.giver in
+          ⊎_elim
+          (λ splitter. inr (inl (g.giver, splitter, here)))
+          (λ link. inl (
+            given.0.0,
+            (
+              g.giver,
+              here,
+              comes_on parts lays.shows.clean (m.chain_of e) g.giver g.taker (m.is_chain e given.0.0)
+                  (subst (Contains (m.chain_of e).links) (taker_is c dir given.0.1.0 g given.0.1.1) given.0.1.2) link (hands_of c dir g),
+            ),
+          ))
+          (part_cases parts g.giver here.part here.is_i))),
+      each_both (Stays S) (into_half_rules c dir e edge.target) (from_half_rules c dir e edge.start)
+          (into_stay c dir e edge.target is.1.target) (from_stay c dir e edge.start is.1.start),
+    ),
   )
 
   end_stay : (c : Cell) (dir : Dir) (e : ℕ) (edge : Edge) → IsEdge e edge → (IsInside r.rect (step dir c) → ⊥) → AllStay S (label_end_rules c dir e edge)

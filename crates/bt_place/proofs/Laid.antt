@@ -1,7 +1,6 @@
 -- What is so of each layout that lays a request.
-use Rattle.std.proofs.Common.{◌≡◌, ◌≢◌, ◌⊎◌, inl, inr, ℕ, ◌<◌, Bool, true, false, cond, List, [], ◌∷◌, length, refl, sym, ◌∙◌, ap, subst, ⊎_elim, arith}
+use Rattle.std.proofs.Common.{◌≡◌, inl, inr, ℕ, cond, List, [], refl, sym, ◌∙◌, ap, subst, ⊎_elim}
 use Rattle.std.specs.List.{AllByRecursion}
-use Rattle.std.proofs.lemmas.Bool.{false≢true}
 use Rattle.bt_parts.specs.declared.part.Cell.{Cell}
 use Rattle.bt_parts.specs.declared.part.Dir.{Dir}
 use Rattle.bt_parts.specs.declared.part.Kind.{Kind}
@@ -11,7 +10,7 @@ use Rattle.bt_parts.specs.declared.part.Rect.{Rect}
 use Rattle.bt_parts.specs.Cells.{Covers, IsInside}
 use Rattle.bt_parts.specs.Layouts.{HasPart, IsAt, IsWellPlaced}
 use Rattle.bt_parts.proofs.Places.{same_part, one_there}
-use Rattle.bt_model.specs.Chains.{IsSplitter, IsLink}
+use Rattle.bt_model.specs.Chains.{IsSplitter}
 use Rattle.bt_model.specs.Clean.{IsClean}
 use Rattle.bt_model.specs.Laying.{Lays}
 use Rattle.bt_model.specs.Requests.{LayoutRequest}
@@ -23,10 +22,10 @@ use Rattle.bt_place.specs.declared.fact.Half.TheVariants.{Lesser, Greater}
 use Rattle.bt_place.specs.declared.fact.Shape.{Shape}
 use Rattle.bt_place.specs.declared.fact.Shape.TheVariants as shape
 use Rattle.bt_place.specs.Rules.{Rule}
-use Rattle.bt_place.specs.Spots.{is_inside, where_inside, where_outside}
+use Rattle.bt_place.specs.Spots.{where_inside, where_outside}
 use Rattle.bt_place.proofs.Deciding.{Decided, decide, stands_at}
 use Rattle.bt_place.proofs.Geometry.{inside_cases, beside_apart}
-use Rattle.bt_place.proofs.Keeping.{In, AllSaid, OneSaid, Stays, AllStay}
+use Rattle.bt_place.proofs.Keeping.{In, OneSaid}
 use Rattle.bt_place.proofs.Matching.{Matched, matched}
 use Rattle.bt_place.proofs.Reading.{kind_of, cell_of, Stands, Says}
 
@@ -132,8 +131,7 @@ module _ (r : LayoutRequest) (parts : List Part) (lays : Lays parts r) where
       → (s.index ≡ t.index) × (s.part ≡ t.part) × (a ≡ b) × (d ≡ e)
   one_stands c a b d e s t =
       let index : s.index ≡ t.index = one_there parts placed_of s.index t.index c (stands_at parts is_orderly c a d s) (stands_at parts is_orderly c b e t) in
-      let part : s.part ≡ t.part = same_part parts t.index s.part t.part (subst (λ j. HasPart parts j s.part) index s.is_part) t.is_part in
-      (
+      let part : s.part ≡ t.part = same_part parts t.index s.part t.part (subst (λ j. HasPart parts j s.part) index s.is_part) t.is_part in (
         index,
         part,
         one_shape t.part c a b (ap (λ p. p.kind) (sym part) ∙ s.kind) t.kind (s.cell ∙ ap (cell_of a) part) t.cell,

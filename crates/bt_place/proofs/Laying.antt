@@ -1,21 +1,19 @@
 -- Each layout that lays a request gives an assignment that meets its formula.
-use Rattle.std.proofs.Common.{◌≡◌, ◌⊎◌, inl, inr, ℕ, zero, suc, ◌<◌, Bool, true, false, List, [], ◌∷◌, ◌++◌, length, map, get_or, refl, sym, ◌∙◌, ap, subst, ⊎_elim, arith}
+use Rattle.std.proofs.Common.{◌≡◌, inl, inr, ℕ, zero, suc, ◌<◌, Bool, true, false, List, [], ◌∷◌, ◌++◌, length, map, get_or, refl, sym, ◌∙◌, ap, ⊎_elim, arith}
 use Rattle.std.specs.List.{All, Any, AllByRecursion, Contains, flat_map, range_with_len}
-use Rattle.std.proofs.lemmas.Bool.{false≢true}
 use Rattle.bt_parts.specs.declared.part.Part.{Part}
-use Rattle.bt_cnf.specs.declared.literal.Lit.{Lit}
-use Rattle.bt_cnf.specs.Meeting.{IsTrueUnder, MeetsClause, Meets}
+use Rattle.bt_cnf.specs.Meeting.{IsTrueUnder, MeetsClause}
 use Rattle.bt_model.specs.Laying.{Lays, KeepsPin}
-use Rattle.bt_model.specs.Requests.{LayoutRequest, IsRequest}
+use Rattle.bt_model.specs.Requests.{LayoutRequest}
 use Rattle.bt_place.specs.declared.fact.Fact.{Fact}
 use Rattle.bt_place.specs.Contents.{content_rules, half_rules, mate_rules}
 use Rattle.bt_place.specs.Ends.{end_rules, input_rules, output_rules}
 use Rattle.bt_place.specs.Going.{handing_rules}
 use Rattle.bt_place.specs.Labels.{labelling_rules}
-use Rattle.bt_place.specs.Laws.{CanBeMet, LayingMeets}
-use Rattle.bt_place.specs.Numbering.{Sizes, variables, variable_of}
+use Rattle.bt_place.specs.Laws.{LayingMeets}
+use Rattle.bt_place.specs.Numbering.{variable_of}
 use Rattle.bt_place.specs.Pinning.{pin_rules, block_rule}
-use Rattle.bt_place.specs.PlaceFormula.{most_distance, cell_rules, splitter_rules, rules_of, splitter_order, sizes_of, literal, clause_of, place_formula}
+use Rattle.bt_place.specs.PlaceFormula.{most_distance, cell_rules, splitter_rules, rules_of, splitter_order, sizes_of, literal, clause_of}
 use Rattle.bt_place.specs.Ports.{port_rules}
 use Rattle.bt_place.specs.Rules.{Rule}
 use Rattle.bt_place.specs.Spots.{cells_of}
@@ -26,7 +24,6 @@ use Rattle.bt_place.proofs.ContentsKept.{contents_stay, halves_stay, mates_stay}
 use Rattle.bt_place.proofs.Counting.{joined}
 use Rattle.bt_place.proofs.Deciding.{Decided}
 use Rattle.bt_place.proofs.EndsKept.{ends_stay, inputs_stay, outputs_stay}
-use Rattle.bt_place.proofs.Geometry.{from_cells}
 use Rattle.bt_place.proofs.GoingKept.{handing_stay}
 use Rattle.bt_place.proofs.Inverse.{blocks, fact_at, blocks_long}
 use Rattle.bt_place.proofs.Keeping.{In, from_range, each_both, each_four, each_flat, each_map, OneSaid, Stays, AllStay}

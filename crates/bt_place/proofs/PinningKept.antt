@@ -1,6 +1,6 @@
 -- Layouts keep the rules of pins and blocks.
-use Rattle.std.proofs.Common.{◌≡◌, ◌≢◌, ◌⊎◌, inl, inr, ℕ, ◌<◌, List, [], ◌∷◌, map, Option, Some, None, refl, sym, ◌∙◌, ap, subst, ⊎_elim}
-use Rattle.std.specs.List.{flat_map, Contains}
+use Rattle.std.proofs.Common.{◌≡◌, inl, ℕ, List, [], ◌∷◌, map, Option, Some, None, refl, sym, ◌∙◌, ap}
+use Rattle.std.specs.List.{Contains}
 use Rattle.std.specs.Option.{IfSome}
 use Rattle.bt_parts.specs.declared.part.Cell.{Cell}
 use Rattle.bt_parts.specs.declared.part.Dir.{Dir}
@@ -11,17 +11,14 @@ use Rattle.bt_net.specs.declared.network.End.{End}
 use Rattle.bt_net.specs.declared.network.End.TheVariants.{Input, Output}
 use Rattle.bt_net.specs.declared.network.Pin.{Pin}
 use Rattle.bt_model.specs.Laying.{Lays, IsNamed, KeepsPin}
-use Rattle.bt_model.specs.Requests.{LayoutRequest, pinned, blocked}
-use Rattle.bt_place.specs.declared.fact.Content.TheVariants.{Empty}
+use Rattle.bt_model.specs.Requests.{LayoutRequest, pinned}
 use Rattle.bt_place.specs.declared.fact.Fact.{Fact}
-use Rattle.bt_place.specs.declared.fact.Fact.TheVariants.{Kind, First, Last}
-use Rattle.bt_place.specs.declared.fact.Shape.{Shape}
 use Rattle.bt_place.specs.Rules.{not_all}
 use Rattle.bt_place.specs.Spots.{others_than}
 use Rattle.bt_place.specs.Contents.{holds}
 use Rattle.bt_place.specs.Pinning.{stands_there, end_shapes, turned_rules, pin_rules, block_rule}
 use Rattle.bt_place.proofs.Geometry.{others_apart}
-use Rattle.bt_place.proofs.Keeping.{In, each_flat, each_map, AllStay, Stays}
+use Rattle.bt_place.proofs.Keeping.{each_flat, each_map, AllStay, Stays}
 use Rattle.bt_place.proofs.Laid.{Said, stands_as}
 
 module _ (r : LayoutRequest) (parts : List Part) (lays : Lays parts r) where

@@ -1,16 +1,14 @@
 -- Layouts keep the rules of ports.
-use Rattle.std.proofs.Common.{◌≡◌, ◌≢◌, ◌⊎◌, inl, inr, ℕ, zero, suc, ◌<◌, ◌≤◌, ◌+◌, ◌-◌, Bool, true, false, cond, List, [], ◌∷◌, ◌++◌, length, map, get_or, Some, eqb-true, eq-eqb, refl, sym, ◌∙◌, ap, subst, ⊎_elim, arith}
-use Rattle.std.specs.List.{flat_map, filter, enumerate_from, Contains}
+use Rattle.std.proofs.Common.{◌≡◌, ◌⊎◌, inl, inr, ℕ, zero, suc, ◌<◌, ◌+◌, ◌-◌, Bool, true, false, List, [], ◌∷◌, length, map, get_or, Some, eqb-true, eq-eqb, refl, sym, ◌∙◌, ap, subst, ⊎_elim, arith}
+use Rattle.std.specs.List.{flat_map, enumerate_from, Contains}
 use Rattle.std.proofs.lemmas.Bool.{false≢true}
-use Rattle.std.proofs.lemmas.Option.{same_Some}
 use Rattle.bt_parts.specs.declared.part.Cell.{Cell}
 use Rattle.bt_parts.specs.declared.part.Dir.{Dir}
-use Rattle.bt_parts.specs.declared.part.Kind.TheVariants as kind
 use Rattle.bt_parts.specs.declared.part.Part.{Part}
 use Rattle.bt_parts.specs.declared.part.Side.TheVariants.{Behind}
-use Rattle.bt_parts.specs.Cells.{step, beside, IsInside}
+use Rattle.bt_parts.specs.Cells.{step, beside}
 use Rattle.bt_parts.specs.Handing.{ComesFrom, TakesFrom}
-use Rattle.bt_parts.specs.Layouts.{HasPart, IsAt}
+use Rattle.bt_parts.specs.Layouts.{IsAt}
 use Rattle.bt_parts.proofs.Places.{same_part, one_there, covers_at, own_cell}
 use Rattle.bt_net.specs.declared.network.Edge.{Edge}
 use Rattle.bt_net.specs.declared.network.Start.{Start}
@@ -20,33 +18,33 @@ use Rattle.bt_net.specs.declared.network.Target.TheVariants as to
 use Rattle.bt_net.specs.Network.{leaves, enters}
 use Rattle.bt_model.specs.Chains.{IsSplitter, IsLink, Source, Sink, Chain, IsChain}
 use Rattle.bt_model.specs.Chains as chains
-use Rattle.bt_model.specs.Handing.{FeedsFrom, Hands}
+use Rattle.bt_model.specs.Handing.{FeedsFrom}
 use Rattle.bt_model.specs.Laying.{Lays}
 use Rattle.bt_model.specs.Requests.{LayoutRequest}
-use Rattle.bt_model.specs.Shown.{Naming, IsStartOf, IsTargetOf, IsEdgeOf}
+use Rattle.bt_model.specs.Shown.{IsStartOf, IsTargetOf}
 use Rattle.bt_model.proofs.Sorted.{one_place, contains_head, contains_more}
 use Rattle.bt_recover.proofs.ChainLemmas.{no_link, chain_from}
 use Rattle.bt_recover.proofs.HandLaws.{takes_at, comes_at}
 use Rattle.bt_recover.proofs.SameChain.{Hop, hop_of, hop_half, same_hop, leaves_half}
 use Rattle.bt_place.specs.declared.fact.Fact.{Fact}
-use Rattle.bt_place.specs.declared.fact.Fact.TheVariants.{Name, Label, Leaves, Enters, Still, At}
+use Rattle.bt_place.specs.declared.fact.Fact.TheVariants.{Leaves, Enters, Still, At}
 use Rattle.bt_place.specs.declared.fact.Half.{Half}
 use Rattle.bt_place.specs.declared.fact.Half.TheVariants.{Lesser, Greater}
 use Rattle.bt_place.specs.declared.fact.Shape.TheVariants as shape
-use Rattle.bt_place.specs.Rules.{Rule, rule, not_all, at_most_one}
+use Rattle.bt_place.specs.Rules.{rule, at_most_one}
 use Rattle.bt_place.specs.Spots.{dirs, halves, behind, half_at, where_inside, cells_of}
 use Rattle.bt_place.specs.Contents.{holds}
 use Rattle.bt_place.specs.Going.{still_into}
 use Rattle.bt_place.specs.Ports.{edges_from, edges_into, one_port_rules, apart_rules, goes_on, at_once_rules, leaving_rules, entering_rule, half_port_rules, standing_port_rules, port_rules}
 use Rattle.bt_place.proofs.Chaining.{contained_link, chain_from_half, begins_with, comes_cell}
 use Rattle.bt_place.proofs.Deciding.{contains_at, goes_decided, stands_at}
-use Rattle.bt_place.proofs.Geometry.{step_behind, behind_step, beside_apart}
+use Rattle.bt_place.proofs.Geometry.{step_behind, beside_apart}
 use Rattle.bt_place.proofs.GoingKept.{taker_there, in_still}
-use Rattle.bt_place.proofs.Keeping.{In, in_map, from_map, in_filter, from_filter, Distinct, distinct_map, distinct_filter, each_both, each_three, each_four, each_flat, each_map, one_in, all_in, at_most_stays, AllStay, Stays, OneSaid}
+use Rattle.bt_place.proofs.Keeping.{In, in_map, from_map, in_filter, from_filter, Distinct, distinct_filter, each_both, each_four, each_flat, each_map, one_in, all_in, at_most_stays, AllStay, Stays, OneSaid}
 use Rattle.bt_place.proofs.LabelsKept.{IsEdge, edge_of, from_enumerate, half_behind}
-use Rattle.bt_place.proofs.Laid.{Said, match_of, is_orderly, placed_of, inside_at, each_inside}
+use Rattle.bt_place.proofs.Laid.{Said, match_of, is_orderly, placed_of, each_inside}
 use Rattle.bt_place.proofs.Matching.{Matched}
-use Rattle.bt_place.proofs.Reading.{Stands, Goes, Bears, Splits, NamedAt, last_link, ComesFromCell}
+use Rattle.bt_place.proofs.Reading.{Stands, Goes, Bears, Splits, last_link, ComesFromCell}
 use Rattle.bt_place.proofs.StandingKept.{one_split}
 
 -- the last of links is one of them
@@ -359,9 +357,17 @@ module _ (r : LayoutRequest) (parts : List Part) (lays : Lays parts r) where
       (λ link. absurd (no_link parts found.0 (subst (λ j. IsSplitter parts j) index splitter) link.0))
       (λ split.
       let sink : (m.chain_of e).sink ≡ chains.enters st.index = split.1 ∙ ap chains.enters (sym index) in
-      inl (h.0, (split_at t st.index (subst (λ x. IsTargetOf lays.naming x (to.Split t)) sink is) splitter,
-      (sink, subst (λ l. ComesFromCell parts (m.chain_of e).source l (behind st.part.dir (half_at other st.part.dir st.part.cell))) (sym split.2)
-      (at.0.index, leaves_there s e half c dir at h ∙ ap (chains.leaves at.0.index) (sym (half_behind r parts lays dir u other st)))))))
+      inl (
+        h.0,
+        (
+          split_at t st.index (subst (λ x. IsTargetOf lays.naming x (to.Split t)) sink is) splitter,
+          (
+            sink,
+            subst (λ l. ComesFromCell parts (m.chain_of e).source l (behind st.part.dir (half_at other st.part.dir st.part.cell))) (sym split.2)
+                (at.0.index, leaves_there s e half c dir at h ∙ ap (chains.leaves at.0.index) (sym (half_behind r parts lays dir u other st))),
+          ),
+        ),
+      ))
       found.3)
 
   leaving_stay : (s : ℕ) (half : Half) (c : Cell) (dir : Dir) (p : ℕ × Edge) → IsEdge r parts lays p.0 p.1 → AllStay S (leaving_rules r.rect (At s c dir) s half (half_at half dir c) dir p)

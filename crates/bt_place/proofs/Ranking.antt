@@ -1,11 +1,10 @@
 -- The order of splitters has each of them, at its rank.
-use Rattle.std.proofs.Common.{◌≡◌, ◌⊎◌, inl, inr, ℕ, zero, suc, ◌<◌, ◌≤◌, ◌+◌, ◌-◌, Bool, true, false, cond, not, eqb, ltb, List, [], ◌∷◌, ◌++◌, length, map, get_or, take, drop, refl, sym, ◌∙◌, ap, subst, ⊎_elim, arith, eq-eqb, eqb-true, length-append}
-use Rattle.std.specs.List.{range_with_len, remove, position_or_len, prefix_len}
+use Rattle.std.proofs.Common.{◌≡◌, ◌⊎◌, inl, inr, ℕ, zero, suc, ◌<◌, ◌+◌, Bool, true, false, cond, not, eqb, ltb, List, [], ◌∷◌, ◌++◌, length, map, get_or, refl, sym, ◌∙◌, ap, ⊎_elim, arith, eq-eqb, eqb-true, length-append}
+use Rattle.std.specs.List.{range_with_len, remove, position_or_len}
 use Rattle.std.specs.Prelude.{slice_index, ◌==◌}
 use Rattle.std.proofs.lemmas.Bool.{false≢true}
 use Rattle.std.proofs.lemmas.List.Edits.{length-remove}
 use Rattle.bt_net.specs.declared.network.Edge.{Edge}
-use Rattle.bt_net.specs.Network.{Network}
 use Rattle.bt_model.specs.Requests.{LayoutRequest}
 use Rattle.bt_place.specs.Numbering.{joining, place_of_most, first_most, ordered}
 use Rattle.bt_place.specs.PlaceFormula.{splitter_order, ranks_of, sizes_of}

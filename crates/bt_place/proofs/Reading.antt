@@ -1,5 +1,5 @@
 -- What a layout says of each fact.
-use Rattle.std.proofs.Common.{◌≡◌, ◌≢◌, ◌⊎◌, ℕ, ◌<◌, List, [], ◌∷◌, length, Some}
+use Rattle.std.proofs.Common.{◌≡◌, ℕ, ◌<◌, List, [], ◌∷◌, length, Some}
 use Rattle.std.specs.List.{Contains, slice_get}
 use Rattle.std.specs.Prelude.{unsigned_abs}
 use Rattle.bt_parts.specs.declared.part.Cell.{Cell}
@@ -7,18 +7,15 @@ use Rattle.bt_parts.specs.declared.part.Dir.{Dir}
 use Rattle.bt_parts.specs.declared.part.Kind.{Kind}
 use Rattle.bt_parts.specs.declared.part.Kind.TheVariants as kind
 use Rattle.bt_parts.specs.declared.part.Part.{Part}
-use Rattle.bt_parts.specs.Cells.{step, steps, beside}
+use Rattle.bt_parts.specs.Cells.{steps}
 use Rattle.bt_parts.specs.Layouts.{HasPart, IsAt, Pairs}
 use Rattle.bt_net.specs.declared.network.Edge.{Edge}
 use Rattle.bt_model.specs.Chains.{IsSplitter, IsInput, Source, leaves, enters}
 use Rattle.bt_model.specs.Handing.{FeedsFrom}
 use Rattle.bt_model.specs.Shown.{Naming}
-use Rattle.bt_place.specs.declared.fact.Content.{Content}
 use Rattle.bt_place.specs.declared.fact.Content.TheVariants.{Empty, Turned}
 use Rattle.bt_place.specs.declared.fact.Fact.{Fact}
 use Rattle.bt_place.specs.declared.fact.Fact.TheVariants as fact
-use Rattle.bt_place.specs.declared.fact.Half.{Half}
-use Rattle.bt_place.specs.declared.fact.Half.TheVariants.{Lesser, Greater}
 use Rattle.bt_place.specs.declared.fact.Shape.{Shape}
 use Rattle.bt_place.specs.declared.fact.Shape.TheVariants as shape
 use Rattle.bt_place.specs.Spots.{half_at, behind}

@@ -1,33 +1,29 @@
 -- The rules of a request speak of cells, splitters, edges and ends that it has.
-use Rattle.std.proofs.Common.{◌≡◌, ◌⊎◌, inl, inr, ℕ, zero, suc, ◌<◌, ◌≤◌, ◌+◌, ◌-◌, ℤ, pos, negsuc, Bool, true, false, cond, List, [], ◌∷◌, ◌++◌, length, map, get_or, Option, Some, None, refl, sym, ◌∙◌, ap, subst, ⊎_elim, arith}
-use Rattle.std.specs.List.{AllByRecursion, All, Contains, flat_map, range_with_len, enumerate_from, slice_index_or}
+use Rattle.std.proofs.Common.{◌≡◌, inl, inr, ℕ, suc, ◌<◌, ◌≤◌, ◌-◌, ℤ, pos, negsuc, Bool, true, false, cond, List, [], ◌∷◌, ◌++◌, length, map, get_or, Option, Some, None, sym, ◌∙◌, ap, subst, ⊎_elim, arith}
+use Rattle.std.specs.List.{AllByRecursion, All, flat_map, range_with_len, enumerate_from}
 use Rattle.std.specs.Prelude.{unsigned_abs, ◌<ℤ◌, ◌≤ℤ◌}
 use Rattle.std.proofs.lemmas.Int.{ints}
 use Rattle.bt_parts.specs.declared.part.Cell.{Cell}
 use Rattle.bt_parts.specs.declared.part.Dir.{Dir}
 use Rattle.bt_parts.specs.declared.part.Rect.{Rect}
 use Rattle.bt_parts.specs.Cells.{step, steps, opposite, IsInside}
-use Rattle.bt_parts.proofs.Steps.{steps_none}
-use Rattle.bt_net.specs.declared.network.Block.{Block}
 use Rattle.bt_net.specs.declared.network.Edge.{Edge}
 use Rattle.bt_net.specs.declared.network.End.{End}
 use Rattle.bt_net.specs.declared.network.End.TheVariants.{Input, Output}
-use Rattle.bt_net.specs.declared.network.Pin.{Pin}
 use Rattle.bt_net.specs.declared.network.Start.{Start}
 use Rattle.bt_net.specs.declared.network.Start.TheVariants as from
 use Rattle.bt_net.specs.declared.network.Target.{Target}
 use Rattle.bt_net.specs.declared.network.Target.TheVariants as to
 use Rattle.bt_net.specs.Network.{StartsIn, EndsIn, leaves, enters}
 use Rattle.bt_model.specs.Requests.{LayoutRequest, IsRequest, HasEnd, pinned, blocked}
-use Rattle.bt_place.specs.declared.fact.Content.TheVariants.{Empty, Turned}
+use Rattle.bt_place.specs.declared.fact.Content.TheVariants.{Empty}
 use Rattle.bt_place.specs.declared.fact.Fact.{Fact}
 use Rattle.bt_place.specs.declared.fact.Fact.TheVariants as fact
 use Rattle.bt_place.specs.declared.fact.Half.{Half}
 use Rattle.bt_place.specs.declared.fact.Half.TheVariants.{Lesser, Greater}
-use Rattle.bt_place.specs.declared.fact.Shape.{Shape}
 use Rattle.bt_place.specs.declared.fact.Shape.TheVariants as shape
 use Rattle.bt_place.specs.Contents.{holds, contents, content_rules, half_kinds, half_rules, mate_rule, mate_rules}
-use Rattle.bt_place.specs.Ends.{starters, enders, end_rules, input_rules, output_rules}
+use Rattle.bt_place.specs.Ends.{enders, end_rules, input_rules, output_rules}
 use Rattle.bt_place.specs.Going.{runners, givers, takers, inner_rules, outer_rules, going_rules, still_into, fed_belt, fed_entrance, once_rules, handing_rules}
 use Rattle.bt_place.specs.Labels.{label_rules, start_rules, target_rules, into_half_rules, from_half_rules, label_on_rules, last_of, label_end_rules, label_way_rules, edge_rules, labelling_rules}
 use Rattle.bt_place.specs.Numbering.{Sizes}
@@ -35,8 +31,8 @@ use Rattle.bt_place.specs.Pinning.{stands_there, end_shapes, turned_rules, pin_r
 use Rattle.bt_place.specs.PlaceFormula.{most_distance, cell_rules, splitter_rules, rules_of, sizes_of}
 use Rattle.bt_place.specs.Ports.{edges_from, edges_into, one_port_rules, apart_rules, goes_on, at_once_rules, leaving_rules, entering_rule, half_port_rules, standing_port_rules, port_rules}
 use Rattle.bt_place.specs.Rules.{Rule, rule, some_of, not_all, at_most_one, all_but_one}
-use Rattle.bt_place.specs.Spots.{dirs, halves, sides_of, others_than, other_half, behind, mate, half_at, is_inside, where_inside, where_outside, cells_of, is_border, border_of}
-use Rattle.bt_place.specs.Standing.{owner_rule, at_rules, stands_on, name_rule, standing_rules, stands_at, place_rules}
+use Rattle.bt_place.specs.Spots.{dirs, halves, sides_of, others_than, other_half, behind, mate, half_at, where_inside, where_outside, cells_of, is_border, border_of}
+use Rattle.bt_place.specs.Standing.{owner_rule, at_rules, stands_on, name_rule, standing_rules, place_rules}
 use Rattle.bt_place.specs.Underground.{tunnel_into, tunnel_rules, distance_rules, pair_label_rules, entrance_rules, underground_rules}
 use Rattle.bt_place.specs.Within.{IsWithin, HasWithin}
 use Rattle.bt_place.proofs.Geometry.{inside_cases, inside_between, from_cells}
@@ -188,10 +184,12 @@ module _ (r : LayoutRequest) (is : IsRequest r) where
   inner_within : (c : Cell) (d : Dir) → I c → I (step d c) → R (inner_rules c d)
   inner_within c d h n = (
     record { given = tt; one_of = (h, each_map (IsWithin z) (λ of. holds c of d) givers (λ of k. h)) },
-    (record { given = tt; one_of = (h, takers_within (step d c) d n) },
-    each_both (HasWithin z) (map (λ of. not_all (holds c of d ∷ fact.Still c d ∷ [])) runners) (map (λ half. rule (holds c (shape.Half half) d ∷ fact.Still c d ∷ []) (fact.Kind (step d c) Empty ∷ [])) halves)
-        (each_map (HasWithin z) (λ of. not_all (holds c of d ∷ fact.Still c d ∷ [])) runners (λ of k. record { given = (h, (h, tt)); one_of = tt }))
-        (each_map (HasWithin z) (λ half. rule (holds c (shape.Half half) d ∷ fact.Still c d ∷ []) (fact.Kind (step d c) Empty ∷ [])) halves (λ half k. record { given = (h, (h, tt)); one_of = (n, tt) }))),
+    (
+      record { given = tt; one_of = (h, takers_within (step d c) d n) },
+      each_both (HasWithin z) (map (λ of. not_all (holds c of d ∷ fact.Still c d ∷ [])) runners) (map (λ half. rule (holds c (shape.Half half) d ∷ fact.Still c d ∷ []) (fact.Kind (step d c) Empty ∷ [])) halves)
+          (each_map (HasWithin z) (λ of. not_all (holds c of d ∷ fact.Still c d ∷ [])) runners (λ of k. record { given = (h, (h, tt)); one_of = tt }))
+          (each_map (HasWithin z) (λ half. rule (holds c (shape.Half half) d ∷ fact.Still c d ∷ []) (fact.Kind (step d c) Empty ∷ [])) halves (λ half k. record { given = (h, (h, tt)); one_of = (n, tt) })),
+    ),
   )
 
   outer_within : (c : Cell) (d : Dir) → I c → R (outer_rules r.net.outputs c d)
@@ -218,8 +216,11 @@ module _ (r : LayoutRequest) (is : IsRequest r) where
       (flat_map (going_rules r.rect r.net.outputs c) dirs) (map (fed_belt r.rect c) dirs) (map (fed_entrance r.rect c) dirs) (once_rules r.rect c)
       (each_flat (HasWithin z) (going_rules r.rect r.net.outputs c) dirs (λ d k. going_within c d h))
       (each_map (HasWithin z) (fed_belt r.rect c) dirs (λ d k. record {
-        given = (h, each_both (IsWithin z) (still_into r.rect c d) (flat_map (still_into r.rect c) (sides_of d)) (still_within c d)
-            (each_flat (IsWithin z) (still_into r.rect c) (sides_of d) (λ e l. still_within c e)));
+        given = (
+          h,
+          each_both (IsWithin z) (still_into r.rect c d) (flat_map (still_into r.rect c) (sides_of d)) (still_within c d)
+              (each_flat (IsWithin z) (still_into r.rect c) (sides_of d) (λ e l. still_within c e)),
+        );
         one_of = begins_within c d h;
       }))
       (each_map (HasWithin z) (fed_entrance r.rect c) dirs (λ d k. record { given = (h, still_within c d); one_of = begins_within c d h }))
@@ -235,20 +236,22 @@ module _ (r : LayoutRequest) (is : IsRequest r) where
   ends_within : (c : Cell) → I c → R (end_rules r.rect r.net.inputs r.net.outputs c)
   ends_within c h = (
     record { given = (h, tt); one_of = each_map (IsWithin z) (fact.First c) (range_with_len 0 r.net.inputs) (λ i at. (h, below r.net.inputs i at)) },
-    (record {
-      given = (h, tt);
-      one_of = each_flat (IsWithin z) (λ d. where_outside r.rect (behind d c) (holds c shape.Belt d ∷ holds c shape.Entrance d ∷ [])) dirs
-          (λ d k. all_outside r.rect (behind d c) (IsWithin z) (holds c shape.Belt d ∷ holds c shape.Entrance d ∷ []) (h, (h, tt)));
-    },
-    each_both (HasWithin z) (map (λ i. rule (fact.First c i ∷ []) (fact.Begins c ∷ [])) (range_with_len 0 r.net.inputs)) (map (λ o. rule (fact.Last c o ∷ []) (enders r.rect c)) (range_with_len 0 r.net.outputs))
-        (each_map (HasWithin z) (λ i. rule (fact.First c i ∷ []) (fact.Begins c ∷ [])) (range_with_len 0 r.net.inputs)
-        (λ i at. record { given = ((h, below r.net.inputs i at), tt); one_of = (h, tt) }))
-        (each_map (HasWithin z) (λ o. rule (fact.Last c o ∷ []) (enders r.rect c)) (range_with_len 0 r.net.outputs)
-        (λ o at. record {
-          given = ((h, below r.net.outputs o at), tt);
-          one_of = each_flat (IsWithin z) (λ d. where_outside r.rect (step d c) (holds c shape.Belt d ∷ holds c shape.Exit d ∷ [])) dirs
-              (λ d k. all_outside r.rect (step d c) (IsWithin z) (holds c shape.Belt d ∷ holds c shape.Exit d ∷ []) (h, (h, tt)));
-        }))),
+    (
+      record {
+        given = (h, tt);
+        one_of = each_flat (IsWithin z) (λ d. where_outside r.rect (behind d c) (holds c shape.Belt d ∷ holds c shape.Entrance d ∷ [])) dirs
+            (λ d k. all_outside r.rect (behind d c) (IsWithin z) (holds c shape.Belt d ∷ holds c shape.Entrance d ∷ []) (h, (h, tt)));
+      },
+      each_both (HasWithin z) (map (λ i. rule (fact.First c i ∷ []) (fact.Begins c ∷ [])) (range_with_len 0 r.net.inputs)) (map (λ o. rule (fact.Last c o ∷ []) (enders r.rect c)) (range_with_len 0 r.net.outputs))
+          (each_map (HasWithin z) (λ i. rule (fact.First c i ∷ []) (fact.Begins c ∷ [])) (range_with_len 0 r.net.inputs)
+          (λ i at. record { given = ((h, below r.net.inputs i at), tt); one_of = (h, tt) }))
+          (each_map (HasWithin z) (λ o. rule (fact.Last c o ∷ []) (enders r.rect c)) (range_with_len 0 r.net.outputs)
+          (λ o at. record {
+            given = ((h, below r.net.outputs o at), tt);
+            one_of = each_flat (IsWithin z) (λ d. where_outside r.rect (step d c) (holds c shape.Belt d ∷ holds c shape.Exit d ∷ [])) dirs
+                (λ d k. all_outside r.rect (step d c) (IsWithin z) (holds c shape.Belt d ∷ holds c shape.Exit d ∷ []) (h, (h, tt)));
+          })),
+    ),
   )
 
   border_inside : (c : Cell) → In (border_of r.rect) c → I c
@@ -274,14 +277,22 @@ module _ (r : LayoutRequest) (is : IsRequest r) where
   tunnels_within : (c : Cell) (d : Dir) → I c → R (tunnel_rules r.rect c d)
   tunnels_within c d h = (
     record { given = (h, tt); one_of = (h, tt) },
-    (record { given = (h, tt); one_of = tunnel_within c d }, (record { given = (h, tt); one_of = (h, tunnel_within c d) }, (record { given = (h, (h, tt)); one_of = tt },
-    each_both (HasWithin z) (where_outside r.rect (step d c) (not_all (fact.Tunnel c d ∷ []) ∷ []))
-        (where_inside r.rect (step d c) (map (λ f. not_all (fact.Tunnel c d ∷ f ∷ []))
-        (holds (step d c) shape.Entrance d ∷ holds (step d c) shape.Entrance (opposite d) ∷ holds (step d c) shape.Exit (opposite d) ∷ [])))
-        (all_outside r.rect (step d c) (HasWithin z) (not_all (fact.Tunnel c d ∷ []) ∷ []) (record { given = (h, tt); one_of = tt }, tt))
-        (all_inside r.rect (step d c) (HasWithin z) (map (λ f. not_all (fact.Tunnel c d ∷ f ∷ []))
-        (holds (step d c) shape.Entrance d ∷ holds (step d c) shape.Entrance (opposite d) ∷ holds (step d c) shape.Exit (opposite d) ∷ []))
-        (λ n. (record { given = (h, (n, tt)); one_of = tt }, (record { given = (h, (n, tt)); one_of = tt }, (record { given = (h, (n, tt)); one_of = tt }, tt)))))))),
+    (
+      record { given = (h, tt); one_of = tunnel_within c d },
+      (
+        record { given = (h, tt); one_of = (h, tunnel_within c d) },
+        (
+          record { given = (h, (h, tt)); one_of = tt },
+          each_both (HasWithin z) (where_outside r.rect (step d c) (not_all (fact.Tunnel c d ∷ []) ∷ []))
+              (where_inside r.rect (step d c) (map (λ f. not_all (fact.Tunnel c d ∷ f ∷ []))
+              (holds (step d c) shape.Entrance d ∷ holds (step d c) shape.Entrance (opposite d) ∷ holds (step d c) shape.Exit (opposite d) ∷ [])))
+              (all_outside r.rect (step d c) (HasWithin z) (not_all (fact.Tunnel c d ∷ []) ∷ []) (record { given = (h, tt); one_of = tt }, tt))
+              (all_inside r.rect (step d c) (HasWithin z) (map (λ f. not_all (fact.Tunnel c d ∷ f ∷ []))
+              (holds (step d c) shape.Entrance d ∷ holds (step d c) shape.Entrance (opposite d) ∷ holds (step d c) shape.Exit (opposite d) ∷ []))
+              (λ n. (record { given = (h, (n, tt)); one_of = tt }, (record { given = (h, (n, tt)); one_of = tt }, (record { given = (h, (n, tt)); one_of = tt }, tt))))),
+        ),
+      ),
+    ),
   )
 
   distances_within : (c : Cell) (d : Dir) (k : ℕ) → I c → (1 ≤ k) × (k ≤ most_distance r) → R (distance_rules r.rect c d k)
@@ -361,8 +372,10 @@ module _ (r : LayoutRequest) (is : IsRequest r) where
   way_within c e edge d h lt s t = ⊎_elim
       (λ i. subst (λ b. R (cond b (label_on_rules c d e edge) (label_end_rules c d e edge))) (sym i.1) (
         record { given = ((h, lt), tt); one_of = (h, ((i.0, lt), (i.0, tt))) },
-        (record { given = ((i.0, lt), tt); one_of = (h, ((h, lt), (h, tt))) },
-        each_both (HasWithin z) (into_half_rules c d e edge.target) (from_half_rules c d e edge.start) (into_within c d e edge.target h i.0 lt t) (from_within c d e edge.start h i.0 lt s)),
+        (
+          record { given = ((i.0, lt), tt); one_of = (h, ((h, lt), (h, tt))) },
+          each_both (HasWithin z) (into_half_rules c d e edge.target) (from_half_rules c d e edge.start) (into_within c d e edge.target h i.0 lt t) (from_within c d e edge.start h i.0 lt s),
+        ),
       ))
       (λ o. subst (λ b. R (cond b (label_on_rules c d e edge) (label_end_rules c d e edge))) (sym o.1)
       (each_map (HasWithin z) (λ of. rule (fact.Label c e ∷ holds c of d ∷ []) (last_of c edge.target)) runners (λ of k. record { given = ((h, lt), (h, tt)); one_of = last_within c edge.target h t })))

@@ -1,20 +1,17 @@
 -- Layouts keep the rules of where splitters stand.
-use Rattle.std.proofs.Common.{◌≡◌, ◌≢◌, ◌⊎◌, inl, inr, ℕ, ◌<◌, ◌+◌, List, [], ◌∷◌, ◌++◌, length, map, get_or, Some, refl, sym, ◌∙◌, ap, subst, ⊎_elim, arith}
-use Rattle.std.specs.List.{flat_map, range_with_len, Contains, slice_get, AllPairs}
-use Rattle.std.specs.Prelude.{unsigned_abs, ◌<ℤ◌, ◌≤ℤ◌, pos}
-use Rattle.std.proofs.lemmas.Int.{ints}
+use Rattle.std.proofs.Common.{◌≡◌, inl, inr, ℕ, ◌<◌, List, [], ◌∷◌, map, get_or, Some, refl, sym, ◌∙◌, ap, subst, ⊎_elim, arith}
+use Rattle.std.specs.List.{flat_map, range_with_len}
+use Rattle.std.specs.Prelude.{unsigned_abs}
 use Rattle.std.proofs.lemmas.Option.{slice_get-get_or}
 use Rattle.bt_parts.specs.declared.part.Cell.{Cell}
 use Rattle.bt_parts.specs.declared.part.Dir.{Dir}
 use Rattle.bt_parts.specs.declared.part.Part.{Part}
-use Rattle.bt_parts.specs.declared.part.Rect.{Rect}
-use Rattle.bt_parts.specs.Cells.{beside, IsInside}
-use Rattle.bt_parts.specs.Layouts.{HasPart, IsAt}
-use Rattle.bt_parts.proofs.Places.{same_part, one_there}
+use Rattle.bt_parts.specs.Cells.{beside}
+use Rattle.bt_parts.specs.Layouts.{HasPart}
+use Rattle.bt_parts.proofs.Places.{one_there}
 use Rattle.bt_model.specs.Chains.{IsSplitter}
 use Rattle.bt_model.specs.Laying.{Lays}
 use Rattle.bt_model.specs.Requests.{LayoutRequest}
-use Rattle.bt_model.specs.Shown.{Naming}
 use Rattle.bt_model.proofs.Sorted.{one_place}
 use Rattle.bt_recover.proofs.EdgeLemmas.{contained_at}
 use Rattle.bt_place.specs.declared.fact.Fact.{Fact}
@@ -28,9 +25,9 @@ use Rattle.bt_place.specs.Contents.{holds}
 use Rattle.bt_place.specs.Standing.{owner_rule, at_rules, stands_on, name_rule, standing_rules, stands_at, place_rules}
 use Rattle.bt_place.proofs.Deciding.{stands_at as at_stands, same_split, contains_at}
 use Rattle.bt_place.proofs.Geometry.{in_dirs, distinct_dirs, before_beside, in_cells}
-use Rattle.bt_place.proofs.Keeping.{In, in_left, in_right, in_map, from_map, in_flat, in_range, from_range, Distinct, distinct_map, distinct_range, each_three, each_four, each_flat, each_map, one_in, at_most_stays, AllStay, Stays, OneSaid}
+use Rattle.bt_place.proofs.Keeping.{In, in_map, from_map, in_flat, in_range, Distinct, distinct_map, distinct_range, each_three, each_four, each_flat, each_map, one_in, at_most_stays, AllStay, Stays}
 use Rattle.bt_place.proofs.Laid.{Said, is_orderly, placed_of, inside_at, stands_as, half_there, in_inside, from_inside}
-use Rattle.bt_place.proofs.Reading.{Stands, Bears, Splits, NamedAt}
+use Rattle.bt_place.proofs.Reading.{Stands, Bears, Splits}
 
 module _ (r : LayoutRequest) (parts : List Part) (lays : Lays parts r) where
   abbrev S : Fact → Type 0

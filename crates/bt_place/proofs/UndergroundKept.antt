@@ -1,16 +1,14 @@
 -- Layouts keep the rules of underground pairs.
-use Rattle.std.proofs.Common.{◌≡◌, ◌≢◌, ◌⊎◌, inl, inr, ℕ, zero, suc, ◌<◌, ◌≤◌, ◌+◌, ◌-◌, List, [], ◌∷◌, ◌++◌, length, map, refl, sym, ◌∙◌, ap, subst, ⊎_elim, arith}
-use Rattle.std.specs.List.{flat_map, range_with_len, Contains, All, slice_index_or}
+use Rattle.std.proofs.Common.{◌≡◌, ◌⊎◌, inl, inr, ℕ, zero, suc, ◌<◌, ◌≤◌, ◌+◌, ◌-◌, List, [], ◌∷◌, length, map, refl, sym, ◌∙◌, ap, subst, ⊎_elim, arith}
+use Rattle.std.specs.List.{flat_map, range_with_len, Contains}
 use Rattle.bt_parts.specs.declared.part.Cell.{Cell}
 use Rattle.bt_parts.specs.declared.part.Dir.{Dir}
-use Rattle.bt_parts.specs.declared.part.Kind.TheVariants as kind
 use Rattle.bt_parts.specs.declared.part.Part.{Part}
-use Rattle.bt_parts.specs.declared.part.Tier.{Tier}
 use Rattle.std.proofs.lemmas.Bool.{cases_lt}
 use Rattle.std.proofs.lemmas.Option.{slice_get_within, get_or_from_slice_get}
 use Rattle.bt_parts.specs.Cells.{Covers, step, steps, opposite, IsInside}
 use Rattle.bt_parts.specs.Tiers.{reach_of}
-use Rattle.bt_parts.specs.Layouts.{HasPart, IsAt, IsPieceOn, Pairs}
+use Rattle.bt_parts.specs.Layouts.{HasPart, IsAt, Pairs}
 use Rattle.bt_parts.proofs.Places.{same_part, one_there, covers_at}
 use Rattle.bt_parts.proofs.Steps.{steps_none}
 use Rattle.bt_model.specs.Chains.{IsLink}
@@ -22,15 +20,15 @@ use Rattle.bt_place.specs.declared.fact.Fact.{Fact}
 use Rattle.bt_place.specs.declared.fact.Fact.TheVariants.{Label, Distance, Tunnel}
 use Rattle.bt_place.specs.declared.fact.Shape.{Shape}
 use Rattle.bt_place.specs.declared.fact.Shape.TheVariants as shape
-use Rattle.bt_place.specs.Rules.{Rule, rule, not_all, at_most_one}
+use Rattle.bt_place.specs.Rules.{rule, not_all, at_most_one}
 use Rattle.bt_place.specs.Spots.{dirs, behind, where_inside, where_outside}
 use Rattle.bt_place.specs.Contents.{holds}
 use Rattle.bt_place.specs.PlaceFormula.{most_distance}
 use Rattle.bt_place.specs.Underground.{tunnel_into, tunnel_rules, distance_rules, pair_label_rules, entrance_rules, underground_rules}
 use Rattle.bt_place.proofs.Chaining.{goes_on, comes_on}
 use Rattle.bt_place.proofs.Deciding.{pair_of, same_pair, stands_at}
-use Rattle.bt_place.proofs.Geometry.{inside_between, steps_plus, step_behind, behind_step, in_dirs}
-use Rattle.bt_place.proofs.Keeping.{In, in_map, from_map, in_range, from_range, Distinct, distinct_map, distinct_range, each_both, each_three, each_flat, each_map, one_in, at_most_stays, AllStay, Stays, OneSaid}
+use Rattle.bt_place.proofs.Geometry.{inside_between, steps_plus, behind_step}
+use Rattle.bt_place.proofs.Keeping.{in_map, from_map, in_range, from_range, distinct_map, distinct_range, each_both, each_three, each_flat, each_map, one_in, at_most_stays, AllStay, Stays, OneSaid}
 use Rattle.bt_place.proofs.Laid.{Said, match_of, is_orderly, placed_of, inside_at, stands_as, one_inside, each_inside, each_outside}
 use Rattle.bt_place.proofs.Reading.{kind_of, Stands, Runs, Reaches}
 
@@ -58,10 +56,11 @@ module _ (r : LayoutRequest) (parts : List Part) (lays : Lays parts r) where
       → 0 < run.so_far → Stands parts c of d → ⊥
   clear_of c dir run of d piece axis some s =
       run.pair.none_between run.so_far s.index s.part some run.before_end s.is_part
-      (subst (Covers s.part) (run.here ∙ ap (λ g. steps run.so_far g run.pair.entrance.cell) (sym run.along)) (covers_at parts s.index s.part c s.is_part (stands_at parts (is_orderly r parts lays) c of d s)))
-      (⊎_elim (λ e. inl (s.kind ∙ ap kind_of e)) (λ e. inr (s.kind ∙ ap kind_of e)) piece,
-      tier s.index s.part s.is_part ∙ sym (tier run.from run.pair.entrance run.pair.is_a),
-      ⊎_elim (λ e. inl (s.turned ∙ e ∙ sym run.along)) (λ e. inr (s.turned ∙ e ∙ ap opposite (sym run.along))) axis)
+      (subst (Covers s.part) (run.here ∙ ap (λ g. steps run.so_far g run.pair.entrance.cell) (sym run.along)) (covers_at parts s.index s.part c s.is_part (stands_at parts (is_orderly r parts lays) c of d s))) (
+        ⊎_elim (λ e. inl (s.kind ∙ ap kind_of e)) (λ e. inr (s.kind ∙ ap kind_of e)) piece,
+        tier s.index s.part s.is_part ∙ sym (tier run.from run.pair.entrance run.pair.is_a),
+        ⊎_elim (λ e. inl (s.turned ∙ e ∙ sym run.along)) (λ e. inr (s.turned ∙ e ∙ ap opposite (sym run.along))) axis,
+      )
 
   -- the pair of an entrance that stands
   pair_there : (c : Cell) (dir : Dir) → (s : Stands parts c shape.Entrance dir) → (b : ℕ) × (p : Pairs parts s.index b) × (p.entrance ≡ s.part)
@@ -161,15 +160,25 @@ module _ (r : LayoutRequest) (parts : List Part) (lays : Lays parts r) where
   tunnels_stay : (c : Cell) (dir : Dir) → AllStay S (tunnel_rules r.rect c dir)
   tunnels_stay c dir = (
     λ given. inl (begins_run c dir given.0),
-    ((λ given. ends_run c dir given.0), ((λ given. comes_run c dir given.0 given.0.so_far refl), ((λ given. absurd (no_exit c dir given.0 given.0.so_far refl given.1.0)),
-    each_both (Stays S) (where_outside r.rect (step dir c) (not_all (Tunnel c dir ∷ []) ∷ []))
-        (where_inside r.rect (step dir c) (map (λ fact. not_all (Tunnel c dir ∷ fact ∷ [])) (passed c dir)))
-        (each_outside S r.rect (step dir c) (Stays S) (not_all (Tunnel c dir ∷ []) ∷ []) (λ out. ((λ given. absurd (out (next_inside c dir given.0))), tt)))
-        (each_inside S r.rect (step dir c) (Stays S) (map (λ fact. not_all (Tunnel c dir ∷ fact ∷ [])) (passed c dir)) (λ here. (
-          λ given. absurd (next_clear c dir shape.Entrance dir (inl refl) (inl refl) (λ e. cc) given.0 given.1.0),
-          ((λ given. absurd (next_clear c dir shape.Entrance (opposite dir) (inl refl) (inr refl) (λ e. cc) given.0 given.1.0)),
-          ((λ given. absurd (next_clear c dir shape.Exit (opposite dir) (inr refl) (inr refl) (λ e d. not_opposite dir (sym d)) given.0 given.1.0)), tt)),
-        )))))),
+    (
+      (λ given. ends_run c dir given.0),
+      (
+        (λ given. comes_run c dir given.0 given.0.so_far refl),
+        (
+          (λ given. absurd (no_exit c dir given.0 given.0.so_far refl given.1.0)),
+          each_both (Stays S) (where_outside r.rect (step dir c) (not_all (Tunnel c dir ∷ []) ∷ []))
+              (where_inside r.rect (step dir c) (map (λ fact. not_all (Tunnel c dir ∷ fact ∷ [])) (passed c dir)))
+              (each_outside S r.rect (step dir c) (Stays S) (not_all (Tunnel c dir ∷ []) ∷ []) (λ out. ((λ given. absurd (out (next_inside c dir given.0))), tt)))
+              (each_inside S r.rect (step dir c) (Stays S) (map (λ fact. not_all (Tunnel c dir ∷ fact ∷ [])) (passed c dir)) (λ here. (
+                λ given. absurd (next_clear c dir shape.Entrance dir (inl refl) (inl refl) (λ e. cc) given.0 given.1.0),
+                (
+                  (λ given. absurd (next_clear c dir shape.Entrance (opposite dir) (inl refl) (inr refl) (λ e. cc) given.0 given.1.0)),
+                  ((λ given. absurd (next_clear c dir shape.Exit (opposite dir) (inr refl) (inr refl) (λ e d. not_opposite dir (sym d)) given.0 given.1.0)), tt),
+                ),
+              ))),
+        ),
+      ),
+    ),
   )
 
   -- ---- distances
@@ -221,17 +230,32 @@ module _ (r : LayoutRequest) (parts : List Part) (lays : Lays parts r) where
             let along = reach_of_stands c dir k given.0 q in
             let label = given.1.1.0 in
             let index : label.1.0 ≡ q.from = one_there parts (placed_of r parts lays) label.1.0 q.from c label.1.1 (record { part = q.pair.entrance; is_i = q.pair.is_a; covers = inl q.here }) in
-            inl (label.0, (q.to, exit_on c dir k q along,
-            goes_on parts lays.shows.clean ((match_of r parts lays).chain_of e) q.from q.to ((match_of r parts lays).is_chain e label.0)
-            (subst (Contains ((match_of r parts lays).chain_of e).links) index label.1.2) (inl q.pair) (exit_link q.from q.to q.pair))),
-        ((λ given.
-        let q = given.1.0 in
-        let along = reach_of_stands c dir k given.0 q in
-        let label = given.1.1.0 in
-        let index : label.1.0 ≡ q.to = one_there parts (placed_of r parts lays) label.1.0 q.to (steps k dir c) label.1.1 (exit_on c dir k q along) in
-        inl (label.0, (q.from, record { part = q.pair.entrance; is_i = q.pair.is_a; covers = inl q.here },
-        comes_on parts lays.shows.clean ((match_of r parts lays).chain_of e) q.from q.to ((match_of r parts lays).is_chain e label.0)
-        (subst (Contains ((match_of r parts lays).chain_of e).links) index label.1.2) (entrance_link q.from q.to q.pair) (inl q.pair)))), tt),
+            inl (
+              label.0,
+              (
+                q.to,
+                exit_on c dir k q along,
+                goes_on parts lays.shows.clean ((match_of r parts lays).chain_of e) q.from q.to ((match_of r parts lays).is_chain e label.0)
+                    (subst (Contains ((match_of r parts lays).chain_of e).links) index label.1.2) (inl q.pair) (exit_link q.from q.to q.pair),
+              ),
+            ),
+        (
+          (λ given.
+              let q = given.1.0 in
+              let along = reach_of_stands c dir k given.0 q in
+              let label = given.1.1.0 in
+              let index : label.1.0 ≡ q.to = one_there parts (placed_of r parts lays) label.1.0 q.to (steps k dir c) label.1.1 (exit_on c dir k q along) in
+              inl (
+                label.0,
+                (
+                  q.from,
+                  record { part = q.pair.entrance; is_i = q.pair.is_a; covers = inl q.here },
+                  comes_on parts lays.shows.clean ((match_of r parts lays).chain_of e) q.from q.to ((match_of r parts lays).is_chain e label.0)
+                      (subst (Contains ((match_of r parts lays).chain_of e).links) index label.1.2) (entrance_link q.from q.to q.pair) (inl q.pair),
+                ),
+              )),
+          tt,
+        ),
       ))
     where
       exit_link : (a b : ℕ) → Pairs parts a b → IsLink parts b

@@ -7,4 +7,3 @@ mod law;
 pub use fact::{Content, Fact, Half, Shape};
 pub use law::{laying_meets, meeting_keeps};
 pub use std::alloc::AllocError as Memory;
-
