@@ -20,3 +20,4 @@ pub mod Inverse
 pub mod Ranking
 pub mod RulesWithin
 pub mod Laying
+pub mod DraftLemmas

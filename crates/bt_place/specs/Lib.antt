@@ -12,3 +12,4 @@ pub mod Numbering
 pub mod Within
 pub mod PlaceFormula
 pub mod Laws
+pub mod inner

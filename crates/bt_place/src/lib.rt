@@ -1,7 +1,9 @@
 //! The placement formula of a request: the layouts that lay the request, as a formula over what each cell holds.
 #![tactic(auto)]
 
+mod draft;
 mod fact;
+mod facts;
 mod law;
 
 pub use fact::{Content, Fact, Half, Shape};
