@@ -136,11 +136,11 @@ taker_cases parts orderly i link = taker_of_kind parts orderly i link.0 link.0.k
 pub part_cases : (parts : List Part) (i : ℕ) (part : Part) → HasPart parts i part → IsSplitter parts i ⊎ IsLink parts i
 part_cases parts i part is_i = ⊎_elim (λ e. inl (part, is_i, e)) (λ n. inr (part, is_i, n)) (splitter_cases part.kind)
 
-taker_part : (parts : List Part) (i j : ℕ) → Hands parts i j → (part : Part) × HasPart parts j part
+pub taker_part : (parts : List Part) (i j : ℕ) → Hands parts i j → (part : Part) × HasPart parts j part
 taker_part parts i j (inl pair) = (pair.exit, pair.is_b)
 taker_part parts i j (inr feeds) = (feeds.1.look.taker.part, feeds.1.look.taker.is_i)
 
-giver_part : (parts : List Part) (i j : ℕ) → Hands parts i j → (part : Part) × HasPart parts i part
+pub giver_part : (parts : List Part) (i j : ℕ) → Hands parts i j → (part : Part) × HasPart parts i part
 giver_part parts i j (inl pair) = (pair.entrance, pair.is_a)
 giver_part parts i j (inr feeds) = (feeds.1.look.giver.part, feeds.1.look.giver.is_i)
 
@@ -261,7 +261,7 @@ from_input parts orderly no_ring i input =
     )
 
 -- a path to here starts somewhere
-abbrev HasFront : List Part → ℕ → Type 0
+abbrev pub HasFront : List Part → ℕ → Type 0
 HasFront parts last = (first : ℕ) × (links : List ℕ) × Path parts first last links × ((p : ℕ) → LinksTo parts p first → ⊥)
 
 abbrev IsLongTo : List Part → ℕ → ℕ → Type 0
@@ -289,7 +289,7 @@ run_back parts orderly last link (suc n) =
     (giver_cases parts orderly long.0 first_link))
     (run_back parts orderly last link n)
 
-front_of : (parts : List Part) → IsOrderly parts → Never (IsOnRing parts) → (last : ℕ) → IsLink parts last → HasFront parts last
+pub front_of : (parts : List Part) → IsOrderly parts → Never (IsOnRing parts) → (last : ℕ) → IsLink parts last → HasFront parts last
 front_of parts orderly no_ring last link =
     ⊎_elim (λ front. front) (λ long. absurd (no_long_path parts no_ring long.0 last long.1 long.2 (let e = long.3 in omega arith)))
     (run_back parts orderly last link (length parts))
@@ -312,7 +312,7 @@ unhanded_input parts orderly i link none = record {
 }
 
 -- what a splitter hands to, it feeds
-splitter_feeds : (parts : List Part) (s q : ℕ) → IsSplitter parts s → Hands parts s q → Feeds parts s q
+pub splitter_feeds : (parts : List Part) (s q : ℕ) → IsSplitter parts s → Hands parts s q → Feeds parts s q
 splitter_feeds parts s q splitter (inl pair) = absurd (let a = splitter.2 in let b = pair_enters parts s q splitter.0 splitter.1 pair in cc)
 splitter_feeds parts s q splitter (inr feeds) = feeds
 

@@ -1,0 +1,379 @@
+-- Layouts keep the rules of what is handed on.
+use Rattle.std.proofs.Common.{◌≡◌, ◌≢◌, ◌⊎◌, inl, inr, ℕ, ◌<◌, cond, List, [], ◌∷◌, ◌++◌, map, refl, sym, ◌∙◌, ap, subst, ⊎_elim, arith}
+use Rattle.std.specs.List.{flat_map, range_with_len}
+use Rattle.std.proofs.lemmas.Bool.{cases_eq}
+use Rattle.bt_parts.specs.declared.part.Cell.{Cell}
+use Rattle.bt_parts.specs.declared.part.Dir.{Dir}
+use Rattle.bt_parts.specs.declared.part.Kind.{Kind}
+use Rattle.bt_parts.specs.declared.part.Kind.TheVariants as kind
+use Rattle.bt_parts.specs.declared.part.Part.{Part}
+use Rattle.bt_parts.specs.declared.part.Side.{Side}
+use Rattle.bt_parts.specs.declared.part.Side.TheVariants.{Behind, Ahead}
+use Rattle.bt_parts.specs.Cells.{Covers, step, opposite, IsInside}
+use Rattle.bt_parts.specs.Handing.{ComesFrom, TakesFrom}
+use Rattle.bt_parts.specs.Layouts.{HasPart, IsAt}
+use Rattle.bt_parts.proofs.Places.{same_part, one_there, covers_at, own_cell}
+use Rattle.bt_parts.proofs.Steps.{opposite-opposite}
+use Rattle.bt_model.specs.Chains.{IsLink, IsInput, IsOutput}
+use Rattle.bt_model.specs.Handing.{FeedsFrom, Feeds}
+use Rattle.bt_model.specs.Laying.{Lays}
+use Rattle.bt_model.specs.Requests.{LayoutRequest}
+use Rattle.bt_recover.proofs.EdgeLemmas.{contained_at}
+use Rattle.bt_recover.proofs.ExistLemmas.{at_cases, giver_cases, unhanded_input}
+use Rattle.bt_recover.proofs.HandLaws.{front_fed, takes_at, comes_at, pair_leaves}
+use Rattle.bt_recover.proofs.SightLemmas.{one_side}
+use Rattle.bt_place.specs.declared.fact.Content.TheVariants.{Empty}
+use Rattle.bt_place.specs.declared.fact.Fact.{Fact}
+use Rattle.bt_place.specs.declared.fact.Fact.TheVariants.{First, Last, Begins, Still}
+use Rattle.bt_place.specs.declared.fact.Fact.TheVariants as fact
+use Rattle.bt_place.specs.declared.fact.Half.TheVariants.{Lesser, Greater}
+use Rattle.bt_place.specs.declared.fact.Shape.{Shape}
+use Rattle.bt_place.specs.declared.fact.Shape.TheVariants as shape
+use Rattle.bt_place.specs.Rules.{rule, not_all, all_but_one}
+use Rattle.bt_place.specs.Spots.{dirs, halves, sides_of, others_than, behind}
+use Rattle.bt_place.specs.Contents.{holds}
+use Rattle.bt_place.specs.Going.{runners, givers, takers, inner_rules, outer_rules, going_rules, still_into, fed_belt, fed_entrance, once_rules, handing_rules}
+use Rattle.bt_place.proofs.Deciding.{stands_at, goes_decided, same_dir}
+use Rattle.bt_place.proofs.Geometry.{inside_cases, in_halves, in_others, in_sides, distinct_dirs, behind_step, step_behind}
+use Rattle.bt_place.proofs.Keeping.{In, in_left, in_right, in_map, from_map, in_flat, from_flat, in_range, Distinct, distinct_map, distinct_flat, each_both, each_three, each_four, each_flat, each_map, one_in, all_in, all_but_stays, AllStay, Stays, OneSaid}
+use Rattle.bt_place.proofs.Laid.{Said, said, is_orderly, placed_of, inside_at, one_outside, in_inside, from_inside, shape_on}
+use Rattle.bt_place.proofs.Reading.{kind_of, cell_of, Stands, Goes, Bears}
+
+module _ (r : LayoutRequest) (parts : List Part) (lays : Lays parts r) where
+  abbrev S : Fact → Type 0
+  S = Said r parts lays
+
+  -- ---- what goes on
+
+  -- what hands on is of a shape that does
+  pub goes_shape : (c : Cell) (dir : Dir) → Goes parts c dir → (of : Shape) × In givers of × Stands parts c of dir
+  goes_shape c dir g =
+      let giver = g.feeds.look.giver in
+      let found = shape_on giver.part c giver.covers in (
+        found.0,
+        by found.0 (λ e. g.feeds.look.no_entrance (found.1 ∙ e)),
+        record { index = g.giver; part = giver.part; is_part = giver.is_i; kind = found.1; turned = g.along; cell = found.2 },
+      )
+    where
+      by : (of : Shape) → kind_of of ≢ kind.Entrance → In givers of
+      by shape.Belt n = inl refl
+      by shape.Entrance n = absurd (n refl)
+      by shape.Exit n = inr (inl refl)
+      by (shape.Half Lesser) n = inr (inr (inl refl))
+      by (shape.Half Greater) n = inr (inr (inr (inl refl)))
+
+  -- what is handed to stands in front
+  pub taker_there : (c : Cell) (dir : Dir) → (g : Goes parts c dir) → IsAt parts g.taker (step dir c)
+  taker_there c dir g = subst (λ d. IsAt parts g.taker (step d c)) g.along g.feeds.look.taker
+
+  -- what isn't an entrance hands to what is in front
+  pub goes_to : (c : Cell) (of : Shape) (dir : Dir) (q : ℕ) → (s : Stands parts c of dir) → kind_of of ≢ kind.Entrance → IsAt parts q (step dir c) → Goes parts c dir
+  goes_to c of dir q s above there =
+      let feeds = front_fed parts (is_orderly r parts lays) s.index q c s.part s.is_part (stands_at parts (is_orderly r parts lays) c of dir s)
+      (λ e. above (sym s.kind ∙ e)) (subst (λ d. IsAt parts q (step d c)) (sym s.turned) there) in
+      record {
+        giver = s.index;
+        taker = q;
+        feeds = feeds;
+        along = ap (λ p. p.dir) (same_part parts s.index feeds.look.giver.part s.part feeds.look.giver.is_i s.is_part) ∙ s.turned;
+      }
+
+  -- what takes there
+  pub taker_said : (c : Cell) (dir : Dir) → Goes parts c dir → OneSaid S (takers (step dir c) dir)
+  taker_said c dir g =
+      let at = g.feeds.look.taker in
+      let found = shape_on at.part (step dir c) (subst (λ d. Covers at.part (step d c)) g.along at.covers) in
+      let stands : Stands parts (step dir c) found.0 at.part.dir = record { index = g.taker; part = at.part; is_part = at.is_i; kind = found.1; turned = refl; cell = found.2 } in
+      by found.0 at.part.dir stands (subst (λ k. TakesFrom k g.feeds.side) found.1 g.feeds.takes) (subst (λ d. ComesFrom d at.part.dir g.feeds.side) g.along g.feeds.look.comes)
+    where
+      side : Side
+      side = g.feeds.side
+
+      in_takers : (fact : Fact) → In (holds (step dir c) shape.Entrance dir ∷ map (λ half. holds (step dir c) (shape.Half half) dir) halves) fact → In (takers (step dir c) dir) fact
+      in_takers fact h = in_right (map (holds (step dir c) shape.Belt) (others_than (opposite dir))) _ fact h
+
+      straight : (of : Shape) (d : Dir) → Stands parts (step dir c) of d → dir ≡ d → S (holds (step dir c) of dir)
+      straight of d s e = subst (Stands parts (step dir c) of) (sym e) s
+
+      by : (of : Shape) (d : Dir) → Stands parts (step dir c) of d → TakesFrom (kind_of of) g.feeds.side → ComesFrom dir d g.feeds.side → OneSaid S (takers (step dir c) dir)
+      by shape.Belt d s takes comes = one_in S (takers (step dir c) dir) (holds (step dir c) shape.Belt d)
+          (in_left (map (holds (step dir c) shape.Belt) (others_than (opposite dir))) _ (holds (step dir c) shape.Belt d)
+          (in_map (holds (step dir c) shape.Belt) (others_than (opposite dir)) d (in_others (opposite dir) d
+          (λ e. takes (one_side dir d g.feeds.side Ahead comes (sym (opposite-opposite dir) ∙ ap opposite (sym e))))))) s
+      by shape.Entrance d s takes comes = one_in S (takers (step dir c) dir) (holds (step dir c) shape.Entrance dir) (in_takers _ (inl refl))
+          (straight shape.Entrance d s (subst (ComesFrom dir d) takes comes))
+      by shape.Exit d s takes comes = absurd takes
+      by (shape.Half half) d s takes comes = one_in S (takers (step dir c) dir) (holds (step dir c) (shape.Half half) dir)
+          (in_takers _ (inr (in_map (λ h. holds (step dir c) (shape.Half h) dir) halves half (in_halves half))))
+          (straight (shape.Half half) d s (subst (ComesFrom dir d) takes comes))
+
+  -- ---- inputs and outputs
+
+  pub input_number : (i : ℕ) → IsInput parts i → (k : ℕ) × (k < r.net.inputs) × Bears lays.naming.inputs k i
+  input_number i input =
+      let names = lays.shows.names in
+      let found = contained_at lays.naming.inputs i (names.inputs.all i input) in
+      let count = names.input_count in let lt = found.1 in
+      (found.0, omega (arith, count, lt), found.2)
+
+  pub output_number : (i : ℕ) → IsOutput parts i → (k : ℕ) × (k < r.net.outputs) × Bears lays.naming.outputs k i
+  output_number i output =
+      let names = lays.shows.names in
+      let found = contained_at lays.naming.outputs i (names.outputs.all i output) in
+      let count = names.output_count in let lt = found.1 in
+      (found.0, omega (arith, count, lt), found.2)
+
+  -- a belt or an exit
+  abbrev pub IsRunner : Shape → Type 0
+  IsRunner of = (of ≡ shape.Belt) ⊎ (of ≡ shape.Exit)
+
+  pub runner_cases : (of : Shape) → In runners of → IsRunner of
+  runner_cases of (inl e) = inl e
+  runner_cases of (inr (inl e)) = inr e
+  runner_cases of (inr (inr h)) = absurd h
+
+  pub runner_above : (of : Shape) → IsRunner of → kind_of of ≢ kind.Entrance
+  runner_above of (inl e) k = let a = ap kind_of e in cc
+  runner_above of (inr e) k = let a = ap kind_of e in cc
+
+  runner_kind : (of : Shape) (k : Kind) → IsRunner of → k ≡ kind_of of → (k ≡ kind.Belt) ⊎ (k ≡ kind.Exit)
+  runner_kind of k (inl e) h = inl (h ∙ ap kind_of e)
+  runner_kind of k (inr e) h = inr (h ∙ ap kind_of e)
+
+  runner_cell : (of : Shape) (part : Part) → IsRunner of → cell_of of part ≡ part.cell
+  runner_cell of part (inl e) = ap (λ s. cell_of s part) e
+  runner_cell of part (inr e) = ap (λ s. cell_of s part) e
+
+  -- a belt or an exit in front of which nothing is is an output
+  pub runs_out : (c : Cell) (of : Shape) (dir : Dir) → IsRunner of → (s : Stands parts c of dir) → ((q : ℕ) → IsAt parts q (step dir c) → ⊥) → IsOutput parts s.index
+  runs_out c of dir runs s none = record {
+    part = s.part;
+    is_i = s.is_part;
+    kind = runner_kind of s.part.kind runs s.kind;
+    clear = λ q at. none q (subst (λ d. IsAt parts q (step d c)) s.turned
+        (subst (λ x. IsAt parts q (step s.part.dir x)) (sym (s.cell ∙ runner_cell of s.part runs)) at));
+  }
+
+  -- where the rectangle goes on, a belt or an exit hands on
+  pub runs_on : (c : Cell) (of : Shape) (dir : Dir) → IsRunner of → IsInside r.rect (step dir c) → (s : Stands parts c of dir) → Goes parts c dir
+  runs_on c of dir runs here s =
+      ⊎_elim (λ found. goes_to c of dir found.0 s (runner_above of runs) found.1)
+      (λ none. absurd (lays.fits.outputs s.index s.part (runs_out c of dir runs s none) s.is_part
+      (subst (λ d. IsInside r.rect (step d s.part.cell)) (sym s.turned) (subst (λ x. IsInside r.rect (step dir x)) (s.cell ∙ runner_cell of s.part runs) here))))
+      (at_cases parts (step dir c))
+
+  -- ---- rules
+
+  inner_stay : (c : Cell) (dir : Dir) → IsInside r.rect (step dir c) → AllStay S (inner_rules c dir)
+  inner_stay c dir here = (
+    λ none. ⊎_elim (λ g. let found = goes_shape c dir g in
+        inr (one_in S (map (λ of. holds c of dir) givers) (holds c found.0 dir) (in_map (λ of. holds c of dir) givers found.0 found.1) found.2)) (λ still. inl still)
+        (goes_decided parts (is_orderly r parts lays) c dir),
+    (
+      (λ none. ⊎_elim (λ g. inr (taker_said c dir g)) (λ still. inl still) (goes_decided parts (is_orderly r parts lays) c dir)),
+      each_both (Stays S) (map (λ of. not_all (holds c of dir ∷ Still c dir ∷ [])) runners) (map (λ half. rule (holds c (shape.Half half) dir ∷ Still c dir ∷ []) (fact.Kind (step dir c) Empty ∷ [])) halves)
+          (each_map (Stays S) (λ of. not_all (holds c of dir ∷ Still c dir ∷ [])) runners (λ of at given. given.1.0 (runs_on c of dir (runner_cases of at) here given.0)))
+          (each_map (Stays S) (λ half. rule (holds c (shape.Half half) dir ∷ Still c dir ∷ []) (fact.Kind (step dir c) Empty ∷ [])) halves
+          (λ half at given. ⊎_elim (λ found. absurd (given.1.0 (goes_to c (shape.Half half) dir found.0 given.0 (λ e. cc) found.1))) (λ none. inl none) (at_cases parts (step dir c)))),
+    ),
+  )
+
+  -- what is outside is handed nothing
+  pub still_out : (c : Cell) (dir : Dir) → (IsInside r.rect (step dir c) → ⊥) → Goes parts c dir → ⊥
+  still_out c dir out g = out (inside_at r parts lays g.taker (step dir c) (taker_there c dir g))
+
+  outer_stay : (c : Cell) (dir : Dir) → (IsInside r.rect (step dir c) → ⊥) → AllStay S (outer_rules r.net.outputs c dir)
+  outer_stay c dir out = (
+    λ none. inl (still_out c dir out),
+    each_map (Stays S) (λ of. rule (holds c of dir ∷ []) (map (Last c) (range_with_len 0 r.net.outputs))) runners
+        (λ of at given.
+        let s = given.0 in
+        let output = runs_out c of dir (runner_cases of at) s (λ q there. out (inside_at r parts lays q (step dir c) there)) in
+        let number = output_number s.index output in
+        one_in S (map (Last c) (range_with_len 0 r.net.outputs)) (Last c number.0)
+        (in_map (Last c) (range_with_len 0 r.net.outputs) number.0 (let lt = number.1 in in_range 0 r.net.outputs number.0 (omega arith) (omega (arith, lt))))
+        (record { index = s.index; named = number.2; at = stands_at parts (is_orderly r parts lays) c of dir s })),
+  )
+
+  going_stay : (c : Cell) (dir : Dir) → AllStay S (going_rules r.rect r.net.outputs c dir)
+  going_stay c dir = ⊎_elim
+      (λ i. subst (λ b. AllStay S (cond b (inner_rules c dir) (outer_rules r.net.outputs c dir))) (sym i.1) (inner_stay c dir i.0))
+      (λ o. subst (λ b. AllStay S (cond b (inner_rules c dir) (outer_rules r.net.outputs c dir))) (sym o.1) (outer_stay c dir o.0))
+      (inside_cases r.rect (step dir c))
+
+  -- ---- what is fed
+
+  -- what feeds a part of one cell hands on from behind, as it is turned
+  pub fed_from : (c : Cell) (p i : ℕ) (half : Cell) (part : Part) → HasPart parts i part → part.kind ≢ kind.Splitter → c ≡ part.cell → (f : FeedsFrom parts p half i)
+      → Goes parts (behind f.look.giver.part.dir c) f.look.giver.part.dir
+  fed_from c p i half part is_i single e f =
+      let dir = f.look.giver.part.dir in
+      let there : step dir half ≡ part.cell = own_cell part (step dir half) single (covers_at parts i part (step dir half) is_i f.look.taker) in
+      let from : half ≡ behind dir c = sym (behind_step dir half) ∙ ap (behind dir) (there ∙ sym e) in
+      subst (λ h. Goes parts h dir) from (record { giver = p; taker = i; feeds = f; along = refl })
+
+  pub in_still : (c : Cell) (dir : Dir) → Goes parts (behind dir c) dir → In (still_into r.rect c dir) (Still (behind dir c) dir)
+  in_still c dir g = in_inside r.rect (behind dir c) (Still (behind dir c) dir ∷ []) (Still (behind dir c) dir)
+      (inside_at r parts lays g.giver (behind dir c) g.feeds.look.giver) (inl refl)
+
+  feeds_dir : (p i : ℕ) (half : Cell) (part : Part) → HasPart parts i part → (f : FeedsFrom parts p half i) → part.kind ≡ kind.Belt → f.look.giver.part.dir ≡ opposite part.dir → ⊥
+  feeds_dir p i half part is_i f k e =
+      subst (λ x. TakesFrom x f.side) k (takes_at parts p i half part is_i f) (one_side f.look.giver.part.dir part.dir f.side Ahead (comes_at parts p i half part is_i f) e)
+
+  belts_stay : (c : Cell) (dir : Dir) → Stays S (fed_belt r.rect c dir)
+  belts_stay c dir given =
+      let s = given.0 in
+      let link : IsLink parts s.index = (s.part, s.is_part, λ e. let k = s.kind in cc) in
+      ⊎_elim
+      (λ giver. ⊎_elim
+      (λ pair. absurd (let a = s.kind in let b = pair_leaves parts giver.0 s.index s.part s.is_part pair in cc))
+      (λ feeds.
+      let f = feeds.1 in
+      let from = f.look.giver.part.dir in
+      let goes = fed_from c giver.0 s.index feeds.0 s.part s.is_part link.2 s.cell f in
+      absurd (all_in S (still_into r.rect c dir ++ flat_map (still_into r.rect c) (sides_of dir)) (Still (behind from c) from)
+      (⊎_elim
+      (λ e. in_left (still_into r.rect c dir) _ (Still (behind from c) from) (subst (λ d. In (still_into r.rect c d) (Still (behind from c) from)) e (in_still c from goes)))
+      (λ n. in_right (still_into r.rect c dir) (flat_map (still_into r.rect c) (sides_of dir)) (Still (behind from c) from)
+      (in_flat (still_into r.rect c) (sides_of dir) from (Still (behind from c) from)
+      (in_sides dir from n (λ e. feeds_dir giver.0 s.index feeds.0 s.part s.is_part f s.kind (e ∙ ap opposite (sym s.turned)))) (in_still c from goes)))
+      (same_dir from dir))
+      given.1 goes))
+      giver.1)
+      (λ none.
+      let input = unhanded_input parts (is_orderly r parts lays) s.index link none in
+      one_outside S r.rect (behind dir c) (Begins c ∷ [])
+      (subst (λ d. IsInside r.rect (behind d c) → ⊥) s.turned (subst (λ x. IsInside r.rect (behind s.part.dir x) → ⊥) (sym s.cell) (lays.fits.inputs s.index s.part input s.is_part)))
+      (inl (s.index, input, stands_at parts (is_orderly r parts lays) c shape.Belt dir s)))
+      (giver_cases parts (is_orderly r parts lays) s.index link)
+
+  entrances_stay : (c : Cell) (dir : Dir) → Stays S (fed_entrance r.rect c dir)
+  entrances_stay c dir given =
+      let s = given.0 in
+      let link : IsLink parts s.index = (s.part, s.is_part, λ e. let k = s.kind in cc) in
+      ⊎_elim
+      (λ giver. ⊎_elim
+      (λ pair. absurd (let a = s.kind in let b = pair_leaves parts giver.0 s.index s.part s.is_part pair in cc))
+      (λ feeds.
+      let f = feeds.1 in
+      let from = f.look.giver.part.dir in
+      let goes = fed_from c giver.0 s.index feeds.0 s.part s.is_part link.2 s.cell f in
+      let side : f.side ≡ Behind = subst (λ x. TakesFrom x f.side) s.kind (takes_at parts giver.0 s.index feeds.0 s.part s.is_part f) in
+      let along : from ≡ dir = subst (ComesFrom from s.part.dir) side (comes_at parts giver.0 s.index feeds.0 s.part s.is_part f) ∙ s.turned in
+      absurd (all_in S (still_into r.rect c dir) (Still (behind from c) from)
+      (subst (λ d. In (still_into r.rect c d) (Still (behind from c) from)) along (in_still c from goes)) given.1 goes))
+      giver.1)
+      (λ none.
+      let input = unhanded_input parts (is_orderly r parts lays) s.index link none in
+      one_outside S r.rect (behind dir c) (Begins c ∷ [])
+      (subst (λ d. IsInside r.rect (behind d c) → ⊥) s.turned (subst (λ x. IsInside r.rect (behind s.part.dir x) → ⊥) (sym s.cell) (lays.fits.inputs s.index s.part input s.is_part)))
+      (inl (s.index, input, stands_at parts (is_orderly r parts lays) c shape.Entrance dir s)))
+      (giver_cases parts (is_orderly r parts lays) s.index link)
+
+  -- ---- once
+
+  -- a cell hands on in one direction
+  one_way : (c : Cell) (d e : Dir) → Goes parts c d → Goes parts c e → d ≡ e
+  one_way c d e g h =
+      let index : g.giver ≡ h.giver = one_there parts (placed_of r parts lays) g.giver h.giver c g.feeds.look.giver h.feeds.look.giver in
+      let part = same_part parts h.giver g.feeds.look.giver.part h.feeds.look.giver.part
+      (subst (λ j. HasPart parts j g.feeds.look.giver.part) index g.feeds.look.giver.is_i) h.feeds.look.giver.is_i in
+      sym g.along ∙ ap (λ p. p.dir) part ∙ h.along
+
+  -- a cell is handed to from one direction
+  pub one_into : (c : Cell) (d e : Dir) → Goes parts (behind d c) d → Goes parts (behind e c) e → d ≡ e
+  one_into c d e g h =
+      let there_g : IsAt parts g.taker c = subst (IsAt parts g.taker) (step_behind d c) (taker_there (behind d c) d g) in
+      let there_h : IsAt parts h.taker c = subst (IsAt parts h.taker) (step_behind e c) (taker_there (behind e c) e h) in
+      let index : h.taker ≡ g.taker = one_there parts (placed_of r parts lays) h.taker g.taker c there_h there_g in
+      let taker = g.feeds.look.taker.part in
+      let is_taker = g.feeds.look.taker.is_i in
+      let h_taker = subst (λ j. HasPart parts j h.feeds.look.taker.part) index h.feeds.look.taker.is_i in
+      let same : h.feeds.look.taker.part ≡ taker = same_part parts g.taker h.feeds.look.taker.part taker h_taker is_taker in
+      by taker taker.kind refl is_taker g.feeds.takes g.feeds.look.comes
+      (subst (λ p. TakesFrom p.kind h.feeds.side) same h.feeds.takes) (subst (λ p. ComesFrom h.feeds.look.giver.part.dir p.dir h.feeds.side) same h.feeds.look.comes)
+      (subst (λ j. Feeds parts h.giver j) index (behind e c, h.feeds))
+    where
+      by : (taker : Part) (k : Kind) → taker.kind ≡ k → HasPart parts g.taker taker → TakesFrom taker.kind g.feeds.side → ComesFrom g.feeds.look.giver.part.dir taker.dir g.feeds.side
+          → TakesFrom taker.kind h.feeds.side → ComesFrom h.feeds.look.giver.part.dir taker.dir h.feeds.side → Feeds parts h.giver g.taker → d ≡ e
+      by taker kind.Belt k is takes comes takes2 comes2 other =
+          ⊎_elim
+          (λ same. sym g.along ∙ ap (λ p. p.dir) (same_part parts h.giver g.feeds.look.giver.part h.feeds.look.giver.part
+          (subst (λ j. HasPart parts j g.feeds.look.giver.part) same g.feeds.look.giver.is_i) h.feeds.look.giver.is_i) ∙ h.along)
+          (λ apart. absurd (lays.shows.clean.no_side_load g.taker (inl (record {
+            belt = taker;
+            is_i = is;
+            kind = k;
+            one = g.giver;
+            two = h.giver;
+            apart = apart;
+            one_feeds = (behind d c, g.feeds);
+            two_feeds = other;
+          }))))
+          (cases_eq g.giver h.giver)
+      by taker kind.Exit k is takes comes takes2 comes2 other = absurd (subst (λ x. TakesFrom x g.feeds.side) k takes)
+      by taker kind.Entrance k is takes comes takes2 comes2 other =
+          straight g.feeds.side h.feeds.side (subst (λ x. TakesFrom x g.feeds.side) k takes) (subst (λ x. TakesFrom x h.feeds.side) k takes2) comes comes2
+        where
+          straight : (s t : Side) → s ≡ Behind → t ≡ Behind → ComesFrom g.feeds.look.giver.part.dir taker.dir s → ComesFrom h.feeds.look.giver.part.dir taker.dir t → d ≡ e
+          straight s t es et cs ct = sym g.along ∙ subst (ComesFrom g.feeds.look.giver.part.dir taker.dir) es cs ∙ sym (subst (ComesFrom h.feeds.look.giver.part.dir taker.dir) et ct) ∙ h.along
+      by taker kind.Splitter k is takes comes takes2 comes2 other =
+          straight g.feeds.side h.feeds.side (subst (λ x. TakesFrom x g.feeds.side) k takes) (subst (λ x. TakesFrom x h.feeds.side) k takes2) comes comes2
+        where
+          straight : (s t : Side) → s ≡ Behind → t ≡ Behind → ComesFrom g.feeds.look.giver.part.dir taker.dir s → ComesFrom h.feeds.look.giver.part.dir taker.dir t → d ≡ e
+          straight s t es et cs ct = sym g.along ∙ subst (ComesFrom g.feeds.look.giver.part.dir taker.dir) es cs ∙ sym (subst (ComesFrom h.feeds.look.giver.part.dir taker.dir) et ct) ∙ h.along
+
+  -- an input isn't handed to
+  input_still : (c : Cell) (i : ℕ) (d : Dir) → IsInput parts i → IsAt parts i c → Goes parts (behind d c) d → ⊥
+  input_still c i d input at g =
+      let there : IsAt parts g.taker c = subst (IsAt parts g.taker) (step_behind d c) (taker_there (behind d c) d g) in
+      input.unfed g.giver (behind d c, subst (λ j. FeedsFrom parts g.giver (behind d c) j) (one_there parts (placed_of r parts lays) g.taker i c there at) g.feeds)
+
+  -- what may be handed into a cell is told of different cells
+  into_of : (c : Cell) (f : Fact) → In (flat_map (still_into r.rect c) dirs) f → (d : Dir) × (f ≡ Still (behind d c) d)
+  into_of c f h =
+      let found = from_flat (still_into r.rect c) dirs f h in
+      let at = from_inside r.rect (behind found.0 c) (Still (behind found.0 c) found.0 ∷ []) f found.2 in
+      (found.0, ⊎_elim (λ e. e) (λ n. absurd n) at.1)
+
+  distinct_into : (c : Cell) → Distinct (flat_map (still_into r.rect c) dirs)
+  distinct_into c = distinct_flat (still_into r.rect c) dirs distinct_dirs
+      (λ d. ⊎_elim
+      (λ i. subst (λ b. Distinct (cond b (Still (behind d c) d ∷ []) [])) (sym i.1) ((λ n. n), tt))
+      (λ o. subst (λ b. Distinct {X = Fact} (cond b (Still (behind d c) d ∷ []) [])) (sym o.1) tt) (inside_cases r.rect (behind d c)))
+      (λ d e f h k.
+      let a = from_inside r.rect (behind d c) (Still (behind d c) d ∷ []) f h in
+      let b = from_inside r.rect (behind e c) (Still (behind e c) e ∷ []) f k in
+      let same : Still (behind d c) d ≡ Still (behind e c) e = sym (⊎_elim (λ x. x) (λ n. absurd n) a.1) ∙ ⊎_elim (λ x. x) (λ n. absurd n) b.1 in cc)
+
+  onces_stay : (c : Cell) → AllStay S (once_rules r.rect c)
+  onces_stay c = each_three (Stays S)
+      (all_but_one (map (Still c) dirs)) (all_but_one (flat_map (still_into r.rect c) dirs))
+      (map (λ fact. rule (Begins c ∷ []) (fact ∷ [])) (flat_map (still_into r.rect c) dirs))
+      (all_but_stays S (said r parts lays) (map (Still c) dirs) (distinct_map (Still c) (λ x y e. cc) dirs distinct_dirs)
+      (λ f g in_f in_g n m.
+      let a = from_map (Still c) dirs f in_f in
+      let b = from_map (Still c) dirs g in_g in
+      let same : a.0 ≡ b.0 = both c a.0 c b.0 (λ k. n (subst S (sym a.2) k)) (λ k. m (subst S (sym b.2) k)) (one_way c a.0 b.0) in
+      a.2 ∙ ap (Still c) same ∙ sym b.2))
+      (all_but_stays S (said r parts lays) (flat_map (still_into r.rect c) dirs) (distinct_into c)
+      (λ f g in_f in_g n m.
+      let a = into_of c f in_f in
+      let b = into_of c g in_g in
+      let same : a.0 ≡ b.0 = both (behind a.0 c) a.0 (behind b.0 c) b.0 (λ k. n (subst S (sym a.1) k)) (λ k. m (subst S (sym b.1) k)) (one_into c a.0 b.0) in
+      a.1 ∙ ap (λ d. Still (behind d c) d) same ∙ sym b.1))
+      (each_map (Stays S) (λ fact. rule (Begins c ∷ []) (fact ∷ [])) (flat_map (still_into r.rect c) dirs)
+      (λ f at given. let a = into_of c f at in inl (subst S (sym a.1) (input_still c given.0.0 a.0 given.0.1 given.0.2))))
+    where
+      both : (c : Cell) (d : Dir) (c' : Cell) (e : Dir) → (S (Still c d) → ⊥) → (S (Still c' e) → ⊥) → (Goes parts c d → Goes parts c' e → d ≡ e) → d ≡ e
+      both c d c' e n m one = ⊎_elim
+          (λ g. ⊎_elim (λ h. one g h) (λ still. absurd (m still)) (goes_decided parts (is_orderly r parts lays) c' e))
+          (λ still. absurd (n still)) (goes_decided parts (is_orderly r parts lays) c d)
+
+  pub handing_stay : (c : Cell) → AllStay S (handing_rules r.rect r.net.outputs c)
+  handing_stay c = each_four (Stays S)
+      (flat_map (going_rules r.rect r.net.outputs c) dirs) (map (fed_belt r.rect c) dirs) (map (fed_entrance r.rect c) dirs) (once_rules r.rect c)
+      (each_flat (Stays S) (going_rules r.rect r.net.outputs c) dirs (λ d at. going_stay c d))
+      (each_map (Stays S) (fed_belt r.rect c) dirs (λ d at. belts_stay c d))
+      (each_map (Stays S) (fed_entrance r.rect c) dirs (λ d at. entrances_stay c d))
+      (onces_stay c)

@@ -1,0 +1,15 @@
+pub mod Spots
+pub mod Rules
+pub mod Contents
+pub mod Standing
+pub mod Going
+pub mod Ends
+pub mod Underground
+pub mod Labels
+pub mod Ports
+pub mod Pinning
+pub mod Numbering
+pub mod Within
+pub mod PlaceFormula
+pub mod Laws
+pub mod inner

@@ -1,0 +1,11 @@
+//! The placement formula of a request: the layouts that lay the request, as a formula over what each cell holds.
+#![tactic(auto)]
+
+mod draft;
+mod fact;
+mod facts;
+mod law;
+
+pub use fact::{Content, Fact, Half, Shape};
+pub use law::{laying_meets, meeting_keeps};
+pub use std::alloc::AllocError as Memory;
