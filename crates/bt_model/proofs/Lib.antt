@@ -7,3 +7,9 @@ pub mod Sorted
 pub mod SpeedLemmas
 pub mod Leasts
 pub mod Requested
+pub mod Places
+pub mod SightLemmas
+pub mod HandLaws
+pub mod ChainLemmas
+pub mod ExistLemmas
+pub mod SameChain

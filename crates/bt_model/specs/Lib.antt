@@ -2,6 +2,7 @@ pub mod Chains
 pub mod Clean
 pub mod Handing
 pub mod Laying
+pub mod Orderly
 pub mod RequestFaults
 pub mod Requests
 pub mod Shown

@@ -1,2 +1,3 @@
--- What the contracts of private functions cite.
+-- What private functions and proofs alone cite: no public clause rests on these.
 pub mod Least
+pub mod Sight
