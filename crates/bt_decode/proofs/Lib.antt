@@ -1,0 +1,4 @@
+pub mod Readings
+pub mod Geometry
+pub mod Solved
+pub mod CellFacts
