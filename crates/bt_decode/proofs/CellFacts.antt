@@ -17,7 +17,7 @@ use Rattle.bt_place.specs.Contents.{holds, contents, half_kinds, mate_rule}
 use Rattle.bt_place.specs.Rules.{Rule, rule, at_most_one, AllHold, OneHolds, Keeps}
 use Rattle.bt_place.specs.Spots.{dirs, halves, other_half, mate, before, where_inside, cells_of}
 use Rattle.bt_place.specs.Standing.{owner_rule, at_rules, stands_on, name_rule, stands_at}
-use Rattle.bt_decode.proofs.Readings.{In, in_map, in_mapped, in_flat, in_flattened, in_range, range_has, all_in, all_left, all_right, all_mapped, all_flat, one_in, one_mapped, one_holds}
+use Rattle.bt_decode.proofs.Readings.{In, in_map, in_mapped, in_flat, in_flattened, in_range, range_has, all_in, all_left, all_right, all_mapped, all_flat, one_in, one_from, one_mapped, one_holds}
 use Rattle.bt_decode.proofs.Geometry.{in_dirs, in_halves, in_contents, in_cells, cells_inside, same_spot, across}
 use Rattle.bt_decode.proofs.Solved.{Solved, Says, Kept, one_inside, contents_kept, halves_kept, mates_kept, standing_kept, place_kept}
 
@@ -121,11 +121,6 @@ module _ (w : Solved) (c : Cell) (h : IsInside w.r.rect c) where
           → IsInside w.r.rect (before d c) × Says w (At s (before d c) d)
       inside_at d fact t there = let got = one_inside w (before d c) (At s (before d c) d ∷ []) (one_from w.reading fact _ there t) in
           (got.0, ⊎_elim (λ e. e) (λ none. absurd none) got.1)
-        where
-          one_from : (reading : Fact → Bool) (fact : Fact) (facts : List Fact) → In fact facts → reading fact ≡ true → OneHolds reading facts
-          one_from reading fact [] i e = absurd i
-          one_from reading fact (x ∷ xs) (inl i) e = inl (subst (λ y. reading y ≡ true) i e)
-          one_from reading fact (x ∷ xs) (inr i) e = inr (one_from reading fact xs i e)
 
       by : (d : Dir) (fact : Fact) → Says w fact → In fact (stands_on w.r.rect s c d)
           → Says w (At s c d) ⊎ (IsInside w.r.rect (before d c) × Says w (At s (before d c) d))

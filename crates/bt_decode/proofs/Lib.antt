@@ -2,3 +2,8 @@ pub mod Readings
 pub mod Geometry
 pub mod Solved
 pub mod CellFacts
+pub mod GoingFacts
+pub mod TunnelFacts
+pub mod LabelFacts
+pub mod PortFacts
+pub mod PinFacts

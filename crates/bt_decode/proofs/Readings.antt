@@ -88,6 +88,11 @@ one_in reading [] h = absurd h
 one_in reading (fact ∷ facts) (inl e) = (fact, inl refl, e)
 one_in reading (fact ∷ facts) (inr h) = let found = one_in reading facts h in (found.0, inr found.1, found.2)
 
+pub one_from : (reading : Fact → Bool) (fact : Fact) (facts : List Fact) → In fact facts → reading fact ≡ true → OneHolds reading facts
+one_from reading fact [] there e = absurd there
+one_from reading fact (x ∷ xs) (inl same) e = inl (subst (λ y. reading y ≡ true) same e)
+one_from reading fact (x ∷ xs) (inr there) e = inr (one_from reading fact xs there e)
+
 pub one_mapped : {X : Type 0} (reading : Fact → Bool) (f : X → Fact) (xs : List X) → OneHolds reading (map f xs)
     → (x : X) × In x xs × (reading (f x) ≡ true)
 one_mapped reading f [] h = absurd h
