@@ -7,3 +7,6 @@ pub mod TunnelFacts
 pub mod LabelFacts
 pub mod PortFacts
 pub mod PinFacts
+pub mod Arrivals
+pub mod PartFacts
+pub mod HandFacts
