@@ -10,3 +10,4 @@ pub mod PinFacts
 pub mod Arrivals
 pub mod PartFacts
 pub mod HandFacts
+pub mod RingFacts
