@@ -27,6 +27,12 @@ use Rattle.bt_decode.proofs.Solved.{Solved, Says, Denies, not_said, Kept, labell
 abbrev pub IsEdge : Solved → ℕ → Edge → Type 0
 IsEdge w e edge = slice_get w.r.net.edges e ≡ Some edge
 
+pub edge_below : (w : Solved) (e : ℕ) (edge : Edge) → IsEdge w e edge → e < length w.r.net.edges
+edge_below w e edge is = slice_get_within w.r.net.edges e edge is
+
+pub same_edge : (w : Solved) (d e : ℕ) (a b : Edge) → d ≡ e → IsEdge w d a → IsEdge w e b → a ≡ b
+same_edge w d e a b same is_a is_b = same_Some a b (sym is_a ∙ ap (slice_get w.r.net.edges) same ∙ is_b)
+
 pub in_enumerated : {X : Type 0} (a k n : ℕ) (xs : List X) (x : X) → n ≡ a + k → slice_get xs k ≡ Some x → In (n, x) (enumerate_from a xs)
 in_enumerated a k n [] x e at = absurd (none-some x at)
 in_enumerated {X} a zero n (y ∷ ys) x e at =

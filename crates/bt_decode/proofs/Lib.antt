@@ -11,3 +11,5 @@ pub mod Arrivals
 pub mod PartFacts
 pub mod HandFacts
 pub mod RingFacts
+pub mod ListFacts
+pub mod EndFacts
