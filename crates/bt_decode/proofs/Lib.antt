@@ -13,3 +13,4 @@ pub mod HandFacts
 pub mod RingFacts
 pub mod ListFacts
 pub mod EndFacts
+pub mod ChainFacts
