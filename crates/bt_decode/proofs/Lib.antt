@@ -14,3 +14,4 @@ pub mod RingFacts
 pub mod ListFacts
 pub mod EndFacts
 pub mod ChainFacts
+pub mod Laid
