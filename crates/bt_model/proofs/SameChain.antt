@@ -12,10 +12,10 @@ use Rattle.bt_model.specs.Handing.{FeedsFrom, Feeds, Hands}
 use Rattle.bt_model.specs.Chains.{IsSplitter, IsLink, Path, Source, begins, leaves, ends, enters, Chain, StartsAs, EndsAs, IsLongest, IsEmptyChain, IsChain}
 use Rattle.bt_parts.proofs.Places.{same_part, own_cell, one_there, covers_at}
 use Rattle.bt_model.proofs.PathLemmas.{path_start}
-use Rattle.bt_recover.specs.Recovered.{IsOrderly}
-use Rattle.bt_recover.proofs.HandLaws.{takes_at, comes_at, one_giver, pair_leaves}
-use Rattle.bt_recover.proofs.ChainLemmas.{no_link, chain_from, same_first, longest_same, no_links_before, path_stop}
-use Rattle.bt_recover.proofs.ExistLemmas.{input_no_splitter}
+use Rattle.bt_model.specs.Orderly.{IsOrderly}
+use Rattle.bt_model.proofs.HandLaws.{takes_at, comes_at, one_giver, pair_leaves}
+use Rattle.bt_model.proofs.ChainLemmas.{no_link, chain_from, same_first, longest_same, no_links_before, path_stop}
+use Rattle.bt_model.proofs.ExistLemmas.{input_no_splitter}
 
 -- a chain's cell of its input is the part's
 pub begins_cell : (parts : List Part) (chain : Chain) (a : ℕ) (cell : Cell) → IsChain parts chain → chain.source ≡ begins a cell → (part : Part) × HasPart parts a part × (cell ≡ part.cell)
@@ -53,7 +53,7 @@ one_half parts s q a b splitter link f g =
     let at_g = own_cell link.0 (step g.look.giver.part.dir b) link.2 (covers_at parts q link.0 _ link.1 g.look.taker) in
     faced_half parts s q splitter.0 a link.0.cell splitter.1 f at_f ∙ sym (faced_half parts s q splitter.0 b link.0.cell splitter.1 g at_g)
 
-source_cell : (parts : List Part) → IsOrderly parts → (x y : Source) (first : ℕ) → StartsAs parts x first → StartsAs parts y first → IsLink parts first → x ≡ y
+pub source_cell : (parts : List Part) → IsOrderly parts → (x y : Source) (first : ℕ) → StartsAs parts x first → StartsAs parts y first → IsLink parts first → x ≡ y
 source_cell parts orderly (begins i a) (begins j b) first h k link =
     let parts_same : i ≡ j = sym h.0 ∙ k.0 in
     let input = h.1 in
@@ -86,7 +86,7 @@ pub record Hop (parts : List Part) (c : Chain) (s : ℕ) : Type 0 where
   pub feeds : FeedsFrom parts from_part half s
   pub via : ((h : IsLongest parts c) × (h.last ≡ from_part)) ⊎ ((h : IsEmptyChain parts c) × (h.from ≡ from_part) × (h.half ≡ half))
 
-into_splitter : (parts : List Part) (p s : ℕ) → IsSplitter parts s → Hands parts p s → Feeds parts p s
+pub into_splitter : (parts : List Part) (p s : ℕ) → IsSplitter parts s → Hands parts p s → Feeds parts p s
 into_splitter parts p s splitter (inl pair) = absurd (let a = splitter.2 in let b = pair_leaves parts p s splitter.0 splitter.1 pair in cc)
 into_splitter parts p s splitter (inr feeds) = feeds
 

@@ -10,19 +10,19 @@ use Rattle.bt_parts.specs.declared.part.Kind.TheVariants.{Belt, Entrance, Exit, 
 use Rattle.bt_parts.specs.declared.part.Part.{Part}
 use Rattle.bt_parts.specs.Cells.{Covers, step, opposite}
 use Rattle.bt_parts.specs.Layouts.{HasPart, IsAt, IsWellPlaced}
-use Rattle.bt_grid.proofs.IndexLemmas.{covers_cases}
+use Rattle.bt_parts.proofs.Coverings.{splitter_cases, covers_cases}
 use Rattle.bt_model.specs.Handing.{FeedsFrom, Feeds, Hands}
 use Rattle.bt_model.specs.Chains.{IsSplitter, IsLink, LinksTo, Path, one, more, IsInput, IsOutput, begins, leaves, Sink, ends, enters, Chain, EndsAs, IsChain}
 use Rattle.bt_model.specs.Clean.{IsOnRing}
 use Rattle.bt_parts.proofs.Places.{one_there}
 use Rattle.bt_model.proofs.HandLemmas.{one_handed}
 use Rattle.bt_model.proofs.PathLemmas.{path_start, path_snoc, path_within, crowded}
-use Rattle.bt_recover.specs.Recovered.{Never, IsOrderly}
-use Rattle.bt_recover.specs.inner.Sight.{left, LooksToward, IsBeltFeeder}
-use Rattle.bt_recover.proofs.SightLemmas.{looker_found, looker_missed, dir_cases, not_left, not_right, not_opposite, left_not_opposite}
-use Rattle.bt_recover.proofs.HandLaws.{belt_giver, entrance_giver, three_seen, one_giver, output_hands_none, pair_enters, pair_leaves, front_fed}
-use Rattle.bt_recover.proofs.ChainLemmas.{no_link, path_stop}
-use Rattle.bt_recover.proofs.MarkLemmas.{path_twice}
+use Rattle.bt_model.specs.Orderly.{Never, IsOrderly}
+use Rattle.bt_model.specs.inner.Sight.{left, LooksToward, IsBeltFeeder}
+use Rattle.bt_model.proofs.SightLemmas.{looker_found, looker_missed, dir_cases, not_left, not_right, not_opposite, left_not_opposite}
+use Rattle.bt_model.proofs.HandLaws.{belt_giver, entrance_giver, three_seen, one_giver, output_hands_none, pair_enters, pair_leaves, front_fed}
+use Rattle.bt_model.proofs.ChainLemmas.{no_link, path_stop}
+use Rattle.bt_model.proofs.PathLemmas.{path_twice}
 
 -- a part is on the cell, or none is
 pub at_cases : (parts : List Part) (cell : Cell) → ((i : ℕ) × IsAt parts i cell) ⊎ ((i : ℕ) → IsAt parts i cell → ⊥)
@@ -44,12 +44,6 @@ entrance_cases Belt = inr (λ e. cc)
 entrance_cases Entrance = inl refl
 entrance_cases Exit = inr (λ e. cc)
 entrance_cases Splitter = inr (λ e. cc)
-
-splitter_cases : (kind : Kind) → (kind ≡ Splitter) ⊎ (kind ≢ Splitter)
-splitter_cases Belt = inr (λ e. cc)
-splitter_cases Entrance = inr (λ e. cc)
-splitter_cases Exit = inr (λ e. cc)
-splitter_cases Splitter = inl refl
 
 along_cases : (part : Part) (dir : Dir) → ((part.kind ≢ Entrance) × (part.dir ≡ dir)) ⊎ ((part.kind ≢ Entrance) × (part.dir ≡ dir) → ⊥)
 along_cases part dir =
@@ -136,11 +130,11 @@ taker_cases parts orderly i link = taker_of_kind parts orderly i link.0 link.0.k
 pub part_cases : (parts : List Part) (i : ℕ) (part : Part) → HasPart parts i part → IsSplitter parts i ⊎ IsLink parts i
 part_cases parts i part is_i = ⊎_elim (λ e. inl (part, is_i, e)) (λ n. inr (part, is_i, n)) (splitter_cases part.kind)
 
-taker_part : (parts : List Part) (i j : ℕ) → Hands parts i j → (part : Part) × HasPart parts j part
+pub taker_part : (parts : List Part) (i j : ℕ) → Hands parts i j → (part : Part) × HasPart parts j part
 taker_part parts i j (inl pair) = (pair.exit, pair.is_b)
 taker_part parts i j (inr feeds) = (feeds.1.look.taker.part, feeds.1.look.taker.is_i)
 
-giver_part : (parts : List Part) (i j : ℕ) → Hands parts i j → (part : Part) × HasPart parts i part
+pub giver_part : (parts : List Part) (i j : ℕ) → Hands parts i j → (part : Part) × HasPart parts i part
 giver_part parts i j (inl pair) = (pair.entrance, pair.is_a)
 giver_part parts i j (inr feeds) = (feeds.1.look.giver.part, feeds.1.look.giver.is_i)
 
@@ -261,7 +255,7 @@ from_input parts orderly no_ring i input =
     )
 
 -- a path to here starts somewhere
-abbrev HasFront : List Part → ℕ → Type 0
+abbrev pub HasFront : List Part → ℕ → Type 0
 HasFront parts last = (first : ℕ) × (links : List ℕ) × Path parts first last links × ((p : ℕ) → LinksTo parts p first → ⊥)
 
 abbrev IsLongTo : List Part → ℕ → ℕ → Type 0
@@ -289,7 +283,7 @@ run_back parts orderly last link (suc n) =
     (giver_cases parts orderly long.0 first_link))
     (run_back parts orderly last link n)
 
-front_of : (parts : List Part) → IsOrderly parts → Never (IsOnRing parts) → (last : ℕ) → IsLink parts last → HasFront parts last
+pub front_of : (parts : List Part) → IsOrderly parts → Never (IsOnRing parts) → (last : ℕ) → IsLink parts last → HasFront parts last
 front_of parts orderly no_ring last link =
     ⊎_elim (λ front. front) (λ long. absurd (no_long_path parts no_ring long.0 last long.1 long.2 (let e = long.3 in omega arith)))
     (run_back parts orderly last link (length parts))
@@ -312,7 +306,7 @@ unhanded_input parts orderly i link none = record {
 }
 
 -- what a splitter hands to, it feeds
-splitter_feeds : (parts : List Part) (s q : ℕ) → IsSplitter parts s → Hands parts s q → Feeds parts s q
+pub splitter_feeds : (parts : List Part) (s q : ℕ) → IsSplitter parts s → Hands parts s q → Feeds parts s q
 splitter_feeds parts s q splitter (inl pair) = absurd (let a = splitter.2 in let b = pair_enters parts s q splitter.0 splitter.1 pair in cc)
 splitter_feeds parts s q splitter (inr feeds) = feeds
 
