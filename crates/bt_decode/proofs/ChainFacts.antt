@@ -19,9 +19,9 @@ use Rattle.bt_model.specs.Handing.{FeedsFrom, Hands}
 use Rattle.bt_model.specs.Shown.{ListsEach}
 use Rattle.bt_model.proofs.HandLemmas.{one_handed}
 use Rattle.bt_model.proofs.PathLemmas.{path_start}
-use Rattle.bt_recover.specs.Recovered.{IsOrderly}
-use Rattle.bt_recover.proofs.ChainLemmas.{orderly_of, path_stop}
-use Rattle.bt_recover.proofs.ExistLemmas.{IsRun, run_from, input_link, output_link, input_chain, half_chain, empty_chain}
+use Rattle.bt_model.specs.Orderly.{IsOrderly}
+use Rattle.bt_model.proofs.ChainLemmas.{orderly_of, path_stop}
+use Rattle.bt_model.proofs.ExistLemmas.{IsRun, run_from, input_link, output_link, input_chain, half_chain, empty_chain}
 use Rattle.bt_place.specs.declared.fact.Fact.TheVariants.{Name, Label, First, Last, Leaves, HalfOn, Still, At}
 use Rattle.bt_place.specs.declared.fact.Half.{Half}
 use Rattle.bt_place.specs.declared.fact.Half.TheVariants.{Lesser, Greater}

@@ -27,8 +27,8 @@ use Rattle.bt_model.specs.Handing.{FeedsFrom}
 use Rattle.bt_model.specs.Laying.{IsNamed, KeepsPin, Lays}
 use Rattle.bt_model.specs.Requests.{LayoutRequest, HasEnd, pinned}
 use Rattle.bt_model.specs.Shown.{Naming, ListsEach, IsNaming, IsStartOf, IsTargetOf, IsEdgeOf, Shows}
-use Rattle.bt_recover.proofs.ChainLemmas.{chain_from}
-use Rattle.bt_recover.proofs.ExistLemmas.{input_link, output_link}
+use Rattle.bt_model.proofs.ChainLemmas.{chain_from}
+use Rattle.bt_model.proofs.ExistLemmas.{input_link, output_link}
 use Rattle.bt_place.specs.declared.fact.Fact.TheVariants.{First, Last, Label, Leaves, Still, At}
 use Rattle.bt_place.specs.declared.fact.Half.{Half}
 use Rattle.bt_place.specs.declared.fact.Half.TheVariants.{Lesser, Greater}
