@@ -1,0 +1,17 @@
+pub mod Readings
+pub mod Geometry
+pub mod Solved
+pub mod CellFacts
+pub mod GoingFacts
+pub mod TunnelFacts
+pub mod LabelFacts
+pub mod PortFacts
+pub mod PinFacts
+pub mod Arrivals
+pub mod PartFacts
+pub mod HandFacts
+pub mod RingFacts
+pub mod ListFacts
+pub mod EndFacts
+pub mod ChainFacts
+pub mod Laid
