@@ -5,11 +5,8 @@ pub mod PathLemmas
 pub mod Covering
 pub mod Sorted
 pub mod SpeedLemmas
-<<<<<<< HEAD
 pub mod Leasts
 pub mod Requested
-=======
->>>>>>> origin/decode
 pub mod Places
 pub mod SightLemmas
 pub mod HandLaws
