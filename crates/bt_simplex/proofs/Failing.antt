@@ -30,7 +30,7 @@ less_left a b x p q e h =
     crossed : a.over *ℤ pos x.under *ℤ pos b.under ≡ b.over *ℤ pos x.under *ℤ pos a.under
     crossed = turn_last a.over (pos x.under) (pos b.under) ∙ ap (λ t. t *ℤ pos x.under) e ∙ turn_last b.over (pos a.under) (pos x.under)
 
-less_delta_right : (a b x : Delta) → IsSamePoint a b → IsLessDelta x a → IsLessDelta x b
+pub less_delta_right : (a b x : Delta) → IsSamePoint a b → IsLessDelta x a → IsLessDelta x b
 less_delta_right a b x s (inl less) = inl (less_right a.value b.value x.value s.left_value s.right_value s.same.0 less)
 less_delta_right a b x s (inr (same, less)) =
     inr (same_trans x.value a.value b.value s.left_value same s.same.0, less_right a.tiny b.tiny x.tiny s.left_tiny s.right_tiny s.same.1 less)

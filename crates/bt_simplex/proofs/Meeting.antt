@@ -167,7 +167,7 @@ inverse_of k some above = at k.over k.under some above
         same u m = ap (λ z. z *ℤ pos 1) (*ℤ_comm (pos u) (pos m) ∙ pos-*ℤ-pos m u) ∙ *ℤ_comm (pos (m * u)) (pos 1)
     at (negsuc n) u some above = absurd (omega (arith, ints))
 
-negated_plus : (a b : Ratio) → negated (plus a b) ≡ plus (negated a) (negated b)
+pub negated_plus : (a b : Ratio) → negated (plus a b) ≡ plus (negated a) (negated b)
 negated_plus a b =
     ap (λ z. make z (a.under * b.under))
     (spread_neg (a.over *ℤ pos b.under) (b.over *ℤ pos a.under) ∙ ap (λ z. z +ℤ neg_ℤ (b.over *ℤ pos a.under)) (sym (neg_mul a.over (pos b.under)))

@@ -34,7 +34,7 @@ tiny_some AtLeast = omega arith
 tiny_some Above = omega arith
 tiny_some Equal = omega arith
 
-bound_some : (rows : List RowParts) (i : ℕ) → All IsRow rows → Positive (get_or rows i empty_row).bound
+pub bound_some : (rows : List RowParts) (i : ℕ) → All IsRow rows → Positive (get_or rows i empty_row).bound
 bound_some [] i all = omega arith
 bound_some (row ∷ rows) zero all = (All-head IsRow row rows all).bound.positive
 bound_some (row ∷ rows) (suc i) all = bound_some rows i (All-tail IsRow row rows all)

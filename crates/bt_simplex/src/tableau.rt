@@ -8,6 +8,7 @@ ghost use Rattle.bt_simplex.specs.Turns.{CanTurn, IsTurnedBy};
 
 use crate::answers::{Check, Trail, Wide};
 use crate::causes::Cause;
+use crate::lemmas::lemma;
 use crate::line::Line;
 use crate::running::{End, Run, turned_from};
 use crate::settling::settled;
@@ -112,8 +113,13 @@ impl Tableau {
                 }
                 Err(cause) => Ok(Check::Wide(self.wide(alloc, turns, &slots, cause)?)),
             },
-            // The weights of such a basis aren't read off yet, so that the check gives up.
-            End::Stuck(_) => Err(AllocError),
+            End::Stuck(position) => match lemma(self, alloc, &slots, position)? {
+                Ok(weights) => {
+                    self.slots = slots;
+                    Ok(Check::Unsat(weights))
+                }
+                Err(cause) => Ok(Check::Wide(self.wide(alloc, turns, &slots, cause)?)),
+            },
             End::Pivots => Ok(Check::Pivots(self.trail(alloc, turns)?)),
             End::Wide(cause) => Ok(Check::Wide(self.wide(alloc, turns, &slots, cause)?)),
         }
@@ -150,6 +156,13 @@ impl Tableau {
             left: cause.left,
             right: cause.right,
         })
+    }
+
+    /// The rows.
+    pub fn rows(&self) -> &[Row]
+        ensures { result.now ≡ self.now.rows }
+    {
+        &self.rows
     }
 
     /// The number of columns.
