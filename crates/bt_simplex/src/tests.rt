@@ -1,4 +1,4 @@
-use crate::{Tableau, Turn, are_over};
+use crate::{Check, Tableau, Turn, are_over};
 use bt_frac::{Frac, Relation, Row};
 use std::alloc::Global;
 use std::test::Fail;
@@ -41,5 +41,45 @@ fn turns(rt: HostRuntime) -> Result<(), Fail> {
         answers.push(takes(alloc, &mut tableau, leaves, enters)?)?;
     }
     assert!(rt; answers[..] == [false, false, true, false, true, false, true]);
+    Ok(())
+}
+
+/// What a check of the rows answers, where all of them are bound.
+fn answered(alloc: Global, rows: &[Row], pivots: u64) -> Result<Check, Fail> {
+    let mut tableau = tableau(alloc, rows, 1)?;
+    for row in 0..rows.len() {
+        if row < tableau.rows().len() {
+            tableau.set_bound(row);
+        }
+    }
+    Ok(tableau.check(alloc, pivots)?)
+}
+
+/// A letter for an answer.
+fn letter(check: &Check) -> u8 {
+    match check {
+        Check::Sat(values) => if values.len() == 1 { b't' } else { b's' },
+        Check::Unsat(_) => b'u',
+        Check::Pivots(_) => b'p',
+        Check::Wide(_) => b'w',
+    }
+}
+
+#[test]
+fn answers(rt: HostRuntime) -> Result<(), Fail> {
+    let alloc = rt.alloc();
+    for (first, relation, bound, second, limit, pivots, answer) in [
+        (1, Relation::Above, 0, -1, -1, 10, b't'),
+        (1, Relation::AtLeast, 1, -1, 0, 10, b'u'),
+        (1, Relation::AtLeast, 1, -1, 0, 0, b'p'),
+        (1, Relation::Equal, 1, -1, -1, 10, b't'),
+    ] {
+        let rows = [
+            row(alloc, first, relation, bound)?,
+            row(alloc, second, Relation::AtLeast, limit)?,
+        ];
+        let check = answered(alloc, &rows, pivots)?;
+        assert!(rt; letter(&check) == answer);
+    }
     Ok(())
 }

@@ -1,0 +1,144 @@
+//! Rows and weights that show that no values meet the bound rows, at a basis at which a position fails
+//! and none can enter for it.
+ghost use Rattle.std.specs.Prelude.{◌≡◌, ◌<◌, ◌≤◌, ◌-◌, ◌^◌, ℕ, [], ◌∷◌, IfOk, IfErr, map, length, Some, None, IsTrue, ◌↔◌};
+ghost use Rattle.std.specs.List.{All};
+ghost use Rattle.bt_frac.specs.Ratio.{negated};
+ghost use Rattle.bt_frac.specs.Deltas.{IsLessDelta};
+ghost use Rattle.bt_lin.specs.WeightedRows.{coefficient_at};
+ghost use Rattle.bt_simplex.specs.Causes.{IsCause};
+ghost use Rattle.bt_simplex.specs.Checks.{RefutesBoundRows};
+ghost use Rattle.bt_simplex.specs.Lines.{one, IsLine, IsCombination};
+ghost use Rattle.bt_simplex.specs.Points.{bound_value};
+ghost use Rattle.bt_simplex.specs.Tableaus.{IsTableau};
+ghost use Rattle.bt_simplex.specs.Turns.{IsStuckAt};
+ghost use Rattle.bt_simplex.specs.inner.Bases.{with_slots};
+ghost use Rattle.bt_simplex.specs.inner.Lemmas.{weight_of, AreLineWeights};
+
+use crate::causes::Cause;
+use crate::line::{Line, Term};
+use crate::merging::combined;
+use crate::points::{bound_value, line_point, terms_at};
+use crate::tableau::Tableau;
+use bt_frac::{Delta, Frac, Row};
+use bt_lin::farkas;
+use std::alloc::{AllocError, Global};
+use std::cmp::Ordering;
+
+/// Whether a row stands above its bound value.
+fn is_above(row: &Row, point: &Delta) -> bool
+    ensures { IsTrue result ↔ IsLessDelta (bound_value row.now) point.now }
+{
+    bound_value(row).compare(point) == Ordering::Less
+}
+
+/// What is 0 wherever a line holds of its position: the line less the position, which it lacks.
+fn difference(alloc: Global, position: usize, terms: &[Term]) -> Result<Line, AllocError>
+    requires position { position < 2 ^ 64 - 1 }
+    requires line { IsLine terms.now }
+    requires lacks { coefficient_at position terms.now ≡ None }
+    ensures line { IfOk result IsLine }
+    ensures sum { IfOk result (IsCombination ((position, negated one) ∷ []) one terms.now) }
+{
+    match combined(
+        alloc,
+        &[(position, Frac::whole(-1))],
+        &Frac::whole(1),
+        terms,
+    )? {
+        Ok(line) => Ok(line),
+        Err(_) => unreachable!(),
+    }
+}
+
+/// The rows of a line's positions with its numbers as weights, where the failing row is above its bound
+/// value, and else with the other sign.
+fn weights_of(
+    alloc: Global,
+    columns: usize,
+    above: bool,
+    line: &[Term],
+) -> Result<Vec<(usize, Frac)>, AllocError>
+    requires { All (λ t. columns ≤ t.0) line.now }
+    ensures { IfOk result (λ v. v.items ≡ map (weight_of columns above) line.now) }
+{
+    let mut weights = Vec::with_capacity(alloc, line.len())?;
+    for (position, number) in line {
+        let weight = if above { *number } else { number.negate() };
+        weights.push((*position - columns, weight))?;
+    }
+    Ok(weights)
+}
+
+/// The weights of the failing row and of the rows of its line, where none of these can enter; or why
+/// where it stands doesn't fit.
+fn stuck_weights(
+    tableau: &Tableau,
+    alloc: Global,
+    slots: &[Option<Line>],
+    position: usize,
+) -> Result<Result<Vec<(usize, Frac)>, Cause>, AllocError>
+    requires tableau { IsTableau (with_slots tableau.now slots.now) }
+    requires stuck { IsStuckAt (with_slots tableau.now slots.now) position }
+    ensures weights { IfOk result
+        (λ o. IfOk o (λ v. AreLineWeights (with_slots tableau.now slots.now) position v.items)) }
+    ensures unfit { IfOk result (λ o. IfErr o (IsCause (with_slots tableau.now slots.now))) }
+{
+    let Some(terms) = terms_at(slots, position) else {
+        unreachable!()
+    };
+    let Some(row) = tableau.bound_row(position) else {
+        unreachable!()
+    };
+    let point = match line_point(tableau, position, terms) {
+        Ok(point) => point,
+        Err(cause) => return Ok(Err(cause)),
+    };
+    let line = difference(alloc, position, terms)?;
+    let weights = weights_of(
+        alloc,
+        tableau.columns(),
+        is_above(row, &point),
+        line.terms(),
+    )?;
+    Ok(Ok(weights))
+}
+
+/// The rows of weights, and the weights.
+fn parted(alloc: Global, weights: &[(usize, Frac)]) -> Result<(Vec<usize>, Vec<Frac>), AllocError>
+    ensures picks { IfOk result (λ p. p.0.items ≡ map (λ w. w.0) weights.now) }
+    ensures numbers { IfOk result (λ p. p.1.items ≡ map (λ w. w.1) weights.now) }
+{
+    let mut picks = Vec::with_capacity(alloc, weights.len())?;
+    let mut numbers = Vec::with_capacity(alloc, weights.len())?;
+    for (row, weight) in weights {
+        picks.push(*row)?;
+        numbers.push(*weight)?;
+    }
+    Ok((picks, numbers))
+}
+
+/// Bound rows and weights that `farkas` accepts, where a position fails and none can enter for it; or
+/// why such a number doesn't fit.
+pub fn lemma(
+    tableau: &Tableau,
+    alloc: Global,
+    slots: &[Option<Line>],
+    position: usize,
+) -> Result<Result<Vec<(usize, Frac)>, Cause>, AllocError>
+    requires tableau { IsTableau (with_slots tableau.now slots.now) }
+    requires stuck { IsStuckAt (with_slots tableau.now slots.now) position }
+    ensures weights { IfOk result
+        (λ o. IfOk o (λ v. RefutesBoundRows (with_slots tableau.now slots.now) v.items)) }
+    ensures unfit { IfOk result (λ o. IfErr o (IsCause (with_slots tableau.now slots.now))) }
+{
+    let weights = match stuck_weights(tableau, alloc, slots, position)? {
+        Ok(weights) => weights,
+        Err(cause) => return Ok(Err(cause)),
+    };
+    let (picks, numbers) = parted(alloc, &weights)?;
+    match farkas(tableau.rows(), &picks, &numbers) {
+        Ok(_) => Ok(Ok(weights)),
+        // Which product or sum of the weighted rows leaves 128 bits isn't told yet: the check gives up.
+        Err(_) => Err(AllocError),
+    }
+}
