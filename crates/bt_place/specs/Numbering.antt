@@ -86,11 +86,11 @@ abbrev pub content_number : Content → ℕ
 content_number Empty = 0
 content_number (Turned of dir) = 1 + (shape_number of * 4 + dir_number dir)
 
--- the number of a cell along the longer side of the rectangle
+-- the number of a cell along the longer side of the rectangle: row by row, or column by column
 abbrev pub along : Sizes → Cell → ℕ
 along z c = if nat_lt z.height z.width
-    then unsigned_abs c.x * z.height + unsigned_abs c.y
-    else unsigned_abs c.y * z.width + unsigned_abs c.x
+    then unsigned_abs c.y * z.width + unsigned_abs c.x
+    else unsigned_abs c.x * z.height + unsigned_abs c.y
 
 -- ---- the blocks
 

@@ -2,7 +2,9 @@
 #![tactic(auto)]
 
 mod fact;
+mod law;
 
 pub use fact::{Content, Fact, Half, Shape};
+pub use law::meeting_keeps;
 pub use std::alloc::AllocError as Memory;
 

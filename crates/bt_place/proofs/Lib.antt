@@ -1,0 +1,3 @@
+pub mod Meeting
+pub mod Placing
+pub mod Matching
