@@ -12,7 +12,7 @@ ghost use Rattle.bt_decode.specs.Solutions.{IsSolution};
 ghost use Rattle.bt_decode.specs.inner.Spots.{spots_in, spot_in, cell_numbered, read_in};
 ghost use Rattle.bt_decode.specs.inner.Reaching.{IsReach, IsAheadOf};
 
-use crate::numbering::{distances_from, most_distance};
+use crate::numbering::{distances_from, known, most_distance};
 use bt_model::Request;
 use bt_parts::{Cell, Dir, Rect, inside};
 use bt_place::{Content, Half, Shape};
@@ -31,8 +31,7 @@ pub(crate) fn truth(assignment: &[bool], var: usize) -> bool
 fn spot(rect: Rect, cell: Cell) -> usize
     requires grid { IsGrid rect }
     requires inside { IsInside rect cell }
-    ensures spot { result ≡ spot_in rect cell }
-    ensures within { result < spots_in rect }
+    ensures { result ≡ spot_in rect cell }
 {
     cell.y.unsigned_abs() as usize * rect.width as usize + cell.x.unsigned_abs() as usize
 }
@@ -107,10 +106,9 @@ fn content_numbered(number: usize) -> Content
 pub(crate) fn content(request: &Request, assignment: &[bool], i: usize) -> Content
     requires solution { IsSolution request.now assignment.now }
     requires within { i < spots_in request.now.rect }
-    requires few { i < 256 }
     ensures { read_in request.now assignment.now (Kind (cell_numbered request.now.rect i) result) ≡ true }
 {
-    let _net = request.net();
+    known(request);
     for number in 0..21 {
         if truth(assignment, i * 21 + number) {
             return content_numbered(number);
@@ -124,13 +122,12 @@ pub(crate) fn content(request: &Request, assignment: &[bool], i: usize) -> Conte
 pub(crate) fn reach(request: &Request, assignment: &[bool], i: usize, shape: Shape, dir: Dir) -> u32
     requires solution { IsSolution request.now assignment.now }
     requires within { i < spots_in request.now.rect }
-    requires few { i < 256 }
     requires stands { read_in request.now assignment.now
         (holds (cell_numbered request.now.rect i) shape dir) ≡ true }
     ensures reach { IsReach request.now assignment.now (cell_numbered request.now.rect i) shape result }
     ensures near { result ≤ 11 }
 {
-    let _net = request.net();
+    known(request);
     let Shape::Entrance = shape else {
         return 1;
     };

@@ -6,7 +6,7 @@ ghost use Rattle.bt_decode.specs.inner.Spots.{spots_in};
 ghost use Rattle.bt_decode.specs.inner.Reaching.{TellsKind, TellsPart};
 
 use crate::cells::{cell_of, content};
-use crate::numbering::spots;
+use crate::numbering::{known, spots};
 use crate::reaching::reached;
 use bt_model::Request;
 use bt_parts::{Kind, Part};
@@ -32,7 +32,7 @@ fn part_on(request: &Request, assignment: &[bool], i: usize) -> Option<Part>
     requires within { i < spots_in request.now.rect }
     ensures { TellsPart request.now assignment.now i result }
 {
-    let _count = spots(request);
+    known(request);
     let Content::Turned(shape, dir) = content(request, assignment, i) else {
         return None;
     };
@@ -61,6 +61,7 @@ pub fn decode(
     ensures lays { IfOk result (λ parts. Lays parts.items request.now) }
     ensures in_order { IfOk result (λ parts. AllPairs ComesAbove parts.items) }
 {
+    known(request);
     let marks = reached(alloc, request, assignment)?;
     let mut parts = Vec::new(alloc);
     for i in 0..spots(request) {

@@ -9,7 +9,7 @@ ghost use Rattle.bt_decode.specs.inner.Spots.{spots_in, cell_numbered, read_in};
 ghost use Rattle.bt_decode.specs.inner.Reaching.{IsStart, TellsNext, IsMarked, AreMarks, Keeps, HasStarts};
 
 use crate::cells::{ahead, content, reach, truth};
-use crate::numbering::{halves_from, spots};
+use crate::numbering::{halves_from, known, spots};
 use bt_model::Request;
 use bt_place::Content;
 use std::alloc::{AllocError, Global};
@@ -30,7 +30,7 @@ fn next(request: &Request, assignment: &[bool], i: usize) -> Option<usize>
     requires within { i < spots_in request.now.rect }
     ensures { TellsNext request.now assignment.now i result }
 {
-    let _count = spots(request);
+    known(request);
     let Content::Turned(shape, dir) = content(request, assignment, i) else {
         return None;
     };
@@ -55,6 +55,7 @@ fn mark_from(request: &Request, assignment: &[bool], marks: &mut Vec<bool>, star
     ensures keeps { Keeps marks.old.items marks.new.items }
     ensures start { IsMarked marks.new.items start }
 {
+    known(request);
     let mut i = start;
     while !marks[i] {
         marks[i] = true;
@@ -76,6 +77,7 @@ pub(crate) fn reached(
     ensures starts { IfOk result (λ marks.
         HasStarts request.now assignment.now marks.items (spots_in request.now.rect)) }
 {
+    known(request);
     let count = spots(request);
     let mut marks = vec![in alloc; false; count]?;
     for i in 0..count {
