@@ -40,7 +40,7 @@ use Rattle.bt_decode.proofs.PortFacts.{port_there, one_port, ports_apart, handed
 use Rattle.bt_decode.proofs.TunnelFacts.{label_under}
 use Rattle.bt_decode.proofs.Arrivals.{Reached, reached_inside}
 use Rattle.bt_decode.proofs.PartFacts.{part_on, standing, kept_part, part_there, part_at, at_there, own_at, one_index, well_placed, home}
-use Rattle.bt_decode.proofs.HandFacts.{Going, feeds_going, going_feeds, next_there, entrance_pair, half_of}
+use Rattle.bt_decode.proofs.HandFacts.{Going, feeds_going, going_feeds, next_there, entrance_pair, entrance_of, half_of}
 use Rattle.bt_decode.proofs.RingFacts.{link_cell, link_shape, none_ringed, clean}
 use Rattle.bt_decode.proofs.EndFacts.{edge_starts, edge_ends, output_faces, IsFirstOf, first_at, first_input, first_there}
 
@@ -51,12 +51,6 @@ start_leaves s (from.Input i) target cap e = absurd (cc)
 
 pub leaves_by : (s : ℕ) (edge : Edge) → edge.start ≡ from.Split s → leaves_splitter s edge ≡ true
 leaves_by s edge e = start_leaves s edge.start edge.target edge.cap e
-
-entrance_shape : (of : Shape) → kind_of of ≡ kind.Entrance → of ≡ shape.Entrance
-entrance_shape shape.Belt e = absurd (cc)
-entrance_shape shape.Entrance e = refl
-entrance_shape shape.Exit e = absurd (cc)
-entrance_shape (shape.Half h) e = absurd (cc)
 
 module _ (w : Solved) (parts : List Part) (lists : ListsEach (IsKeptPart w.r w.reading) parts) where
   pub orderly : IsOrderly parts
@@ -189,7 +183,7 @@ module _ (w : Solved) (parts : List Part) (lists : ListsEach (IsKeptPart w.r w.r
     label_step i j a link next (inl pair) at label =
         let here = standing w parts lists i a at in
         let same = same_part parts i pair.entrance (part_on w here.of here.dir a) pair.is_a here.is_i in
-        let of : here.of ≡ shape.Entrance = entrance_shape here.of (sym (ap (λ p. p.kind) same) ∙ pair.enters) in
+        let of : here.of ≡ shape.Entrance = entrance_of here.of (sym (ap (λ p. p.kind) same) ∙ pair.enters) in
         let says = subst (λ s. Says w (holds a s here.dir)) of here.says in
         let is_i = subst (λ s. HasPart parts i (part_on w s here.dir a)) of here.is_i in
         let own = entrance_pair w parts lists a here.dir i here.reached says is_i in

@@ -40,7 +40,7 @@ use Rattle.bt_decode.proofs.PinFacts.{blocked_empty}
 use Rattle.bt_decode.proofs.Arrivals.{Reached, reached_inside, FromCell, taken_reached}
 use Rattle.bt_decode.proofs.PartFacts.{part_on, standing, kept_part, part_there, part_at, at_there, own_at, well_placed}
 use Rattle.bt_decode.proofs.HandFacts.{feeds_going, going_feeds, next_there}
-use Rattle.bt_decode.proofs.RingFacts.{link_cell, exit_shape}
+use Rattle.bt_decode.proofs.RingFacts.{link_cell, begun_unfed}
 
 -- ---- the network's edges
 
@@ -164,14 +164,6 @@ module _ (w : Solved) (parts : List Part) (lists : ListsEach (IsKeptPart w.r w.r
     pub says : Says w (holds cell of dir)
     pub is_i : HasPart parts i (part_on w of dir cell)
 
-  begun_unfed : (c : Cell) → IsInside w.r.rect c → Says w (Begins c) → (i p : ℕ) → IsLink parts i → IsAt parts i c → Feeds parts p i → ⊥
-  begun_unfed c inside begins i p link at feeds =
-      let going = feeds_going w parts lists p feeds.0 i feeds.1 in
-      let same : step going.dir feeds.0 ≡ c = link_cell parts i (step going.dir feeds.0) c link going.there at in
-      let back : feeds.0 ≡ behind going.dir c = sym (behind-step going.dir feeds.0) ∙ ap (behind going.dir) same in
-      begun_still w c inside going.dir begins (subst (IsInside w.r.rect) back (reached_inside w feeds.0 going.reached))
-      (subst (λ z. Denies w (Still z going.dir)) back going.goes)
-
   first_kind : (of : Shape) → (of ≡ shape.Belt) ⊎ (of ≡ shape.Entrance) → (kind_of of ≡ kind.Belt) ⊎ (kind_of of ≡ kind.Entrance)
   first_kind of (inl e) = inl (ap kind_of e)
   first_kind of (inr e) = inr (ap kind_of e)
@@ -188,7 +180,7 @@ module _ (w : Solved) (parts : List Part) (lists : ListsEach (IsKeptPart w.r w.r
     part = part_on w f.of f.dir f.cell;
     is_i = f.is_i;
     kind = first_kind f.of f.shaped;
-    unfed = λ p feeds. begun_unfed f.cell f.inside (first_begun w f.cell f.inside k f.below f.first) i p
+    unfed = λ p feeds. begun_unfed w parts lists f.cell f.inside (first_begun w f.cell f.inside k f.below f.first) i p
         (part_on w f.of f.dir f.cell, f.is_i, first_link f.of f.shaped) (first_at k i f) feeds;
   }
 

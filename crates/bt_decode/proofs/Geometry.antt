@@ -228,7 +228,7 @@ in_cells rect c h =
     (in_map (λ z. cell_at z (unsigned_abs c.y)) (unsigned_abs c.x) (range_with_len 0 rect.width)
     (in_range (unsigned_abs c.x) 0 rect.width (omega arith) (omega arith))))
 
-at_inside : (rect : Rect) (x y : ℕ) → x < rect.width → y < rect.height → IsInside rect (cell_at x y)
+pub at_inside : (rect : Rect) (x y : ℕ) → x < rect.width → y < rect.height → IsInside rect (cell_at x y)
 at_inside rect x y h k = (omega (arith, ints), omega (arith, ints), omega (arith, ints), omega (arith, ints))
 
 pub cells_inside : (rect : Rect) (c : Cell) → In c (cells_of rect) → IsInside rect c

@@ -55,7 +55,7 @@ hands_on shape.Entrance other = absurd (other refl)
 hands_on shape.Exit other = by_runner shape.Exit (inr (inl refl))
 hands_on (shape.Half half) other = by_side half
 
-giver_no_entrance : (of : Shape) → In of givers → kind_of of ≢ kind.Entrance
+pub giver_no_entrance : (of : Shape) → In of givers → kind_of of ≢ kind.Entrance
 giver_no_entrance of (inl e) k = let a = ap kind_of e in cc
 giver_no_entrance of (inr (inl e)) k = let a = ap kind_of e in cc
 giver_no_entrance of (inr (inr (inl e))) k = let a = ap kind_of e in cc
@@ -70,7 +70,7 @@ comes_along dir Ahead comes = absurd (no_opposite dir comes)
 never_ahead : (dir turned : Dir) → opposite dir ≢ turned → dir ≡ opposite turned → ⊥
 never_ahead dir turned apart e = apart (ap opposite e ∙ opposite-opposite turned)
 
-entrance_of : (of : Shape) → kind_of of ≡ kind.Entrance → of ≡ shape.Entrance
+pub entrance_of : (of : Shape) → kind_of of ≡ kind.Entrance → of ≡ shape.Entrance
 entrance_of shape.Belt e = absurd (cc)
 entrance_of shape.Entrance e = refl
 entrance_of shape.Exit e = absurd (cc)

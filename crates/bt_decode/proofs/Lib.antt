@@ -15,3 +15,6 @@ pub mod ListFacts
 pub mod EndFacts
 pub mod ChainFacts
 pub mod Laid
+pub mod Numbers
+pub mod Marking
+pub mod Gathering

@@ -77,6 +77,15 @@ module _ (w : Solved) (parts : List Part) (lists : ListsEach (IsKeptPart w.r w.r
   exit_shape k j c of dir pair at says =
       sym (ap (λ z. z.kind) (same_part parts j pair.exit _ pair.is_b (part_at w parts lists j c of dir at says))) ∙ pair.leaves
 
+  -- nothing feeds the first part of an input
+  pub begun_unfed : (c : Cell) → IsInside w.r.rect c → Says w (Begins c) → (i p : ℕ) → IsLink parts i → IsAt parts i c → Feeds parts p i → ⊥
+  begun_unfed c inside begins i p link at feeds =
+      let going = feeds_going w parts lists p feeds.0 i feeds.1 in
+      let same : step going.dir feeds.0 ≡ c = link_cell parts i (step going.dir feeds.0) c link going.there at in
+      let back : feeds.0 ≡ behind going.dir c = sym (behind-step going.dir feeds.0) ∙ ap (behind going.dir) same in
+      begun_still w c inside going.dir begins (subst (IsInside w.r.rect) back (reached_inside w feeds.0 going.reached))
+      (subst (λ z. Denies w (Still z going.dir)) back going.goes)
+
   none_closed : (links : List ℕ) → IsClosed parts links → (x : Cell) → Reached w x → (j : ℕ) → In j links → IsAt parts j x → ⊥
   none_closed links closed x (begun c i s) j there at =
       let begins = begun_there w c i s in
@@ -88,18 +97,10 @@ module _ (w : Solved) (parts : List Part) (lists : ListsEach (IsKeptPart w.r w.r
       no_pair j k dir (inl says) at pair = let e = exit_shape k j c shape.Belt dir pair at says in cc
       no_pair j k dir (inr says) at pair = let e = exit_shape k j c shape.Entrance dir pair at says in cc
 
-      no_feeder : (j k : ℕ) → IsLink parts j → IsAt parts j c → (side_cell : Cell) → FeedsFrom parts k side_cell j → ⊥
-      no_feeder j k link at side_cell feeds =
-          let going = feeds_going w parts lists k side_cell j feeds in
-          let same : step going.dir side_cell ≡ c = link_cell parts j (step going.dir side_cell) c link going.there at in
-          let back : side_cell ≡ behind going.dir c = sym (behind-step going.dir side_cell) ∙ ap (behind going.dir) same in
-          begun_still w c i going.dir s (subst (IsInside w.r.rect) back (reached_inside w side_cell going.reached))
-          (subst (λ z. Denies w (Still z going.dir)) back going.goes)
-
       by : (j : ℕ) (dir : Dir) → Says w (holds c shape.Belt dir) ⊎ Says w (holds c shape.Entrance dir) → IsLink parts j → IsAt parts j c
           → (k : ℕ) → Hands parts k j → ⊥
       by j dir begins link at k (inl pair) = no_pair j k dir begins at pair
-      by j dir begins link at k (inr feeds) = no_feeder j k link at feeds.0 feeds.1
+      by j dir begins link at k (inr feeds) = begun_unfed c i s j k link at feeds
   none_closed links closed x (half c i s) j there at =
       let on = half_there w c i s in
       link_shape j c (shape.Half on.0) on.1 (closed j there).0 at on.2 refl
