@@ -1,9 +1,11 @@
 pub mod Adding
 pub mod Advancing
 pub mod Attended
+pub mod Back
 pub mod Ending
 pub mod Keeping
 pub mod Lists
+pub mod Reasoning
 pub mod Settled
 pub mod Sides
 pub mod Visiting

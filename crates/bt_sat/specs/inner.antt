@@ -3,7 +3,9 @@ pub mod Assigning
 pub mod Attending
 pub mod AttendingIn
 pub mod Keeping
+pub mod Levels
 pub mod Propagating
+pub mod Reasons
 pub mod Sides
 pub mod Truths
 pub mod Visits

@@ -6,6 +6,7 @@ mod choosers;
 mod kept;
 mod kernel;
 mod law;
+mod levels;
 mod search;
 mod side;
 mod solver;
