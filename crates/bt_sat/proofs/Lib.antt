@@ -3,6 +3,7 @@ pub mod Advancing
 pub mod Attended
 pub mod Back
 pub mod Ending
+pub mod Heaps
 pub mod Keeping
 pub mod Lists
 pub mod Reasoning

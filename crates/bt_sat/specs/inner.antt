@@ -1,8 +1,10 @@
 -- How the search keeps its clauses and what is true, which no public clause cites.
+pub mod Agendas
 pub mod Assigning
 pub mod Attending
 pub mod AttendingIn
 pub mod Keeping
+pub mod Known
 pub mod Levels
 pub mod Propagating
 pub mod Reasons

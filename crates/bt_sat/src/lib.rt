@@ -1,10 +1,12 @@
 //! A search for models of formulas that learns clauses, and the choosers that it comes with.
 #![tactic(auto)]
 
+mod agenda;
 mod assignment;
 mod choosers;
 mod kept;
 mod kernel;
+mod known;
 mod law;
 mod levels;
 mod search;
