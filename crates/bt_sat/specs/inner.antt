@@ -1,5 +1,6 @@
 -- How the search keeps its clauses and what is true, which no public clause cites.
 pub mod Agendas
+pub mod Analysing
 pub mod Assigning
 pub mod Attending
 pub mod AttendingIn

@@ -2,6 +2,7 @@
 #![tactic(auto)]
 
 mod agenda;
+mod analysis;
 mod assignment;
 mod choosers;
 mod kept;
