@@ -1,5 +1,5 @@
 -- Tracing a conflict back.
-use Rattle.std.proofs.Common.{◌≡◌, ◌≢◌, ℕ, ◌≤◌, ◌<◌, ◌+◌, ◌⊎◌, ◌↔◌, inl, inr, arith, Bool, true, false, not, List, [], ◌∷◌, ◌++◌, length, map, reverse, get_or, zero, suc, sym, subst, refl, ap, ◌∙◌, Option, None, Some, length-append}
+use Rattle.std.proofs.Common.{◌≡◌, ◌≢◌, ℕ, ◌≤◌, ◌<◌, ◌+◌, ◌-◌, ◌⊎◌, ◌↔◌, inl, inr, arith, Bool, true, false, not, List, [], ◌∷◌, ◌++◌, length, map, reverse, get_or, zero, suc, sym, subst, refl, ap, ◌∙◌, Option, None, Some, length-append}
 use Rattle.std.specs.Prelude.{Contains, take}
 use Rattle.std.specs.List.{All}
 use Rattle.std.proofs.lemmas.List.{get_or_default, get_or-take, get_or_append_left, get_or_push, length-take, reverse-append}
@@ -343,3 +343,88 @@ module _ (all : List (List Lit)) (s : Search) (ordered : IsOrdered all s) where
                 ]
               ]
         ]
+
+  -- the literals of a clause that is false stand on the trail
+  module _ (conflict : ℕ) (falses : All (IsFalseIn s.assignment.values) (clause_at all conflict)) where
+    conflict_place : (m : Lit) → Contains (clause_at all conflict) m → (q : ℕ) × (q < length s.assignment.trail.items) × (lit_at s.assignment.trail.items q ≡ opposite m)
+    conflict_place m among =
+        let (q, small, is) = ordered.whole.truths.in_trail (opposite m) (All-contains (IsFalseIn s.assignment.values) (clause_at all conflict) m falses among) in
+        (q, small, get_or_default s.assignment.trail.items q no_lit (opposite m) small ∙ is)
+
+    pub false_below : All (λ (l : Lit). l.var < length s.assignment.places.items) (clause_at all conflict)
+    false_below = all_of (λ (l : Lit). l.var < length s.assignment.places.items) (clause_at all conflict) (λ m among.
+        let (q, small, is) = conflict_place m among in
+        subst (λ (x : Lit). x.var < length s.assignment.places.items) is (var_below q small))
+
+  -- the conflict is the first clause of all
+  module _ (conflict : ℕ) (agenda : List ℕ) (below : conflict < length all) (falses : All (IsFalseIn s.assignment.values) (clause_at all conflict))
+      (notes : Notes s.assignment.places.items (clause_at all conflict) (length s.assignment.trail.items) [] agenda) where
+    pub conflict_inside : (k : ℕ) → Contains agenda k → k < length s.assignment.trail.items
+    conflict_inside k among = elim ((notes k).0 among) [
+      | inl never ↦ absurd (none_in k never)
+      | inr (i, small, is, differs) ↦
+          let m = lit_at (clause_at all conflict) i in
+          let (q, inside, at) = conflict_place conflict falses m (i, small, get_or_default (clause_at all conflict) i m no_lit small) in
+          subst (λ j. j < length s.assignment.trail.items) (sym (false_place m q inside at) ∙ is) inside
+    ]
+
+    pub begun : IsDerived all s.assignment.trail.items agenda [] (length s.assignment.trail.items) (conflict ∷ [])
+    begun = record {
+      refutes = λ lits way. all_of (Contains lits) (clause_at all conflict) (λ m among.
+          let (q, inside, at) = conflict_place conflict falses m among in
+          let waits : Contains agenda q = (notes q).1 (inr (is_noted (clause_at all conflict) m q (length s.assignment.trail.items) among inside at (λ e. absurd (omega (arith, e, inside))))) in
+          subst (Contains lits) (false_is m q at) (way.waits q waits));
+      numbers = All-push (λ n. n < length all) [] conflict (All-nil (λ n. n < length all)) below;
+      before = conflict_inside;
+      bounded = omega arith;
+      after = λ k among. absurd (none_in k among);
+      descend = λ i j order small. absurd (omega (arith, small));
+    }
+
+  -- where the agenda is empty, all is learnt
+  pub learnt : (cut : Cut) (agenda picked hints back : List ℕ) (bound : ℕ) → IsTracing all s cut agenda picked bound hints → IsGreatest agenda None → back ≡ reverse hints → IsLearnable all s picked back
+  learnt cut agenda picked hints back bound tracing empty is =
+      let T = s.assignment.trail.items in
+      let d = tracing.derived in
+      let way : IsUnderway T agenda picked bound (falses_at T picked) = record {
+        among = λ m among.
+            let (k, there, at) = in_map (false_at T) picked m among in
+            subst (Contains T) (sym (twice_opposite (lit_at T k)) ∙ ap opposite at) (lit_in T k (d.after k there).1);
+        waits = λ k among. absurd (empty k among);
+        picks = λ k among. map_in (false_at T) picked k among;
+        beyond = λ k after small among.
+            let (j, there, at) = in_map (false_at T) picked (false_at T k) among in
+            subst (Contains picked) (false_once j k (d.after j there).1 small at) there;
+      } in
+      let units : UnitsRefute (falses_at T picked) (map (clause_at all) back) = subst (λ ns. UnitsRefute (falses_at T picked) (map (clause_at all) ns)) (sym is) (d.refutes (falses_at T picked) way) in
+      let numbers : All (λ n. n < length all) back =
+      all_of (λ n. n < length all) back (λ n among. All-contains (λ m. m < length all) hints n d.numbers (reversed hints n (subst (λ ns. Contains ns n) is among))) in
+      elim tracing.cuts [
+        | inl ground ↦ record {
+          units = units;
+          numbers = numbers;
+          within = λ k among. (d.after k among).1;
+          descend = d.descend;
+          level = 0;
+          known = λ some. absurd (no_length picked some ground.none);
+          first = λ some. absurd (no_length picked some ground.none);
+          rest = λ i after small. absurd (no_length picked (omega (arith, small)) ground.none);
+        }
+        | inr cuts ↦ record {
+          units = units;
+          numbers = numbers;
+          within = λ k among. (d.after k among).1;
+          descend = d.descend;
+          level = cuts.level;
+          known = λ some. cuts.within;
+          first = λ some. omega (arith, cuts.first some, cuts.current);
+          rest = λ i after small. omega (arith, cuts.rest i after small, cuts.current);
+        }
+      ]
+    where
+      reversed : {X : Type 0} (xs : List X) (x : X) → Contains (reverse xs) x → Contains xs x
+      reversed [] x among = absurd (none_in x among)
+      reversed {X} (y ∷ xs) x among = elim (Contains-push_cases (reverse xs) y x (subst (λ (ys : List X). Contains ys x) (reverse-append (y ∷ []) xs) among)) [
+        | inl before ↦ contains_there y x xs (reversed xs x before)
+        | inr same ↦ contains_here y x xs same
+      ]

@@ -2,10 +2,12 @@ pub mod Adding
 pub mod Advancing
 pub mod Attended
 pub mod Back
+pub mod Cutting
 pub mod Deriving
 pub mod Ending
 pub mod Heaps
 pub mod Keeping
+pub mod Leveled
 pub mod Lists
 pub mod Noting
 pub mod Reasoning

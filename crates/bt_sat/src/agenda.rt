@@ -36,6 +36,13 @@ impl Agenda {
         }
     }
 
+    /// Takes all places off the agenda.
+    pub fn clear(&mut self)
+        ensures { self.new ≡ [] }
+    {
+        self.heap.clear();
+    }
+
     /// Puts a place on the agenda.
     pub fn add(&mut self, place: usize) -> Result<(), AllocError>
         ensures { OnOk result (Adds self.old place self.new) }

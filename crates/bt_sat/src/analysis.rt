@@ -1,12 +1,13 @@
 //! Tracing a conflict back to the clause that is learnt from it.
-ghost use Rattle.std.specs.Prelude.{◌≡◌, ◌<◌, length, OnOk};
+ghost use Rattle.std.specs.Prelude.{◌≡◌, ◌<◌, ℕ, length, Contains, IfOk, OnOk};
 ghost use Rattle.std.specs.List.{All};
-ghost use Rattle.bt_sat.specs.inner.Analysing.{IsLearnable, IsReasonFor, IsTaken, IsTracing, Notes};
+ghost use Rattle.bt_sat.specs.inner.Analysing.{IsCut, IsLearnable, IsReasonFor, IsTaken, IsTopLevel, IsTracing, Notes};
 ghost use Rattle.bt_sat.specs.inner.Known.{clauses_in};
-ghost use Rattle.bt_sat.specs.inner.Levels.{IsOrdered};
+ghost use Rattle.bt_sat.specs.inner.Levels.{AreLevels, IsInConflict, IsOrdered};
 
 use crate::agenda::Agenda;
 use crate::known::Known;
+use crate::levels::{level_of, start};
 use crate::search::Search;
 use bt_cnf::Lit;
 use std::alloc::AllocError;
@@ -29,12 +30,7 @@ pub struct Cut {
 }
 
 /// Puts the places of a clause's literals on the agenda, but for one.
-fn note(
-    agenda: &mut Agenda,
-    places: &[usize],
-    clause: &[Lit],
-    but: usize,
-) -> Result<(), AllocError>
+fn note(agenda: &mut Agenda, places: &[usize], clause: &[Lit], but: usize) -> Result<(), AllocError>
     requires { All (λ l. l.var < length places.now) clause.now }
     ensures { OnOk result (Notes places.now clause.now but agenda.old agenda.new) }
 {
@@ -89,4 +85,83 @@ fn deal(
             Ok(())
         }
     }
+}
+
+/// Where a conflict is cut: from the level of its greatest place on, one literal is to be picked.
+fn cut_at(search: &Search, agenda: &Agenda) -> Cut
+    requires ordered { AreLevels search.now }
+    requires inside { (k : ℕ) → Contains agenda.now k → k < length search.now.assignment.trail.items }
+    ensures { IsCut search.now agenda.now result }
+{
+    let root = start(search, 0);
+    let level = top_level(search, agenda);
+    if level > 0 {
+        let current = start(search, level - 1);
+        Cut { root, current }
+    } else {
+        Cut {
+            root,
+            current: root,
+        }
+    }
+}
+
+/// How many levels begin at the greatest place or before it.
+fn top_level(search: &Search, agenda: &Agenda) -> usize
+    requires ordered { AreLevels search.now }
+    requires inside { (k : ℕ) → Contains agenda.now k → k < length search.now.assignment.trail.items }
+    ensures { IsTopLevel search.now agenda.now result }
+{
+    match agenda.greatest() {
+        Some(place) => level_of(&search.starts, place),
+        None => 0,
+    }
+}
+
+/// Finds the clause that is learnt from a conflict: where its literals are false, the hints lead in turn
+/// to a false clause.
+pub fn analyse(
+    analysis: &mut Analysis,
+    known: &Known,
+    search: &Search,
+    conflict: usize,
+) -> Result<(), AllocError>
+    requires { IsInConflict (clauses_in known.now) conflict search.now }
+    ensures { OnOk result (IsLearnable (clauses_in known.now) search.now
+        analysis.new.picked.items analysis.new.hints.items) }
+{
+    let cut = begin(analysis, known, search, conflict)?;
+    let mut bound = search.assignment.trail.len();
+    while let Some(place) = analysis.agenda.take_greatest() {
+        deal(analysis, known, search, cut, place)?;
+        bound = place;
+    }
+    analysis.hints.reverse();
+    Ok(())
+}
+
+/// Begins with the clause whose literals are all false.
+fn begin(
+    analysis: &mut Analysis,
+    known: &Known,
+    search: &Search,
+    conflict: usize,
+) -> Result<Cut, AllocError>
+    requires { IsInConflict (clauses_in known.now) conflict search.now }
+    ensures { IfOk result (λ cut. IsTracing (clauses_in known.now) search.now cut analysis.new.agenda
+        analysis.new.picked.items (length search.now.assignment.trail.items) analysis.new.hints.items) }
+{
+    analysis.agenda.clear();
+    analysis.picked.clear();
+    analysis.hints.clear();
+    analysis.hints.push(conflict)?;
+    let size = search.assignment.trail.len();
+    let clause = known.clause(conflict);
+    note(
+        &mut analysis.agenda,
+        &search.assignment.places,
+        clause,
+        size,
+    )?;
+    Ok(cut_at(search, &analysis.agenda))
 }

@@ -1,5 +1,5 @@
 -- How a conflict is traced back to what was chosen.
-use Rattle.std.specs.Prelude.{◌≡◌, ◌≢◌, ◌⊎◌, ◌↔◌, ◌+◌, ◌<◌, ◌≤◌, ℕ, List, [], Option, Some, None, length, map, reverse, slice_index_or, Contains}
+use Rattle.std.specs.Prelude.{◌≡◌, ◌≢◌, ◌⊎◌, ◌↔◌, ◌+◌, ◌-◌, ◌<◌, ◌≤◌, ℕ, List, [], Option, Some, None, length, map, reverse, slice_index_or, Contains}
 use Rattle.std.specs.List.{All}
 use Rattle.bt_cnf.specs.declared.literal.Lit.{Lit}
 use Rattle.bt_log.specs.Units.{opposite, UnitsRefute}
@@ -93,3 +93,15 @@ pub record IsLearnable (all : List (List Lit)) (s : Search) (picked hints : List
   pub known : 0 < length picked → level < length s.starts.items
   pub first : 0 < length picked → start_of s level ≤ slice_index_or picked 0 0
   pub rest : (i : ℕ) → 0 < i → i < length picked → slice_index_or picked i 0 < start_of s level
+
+-- a conflict is cut at the level of its greatest place
+pub record IsCut (s : Search) (agenda : List ℕ) (cut : Cut) : Type 0 where
+  pub root : cut.root ≡ start_of s 0
+  pub cuts : IsGrounded s agenda [] ⊎ IsLevelled s cut agenda []
+
+-- all on the agenda is before the level of this number, counted from 1 on, ends, and where there is such a level, one
+-- place isn't before it begins
+pub record IsTopLevel (s : Search) (agenda : List ℕ) (level : ℕ) : Type 0 where
+  pub within : level ≤ length s.starts.items
+  pub under : (k : ℕ) → Contains agenda k → k < start_of s level
+  pub reached : 0 < level → Reaches agenda (start_of s (level - 1))

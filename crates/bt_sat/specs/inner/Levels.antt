@@ -1,5 +1,5 @@
 -- Levels: what was true before each choice.
-use Rattle.std.specs.Prelude.{◌≡◌, ◌<◌, ℕ, List, length, take, slice_index_or, Contains}
+use Rattle.std.specs.Prelude.{◌≡◌, ◌<◌, ◌≤◌, ℕ, List, length, take, slice_index_or, Contains}
 use Rattle.std.specs.List.{All}
 use Rattle.bt_cnf.specs.declared.literal.Lit.{Lit}
 use Rattle.bt_log.specs.Validity.{clause_at}
@@ -69,3 +69,9 @@ pub record GoesBack (level : ℕ) (old new : Search) : Type 0 where
   pub clauses : new.clauses ≡ old.clauses
   pub watchers : new.watchers ≡ old.watchers
   pub numbers : new.numbers ≡ old.numbers
+
+-- so many levels begin at a place or before it
+pub record IsLevelOf (starts : List ℕ) (place level : ℕ) : Type 0 where
+  pub within : level ≤ length starts
+  pub before : (j : ℕ) → j < level → slice_index_or starts j 0 ≤ place
+  pub after : (j : ℕ) → level ≤ j → j < length starts → place < slice_index_or starts j 0
