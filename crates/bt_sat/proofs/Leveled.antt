@@ -45,17 +45,17 @@ held_kept s clause (alone l among only true_l) = kept.alone l among only (take_i
 
 -- going back
 module _ (all : List (List Lit)) (old new : Search) (level : ℕ) (ordered : IsOrdered all old) (back : GoesBack level old new) where
-  size : length new.assignment.trail.items ≡ start_of old level
+  pub size : length new.assignment.trail.items ≡ start_of old level
   size = ap length back.forgets.trail ∙ length-take-le (start_of old level) old.assignment.trail.items (start_within old ordered.levels level)
 
-  count : length new.starts.items ≡ min level (length old.starts.items)
+  pub count : length new.starts.items ≡ min level (length old.starts.items)
   count = ap length back.starts ∙ length-take level old.starts.items
 
-  lit_same : (k : ℕ) → k < length new.assignment.trail.items → lit_at new.assignment.trail.items k ≡ lit_at old.assignment.trail.items k
+  pub lit_same : (k : ℕ) → k < length new.assignment.trail.items → lit_at new.assignment.trail.items k ≡ lit_at old.assignment.trail.items k
   lit_same k small = ap (λ ts. lit_at ts k) back.forgets.trail ∙ get_or-take (start_of old level) old.assignment.trail.items k no_lit (omega (arith, small, size))
 
   -- a level that is left begins where it began
-  start_same : (j : ℕ) → j < length new.starts.items → start_of new j ≡ start_of old j
+  pub start_same : (j : ℕ) → j < length new.starts.items → start_of new j ≡ start_of old j
   start_same j small =
       let low : j < level = omega (arith, small, count) in
       let inside : j < length old.starts.items = omega (arith, small, count) in
@@ -71,7 +71,7 @@ module _ (all : List (List Lit)) (old new : Search) (level : ℕ) (ordered : IsO
         | inr none ↦ omega (arith, ordered.levels.within j inside, past old.starts.items level (length old.assignment.trail.items) none)
       ]
 
-  front_same : (j : ℕ) → j < length new.starts.items → front_of new j ≡ front_of old j
+  pub front_same : (j : ℕ) → j < length new.starts.items → front_of new j ≡ front_of old j
   front_same j small =
       ap (λ n. take n new.assignment.trail.items) (start_same j small) ∙ ap (take (start_of old j)) back.forgets.trail
       ∙ take_take (start_of old j) (start_of old level) old.assignment.trail.items (omega (arith, below_level j small))

@@ -1,5 +1,7 @@
 pub mod Adding
+pub mod Adopted
 pub mod Advancing
+pub mod Asserted
 pub mod Attended
 pub mod Back
 pub mod Cutting

@@ -1,6 +1,7 @@
 -- How the search keeps its clauses and what is true, which no public clause cites.
 pub mod Agendas
 pub mod Analysing
+pub mod Asserting
 pub mod Assigning
 pub mod Attending
 pub mod AttendingIn

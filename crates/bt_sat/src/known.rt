@@ -1,5 +1,5 @@
 //! The clauses that are known: those of the formula, and those of the log.
-ghost use Rattle.std.specs.Prelude.{◌≡◌, ◌<◌, ◌^◌, length};
+ghost use Rattle.std.specs.Prelude.{◌≡◌, ◌<◌, length, IfOk};
 ghost use Rattle.bt_log.specs.Logs.{clause_of};
 ghost use Rattle.bt_log.specs.Views.{step_of};
 ghost use Rattle.bt_log.specs.Validity.{clause_at};
@@ -7,6 +7,7 @@ ghost use Rattle.bt_sat.specs.inner.Known.{clauses_in};
 
 use bt_cnf::{Formula, Lit};
 use bt_log::{Log, StepView};
+use std::alloc::AllocError;
 
 /// A formula, and the log of the steps that follow it.
 #[derive(Drop)]
@@ -16,12 +17,14 @@ pub struct Known {
 }
 
 impl Known {
-    /// The number of clauses.
-    pub fn len(&self) -> usize
-        requires { length (clauses_in self.now) < 2 ^ 64 }
-        ensures { result ≡ length (clauses_in self.now) }
+    /// The number of the clause that comes next. A number that doesn't fit is want of memory.
+    pub fn next(&self) -> Result<usize, AllocError>
+        ensures { IfOk result (λ number. number ≡ length (clauses_in self.now)) }
     {
-        self.formula.clauses() + self.log.len()
+        match self.formula.clauses().checked_add(self.log.len()) {
+            Some(number) => Ok(number),
+            None => Err(AllocError),
+        }
     }
 
     /// The clause with a number.

@@ -9,6 +9,7 @@ mod kept;
 mod kernel;
 mod known;
 mod law;
+mod learning;
 mod levels;
 mod search;
 mod side;

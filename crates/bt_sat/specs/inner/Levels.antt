@@ -75,3 +75,9 @@ pub record IsLevelOf (starts : List ℕ) (place level : ℕ) : Type 0 where
   pub within : level ≤ length starts
   pub before : (j : ℕ) → j < level → slice_index_or starts j 0 ≤ place
   pub after : (j : ℕ) → level ≤ j → j < length starts → place < slice_index_or starts j 0
+
+-- all places but the first are of literals that are true before this level begins; the second isn't before the level in
+-- front of it; where there is one place alone, the level is the first of all
+pub record IsAssertionLevel (starts picked : List ℕ) (level : ℕ) : Type 0 where
+  pub many : 1 < length picked → IsLevelOf starts (slice_index_or picked 1 0) level
+  pub one : length picked ≤ 1 → level ≡ 0
