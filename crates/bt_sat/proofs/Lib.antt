@@ -8,9 +8,11 @@ pub mod Cutting
 pub mod Deriving
 pub mod Ending
 pub mod Heaps
+pub mod Inferring
 pub mod Keeping
 pub mod Leveled
 pub mod Lists
+pub mod Logging
 pub mod Noting
 pub mod Reasoning
 pub mod Settled

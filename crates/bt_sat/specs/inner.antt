@@ -8,6 +8,7 @@ pub mod AttendingIn
 pub mod Keeping
 pub mod Known
 pub mod Levels
+pub mod Progressing
 pub mod Propagating
 pub mod Reasons
 pub mod Sides

@@ -11,6 +11,7 @@ mod known;
 mod law;
 mod learning;
 mod levels;
+mod progress;
 mod search;
 mod side;
 mod solver;

@@ -55,7 +55,7 @@ fn attend_in(
 }
 
 /// The number of a kept clause.
-fn number_of(numbers: &[usize], id: Id<Watched>) -> Option<usize>
+pub fn number_of(numbers: &[usize], id: Id<Watched>) -> Option<usize>
     ensures { result ≡ slice_get numbers.now id }
 {
     numbers.get(id.place()).copied()
