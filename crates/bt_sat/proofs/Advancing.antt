@@ -54,7 +54,7 @@ neither (Some false) true not_true not_false = absurd (not_false refl)
 neither (Some false) false not_true not_false = absurd (not_true refl)
 
 -- the trail is longer by one, and one variable fewer is unset
-room_kept : (old now : Assignment) (l : Lit) (reason : Option ℕ) → Assigns old now l reason → l.var < length old.values → (IsTrueIn old.values l → ⊥) → (IsFalseIn old.values l → ⊥)
+pub room_kept : (old now : Assignment) (l : Lit) (reason : Option ℕ) → Assigns old now l reason → l.var < length old.values → (IsTrueIn old.values l → ⊥) → (IsFalseIn old.values l → ⊥)
     → unset now.values + length now.trail.items ≡ unset old.values + length old.trail.items
 room_kept old now l reason assigns below not_true not_false =
     let less = unset_less old.values l.var l.positive below (neither (get_or old.values l.var None) l.positive not_true not_false) in

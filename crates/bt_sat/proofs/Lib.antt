@@ -4,6 +4,7 @@ pub mod Advancing
 pub mod Asserted
 pub mod Attended
 pub mod Back
+pub mod Chosen
 pub mod Cutting
 pub mod Deriving
 pub mod Ending

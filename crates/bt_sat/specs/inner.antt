@@ -5,6 +5,7 @@ pub mod Asserting
 pub mod Assigning
 pub mod Attending
 pub mod AttendingIn
+pub mod Choices
 pub mod Keeping
 pub mod Known
 pub mod Levels

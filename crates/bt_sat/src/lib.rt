@@ -5,6 +5,8 @@ mod agenda;
 mod analysis;
 mod assignment;
 mod choosers;
+mod choosing;
+mod descent;
 mod kept;
 mod kernel;
 mod known;
