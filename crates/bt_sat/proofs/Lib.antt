@@ -9,6 +9,7 @@ pub mod Cutting
 pub mod Deriving
 pub mod Ending
 pub mod Heaps
+pub mod Hunted
 pub mod Inferring
 pub mod Keeping
 pub mod Leveled
@@ -16,6 +17,7 @@ pub mod Lists
 pub mod Logging
 pub mod Noting
 pub mod Reasoning
+pub mod Served
 pub mod Settled
 pub mod Sides
 pub mod Visiting

@@ -6,6 +6,7 @@ pub mod Assigning
 pub mod Attending
 pub mod AttendingIn
 pub mod Choices
+pub mod Hunting
 pub mod Keeping
 pub mod Known
 pub mod Levels
@@ -13,6 +14,7 @@ pub mod Progressing
 pub mod Propagating
 pub mod Reasons
 pub mod Sides
+pub mod Telling
 pub mod Truths
 pub mod Visits
 pub mod Watchers

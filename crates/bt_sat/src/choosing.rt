@@ -1,5 +1,5 @@
 //! Choosing what to set next.
-ghost use Rattle.std.specs.Prelude.{◌≡◌, ◌<◌, length, map, OnOk, IfOk, None};
+ghost use Rattle.std.specs.Prelude.{◌≡◌, ◌<◌, length, map, OnOk, IfOk, None, vec_len};
 ghost use Rattle.bt_cnf.specs.Choosing.{Ascends};
 ghost use Rattle.bt_sat.specs.inner.Choices.{AddsUnset, AreUnset, BeginsLevel, Decides};
 ghost use Rattle.bt_sat.specs.inner.Progressing.{IsRunning};
@@ -37,11 +37,12 @@ fn add_unset(unset: &mut Vec<Var>, values: &Values, place: usize) -> Result<(), 
 }
 
 /// Asks the chooser that serves. Where there is none, the lowest variable is set to false.
-fn ask<C: Chooser>(choosers: &mut [C], unset: &[Var]) -> Pick
+fn ask<C: Chooser>(choosers: &mut Vec<C>, unset: &[Var]) -> Pick
     requires some { 0 < length unset.now }
     requires ascending { Ascends unset.now }
     ensures in_range { result.place < length unset.now }
-    ensures same { map C.told_lengths choosers.new ≡ map C.told_lengths choosers.old }
+    ensures same { map C.told_lengths choosers.new.items ≡ map C.told_lengths choosers.old.items }
+    ensures count { vec_len choosers.new ≡ vec_len choosers.old }
 {
     if choosers.is_empty() {
         return Pick {
@@ -65,13 +66,14 @@ fn begin_level(search: &mut Search, lit: &Lit) -> Result<(), AllocError>
 /// Chooses a variable and a value, where a variable has none.
 pub fn decide<C: Chooser>(
     progress: &mut Progress,
-    choosers: &mut [C],
+    choosers: &mut Vec<C>,
 ) -> Result<bool, AllocError>
     requires running { IsRunning progress.old }
     requires none { progress.old.conflict ≡ None }
     requires settled { progress.old.settled ≡ length progress.old.search.assignment.trail.items }
     ensures decides { IfOk result (Decides progress.old progress.new) }
-    ensures same { map C.told_lengths choosers.new ≡ map C.told_lengths choosers.old }
+    ensures same { map C.told_lengths choosers.new.items ≡ map C.told_lengths choosers.old.items }
+    ensures count { vec_len choosers.new ≡ vec_len choosers.old }
 {
     list_unset(&mut progress.unset, &progress.search.assignment.values)?;
     if progress.unset.is_empty() {

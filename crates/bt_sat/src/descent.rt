@@ -1,5 +1,5 @@
 //! Going down from choice to choice.
-ghost use Rattle.std.specs.Prelude.{◌≡◌, map, IfOk, None};
+ghost use Rattle.std.specs.Prelude.{◌≡◌, map, IfOk, None, vec_len};
 ghost use Rattle.bt_sat.specs.inner.Choices.{Descends};
 ghost use Rattle.bt_sat.specs.inner.Progressing.{IsRunning};
 
@@ -12,11 +12,12 @@ use std::alloc::AllocError;
 /// value. Tells such a clause.
 pub fn descend<C: Chooser>(
     progress: &mut Progress,
-    choosers: &mut [C],
+    choosers: &mut Vec<C>,
 ) -> Result<Option<usize>, AllocError>
     requires { IsRunning progress.old }
     ensures descends { IfOk result (Descends progress.old progress.new) }
-    ensures same { map C.told_lengths choosers.new ≡ map C.told_lengths choosers.old }
+    ensures same { map C.told_lengths choosers.new.items ≡ map C.told_lengths choosers.old.items }
+    ensures count { vec_len choosers.new ≡ vec_len choosers.old }
 {
     while progress.conflict.is_none() {
         infer(progress)?;

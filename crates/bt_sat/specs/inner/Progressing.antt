@@ -1,5 +1,5 @@
 -- A search in progress.
-use Rattle.std.specs.Prelude.{◌≡◌, ◌<◌, ◌≤◌, ◌+◌, ℕ, List, [], ◌∷◌, ◌++◌, Option, Some, None, length}
+use Rattle.std.specs.Prelude.{◌≡◌, ◌<◌, ◌≤◌, ◌+◌, ◌^◌, ℕ, List, [], ◌∷◌, ◌++◌, Option, Some, None, length}
 use Rattle.bt_cnf.specs.declared.literal.Lit.{Lit}
 use Rattle.bt_log.specs.Logs.{Step, Learnt, LogParts}
 use Rattle.bt_log.specs.Validity.{AreValid, IsValidStep}
@@ -43,14 +43,19 @@ pub record LogsStep (old new : Known) (step : Step) : Type 0 where
   pub formula : new.formula ≡ old.formula
   pub log : new.log ≡ record { first = old.log.first; steps = old.log.steps ++ step ∷ [] }
 
+-- the log has room for a step, and its steps can be counted
+pub record HasRoom (p : Progress) : Type 0 where
+  pub room : length p.known.log.steps < p.limit
+  pub counts : length p.known.log.steps + 1 < 2 ^ 64
+
 -- what comes of a conflict: a clause was learnt and the search goes on, or it is the empty clause, or the log has no
 -- room for it
 abbrev pub Teaches : Progress → Progress → Taught → Type 0
 Teaches old new Goes =
-    IsRunning new × (new.conflict ≡ None) × (length old.known.log.steps < old.limit) × (new.limit ≡ old.limit) × (new.served ≡ old.served)
+    IsRunning new × (new.conflict ≡ None) × HasRoom old × (new.limit ≡ old.limit) × (new.served ≡ old.served)
     × ((hints : List ℕ) × LogsStep old.known new.known (Learnt new.lesson.lits.items hints) × IsNextStep old.known (Learnt new.lesson.lits.items hints))
 Teaches old new Refutes =
-    (new.limit ≡ old.limit) × (new.served ≡ old.served) × (length old.known.log.steps < old.limit) × (new.lesson.lits.items ≡ [])
+    (new.limit ≡ old.limit) × (new.served ≡ old.served) × HasRoom old × (new.lesson.lits.items ≡ [])
     × ((hints : List ℕ) × LogsStep old.known new.known (Learnt [] hints) × IsNextStep old.known (Learnt [] hints))
 Teaches old new Lacks =
     (new.known ≡ old.known) × (new.limit ≡ old.limit) × (new.served ≡ old.served) × (length old.known.log.steps ≡ old.limit)

@@ -26,8 +26,7 @@ returns-clause-decides g c =
     let is = c.in_ok-list_unset.ensures.are c.index.result.now (place, inside, sym c.index.ensures) in
     let was : IsReady all p.settled p.search = subst (Stands all p.settled p.search) c.requires.none c.requires.running.stands in
     let ready : IsReady all (length p.search.assignment.trail.items) p.search = subst (λ n. IsReady all n p.search) c.requires.settled was in
-    let now = Chosen.level_ready all p.search c.begin_level.new.search l c.in_ok-begin_level.ensures ready is.0 is.1 in
-    (
+    let now = Chosen.level_ready all p.search c.begin_level.new.search l c.in_ok-begin_level.ensures ready is.0 is.1 in (
       record { known = refl; limit = refl; served = refl },
       record {
         logged = c.requires.running.logged;

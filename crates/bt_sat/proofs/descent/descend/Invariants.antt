@@ -1,4 +1,4 @@
-use Rattle.std.proofs.Common.{◌≡◌, map, cond, ◌+◌}
+use Rattle.std.proofs.Common.{◌≡◌, map, ◌+◌, vec_len}
 use Rattle.bt_sat.specs.inner.Choices.{KeepsLog}
 use Rattle.bt_sat.specs.inner.Progressing.{IsRunning}
 use Rattle.bt_sat.specs.inner.Truths.{unset}
@@ -8,7 +8,8 @@ abbrev pub invariant-loop-progress : goal.invariant-loop-progress
 invariant-loop-progress g l = record {
   keeps : KeepsLog l.fn.progress l.progress;
   running : IsRunning l.progress;
-  same : map g.C.Chooser.told_lengths l.choosers ≡ map g.C.Chooser.told_lengths l.fn.choosers;
+  same : map g.C.Chooser.told_lengths l.choosers.items ≡ map g.C.Chooser.told_lengths l.fn.choosers.items;
+  count : vec_len l.choosers ≡ vec_len l.fn.choosers;
 }
 
 abbrev pub decreases-loop-progress : goal.decreases-loop-progress

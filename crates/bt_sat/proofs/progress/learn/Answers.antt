@@ -1,4 +1,4 @@
-use Rattle.std.proofs.Common.{◌≡◌, ◌<◌, ◌≤◌, ℕ, [], ◌∷◌, ◌++◌, length, arith, refl, sym, subst, ap, ◌∙◌}
+use Rattle.std.proofs.Common.{◌≡◌, ◌<◌, ◌≤◌, ◌+◌, ◌^◌, ℕ, [], ◌∷◌, ◌++◌, length, arith, refl, sym, subst, ap, ◌∙◌}
 use Rattle.std.proofs.lemmas.Bool.Decides.{nat_tests}
 use Rattle.bt_log.specs.Logs.{Learnt}
 use Rattle.bt_sat.specs.inner.Asserting.{IsPrepared}
@@ -32,7 +32,8 @@ returns c =
       log = c.in_ok-add_learnt-2.ensures ∙ Logging.same_learnt p.known.log c.deref-3.result.now lits c.deref-4.result.now hints c.deref-3.ensures.value c.deref-4.ensures.value;
     } in
     let room : length p.known.log.steps < p.limit = omega (arith, c.requires.running.logged.within, c.len.ensures, c.if-len-progress.false) in
-    let size : length s.assignment.trail.items ≡ c.len-progress.result = omega (arith, c.len-progress.ensures) in (
+    let size : length s.assignment.trail.items ≡ c.len-progress.result = omega (arith, c.len-progress.ensures) in
+    let counts : length p.known.log.steps + 1 < 2 ^ 64 = omega (arith, room) in (
       record {
         logged = Logging.logged_push p.known (record { formula = p.known.formula; log = c.add_learnt-2.new.self }) p.limit (Learnt lits hints) c.requires.running.logged logs next (Logging.not_empty lits some) room;
         variables = c.in_ok-adopt.ensures.same ∙ is.variables;
@@ -41,7 +42,7 @@ returns c =
             (subst (λ n. IsReady (all ++ lits ∷ []) n c.adopt.new.search) size (subst (λ ls. IsReady (all ++ ls ∷ []) (length s.assignment.trail.items) c.adopt.new.search) c.deref-2.ensures.value c.in_ok-adopt.ensures.ready));
       },
       refl,
-      room,
+      record { room = room; counts = counts },
       refl,
       refl,
       (hints, logs, next),
