@@ -1,10 +1,12 @@
 -- What one visit makes of the search.
 use Rattle.std.proofs.Common.{◌≡◌, ℕ, ◌<◌, ◌+◌, arith, List, [], ◌∷◌, ◌++◌, length, get_or, sym, subst, refl, ap, ◌∙◌, Some, None, length-set, length-append, get_or-set_same, append-nil, Bool, true, false, not, Option, zero, suc, append_assoc}
-use Rattle.std.specs.Prelude.{Contains, IsPermutation, slice_set}
+use Rattle.std.specs.Prelude.{Contains, IsPermutation, slice_get, slice_set}
 use Rattle.std.specs.List.{All}
-use Rattle.std.proofs.lemmas.List.Elements.{All-nil}
+use Rattle.std.specs.Global.{Vec}
+use Rattle.std.proofs.lemmas.List.{get_or_default}
+use Rattle.std.proofs.lemmas.List.Elements.{All-contains, All-nil, All-set, Contains-append_left}
 use Rattle.bt_sat.proofs.Lists.{none_in}
-use Rattle.std.proofs.lemmas.List.Sorted.{IsPermutation-refl, IsPermutation-trans}
+use Rattle.std.proofs.lemmas.List.Sorted.{Contains-permutation, IsPermutation-refl, IsPermutation-sym, IsPermutation-trans}
 use Rattle.bt_cnf.specs.declared.literal.Lit.{Lit}
 use Rattle.bt_sat.specs.declared.assignment.Assignment.{Assignment}
 use Rattle.bt_sat.specs.declared.search.Search.{Search}
@@ -13,13 +15,27 @@ use Rattle.bt_sat.specs.declared.watched.Visit.TheVariants as visit
 use Rattle.bt_sat.specs.inner.Assigning.{Assigns}
 use Rattle.bt_sat.specs.inner.Attending.{no_lit, first, second}
 use Rattle.bt_sat.specs.inner.AttendingIn.{AttendsIn}
-use Rattle.bt_sat.specs.inner.Keeping.{IsWatchable, kept_at, IsVisiting, AreWatched, AreTrue}
+use Rattle.bt_log.specs.Validity.{clause_at}
+use Rattle.bt_sat.specs.inner.Keeping.{IsWatchable, kept_at, IsAtRest, IsVisiting, AreWatched, AreTrue}
+use Rattle.bt_sat.specs.inner.Reasons.{AreSame, AreNumbered, AreReasons, IsReasoned}
 use Rattle.bt_sat.specs.inner.Propagating.{GoesOn, Visiting, Advances}
 use Rattle.bt_sat.specs.inner.Truths.{IsTrueIn, IsFalseIn, unset}
 use Rattle.bt_sat.specs.inner.Watchers.{watchers, Watches, Unwatches}
 use Rattle.bt_sat.specs.inner.WatchersParts.{WatchersParts}
-use Rattle.bt_sat.proofs.Keeping.{watchable_kept, watched_kept, kept_set}
-use Rattle.bt_sat.proofs.Visiting.{done_none, done_true, goes_on, grows, keeps, moves, strays}
+use Rattle.bt_sat.proofs.Keeping.{rest_kept, rest_left, watchable_kept, watched_kept, kept_set}
+use Rattle.bt_sat.proofs.Reasoning.{got_none, reasons_more, unit_reason}
+use Rattle.bt_sat.proofs.Visiting.{all_more, done_none, done_true, goes_on, grows, keeps, moves, strays}
+
+-- each item of a list is among them
+pub all_here : {X : Type 0} (xs : List X) → All (Contains xs) xs
+all_here xs k d small = (k, small, get_or_default xs k _ d small)
+
+-- the same literals in another order
+pub same_permuted : (clause old new : List Lit) → AreSame clause old → IsPermutation old new → AreSame clause new
+same_permuted clause old new same permuted l = (
+  (λ among. Contains-permutation old new l permuted ((same l).0 among)),
+  (λ among. (same l).1 (Contains-permutation new old l (IsPermutation-sym old new permuted) among)),
+)
 
 -- an unset variable that is set
 unset_less : (values : List (Option Bool)) (var : ℕ) (value : Bool) → var < length values → get_or values var None ≡ None → unset (slice_set values var (Some value)) + 1 ≡ unset values
@@ -38,9 +54,9 @@ neither (Some false) true not_true not_false = absurd (not_false refl)
 neither (Some false) false not_true not_false = absurd (not_true refl)
 
 -- the trail is longer by one, and one variable fewer is unset
-room_kept : (old now : Assignment) (l : Lit) → Assigns old now l → l.var < length old.values → (IsTrueIn old.values l → ⊥) → (IsFalseIn old.values l → ⊥)
+pub room_kept : (old now : Assignment) (l : Lit) (reason : Option ℕ) → Assigns old now l reason → l.var < length old.values → (IsTrueIn old.values l → ⊥) → (IsFalseIn old.values l → ⊥)
     → unset now.values + length now.trail.items ≡ unset old.values + length old.trail.items
-room_kept old now l assigns below not_true not_false =
+room_kept old now l reason assigns below not_true not_false =
     let less = unset_less old.values l.var l.positive below (neither (get_or old.values l.var None) l.positive not_true not_false) in
     let longer : length now.trail.items ≡ length old.trail.items + 1 = ap length assigns.trail ∙ length-append old.trail.items (l ∷ []) in
     let fewer : unset now.values + 1 ≡ unset old.values = ap (λ vs. unset vs + 1) assigns.values ∙ less in
@@ -50,8 +66,14 @@ room_kept old now l assigns below not_true not_false =
 goes : (old : Search) (assignment : Assignment) (w : WatchersParts) (clauses : List (List Lit)) (id : ℕ) (new more : List Lit) → id < length old.clauses → clauses ≡ slice_set old.clauses id new
     → IsPermutation (kept_at old.clauses id) new → assignment.trail.items ≡ old.assignment.trail.items ++ more → length assignment.values ≡ length old.assignment.values
     → unset assignment.values + length assignment.trail.items ≡ unset old.assignment.values + length old.assignment.trail.items
-    → GoesOn old (record { assignment = assignment; clauses = clauses; watchers = w })
-goes old assignment w clauses id new more below one permuted trail variables room = record {
+    → ((all : List (List Lit)) → AreNumbered all old → IsReasoned all old → AreReasons all old.starts.items assignment)
+    → ((front : List Lit) → All (Contains old.assignment.trail.items) front → IsAtRest front front (kept_at old.clauses id) → IsAtRest front front new)
+    → GoesOn old (record { assignment = assignment; clauses = clauses; watchers = w; numbers = old.numbers; starts = old.starts })
+goes old assignment w clauses id new more below one permuted trail variables room reasoned rests = record {
+  numbers = refl;
+  starts = refl;
+  reasoned = reasoned;
+  rests = λ front inside rest. subst (All (IsAtRest front front)) (sym one) (All-set (IsAtRest front front) old.clauses id new (rests front inside (rest id [] below)) rest);
   more = more;
   trail = trail;
   variables = variables;
@@ -65,10 +87,11 @@ goes old assignment w clauses id new more below one permuted trail variables roo
 module _ (old : Search) (gone : Lit) (place id : ℕ) (clauses : List (List Lit)) (below : id < length old.clauses) (is_old : IsWatchable (length old.assignment.values) (kept_at old.clauses id))
     (inside : place < length (watchers old.watchers gone)) (is : get_or (watchers old.watchers gone) place 0 ≡ id) where
   pub stays : AttendsIn old.assignment.values gone id old.clauses clauses visit.Stays
-      → Advances gone place old (record { assignment = old.assignment; clauses = clauses; watchers = old.watchers }) attended.Stays
+      → Advances gone place old (record { assignment = old.assignment; clauses = clauses; watchers = old.watchers; numbers = old.numbers; starts = old.starts }) attended.Stays
   stays at =
       let kept = at.attends.0 in (
-        goes old old.assignment old.watchers clauses id at.clause [] below at.one kept.permuted (sym (append-nil old.assignment.trail.items)) refl refl,
+        goes old old.assignment old.watchers clauses id at.clause [] below at.one kept.permuted (sym (append-nil old.assignment.trail.items)) refl refl (λ all numbered are. are)
+            (λ front inside_front rest. rest_kept front front (kept_at old.clauses id) at.clause rest kept),
         refl,
         λ part v.
             subst (λ cs. IsVisiting part gone (place + 1) old.assignment.values old.assignment.trail.items cs old.watchers) (sym at.one)
@@ -77,16 +100,21 @@ module _ (old : Search) (gone : Lit) (place id : ℕ) (clauses : List (List Lit)
             (watchable_kept (length old.assignment.values) (kept_at old.clauses id) at.clause is_old kept).differ at.attends.1 at.attends.2)),
       )
 
-  pub forces : (l : Lit) (now : Assignment) → AttendsIn old.assignment.values gone id old.clauses clauses (visit.Forces l) → Assigns old.assignment now l
-      → Advances gone place old (record { assignment = now; clauses = clauses; watchers = old.watchers }) attended.Stays
-  forces l now at assigns =
+  pub forces : (l : Lit) (now : Assignment) (reason : Option ℕ) → AreTrue old.assignment.values old.assignment.trail.items → reason ≡ slice_get old.numbers.items id
+      → AttendsIn old.assignment.values gone id old.clauses clauses (visit.Forces l) → Assigns old.assignment now l reason
+      → Advances gone place old (record { assignment = now; clauses = clauses; watchers = old.watchers; numbers = old.numbers; starts = old.starts }) attended.Stays
+  forces l now reason truths number at assigns =
       let kept = at.attends.0 in
       let leaves = at.attends.2 in
       let good = watchable_kept (length old.assignment.values) (kept_at old.clauses id) at.clause is_old kept in
       let inside_l : l.var < length old.assignment.values = subst (λ (m : Lit). m.var < length old.assignment.values) leaves.stands (good.below 0 no_lit (omega (arith, good.two))) in
       let after = slice_set old.assignment.values l.var (Some l.positive) in (
         goes old now old.watchers clauses id at.clause (l ∷ []) below at.one kept.permuted assigns.trail (ap length assigns.values ∙ length-set old.assignment.values l.var (Some l.positive))
-            (room_kept old.assignment now l assigns inside_l leaves.not_true leaves.not_false),
+            (room_kept old.assignment now l reason assigns inside_l leaves.not_true leaves.not_false)
+            (λ all numbered are. reasons_more all old.starts.items old.assignment now l reason assigns truths inside_l leaves.not_true leaves.not_false
+            (λ n is_some. unit_reason all old id at.clause l n numbered truths below kept (omega (arith, good.two)) leaves (sym number ∙ is_some))
+            (λ is_none. absurd (got_none old.numbers.items id (sym number ∙ is_none) (subst (λ n. id < n) (sym numbered.count) below))) are)
+            (λ front inside_front rest. rest_kept front front (kept_at old.clauses id) at.clause rest kept),
         refl,
         λ part v.
             let v' = grows part gone place old.assignment.values old.assignment.trail.items old.clauses old.watchers l v inside_l leaves.not_true leaves.not_false in
@@ -99,13 +127,15 @@ module _ (old : Search) (gone : Lit) (place id : ℕ) (clauses : List (List Lit)
             (done_true after (old.assignment.trail.items ++ l ∷ []) gone at.clause v'.truths good.differ at.attends.1 true_first)))),
       )
 
-  pub leaves : (l : Lit) (w₁ w₂ : WatchersParts) → IsFalseIn old.assignment.values gone → AttendsIn old.assignment.values gone id old.clauses clauses (visit.Moves l) → Watches old.watchers w₁ l id
-      → Unwatches w₁ w₂ gone place → Advances gone place old (record { assignment = old.assignment; clauses = clauses; watchers = w₂ }) attended.Leaves
-  leaves l w₁ w₂ false_gone at one un =
+  pub leaves : (l : Lit) (w₁ w₂ : WatchersParts) → AreTrue old.assignment.values old.assignment.trail.items → IsFalseIn old.assignment.values gone → AttendsIn old.assignment.values gone id old.clauses clauses (visit.Moves l) → Watches old.watchers w₁ l id
+      → Unwatches w₁ w₂ gone place → Advances gone place old (record { assignment = old.assignment; clauses = clauses; watchers = w₂; numbers = old.numbers; starts = old.starts }) attended.Leaves
+  leaves l w₁ w₂ truths false_gone at one un =
       let left = at.attends.0 in
       let now = at.attends.1 in
       let same : watchers w₁ gone ≡ watchers old.watchers gone = one.one.others gone (λ e. now.not_false (subst (IsFalseIn old.assignment.values) e false_gone)) in (
-        goes old old.assignment w₂ clauses id at.clause [] below at.one left.permuted (sym (append-nil old.assignment.trail.items)) refl refl,
+        goes old old.assignment w₂ clauses id at.clause [] below at.one left.permuted (sym (append-nil old.assignment.trail.items)) refl refl (λ all numbered are. are)
+            (λ front inside_front rest. rest_left old.assignment.values front front gone (kept_at old.clauses id) at.clause l
+            (λ m h. truths.true_in m (All-contains (Contains old.assignment.trail.items) front m inside_front h)) (all_here front) false_gone rest left now),
         un.without.size ∙ ap length same,
         λ part v.
             subst (λ cs. IsVisiting part gone place old.assignment.values old.assignment.trail.items cs w₂) (sym at.one)
@@ -113,11 +143,12 @@ module _ (old : Search) (gone : Lit) (place id : ℕ) (clauses : List (List Lit)
       )
 
   pub strayed : (w : WatchersParts) → AttendsIn old.assignment.values gone id old.clauses clauses visit.Strays → Unwatches old.watchers w gone place
-      → Advances gone place old (record { assignment = old.assignment; clauses = clauses; watchers = w }) attended.Leaves
+      → Advances gone place old (record { assignment = old.assignment; clauses = clauses; watchers = w; numbers = old.numbers; starts = old.starts }) attended.Leaves
   strayed w at un =
       let kept = at.attends.0 in
       let here : kept_at (slice_set old.clauses id at.clause) id ≡ at.clause = get_or-set_same old.clauses id at.clause [] below in (
-        goes old old.assignment w clauses id at.clause [] below at.one kept.permuted (sym (append-nil old.assignment.trail.items)) refl refl,
+        goes old old.assignment w clauses id at.clause [] below at.one kept.permuted (sym (append-nil old.assignment.trail.items)) refl refl (λ all numbered are. are)
+            (λ front inside_front rest. rest_kept front front (kept_at old.clauses id) at.clause rest kept),
         un.without.size,
         λ part v.
             subst (λ cs. IsVisiting part gone place old.assignment.values old.assignment.trail.items cs w) (sym at.one)
@@ -128,10 +159,11 @@ module _ (old : Search) (gone : Lit) (place id : ℕ) (clauses : List (List Lit)
       )
 
   pub fails : AttendsIn old.assignment.values gone id old.clauses clauses visit.Fails
-      → Advances gone place old (record { assignment = old.assignment; clauses = clauses; watchers = old.watchers }) (attended.Fails id)
+      → Advances gone place old (record { assignment = old.assignment; clauses = clauses; watchers = old.watchers; numbers = old.numbers; starts = old.starts }) (attended.Fails id)
   fails at =
       let here : kept_at clauses id ≡ at.clause = ap (λ cs. kept_at cs id) at.one ∙ get_or-set_same old.clauses id at.clause [] below in (
-        goes old old.assignment old.watchers clauses id at.clause [] below at.one at.attends.0.permuted (sym (append-nil old.assignment.trail.items)) refl refl,
+        goes old old.assignment old.watchers clauses id at.clause [] below at.one at.attends.0.permuted (sym (append-nil old.assignment.trail.items)) refl refl (λ all numbered are. are)
+            (λ front inside_front rest. rest_kept front front (kept_at old.clauses id) at.clause rest at.attends.0),
         (
           subst (λ n. id < n) (sym (ap length at.one ∙ length-set old.clauses id at.clause)) below,
           subst (All (IsFalseIn old.assignment.values)) (sym here) at.attends.1,
@@ -144,6 +176,17 @@ module _ (old : Search) (gone : Lit) (place id : ℕ) (clauses : List (List Lit)
         },
       )
 
+-- the numbers are those of the clauses still
+pub numbered_goes : (all : List (List Lit)) (old new : Search) → GoesOn old new → AreNumbered all old → AreNumbered all new
+numbered_goes all old new goes are =
+    let same : (id : ℕ) → get_or new.numbers.items id 0 ≡ get_or old.numbers.items id 0 = λ id. ap (λ (v : Vec ℕ). get_or v.items id 0) goes.numbers in
+    record {
+      count = ap (λ (v : Vec ℕ). length v.items) goes.numbers ∙ are.count ∙ sym goes.count;
+      below = λ id small. subst (λ n. n < length all) (sym (same id)) (are.below id (subst (λ n. id < n) goes.count small));
+      same = λ id small. subst (λ n. AreSame (clause_at all n) (kept_at new.clauses id)) (sym (same id))
+          (same_permuted (clause_at all (get_or old.numbers.items id 0)) (kept_at old.clauses id) (kept_at new.clauses id) (are.same id (subst (λ n. id < n) goes.count small)) (goes.clauses id));
+    }
+
 -- one visit after the other
 pub goes_twice : (old mid new : Search) → GoesOn old mid → GoesOn mid new → GoesOn old new
 goes_twice old mid new a b = record {
@@ -152,12 +195,18 @@ goes_twice old mid new a b = record {
   variables = b.variables ∙ a.variables;
   count = b.count ∙ a.count;
   room = b.room ∙ a.room;
+  numbers = b.numbers ∙ a.numbers;
+  starts = b.starts ∙ a.starts;
+  reasoned = λ all numbered are. b.reasoned all (numbered_goes all old mid a numbered) (a.reasoned all numbered are);
+  rests = λ front inside rest.
+      b.rests front (all_more (Contains old.assignment.trail.items) (Contains mid.assignment.trail.items) front
+      (λ l among. subst (λ ts. Contains ts l) (sym a.trail) (Contains-append_left old.assignment.trail.items a.more l among)) inside) (a.rests front inside rest);
   clauses = λ id. IsPermutation-trans (kept_at old.clauses id) (kept_at mid.clauses id) (kept_at new.clauses id) (a.clauses id) (b.clauses id);
 }
 
 -- nothing was visited
 pub goes_not : (s : Search) → GoesOn s s
-goes_not s = record { more = []; trail = sym (append-nil s.assignment.trail.items); variables = refl; count = refl; room = refl; clauses = λ id. IsPermutation-refl (kept_at s.clauses id) }
+goes_not s = record { more = []; trail = sym (append-nil s.assignment.trail.items); variables = refl; count = refl; room = refl; numbers = refl; starts = refl; reasoned = λ all numbered are. are; rests = λ front inside rest. rest; clauses = λ id. IsPermutation-refl (kept_at s.clauses id) }
 
 -- nothing is unsettled by no part of the trail
 pub starts : (gone : Lit) (s : Search) → AreWatched (length s.assignment.values) s.clauses s.watchers → AreTrue s.assignment.values s.assignment.trail.items

@@ -33,7 +33,7 @@ apart l e = differ l.positive (ap (λ (m : Lit). m.positive) e)
     differ true e = cc
     differ false e = cc
 
-contains_opposite : (lits : List Lit) (l : Lit) → Contains lits l → Contains (map opposite lits) (opposite l)
+pub contains_opposite : (lits : List Lit) (l : Lit) → Contains lits l → Contains (map opposite lits) (opposite l)
 contains_opposite [] l among = absurd (none_in l among)
 contains_opposite (x ∷ lits) l among =
     elim (first_or x l lits among) [
@@ -41,7 +41,7 @@ contains_opposite (x ∷ lits) l among =
       | inr rest ↦ contains_there (opposite x) (opposite l) (map opposite lits) (contains_opposite lits l rest)
     ]
 
-opposite_in : (lits : List Lit) (l : Lit) → Contains (map opposite lits) l → Contains lits (opposite l)
+pub opposite_in : (lits : List Lit) (l : Lit) → Contains (map opposite lits) l → Contains lits (opposite l)
 opposite_in [] l among = absurd (none_in l among)
 opposite_in (x ∷ lits) l among =
     elim (first_or (opposite x) l (map opposite lits) among) [

@@ -104,10 +104,10 @@ not_both values l true_l false_l = apart l.positive (sym true_l ∙ false_l)
     apart false e = cc
 
 -- nothing is unsettled by a clause that watches another literal now, since the one that it left was false
-pub rest_left : (values : List (Option Bool)) (part trail : List Lit) (gone : Lit) (old new : List Lit) (l : Lit) → AreTrue values trail → All (Contains trail) part → IsFalseIn values gone
+pub rest_left : (values : List (Option Bool)) (part trail : List Lit) (gone : Lit) (old new : List Lit) (l : Lit) → ((m : Lit) → Contains trail m → IsTrueIn values m) → All (Contains trail) part → IsFalseIn values gone
     → IsAtRest part trail old → LeavesOne gone old new → WatchesNow values new l → IsAtRest part trail new
-rest_left values part trail gone old new l truths inside false_gone rest left now =
-    let never : Contains trail gone → ⊥ = λ h. not_both values gone (truths.true_in gone h) false_gone in
+rest_left values part trail gone old new l true_in inside false_gone rest left now =
+    let never : Contains trail gone → ⊥ = λ h. not_both values gone (true_in gone h) false_gone in
     record {
       if_first = λ h. absurd (elim left.pair [
         | inl pair ↦ never (subst (Contains trail) pair.1 (rest.if_first (subst (λ m. Contains part (opposite m)) pair.0 h)))
@@ -115,7 +115,7 @@ rest_left values part trail gone old new l truths inside false_gone rest left no
       ]);
       if_second = λ h.
           let false_l : Contains part (opposite l) = subst (λ m. Contains part (opposite m)) now.stands h in
-          absurd (now.not_false (truths.true_in (opposite l) (All-contains (Contains trail) part (opposite l) inside false_l)));
+          absurd (now.not_false (true_in (opposite l) (All-contains (Contains trail) part (opposite l) inside false_l)));
     }
 
 -- more of the trail

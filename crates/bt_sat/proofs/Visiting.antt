@@ -190,7 +190,7 @@ module _ (part : List Lit) (gone : Lit) (place : ℕ) (values : List (Option Boo
         truths = v.truths;
         rest =
             All-set (IsAtRest part trail) clauses id new
-            (rest_left values part trail gone (kept_at clauses id) new l v.truths v.part_in v.gone_false (v.rest id [] below) left now) v.rest;
+            (rest_left values part trail gone (kept_at clauses id) new l v.truths.true_in v.part_in v.gone_false (v.rest id [] below) left now) v.rest;
         part_in = v.part_in;
         gone_false = v.gone_false;
         done = λ k before small.

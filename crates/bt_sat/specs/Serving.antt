@@ -22,3 +22,7 @@ pub record ServesOn (before : ℕ) (old : List (Option (List ℕ))) (lengths : L
   pub ended : ℕ
   pub epochs : EndsEpochs (length old) before (length lengths) ended after
   pub told : FirstGains (drop ended old) new (drop (EPOCH_STEPS * ended - before) lengths)
+
+-- the epoch isn't full, or no other chooser is left
+abbrev pub IsFair : ℕ → ℕ → Type 0
+IsFair served choosers = (served < EPOCH_STEPS) ⊎ (choosers ≤ 1)

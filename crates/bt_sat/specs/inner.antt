@@ -1,10 +1,20 @@
 -- How the search keeps its clauses and what is true, which no public clause cites.
+pub mod Agendas
+pub mod Analysing
+pub mod Asserting
 pub mod Assigning
 pub mod Attending
 pub mod AttendingIn
+pub mod Choices
+pub mod Hunting
 pub mod Keeping
+pub mod Known
+pub mod Levels
+pub mod Progressing
 pub mod Propagating
+pub mod Reasons
 pub mod Sides
+pub mod Telling
 pub mod Truths
 pub mod Visits
 pub mod Watchers

@@ -1,12 +1,22 @@
 //! A search for models of formulas that learns clauses, and the choosers that it comes with.
 #![tactic(auto)]
 
+mod agenda;
+mod analysis;
 mod assignment;
 mod choosers;
+mod choosing;
+mod descent;
+mod hunt;
 mod kept;
 mod kernel;
+mod known;
 mod law;
+mod learning;
+mod levels;
+mod progress;
 mod search;
+mod serving;
 mod side;
 mod solver;
 mod truth;

@@ -1,5 +1,5 @@
 //! Propagation over watched clauses.
-ghost use Rattle.std.specs.Prelude.{◌≡◌, ◌<◌, ◌≤◌, length, IfOk};
+ghost use Rattle.std.specs.Prelude.{◌≡◌, ◌<◌, ◌≤◌, length, IfOk, OnOk, slice_get};
 ghost use Rattle.bt_sat.specs.inner.Keeping.{AreWatched, AreTrue, IsWatchable, kept_at};
 ghost use Rattle.bt_sat.specs.inner.AttendingIn.{AttendsIn};
 ghost use Rattle.bt_sat.specs.inner.Truths.{IsFalseIn};
@@ -22,6 +22,10 @@ pub struct Search {
     /// The clauses of two or more literals, whose first two are watched.
     pub clauses: Pool<Lit, Watched>,
     pub watchers: Watchers,
+    /// For each of these clauses, its number among those of the formula and of the log.
+    pub numbers: Vec<usize>,
+    /// For each literal that was chosen, its place on the trail. There a level begins.
+    pub starts: Vec<usize>,
 }
 
 /// What became of a clause on the list of a literal that is false.
@@ -50,6 +54,13 @@ fn attend_in(
     attend(clauses.slice_mut(id), gone, values)
 }
 
+/// The number of a kept clause.
+pub fn number_of(numbers: &[usize], id: Id<Watched>) -> Option<usize>
+    ensures { result ≡ slice_get numbers.now id }
+{
+    numbers.get(id.place()).copied()
+}
+
 /// Visits the clause at a place of the list of a literal that is false.
 pub fn attend_at(search: &mut Search, gone: &Lit, place: usize) -> Result<Attended, AllocError>
     requires watched { AreWatched (length search.old.assignment.values)
@@ -73,7 +84,8 @@ pub fn attend_at(search: &mut Search, gone: &Lit, place: usize) -> Result<Attend
             Ok(Attended::Leaves)
         }
         Visit::Forces(lit) => {
-            assign(&mut search.assignment, &lit)?;
+            let reason = number_of(&search.numbers, id);
+            assign(&mut search.assignment, &lit, reason)?;
             Ok(Attended::Stays)
         }
         Visit::Fails => Ok(Attended::Fails(id)),
@@ -119,15 +131,16 @@ pub fn propagate(search: &mut Search, settled: usize) -> Result<Option<Id<Watche
     Ok(None)
 }
 
-/// Keeps a clause of two or more literals, the first two of which it watches.
-pub fn keep(search: &mut Search, lits: &[Lit]) -> Result<Id<Watched>, AllocError>
+/// Keeps the clause with a number, of two or more literals, the first two of which it watches.
+pub fn keep(search: &mut Search, lits: &[Lit], number: usize) -> Result<(), AllocError>
     requires watched { AreWatched (length search.old.assignment.values)
         search.old.clauses search.old.watchers }
     requires watchable { IsWatchable (length search.old.assignment.values) lits.now }
-    ensures { IfOk result (Keeps lits.now search.old search.new) }
+    ensures { OnOk result (Keeps lits.now number search.old search.new) }
 {
     let id = search.clauses.add_slice(lits)?;
     search.watchers.watch(&lits[0], id)?;
     search.watchers.watch(&lits[1], id)?;
-    Ok(id)
+    search.numbers.push(number)?;
+    Ok(())
 }

@@ -1,5 +1,5 @@
 -- Propagation over watched clauses.
-use Rattle.std.specs.Prelude.{◌≡◌, ◌↔◌, ◌+◌, ◌<◌, ◌≤◌, ℕ, Option, Some, None, List, [], ◌∷◌, ◌++◌, length, map, slice_index_or, Contains, IsPermutation}
+use Rattle.std.specs.Prelude.{◌≡◌, ◌+◌, ◌<◌, ◌≤◌, ℕ, Option, Some, None, List, [], ◌∷◌, ◌++◌, length, map, slice_index_or, Contains, IsPermutation}
 use Rattle.std.specs.List.{All}
 use Rattle.bt_cnf.specs.declared.literal.Lit.{Lit}
 use Rattle.bt_log.specs.Units.{opposite}
@@ -8,6 +8,7 @@ use Rattle.bt_sat.specs.declared.search.Search.{Search}
 use Rattle.bt_sat.specs.declared.search.Attended.{Attended}
 use Rattle.bt_sat.specs.declared.search.Attended.TheVariants.{Stays, Leaves, Fails}
 use Rattle.bt_sat.specs.inner.Keeping.{kept_at, AreWatched, AreTrue, IsAtRest, IsVisiting}
+use Rattle.bt_sat.specs.inner.Reasons.{AreSame, AreNumbered, IsReasoned}
 use Rattle.bt_sat.specs.inner.Truths.{IsFalseIn, unset}
 use Rattle.bt_sat.specs.inner.Watchers.{watchers}
 
@@ -19,6 +20,10 @@ pub record GoesOn (old new : Search) : Type 0 where
   pub count : length new.clauses ≡ length old.clauses
   pub clauses : (id : ℕ) → IsPermutation (kept_at old.clauses id) (kept_at new.clauses id)
   pub room : unset new.assignment.values + length new.assignment.trail.items ≡ unset old.assignment.values + length old.assignment.trail.items
+  pub numbers : new.numbers ≡ old.numbers
+  pub starts : new.starts ≡ old.starts
+  pub reasoned : (all : List (List Lit)) → AreNumbered all old → IsReasoned all old → IsReasoned all new
+  pub rests : (front : List Lit) → All (Contains old.assignment.trail.items) front → All (IsAtRest front front) old.clauses → All (IsAtRest front front) new.clauses
 
 -- the clauses are watched, and the trail has what is true
 pub record IsWhole (s : Search) : Type 0 where
@@ -57,10 +62,6 @@ pub record IsSettledTo (head : ℕ) (s : Search) : Type 0 where
   pub covers : (k : ℕ) (d : Lit) → k < head → k < length s.assignment.trail.items → Contains part (slice_index_or s.assignment.trail.items k d)
   pub rest : All (IsAtRest part s.assignment.trail.items) s.clauses
 
--- the same literals, in any order and each however often
-abbrev pub AreSame : List Lit → List Lit → Type 0
-AreSame a b = (l : Lit) → Contains a l ↔ Contains b l
-
 -- where a clause that was given is kept: it is one of the watched ones, or it has one literal alone, once or
 -- repeated, which is true, or it has a variable with both signs
 pub data IsKept (s : Search) (clause : List Lit) : Type 0 where
@@ -79,9 +80,10 @@ Propagates old new None = GoesOn old new × IsSettledTo (length new.assignment.t
     × ((given : List (List Lit)) → All (IsKept old) given → IsSettled given (falses_of new))
 Propagates old new (Some id) = GoesOn old new × FailsAt new id × IsWhole new
 
--- one more clause is watched, with this number, behind the others, and nothing else has changed
-pub record Keeps (lits : List Lit) (old new : Search) (id : ℕ) : Type 0 where
+-- one more clause is watched, behind the others, and its number is known; nothing else has changed
+pub record Keeps (lits : List Lit) (number : ℕ) (old new : Search) : Type 0 where
   pub assignment : new.assignment ≡ old.assignment
+  pub starts : new.starts ≡ old.starts
   pub clauses : new.clauses ≡ old.clauses ++ lits ∷ []
-  pub is_id : id ≡ length old.clauses
+  pub numbers : new.numbers.items ≡ old.numbers.items ++ number ∷ []
   pub watched : AreWatched (length new.assignment.values) new.clauses new.watchers

@@ -1,4 +1,5 @@
-use Rattle.std.proofs.Common.{◌≡◌, ℕ, ◌<◌, arith, List, [], length, get_or, sym, subst, ◌∙◌}
+use Rattle.std.proofs.Common.{◌≡◌, ℕ, ◌<◌, arith, List, [], length, get_or, sym, subst, ap, ◌∙◌}
+use Rattle.std.specs.Prelude.{slice_get}
 use Rattle.std.proofs.lemmas.List.{get_or_default}
 use Rattle.bt_cnf.specs.declared.literal.Lit.{Lit}
 use Rattle.bt_sat.specs.inner.Attending.{no_lit}
@@ -65,7 +66,7 @@ returns-in_ok-watch-in-Moves c =
     let is = stands (watchers old.watchers c.args.gone.now) c.args.place id c.requires.place c.at-id.ensures in
     let below = named_below (length old.assignment.values) old.clauses old.watchers c.args.gone.now c.args.place id c.requires.watched c.requires.place is in
     Advancing.leaves old c.args.gone.now c.args.place id c.attend_in.new.clauses below (c.requires.watched.watchable id [] below) c.requires.place is
-    c.in-Moves.lit c.watch.new.self c.unwatch-in-Moves.new.self c.requires.gone c.in-Moves.ensures c.in_ok-watch-in-Moves.ensures c.unwatch-in-Moves.ensures
+    c.in-Moves.lit c.watch.new.self c.unwatch-in-Moves.new.self c.requires.truths c.requires.gone c.in-Moves.ensures c.in_ok-watch-in-Moves.ensures c.unwatch-in-Moves.ensures
 
 pub assign-requires : goal.assign-requires
 assign-requires c =
@@ -84,7 +85,7 @@ returns-in_ok-assign-in-Forces c =
     let is = stands (watchers old.watchers c.args.gone.now) c.args.place id c.requires.place c.at-id.ensures in
     let below = named_below (length old.assignment.values) old.clauses old.watchers c.args.gone.now c.args.place id c.requires.watched c.requires.place is in
     Advancing.forces old c.args.gone.now c.args.place id c.attend_in.new.clauses below (c.requires.watched.watchable id [] below) c.requires.place is
-    c.in-Forces.lit c.assign.new.assignment c.in-Forces.ensures c.in_ok-assign-in-Forces.ensures
+    c.in-Forces.lit c.assign.new.assignment c.number_of-reason.result c.requires.truths (c.number_of-reason.ensures ∙ ap (λ ns. slice_get ns id) c.deref.ensures.value) c.in-Forces.ensures c.in_ok-assign-in-Forces.ensures
 
 pub returns-in-Fails : goal.returns-in-Fails
 returns-in-Fails c =

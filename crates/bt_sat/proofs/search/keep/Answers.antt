@@ -19,8 +19,9 @@ returns c =
     let two = subst (λ (l : Lit). Watches c.watch.new.self c.watch-2.new.self l id) (sym at_second) c.in_ok-watch-2.ensures in
     record {
       assignment = refl;
+      starts = refl;
       clauses = added.0;
-      is_id = added.1;
+      numbers = c.in_ok-push.ensures.items;
       watched =
           subst (λ cs. AreWatched (length old.assignment.values) cs c.watch-2.new.self) (sym added.0)
           (watched_more (length old.assignment.values) old.clauses old.watchers c.watch.new.self c.watch-2.new.self lits id c.requires.watched c.requires.watchable added.1 one two);

@@ -1,0 +1,352 @@
+-- A clause that is learnt is kept, and its first literal becomes true.
+use Rattle.std.proofs.Common.{◌≡◌, ◌≢◌, ℕ, ◌≤◌, ◌<◌, ◌+◌, ◌⊎◌, inl, inr, arith, Bool, List, [], ◌∷◌, ◌++◌, length, get_or, zero, suc, sym, subst, refl, ap, ◌∙◌, Option, None, Some, length-append, length-set}
+use Rattle.std.specs.Prelude.{Contains, take, slice_set}
+use Rattle.std.specs.List.{All}
+use Rattle.std.specs.Global.{Vec}
+use Rattle.std.proofs.lemmas.List.{get_or_default, get_or_append_left, get_or_push, take-append-le}
+use Rattle.std.proofs.lemmas.List.Elements.{All-contains, All-push, Contains-append_left, Contains-push}
+use Rattle.bt_cnf.specs.declared.literal.Lit.{Lit}
+use Rattle.bt_log.specs.Units.{opposite}
+use Rattle.bt_log.specs.Validity.{clause_at}
+use Rattle.bt_sat.specs.declared.assignment.Assignment.{Assignment}
+use Rattle.bt_sat.specs.declared.search.Search.{Search}
+use Rattle.bt_sat.specs.inner.Asserting.{IsAsserting}
+use Rattle.bt_sat.specs.inner.Assigning.{Assigns}
+use Rattle.bt_sat.specs.inner.Attending.{no_lit, first, second}
+use Rattle.bt_sat.specs.inner.Keeping.{kept_at, AreTrue, AreWatched, IsAtRest, IsWatchable}
+use Rattle.bt_sat.specs.inner.Levels.{start_of, front_of, AreLevels, IsOrdered, IsHeld, among_watched, alone, IsReady}
+use Rattle.bt_sat.specs.inner.Propagating.{IsSettledTo, IsWhole, Keeps}
+use Rattle.bt_sat.specs.inner.Reasons.{AreSame, lit_at, IsReason, AreNumbered, AreReasons}
+use Rattle.bt_sat.specs.inner.Truths.{IsTrueIn, IsFalseIn}
+use Rattle.bt_sat.proofs.Back.{take_all_of, take_in}
+use Rattle.bt_sat.proofs.Cutting.{past}
+use Rattle.bt_sat.proofs.Deriving.{lt_or}
+use Rattle.bt_sat.proofs.Keeping.{not_both, rest_grows, truths_more}
+use Rattle.bt_sat.proofs.Leveled
+use Rattle.bt_sat.proofs.Lists.{nat_or}
+use Rattle.bt_sat.proofs.Reasoning.{lt_or_eq, reasons_more}
+use Rattle.bt_sat.proofs.Settled.{all_of}
+use Rattle.bt_sat.proofs.Visiting.{all_more}
+
+-- a clause keeps its number where one more comes behind
+pub clause_still : (all : List (List Lit)) (lits : List Lit) (n : ℕ) → n < length all → clause_at (all ++ lits ∷ []) n ≡ clause_at all n
+clause_still all lits n small = get_or_append_left all (lits ∷ []) [] n small
+
+pub reason_still : (all : List (List Lit)) (lits : List Lit) (before : List Lit) (l : Lit) (n : ℕ) → IsReason all before l n → IsReason (all ++ lits ∷ []) before l n
+reason_still all lits before l n reason =
+    let same = clause_still all lits n reason.below in
+    record {
+      below = omega (arith, reason.below, length-append all (lits ∷ []));
+      among = subst (λ c. Contains c l) (sym same) reason.among;
+      others = subst (All (λ m. (m ≡ l) ⊎ Contains before (opposite m))) (sym same) reason.others;
+    }
+
+pub reasons_still : (all : List (List Lit)) (lits : List Lit) (starts : List ℕ) (a : Assignment) → AreReasons all starts a → AreReasons (all ++ lits ∷ []) starts a
+reasons_still all lits starts a are = record {
+  counted = are.counted;
+  room = are.room;
+  placed = are.placed;
+  reasons = λ k n small is. reason_still all lits (take k a.trail.items) (lit_at a.trail.items k) n (are.reasons k n small is);
+  chosen = are.chosen;
+}
+
+pub numbered_still : (all : List (List Lit)) (lits : List Lit) (s : Search) → AreNumbered all s → AreNumbered (all ++ lits ∷ []) s
+numbered_still all lits s are = record {
+  count = are.count;
+  below = λ id small. omega (arith, are.below id small, length-append all (lits ∷ []));
+  same = λ id small. subst (λ c. AreSame c (kept_at s.clauses id)) (sym (clause_still all lits (get_or s.numbers.items id 0) (are.below id small))) (are.same id small);
+}
+
+-- the trail has one literal more, which was unset
+module _ (old new : Search) (l : Lit) (reason : Option ℕ) (assigns : Assigns old.assignment new.assignment l reason) (starts : new.starts ≡ old.starts) (clauses : new.clauses ≡ old.clauses) (levels : AreLevels old) where
+  pub longer : length new.assignment.trail.items ≡ length old.assignment.trail.items + 1
+  longer = ap length assigns.trail ∙ length-append old.assignment.trail.items (l ∷ [])
+
+  count : length new.starts.items ≡ length old.starts.items
+  count = ap (λ (v : Vec ℕ). length v.items) starts
+
+  start_same : (j : ℕ) → j < length old.starts.items → start_of new j ≡ start_of old j
+  start_same j small =
+      ap (λ (v : Vec ℕ). get_or v.items j (length new.assignment.trail.items)) starts ∙ get_or_default old.starts.items j (length new.assignment.trail.items) (length old.assignment.trail.items) small
+
+  pub front_longer : (j : ℕ) → j < length old.starts.items → front_of new j ≡ front_of old j
+  front_longer j small =
+      ap (λ n. take n new.assignment.trail.items) (start_same j small) ∙ ap (take (start_of old j)) assigns.trail
+      ∙ take-append-le (start_of old j) old.assignment.trail.items (l ∷ []) (omega (arith, levels.within j small))
+
+  pub levels_longer : AreLevels new
+  levels_longer = record {
+    within = λ j small. omega (arith, start_same j (omega (arith, small, count)), levels.within j (omega (arith, small, count)), longer);
+    ascend = λ i j order small.
+        let small_j : j < length old.starts.items = omega (arith, small, count) in
+        omega (arith, start_same i (omega (arith, order, small_j)), start_same j small_j, levels.ascend i j order small_j);
+    rests = λ j small.
+        let small_old : j < length old.starts.items = omega (arith, small, count) in
+        subst (λ cs. All (IsAtRest (front_of new j) (front_of new j)) cs) (sym clauses)
+        (subst (λ front. All (IsAtRest front front) old.clauses) (sym (front_longer j small_old)) (levels.rests j small_old));
+  }
+
+  pub root_longer : (m : Lit) → Contains (front_of old 0) m → Contains (front_of new 0) m
+  root_longer m among = elim (lt_or 0 (length old.starts.items)) [
+    | inl some ↦ subst (λ front. Contains front m) (sym (front_longer 0 some)) among
+    | inr none ↦
+        let all_new : front_of new 0 ≡ new.assignment.trail.items =
+        take_all_of (start_of new 0) new.assignment.trail.items (omega (arith, past new.starts.items 0 (length new.assignment.trail.items) (omega (arith, none, count)))) in
+        subst (λ front. Contains front m) (sym (all_new ∙ assigns.trail)) (Contains-append_left old.assignment.trail.items (l ∷ []) m (take_in (start_of old 0) old.assignment.trail.items m among))
+  ]
+
+  pub held_longer : (clause : List Lit) → IsHeld old clause → IsHeld new clause
+  held_longer clause (among_watched id small same) =
+      among_watched id (subst (λ cs. id < length cs) (sym clauses) small) (subst (λ cs. AreSame clause (kept_at cs id)) (sym clauses) same)
+  held_longer clause (alone m among only true_m) = alone m among only (root_longer m true_m)
+
+  pub truths_longer : AreTrue old.assignment.values old.assignment.trail.items → l.var < length old.assignment.values → (IsTrueIn old.assignment.values l → ⊥) → (IsFalseIn old.assignment.values l → ⊥)
+      → AreTrue new.assignment.values new.assignment.trail.items
+  truths_longer truths below not_true not_false =
+      subst (λ vs. AreTrue vs new.assignment.trail.items) (sym assigns.values)
+      (subst (AreTrue (slice_set old.assignment.values l.var (Some l.positive))) (sym assigns.trail) (truths_more old.assignment.values old.assignment.trail.items l truths below not_true not_false))
+
+  pub variables_same : length new.assignment.values ≡ length old.assignment.values
+  variables_same = ap length assigns.values ∙ length-set old.assignment.values l.var (Some l.positive)
+
+-- one clause more that is watched, of which the first literal is unset and the others are false
+module _ (all : List (List Lit)) (old new : Search) (lits : List Lit) (number : ℕ) (keeps : Keeps lits number old new) (is : number ≡ length all) (ordered : IsOrdered all old) where
+  pub numbered_kept : AreNumbered (all ++ lits ∷ []) new
+  numbered_kept =
+      let count = ordered.numbered.count in
+      let more : length new.clauses ≡ length old.clauses + 1 = ap length keeps.clauses ∙ length-append old.clauses (lits ∷ []) in
+      let size : length (all ++ lits ∷ []) ≡ length all + 1 = length-append all (lits ∷ []) in
+      let before : (id : ℕ) → id < length old.clauses → get_or new.numbers.items id 0 ≡ get_or old.numbers.items id 0 =
+      λ id small. ap (λ ns. get_or ns id 0) keeps.numbers ∙ get_or_append_left old.numbers.items (number ∷ []) 0 id (omega (arith, small, count)) in
+      let here : (id : ℕ) → id ≡ length old.clauses → get_or new.numbers.items id 0 ≡ length all =
+      λ id same. ap (λ ns. get_or ns id 0) keeps.numbers ∙ get_or_push old.numbers.items number 0 id (count ∙ sym same) ∙ is in
+      let kept_before : (id : ℕ) → id < length old.clauses → kept_at new.clauses id ≡ kept_at old.clauses id =
+      λ id small. ap (λ cs. kept_at cs id) keeps.clauses ∙ get_or_append_left old.clauses (lits ∷ []) [] id small in
+      let kept_here : (id : ℕ) → id ≡ length old.clauses → kept_at new.clauses id ≡ lits = λ id same. ap (λ cs. kept_at cs id) keeps.clauses ∙ get_or_push old.clauses lits [] id (sym same) in
+      record {
+        count = omega (arith, ap length keeps.numbers, length-append old.numbers.items (number ∷ []), count, more);
+        below = λ id small. elim (lt_or_eq id (length old.clauses) (omega (arith, small, more))) [
+          | inl earlier ↦ omega (arith, before id earlier, ordered.numbered.below id earlier, size)
+          | inr last ↦ omega (arith, here id last, size)
+        ];
+        same = λ id small. elim (lt_or_eq id (length old.clauses) (omega (arith, small, more))) [
+          | inl earlier ↦
+              subst (λ n. AreSame (clause_at (all ++ lits ∷ []) n) (kept_at new.clauses id)) (sym (before id earlier))
+              (subst (AreSame (clause_at (all ++ lits ∷ []) (get_or old.numbers.items id 0))) (sym (kept_before id earlier))
+              (subst (λ c. AreSame c (kept_at old.clauses id)) (sym (clause_still all lits (get_or old.numbers.items id 0) (ordered.numbered.below id earlier))) (ordered.numbered.same id earlier)))
+          | inr last ↦
+              subst (λ n. AreSame (clause_at (all ++ lits ∷ []) n) (kept_at new.clauses id)) (sym (here id last))
+              (subst (AreSame (clause_at (all ++ lits ∷ []) (length all))) (sym (kept_here id last))
+              (subst (λ c. AreSame c lits) (sym (get_or_push all lits [] (length all) refl)) (λ m. ((λ x. x), (λ x. x)))))
+        ];
+      }
+
+  pub held_more : (clause : List Lit) → IsHeld old clause → IsHeld new clause
+  held_more clause (among_watched id small same) =
+      let more = ap length keeps.clauses ∙ length-append old.clauses (lits ∷ []) in
+      among_watched id (omega (arith, small, more))
+      (subst (AreSame clause) (sym (ap (λ cs. kept_at cs id) keeps.clauses ∙ get_or_append_left old.clauses (lits ∷ []) [] id small)) same)
+  held_more clause (alone m among only true_m) =
+      alone m among only (subst (λ (a : Assignment). Contains (take (get_or new.starts.items 0 (length a.trail.items)) a.trail.items) m) (sym keeps.assignment)
+      (subst (λ (v : Vec ℕ). Contains (take (get_or v.items 0 (length old.assignment.trail.items)) old.assignment.trail.items) m) (sym keeps.starts) true_m))
+
+-- a search with another assignment
+abbrev pub with_assignment : Search → Assignment → Search
+with_assignment s a = record { assignment = a; clauses = s.clauses; watchers = s.watchers; numbers = s.numbers; starts = s.starts }
+
+-- the literals of the clause but the first are false before
+pub asserted_reason : (all : List (List Lit)) (s : Search) (lits : List Lit) → IsAsserting all s lits → IsReason (all ++ lits ∷ []) s.assignment.trail.items (lit_at lits 0) (length all)
+asserted_reason all s lits is =
+    let T = s.assignment.trail.items in
+    let here : clause_at (all ++ lits ∷ []) (length all) ≡ lits = get_or_push all lits [] (length all) refl in
+    let P : Lit → Type 0 = λ m. (m ≡ lit_at lits 0) ⊎ Contains T (opposite m) in
+    record {
+      below = omega (arith, length-append all (lits ∷ []));
+      among = subst (λ c. Contains c (lit_at lits 0)) (sym here) (0, is.some, get_or_default lits 0 (lit_at lits 0) no_lit is.some);
+      others = subst (All P) (sym here) (λ k d small. elim (nat_or k 0) [
+        | inl zero_k ↦ inl (get_or_default lits k d no_lit small ∙ ap (lit_at lits) zero_k)
+        | inr later ↦
+            let false_m : IsFalseIn s.assignment.values (lit_at lits k) = is.others k (omega (arith, later)) small in
+            inr (subst (λ m. Contains T (opposite m)) (get_or_default lits k no_lit d small) (is.ready.ordered.whole.truths.in_trail (opposite (lit_at lits k)) false_m))
+      ]);
+    }
+
+-- the trail is in order with an unset literal more, which has its reason
+pub ordered_longer : (all : List (List Lit)) (s : Search) (a : Assignment) (l : Lit) (reason : Option ℕ) → IsOrdered all s → Assigns s.assignment a l reason → l.var < length s.assignment.values
+    → (IsTrueIn s.assignment.values l → ⊥) → (IsFalseIn s.assignment.values l → ⊥)
+    → ((n : ℕ) → reason ≡ Some n → IsReason all s.assignment.trail.items l n) → (reason ≡ None → Contains s.starts.items (length s.assignment.trail.items)) → IsOrdered all (with_assignment s a)
+ordered_longer all s a l reason ordered assigns below not_true not_false by chosen =
+    let new = with_assignment s a in
+    record {
+      whole = record {
+        watched = subst (λ n. AreWatched n s.clauses s.watchers) (sym (variables_same s new l reason assigns refl refl ordered.levels)) ordered.whole.watched;
+        truths = truths_longer s new l reason assigns refl refl ordered.levels ordered.whole.truths below not_true not_false;
+      };
+      numbered = record { count = ordered.numbered.count; below = ordered.numbered.below; same = ordered.numbered.same };
+      reasoned = reasons_more all s.starts.items s.assignment a l reason assigns ordered.whole.truths below not_true not_false by chosen ordered.reasoned;
+      levels = levels_longer s new l reason assigns refl refl ordered.levels;
+    }
+
+-- all is settled still by the trail before
+pub settled_longer : (s : Search) (a : Assignment) (l : Lit) (reason : Option ℕ) → IsWhole (with_assignment s a) → Assigns s.assignment a l reason → IsSettledTo (length s.assignment.trail.items) s
+    → IsSettledTo (length s.assignment.trail.items) (with_assignment s a)
+settled_longer s a l reason whole assigns is =
+    let T = s.assignment.trail.items in
+    let wider : (m : Lit) → Contains T m → Contains a.trail.items m = λ m among. subst (λ ts. Contains ts m) (sym assigns.trail) (Contains-append_left T (l ∷ []) m among) in
+    record {
+      whole = whole;
+      part = is.part;
+      part_in = all_more (Contains T) (Contains a.trail.items) is.part wider is.part_in;
+      covers = λ k d below small.
+          subst (Contains is.part) (sym (ap (λ ts. get_or ts k d) assigns.trail ∙ get_or_append_left T (l ∷ []) d k below)) (is.covers k d below below);
+      rest = all_more (IsAtRest is.part T) (IsAtRest is.part a.trail.items) s.clauses (λ c rest. rest_grows is.part T a.trail.items c wider rest) is.rest;
+    }
+
+module _ (all : List (List Lit)) (s : Search) (lits : List Lit) (is : IsAsserting all s lits) where
+  first_below : (lit_at lits 0).var < length s.assignment.values
+  first_below = is.below 0 no_lit is.some
+
+  -- a clause of one literal
+  pub adopted_one : (a : Assignment) → length lits ≡ 1 → Assigns s.assignment a (lit_at lits 0) (Some (length all)) → IsReady (all ++ lits ∷ []) (length s.assignment.trail.items) (with_assignment s a)
+  adopted_one a one assigns =
+      let l = lit_at lits 0 in
+      let new = with_assignment s a in
+      let old = is.ready.ordered in
+      let wider : IsOrdered (all ++ lits ∷ []) s = record {
+        whole = old.whole;
+        numbered = numbered_still all lits s old.numbered;
+        reasoned = reasons_still all lits s.starts.items s.assignment old.reasoned;
+        levels = old.levels;
+      } in
+      let ordered : IsOrdered (all ++ lits ∷ []) new =
+      ordered_longer (all ++ lits ∷ []) s a l (Some (length all)) wider assigns first_below is.not_true is.not_false
+      (λ n e. subst (IsReason (all ++ lits ∷ []) s.assignment.trail.items l) (some_same (length all) n e) (asserted_reason all s lits is)) (λ e. absurd (none_some (length all) e)) in
+      let none : length s.starts.items ≡ 0 = is.alone one in
+      let root : front_of new 0 ≡ a.trail.items =
+      take_all_of (start_of new 0) a.trail.items (omega (arith, past s.starts.items 0 (length a.trail.items) (omega (arith, none)))) in
+      let here : Contains (front_of new 0) l = subst (λ front. Contains front l) (sym (root ∙ assigns.trail)) (Contains-push s.assignment.trail.items l) in
+      record {
+        ordered = ordered;
+        held = All-push (IsHeld new) all lits (all_more (IsHeld s) (IsHeld new) all (held_longer s new l (Some (length all)) assigns refl refl old.levels) is.ready.held)
+            (alone l (0, is.some, get_or_default lits 0 l no_lit is.some) (λ k d small. get_or_default lits k d no_lit small ∙ ap (lit_at lits) (only k (omega (arith, small, one)))) here);
+        settles = settled_longer s a l (Some (length all)) ordered.whole assigns is.ready.settles;
+      }
+    where
+      only : (k : ℕ) → k < 1 → k ≡ 0
+      only k small = omega (arith, small)
+
+      some_same : (m n : ℕ) → Some m ≡ Some n → m ≡ n
+      some_same m n e = cc
+
+      none_some : (m : ℕ) → Some m ≡ None → ⊥
+      none_some m e = cc
+
+  -- the clause can be watched
+  pub watchable : 1 < length lits → IsWatchable (length s.assignment.values) lits
+  watchable many = record {
+    two = omega (arith, many);
+    below = is.below;
+    differ = λ e. is.not_false (subst (IsFalseIn s.assignment.values) (sym e) (is.others 1 (omega arith) many));
+  }
+
+  -- one of two or more
+  module _ (mid : Search) (keeps : Keeps lits (length all) s mid) (many : 1 < length lits) where
+    assignment_is : mid.assignment ≡ s.assignment
+    assignment_is = keeps.assignment
+
+    -- where a false literal of a front would unsettle the clause, there is none
+    no_first : (front : List Lit) → ((m : Lit) → Contains front m → Contains s.assignment.trail.items m) → Contains front (opposite (first lits)) → ⊥
+    no_first front within among = is.not_false (is.ready.ordered.whole.truths.true_in (opposite (first lits)) (within (opposite (first lits)) among))
+
+    front_kept : (j : ℕ) → front_of mid j ≡ front_of s j
+    front_kept j =
+        ap (λ (b : Assignment). take (get_or mid.starts.items j (length b.trail.items)) b.trail.items) keeps.assignment
+        ∙ ap (λ (v : Vec ℕ). take (get_or v.items j (length s.assignment.trail.items)) s.assignment.trail.items) keeps.starts
+
+    start_kept : (j : ℕ) → start_of mid j ≡ start_of s j
+    start_kept j =
+        ap (λ (b : Assignment). get_or mid.starts.items j (length b.trail.items)) keeps.assignment ∙ ap (λ (v : Vec ℕ). get_or v.items j (length s.assignment.trail.items)) keeps.starts
+
+    count_kept : length mid.starts.items ≡ length s.starts.items
+    count_kept = ap (λ (v : Vec ℕ). length v.items) keeps.starts
+
+    size_kept : length mid.assignment.trail.items ≡ length s.assignment.trail.items
+    size_kept = ap (λ (b : Assignment). length b.trail.items) keeps.assignment
+
+    levels_kept : AreLevels mid
+    levels_kept =
+        let old = is.ready.ordered.levels in
+        record {
+          within = λ j small. omega (arith, start_kept j, size_kept, old.within j (omega (arith, small, count_kept)));
+          ascend = λ i j order small. omega (arith, start_kept i, start_kept j, old.ascend i j order (omega (arith, small, count_kept)));
+          rests = λ j small.
+              let inside : j < length s.starts.items = omega (arith, small, count_kept) in
+              subst (λ front. All (IsAtRest front front) mid.clauses) (sym (front_kept j))
+              (subst (All (IsAtRest (front_of s j) (front_of s j))) (sym keeps.clauses)
+              (All-push (IsAtRest (front_of s j) (front_of s j)) s.clauses lits (old.rests j inside) (record {
+                if_first = λ h. absurd (no_first (front_of s j) (λ m among. take_in (start_of s j) s.assignment.trail.items m among) h);
+                if_second = λ h. absurd (is.second many j inside h);
+              })));
+        }
+
+    ordered_kept : IsOrdered (all ++ lits ∷ []) mid
+    ordered_kept = record {
+      whole = record {
+        watched = keeps.watched;
+        truths = subst (λ (b : Assignment). AreTrue b.values b.trail.items) (sym keeps.assignment) is.ready.ordered.whole.truths;
+      };
+      numbered = numbered_kept all s mid lits (length all) keeps refl is.ready.ordered;
+      reasoned =
+          subst (AreReasons (all ++ lits ∷ []) mid.starts.items) (sym keeps.assignment)
+          (subst (λ (v : Vec ℕ). AreReasons (all ++ lits ∷ []) v.items s.assignment) (sym keeps.starts) (reasons_still all lits s.starts.items s.assignment is.ready.ordered.reasoned));
+      levels = levels_kept;
+    }
+
+    pub adopted_many : (a : Assignment) → Assigns mid.assignment a (lit_at lits 0) (Some (length all)) → IsReady (all ++ lits ∷ []) (length s.assignment.trail.items) (with_assignment mid a)
+    adopted_many a assigns =
+        let l = lit_at lits 0 in
+        let new = with_assignment mid a in
+        let T = s.assignment.trail.items in
+        let assigns_s : Assigns s.assignment a l (Some (length all)) = subst (λ b. Assigns b a l (Some (length all))) keeps.assignment assigns in
+        let wider : (m : Lit) → Contains T m → Contains a.trail.items m = λ m among. subst (λ ts. Contains ts m) (sym assigns_s.trail) (Contains-append_left T (l ∷ []) m among) in
+        let ordered : IsOrdered (all ++ lits ∷ []) new =
+        ordered_longer (all ++ lits ∷ []) mid a l (Some (length all)) ordered_kept assigns
+        (subst (λ (b : Assignment). l.var < length b.values) (sym keeps.assignment) first_below)
+        (subst (λ (b : Assignment). IsTrueIn b.values l → ⊥) (sym keeps.assignment) is.not_true)
+        (subst (λ (b : Assignment). IsFalseIn b.values l → ⊥) (sym keeps.assignment) is.not_false)
+        (λ n e. subst (IsReason (all ++ lits ∷ []) mid.assignment.trail.items l) (some_same (length all) n e)
+        (subst (λ (b : Assignment). IsReason (all ++ lits ∷ []) b.trail.items l (length all)) (sym keeps.assignment) (asserted_reason all s lits is)))
+        (λ e. absurd (none_some (length all) e)) in
+        let more : length mid.clauses ≡ length s.clauses + 1 = ap length keeps.clauses ∙ length-append s.clauses (lits ∷ []) in
+        let last : kept_at mid.clauses (length s.clauses) ≡ lits = ap (λ cs. kept_at cs (length s.clauses)) keeps.clauses ∙ get_or_push s.clauses lits [] (length s.clauses) refl in
+        let settles = is.ready.settles in
+        record {
+          ordered = ordered;
+          held = All-push (IsHeld new) all lits
+              (all_more (IsHeld s) (IsHeld new) all (λ c held. held_longer mid new l (Some (length all)) assigns refl refl levels_kept c (held_more all s mid lits (length all) keeps refl is.ready.ordered c held)) is.ready.held)
+              (among_watched (length s.clauses) (omega (arith, more)) (λ m. (
+                (λ among. subst (λ c. Contains c m) (sym last) among),
+                (λ among. subst (λ c. Contains c m) last among),
+              )));
+          settles = record {
+            whole = ordered.whole;
+            part = settles.part;
+            part_in = all_more (Contains T) (Contains a.trail.items) settles.part wider settles.part_in;
+            covers = λ k d below small.
+                subst (Contains settles.part) (sym (ap (λ ts. get_or ts k d) assigns_s.trail ∙ get_or_append_left T (l ∷ []) d k below)) (settles.covers k d below below);
+            rest =
+                subst (All (IsAtRest settles.part a.trail.items)) (sym keeps.clauses)
+                (All-push (IsAtRest settles.part a.trail.items) s.clauses lits
+                (all_more (IsAtRest settles.part T) (IsAtRest settles.part a.trail.items) s.clauses (λ c rest. rest_grows settles.part T a.trail.items c wider rest) settles.rest)
+                (record {
+                  if_first = λ h. absurd (no_first settles.part (λ m among. All-contains (Contains T) settles.part m settles.part_in among) h);
+                  if_second = λ h. subst (λ ts. Contains ts (first lits)) (sym assigns_s.trail) (Contains-push T l);
+                }));
+          };
+        }
+      where
+        some_same : (m n : ℕ) → Some m ≡ Some n → m ≡ n
+        some_same m n e = cc
+
+        none_some : (m : ℕ) → Some m ≡ None → ⊥
+        none_some m e = cc

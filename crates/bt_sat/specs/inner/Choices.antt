@@ -1,0 +1,56 @@
+-- Choosing what to set next.
+use Rattle.std.specs.Prelude.{◌≡◌, ◌⊎◌, ◌<◌, ℕ, Bool, true, false, List, [], ◌∷◌, ◌++◌, Option, Some, None, length, slice_index_or, Contains}
+use Rattle.std.specs.List.{All}
+use Rattle.bt_cnf.specs.Choosing.{Ascends}
+use Rattle.bt_cnf.specs.declared.literal.Lit.{Lit}
+use Rattle.bt_sat.specs.declared.progress.Progress.{Progress}
+use Rattle.bt_sat.specs.declared.search.Search.{Search}
+use Rattle.bt_sat.specs.inner.Assigning.{Assigns}
+use Rattle.bt_sat.specs.inner.Progressing.{IsRunning}
+use Rattle.bt_sat.specs.inner.Truths.{unset}
+
+-- the variable has no value
+abbrev pub IsUnset : List (Option Bool) → ℕ → Type 0
+IsUnset values var = slice_index_or values var None ≡ None
+
+-- these are the variables below a number that have no value, in ascending order
+pub record AreUnset (values : List (Option Bool)) (count : ℕ) (vars : List ℕ) : Type 0 where
+  pub ascends : Ascends vars
+  pub are : (v : ℕ) → Contains vars v → (v < count) × IsUnset values v
+  pub complete : (v : ℕ) → v < count → IsUnset values v → Contains vars v
+
+-- the variable comes behind the others, where it has no value
+abbrev pub AddsUnset : List (Option Bool) → ℕ → List ℕ → List ℕ → Type 0
+AddsUnset values var old new = (IsUnset values var × (new ≡ old ++ var ∷ [])) ⊎ ((IsUnset values var → ⊥) × (new ≡ old))
+
+-- a level begins with a literal that is chosen
+pub record BeginsLevel (l : Lit) (old new : Search) : Type 0 where
+  pub assigns : Assigns old.assignment new.assignment l None
+  pub starts : new.starts.items ≡ old.starts.items ++ length old.assignment.trail.items ∷ []
+  pub clauses : new.clauses ≡ old.clauses
+  pub watchers : new.watchers ≡ old.watchers
+  pub numbers : new.numbers ≡ old.numbers
+
+-- what is known, the limit and the epoch stay
+pub record KeepsLog (old new : Progress) : Type 0 where
+  pub known : new.known ≡ old.known
+  pub limit : new.limit ≡ old.limit
+  pub served : new.served ≡ old.served
+
+-- all variables have a value, and nothing is unsettled
+pub record IsComplete (p : Progress) : Type 0 where
+  pub running : IsRunning p
+  pub none : p.conflict ≡ None
+  pub settled : p.settled ≡ length p.search.assignment.trail.items
+  pub set : (v : ℕ) → v < length p.search.assignment.values → IsUnset p.search.assignment.values v → ⊥
+
+-- one more variable was set, or all are
+abbrev pub Decides : Progress → Progress → Bool → Type 0
+Decides old new true =
+    KeepsLog old new × IsRunning new × (new.conflict ≡ None) × (unset new.search.assignment.values < unset old.search.assignment.values)
+Decides old new false = KeepsLog old new × IsComplete new
+
+-- a clause was found whose literals are all false, or all variables have a value
+abbrev pub Descends : Progress → Progress → Option ℕ → Type 0
+Descends old new (Some conflict) = KeepsLog old new × IsRunning new × (new.conflict ≡ Some conflict)
+Descends old new None = KeepsLog old new × IsComplete new

@@ -1,0 +1,71 @@
+-- A search in progress.
+use Rattle.std.specs.Prelude.{◌≡◌, ◌<◌, ◌≤◌, ◌+◌, ◌^◌, ℕ, List, [], ◌∷◌, ◌++◌, Option, Some, None, length}
+use Rattle.bt_cnf.specs.declared.literal.Lit.{Lit}
+use Rattle.bt_log.specs.Logs.{Step, Learnt, LogParts}
+use Rattle.bt_log.specs.Validity.{AreValid, IsValidStep}
+use Rattle.bt_sat.specs.Freshness.{IsFreshStep}
+use Rattle.bt_sat.specs.Solving.{AreFresh, AreNonempty}
+use Rattle.bt_sat.specs.declared.known.Known.{Known}
+use Rattle.bt_sat.specs.declared.progress.Progress.{Progress}
+use Rattle.bt_sat.specs.declared.progress.Taught.{Taught}
+use Rattle.bt_sat.specs.declared.progress.Taught.TheVariants.{Goes, Refutes, Lacks}
+use Rattle.bt_sat.specs.declared.search.Search.{Search}
+use Rattle.bt_sat.specs.inner.Known.{clauses_in}
+use Rattle.bt_sat.specs.inner.Levels.{IsReady, IsInConflict}
+use Rattle.bt_sat.specs.inner.Truths.{unset}
+
+-- the log follows the formula, its steps are valid, fresh and not empty, and no more than the limit says
+pub record IsLogged (known : Known) (limit : ℕ) : Type 0 where
+  pub first : known.log.first ≡ length known.formula.clauses
+  pub valid : AreValid known.formula known.formula.clauses known.log.steps
+  pub fresh : AreFresh known.formula.clauses known.log.steps
+  pub nonempty : AreNonempty known.log.steps
+  pub within : length known.log.steps ≤ limit
+
+-- one more step is valid and fresh
+pub record IsNextStep (known : Known) (step : Step) : Type 0 where
+  pub valid : IsValidStep known.formula (clauses_in known) step
+  pub fresh : IsFreshStep (clauses_in known) step
+
+-- where the search stands: all literals of a clause are false, or none is known to be so
+abbrev pub Stands : List (List Lit) → ℕ → Search → Option ℕ → Type 0
+Stands all settled s None = IsReady all settled s
+Stands all settled s (Some conflict) = IsInConflict all conflict s
+
+-- the search may go on
+pub record IsRunning (p : Progress) : Type 0 where
+  pub logged : IsLogged p.known p.limit
+  pub variables : length p.search.assignment.values ≡ p.known.formula.vars
+  pub stands : Stands (clauses_in p.known) p.settled p.search p.conflict
+
+-- the log has one step more
+pub record LogsStep (old new : Known) (step : Step) : Type 0 where
+  pub formula : new.formula ≡ old.formula
+  pub log : new.log ≡ record { first = old.log.first; steps = old.log.steps ++ step ∷ [] }
+
+-- the log has room for a step, and its steps can be counted
+pub record HasRoom (p : Progress) : Type 0 where
+  pub room : length p.known.log.steps < p.limit
+  pub counts : length p.known.log.steps + 1 < 2 ^ 64
+
+-- what comes of a conflict: a clause was learnt and the search goes on, or it is the empty clause, or the log has no
+-- room for it
+abbrev pub Teaches : Progress → Progress → Taught → Type 0
+Teaches old new Goes =
+    IsRunning new × (new.conflict ≡ None) × HasRoom old × (new.limit ≡ old.limit) × (new.served ≡ old.served)
+    × ((hints : List ℕ) × LogsStep old.known new.known (Learnt new.lesson.lits.items hints) × IsNextStep old.known (Learnt new.lesson.lits.items hints))
+Teaches old new Refutes =
+    (new.limit ≡ old.limit) × (new.served ≡ old.served) × HasRoom old × (new.lesson.lits.items ≡ [])
+    × ((hints : List ℕ) × LogsStep old.known new.known (Learnt [] hints) × IsNextStep old.known (Learnt [] hints))
+Teaches old new Lacks =
+    (new.known ≡ old.known) × (new.limit ≡ old.limit) × (new.served ≡ old.served) × (length old.known.log.steps ≡ old.limit)
+    × ((step : Step) × IsNextStep old.known step)
+
+-- what follows was found: nothing is unsettled by the whole trail, or a clause has only false literals
+pub record Infers (old new : Progress) : Type 0 where
+  pub running : IsRunning new
+  pub known : new.known ≡ old.known
+  pub limit : new.limit ≡ old.limit
+  pub served : new.served ≡ old.served
+  pub settled : new.conflict ≡ None → new.settled ≡ length new.search.assignment.trail.items
+  pub fewer : unset new.search.assignment.values ≤ unset old.search.assignment.values

@@ -1,0 +1,89 @@
+//! Choosing what to set next.
+ghost use Rattle.std.specs.Prelude.{◌≡◌, ◌<◌, length, map, OnOk, IfOk, None, vec_len};
+ghost use Rattle.bt_cnf.specs.Choosing.{Ascends};
+ghost use Rattle.bt_sat.specs.inner.Choices.{AddsUnset, AreUnset, BeginsLevel, Decides};
+ghost use Rattle.bt_sat.specs.inner.Progressing.{IsRunning};
+
+use crate::assignment::assign;
+use crate::progress::Progress;
+use crate::search::Search;
+use crate::truth::Values;
+use bt_cnf::{Chooser, Lit, Pick, Var};
+use std::alloc::AllocError;
+
+/// Lists the variables that have no value, in ascending order.
+fn list_unset(unset: &mut Vec<Var>, values: &Values) -> Result<(), AllocError>
+    ensures { OnOk result (AreUnset values.now (length values.now) unset.new.items) }
+{
+    unset.clear();
+    for place in 0..values.len() {
+        add_unset(unset, values, place)?;
+    }
+    Ok(())
+}
+
+/// Appends the variable at a place, where it has no value.
+fn add_unset(unset: &mut Vec<Var>, values: &Values, place: usize) -> Result<(), AllocError>
+    requires { place < length values.now }
+    ensures { OnOk result (AddsUnset values.now place unset.old.items unset.new.items) }
+{
+    if let Some(var) = values.id_at(place) {
+        if values.get(var).is_none() {
+            unset.push(var)?;
+            return Ok(());
+        }
+    }
+    Ok(())
+}
+
+/// Asks the chooser that serves. Where there is none, the lowest variable is set to false.
+fn ask<C: Chooser>(choosers: &mut Vec<C>, unset: &[Var]) -> Pick
+    requires some { 0 < length unset.now }
+    requires ascending { Ascends unset.now }
+    ensures in_range { result.place < length unset.now }
+    ensures same { map C.told_lengths choosers.new.items ≡ map C.told_lengths choosers.old.items }
+    ensures count { vec_len choosers.new ≡ vec_len choosers.old }
+{
+    if choosers.is_empty() {
+        return Pick {
+            place: 0,
+            positive: false,
+        };
+    }
+    choosers[0].pick(unset)
+}
+
+/// Begins a level with a literal that is chosen.
+fn begin_level(search: &mut Search, lit: &Lit) -> Result<(), AllocError>
+    requires { lit.now.var < length search.old.assignment.values }
+    ensures { OnOk result (BeginsLevel lit.now search.old search.new) }
+{
+    search.starts.push(search.assignment.trail.len())?;
+    assign(&mut search.assignment, lit, None)?;
+    Ok(())
+}
+
+/// Chooses a variable and a value, where a variable has none.
+pub fn decide<C: Chooser>(
+    progress: &mut Progress,
+    choosers: &mut Vec<C>,
+) -> Result<bool, AllocError>
+    requires running { IsRunning progress.old }
+    requires none { progress.old.conflict ≡ None }
+    requires settled { progress.old.settled ≡ length progress.old.search.assignment.trail.items }
+    ensures decides { IfOk result (Decides progress.old progress.new) }
+    ensures same { map C.told_lengths choosers.new.items ≡ map C.told_lengths choosers.old.items }
+    ensures count { vec_len choosers.new ≡ vec_len choosers.old }
+{
+    list_unset(&mut progress.unset, &progress.search.assignment.values)?;
+    if progress.unset.is_empty() {
+        return Ok(false);
+    }
+    let pick = ask(choosers, &progress.unset);
+    let lit = Lit {
+        var: progress.unset[pick.place],
+        positive: pick.positive,
+    };
+    begin_level(&mut progress.search, &lit)?;
+    Ok(true)
+}

@@ -1,0 +1,86 @@
+//! Learning a clause from a conflict.
+ghost use Rattle.std.specs.Prelude.{◌≡◌, ◌<◌, ◌++◌, ◌∷◌, [], length, OnOk};
+ghost use Rattle.std.specs.List.{All};
+ghost use Rattle.std.specs.List.Sorted.{IsNonDecreasing};
+ghost use Rattle.bt_sat.specs.inner.Analysing.{falses_at};
+ghost use Rattle.bt_sat.specs.inner.Asserting.{IsAsserting, IsPrepared};
+ghost use Rattle.bt_sat.specs.inner.Known.{clauses_in};
+ghost use Rattle.bt_sat.specs.inner.Levels.{IsAssertionLevel, IsInConflict, IsReady};
+
+use crate::analysis::{Analysis, analyse};
+use crate::assignment::assign;
+use crate::known::Known;
+use crate::levels::{go_back, level_of};
+use crate::search::{Search, keep};
+use crate::truth::negation;
+use bt_cnf::Lit;
+use std::alloc::AllocError;
+
+/// A clause that is learnt, and how.
+#[derive(Drop)]
+pub struct Lesson {
+    pub analysis: Analysis,
+    /// Its literals.
+    pub lits: Vec<Lit>,
+}
+
+/// The literals that are false at places of the trail.
+fn name_lits(lits: &mut Vec<Lit>, picked: &[usize], trail: &[Lit]) -> Result<(), AllocError>
+    requires { All (λ k. k < length trail.now) picked.now }
+    ensures { OnOk result (lits.new.items ≡ falses_at trail.now picked.now) }
+{
+    lits.clear();
+    for place in picked {
+        lits.push(negation(&trail[*place]))?;
+    }
+    Ok(())
+}
+
+/// The number of levels at which all literals of a clause but the first are false.
+fn assertion_level(starts: &[usize], picked: &[usize]) -> usize
+    requires { IsNonDecreasing starts.now }
+    ensures { IsAssertionLevel starts.now picked.now result }
+{
+    if picked.len() > 1 {
+        level_of(starts, picked[1])
+    } else {
+        0
+    }
+}
+
+/// Finds the clause that is learnt from a conflict, and goes back to where it asserts its first literal.
+pub fn prepare(
+    lesson: &mut Lesson,
+    known: &Known,
+    search: &mut Search,
+    conflict: usize,
+) -> Result<(), AllocError>
+    requires { IsInConflict (clauses_in known.now) conflict search.old }
+    ensures { OnOk result (IsPrepared (clauses_in known.now) (length search.old.assignment.values) search.new
+        lesson.new.lits.items lesson.new.analysis.hints.items) }
+{
+    analyse(&mut lesson.analysis, known, search, conflict)?;
+    let picked = &lesson.analysis.picked;
+    name_lits(&mut lesson.lits, picked, &search.assignment.trail)?;
+    let level = assertion_level(&search.starts, picked);
+    go_back(search, level);
+    Ok(())
+}
+
+/// Keeps a clause that comes next, and asserts its first literal, which becomes true.
+pub fn adopt(search: &mut Search, known: &Known, lits: &[Lit]) -> Result<(), AllocError>
+    requires { IsAsserting (clauses_in known.now) search.old lits.now }
+    ensures ready { OnOk result (IsReady (clauses_in known.now ++ lits.now ∷ [])
+        (length search.old.assignment.trail.items) search.new) }
+    ensures same { OnOk result (length search.new.assignment.values
+        ≡ length search.old.assignment.values) }
+{
+    let number = known.next()?;
+    if lits.len() == 1 {
+        assign(&mut search.assignment, &lits[0], Some(number))?;
+        return Ok(());
+    }
+    keep(search, lits, number)?;
+    assign(&mut search.assignment, &lits[0], Some(number))?;
+    Ok(())
+}
