@@ -9,7 +9,6 @@ mod choosing;
 mod descent;
 mod hunt;
 mod kept;
-mod kernel;
 mod known;
 mod law;
 mod learning;
@@ -25,5 +24,5 @@ mod watchers;
 
 pub use choosers::{Highest, Lowest, Recent};
 pub use law::settled_is_open;
-pub use solver::{Added, Answer, EPOCH_STEPS, Solver};
+pub use solver::{Added, Answer, EPOCH_STEPS};
 pub use std::alloc::AllocError as Memory;

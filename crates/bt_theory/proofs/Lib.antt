@@ -1,6 +1,0 @@
-pub mod Truths
-pub mod Chosen
-pub mod Atoms
-pub mod Columns
-pub mod Reached
-pub mod Rounds

@@ -1,3 +1,0 @@
--- Definitions that private functions alone cite.
-pub mod Choosing
-pub mod Rounds
