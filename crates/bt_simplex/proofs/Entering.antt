@@ -1,5 +1,5 @@
 -- The least position that terms name with a property, by a walk over a line.
-use Rattle.std.proofs.Common.{◌≡◌, ◌≢◌, ℕ, ◌+◌, ◌<◌, ◌≤◌, arith, suc, add-one, length, get_or, drop, true, false, if◌then◌else◌, ◌==◌, [], ◌∷◌, Some, None, ap, sym, ◌∙◌, refl, subst, inl, inr}
+use Rattle.std.proofs.Common.{◌≡◌, ◌≢◌, ℕ, ◌+◌, ◌<◌, ◌≤◌, arith, zero, suc, add-one, length, get_or, drop, true, false, if◌then◌else◌, ◌==◌, [], ◌∷◌, Some, None, ap, sym, ◌∙◌, refl, subst, inl, inr}
 use Rattle.std.proofs.lemmas.Bool.Decides.{nat_tests}
 use Rattle.std.proofs.Math.Seq.{drop-cons}
 use Rattle.std.proofs.lemmas.List.{drop_all}
@@ -21,14 +21,14 @@ pub record IsAhead (P : ℕ → Ratio → Type 0) (terms left : Terms) : Type 0 
 pub ahead_start : (P : ℕ → Ratio → Type 0) (terms : Terms) → IsLineFrom 0 terms → IsAhead P terms terms
 ahead_start P terms line = record { ahead = λ q number names has. names; named = λ q number names. names; least = 0; line = line }
 
-number_here : (t : ℕ × Ratio) (rest : Terms) (q : ℕ) → t.0 ≡ q → coefficient_at q (t ∷ rest) ≡ Some t.1
+pub number_here : (t : ℕ × Ratio) (rest : Terms) (q : ℕ) → t.0 ≡ q → coefficient_at q (t ∷ rest) ≡ Some t.1
 number_here t rest q same = let test : (t.0 == q) ≡ true = grind (arith, nat_tests) in ap (λ b. if b then Some t.1 else coefficient_at q rest) test
 
-number_later : (t : ℕ × Ratio) (rest : Terms) (q : ℕ) → t.0 ≢ q → coefficient_at q (t ∷ rest) ≡ coefficient_at q rest
+pub number_later : (t : ℕ × Ratio) (rest : Terms) (q : ℕ) → t.0 ≢ q → coefficient_at q (t ∷ rest) ≡ coefficient_at q rest
 number_later t rest q apart = let test : (t.0 == q) ≡ false = grind (arith, nat_tests) in ap (λ b. if b then Some t.1 else coefficient_at q rest) test
 
 -- a line names no position before its least one
-named_from : (q least : ℕ) (terms : Terms) (number : Ratio) → IsLineFrom least terms → coefficient_at q terms ≡ Some number → least ≤ q
+pub named_from : (q least : ℕ) (terms : Terms) (number : Ratio) → IsLineFrom least terms → coefficient_at q terms ≡ Some number → least ≤ q
 named_from q least [] number line names = absurd cc
 named_from q least (t ∷ rest) number line names =
     let low : least ≤ t.0 = line.ascends.0 in
@@ -38,6 +38,19 @@ named_from q least (t ∷ rest) number line names =
           let after : t.0 + 1 ≤ q = named_from q (t.0 + 1) rest number (rest_line least t rest line) (sym (number_later t rest q apart) ∙ names) in
           omega arith
     ]
+
+-- the term at a place of a line is the one of its position
+pub number_at_place : (least : ℕ) (terms : Terms) (i : ℕ) (d : ℕ × Ratio) → IsLineFrom least terms → i < length terms → coefficient_at (get_or terms i d).0 terms ≡ Some (get_or terms i d).1
+number_at_place least [] i d line inside = absurd (omega arith)
+number_at_place least (t ∷ terms) zero d line inside = number_here t terms t.0 refl
+number_at_place least (t ∷ terms) (suc i) d line inside =
+    let rest = number_at_place (t.0 + 1) terms i d (rest_line least t terms line) (omega arith) in
+    let after : t.0 + 1 ≤ (get_or terms i d).0 = named_from (get_or terms i d).0 (t.0 + 1) terms (get_or terms i d).1 (rest_line least t terms line) rest in
+    number_later t terms (get_or terms i d).0 (λ e. omega arith) ∙ rest
+
+-- the same of a term that a walk reads there
+pub item_named : (terms : Terms) (i : ℕ) (t : ℕ × Ratio) → IsLineFrom 0 terms → i < length terms → t ≡ get_or terms i t → coefficient_at t.0 terms ≡ Some t.1
+item_named terms i t line inside is = subst (λ u. coefficient_at u.0 terms ≡ Some u.1) (sym is) (number_at_place 0 terms i t line inside)
 
 -- a term without the property is passed
 pub ahead_more : (P : ℕ → Ratio → Type 0) (terms : Terms) (t : ℕ × Ratio) (rest : Terms) → IsAhead P terms (t ∷ rest) → (P t.0 t.1 → ⊥) → IsAhead P terms rest
@@ -75,7 +88,7 @@ ahead_least P terms t rest so_far has = ((t.1, so_far.named t.0 t.1 (number_here
 pub ahead_none : (P : ℕ → Ratio → Type 0) (terms : Terms) → IsAhead P terms [] → (q : ℕ) → Names terms P q → ⊥
 ahead_none P terms so_far q names = let none : None ≡ Some names.0 = so_far.ahead q names.0 names.1 names.2 in cc
 
-drop_here : (terms : Terms) (i : ℕ) (t : ℕ × Ratio) → i < length terms → t ≡ get_or terms i t → drop i terms ≡ t ∷ drop (i + 1) terms
+pub drop_here : (terms : Terms) (i : ℕ) (t : ℕ × Ratio) → i < length terms → t ≡ get_or terms i t → drop i terms ≡ t ∷ drop (i + 1) terms
 drop_here terms i t inside is = rw add-one (drop-cons terms i t inside ∙ ap (λ u. u ∷ drop (suc i) terms) (sym is))
 
 -- the same at a place of the walk

@@ -18,10 +18,10 @@ use Rattle.bt_simplex.specs.Turns.{Breaks, Fails, MovesTowards, MayMove, CanEnte
 use Rattle.bt_simplex.specs.inner.Bases.{IsSamePoint, MayEnter, Names}
 use Rattle.bt_simplex.proofs.Numbers.{Positive}
 
-less_right : (a b x : Ratio) → Positive a → Positive b → SameRatio a b → IsLess x a → IsLess x b
+pub less_right : (a b x : Ratio) → Positive a → Positive b → SameRatio a b → IsLess x a → IsLess x b
 less_right a b x p q e h = (stands_same Above x a b p q e).0 h
 
-less_left : (a b x : Ratio) → Positive a → Positive b → SameRatio a b → IsLess a x → IsLess b x
+pub less_left : (a b x : Ratio) → Positive a → Positive b → SameRatio a b → IsLess a x → IsLess b x
 less_left a b x p q e h =
     lt_from_mul (b.over *ℤ pos x.under) (x.over *ℤ pos b.under) a.under
     (subst (λ t. t <ℤ (x.over *ℤ pos b.under *ℤ pos a.under)) crossed
@@ -40,7 +40,7 @@ less_delta_left a b x s (inl less) = inl (less_left a.value b.value x.value s.le
 less_delta_left a b x s (inr (same, less)) =
     inr (same_trans b.value a.value x.value s.left_value (sym s.same.0) same, less_left a.tiny b.tiny x.tiny s.left_tiny s.right_tiny s.same.1 less)
 
-same_back : (a b : Delta) → IsSamePoint a b → IsSamePoint b a
+pub same_back : (a b : Delta) → IsSamePoint a b → IsSamePoint b a
 same_back a b s = record { left_value = s.right_value; left_tiny = s.right_tiny; right_value = s.left_value; right_tiny = s.left_tiny; same = (sym s.same.0, sym s.same.1) }
 
 breaks_by : (row : RowParts) (a b : Delta) → IsSamePoint a b → Breaks row a → Breaks row b
@@ -56,7 +56,7 @@ pub point_is : (t : TableauParts) (position : ℕ) (terms : Terms) (point : Delt
     → IsSamePoint point (point_at t position)
 point_is t position terms point line same = subst (λ o. IsSamePoint point (standing (resting t) position o)) (sym line) same
 
-row_is : (a b : RowParts) (o : Option RowParts) → o ≡ Some a → o ≡ Some b → a ≡ b
+pub row_is : (a b : RowParts) (o : Option RowParts) → o ≡ Some a → o ≡ Some b → a ≡ b
 row_is a b o p q = cc
 
 -- what fails is told by its line and its row

@@ -14,7 +14,7 @@ use Rattle.bt_simplex.specs.inner.Starts.{kept, start_slots}
 use Rattle.bt_simplex.proofs.FirstLines.{kept_line, kept_total, kept_over}
 use Rattle.bt_simplex.proofs.Numbers.{Alike, itself, back, next}
 use Rattle.bt_simplex.proofs.Standing.{stands_some}
-use Rattle.bt_simplex.proofs.Turned.{total_along}
+use Rattle.bt_simplex.proofs.Zeros.{total_along}
 
 slot_low : (columns p : ℕ) (more : Slots) → p < columns → slot_at (replicate columns None ++ more) p ≡ None
 slot_low zero p more h = absurd (omega arith)

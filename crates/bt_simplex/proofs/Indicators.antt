@@ -16,7 +16,7 @@ use Rattle.bt_simplex.proofs.Totals.{total_positive, rest_line}
 pub indicator : ℕ → ℕ → Ratio
 indicator position other = if other == position then one else nothing
 
-here_is : (p q : ℕ) → q ≡ p → indicator p q ≡ one
+pub here_is : (p q : ℕ) → q ≡ p → indicator p q ≡ one
 unfolding indicator
 here_is p q e = let t : (q == p) ≡ true = grind (arith, nat_tests) in ap (λ b. if b then one else nothing) t
 

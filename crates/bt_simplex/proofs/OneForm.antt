@@ -14,7 +14,7 @@ use Rattle.bt_simplex.proofs.Indicators.{LacksPosition, decide, indicator, indic
 use Rattle.bt_simplex.proofs.Numbers.{Alike, alike, back, next, drop_zero, times_positive, times_zero}
 use Rattle.bt_simplex.proofs.Standing.{stands_some}
 use Rattle.bt_simplex.proofs.Totals.{total_positive, rest_line}
-use Rattle.bt_simplex.proofs.Turned.{named_or_lacks, all_from, total_along}
+use Rattle.bt_simplex.proofs.Zeros.{named_or_lacks, all_from, total_along}
 
 -- the first number is seen, where the other line lacks its position
 seen_first : (t : ℕ × Ratio) (terms others : Terms) (least : ℕ) → IsLineFrom least (t ∷ terms) → All HasNumber others → LacksPosition t.0 others

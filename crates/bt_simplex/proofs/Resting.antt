@@ -1,23 +1,32 @@
 -- What lines add up to where their positions rest.
-use Rattle.std.proofs.Common.{◌≡◌, ℕ, ◌+◌, ◌-◌, ◌<◌, arith, Bool, true, false, if◌then◌else◌, nat_lt, zero, suc, get_or, take, List, [], ◌∷◌, ◌++◌, length, Option, Some, None, IfSome, ap, sym, ◌∙◌, refl, subst}
+use Rattle.std.proofs.Common.{◌≡◌, ℕ, ◌+◌, ◌-◌, ◌<◌, arith, Bool, true, false, if◌then◌else◌, nat_lt, zero, suc, get_or, take, drop, take-append-drop, List, [], ◌∷◌, ◌++◌, length, Option, Some, None, Result, Ok, Err, IfOk, IfErr, inl, inr, ap, sym, ◌∙◌, refl, subst}
 use Rattle.std.specs.List.{All}
-use Rattle.std.proofs.lemmas.List.{take_more}
+use Rattle.std.proofs.lemmas.List.{take_more, get_or_past}
 use Rattle.std.proofs.lemmas.List.Elements.{All-head, All-tail, All-take}
-use Rattle.bt_frac.specs.Ratio.{Ratio, IsSum}
+use Rattle.bt_frac.specs.Ratio.{Ratio, SameRatio, IsLowest, IsSum}
 use Rattle.bt_frac.specs.Products.{IsProduct}
 use Rattle.bt_frac.specs.Rows.{RowParts, IsRow}
 use Rattle.bt_frac.specs.Values.{AreValues, nothing, plus, times}
-use Rattle.bt_frac.specs.Deltas.{HasLowestParts, AreSums, AreProducts}
 use Rattle.bt_frac.specs.declared.delta.Delta.{Delta}
 use Rattle.bt_frac.specs.declared.row.Relation.{Relation}
 use Rattle.bt_frac.specs.declared.row.Relation.TheVariants.{AtLeast, Above, Equal}
-use Rattle.bt_lin.specs.WeightedRows.{empty_row}
+use Rattle.bt_lin.specs.WeightedRows.{empty_row, coefficient_at}
 use Rattle.bt_simplex.specs.Lines.{Terms, HasNumber, IsLine, total}
 use Rattle.bt_simplex.specs.Tableaus.{TableauParts, IsTableau}
 use Rattle.bt_simplex.specs.SolvedForms.{slot_at}
-use Rattle.bt_simplex.specs.Points.{tiny_of, value_or_zero, resting, standing, point_at}
+use Rattle.std.proofs.lemmas.Bool.{cases_lt}
+use Rattle.std.proofs.lemmas.Bool.Decides.{nat_tests}
+use Rattle.bt_simplex.specs.Points.{bound_row, tiny_of, value_or_zero, resting, standing, point_at}
 use Rattle.bt_simplex.specs.inner.Bases.{IsSamePoint}
-use Rattle.bt_simplex.proofs.Numbers.{Positive, nothing_some, Alike, alike, itself, back, next, both_plus, swap_plus, swap_times, group_plus, plus_positive, times_positive}
+use Rattle.bt_simplex.specs.Causes.{IsNone, IsSumStep, IsStepAt, IsCause}
+use Rattle.bt_simplex.specs.declared.answers.Operation.{Operation}
+use Rattle.bt_simplex.specs.declared.answers.Operation.TheVariants.{Add, Mul, Div}
+use Rattle.bt_simplex.specs.declared.causes.Unfit.{Unfit}
+use Rattle.bt_simplex.specs.declared.causes.Cause.{Cause}
+use Rattle.bt_simplex.specs.inner.Unfits.{IsUnfitStep, IsUnfitHere}
+use Rattle.bt_simplex.specs.inner.UnfitPoints.{AddsTerm, IsUnfitTerm, IsUnfitPoint, value_cause}
+use Rattle.bt_simplex.proofs.Entering.{item_named, drop_here}
+use Rattle.bt_simplex.proofs.Numbers.{Positive, nothing_some, Alike, alike, itself, back, next, both_plus, swap_plus, group_plus, plus_positive, times_positive}
 use Rattle.bt_simplex.proofs.Totals.{total_positive}
 
 pub tiny_some : (r : Relation) → Positive (tiny_of r)
@@ -66,36 +75,90 @@ total_push at some (t ∷ terms) all x has =
 
 -- a running sum with one more product
 part_more : (at : ℕ → Ratio) → AreValues at → (terms : Terms) → All HasNumber terms → (i : ℕ) (x : ℕ × Ratio) (sum product after : Ratio) → i < length terms → x ≡ get_or terms i x → Positive x.1
-    → Alike sum (total at (take i terms)) → Positive product → IsProduct (at x.0) x.1 product → Positive after → IsSum sum product after → Alike after (total at (take (i + 1) terms))
+    → Alike sum (total at (take i terms)) → Positive product → IsProduct x.1 (at x.0) product → Positive after → IsSum sum product after → Alike after (total at (take (i + 1) terms))
 part_more at some terms all i x sum product after inside is has so_far product_some is_product after_some is_sum =
-    let told = alike product (times (at x.0) x.1) product_some (times_positive (at x.0) x.1 (some x.0) has) is_product in
-    let turned = next told (swap_times (at x.0) x.1 (some x.0) has) in
+    let told = alike product (times x.1 (at x.0)) product_some (times_positive x.1 (at x.0) has (some x.0)) is_product in
     let added = alike after (plus sum product) after_some (plus_positive sum product so_far.left product_some) is_sum in
     let pushed = back (total_push at some (take i terms) (All-take HasNumber i terms all) x has) in
     let more : take (i + 1) terms ≡ take i terms ++ x ∷ [] = take_more terms i x inside ∙ ap (λ t. take i terms ++ t ∷ []) (sym is) in
-    subst (λ ts. Alike after (total at ts)) (sym more) (next added (next (both_plus so_far turned) pushed))
+    subst (λ ts. Alike after (total at ts)) (sym more) (next added (next (both_plus so_far told) pushed))
 
 -- the same of both parts of a point
-pub point_more : (t : TableauParts) → IsTableau t → (terms : Terms) → IsLine terms → (i : ℕ) (x : ℕ × Ratio) (sum product after : Delta) → i < length terms → x ≡ get_or terms i x
-    → IsSamePoint sum (standing (resting t) 0 (Some (take i terms))) → HasLowestParts product → AreProducts (resting t x.0) x.1 product → HasLowestParts after → AreSums sum product after
-    → IsSamePoint after (standing (resting t) 0 (Some (take (i + 1) terms)))
-point_more t tableau terms line i x sum product after inside is so_far product_low is_product after_low is_sum =
+pub point_more : (t : TableauParts) → IsTableau t → (terms : Terms) → IsLine terms → (i : ℕ) (x : ℕ × Ratio) (sum after : Delta) → i < length terms → x ≡ get_or terms i x
+    → IsSamePoint sum (standing (resting t) 0 (Some (take i terms))) → AddsTerm (resting t x.0) sum x.1 after → IsSamePoint after (standing (resting t) 0 (Some (take (i + 1) terms)))
+point_more t tableau terms line i x sum after inside is so_far adds =
     let has : Positive x.1 = subst (λ y. Positive y.1) (sym is) (line.numbers i x inside).0.positive in
     let values = rest_value t tableau.rows in
     let tinies = rest_tiny t in
     let value =
-    part_more (λ p. (resting t p).value) values terms line.numbers i x sum.value product.value after.value inside is has
-    (alike sum.value (total (λ p. (resting t p).value) (take i terms)) so_far.left_value so_far.right_value so_far.same.0) product_low.value.positive is_product.value after_low.value.positive is_sum.value in
+    part_more (λ p. (resting t p).value) values terms line.numbers i x sum.value adds.value.product after.value inside is has
+    (alike sum.value (total (λ p. (resting t p).value) (take i terms)) so_far.left_value so_far.right_value so_far.same.0) adds.value.product_lowest.positive adds.value.is_product adds.value.lowest.positive adds.value.is_sum in
     let tiny =
-    part_more (λ p. (resting t p).tiny) tinies terms line.numbers i x sum.tiny product.tiny after.tiny inside is has
-    (alike sum.tiny (total (λ p. (resting t p).tiny) (take i terms)) so_far.left_tiny so_far.right_tiny so_far.same.1) product_low.tiny.positive is_product.tiny after_low.tiny.positive is_sum.tiny in
+    part_more (λ p. (resting t p).tiny) tinies terms line.numbers i x sum.tiny adds.tiny.product after.tiny inside is has
+    (alike sum.tiny (total (λ p. (resting t p).tiny) (take i terms)) so_far.left_tiny so_far.right_tiny so_far.same.1) adds.tiny.product_lowest.positive adds.tiny.is_product adds.tiny.lowest.positive adds.tiny.is_sum in
     record { left_value = value.left; left_tiny = tiny.left; right_value = value.right; right_tiny = tiny.right; same = (value.same, tiny.same) }
 
+-- a line, split at a place
+line_split : (terms : Terms) (i : ℕ) (x : ℕ × Ratio) → i < length terms → x ≡ get_or terms i x → terms ≡ take i terms ++ x ∷ drop (i + 1) terms
+line_split terms i x inside is = sym (take-append-drop i terms) ∙ ap (λ l. take i terms ++ l) (drop_here terms i x inside is)
+
+-- a part that doesn't fit is one of the line's sum
+part_unfit : (at : ℕ → Ratio) (terms : Terms) → IsLine terms → (i : ℕ) (x : ℕ × Ratio) (sum : Ratio) (unfit : Unfit) → i < length terms → x ≡ get_or terms i x
+    → IsLowest sum → SameRatio sum (total at (take i terms)) → IsUnfitHere x.0 (Some sum) x.1 (at x.0) unfit
+    → IsNone unfit.operation unfit.left unfit.right × IsSumStep at terms unfit.column unfit.operation unfit.left unfit.right
+part_unfit at terms line i x sum unfit inside is low same (column, none, step) = (none, cases unfit.operation step)
+  where
+    cases : (operation : Operation) → IsUnfitStep (Some sum) x.1 (at x.0) operation unfit.left unfit.right → IsSumStep at terms unfit.column operation unfit.left unfit.right
+    cases Add step =
+        let sum_is : sum ≡ unfit.left = (let e = step.0 in cc) in (
+          take i terms,
+          (
+            x.1,
+            (
+              drop (i + 1) terms,
+              subst (λ p. terms ≡ take i terms ++ (p, x.1) ∷ drop (i + 1) terms) (sym column) (line_split terms i x inside is),
+              (subst IsLowest sum_is low, subst (λ s. SameRatio s (total at (take i terms))) sum_is same),
+              (step.1, subst (λ p. SameRatio unfit.right (times x.1 (at p))) (sym column) step.2),
+            ),
+          ),
+        )
+    cases Mul step = (
+      ap (λ p. coefficient_at p terms) column ∙ item_named terms i x line inside is ∙ ap (λ n. Some n) (sym step.0),
+      step.1 ∙ ap at (sym column),
+    )
+    cases Div step = step
+
+-- a point that doesn't fit
+pub point_unfit : (t : TableauParts) (position : ℕ) (terms : Terms) → IsLine terms → (i : ℕ) (x : ℕ × Ratio) (sum : Delta) (unfit : Unfit) (cause : Cause) → i < length terms → x ≡ get_or terms i x
+    → IsSamePoint sum (standing (resting t) 0 (Some (take i terms))) → IsUnfitTerm (resting t x.0) sum x unfit → cause ≡ value_cause position unfit → IsUnfitPoint (resting t) position terms cause
+point_unfit t position terms line i x sum unfit cause inside is so_far told cause_is =
+    subst (λ c. IsUnfitPoint (resting t) position terms c) (sym cause_is) (which told)
+  where
+    which : IsUnfitTerm (resting t x.0) sum x unfit → IsUnfitPoint (resting t) position terms (value_cause position unfit)
+    which (inl (low, here)) =
+        let found = part_unfit (λ q. (resting t q).value) terms line i x sum.value unfit inside is low so_far.same.0 here in
+        record { place = refl; row = refl; none = found.0; step = inl found.1 }
+    which (inr (low, here)) =
+        let found = part_unfit (λ q. (resting t q).tiny) terms line i x sum.tiny unfit inside is low so_far.same.1 here in
+        record { place = refl; row = refl; none = found.0; step = inr found.1 }
+
+-- it is a cause of the tableau's basis
+pub point_cause : (t : TableauParts) (position : ℕ) (terms : Terms) (cause : Cause) → slot_at t.slots position ≡ Some terms → IsUnfitPoint (resting t) position terms cause → IsCause t cause
+point_cause t position terms cause line unfit = (
+  unfit.none,
+  subst (λ place. IsStepAt t place cause.row cause.column cause.operation cause.left cause.right) (sym unfit.place) (terms, ap (λ p. slot_at t.slots p) unfit.row ∙ line, unfit.step),
+)
+
 -- a position of the basis stands where its line says
-pub line_stands : (t : TableauParts) (position : ℕ) (terms : Terms) (o : Option Delta) → slot_at t.slots position ≡ Some terms
-    → IfSome o (λ d. IsSamePoint d (standing (resting t) 0 (Some terms))) → IfSome o (λ d. IsSamePoint d (point_at t position))
-line_stands t position terms None line same = tt
-line_stands t position terms (Some d) line same = subst (λ slot. IsSamePoint d (standing (resting t) position slot)) (sym line) same
+pub line_stands : (t : TableauParts) (position : ℕ) (terms : Terms) (o : Result Delta Cause) → slot_at t.slots position ≡ Some terms
+    → IfOk o (λ d. IsSamePoint d (standing (resting t) 0 (Some terms))) → IfOk o (λ d. IsSamePoint d (point_at t position))
+line_stands t position terms (Err e) line same = tt
+line_stands t position terms (Ok d) line same = subst (λ slot. IsSamePoint d (standing (resting t) position slot)) (sym line) same
+
+pub line_unfit : (t : TableauParts) (position : ℕ) (terms : Terms) (o : Result Delta Cause) → slot_at t.slots position ≡ Some terms
+    → IfErr o (IsUnfitPoint (resting t) position terms) → IfErr o (IsCause t)
+line_unfit t position terms (Ok d) line unfit = tt
+line_unfit t position terms (Err cause) line unfit = point_cause t position terms cause line unfit
 
 -- and every other position where it rests
 pub rest_stands : (t : TableauParts) (position : ℕ) (d : Delta) → All IsRow t.rows → slot_at t.slots position ≡ None → d ≡ resting t position → IsSamePoint d (point_at t position)
@@ -110,3 +173,33 @@ rest_stands t position d rows none is = subst (λ slot. IsSamePoint d (standing 
           right_tiny = rest_tiny t position;
           same = (refl, refl);
         }
+
+-- where positions stand has positive denominators
+pub point_some : (t : TableauParts) → IsTableau t → (p : ℕ) → Positive (point_at t p).value × Positive (point_at t p).tiny
+point_some t tableau p = at (slot_at t.slots p) refl
+  where
+    at : (o : Option Terms) → slot_at t.slots p ≡ o → Positive (standing (resting t) p o).value × Positive (standing (resting t) p o).tiny
+    at None e = (rest_value t tableau.rows p, rest_tiny t p)
+    at (Some terms) e =
+        let numbers = (tableau.solved.lines p terms e).0.numbers in
+        (total_positive (λ q. (resting t q).value) (rest_value t tableau.rows) terms numbers, total_positive (λ q. (resting t q).tiny) (rest_tiny t) terms numbers)
+
+-- the bound of a bound row has a positive denominator
+pub bound_some_of : (t : TableauParts) → All IsRow t.rows → (p : ℕ) (row : RowParts) → bound_row t p ≡ Some row → Positive row.bound
+bound_some_of t rows p row e = subst (λ o. Positive (value_or_zero o).value) e (rest_value t rows p)
+
+-- a bound row is one of the positions
+pub bound_within : (t : TableauParts) → IsTableau t → (p : ℕ) (row : RowParts) → bound_row t p ≡ Some row → p < length t.slots
+bound_within t tableau p row e = elim (cases_lt p (length t.slots)) [
+  | inl within ↦ within
+  | inr past ↦
+      let count = tableau.solved.positions in
+      let same = tableau.bound in
+      let over : nat_lt p t.columns ≡ false = grind (arith, nat_tests) in
+      let none : get_or t.bound (p - t.columns) false ≡ false = get_or_past t.bound (p - t.columns) false (omega arith) in
+      let first : bound_row t p ≡ (if get_or t.bound (p - t.columns) false then Some (get_or t.rows (p - t.columns) empty_row) else None) =
+      ap (λ b. if b then None else if get_or t.bound (p - t.columns) false then Some (get_or t.rows (p - t.columns) empty_row) else None) over in
+      let second : bound_row t p ≡ None = first ∙ ap (λ b. if b then Some (get_or t.rows (p - t.columns) empty_row) else None) none in
+      let both : None ≡ Some row = sym second ∙ e in
+      absurd cc
+]

@@ -1,13 +1,23 @@
 -- Bland's turns one after the other.
-use Rattle.std.proofs.Common.{◌≡◌, ℕ, ◌+◌, ◌<◌, ◌≤◌, arith, length-append, List, [], ◌∷◌, ◌++◌, length, Some, None, sym, ◌∙◌, refl, subst, inl, inr}
+use Rattle.std.proofs.Common.{◌≡◌, ℕ, ◌+◌, ◌<◌, ◌≤◌, arith, length-append, List, [], ◌∷◌, ◌++◌, length, Option, Some, None, Result, Ok, Err, IfOk, Vec, Global, sym, ◌∙◌, refl, subst, inl, inr}
 use Rattle.std.proofs.lemmas.List.{get_or_past}
-use Rattle.bt_simplex.specs.SolvedForms.{Slots}
+use Rattle.bt_simplex.specs.SolvedForms.{Slots, slot_at, basis_of, IsOutside, IsSolvedForm}
 use Rattle.bt_simplex.specs.Tableaus.{TableauParts, IsTableau}
-use Rattle.bt_simplex.specs.Turns.{CanTurn, CanEnter, IsBlandTurn, IsMet, IsFinal, IsTurnedBy, Follows}
+use Rattle.bt_simplex.specs.Turns.{CanTurn, CanEnter, IsBlandTurn, IsMet, IsStuckAt, IsFinal, IsTurnedBy, Follows}
 use Rattle.bt_simplex.specs.declared.tableau.Turn.{Turn}
 use Rattle.bt_simplex.specs.inner.Bases.{with_slots}
-use Rattle.bt_simplex.specs.Runs.{GoesOn}
-use Rattle.bt_simplex.specs.inner.Runs.{IsMade, EndsAt}
+use Rattle.bt_lin.specs.WeightedRows.{coefficient_at}
+use Rattle.bt_frac.specs.Ratio.{Ratio}
+use Rattle.bt_frac.specs.Rows.{RowParts}
+use Rattle.std.specs.declared.alloc.AllocError.{AllocError}
+use Rattle.bt_simplex.specs.Causes.{IsStepAt, IsCause}
+use Rattle.bt_simplex.specs.declared.causes.Cause.{Cause}
+use Rattle.bt_simplex.specs.inner.UnfitTurns.{CanPart, IsUnfitTurn}
+use Rattle.bt_simplex.proofs.Zeros.{named_has}
+use Rattle.bt_simplex.specs.Lines.{Terms}
+use Rattle.bt_simplex.specs.inner.Runs.{IsAt, IsMade, IsEnd, IsRun}
+use Rattle.bt_simplex.specs.declared.running.End.{End}
+use Rattle.bt_simplex.specs.declared.running.End.TheVariants.{Met, Stuck, Pivots, Wide}
 use Rattle.bt_simplex.specs.inner.TurnedSlots.{IsTurned}
 use Rattle.bt_simplex.proofs.TableauTurns.{turned_tableau, turned_by}
 
@@ -46,21 +56,57 @@ made_turn t slots turn slots' tableau bland made =
     let can = bland_can (with_slots t slots) turn bland in
     record { tableau = turned_tableau (with_slots t slots) turn slots' tableau can made; turned = turned_by (with_slots t slots) turn slots' tableau can made }
 
+pub turn_made : (t : TableauParts) (slots : Slots) (turn : Turn) (slots' : Slots) → IsTableau (with_slots t slots) → IsBlandTurn (with_slots t slots) turn
+    → (r : Result (Result (Unit {0}) Cause) AllocError) → IfOk r (λ o. IfOk o (λ d. IsTurned slots turn.leaves turn.enters slots')) → IfOk r (λ o. IfOk o (λ d. IsMade t turn slots slots'))
+turn_made t slots turn slots' tableau bland (Err e) made = tt
+turn_made t slots turn slots' tableau bland (Ok (Err cause)) made = tt
+turn_made t slots turn slots' tableau bland (Ok (Ok d)) made = made_turn t slots turn slots' tableau bland made
+
 -- the turns so far, and one more
 pub at_more : (t start : TableauParts) (turns : List Turn) (slots : Slots) (turn : Turn) (slots' : Slots) → Follows start turns (with_slots t slots) → IsBlandTurn (with_slots t slots) turn
     → IsMade t turn slots slots' → Follows start (turns ++ turn ∷ []) (with_slots t slots')
 at_more t start turns slots turn slots' follows bland made = follows_more start turns (with_slots t slots) (with_slots t slots') turn follows bland made.turned
 
--- as many turns as there may be, and no final basis
-pub goes_on : (pivots : ℕ) (t start : TableauParts) (turns : List Turn) (slots : Slots) (turn : Turn) → length turns ≤ pivots → pivots ≤ length turns → Follows start turns (with_slots t slots)
-    → IsBlandTurn (with_slots t slots) turn → GoesOn pivots start turns
-goes_on pivots t start turns slots turn few many follows bland =
-    record { many = omega arith; last = with_slots t slots; follows = follows; goes_on = bland_goes_on (with_slots t slots) turn bland }
+-- the line of a leaving position can be taken apart
+pub can_part : (rows : List RowParts) (columns : ℕ) (slots : Slots) (turn : Turn) → IsSolvedForm rows columns slots → CanTurn slots turn → CanPart (slot_at slots turn.leaves) turn.leaves turn.enters
+can_part rows columns slots turn form can = record { terms = can.0; slot_is = can.1; number = can.2.0; named = can.2.1; lacks = lacks (coefficient_at turn.leaves can.0) refl }
+  where
+    lacks : (o : Option Ratio) → coefficient_at turn.leaves can.0 ≡ o → coefficient_at turn.leaves can.0 ≡ None
+    lacks None e = e
+    lacks (Some number) e =
+        let out = named_has (λ q. IsOutside slots q) turn.leaves can.0 number (form.lines turn.leaves can.0 can.1).1 e in
+        let none : None ≡ Some can.0 = sym out.outside ∙ can.1 in
+        absurd cc
+
+-- the operation that doesn't fit in Bland's turn is a cause
+pub turn_cause : (t : TableauParts) (turn : Turn) (slots' : Slots) (cause : Cause) → IsBlandTurn t turn → IsUnfitTurn t.slots turn.leaves turn.enters slots' cause → IsCause t cause
+turn_cause t turn slots' cause bland unfit = (
+  unfit.none,
+  subst (λ place. IsStepAt t place cause.row cause.column cause.operation cause.left cause.right) (sym unfit.place) (turn, bland, unfit.step),
+)
+
+-- where a run ends
+module _ (pivots : ℕ) (t : TableauParts) (start : Slots) (turns : Vec Turn Global) (slots : Vec (Option Terms) Global) (few : length turns.items ≤ pivots) (at : IsAt (with_slots t start) turns.items slots.items) where
+  ended : (slots' : Vec (Option Terms) Global) (end : End) → basis_of slots'.items ≡ basis_of slots.items → IsEnd pivots t (with_slots t slots.items) turns.items slots'.items end
+      → IsRun pivots t start (record { turns = turns; slots = slots'; end = end })
+  ended slots' end basis ends = record { few = few; last = with_slots t slots.items; follows = at.follows; basis = basis; ends = ends }
+
+  pub met_run : IsMet (with_slots t slots.items) → IsRun pivots t start (record { turns = turns; slots = slots; end = Met })
+  met_run met = ended slots Met refl (refl, at.tableau, met)
+
+  pub stuck_run : (position : ℕ) → IsStuckAt (with_slots t slots.items) position → IsRun pivots t start (record { turns = turns; slots = slots; end = Stuck position })
+  stuck_run position stuck = ended slots (Stuck position) refl (refl, at.tableau, stuck)
+
+  pub wide_run : (cause : Cause) → IsCause (with_slots t slots.items) cause → IsRun pivots t start (record { turns = turns; slots = slots; end = Wide cause })
+  wide_run cause told = ended slots (Wide cause) refl told
+
+  pub pivots_run : (turn : Turn) → pivots ≤ length turns.items → IsBlandTurn (with_slots t slots.items) turn → IsRun pivots t start (record { turns = turns; slots = slots; end = Pivots })
+  pivots_run turn many bland = ended slots Pivots refl (omega arith, bland_goes_on (with_slots t slots.items) turn bland)
+
+  pub turn_run : (slots' : Vec (Option Terms) Global) (turn : Turn) (cause : Cause) → IsBlandTurn (with_slots t slots.items) turn → IsUnfitTurn slots.items turn.leaves turn.enters slots'.items cause
+      → IsRun pivots t start (record { turns = turns; slots = slots'; end = Wide cause })
+  turn_run slots' turn cause bland unfit =
+      ended slots' (Wide cause) unfit.same_basis (turn_cause (with_slots t slots.items) turn slots'.items cause bland unfit)
 
 pub more_turns : (turns : List Turn) (turn : Turn) (pivots : ℕ) → length turns + 1 ≤ pivots → length (turns ++ turn ∷ []) ≤ pivots
 more_turns turns turn pivots few = rw length-append few
-
--- a basis at which nothing fails ends a run
-pub met_end : (pivots : ℕ) (t : TableauParts) (first : Slots) (turns : List Turn) (slots : Slots) → length turns ≤ pivots → IsTableau (with_slots t slots)
-    → Follows (with_slots t first) turns (with_slots t slots) → IsMet (with_slots t slots) → EndsAt pivots (with_slots t first) slots × IsMet (with_slots t slots)
-met_end pivots t first turns slots few tableau follows met = (record { tableau = tableau; leads = record { turns = turns; few = few; follows = follows } }, met)

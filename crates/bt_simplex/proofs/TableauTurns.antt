@@ -8,7 +8,8 @@ use Rattle.bt_simplex.specs.Turns.{InBasis, CanTurn, IsTurnedBy}
 use Rattle.bt_simplex.specs.declared.tableau.Turn.{Turn}
 use Rattle.bt_simplex.specs.inner.TurnedSlots.{IsSubstituted, IsTurned}
 use Rattle.bt_simplex.proofs.Indicators.{decide}
-use Rattle.bt_simplex.proofs.Turned.{named_has, was, not_leaving, turn_solves}
+use Rattle.bt_simplex.proofs.Zeros.{named_has}
+use Rattle.bt_simplex.proofs.Turned.{was, not_leaving, turn_solves}
 
 pub enters_outside : (rows : List RowParts) (columns : ℕ) (slots : Slots) (turn : Turn) → IsSolvedForm rows columns slots → CanTurn slots turn → IsOutside slots turn.enters
 enters_outside rows columns slots turn form can =

@@ -1,5 +1,5 @@
 -- Sums of the terms of lines, and the steps of a walk over two lines.
-use Rattle.std.proofs.Common.{◌≡◌, ◌≢◌, ℕ, ◌+◌, ◌*◌, ◌<◌, arith, pos, ◌*ℤ◌, [], ◌∷◌, Option, Some, None, IfSome, ap, sym, ◌∙◌, refl, subst, unsigned_abs}
+use Rattle.std.proofs.Common.{◌≡◌, ◌≢◌, ℕ, ◌+◌, ◌*◌, ◌<◌, arith, pos, ◌*ℤ◌, [], ◌∷◌, Option, Some, None, IfSome, ap, sym, ◌∙◌, refl, subst, unsigned_abs, inl, inr}
 use Rattle.std.specs.List.{All}
 use Rattle.std.proofs.lemmas.Int.{unsigned_abs-mul}
 use Rattle.std.proofs.lemmas.List.Elements.{All-head, All-tail}
@@ -49,6 +49,8 @@ step_left first rest factor right some after = record {
     left_after = rest_line least first rest left_line;
     right_after = later first.0 least right after right_line;
   };
+  left_tail = inr (first, refl);
+  right_tail = inl refl;
   shorter = omega arith;
 }
 
@@ -89,6 +91,8 @@ step_right left factor second rest product factor_low factor_some low is after =
     left_after = later second.0 least left after left_line;
     right_after = rest_line least second rest right_line;
   };
+  left_tail = inl refl;
+  right_tail = inr (second, refl);
   shorter = omega arith;
 }
 
@@ -147,6 +151,8 @@ step_both first left factor second right product sum term same factor_low low is
     left_after = rest_line least first left left_line;
     right_after = subst (λ n. IsLineFrom (n + 1) right) (sym same) (rest_line least second right right_line);
   };
+  left_tail = inr (first, refl);
+  right_tail = inr (second, refl);
   shorter = omega arith;
 }
 
@@ -166,21 +172,27 @@ step_before left factor right first rest second others low e f less =
     subst (λ l. IsStep l factor right (Some first) rest right) (sym e)
     (step_left first rest factor right low.positive (subst (λ r. StartsAfter first.0 r) (sym f) less))
 
-pub step_second : (left : Terms) (factor : Ratio) (right : Terms) (second : ℕ × Ratio) (rest : Terms) (product : Ratio) → IsLowest factor → factor.over ≢ pos 0
-    → IsLowest product → IsProduct factor second.1 product → right ≡ second ∷ rest → left ≡ []
-    → IsStep left factor right (Some (second.0, product)) left rest
-unfolding StartsAfter
-step_second left factor right second rest product low some p_low is e none =
-    subst (λ r. IsStep left factor r (Some (second.0, product)) left rest) (sym e)
-    (step_right left factor second rest product low some p_low is (subst (λ l. StartsAfter second.0 l) (sym none) tt))
+-- a term of this position and number
+term_is : (t : ℕ × Ratio) (position : ℕ) → t.0 ≡ position → (position, t.1) ≡ t
+term_is t position e = ap (λ n. (n, t.1)) (sym e)
 
-pub step_after : (left : Terms) (factor : Ratio) (right : Terms) (second : ℕ × Ratio) (rest : Terms) (product : Ratio) (first : ℕ × Ratio) (others : Terms)
-    → IsLowest factor → factor.over ≢ pos 0 → IsLowest product → IsProduct factor second.1 product → right ≡ second ∷ rest → left ≡ first ∷ others → second.0 < first.0
-    → IsStep left factor right (Some (second.0, product)) left rest
+pub step_second : (left : Terms) (factor : Ratio) (right : Terms) (second : ℕ × Ratio) (rest : Terms) (term : ℕ × Ratio) → IsLowest factor → factor.over ≢ pos 0
+    → (term.0 ≡ second.0) × IsLowest term.1 × IsProduct factor second.1 term.1 → right ≡ second ∷ rest → left ≡ []
+    → IsStep left factor right (Some term) left rest
 unfolding StartsAfter
-step_after left factor right second rest product first others low some p_low is e f less =
-    subst (λ r. IsStep left factor r (Some (second.0, product)) left rest) (sym e)
-    (step_right left factor second rest product low some p_low is (subst (λ l. StartsAfter second.0 l) (sym f) less))
+step_second left factor right second rest term low some is e none =
+    subst (λ t. IsStep left factor right (Some t) left rest) (term_is term second.0 is.0)
+    (subst (λ r. IsStep left factor r (Some (second.0, term.1)) left rest) (sym e)
+    (step_right left factor second rest term.1 low some is.1 is.2 (subst (λ l. StartsAfter second.0 l) (sym none) tt)))
+
+pub step_after : (left : Terms) (factor : Ratio) (right : Terms) (second : ℕ × Ratio) (rest : Terms) (term : ℕ × Ratio) (first : ℕ × Ratio) (others : Terms)
+    → IsLowest factor → factor.over ≢ pos 0 → (term.0 ≡ second.0) × IsLowest term.1 × IsProduct factor second.1 term.1 → right ≡ second ∷ rest → left ≡ first ∷ others → second.0 < first.0
+    → IsStep left factor right (Some term) left rest
+unfolding StartsAfter
+step_after left factor right second rest term first others low some is e f less =
+    subst (λ t. IsStep left factor right (Some t) left rest) (term_is term second.0 is.0)
+    (subst (λ r. IsStep left factor r (Some (second.0, term.1)) left rest) (sym e)
+    (step_right left factor second rest term.1 low some is.1 is.2 (subst (λ l. StartsAfter second.0 l) (sym f) less)))
 
 pub step_same : (left : Terms) (factor : Ratio) (right : Terms) (first : ℕ × Ratio) (rest : Terms) (second : ℕ × Ratio) (others : Terms) (term : Option (ℕ × Ratio))
     → IsLowest factor → left ≡ first ∷ rest → right ≡ second ∷ others → first.0 ≡ second.0 → AddsTo first.0 first.1 factor second.1 term

@@ -1,115 +1,24 @@
 -- A turn keeps the solved form.
-use Rattle.std.proofs.Common.{◌≡◌, ◌≢◌, ℕ, ◌+◌, ◌<◌, arith, lit<, pos, neg_ℤ, Bool, true, false, if◌then◌else◌, ◌==◌, suc, sum_by, set, get_or, length-set, Result, Ok, Err, IfOk, IsTrue, List, [], ◌∷◌, length, Option, Some, None, ap, sym, ◌∙◌, refl, subst, ◌⊎◌, inl, inr}
+use Rattle.std.proofs.Common.{◌≡◌, ◌≢◌, ℕ, ◌+◌, ◌<◌, arith, true, false, if◌then◌else◌, ◌==◌, suc, sum_by, set, get_or, length-set, List, [], ◌∷◌, length, Option, Some, None, ap, sym, ◌∙◌, refl, subst, ◌⊎◌, inl, inr}
 use Rattle.std.specs.List.{All}
-use Rattle.std.proofs.lemmas.Int.{ints}
 use Rattle.std.proofs.lemmas.Bool.{cases_lt}
 use Rattle.std.proofs.lemmas.Bool.Decides.{nat_tests}
 use Rattle.std.proofs.lemmas.List.{get_or_past, get_or-set_same, get_or-set_other}
 use Rattle.std.proofs.lemmas.List.Sums.{sum_by-set, sum_by-cons}
-use Rattle.std.specs.declared.alloc.AllocError.{AllocError}
-use Rattle.std.proofs.Math.Nat.{one-dvd}
-use Rattle.bt_frac.proofs.Ring.{neg_mul}
-use Rattle.std.proofs.lemmas.List.Elements.{All-head, All-tail, All-cons, All-nil}
+use Rattle.std.proofs.lemmas.List.Elements.{All-cons, All-nil}
 use Rattle.bt_frac.specs.Ratio.{Ratio, SameRatio, IsLowest, negated}
-use Rattle.bt_frac.specs.Products.{IsDivision}
 use Rattle.bt_frac.specs.Rows.{RowParts, IsRow}
 use Rattle.bt_frac.specs.Values.{AreValues, nothing, plus, times}
 use Rattle.bt_lin.specs.WeightedRows.{coefficient_at}
 use Rattle.bt_simplex.specs.Lines.{one, Terms, HasNumber, IsLine, IsCombination, total}
 use Rattle.bt_simplex.specs.SolvedForms.{Slots, slot_at, basis_from, basis_of, at_position, IsOutside, IsSolvedForm}
 use Rattle.bt_simplex.specs.inner.TurnedSlots.{IsZeroLine, IsSubstituted, IsEntered, IsTurned}
-use Rattle.bt_simplex.proofs.Numbers.{Positive, nothing_some, zero_alike, Alike, alike, itself, back, next, both_plus, both_times, swap_plus, swap_times, group_times, drop_zero, plus_positive, times_positive, times_zero, differ_none, none_differ, negated_times, adds_none}
+use Rattle.bt_simplex.proofs.Numbers.{Positive, zero_alike, Alike, alike, itself, back, next, both_plus, both_times, times_positive, differ_none, adds_none}
 use Rattle.bt_simplex.proofs.Standing.{stands_some}
 use Rattle.bt_simplex.proofs.Totals.{total_positive}
-use Rattle.bt_simplex.proofs.Indicators.{LacksPosition, decide, indicator, indicator_some, lacking_total, having_total, total_at, none_lacks, zero_lacks, over_zero_of, combination_lacks, number_has, times_one}
-
-one_some : Positive one
-one_some = omega arith
-
-zero_of : (a : Ratio) → Alike a nothing → a.over ≡ pos 0
-zero_of a h = over_zero_of a nothing h refl
-
-negated_some : (a : Ratio) → Positive a → Positive (negated a)
-negated_some a some = some
-
--- a sum of one term
-one_term : (at : ℕ → Ratio) → AreValues at → (p : ℕ) (number : Ratio) → Positive number → Alike (total at ((p, number) ∷ [])) (times number (at p))
-one_term at values p number some =
-    let product = times_positive number (at p) some (values p) in
-    next (swap_plus (times number (at p)) nothing product nothing_some) (drop_zero nothing (times number (at p)) nothing_some product refl)
-
-combined_alike : (at : ℕ → Ratio) → AreValues at → (left : Terms) (factor : Ratio) (right terms : Terms) → Positive factor → All HasNumber left → All HasNumber right → IsLine terms
-    → IsCombination left factor right terms → Alike (total at terms) (plus (total at left) (times factor (total at right)))
-combined_alike at values left factor right terms some all all' line is =
-    alike (total at terms) (plus (total at left) (times factor (total at right))) (total_positive at values terms line.numbers)
-    (plus_positive (total at left) (times factor (total at right)) (total_positive at values left all) (times_positive factor (total at right) some (total_positive at values right all')))
-    (is at values)
-
--- nothing is added where the second line is 0
-plus_none : (at : ℕ → Ratio) → AreValues at → (left : Terms) (factor : Ratio) (right terms : Terms) → Positive factor → All HasNumber left → All HasNumber right → IsLine terms
-    → IsCombination left factor right terms → Alike (total at right) nothing → Alike (total at terms) (total at left)
-plus_none at values left factor right terms some all all' line is none =
-    let l = total_positive at values left all in
-    let r = total_positive at values right all' in
-    let zero : (times factor (total at right)).over ≡ pos 0 = times_zero factor (total at right) (zero_of (total at right) none) in
-    let product = times_positive factor (total at right) some r in
-    next (combined_alike at values left factor right terms some all all' line is)
-    (next (swap_plus (total at left) (times factor (total at right)) l product) (drop_zero (times factor (total at right)) (total at left) product l zero))
-
-one_times : (a : Ratio) → Positive a → Alike (times one a) a
-one_times a some = next (swap_times one a one_some some) (times_one a some)
-
--- the share of the number is 1
-share_is : (number share : Ratio) → Positive number → Positive share → IsDivision one number share → Alike (times share number) one
-share_is number share some some' is = alike (times share number) one (times_positive share number some' some) one_some (sym is)
-
-share_some : (number share : Ratio) → Positive number → Positive share → IsDivision one number share → share.over ≢ pos 0
-share_some number share some some' is e =
-    let none : pos 1 ≡ pos 0 = over_zero_of one (times number share) (back (next (swap_times number share some some') (share_is number share some some' is))) (times_zero number share e) in
-    absurd (grind (arith, ints))
-
-one_lowest : IsLowest one
-one_lowest = record { positive = one_some; coprime = (one-dvd 1, one-dvd 1, λ d p q. p); over_fits = lit< tt; under_fits = lit< tt }
-
-one_number : (p : ℕ) → HasNumber (p, one)
-one_number p = (one_lowest, λ e. grind (arith, ints))
-
-negated_alike : {a b : Ratio} → Alike a b → Alike (negated a) (negated b)
-negated_alike {a} {b} h =
-    alike (negated a) (negated b) h.left h.right (neg_mul a.over (pos b.under) ∙ ap neg_ℤ h.same ∙ sym (neg_mul b.over (pos a.under)))
-
--- a number times minus 1
-minus_one : (a : Ratio) → Positive a → Alike (times a (negated one)) (negated a)
-minus_one a some =
-    next (swap_times a (negated one) some one_some)
-    (subst (λ t. Alike t (negated a)) (sym (negated_times one a)) (negated_alike (one_times a some)))
-
--- terms that all have a property name only positions that do
-pub named_has : (P : ℕ → Type 0) (q : ℕ) (terms : Terms) (number : Ratio) → All (λ t. P t.0) terms → coefficient_at q terms ≡ Some number → P q
-named_has P q [] number all e = absurd cc
-named_has P q (t ∷ terms) number all e = elim (decide t.0 q) [
-  | inl same ↦ subst P same (All-head (λ u. P u.0) t terms all)
-  | inr apart ↦
-      let test : (t.0 == q) ≡ false = grind (arith, nat_tests) in
-      named_has P q terms number (All-tail (λ u. P u.0) t terms all) (sym (ap (λ b. if b then Some t.1 else coefficient_at q terms) test) ∙ e)
-]
-
-pub named_or_lacks : (P : ℕ → Type 0) (q : ℕ) (terms : Terms) → All (λ t. P t.0) terms → P q ⊎ LacksPosition q terms
-named_or_lacks P q [] all = inr (All-nil (λ u. u.0 ≢ q))
-named_or_lacks P q (t ∷ terms) all = elim (decide t.0 q) [
-  | inl same ↦ inl (subst P same (All-head (λ u. P u.0) t terms all))
-  | inr apart ↦ elim (named_or_lacks P q terms (All-tail (λ u. P u.0) t terms all)) [
-    | inl h ↦ inl h
-    | inr lacks ↦ inr (All-cons (λ u. u.0 ≢ q) t terms apart lacks)
-  ]
-]
-
-pub all_from : (P : ℕ → Type 0) (terms : Terms) → ((q : ℕ) → P q ⊎ LacksPosition q terms) → All (λ t. P t.0) terms
-all_from P [] h = All-nil (λ u. P u.0)
-all_from P (t ∷ terms) h =
-    All-cons (λ u. P u.0) t terms
-    (elim (h t.0) [ inl p ↦ p | inr lacks ↦ absurd (All-head (λ u. u.0 ≢ t.0) t terms lacks refl) ])
-    (all_from P terms (λ q. elim (h q) [ inl p ↦ inl p | inr lacks ↦ inr (All-tail (λ u. u.0 ≢ q) t terms lacks) ]))
+use Rattle.bt_simplex.proofs.Indicators.{LacksPosition, decide, indicator, indicator_some, having_total, total_at, none_lacks, zero_lacks, over_zero_of, combination_lacks, number_has}
+use Rattle.bt_simplex.proofs.Zeros as zeros
+use Rattle.bt_simplex.proofs.Zeros.{one_some, zero_of, negated_some, one_term, combined_alike, plus_none, one_times, share_is, share_some, one_lowest, one_number, negated_alike, minus_one, named_has, named_or_lacks, all_from, total_along}
 
 -- what a changed slot was before
 changed_from : (enters : ℕ) (zero : Terms) (old new : Option Terms) (terms' : Terms) → IsSubstituted enters zero old new → new ≡ Some terms'
@@ -125,77 +34,25 @@ changed_from enters zero (Some terms) new terms' (inr h) e =
       inr (h.0, h.1, subst (λ l. IsLine l) terms_is h.2.2, subst (λ l. IsCombination terms h.0 zero l) terms_is h.2.3),
     )
 
-pub total_along : (at at' : ℕ → Ratio) → AreValues at → AreValues at' → (terms : Terms) → All HasNumber terms → All (λ t. Alike (at t.0) (at' t.0)) terms → Alike (total at terms) (total at' terms)
-total_along at at' values values' [] all same = itself nothing nothing_some
-total_along at at' values values' (t ∷ terms) all same =
-    let here = All-head HasNumber t terms all in
-    both_plus (both_times (itself t.1 here.0.positive) (All-head (λ u. Alike (at u.0) (at' u.0)) t terms same))
-    (total_along at at' values values' terms (All-tail HasNumber t terms all) (All-tail (λ u. Alike (at u.0) (at' u.0)) t terms same))
-
 module _ (slots : Slots) (leaves enters : ℕ) (slots' : Slots) (turn : IsTurned slots leaves enters slots') (apart : leaves ≢ enters)
     (line : IsLine turn.terms) (outside : All (λ t. IsOutside slots t.0) turn.terms) where
   number_some : HasNumber (enters, turn.number)
-  number_some = number_has enters turn.terms (Some turn.number) line.numbers (sym turn.is_number)
-
-  share_number : HasNumber (leaves, turn.is_zero.share)
-  share_number = (turn.is_zero.share_lowest, share_some turn.number turn.is_zero.share number_some.0.positive turn.is_zero.share_lowest.positive turn.is_zero.is_share)
+  number_some = zeros.number_some leaves enters turn.terms turn.number turn.zero turn.is_zero apart line turn.is_number
 
   alone : All HasNumber ((leaves, turn.is_zero.share) ∷ [])
-  alone = All-cons HasNumber (leaves, turn.is_zero.share) [] share_number (All-nil HasNumber)
-
-  zero_parts : (at : ℕ → Ratio) → AreValues at
-      → Alike (total at turn.zero) (plus (times turn.is_zero.share (at leaves)) (negated (times turn.is_zero.share (total at turn.terms))))
-  zero_parts at values =
-      let share = turn.is_zero.share in
-      let some = turn.is_zero.share_lowest.positive in
-      let t = total_positive at values turn.terms line.numbers in
-      next (combined_alike at values ((leaves, share) ∷ []) (negated share) turn.terms turn.zero some alone line.numbers turn.is_zero.line turn.is_zero.combination)
-      (both_plus (one_term at values leaves share some)
-      (subst (λ r. Alike (times (negated share) (total at turn.terms)) r) (negated_times share (total at turn.terms))
-      (itself (times (negated share) (total at turn.terms)) (times_positive (negated share) (total at turn.terms) some t))))
+  alone = zeros.alone leaves enters turn.terms turn.number turn.zero turn.is_zero apart line turn.is_number
 
   -- the line is 0 where the leaving one holds
   zero_none : (at : ℕ → Ratio) → AreValues at → SameRatio (at leaves) (total at turn.terms) → Alike (total at turn.zero) nothing
-  zero_none at values same =
-      let share = turn.is_zero.share in
-      let some = turn.is_zero.share_lowest.positive in
-      let t = total_positive at values turn.terms line.numbers in
-      let shares : Alike (times share (at leaves)) (times share (total at turn.terms)) = both_times (itself share some) (alike (at leaves) (total at turn.terms) (values leaves) t same) in
-      let parts = zero_parts at values in
-      next parts (zero_alike (plus (times share (at leaves)) (negated (times share (total at turn.terms)))) parts.right
-      (differ_none (times share (at leaves)) (times share (total at turn.terms)) shares.same))
+  zero_none = zeros.zero_none leaves enters turn.terms turn.number turn.zero turn.is_zero apart line turn.is_number
 
   -- and only there
   leaving_holds : (at : ℕ → Ratio) → AreValues at → Alike (total at turn.zero) nothing → Alike (at leaves) (total at turn.terms)
-  leaving_holds at values none =
-      let share = turn.is_zero.share in
-      let some = turn.is_zero.share_lowest.positive in
-      let t = total_positive at values turn.terms line.numbers in
-      let x : Ratio = at leaves in
-      let y : Ratio = total at turn.terms in
-      let parts = zero_parts at values in
-      let same = none_differ (times share x) (times share y) (zero_of (plus (times share x) (negated (times share y))) (next (back parts) none)) in
-      let shares : Alike (times share x) (times share y) = alike (times share x) (times share y) (times_positive share x some (values leaves)) (times_positive share y some t) same in
-      let n = number_some.0.positive in
-      let one_is : Alike (times turn.number share) one = next (swap_times turn.number share n some) (share_is turn.number share n some turn.is_zero.is_share) in
-      let whole : (z : Ratio) → Positive z → Alike (times turn.number (times share z)) z =
-      λ z z_some. next (back (group_times turn.number share z n some z_some)) (next (both_times one_is (itself z z_some)) (one_times z z_some)) in
-      next (back (whole x (values leaves))) (next (both_times (itself turn.number n) shares) (whole y t))
+  leaving_holds = zeros.leaving_holds leaves enters turn.terms turn.number turn.zero turn.is_zero apart line turn.is_number
 
   -- the line has its number -1 at the entering position
   zero_at : Alike (total (indicator enters) turn.zero) (negated one)
-  zero_at =
-      let share = turn.is_zero.share in
-      let some = turn.is_zero.share_lowest.positive in
-      let values = indicator_some enters in
-      let none : Alike (total (indicator enters) ((leaves, share) ∷ [])) nothing =
-      lacking_total enters ((leaves, share) ∷ []) alone (All-cons (λ u. u.0 ≢ enters) (leaves, share) [] apart (All-nil (λ u. u.0 ≢ enters))) in
-      let number = total_at enters 0 turn.terms turn.number line turn.is_number in
-      let product : Alike (times (negated share) (total (indicator enters) turn.terms)) (negated one) =
-      next (both_times (itself (negated share) some) number)
-      (subst (λ t. Alike t (negated one)) (sym (negated_times share turn.number)) (negated_alike (share_is turn.number share number_some.0.positive some turn.is_zero.is_share))) in
-      next (combined_alike (indicator enters) values ((leaves, share) ∷ []) (negated share) turn.terms turn.zero some alone line.numbers turn.is_zero.line turn.is_zero.combination)
-      (next (both_plus none product) (drop_zero nothing (negated one) nothing_some one_some refl))
+  zero_at = zeros.zero_at leaves enters turn.terms turn.number turn.zero turn.is_zero apart line turn.is_number
 
   -- what has a number times the line added to it lacks the entering position
   cancelled : (left : Terms) (number : Ratio) (terms' : Terms) → IsLowest number → All HasNumber left → IsLine terms' → IsCombination left number turn.zero terms'
@@ -407,7 +264,7 @@ module _ (slots : Slots) (leaves enters : ℕ) (slots' : Slots) (turn : IsTurned
       was_none (Some terms) new (inr h) e = absurd (let f = h.2.1 in cc)
 
 -- how many positions a slot adds to a basis
-weight : Option Terms → ℕ
+unfoldable pub weight : Option Terms → ℕ
 weight None = 0
 weight (Some terms) = 1
 
@@ -434,7 +291,7 @@ same_weights (x ∷ xs) (y ∷ ys) e h =
     let sum' : sum_by weight (y ∷ ys) ≡ weight y + sum_by weight ys = sum_by-cons weight y ys in
     omega arith
 
-substituted_weight : (enters : ℕ) (zero : Terms) (old new : Option Terms) → IsSubstituted enters zero old new → weight new ≡ weight old
+pub substituted_weight : (enters : ℕ) (zero : Terms) (old new : Option Terms) → IsSubstituted enters zero old new → weight new ≡ weight old
 unfolding weight
 substituted_weight enters zero None new is = ap weight is
 substituted_weight enters zero (Some terms) new (inl h) = ap weight h.1
@@ -516,11 +373,3 @@ entered_turned slots leaves enters terms number zero slots' within apart leaving
   entered = entered.entered;
   is_entering = entered.is_entering;
 }
-
-pub turned_ok : (slots : Slots) (leaves enters : ℕ) (terms : Terms) (number : Ratio) (zero : Terms) (slot : Option Terms) (slots' : Slots) (o : Result Bool AllocError) → leaves < length slots → leaves ≢ enters
-    → slot_at slots leaves ≡ Some terms → coefficient_at enters terms ≡ Some number → IsZeroLine leaves terms number zero → slot ≡ None
-    → IfOk o (λ done. IsTrue done → IsEntered enters zero (set slots leaves slot) slots') → IfOk o (λ done. IsTrue done → IsTurned slots leaves enters slots')
-turned_ok slots leaves enters terms number zero slot slots' (Err e) within apart leaving is is_zero none h = tt
-turned_ok slots leaves enters terms number zero slot slots' (Ok done) within apart leaving is is_zero none h = λ t.
-    entered_turned slots leaves enters terms number zero slots' within apart leaving is is_zero
-    (subst (λ s. IsEntered enters zero (set slots leaves s) slots') none (h t))

@@ -1,14 +1,20 @@
 -- The walk over two lines: what is written so far, and what is left of both.
-use Rattle.std.proofs.Common.{◌≡◌, ℕ, ◌+◌, ◌-◌, ◌*◌, ◌^◌, ◌<◌, ◌≤◌, arith, pos, ◌*ℤ◌, [], ◌∷◌, ◌++◌, Option, Some, None, ap, sym, ◌∙◌, refl, subst, append_assoc, append-nil}
+use Rattle.std.proofs.Common.{◌≡◌, ◌≢◌, ◌⊎◌, inl, inr, ℕ, ◌+◌, ◌-◌, ◌*◌, ◌^◌, ◌<◌, ◌≤◌, arith, pos, ◌*ℤ◌, [], ◌∷◌, ◌++◌, Option, Some, None, ap, sym, ◌∙◌, refl, subst, append_assoc, append-nil}
 use Rattle.std.specs.List.{All}
 use Rattle.std.proofs.lemmas.List.Elements.{All-head, All-tail, All-cons, All-nil}
 use Rattle.std.proofs.Math.IntN.{zero-*ℤ}
 use Rattle.bt_frac.specs.Ratio.{Ratio, SameRatio, IsLowest}
 use Rattle.bt_frac.specs.Values.{AreValues, nothing, plus, times}
 use Rattle.bt_simplex.specs.Lines.{Terms, HasNumber, IsLine, IsLineFrom, IsCombination, total}
-use Rattle.bt_simplex.specs.inner.Steps.{IsStep, term_total}
+use Rattle.bt_lin.specs.WeightedRows.{coefficient_at}
+use Rattle.bt_simplex.specs.inner.Steps.{IsTail, IsStep, term_total}
+use Rattle.bt_simplex.specs.inner.Unfits.{IsUnfitStep, IsUnfitHere, IsUnfit}
+use Rattle.bt_simplex.specs.declared.answers.Operation.{Operation}
+use Rattle.bt_simplex.specs.declared.answers.Operation.TheVariants.{Add, Mul, Div}
+use Rattle.bt_simplex.specs.declared.causes.Unfit.{Unfit}
+use Rattle.bt_simplex.proofs.Entering.{number_here, number_later, named_from}
 use Rattle.bt_simplex.proofs.Numbers.{Positive, nothing_some, Alike, alike, itself, back, next, both_plus, group_plus, swap_plus, drop_zero, plus_positive, times_positive, times_zero}
-use Rattle.bt_simplex.proofs.Totals.{total_positive}
+use Rattle.bt_simplex.proofs.Totals.{total_positive, rest_line}
 
 -- what is written grows by a term
 pub total_push : (at : ℕ → Ratio) → AreValues at → (terms : Terms) (t : ℕ × Ratio) → All HasNumber terms → Positive t.1
@@ -38,12 +44,51 @@ line_cons least t terms place h e fits number line =
 abbrev pub sum_of : (ℕ → Ratio) → Terms → Ratio → Terms → Ratio
 sum_of at left factor right = plus (total at left) (times factor (total at right))
 
+-- the numbers of the second list are those of the first
+abbrev pub Keeps : Terms → Terms → Type 0
+Keeps terms rest = (q : ℕ) (number : Ratio) → coefficient_at q rest ≡ Some number → coefficient_at q terms ≡ Some number
+
+-- what is left of a line keeps its numbers
+tail_keeps : (least : ℕ) (terms rest : Terms) → IsLineFrom least terms → IsTail terms rest → Keeps terms rest
+tail_keeps least terms rest line (inl same) q number named = ap (λ l. coefficient_at q l) (sym same) ∙ named
+tail_keeps least terms rest line (inr (t, is)) q number named =
+    let line' = subst (λ l. IsLineFrom least l) is line in
+    let after : t.0 + 1 ≤ q = named_from q (t.0 + 1) rest number (rest_line least t rest line') named in
+    let apart : t.0 ≢ q = λ e. omega arith in
+    ap (λ l. coefficient_at q l) is ∙ number_later t rest q apart ∙ named
+
+-- a product or a sum that doesn't fit in what is left of both lines doesn't fit in these
+pub kept_unfit : (left : Terms) (factor : Ratio) (right first second : Terms) (unfit : Unfit) → Keeps left first → Keeps right second → IsUnfit first factor second unfit → IsUnfit left factor right unfit
+kept_unfit left factor right first second unfit keeps keeps' (by, named, (column, none, step)) =
+    (by, keeps' unfit.column by named, (column, none, kept unfit.operation step))
+  where
+    kept : (operation : Operation) → IsUnfitStep (coefficient_at unfit.column first) factor by operation unfit.left unfit.right
+        → IsUnfitStep (coefficient_at unfit.column left) factor by operation unfit.left unfit.right
+    kept Add h = (keeps unfit.column unfit.left h.0, h.1, h.2)
+    kept Mul h = h
+    kept Div h = h
+
+-- at the first positions of both lines
+pub unfit_right : (left : Terms) (factor : Ratio) (right : Terms) (second : ℕ × Ratio) (rest : Terms) (number : Option Ratio) (unfit : Unfit) → right ≡ second ∷ rest
+    → (number ≡ None ⊎ (coefficient_at second.0 left ≡ number)) → IsUnfitHere second.0 number factor second.1 unfit → IsUnfit left factor right unfit
+unfit_right left factor right second rest number unfit is has (column, none, step) =
+    (second.1, ap (λ l. coefficient_at unfit.column l) is ∙ number_here second rest unfit.column (sym column), (refl, none, here unfit.operation has step))
+  where
+    here : (operation : Operation) → (number ≡ None ⊎ (coefficient_at second.0 left ≡ number)) → IsUnfitStep number factor second.1 operation unfit.left unfit.right
+        → IsUnfitStep (coefficient_at unfit.column left) factor second.1 operation unfit.left unfit.right
+    here Add (inl e) h = let both = h.0 in absurd cc
+    here Add (inr e) h = (ap (λ p. coefficient_at p left) column ∙ e ∙ h.0, h.1, h.2)
+    here Mul e h = h
+    here Div e h = h
+
 -- what is written, with what is left of both lines, is what both lines are
 pub record IsWalk (left : Terms) (factor : Ratio) (right written first second : Terms) : Type 0 where
   pub end : ℕ
   pub extends : (more : Terms) → IsLineFrom end more → IsLineFrom 0 (written ++ more)
   pub first_line : IsLineFrom end first
   pub second_line : IsLineFrom end second
+  pub first_named : Keeps left first
+  pub second_named : Keeps right second
   pub same : (at : ℕ → Ratio) → AreValues at → Alike (plus (total at written) (sum_of at first factor second)) (sum_of at left factor right)
 
 sum_positive : (at : ℕ → Ratio) → AreValues at → (left : Terms) (factor : Ratio) (right : Terms) → Positive factor → All HasNumber left → All HasNumber right → Positive (sum_of at left factor right)
@@ -57,6 +102,8 @@ walk_begins left factor right low line line' = record {
   extends = λ more h. h;
   first_line = line;
   second_line = line';
+  first_named = λ q number named. named;
+  second_named = λ q number named. named;
   same = λ at values. drop_zero nothing (sum_of at left factor right) nothing_some (sum_positive at values left factor right low.positive line.numbers line'.numbers) refl;
 }
 
@@ -88,6 +135,8 @@ module _ (left : Terms) (factor : Ratio) (right written first second first' seco
         extends = λ more h. walk.extends more (starts_before walk.end (n.place + 1) more (let r = n.reached in omega arith) h);
         first_line = n.left_after;
         second_line = n.right_after;
+        first_named = λ q number named. walk.first_named q number (tail_keeps walk.end first first' walk.first_line step.left_tail q number named);
+        second_named = λ q number named. walk.second_named q number (tail_keeps walk.end second second' walk.second_line step.right_tail q number named);
         same = λ at values.
             let w = total_positive at values written line.numbers in
             next (both_plus (next (back (drop_zero nothing (total at written) nothing_some w refl)) (swap_plus nothing (total at written) nothing_some w))
@@ -108,6 +157,8 @@ module _ (left : Terms) (factor : Ratio) (right written first second first' seco
             (walk.extends (t ∷ more) (line_cons walk.end t more n.place n.reached n.named.0 n.fits number h));
         first_line = n.left_after;
         second_line = n.right_after;
+        first_named = λ q number named. walk.first_named q number (tail_keeps walk.end first first' walk.first_line step.left_tail q number named);
+        second_named = λ q number named. walk.second_named q number (tail_keeps walk.end second second' walk.second_line step.right_tail q number named);
         same = λ at values.
             next (both_plus (total_push at values written t line.numbers number.0.positive)
             (itself (sum_of at first' factor second') (sum_positive at values first' factor second' low.positive n.left_after.numbers n.right_after.numbers)))

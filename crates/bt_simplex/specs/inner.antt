@@ -1,6 +1,13 @@
 -- What the contracts of private functions cite.
 pub mod Bases
+pub mod Checking
+pub mod Lemmas
 pub mod Runs
+pub mod Settling
+pub mod Shares
 pub mod Starts
 pub mod Steps
 pub mod TurnedSlots
+pub mod UnfitPoints
+pub mod UnfitTurns
+pub mod Unfits

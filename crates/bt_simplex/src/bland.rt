@@ -1,10 +1,12 @@
 //! Bland's rule: of the positions that fail the least leaves the basis, and of those that can enter the
 //! least does.
-ghost use Rattle.std.specs.Prelude.{◌≡◌, ℕ, IfSome, IsTrue, ◌↔◌};
+ghost use Rattle.std.specs.Prelude.{◌≡◌, ℕ, IfOk, IfErr, IsTrue, ◌↔◌};
+ghost use Rattle.bt_simplex.specs.Causes.{IsCause};
 ghost use Rattle.bt_simplex.specs.Lines.{IsLine};
 ghost use Rattle.bt_simplex.specs.Turns.{Breaks, Fails, MovesTowards, CanEnter};
 ghost use Rattle.bt_simplex.specs.inner.Bases.{with_slots, MayEnter, Names, Finds, IsLeastOf, IsNext};
 
+use crate::causes::Cause;
 use crate::line::{Line, Term};
 use crate::points::{bound_value, line_point, terms_at};
 use crate::tableau::{Tableau, Turn};
@@ -18,8 +20,8 @@ pub enum Least {
     At(usize),
     /// No position has the property.
     Nowhere,
-    /// A number that the property asks for doesn't fit.
-    Wide,
+    /// An operation that the property asks for doesn't fit.
+    Wide(Cause),
 }
 
 /// What Bland's rule says of a basis.
@@ -31,8 +33,8 @@ pub enum Next {
     Met,
     /// This position fails, and none can enter for it.
     Stuck(usize),
-    /// A number that the rule asks for doesn't fit.
-    Wide,
+    /// An operation that the rule asks for doesn't fit.
+    Wide(Cause),
 }
 
 /// Whether a bound row doesn't hold where it stands.
@@ -68,32 +70,33 @@ fn may_enter(tableau: &Tableau, row: &Row, point: &Delta, position: usize, numbe
     }
 }
 
-/// Whether a position is a bound row of the basis that doesn't hold. None where its point doesn't fit.
-fn fails(tableau: &Tableau, slots: &[Option<Line>], position: usize) -> Option<bool>
-    ensures { IfSome result (λ told. IsTrue told ↔ Fails (with_slots tableau.now slots.now) position) }
+/// Whether a position is a bound row of the basis that doesn't hold; or why its point doesn't fit.
+fn fails(tableau: &Tableau, slots: &[Option<Line>], position: usize) -> Result<bool, Cause>
+    ensures told { IfOk result (λ told. IsTrue told ↔ Fails (with_slots tableau.now slots.now) position) }
+    ensures unfit { IfErr result (IsCause (with_slots tableau.now slots.now)) }
 {
     let Some(terms) = terms_at(slots, position) else {
-        return Some(false);
+        return Ok(false);
     };
     let Some(row) = tableau.bound_row(position) else {
-        return Some(false);
+        return Ok(false);
     };
-    let Some(point) = line_point(tableau, terms) else {
-        return None;
-    };
-    Some(breaks(row, &point))
+    let point = line_point(tableau, position, terms)?;
+    Ok(breaks(row, &point))
 }
 
 /// The least position that fails.
 pub fn leaving(tableau: &Tableau, slots: &[Option<Line>]) -> Least
-    ensures { Finds (λ p. Fails (with_slots tableau.now slots.now) p) result }
+    ensures { Finds (with_slots tableau.now slots.now) (λ p. Fails (with_slots tableau.now slots.now) p) result }
 {
     for position in 0..slots.len() {
-        let Some(told) = fails(tableau, slots, position) else {
-            return Least::Wide;
-        };
-        if told {
-            return Least::At(position);
+        match fails(tableau, slots, position) {
+            Ok(told) => {
+                if told {
+                    return Least::At(position);
+                }
+            }
+            Err(cause) => return Least::Wide(cause),
         }
     }
     Least::Nowhere
@@ -114,20 +117,21 @@ fn first_entering(tableau: &Tableau, row: &Row, point: &Delta, terms: &[Term]) -
 
 /// The least position that can enter for one that fails.
 pub fn entering(tableau: &Tableau, slots: &[Option<Line>], leaves: usize) -> Least
-    ensures { Finds (λ e. CanEnter (with_slots tableau.now slots.now) leaves e) result }
+    requires { Fails (with_slots tableau.now slots.now) leaves }
+    ensures { Finds (with_slots tableau.now slots.now) (λ e. CanEnter (with_slots tableau.now slots.now) leaves e) result }
 {
     let Some(terms) = terms_at(slots, leaves) else {
         return Least::Nowhere;
     };
     let Some(row) = tableau.bound_row(leaves) else {
-        return Least::Wide;
+        return Least::Nowhere;
     };
-    let Some(point) = line_point(tableau, terms) else {
-        return Least::Wide;
-    };
-    match first_entering(tableau, row, &point, terms) {
-        Some(enters) => Least::At(enters),
-        None => Least::Nowhere,
+    match line_point(tableau, leaves, terms) {
+        Ok(point) => match first_entering(tableau, row, &point, terms) {
+            Some(enters) => Least::At(enters),
+            None => Least::Nowhere,
+        },
+        Err(cause) => Least::Wide(cause),
     }
 }
 
@@ -139,9 +143,9 @@ pub fn blands_next(tableau: &Tableau, slots: &[Option<Line>]) -> Next
         Least::At(leaves) => match entering(tableau, slots, leaves) {
             Least::At(enters) => Next::Turn(Turn { leaves, enters }),
             Least::Nowhere => Next::Stuck(leaves),
-            Least::Wide => Next::Wide,
+            Least::Wide(cause) => Next::Wide(cause),
         },
         Least::Nowhere => Next::Met,
-        Least::Wide => Next::Wide,
+        Least::Wide(cause) => Next::Wide(cause),
     }
 }

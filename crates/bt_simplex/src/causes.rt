@@ -12,3 +12,13 @@ pub struct Cause {
     pub left: Frac,
     pub right: Frac,
 }
+
+/// An operation on two numbers whose result leaves 128 bits, where lines are formed.
+#[derive(Clone, Copy)]
+pub struct Unfit {
+    /// The position whose number was to be formed.
+    pub column: usize,
+    pub operation: Operation,
+    pub left: Frac,
+    pub right: Frac,
+}

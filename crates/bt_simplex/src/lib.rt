@@ -6,14 +6,17 @@ mod answers;
 mod bland;
 mod causes;
 mod law;
+mod lemmas;
 mod line;
 mod merging;
 mod points;
 mod running;
+mod settling;
 mod starting;
 mod tableau;
 #[cfg(test)]
 mod tests;
+mod trails;
 mod turning;
 
 pub use answers::{Check, Operation, Trail, Wide, WidePlace};

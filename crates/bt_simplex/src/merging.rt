@@ -1,76 +1,85 @@
 //! Sums of a line and a number times another, formed by one walk over both.
-ghost use Rattle.std.specs.Prelude.{◌≡◌, ◌≢◌, pos, IfOk, IfSome, IfNone, [], ◌∷◌, IsTrue, ◌↔◌};
+ghost use Rattle.std.specs.Prelude.{◌≡◌, ◌≢◌, pos, IfOk, IfErr, IfSome, IfNone, None, Some, [], ◌∷◌, IsTrue, ◌↔◌};
 ghost use Rattle.bt_frac.specs.Ratio.{IsLowest};
+ghost use Rattle.bt_frac.specs.Products.{IsProduct};
 ghost use Rattle.bt_simplex.specs.Lines.{IsLine, IsCombination};
 ghost use Rattle.bt_simplex.specs.inner.Steps.{IsStep, AddsTo};
+ghost use Rattle.bt_simplex.specs.inner.Unfits.{IsUnfitHere, IsUnfit};
 
+use crate::answers::Operation;
+use crate::causes::Unfit;
 use crate::line::{Line, Term};
 use bt_frac::Frac;
 use std::alloc::{AllocError, Global};
 use std::cmp::Ordering;
 
-/// The sum of a line and a number, other than 0, times another line. None where a product or a sum
+/// The sum of a line and a number, other than 0, times another line, or the first product or sum that
 /// doesn't fit.
 pub fn combined(
     alloc: Global,
     left: &[Term],
     factor: &Frac,
     right: &[Term],
-) -> Result<Option<Line>, AllocError>
+) -> Result<Result<Line, Unfit>, AllocError>
     requires factor { factor.now.over ≢ pos 0 }
     requires lowest { IsLowest factor.now }
     requires left { IsLine left.now }
     requires right { IsLine right.now }
-    ensures line { IfOk result (λ o. IfSome o IsLine) }
-    ensures sum { IfOk result (λ o. IfSome o (IsCombination left.now factor.now right.now)) }
+    ensures line { IfOk result (λ o. IfOk o IsLine) }
+    ensures sum { IfOk result (λ o. IfOk o (IsCombination left.now factor.now right.now)) }
+    ensures unfit { IfOk result (λ o. IfErr o (IsUnfit left.now factor.now right.now)) }
 {
     let mut terms = Vec::new(alloc);
     let mut first = left;
     let mut second = right;
     while !are_empty(first, second) {
-        let Some((term, first_rest, second_rest)) = first_term(first, factor, second) else {
-            return Ok(None);
-        };
-        if let Some(term) = term {
-            terms.push(term)?;
+        match first_term(first, factor, second) {
+            Ok((term, first_rest, second_rest)) => {
+                if let Some(term) = term {
+                    terms.push(term)?;
+                }
+                first = first_rest;
+                second = second_rest;
+            }
+            Err(unfit) => return Ok(Err(unfit)),
         }
-        first = first_rest;
-        second = second_rest;
     }
-    Ok(Some(Line { terms }))
+    Ok(Ok(Line { terms }))
 }
 
 /// The first term of the sum of a line and a number times another, where it isn't 0, and what is left
-/// of both lines. None where the product or the sum doesn't fit, and where nothing is left.
+/// of both lines; or the product or the sum that doesn't fit.
 fn first_term<'a>(
     left: &'a [Term],
     factor: &Frac,
     right: &'a [Term],
-) -> Option<(Option<Term>, &'a [Term], &'a [Term])>
-    requires { factor.now.over ≢ pos 0 }
-    ensures { IfSome result (λ s. IsStep left.now factor.now right.now s.0 s.1.now s.2.now) }
+) -> Result<(Option<Term>, &'a [Term], &'a [Term]), Unfit>
+    requires factor { factor.now.over ≢ pos 0 }
+    requires some { (left.now ≡ []) × (right.now ≡ []) → ⊥ }
+    ensures step { IfOk result (λ s. IsStep left.now factor.now right.now s.0 s.1.now s.2.now) }
+    ensures unfit { IfErr result (IsUnfit left.now factor.now right.now) }
 {
     let _ = factor.denominator();
     match (split(left), split(right)) {
         (Some((first, left_rest)), Some((second, right_rest))) => {
             match first.0.cmp(&second.0) {
-                Ordering::Less => Some((Some(first), left_rest, right)),
+                Ordering::Less => Ok((Some(first), left_rest, right)),
                 Ordering::Equal => {
                     let term = added(first.0, &first.1, factor, &second.1)?;
-                    Some((term, left_rest, right_rest))
+                    Ok((term, left_rest, right_rest))
                 }
                 Ordering::Greater => {
-                    let product = factor.mul(&second.1)?;
-                    Some((Some((second.0, product)), left, right_rest))
+                    let term = scaled(factor, second)?;
+                    Ok((Some(term), left, right_rest))
                 }
             }
         }
-        (Some((first, left_rest)), None) => Some((Some(first), left_rest, right)),
+        (Some((first, left_rest)), None) => Ok((Some(first), left_rest, right)),
         (None, Some((second, right_rest))) => {
-            let product = factor.mul(&second.1)?;
-            Some((Some((second.0, product)), left, right_rest))
+            let term = scaled(factor, second)?;
+            Ok((Some(term), left, right_rest))
         }
-        (None, None) => None,
+        (None, None) => unreachable!(),
     }
 }
 
@@ -92,17 +101,50 @@ fn split(line: &[Term]) -> Option<(Term, &[Term])>
     }
 }
 
-/// The term at a position where a number and a product stand, where their sum isn't 0. None where the
-/// product or the sum doesn't fit.
-fn added(position: usize, number: &Frac, factor: &Frac, by: &Frac) -> Option<Option<Term>>
-    ensures { IfSome result (AddsTo position number.now factor.now by.now) }
+/// The term at a position where a number and a product stand, where their sum isn't 0; or the product
+/// or the sum that doesn't fit.
+fn added(position: usize, number: &Frac, factor: &Frac, by: &Frac) -> Result<Option<Term>, Unfit>
+    ensures term { IfOk result (AddsTo position number.now factor.now by.now) }
+    ensures unfit { IfErr result (IsUnfitHere position (Some number.now) factor.now by.now) }
 {
-    let product = factor.mul(by)?;
-    let sum = number.add(&product)?;
+    let Some(product) = factor.mul(by) else {
+        return Err(unfit_product(position, factor, by));
+    };
+    let Some(sum) = number.add(&product) else {
+        return Err(Unfit {
+            column: position,
+            operation: Operation::Add,
+            left: *number,
+            right: product,
+        });
+    };
     if is_zero(&sum) {
-        return Some(None);
+        return Ok(None);
     }
-    Some(Some((position, sum)))
+    Ok(Some((position, sum)))
+}
+
+/// A term times a number; or the product that doesn't fit.
+fn scaled(factor: &Frac, term: Term) -> Result<Term, Unfit>
+    ensures term { IfOk result (λ t. (t.0 ≡ term.0) × IsLowest t.1 × IsProduct factor.now term.1 t.1) }
+    ensures unfit { IfErr result (IsUnfitHere term.0 None factor.now term.1) }
+{
+    let Some(product) = factor.mul(&term.1) else {
+        return Err(unfit_product(term.0, factor, &term.1));
+    };
+    Ok((term.0, product))
+}
+
+/// The product of these numbers, at a position.
+fn unfit_product(position: usize, factor: &Frac, by: &Frac) -> Unfit
+    ensures { result ≡ record { column = position; operation = Operation.Mul; left = factor.now; right = by.now } }
+{
+    Unfit {
+        column: position,
+        operation: Operation::Mul,
+        left: *factor,
+        right: *by,
+    }
 }
 
 /// Whether the number is 0.

@@ -1,10 +1,16 @@
 //! Where the positions of a tableau stand at a basis.
-ghost use Rattle.std.specs.Prelude.{◌≡◌, IfSome, MatchOption, Some, None};
+ghost use Rattle.std.specs.Prelude.{◌≡◌, IfOk, IfErr, IfSome, MatchOption, Some, None};
+ghost use Rattle.bt_frac.specs.Ratio.{IsLowest};
+ghost use Rattle.bt_simplex.specs.Causes.{IsCause};
 ghost use Rattle.bt_simplex.specs.Lines.{IsLine};
 ghost use Rattle.bt_simplex.specs.Points.{bound_value, resting, standing, point_at};
 ghost use Rattle.bt_simplex.specs.SolvedForms.{slot_at};
 ghost use Rattle.bt_simplex.specs.inner.Bases.{with_slots, IsSamePoint};
+ghost use Rattle.bt_simplex.specs.inner.Unfits.{IsUnfitHere};
+ghost use Rattle.bt_simplex.specs.inner.UnfitPoints.{AddsPart, AddsTerm, IsUnfitTerm, IsUnfitPoint, value_cause};
 
+use crate::answers::{Operation, WidePlace};
+use crate::causes::{Cause, Unfit};
 use crate::line::{Line, Term};
 use crate::tableau::Tableau;
 use bt_frac::{Delta, Frac, Relation, Row};
@@ -49,35 +55,86 @@ pub fn terms_at(slots: &[Option<Line>], position: usize) -> Option<&[Term]>
     }
 }
 
-/// What a line adds up to where its positions rest. None where a product or a sum doesn't fit.
-pub fn line_point(tableau: &Tableau, terms: &[Term]) -> Option<Delta>
+/// The sum with the product of a number and a part of a point added to it; or the operation whose
+/// result doesn't fit.
+fn added_part(sum: &Frac, position: usize, number: &Frac, part: &Frac) -> Result<Frac, Unfit>
+    ensures known { IsLowest sum.now × IsLowest number.now × IsLowest part.now }
+    ensures sum { IfOk result (AddsPart sum.now number.now part.now) }
+    ensures unfit { IfErr result (IsUnfitHere position (Some sum.now) number.now part.now) }
+{
+    let _ = sum.denominator();
+    let Some(product) = number.mul(part) else {
+        return Err(Unfit {
+            column: position,
+            operation: Operation::Mul,
+            left: *number,
+            right: *part,
+        });
+    };
+    let Some(next) = sum.add(&product) else {
+        return Err(Unfit {
+            column: position,
+            operation: Operation::Add,
+            left: *sum,
+            right: product,
+        });
+    };
+    Ok(next)
+}
+
+/// The sum with a term added to it where its position rests; or the operation whose result doesn't fit.
+fn added_term(tableau: &Tableau, sum: &Delta, term: &Term) -> Result<Delta, Unfit>
+    ensures sum { IfOk result (AddsTerm (resting tableau.now term.now.0) sum.now term.now.1) }
+    ensures unfit { IfErr result (IsUnfitTerm (resting tableau.now term.now.0) sum.now term.now) }
+{
+    let point = rest(tableau, term.0);
+    let value = added_part(&sum.value, term.0, &term.1, &point.value)?;
+    let tiny = added_part(&sum.tiny, term.0, &term.1, &point.tiny)?;
+    Ok(Delta { value, tiny })
+}
+
+/// What the line of a position adds up to where its positions rest; or why that doesn't fit.
+pub fn line_point(tableau: &Tableau, position: usize, terms: &[Term]) -> Result<Delta, Cause>
     requires { IsLine terms.now }
-    ensures { IfSome result (λ d. IsSamePoint d (standing (resting tableau.now) 0 (Some terms.now))) }
+    ensures point { IfOk result (λ d. IsSamePoint d (standing (resting tableau.now) 0 (Some terms.now))) }
+    ensures unfit { IfErr result (IsUnfitPoint (resting tableau.now) position terms.now) }
 {
     tableau.all_known();
     let mut sum = Delta {
         value: Frac::whole(0),
         tiny: Frac::whole(0),
     };
-    for (position, number) in terms {
-        let Some(product) = rest(tableau, *position).scale(number) else {
-            return None;
-        };
-        let Some(next) = sum.add(&product) else {
-            return None;
-        };
-        sum = next;
+    for term in terms {
+        match added_term(tableau, &sum, term) {
+            Ok(next) => sum = next,
+            Err(unfit) => return Err(value_cause(position, unfit)),
+        }
     }
-    Some(sum)
+    Ok(sum)
 }
 
-/// Where a position stands. None where a product or a sum doesn't fit.
-pub fn point(tableau: &Tableau, slots: &[Option<Line>], position: usize) -> Option<Delta>
-    ensures { IfSome result (λ d. IsSamePoint d (point_at (with_slots tableau.now slots.now) position)) }
+/// Why a position's point doesn't fit.
+fn value_cause(row: usize, unfit: Unfit) -> Cause
+    ensures { result ≡ value_cause row unfit }
+{
+    Cause {
+        place: WidePlace::Value,
+        row,
+        column: unfit.column,
+        operation: unfit.operation,
+        left: unfit.left,
+        right: unfit.right,
+    }
+}
+
+/// Where a position stands; or why that doesn't fit.
+pub fn point(tableau: &Tableau, slots: &[Option<Line>], position: usize) -> Result<Delta, Cause>
+    ensures point { IfOk result (λ d. IsSamePoint d (point_at (with_slots tableau.now slots.now) position)) }
+    ensures unfit { IfErr result (IsCause (with_slots tableau.now slots.now)) }
 {
     tableau.all_known();
     match terms_at(slots, position) {
-        Some(terms) => line_point(tableau, terms),
-        None => Some(rest(tableau, position)),
+        Some(terms) => line_point(tableau, position, terms),
+        None => Ok(rest(tableau, position)),
     }
 }

@@ -1,44 +1,57 @@
 //! Runs of Bland's turns from a basis on, to a final one or to a limit of turns.
-ghost use Rattle.std.specs.Prelude.{IfOk, IfSome};
+ghost use Rattle.std.specs.Prelude.{IfOk, IfErr};
 ghost use Rattle.bt_simplex.specs.Tableaus.{IsTableau};
 ghost use Rattle.bt_simplex.specs.Turns.{IsBlandTurn};
 ghost use Rattle.bt_simplex.specs.inner.Bases.{with_slots};
 ghost use Rattle.bt_simplex.specs.inner.Runs.{IsMade, IsRun};
+ghost use Rattle.bt_simplex.specs.inner.UnfitTurns.{IsUnfitTurn};
 
 use crate::bland::{Next, blands_next};
+use crate::causes::Cause;
 use crate::line::Line;
 use crate::tableau::{Tableau, Turn};
-use crate::turning::turned;
+use crate::turning::turn;
 use std::alloc::{AllocError, Global};
 
-/// Where a run ends.
-#[derive(Drop)]
-pub enum Run {
+/// Where a run of turns ends.
+#[derive(Clone, Copy)]
+pub enum End {
     /// At a basis at which nothing fails.
-    Met(Vec<Option<Line>>),
+    Met,
     /// At a basis at which this position fails, and none can enter for it.
-    Stuck(Vec<Option<Line>>, usize),
+    Stuck(usize),
     /// After as many turns as it may make, at a basis that isn't final.
-    Pivots(Vec<Turn>),
-    /// At a number that doesn't fit.
-    Wide,
+    Pivots,
+    /// At an operation whose result doesn't fit.
+    Wide(Cause),
 }
 
-/// Makes Bland's turn. None where a number of the new lines doesn't fit.
+/// The turns from a basis on.
+#[derive(Drop)]
+pub struct Run {
+    /// The turns made.
+    pub turns: Vec<Turn>,
+    /// A slot for each position, with a line where it is in the basis that the turns lead to. It is that
+    /// of the solved form, but where the run ends in the midst of a turn.
+    pub slots: Vec<Option<Line>>,
+    /// Where it ends.
+    pub end: End,
+}
+
+/// Makes Bland's turn; or tells an operation whose result doesn't fit.
 fn make_turn(
     tableau: &Tableau,
     alloc: Global,
-    slots: Vec<Option<Line>>,
+    slots: &mut [Option<Line>],
     made: Turn,
-) -> Result<Option<Vec<Option<Line>>>, AllocError>
-    requires tableau { IsTableau (with_slots tableau.now slots.items) }
-    requires bland { IsBlandTurn (with_slots tableau.now slots.items) made }
-    ensures { IfOk result (λ o. IfSome o (λ v. IsMade tableau.now made slots.items v.items)) }
+) -> Result<Result<(), Cause>, AllocError>
+    requires tableau { IsTableau (with_slots tableau.now slots.old) }
+    requires bland { IsBlandTurn (with_slots tableau.now slots.old) made }
+    ensures done { IfOk result (λ o. IfOk o (λ _. IsMade tableau.now made slots.old slots.new)) }
+    ensures unfit { IfOk result (λ o. IfErr o (IsUnfitTurn slots.old made.leaves made.enters slots.new)) }
 {
-    let Some(after) = turned(alloc, slots, made.leaves, made.enters)? else {
-        return Ok(None);
-    };
-    Ok(Some(after))
+    let _ = tableau;
+    turn(alloc, slots, made.leaves, made.enters)
 }
 
 /// Makes Bland's turns from a basis on, at most so many.
@@ -49,7 +62,7 @@ pub fn turned_from(
     pivots: u64,
 ) -> Result<Run, AllocError>
     requires { IsTableau (with_slots tableau.now start.items) }
-    ensures { IfOk result (IsRun pivots (with_slots tableau.now start.items)) }
+    ensures { IfOk result (IsRun pivots tableau.now start.items) }
 {
     let mut slots = start;
     let mut turns = Vec::new(alloc);
@@ -57,17 +70,27 @@ pub fn turned_from(
         match blands_next(tableau, &slots) {
             Next::Turn(turn) => {
                 if turns.len() as u64 >= pivots {
-                    return Ok(Run::Pivots(turns));
+                    let end = End::Pivots;
+                    return Ok(Run { turns, slots, end });
                 }
-                let Some(after) = make_turn(tableau, alloc, slots, turn)? else {
-                    return Ok(Run::Wide);
-                };
-                slots = after;
+                if let Err(cause) = make_turn(tableau, alloc, &mut slots, turn)? {
+                    let end = End::Wide(cause);
+                    return Ok(Run { turns, slots, end });
+                }
                 turns.push(turn)?;
             }
-            Next::Met => return Ok(Run::Met(slots)),
-            Next::Stuck(position) => return Ok(Run::Stuck(slots, position)),
-            Next::Wide => return Ok(Run::Wide),
+            Next::Met => {
+                let end = End::Met;
+                return Ok(Run { turns, slots, end });
+            }
+            Next::Stuck(position) => {
+                let end = End::Stuck(position);
+                return Ok(Run { turns, slots, end });
+            }
+            Next::Wide(cause) => {
+                let end = End::Wide(cause);
+                return Ok(Run { turns, slots, end });
+            }
         }
     }
 }

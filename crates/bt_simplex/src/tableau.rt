@@ -1,14 +1,19 @@
 //! Tableaus: rows over columns, of which some are bound, and a basis with its solved form.
 ghost use Rattle.std.specs.Prelude.{◌≡◌, ◌<◌, IfOk, OnErr, MatchOption, Some, None, length, true, false, IsTrue, slice_index_or};
-ghost use Rattle.bt_simplex.specs.Checks.{IsCheck};
+ghost use Rattle.bt_simplex.specs.Checks.{IsCheck, StartsAt};
+ghost use Rattle.bt_simplex.specs.inner.Checking.{IsWideFor};
 ghost use Rattle.bt_simplex.specs.Points.{bound_row};
 ghost use Rattle.bt_simplex.specs.Tableaus.{AreOverColumns, IsNew, IsBoundAs, IsTableau};
 ghost use Rattle.bt_simplex.specs.Turns.{CanTurn, IsTurnedBy};
 
-use crate::answers::Check;
+use crate::answers::{Check, Trail, Wide};
+use crate::causes::Cause;
 use crate::line::Line;
+use crate::running::{End, Run, turned_from};
+use crate::settling::settled;
 use crate::starting::{all_known, copied, first_slots, unbound};
-use crate::turning::turned_copy;
+use crate::trails::{basis, bound_rows};
+use crate::turning::{copied_slots, turned_copy};
 use bt_frac::Row;
 use std::alloc::{AllocError, Global};
 use std::marker::Model;
@@ -97,9 +102,61 @@ impl Tableau {
         ensures checked { IfOk result (IsCheck pivots self.old self.new) }
         ensures memory { OnErr result (self.new ≡ self.old) }
     {
-        let _ = alloc;
-        let _ = pivots;
-        Err(AllocError)
+        let start = copied_slots(alloc, &self.slots)?;
+        let Run { turns, slots, end } = turned_from(self, alloc, start, pivots)?;
+        match end {
+            End::Met => match settled(self, alloc, &slots)? {
+                Ok(values) => {
+                    self.slots = slots;
+                    Ok(Check::Sat(values))
+                }
+                Err(cause) => Ok(Check::Wide(self.wide(alloc, turns, &slots, cause)?)),
+            },
+            // The weights of such a basis aren't read off yet, so that the check gives up.
+            End::Stuck(_) => Err(AllocError),
+            End::Pivots => Ok(Check::Pivots(self.trail(alloc, turns)?)),
+            End::Wide(cause) => Ok(Check::Wide(self.wide(alloc, turns, &slots, cause)?)),
+        }
+    }
+
+    /// The trail of these turns from the tableau's basis on.
+    fn trail(&self, alloc: Global, turns: Vec<Turn>) -> Result<Trail, AllocError>
+        ensures { IfOk result (λ trail. StartsAt self.now trail × (trail.turns ≡ turns)) }
+    {
+        Ok(Trail {
+            start: basis(alloc, &self.slots)?,
+            bound: bound_rows(alloc, &self.bound)?,
+            turns,
+        })
+    }
+
+    /// The cause, after these turns, which lead to the basis of these slots.
+    fn wide(
+        &self,
+        alloc: Global,
+        turns: Vec<Turn>,
+        slots: &[Option<Line>],
+        cause: Cause,
+    ) -> Result<Wide, AllocError>
+        ensures { IfOk result (IsWideFor self.now turns.items slots.now cause) }
+    {
+        Ok(Wide {
+            trail: self.trail(alloc, turns)?,
+            place: cause.place,
+            basis: basis(alloc, slots)?,
+            row: cause.row,
+            column: cause.column,
+            operation: cause.operation,
+            left: cause.left,
+            right: cause.right,
+        })
+    }
+
+    /// The number of columns.
+    pub fn columns(&self) -> usize
+        ensures { result ≡ self.now.columns }
+    {
+        self.columns
     }
 
     /// The row of a position, where that is a row and bound.

@@ -10,6 +10,7 @@ use Rattle.bt_simplex.specs.Lines.{Terms}
 use Rattle.bt_simplex.specs.SolvedForms.{Slots}
 use Rattle.bt_simplex.specs.Tableaus.{TableauParts}
 use Rattle.bt_simplex.specs.Points.{bound_row}
+use Rattle.bt_simplex.specs.Causes.{IsCause}
 use Rattle.bt_simplex.specs.Turns.{MovesTowards, IsLeast, IsBlandTurn, IsMet, IsStuckAt}
 use Rattle.bt_simplex.specs.declared.bland.Least.{Least}
 use Rattle.bt_simplex.specs.declared.bland.Least.TheVariants.{At, Nowhere, Wide as NoLeast}
@@ -42,15 +43,15 @@ abbrev pub IsLeastOf : (ℕ → Type 0) → Option ℕ → Type 0
 IsLeastOf P (Some position) = IsLeast P position
 IsLeastOf P None = (position : ℕ) → P position → ⊥
 
--- the same, and nothing where a number doesn't fit
-abbrev pub Finds : (ℕ → Type 0) → Least → Type 0
-Finds P (At position) = IsLeast P position
-Finds P Nowhere = (position : ℕ) → P position → ⊥
-Finds P NoLeast = Unit {0}
+-- the same, or why a number of the tableau's basis doesn't fit
+abbrev pub Finds : TableauParts → (ℕ → Type 0) → Least → Type 0
+Finds t P (At position) = IsLeast P position
+Finds t P Nowhere = (position : ℕ) → P position → ⊥
+Finds t P (NoLeast cause) = IsCause t cause
 
--- Bland's turn, or how the basis is final
+-- Bland's turn, or how the basis is final, or why a number of it doesn't fit
 abbrev pub IsNext : TableauParts → Next → Type 0
 IsNext t (Turns turn) = IsBlandTurn t turn
 IsNext t Met = IsMet t
 IsNext t (Stuck position) = IsStuckAt t position
-IsNext t Wide = Unit {0}
+IsNext t (Wide cause) = IsCause t cause

@@ -1,12 +1,13 @@
 -- Runs of Bland's turns from a basis on.
-use Rattle.std.specs.Prelude.{ℕ, List}
-use Rattle.bt_simplex.specs.SolvedForms.{Slots}
+use Rattle.std.specs.Prelude.{◌≡◌, ℕ, ◌≤◌, List, length}
+use Rattle.bt_simplex.specs.SolvedForms.{Slots, basis_of}
+use Rattle.bt_simplex.specs.Causes.{IsCause}
 use Rattle.bt_simplex.specs.Tableaus.{TableauParts, IsTableau}
-use Rattle.bt_simplex.specs.Turns.{IsMet, IsStuckAt, IsTurnedBy, Follows}
-use Rattle.bt_simplex.specs.Runs.{GoesOn, LeadsTo}
+use Rattle.bt_simplex.specs.Turns.{IsMet, IsStuckAt, IsFinal, IsTurnedBy, Follows}
 use Rattle.bt_simplex.specs.declared.tableau.Turn.{Turn}
 use Rattle.bt_simplex.specs.declared.running.Run.{Run}
-use Rattle.bt_simplex.specs.declared.running.Run.TheVariants.{Met, Stuck, Pivots, Wide}
+use Rattle.bt_simplex.specs.declared.running.End.{End}
+use Rattle.bt_simplex.specs.declared.running.End.TheVariants.{Met, Stuck, Pivots, Wide}
 use Rattle.bt_simplex.specs.inner.Bases.{with_slots}
 
 -- the turns lead from the tableau to the one with these slots
@@ -19,14 +20,17 @@ pub record IsMade (t : TableauParts) (turn : Turn) (slots slots' : Slots) : Type
   pub tableau : IsTableau (with_slots t slots')
   pub turned : IsTurnedBy turn (with_slots t slots) (with_slots t slots')
 
--- the basis is final, which at most so many turns lead to
-pub record EndsAt (pivots : ℕ) (t : TableauParts) (slots : Slots) : Type 0 where
-  pub tableau : IsTableau (with_slots t slots)
-  pub leads : LeadsTo pivots t (with_slots t slots)
+-- where the run ends: at this tableau's slots, which are those of a final basis, or whose basis has so many turns before it and isn't final, or at which an operation is None
+abbrev pub IsEnd : ℕ → TableauParts → TableauParts → List Turn → Slots → End → Type 0
+IsEnd pivots t last turns slots Met = (last ≡ with_slots t slots) × IsTableau last × IsMet last
+IsEnd pivots t last turns slots (Stuck position) = (last ≡ with_slots t slots) × IsTableau last × IsStuckAt last position
+IsEnd pivots t last turns slots Pivots = (length turns ≡ pivots) × (IsFinal last → ⊥)
+IsEnd pivots t last turns slots (Wide cause) = IsCause last cause
 
--- a final basis, so many turns and no final basis, or a number doesn't fit
-abbrev pub IsRun : ℕ → TableauParts → Run → Type 0
-IsRun pivots t (Met slots) = EndsAt pivots t slots.items × IsMet (with_slots t slots.items)
-IsRun pivots t (Stuck slots position) = EndsAt pivots t slots.items × IsStuckAt (with_slots t slots.items) position
-IsRun pivots t (Pivots turns) = GoesOn pivots t turns.items
-IsRun pivots t Wide = Unit {0}
+-- at most so many turns of Bland's rule, and where they end
+pub record IsRun (pivots : ℕ) (t : TableauParts) (start : Slots) (run : Run) : Type 0 where
+  pub few : length run.turns.items ≤ pivots
+  pub last : TableauParts
+  pub follows : Follows (with_slots t start) run.turns.items last
+  pub basis : basis_of run.slots.items ≡ basis_of last.slots
+  pub ends : IsEnd pivots t last run.turns.items run.slots.items run.end

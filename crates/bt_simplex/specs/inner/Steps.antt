@@ -1,5 +1,5 @@
 -- Two lines taken apart from the front, term by term.
-use Rattle.std.specs.Prelude.{◌≡◌, ◌≢◌, pos, ℕ, ◌+◌, ◌-◌, ◌^◌, ◌<◌, ◌≤◌, length, Option, Some, None, IfSome}
+use Rattle.std.specs.Prelude.{◌≡◌, ◌≢◌, ◌⊎◌, ◌∷◌, pos, ℕ, ◌+◌, ◌-◌, ◌^◌, ◌<◌, ◌≤◌, length, Option, Some, None, IfSome}
 use Rattle.std.specs.List.{All}
 use Rattle.bt_frac.specs.Ratio.{Ratio, SameRatio, IsLowest, IsSum}
 use Rattle.bt_frac.specs.Products.{IsProduct}
@@ -35,9 +35,15 @@ pub record IsNext (least : ℕ) (term : Option (ℕ × Ratio)) (left right : Ter
   pub left_after : IsLineFrom (place + 1) left
   pub right_after : IsLineFrom (place + 1) right
 
+-- the list, or what is left of it without its first item
+abbrev pub IsTail : Terms → Terms → Type 0
+IsTail terms rest = (rest ≡ terms) ⊎ ((t : ℕ × Ratio) × (terms ≡ t ∷ rest))
+
 -- the first line and a number times the second are a term, and the same of what is left of both
 pub record IsStep (left : Terms) (factor : Ratio) (right : Terms) (term : Option (ℕ × Ratio)) (left' right' : Terms) : Type 0 where
   pub sums : (at : ℕ → Ratio) → AreValues at → All HasNumber left → All HasNumber right
       → SameRatio (plus (total at left) (times factor (total at right))) (plus (term_total at term) (plus (total at left') (times factor (total at right'))))
   pub order : (least : ℕ) → IsLineFrom least left → IsLineFrom least right → IsNext least term left' right'
+  pub left_tail : IsTail left left'
+  pub right_tail : IsTail right right'
   pub shorter : length left' + length right' < length left + length right

@@ -7,6 +7,7 @@ use Rattle.bt_simplex.specs.Lines.{one, Terms, IsLine, IsCombination}
 use Rattle.bt_simplex.specs.declared.turning.Change.{Change}
 use Rattle.bt_simplex.specs.declared.turning.Change.TheVariants.{Stays, Line, Wide}
 use Rattle.bt_simplex.specs.SolvedForms.{Slots, slot_at}
+use Rattle.bt_simplex.specs.inner.Unfits.{IsUnfit}
 
 -- 1 over the number times the position less its line: where the line holds, this is 0
 pub record IsZeroLine (position : ℕ) (terms : Terms) (number : Ratio) (zero : Terms) : Type 0 where
@@ -32,7 +33,7 @@ pub record AreSubstituted (position : ℕ) (zero : Terms) (slots slots' : Slots)
 abbrev pub IsChange : ℕ → Terms → Option Terms → Change → Type 0
 IsChange position zero slot Stays = IsSubstituted position zero slot slot
 IsChange position zero slot (Line line) = IsSubstituted position zero slot (Some line)
-IsChange position zero slot Wide = Unit {0}
+IsChange position zero slot (Wide unfit) = (terms : Terms) × (slot ≡ Some terms) × ((number : Ratio) × (coefficient_at position terms ≡ Some number) × IsUnfit terms number zero unfit)
 
 -- the position and the zero line, which has its number -1 there
 pub record IsEntering (position : ℕ) (zero entering : Terms) : Type 0 where

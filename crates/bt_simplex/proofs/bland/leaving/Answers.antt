@@ -7,11 +7,11 @@ use Rattle.bt_simplex.proofs.bland.leaving.Goals as goal
 
 pub returns-then-told : goal.returns-then-told
 returns-then-told c =
-    least_here (λ p. Fails (with_slots c.args.tableau.now c.args.slots.now) p) c.loop-position.position c.loop-position.invariant (c.in-Some.ensures.0 c.if-told.true)
+    least_here (λ p. Fails (with_slots c.args.tableau.now c.args.slots.now) p) c.loop-position.position c.loop-position.invariant (c.in-Ok.ensures.told.0 c.if-told.true)
 
 pub loop-position-preserved : goal.loop-position-preserved
 loop-position-preserved c =
-    below_more (λ p. Fails (with_slots c.args.tableau.now c.args.slots.now) p → ⊥) c.loop-position.position c.loop-position.invariant (iff_false c.in-Some.ensures c.if-told.false)
+    below_more (λ p. Fails (with_slots c.args.tableau.now c.args.slots.now) p → ⊥) c.loop-position.position c.loop-position.invariant (iff_false c.in-Ok.ensures.told c.if-told.false)
 
 pub returns : goal.returns
 returns c p fails =

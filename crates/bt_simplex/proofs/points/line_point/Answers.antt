@@ -1,11 +1,12 @@
-use Rattle.std.proofs.Common.{subst}
-use Rattle.bt_frac.specs.Deltas.{AreProducts}
-use Rattle.bt_simplex.proofs.Resting.{point_more}
+use Rattle.bt_simplex.proofs.Resting.{point_more, point_unfit}
 use Rattle.bt_simplex.proofs.points.line_point.Goals as goal
 
-pub loop-position-preserved : goal.loop-position-preserved
-loop-position-preserved c =
-    let term = c.loop-position-item.result in
-    let product = subst (λ d. AreProducts d term.1 c.in-Some.product) c.rest.ensures c.in-Some.ensures.product in
-    point_more c.args.tableau.now c.all_known.ensures c.args.terms.now c.requires c.loop-position.position-index term c.loop-position.sum c.in-Some.product c.in-Some-add.next c.loop-position-test.true c.loop-position-item.is
-    c.loop-position.invariant c.in-Some.ensures.lowest product c.in-Some-add.ensures.lowest c.in-Some-add.ensures.sum
+pub loop-term-preserved : goal.loop-term-preserved
+loop-term-preserved c =
+    point_more c.args.tableau.now c.all_known.ensures c.args.terms.now c.requires c.loop-term.term-index c.term-item.result c.loop-term.sum c.in-Ok.next c.loop-term-test.true c.term-item.is c.loop-term.invariant
+    c.in-Ok.ensures.sum
+
+pub returns-in-Err-clause-unfit : goal.returns-in-Err-clause-unfit
+returns-in-Err-clause-unfit c =
+    point_unfit c.args.tableau.now c.args.position c.args.terms.now c.requires c.loop-term.term-index c.term-item.result c.loop-term.sum c.in-Err.unfit c.value_cause.result c.loop-term-test.true c.term-item.is
+    c.loop-term.invariant c.in-Err.ensures.unfit c.value_cause.ensures

@@ -3,5 +3,5 @@ use Rattle.bt_simplex.specs.Points.{resting, standing}
 use Rattle.bt_simplex.specs.inner.Bases.{IsSamePoint}
 use Rattle.bt_simplex.proofs.points.line_point.Given as goal
 
-abbrev pub invariant-loop-position : goal.invariant-loop-position
-invariant-loop-position l = IsSamePoint l.sum (standing (resting l.tableau) 0 (Some (take l.position-index l.terms)))
+abbrev pub invariant-loop-term : goal.invariant-loop-term
+invariant-loop-term l = IsSamePoint l.sum (standing (resting l.tableau) 0 (Some (take l.term-index l.terms)))

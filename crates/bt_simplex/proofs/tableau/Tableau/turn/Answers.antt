@@ -2,6 +2,9 @@ use Rattle.std.proofs.Common.{◌<◌, sym, subst, length, IfSome}
 use Rattle.bt_simplex.specs.Turns.{CanTurn, IsTurnedBy}
 use Rattle.bt_simplex.specs.Tableaus.{TableauParts}
 use Rattle.bt_simplex.specs.inner.TurnedSlots.{IsTurned}
+use Rattle.bt_simplex.specs.SolvedForms.{slot_at}
+use Rattle.bt_simplex.specs.inner.UnfitTurns.{CanPart}
+use Rattle.bt_simplex.proofs.Runs.{can_part}
 use Rattle.bt_simplex.proofs.TableauTurns.{enters_outside, leaves_apart, turned_tableau, turned_by}
 use Rattle.bt_simplex.proofs.tableau.Tableau.turn.Goals as goal
 
@@ -15,6 +18,12 @@ pub turned_copy-requires-clause-apart : goal.turned_copy-requires-clause-apart
 turned_copy-requires-clause-apart c =
     let can = subst (λ u. CanTurn u.slots c.args.turn) (sym c.self.view_is) c.requires in
     leaves_apart c.self.inside.rows.items c.self.inside.columns c.self.inside.slots.items c.args.turn c.self.invariant.solved can
+
+pub turned_copy-requires-clause-can : goal.turned_copy-requires-clause-can
+turned_copy-requires-clause-can c =
+    let can = subst (λ u. CanTurn u.slots c.args.turn) (sym c.self.view_is) c.requires in
+    subst (λ s. CanPart (slot_at s c.args.turn.leaves) c.args.turn.leaves c.args.turn.enters) (sym c.deref.ensures.value)
+    (can_part c.self.inside.rows.items c.self.inside.columns c.self.inside.slots.items c.args.turn c.self.invariant.solved can)
 
 pub invariant_of-self : goal.invariant_of-self
 invariant_of-self c =

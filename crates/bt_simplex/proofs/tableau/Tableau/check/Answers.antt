@@ -1,0 +1,28 @@
+use Rattle.std.proofs.Common.{sym, subst, ◌∙◌, ap, IfOk}
+use Rattle.bt_simplex.specs.Turns.{IsMet}
+use Rattle.bt_simplex.specs.Tableaus.{TableauParts, IsTableau}
+use Rattle.bt_simplex.specs.Runs.{LeadsTo}
+use Rattle.bt_simplex.specs.Checks.{MeetsBoundRows}
+use Rattle.bt_simplex.specs.inner.Bases.{with_slots}
+use Rattle.bt_simplex.proofs.Checking.{met_tableau, met_met, met_leads}
+use Rattle.bt_simplex.proofs.tableau.Tableau.check.Goals as goal
+
+pub settled-requires-clause-met : goal.settled-requires-clause-met
+settled-requires-clause-met c =
+    subst (λ s. IsMet (with_slots c.args.self.now s)) (sym c.deref-in-Met.ensures.value)
+    (met_met c.args.pivots c.args.self.now c.in_ok-start.start.items c.in_ok-turns.field-0 (c.in_ok-start.ensures ∙ c.deref.ensures.value ∙ ap (λ u. u.slots) c.self.view_is) c.in_ok-turns.ensures c.in-Met.is)
+
+pub settled-requires-clause-tableau : goal.settled-requires-clause-tableau
+settled-requires-clause-tableau c =
+    subst (λ s. IsTableau (with_slots c.args.self.now s)) (sym c.deref-in-Met.ensures.value)
+    (met_tableau c.args.pivots c.args.self.now c.in_ok-start.start.items c.in_ok-turns.field-0 (c.in_ok-start.ensures ∙ c.deref.ensures.value ∙ ap (λ u. u.slots) c.self.view_is) c.in_ok-turns.ensures c.in-Met.is)
+
+pub returns-in-Ok-clause-checked : goal.returns-in-Ok-clause-checked
+returns-in-Ok-clause-checked c =
+    let after = sym (ap (λ u. with_slots u c.in_ok-turns.field-0.slots.items) c.self.view_is) in
+    let told =
+    subst (λ o. IfOk o (λ v. MeetsBoundRows (with_slots c.args.self.now c.deref-in-Met.result.now) v.items)) c.in-Ok.is c.in_ok-values-in-Met.ensures.meets in (
+      subst (λ (u : TableauParts). LeadsTo c.args.pivots c.args.self.now u) after (met_leads c.args.pivots c.args.self.now c.in_ok-start.start.items c.in_ok-turns.field-0 (c.in_ok-start.ensures ∙ c.deref.ensures.value ∙ ap (λ u. u.slots) c.self.view_is) c.in_ok-turns.ensures c.in-Met.is),
+      subst (λ (u : TableauParts). IsMet u) after (met_met c.args.pivots c.args.self.now c.in_ok-start.start.items c.in_ok-turns.field-0 (c.in_ok-start.ensures ∙ c.deref.ensures.value ∙ ap (λ u. u.slots) c.self.view_is) c.in_ok-turns.ensures c.in-Met.is),
+      record { columns = told.columns; holds = told.holds },
+    )

@@ -1,0 +1,174 @@
+//! Values of the columns at a basis at which nothing fails: a small number takes the place of the
+//! infinitesimal.
+ghost use Rattle.std.specs.Prelude.{◌≡◌, ◌<◌, ℕ, pos, ◌<ℤ◌, IfOk, IfErr, IfSome, IfNone, IsTrue, ◌↔◌, length, Some};
+ghost use Rattle.bt_frac.specs.Rows.{IsRow};
+ghost use Rattle.bt_simplex.specs.Causes.{IsCause, IsEpsilon};
+ghost use Rattle.bt_simplex.specs.Checks.{MeetsBoundRows};
+ghost use Rattle.bt_simplex.specs.Points.{point_at, bound_row};
+ghost use Rattle.bt_simplex.specs.Tableaus.{IsTableau};
+ghost use Rattle.bt_simplex.specs.Turns.{IsMet};
+ghost use Rattle.bt_simplex.specs.inner.Bases.{with_slots};
+ghost use Rattle.bt_simplex.specs.inner.Settling.{IsLesser, IsFallingFrom, IsRoom, IsRoomAt, IsUnfitRoom, IsSettled};
+
+use crate::answers::{Operation, WidePlace};
+use crate::causes::Cause;
+use crate::line::Line;
+use crate::points::point;
+use crate::tableau::Tableau;
+use bt_frac::{Delta, Frac, Row};
+use std::alloc::{AllocError, Global};
+use std::cmp::Ordering;
+
+/// Why a number asked for at a position doesn't fit.
+fn settle_cause(position: usize, operation: Operation, left: Frac, right: Frac) -> Cause
+    ensures { result ≡ record { place = WidePlace.Settle; row = position; column = 0; operation = operation; left = left; right = right } }
+{
+    Cause {
+        place: WidePlace::Settle,
+        row: position,
+        column: 0,
+        operation,
+        left,
+        right,
+    }
+}
+
+/// The number 1/2.
+fn half() -> Frac
+    ensures { result ≡ record { over = pos 1; under = 2 } }
+{
+    match Frac::new(1, 2) {
+        Some(half) => half,
+        None => unreachable!(),
+    }
+}
+
+/// Whether a row stands above its bound, and lower by a multiple of the infinitesimal.
+fn is_falling(row: &Row, point: &Delta) -> bool
+    ensures told { IsTrue result ↔ IsFallingFrom row.now point.now }
+    ensures known { IsRow row.now }
+{
+    let bound = row.bound();
+    point.tiny.numerator() < 0 && bound.compare(&point.value) == Ordering::Less
+}
+
+/// Half of what the infinitesimal may be where a row falls; or why that doesn't fit.
+fn room(position: usize, row: &Row, point: &Delta) -> Result<Frac, Cause>
+    requires { IsFallingFrom row.now point.now }
+    ensures room { IfOk result (IsRoom row.now point.now) }
+    ensures unfit { IfErr result (IsUnfitRoom position row.now point.now) }
+{
+    let _ = point.tiny.denominator();
+    let (left, right) = (point.value, row.bound().negate());
+    let Some(gap) = left.add(&right) else {
+        return Err(settle_cause(position, Operation::Add, left, right));
+    };
+    let fall = point.tiny.negate();
+    let Some(quotient) = gap.div(&fall) else {
+        return Err(settle_cause(position, Operation::Div, gap, fall));
+    };
+    let half = half();
+    let Some(room) = quotient.mul(&half) else {
+        return Err(settle_cause(position, Operation::Mul, quotient, half));
+    };
+    Ok(room)
+}
+
+/// Half of what the infinitesimal may be by a position, where that is a bound row that falls; or why
+/// that doesn't fit.
+fn room_at(
+    tableau: &Tableau,
+    slots: &[Option<Line>],
+    position: usize,
+) -> Result<Option<Frac>, Cause>
+    requires { IsMet (with_slots tableau.now slots.now) }
+    ensures room { IfOk result (IsRoomAt (with_slots tableau.now slots.now) position) }
+    ensures unfit { IfErr result (IsCause (with_slots tableau.now slots.now)) }
+{
+    let Some(row) = tableau.bound_row(position) else {
+        return Ok(None);
+    };
+    let point = point(tableau, slots, position)?;
+    if !is_falling(row, &point) {
+        return Ok(None);
+    }
+    let room = room(position, row, &point)?;
+    Ok(Some(room))
+}
+
+/// The number that takes the place of the infinitesimal: the least of 1 and of half of what each bound
+/// row lets it be. Or why such a number doesn't fit.
+fn epsilon(tableau: &Tableau, slots: &[Option<Line>]) -> Result<Frac, Cause>
+    requires tableau { IsTableau (with_slots tableau.now slots.now) }
+    requires met { IsMet (with_slots tableau.now slots.now) }
+    ensures epsilon { IfOk result (IsEpsilon (with_slots tableau.now slots.now)) }
+    ensures unfit { IfErr result (IsCause (with_slots tableau.now slots.now)) }
+{
+    let mut epsilon = Frac::whole(1);
+    for position in 0..slots.len() {
+        match room_at(tableau, slots, position)? {
+            Some(room) => epsilon = lesser(epsilon, room),
+            None => {}
+        }
+    }
+    Ok(epsilon)
+}
+
+/// The lesser of two numbers.
+fn lesser(first: Frac, second: Frac) -> Frac
+    ensures { IsLesser first second result }
+{
+    match second.compare(&first) {
+        Ordering::Less => second,
+        Ordering::Equal | Ordering::Greater => first,
+    }
+}
+
+/// The value of a column; or why it doesn't fit.
+fn column_value(
+    tableau: &Tableau,
+    slots: &[Option<Line>],
+    epsilon: &Frac,
+    column: usize,
+) -> Result<Frac, Cause>
+    requires met { IsMet (with_slots tableau.now slots.now) }
+    requires epsilon { IsEpsilon (with_slots tableau.now slots.now) epsilon.now }
+    requires column { column < tableau.now.columns }
+    ensures settled { IfOk result (IsSettled (with_slots tableau.now slots.now) epsilon.now column) }
+    ensures unfit { IfErr result (IsCause (with_slots tableau.now slots.now)) }
+{
+    let point = point(tableau, slots, column)?;
+    let Some(product) = epsilon.mul(&point.tiny) else {
+        return Err(settle_cause(column, Operation::Mul, *epsilon, point.tiny));
+    };
+    let Some(value) = point.value.add(&product) else {
+        return Err(settle_cause(column, Operation::Add, point.value, product));
+    };
+    Ok(value)
+}
+
+/// Values of the columns that meet every bound row, where nothing fails; or why such a number doesn't
+/// fit.
+pub fn settled(
+    tableau: &Tableau,
+    alloc: Global,
+    slots: &[Option<Line>],
+) -> Result<Result<Vec<Frac>, Cause>, AllocError>
+    requires tableau { IsTableau (with_slots tableau.now slots.now) }
+    requires met { IsMet (with_slots tableau.now slots.now) }
+    ensures meets { IfOk result (λ o. IfOk o (λ v. MeetsBoundRows (with_slots tableau.now slots.now) v.items)) }
+    ensures unfit { IfOk result (λ o. IfErr o (IsCause (with_slots tableau.now slots.now))) }
+{
+    let epsilon = match epsilon(tableau, slots) {
+        Ok(epsilon) => epsilon,
+        Err(cause) => return Ok(Err(cause)),
+    };
+    let mut values = Vec::with_capacity(alloc, tableau.columns())?;
+    for column in 0..tableau.columns() {
+        match column_value(tableau, slots, &epsilon, column) {
+            Ok(value) => values.push(value)?,
+            Err(cause) => return Ok(Err(cause)),
+        }
+    }
+    Ok(Ok(values))
+}
