@@ -3,10 +3,11 @@ use Rattle.std.proofs.Common.{◌≡◌, ℕ, ◌+◌, ◌<◌, ◌≤◌, arith
 use Rattle.std.proofs.lemmas.List.{get_or_past}
 use Rattle.bt_simplex.specs.SolvedForms.{Slots}
 use Rattle.bt_simplex.specs.Tableaus.{TableauParts, IsTableau}
-use Rattle.bt_simplex.specs.Turns.{CanTurn, CanEnter, IsBlandTurn, IsFinal, IsTurnedBy, Follows}
+use Rattle.bt_simplex.specs.Turns.{CanTurn, CanEnter, IsBlandTurn, IsMet, IsFinal, IsTurnedBy, Follows}
 use Rattle.bt_simplex.specs.declared.tableau.Turn.{Turn}
-use Rattle.bt_simplex.specs.inner.Bases.{with_slots, IsMet}
-use Rattle.bt_simplex.specs.inner.Runs.{GoesOn, IsMade, EndsAt}
+use Rattle.bt_simplex.specs.inner.Bases.{with_slots}
+use Rattle.bt_simplex.specs.Runs.{GoesOn}
+use Rattle.bt_simplex.specs.inner.Runs.{IsMade, EndsAt}
 use Rattle.bt_simplex.specs.inner.TurnedSlots.{IsTurned}
 use Rattle.bt_simplex.proofs.TableauTurns.{turned_tableau, turned_by}
 

@@ -1,7 +1,11 @@
+pub mod Causes
+pub mod Checks
 pub mod Laws
 pub mod Lines
 pub mod Points
+pub mod Runs
 pub mod SolvedForms
 pub mod Tableaus
 pub mod Turns
+pub mod Weights
 pub mod inner

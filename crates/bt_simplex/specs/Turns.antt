@@ -60,6 +60,15 @@ pub record IsBlandTurn (t : TableauParts) (turn : Turn) : Type 0 where
   pub leaves : IsLeast (λ p. Fails t p) turn.leaves
   pub enters : IsLeast (λ e. CanEnter t turn.leaves e) turn.enters
 
+-- no position fails
+abbrev pub IsMet : TableauParts → Type 0
+IsMet t = (position : ℕ) → Fails t position → ⊥
+
+-- this position is the least that fails, and none can enter for it
+pub record IsStuckAt (t : TableauParts) (position : ℕ) : Type 0 where
+  pub least : IsLeast (λ p. Fails t p) position
+  pub none : (enters : ℕ) → CanEnter t position enters → ⊥
+
 -- no position fails, or none can enter for the least that does
 abbrev pub IsFinal : TableauParts → Type 0
 IsFinal t = ((position : ℕ) → Fails t position → ⊥) ⊎ ((position : ℕ) × IsLeast (λ p. Fails t p) position × ((enters : ℕ) → CanEnter t position enters → ⊥))

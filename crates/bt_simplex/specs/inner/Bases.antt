@@ -10,7 +10,7 @@ use Rattle.bt_simplex.specs.Lines.{Terms}
 use Rattle.bt_simplex.specs.SolvedForms.{Slots}
 use Rattle.bt_simplex.specs.Tableaus.{TableauParts}
 use Rattle.bt_simplex.specs.Points.{bound_row}
-use Rattle.bt_simplex.specs.Turns.{Fails, MovesTowards, CanEnter, IsLeast, IsBlandTurn}
+use Rattle.bt_simplex.specs.Turns.{MovesTowards, IsLeast, IsBlandTurn, IsMet, IsStuckAt}
 use Rattle.bt_simplex.specs.declared.bland.Least.{Least}
 use Rattle.bt_simplex.specs.declared.bland.Least.TheVariants.{At, Nowhere, Wide as NoLeast}
 use Rattle.bt_simplex.specs.declared.bland.Next.{Next}
@@ -47,15 +47,6 @@ abbrev pub Finds : (ℕ → Type 0) → Least → Type 0
 Finds P (At position) = IsLeast P position
 Finds P Nowhere = (position : ℕ) → P position → ⊥
 Finds P NoLeast = Unit {0}
-
--- no position fails
-abbrev pub IsMet : TableauParts → Type 0
-IsMet t = (position : ℕ) → Fails t position → ⊥
-
--- this position is the least that fails, and none can enter for it
-pub record IsStuckAt (t : TableauParts) (position : ℕ) : Type 0 where
-  pub least : IsLeast (λ p. Fails t p) position
-  pub none : (enters : ℕ) → CanEnter t position enters → ⊥
 
 -- Bland's turn, or how the basis is final
 abbrev pub IsNext : TableauParts → Next → Type 0

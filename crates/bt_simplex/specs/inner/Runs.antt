@@ -1,30 +1,18 @@
 -- Runs of Bland's turns from a basis on.
-use Rattle.std.specs.Prelude.{◌≡◌, ℕ, ◌≤◌, List, length}
+use Rattle.std.specs.Prelude.{ℕ, List}
 use Rattle.bt_simplex.specs.SolvedForms.{Slots}
 use Rattle.bt_simplex.specs.Tableaus.{TableauParts, IsTableau}
-use Rattle.bt_simplex.specs.Turns.{IsFinal, IsTurnedBy, Follows}
+use Rattle.bt_simplex.specs.Turns.{IsMet, IsStuckAt, IsTurnedBy, Follows}
+use Rattle.bt_simplex.specs.Runs.{GoesOn, LeadsTo}
 use Rattle.bt_simplex.specs.declared.tableau.Turn.{Turn}
 use Rattle.bt_simplex.specs.declared.running.Run.{Run}
 use Rattle.bt_simplex.specs.declared.running.Run.TheVariants.{Met, Stuck, Pivots, Wide}
-use Rattle.bt_simplex.specs.inner.Bases.{with_slots, IsMet, IsStuckAt}
+use Rattle.bt_simplex.specs.inner.Bases.{with_slots}
 
 -- the turns lead from the tableau to the one with these slots
 pub record IsAt (t : TableauParts) (turns : List Turn) (slots : Slots) : Type 0 where
   pub tableau : IsTableau (with_slots t slots)
   pub follows : Follows t turns (with_slots t slots)
-
--- so many turns of Bland's rule, after which the basis isn't final
-pub record GoesOn (pivots : ℕ) (t : TableauParts) (turns : List Turn) : Type 0 where
-  pub many : length turns ≡ pivots
-  pub last : TableauParts
-  pub follows : Follows t turns last
-  pub goes_on : IsFinal last → ⊥
-
--- so many turns of Bland's rule at most lead from the first tableau to the second
-pub record LeadsTo (pivots : ℕ) (t t' : TableauParts) : Type 0 where
-  pub turns : List Turn
-  pub few : length turns ≤ pivots
-  pub follows : Follows t turns t'
 
 -- the turn leads from the first slots to the second
 pub record IsMade (t : TableauParts) (turn : Turn) (slots slots' : Slots) : Type 0 where

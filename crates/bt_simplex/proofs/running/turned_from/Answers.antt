@@ -1,6 +1,7 @@
 use Rattle.std.proofs.Common.{◌+◌, ◌≤◌, IfSome, arith, length, subst, sym}
 use Rattle.bt_simplex.specs.Turns.{IsBlandTurn, Follows}
-use Rattle.bt_simplex.specs.inner.Bases.{with_slots, IsMet}
+use Rattle.bt_simplex.specs.inner.Bases.{with_slots}
+use Rattle.bt_simplex.specs.Turns.{IsMet}
 use Rattle.bt_simplex.specs.inner.Runs.{IsMade}
 use Rattle.bt_simplex.proofs.Runs.{goes_on, at_more, more_turns, met_end}
 use Rattle.bt_simplex.proofs.running.turned_from.Goals as goal

@@ -1,0 +1,14 @@
+//! Operations whose results leave 128 bits.
+use crate::answers::{Operation, WidePlace};
+use bt_frac::Frac;
+
+/// An operation on two numbers whose result leaves 128 bits, and what it was for.
+#[derive(Clone, Copy)]
+pub struct Cause {
+    pub place: WidePlace,
+    pub row: usize,
+    pub column: usize,
+    pub operation: Operation,
+    pub left: Frac,
+    pub right: Frac,
+}
