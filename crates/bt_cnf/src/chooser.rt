@@ -33,3 +33,16 @@ pub trait Chooser: Drop {
             (Gains (told_lengths self.old) (told_lengths self.new) (length clause.now ∷ [])) }
         ensures keeps { OnErr result (told_lengths self.new ≡ told_lengths self.old) };
 }
+
+// A box asks and tells the chooser in it.
+impl Chooser for Box<dyn Chooser> {
+    ghost told_lengths = { λ b. (Chooser-box b).told_lengths b.value };
+
+    fn pick(&mut self, unset: &[Var]) -> Pick {
+        (**self).pick(unset)
+    }
+
+    fn told(&mut self, clause: &[Lit]) -> Result<(), AllocError> {
+        (**self).told(clause)
+    }
+}

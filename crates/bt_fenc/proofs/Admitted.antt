@@ -4,17 +4,14 @@ use Rattle.std.specs.List.{AllByRecursion, flat_map, range_with_len}
 use Rattle.std.proofs.lemmas.Int.{ints}
 use Rattle.std.proofs.Math.Bool.{not}
 use Rattle.std.proofs.lemmas.Bool.{ltb-false, cases_eq}
-use Rattle.std.proofs.lemmas.List.{get_or_append_left, get_or-append-add, get_or-map}
-use Rattle.std.proofs.lemmas.Option.{slice_get-get_or, slice_get_within, get_or_from_slice_get}
+use Rattle.std.proofs.lemmas.List.{get_or_append_left, get_or-append-add}
+use Rattle.std.proofs.lemmas.Option.{slice_get-get_or, slice_get_within}
 use Rattle.bt_frac.specs.Values.{RowHolds}
 use Rattle.bt_net.specs.declared.network.Edge.{Edge}
-use Rattle.bt_net.specs.Network.{Network, IsNetwork, leaves, enters, is_input, is_output}
-use Rattle.bt_flow.specs.Ports.{numbers_where}
+use Rattle.bt_net.specs.Network.{Network, IsNetwork, leaves, enters}
 use Rattle.bt_flow.specs.States.{Flows, IsStateOf, flow_at, backed_at, load_at, room_at, cap_in}
 use Rattle.bt_flow.specs.Steady.{HasEdge, IsFull, IsSteady}
 use Rattle.bt_flow.specs.Properties.{IsAdmissible}
-use Rattle.bt_flow.proofs.Each.{numbers_from}
-use Rattle.bt_flow.proofs.Numbers.{length-numbers_where}
 use Rattle.bt_flow.proofs.Adding.{no_edge}
 use Rattle.bt_fenc.specs.declared.claim.Claim.{Claim}
 use Rattle.bt_fenc.specs.declared.claim.Claim.TheVariants.{Mark, Says}
@@ -23,17 +20,13 @@ use Rattle.bt_fenc.specs.declared.family.Family.TheVariants as of
 use Rattle.bt_fenc.specs.Columns.{input_edge, output_edge, in_edges, out_edges, cap_at, load_column, room_column, at_least, not_below}
 use Rattle.bt_fenc.specs.Families.{clauses_at, places, family_clauses, families, range_clauses, end_clauses, even_clause, even_clauses, backing_clause}
 use Rattle.bt_fenc.specs.Laws.{HasTrue}
+use Rattle.bt_fenc.proofs.NetEdges.{IsEdgeWith, edges_with, cap_is, input_is, output_is}
 use Rattle.bt_fenc.proofs.RowValues as rows
 use Rattle.bt_fenc.proofs.Withins.{each-flat_map, each-map, each-range, each_any}
 
 -- the whole number in a column
 abbrev pub column_of : Flows → ℕ → ℤ
 column_of s c = get_or (s.flows ++ s.loads ++ s.rooms) c (pos 0)
-
--- the list has a first number, and it is one of them
-first_holds : (P : ℕ → Type 0) (numbers : List ℕ) → 0 < length numbers → AllByRecursion P numbers → P (get_or numbers 0 0)
-first_holds P [] l h = absurd (omega arith)
-first_holds P (x ∷ xs) l h = h.0
 
 module _ (n : Network) (is : IsNetwork n) (s : Flows) (state : IsStateOf n s) where
   abbrev pub w : ℕ → ℤ
@@ -60,19 +53,6 @@ module _ (n : Network) (is : IsNetwork n) (s : Flows) (state : IsStateOf n s) wh
       let more = length-append s.flows s.loads in
       ap (λ k. get_or (s.flows ++ s.loads ++ s.rooms) (k + o) (pos 0)) (let e : length n.edges + n.inputs ≡ length (s.flows ++ s.loads) = omega (arith, f, g, more) in e)
       ∙ get_or-append-add (s.flows ++ s.loads) s.rooms o (pos 0)
-
-  -- the edge with a number has its cap
-  cap_is : (a : ℕ) (e : Edge) → HasEdge n a e → cap_at n a ≡ e.cap
-  cap_is a e h =
-      let l = slice_get_within n.edges a e h in
-      get_or-map (λ x. x.cap) n.edges a e 0 l ∙ ap (λ x. x.cap) (get_or_from_slice_get n.edges a e e h)
-
-  -- the numbers of the edges that pass a test are of such edges
-  abbrev pub IsEdgeWith : (Edge → Bool) → ℕ → Type 0
-  IsEdgeWith p a = (e : Edge) × HasEdge n a e × IsTrue (p e)
-
-  edges_with : (p : Edge → Bool) → AllByRecursion (IsEdgeWith p) (numbers_where p 0 n.edges)
-  edges_with p = numbers_from p (IsEdgeWith p) 0 n.edges (λ i e h t. (e, subst (λ k. HasEdge n k e) (let z : i ≡ 0 + i = omega arith in z) h, t))
 
 mul_mono : (m n d : ℕ) → m ≤ n → m * d ≤ n * d
 mul_mono m n d l = grind arith
@@ -106,7 +86,7 @@ module _ (n : Network) (is : IsNetwork n) (s : Flows) (state : IsStateOf n s) (s
   flow_is a e h = flow_column n is s state a (below a e h)
 
   pub cap_over : (a : ℕ) (e : Edge) → HasEdge n a e → pos (cap_at n a * s.denominator) ≡ cap_in s e
-  cap_over a e h = ap (λ c. pos (c * s.denominator)) (cap_is n is s state a e h)
+  cap_over a e h = ap (λ c. pos (c * s.denominator)) (cap_is n a e h)
 
   -- one flow is at least another
   not_below_true : (a b : ℕ) (e f : Edge) → HasEdge n a e → HasEdge n b f → flow_at s b ≤ℤ flow_at s a → RowHolds (not_below a b) (rows.over (w n is s state) s.denominator)
@@ -136,22 +116,9 @@ module _ (n : Network) (is : IsNetwork n) (s : Flows) (state : IsStateOf n s) (s
   conserve_true k l =
       (inl (rows.conserve_holds (w n is s state) s.denominator state.positive k n.edges s.flows state.flows (λ i b. flow_column n is s state i b) (steady.conserve k l)), tt)
 
-  -- the edge of an input, and of an output
-  pub input_is : (i : ℕ) → i < n.inputs → IsEdgeWith n is s state (is_input i) (input_edge n i)
-  input_is i l =
-      let one = is.wired.one_in i l in
-      let long = length-numbers_where (is_input i) 0 n.edges in
-      first_holds (IsEdgeWith n is s state (is_input i)) (numbers_where (is_input i) 0 n.edges) (omega (arith, one, long)) (edges_with n is s state (is_input i))
-
-  pub output_is : (o : ℕ) → o < n.outputs → IsEdgeWith n is s state (is_output o) (output_edge n o)
-  output_is o l =
-      let one = is.wired.one_out o l in
-      let long = length-numbers_where (is_output o) 0 n.edges in
-      first_holds (IsEdgeWith n is s state (is_output o)) (numbers_where (is_output o) 0 n.edges) (omega (arith, one, long)) (edges_with n is s state (is_output o))
-
   pub loads_true : IsAdmissible n s → (i : ℕ) → i < n.inputs → AllTrue (clauses_at n of.Loads i)
   loads_true admits i l =
-      let edge = input_is i l in
+      let edge = input_is n is i l in
       let x = load_column_is n is s state i l in
       let c = cap_over (input_edge n i) edge.0 edge.1 in
       let r = admits.loads i l (input_edge n i) edge.0 edge.1 edge.2 in
@@ -161,7 +128,7 @@ module _ (n : Network) (is : IsNetwork n) (s : Flows) (state : IsStateOf n s) (s
 
   pub rooms_true : IsAdmissible n s → (o : ℕ) → o < n.outputs → AllTrue (clauses_at n of.Rooms o)
   rooms_true admits o l =
-      let edge = output_is o l in
+      let edge = output_is n is o l in
       let x = room_column_is n is s state o l in
       let c = cap_over (output_edge n o) edge.0 edge.1 in
       let r = admits.rooms o l (output_edge n o) edge.0 edge.1 edge.2 in
@@ -184,7 +151,7 @@ module _ (n : Network) (is : IsNetwork n) (s : Flows) (state : IsStateOf n s) (s
   pub inputs_true : (i : ℕ) → i < n.inputs → AllTrue (clauses_at n of.Inputs i)
   inputs_true i l =
       let a = input_edge n i in
-      let edge = input_is i l in
+      let edge = input_is n is i l in
       let x = load_column_is n is s state i l in
       let y = flow_is a edge.0 edge.1 in
       let law = steady.input i l a edge.0 edge.1 edge.2 in
@@ -194,7 +161,7 @@ module _ (n : Network) (is : IsNetwork n) (s : Flows) (state : IsStateOf n s) (s
   pub outputs_true : (o : ℕ) → o < n.outputs → AllTrue (clauses_at n of.Outputs o)
   outputs_true o l =
       let a = output_edge n o in
-      let edge = output_is o l in
+      let edge = output_is n is o l in
       let x = room_column_is n is s state o l in
       let y = flow_is a edge.0 edge.1 in
       let law = steady.output o l a edge.0 edge.1 edge.2 in
@@ -227,7 +194,7 @@ module _ (n : Network) (is : IsNetwork n) (s : Flows) (state : IsStateOf n s) (s
 
   evens_true : (p : Edge → Bool) (mark : Bool)
       → ((a b : ℕ) (e f : Edge) → HasEdge n a e → HasEdge n b f → IsTrue (p e) → IsTrue (p f) → b ≢ a → backed_at s a ≡ not mark → (flow_at s b ≤ℤ flow_at s a) ⊎ IsFull s a e)
-      → (edges : List ℕ) → AllByRecursion (IsEdgeWith n is s state p) edges → AllTrue (even_clauses n mark edges)
+      → (edges : List ℕ) → AllByRecursion (IsEdgeWith n p) edges → AllTrue (even_clauses n mark edges)
   evens_true p mark law [] h = tt
   evens_true p mark law (a ∷ []) h = tt
   evens_true p mark law (a ∷ b ∷ []) h =
@@ -238,13 +205,13 @@ module _ (n : Network) (is : IsNetwork n) (s : Flows) (state : IsStateOf n s) (s
 
   pub even_out_true : (k : ℕ) → AllTrue (clauses_at n of.EvenOut k)
   even_out_true k =
-      evens_true (leaves k) true (λ a b e f h g p q o m. steady.even_out a (below a e h) k b e f h g o p q m) (out_edges n k) (edges_with n is s state (leaves k))
+      evens_true (leaves k) true (λ a b e f h g p q o m. steady.even_out a (below a e h) k b e f h g o p q m) (out_edges n k) (edges_with n (leaves k))
 
   pub even_in_true : (k : ℕ) → AllTrue (clauses_at n of.EvenIn k)
   even_in_true k =
-      evens_true (enters k) false (λ a b e f h g p q o m. steady.even_in a (below a e h) k b e f h g o p q m) (in_edges n k) (edges_with n is s state (enters k))
+      evens_true (enters k) false (λ a b e f h g p q o m. steady.even_in a (below a e h) k b e f h g o p q m) (in_edges n k) (edges_with n (enters k))
 
-  back_true : (k a x : ℕ) → IsEdgeWith n is s state (enters k) a → IsEdgeWith n is s state (leaves k) x → True (backing_clause n a x)
+  back_true : (k a x : ℕ) → IsEdgeWith n (enters k) a → IsEdgeWith n (leaves k) x → True (backing_clause n a x)
   back_true k a x i o =
       elim (same_or_not (backed_at s a) false) [
         | inl free ↦ inl free
@@ -256,8 +223,8 @@ module _ (n : Network) (is : IsNetwork n) (s : Flows) (state : IsStateOf n s) (s
 
   pub backing_true : (k : ℕ) → AllTrue (clauses_at n of.Backing k)
   backing_true k =
-      each-flat_map True (IsEdgeWith n is s state (enters k)) (λ a. map (backing_clause n a) (out_edges n k)) (in_edges n k) (edges_with n is s state (enters k))
-      (λ a i. each-map True (IsEdgeWith n is s state (leaves k)) (backing_clause n a) (out_edges n k) (edges_with n is s state (leaves k)) (λ x o. back_true k a x i o))
+      each-flat_map True (IsEdgeWith n (enters k)) (λ a. map (backing_clause n a) (out_edges n k)) (in_edges n k) (edges_with n (enters k))
+      (λ a i. each-map True (IsEdgeWith n (leaves k)) (backing_clause n a) (out_edges n k) (edges_with n (leaves k)) (λ x o. back_true k a x i o))
 
   at_true : IsAdmissible n s → (f : Family) (k : ℕ) → k < places n f → AllTrue (clauses_at n f k)
   at_true admits of.Flows k l = flows_true k l

@@ -1,33 +1,29 @@
 -- A state that breaks a property makes true a claim of each clause of the property.
-use Rattle.std.proofs.Common.{◌≡◌, ℕ, ◌<◌, ◌≤◌, ◌+◌, ◌⊎◌, inl, inr, Bool, IsTrue, ℤ, pos, ◌+ℤ◌, ◌≤ℤ◌, ◌<ℤ◌, List, [], ◌∷◌, length, map, get_or, ap, sym, ◌∙◌, refl, subst, arith, zero, suc}
+use Rattle.std.proofs.Common.{◌≡◌, ℕ, ◌<◌, ◌+◌, ◌⊎◌, inl, inr, Bool, IsTrue, ℤ, pos, ◌+ℤ◌, ◌≤ℤ◌, ◌<ℤ◌, List, [], ◌∷◌, length, get_or, ap, sym, ◌∙◌, refl, subst, arith}
 use Rattle.std.specs.List.{AllByRecursion, flat_map, range_with_len, count_by}
 use Rattle.std.proofs.lemmas.Int.{ints}
-use Rattle.std.proofs.lemmas.Bool.{cases_lt, cases_eq}
-use Rattle.std.proofs.lemmas.Option.{slice_get_within, get_or_from_slice_get}
+use Rattle.std.proofs.lemmas.Bool.{cases_lt}
 use borrow.Author.Differences.{up, down}
 use Rattle.bt_net.specs.declared.network.Edge.{Edge}
 use Rattle.bt_net.specs.Network.{Network, IsNetwork, StartsIn, EndsIn, leaves, enters, is_input, is_output}
-use Rattle.bt_flow.specs.declared.ports.Port.TheVariants.{One}
-use Rattle.bt_flow.specs.declared.ports.Role.TheVariants.{FromInput, ToOutput}
 use Rattle.bt_flow.specs.declared.property.Property.{Property}
 use Rattle.bt_flow.specs.declared.property.Property.TheVariants.{Balanced, DrawnEvenly, Unlimited, Full}
 use Rattle.bt_flow.specs.Ports.{numbers_where}
 use Rattle.bt_flow.specs.States.{Flows, IsStateOf, flow_at, backed_at, load_at, room_at}
 use Rattle.bt_flow.specs.Steady.{HasEdge, IsSteady, sum_where}
 use Rattle.bt_flow.specs.Properties.{IsLoaded, IsOpen, IsLesser, PassesAll, HasEqualOutputs, HasEqualInputs, Breaks, is_last, total}
-use Rattle.bt_flow.proofs.Adding.{no_edge}
-use Rattle.bt_flow.proofs.Each.{each_edge}
-use Rattle.bt_flow.proofs.Numbers.{length-numbers_where, within}
+use Rattle.bt_flow.proofs.Numbers.{length-numbers_where}
 use Rattle.bt_fenc.specs.Columns.{input_edge, output_edge, input_edges, output_edges, cap_at, load_column, room_column}
 use Rattle.bt_fenc.specs.Families.{family_clauses, families}
 use Rattle.bt_fenc.specs.Properties.{property_clauses, loaded_clauses, open_clauses, short_clauses, unequal_clause, differ}
 use Rattle.bt_fenc.specs.FlowFormula.{flow_clauses}
 use Rattle.bt_fenc.specs.Laws.{BreakingMeets, values_of}
 use Rattle.bt_fenc.proofs.Numbers.{all_to}
+use Rattle.bt_fenc.proofs.NetEdges.{input_is, output_is, edge_of_input, edge_of_output}
 use Rattle.bt_fenc.proofs.RowValues as rows
-use Rattle.bt_fenc.proofs.Withins.{each-append, each-three, each-map, each-range, flow_within}
+use Rattle.bt_fenc.proofs.Withins.{each-append, each-three, each-map, each-range, in_range, flow_within}
 use Rattle.bt_fenc.proofs.EdgeSums.{sums_from, starts_total, ends_total, outputs_total, sums_same, sums_at_most, picked, one_listed}
-use Rattle.bt_fenc.proofs.Admitted.{w, flow_column, load_column_is, room_column_is, input_is, output_is, flow_is, cap_over, True, AllTrue, families_true}
+use Rattle.bt_fenc.proofs.Admitted.{w, flow_column, load_column_is, room_column_is, flow_is, cap_over, True, AllTrue, families_true}
 use Rattle.bt_fenc.proofs.TrueClaims.{true_claims_meet}
 
 -- a whole number is below another, the same or above it
@@ -45,37 +41,9 @@ below_both z x y l m f = (
   elim (order z y) [ inl h ↦ h | inr h ↦ elim h [ inl e ↦ absurd (f (inr (e, omega (arith, ints, e, l)))) | inr g ↦ absurd (omega (arith, ints, g, m)) ] ],
 )
 
--- what holds of all that numbers in a range give holds of what one of them gives
-in_range : (Q : ℕ → Type 0) (f : ℕ → ℕ) (a c k : ℕ) → AllByRecursion Q (map f (range_with_len a c)) → a ≤ k → k < a + c → Q (f k)
-in_range Q f a zero k h l m = absurd (omega arith)
-in_range Q f a (suc c) k h l m =
-    elim (cases_eq a k) [ inl e ↦ subst (λ i. Q (f i)) e h.0 | inr o ↦ in_range Q f (a + 1) c k h.1 (omega (arith, o, l)) (omega (arith, m)) ]
-
-only_one : (numbers : List ℕ) → length numbers ≡ 1 → get_or numbers 0 0 ∷ [] ≡ numbers
-only_one [] l = absurd (omega arith)
-only_one (x ∷ []) l = refl
-only_one (x ∷ y ∷ numbers) l = absurd (omega arith)
-
 -- the sum of output flows is at most what enters at the inputs
 at_most_loads : (z si sl se t u : ℤ) → si +ℤ sl ≡ t → z +ℤ se ≡ t → se ≡ sl → si ≤ℤ u → z ≤ℤ u
 at_most_loads z si sl se t u a b c l = omega (arith, ints, a, b, c, l)
-
-module _ (n : Network) (is : IsNetwork n) where
-  -- an edge from an input is the edge of that input
-  edge_of_input : (i a : ℕ) (e : Edge) → HasEdge n a e → IsTrue (is_input i e) → (i < n.inputs) × (a ≡ input_edge n i)
-  edge_of_input i a e h t =
-      let l = slice_get_within n.edges a e h in
-      let few = within n FromInput is a i no_edge l (ap (is_input i) (get_or_from_slice_get n.edges a e no_edge h) ∙ t) in
-      let one = only_one (numbers_where (is_input i) 0 n.edges) (length-numbers_where (is_input i) 0 n.edges ∙ is.wired.one_in i few) in
-      (few, each_edge n FromInput i (One (input_edge n i)) one (λ x. x ≡ input_edge n i) (refl, tt) a e h t)
-
-  -- an edge to an output is the edge of that output
-  edge_of_output : (o a : ℕ) (e : Edge) → HasEdge n a e → IsTrue (is_output o e) → (o < n.outputs) × (a ≡ output_edge n o)
-  edge_of_output o a e h t =
-      let l = slice_get_within n.edges a e h in
-      let few = within n ToOutput is a o no_edge l (ap (is_output o) (get_or_from_slice_get n.edges a e no_edge h) ∙ t) in
-      let one = only_one (numbers_where (is_output o) 0 n.edges) (length-numbers_where (is_output o) 0 n.edges ∙ is.wired.one_out o few) in
-      (few, each_edge n ToOutput o (One (output_edge n o)) one (λ x. x ≡ output_edge n o) (refl, tt) a e h t)
 
 module _ (n : Network) (is : IsNetwork n) (s : Flows) (state : IsStateOf n s) (steady : IsSteady n s) where
   abbrev v : ℕ → ℤ
@@ -89,7 +57,7 @@ module _ (n : Network) (is : IsNetwork n) (s : Flows) (state : IsStateOf n s) (s
   at_most_load : (i : ℕ) → i < n.inputs → sum_where (is_input i) n.edges s.flows ≤ℤ load_at s i
   at_most_load i l =
       let e = one_flow (is_input i) (is.wired.one_in i l) in
-      let edge = input_is n is s state steady i l in
+      let edge = input_is n is i l in
       let y = flow_is n is s state steady (input_edge n i) edge.0 edge.1 in
       let most = (steady.input i l (input_edge n i) edge.0 edge.1 edge.2).0 in
       omega (arith, ints, e, y, most)
@@ -97,7 +65,7 @@ module _ (n : Network) (is : IsNetwork n) (s : Flows) (state : IsStateOf n s) (s
   at_most_room : (o : ℕ) → o < n.outputs → sum_where (is_output o) n.edges s.flows ≤ℤ room_at s o
   at_most_room o l =
       let e = one_flow (is_output o) (is.wired.one_out o l) in
-      let edge = output_is n is s state steady o l in
+      let edge = output_is n is o l in
       let y = flow_is n is s state steady (output_edge n o) edge.0 edge.1 in
       let most = (steady.output o l (output_edge n o) edge.0 edge.1 edge.2).0 in
       omega (arith, ints, e, y, most)
@@ -138,7 +106,7 @@ module _ (n : Network) (is : IsNetwork n) (s : Flows) (state : IsStateOf n s) (s
   loaded_true : ((i : ℕ) → i < n.inputs → IsLoaded n s i) → AllTrue n is s state steady (loaded_clauses n)
   loaded_true meets =
       each-map (True n is s state steady) (λ i. i < n.inputs) _ (range_with_len 0 n.inputs) (each-range (λ i. i < n.inputs) 0 n.inputs (λ i l m. omega (arith, m))) (λ i l.
-      let edge = input_is n is s state steady i l in
+      let edge = input_is n is i l in
       let x = load_column_is n is s state i l in
       let c = cap_over n is s state steady (input_edge n i) edge.0 edge.1 in
       let full = meets i l (input_edge n i) edge.0 edge.1 edge.2 in
@@ -147,7 +115,7 @@ module _ (n : Network) (is : IsNetwork n) (s : Flows) (state : IsStateOf n s) (s
   open_true : ((o : ℕ) → o < n.outputs → IsOpen n s o) → AllTrue n is s state steady (open_clauses n)
   open_true meets =
       each-map (True n is s state steady) (λ o. o < n.outputs) _ (range_with_len 0 n.outputs) (each-range (λ o. o < n.outputs) 0 n.outputs (λ o l m. omega (arith, m))) (λ o l.
-      let edge = output_is n is s state steady o l in
+      let edge = output_is n is o l in
       let x = room_column_is n is s state o l in
       let c = cap_over n is s state steady (output_edge n o) edge.0 edge.1 in
       let full = meets o l (output_edge n o) edge.0 edge.1 edge.2 in

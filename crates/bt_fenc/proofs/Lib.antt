@@ -4,6 +4,7 @@ pub mod Columns
 pub mod Numbers
 pub mod Withins
 pub mod TrueClaims
+pub mod NetEdges
 pub mod RowValues
 pub mod Admitted
 pub mod FlowRows
@@ -11,3 +12,6 @@ pub mod EdgeSums
 pub mod Breaking
 pub mod Formulas
 pub mod Refuted
+pub mod Claimed
+pub mod Solved
+pub mod States

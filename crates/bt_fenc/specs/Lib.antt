@@ -5,4 +5,5 @@ pub mod FlowFormula
 pub mod Numbering
 pub mod Within
 pub mod Laws
+pub mod Solutions
 pub mod inner

@@ -1,5 +1,6 @@
 //! Laws of the flow formula, as contracts of functions that do nothing.
 ghost use Rattle.bt_fenc.specs.Laws.{TrueClaimsMeet, SteadyMeets, BreakingMeets, RefutedHolds};
+ghost use Rattle.bt_fenc.specs.Solutions.{MeetingBreaks};
 
 /// Marks and values of which each clause has a true claim give an assignment, which begins with the marks
 /// and meets the formula of the clauses with the values. So nothing is lost by the numbering.
@@ -17,6 +18,12 @@ pub fn steady_meets()
 /// the first variables, and its flows, loads and rooms the values.
 pub fn breaking_meets()
     ensures { BreakingMeets }
+{}
+
+/// Each state whose marks and values are those of an assignment that meets the flow formula of a network and
+/// a property breaks the property. So the formula is met by nothing but such states.
+pub fn meeting_breaks()
+    ensures { MeetingBreaks }
 {}
 
 /// Where a log, whoever wrote it, refutes the flow formula of a network and a property, no state breaks the

@@ -12,10 +12,12 @@ mod law;
 mod numbering;
 mod properties;
 mod rows;
+mod solution;
 mod splitters;
 #[cfg(test)]
 mod tests;
 
 pub use encoding::encode;
-pub use law::{breaking_meets, refuted_holds, steady_meets, true_claims_meet};
+pub use law::{breaking_meets, meeting_breaks, refuted_holds, steady_meets, true_claims_meet};
+pub use solution::state_of;
 pub use std::alloc::AllocError as Memory;

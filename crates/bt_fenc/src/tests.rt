@@ -1,6 +1,7 @@
-use crate::encode;
+use crate::{encode, state_of};
 use bt_cnf::Formula;
 use bt_flow::Property;
+use bt_frac::Frac;
 use std::alloc::Global;
 use std::test::Fail;
 
@@ -31,5 +32,18 @@ fn has_all_clauses(rt: HostRuntime) -> Result<(), Fail> {
             formula.clauses() == clauses && formula.vars() == vars && formula.columns() == columns
         );
     }
+    Ok(())
+}
+
+#[test]
+fn gives_the_state_of_an_assignment(rt: HostRuntime) -> Result<(), Fail> {
+    let net = bt_net::read(rt.alloc(), SPLITTER)?.net;
+    let [one, two, three] = [1, 2, 3].map(|n| Frac::whole(n));
+    let values = [one, two, one, two, two, three, three];
+    let state = state_of(rt.alloc(), &net, &values, &[true])?;
+    assert!(rt; state.flows() == [one, two, one, two].as_slice());
+    assert!(rt; state.loads() == [two, three].as_slice());
+    assert!(rt; state.rooms() == [three, Frac::whole(0)].as_slice());
+    assert!(rt; state.backed() == [true, false, false, false].as_slice());
     Ok(())
 }

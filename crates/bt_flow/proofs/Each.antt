@@ -20,7 +20,7 @@ from_both : (P : ℕ → Type 0) (m : ℕ) (b : Bool) (rest : List ℕ) → (b �
 from_both P m true rest f h = (f refl, h)
 from_both P m false rest f h = h
 
-numbers_all : (p : Edge → Bool) (P : ℕ → Type 0) (m : ℕ) (es : List Edge) → AllByRecursion P (numbers_where p m es)
+pub numbers_all : (p : Edge → Bool) (P : ℕ → Type 0) (m : ℕ) (es : List Edge) → AllByRecursion P (numbers_where p m es)
     → (i : ℕ) (e : Edge) → slice_get es i ≡ Some e → p e ≡ true → P (m + i)
 numbers_all p P m [] h i e is t = absurd (cc)
 numbers_all p P m (x ∷ es) h zero e is t =

@@ -1,4 +1,7 @@
+pub mod Answering
 pub mod Freshness
 pub mod Laws
 pub mod Propagation
+pub mod Serving
+pub mod Solving
 pub mod inner

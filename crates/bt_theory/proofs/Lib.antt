@@ -1,0 +1,6 @@
+pub mod Truths
+pub mod Chosen
+pub mod Atoms
+pub mod Columns
+pub mod Reached
+pub mod Rounds

@@ -1,0 +1,77 @@
+-- What is right to say of a formula that is decided within limits.
+use Rattle.std.specs.Prelude.{◌≡◌, ℕ, List, [], ◌∷◌, ◌++◌, length, map, true, Ok}
+use Rattle.std.specs.List.{All, AllZip, zip}
+use Rattle.bt_frac.specs.Ratio.{Ratio}
+use Rattle.bt_frac.specs.Rows.{RowParts}
+use Rattle.bt_frac.specs.Values.{value_in}
+use Rattle.bt_lin.specs.Farkas.{IsFarkas}
+use Rattle.bt_cnf.specs.Formulas.{FormulaParts}
+use Rattle.bt_cnf.specs.Assignments.{truth_in}
+use Rattle.bt_cnf.specs.Meeting.{Meets}
+use Rattle.bt_cnf.specs.declared.literal.Lit.{Lit}
+use Rattle.bt_log.specs.Logs.{Step, Lemma, Learnt, clause_of}
+use Rattle.bt_log.specs.Validity.{NegatesAtom, IsValidStep, AreValid}
+use Rattle.bt_log.specs.Refuting.{Refutes}
+use Rattle.bt_sat.specs.Freshness.{IsFreshStep}
+use Rattle.bt_sat.specs.Solving.{AreFresh, AreNonempty}
+use Rattle.bt_simplex.specs.Tableaus.{TableauParts}
+use Rattle.bt_simplex.specs.Checks.{IsPivots, IsWideCheck}
+use Rattle.bt_simplex.specs.declared.answers.Trail.{Trail}
+use Rattle.bt_simplex.specs.declared.answers.Wide as wide
+use Rattle.bt_theory.specs.declared.outcome.Limits.{Limits}
+use Rattle.bt_theory.specs.declared.outcome.Outcome.{Outcome}
+use Rattle.bt_theory.specs.declared.outcome.Outcome.TheVariants.{Sat, Refuted, Spent, Pivots, Wide}
+use Rattle.bt_theory.specs.Reaching.{IsReached}
+
+-- the rows of a lemma's atoms with its weights add up to a row that no values meet, and each product and sum fits
+pub record FitsLemma (f : FormulaParts) (lits : List Lit) (weights : List Ratio) : Type 0 where
+  pub rows : List RowParts
+  pub negated : AllZip (NegatesAtom f) lits rows
+  pub accepted : IsFarkas (zip rows weights) (Ok true)
+
+-- where the step is a lemma, its sum fits
+abbrev pub Fits : FormulaParts → Step → Type 0
+Fits f (Lemma lits weights) = FitsLemma f lits weights
+Fits f (Learnt lits hints) = Unit {0}
+
+-- each step is valid and fresh after the formula's clauses and the earlier steps, none before the last is empty, and
+-- the sum of each lemma fits
+pub record IsSound (f : FormulaParts) (steps : List Step) : Type 0 where
+  pub valid : AreValid f f.clauses steps
+  pub fresh : AreFresh f.clauses steps
+  pub nonempty : (front : List Step) (last : Step) → steps ≡ front ++ last ∷ [] → AreNonempty front
+  pub fits : All (Fits f) steps
+
+-- the log is sound and refutes the formula
+pub record IsRefutation (f : FormulaParts) (steps : List Step) : Type 0 where
+  pub sound : IsSound f steps
+  pub refutes : Refutes f steps
+
+-- the log is sound and has so many steps, of which none is empty, and one more would be valid and fresh
+pub record IsUsedUp (f : FormulaParts) (limit : ℕ) (steps : List Step) : Type 0 where
+  pub sound : IsSound f steps
+  pub full : length steps ≡ limit
+  pub nonempty : AreNonempty steps
+  pub more : Step
+  pub valid : IsValidStep f (f.clauses ++ map clause_of steps) more
+  pub fresh : IsFreshStep (f.clauses ++ map clause_of steps) more
+
+-- the trail begins at a reachable basis of the formula's rows, has so many turns, and ends at a basis that isn't final
+pub record TurnsOn (f : FormulaParts) (pivots : ℕ) (trail : Trail) : Type 0 where
+  pub tableau : TableauParts
+  pub reached : IsReached f tableau
+  pub turned : IsPivots pivots tableau trail
+
+-- the trail begins at a reachable basis of the formula's rows and leads to one with these two numbers
+pub record IsTooWide (f : FormulaParts) (pivots : ℕ) (at : wide.Wide) : Type 0 where
+  pub tableau : TableauParts
+  pub reached : IsReached f tableau
+  pub wide : IsWideCheck pivots tableau at
+
+-- what is right to say of a formula within limits
+abbrev pub IsOutcome : FormulaParts → Limits → Outcome → Type 0
+IsOutcome f limits (Sat values assignment) = Meets f (truth_in assignment.items) (value_in values.items)
+IsOutcome f limits (Refuted log) = IsRefutation f log.steps
+IsOutcome f limits (Spent log) = IsUsedUp f limits.learnt log.steps
+IsOutcome f limits (Pivots trail) = TurnsOn f limits.pivots trail
+IsOutcome f limits (Wide at) = IsTooWide f limits.pivots at

@@ -1,0 +1,48 @@
+-- Tableaus of a formula's rows, and the bases that a search for an assignment with values may come to.
+use Rattle.std.specs.Prelude.{◌≡◌, ℕ, Bool, List, map}
+use Rattle.std.specs.List.{All}
+use Rattle.bt_frac.specs.Rows.{RowParts, columns_in, end_of}
+use Rattle.bt_cnf.specs.Formulas.{FormulaParts}
+use Rattle.bt_cnf.specs.Meeting.{MeetsClause}
+use Rattle.bt_simplex.specs.SolvedForms.{IsSolvedForm, basis_of}
+use Rattle.bt_simplex.specs.Tableaus.{TableauParts, positions_from}
+use Rattle.bt_simplex.specs.Turns.{IsBlandTurn, IsTurnedBy}
+use Rattle.bt_simplex.specs.declared.tableau.Turn.{Turn}
+
+-- the rows of the atoms, in the order of their variables
+abbrev pub atom_rows : FormulaParts → List RowParts
+atom_rows f = map (λ a. a.1) f.atoms
+
+-- the variables of the atoms, in ascending order
+abbrev pub atom_vars : FormulaParts → List ℕ
+atom_vars f = map (λ a. a.0) f.atoms
+
+-- one more than the greatest column of the rows, or 0 where no row has a term
+abbrev pub columns_of : FormulaParts → ℕ
+columns_of f = end_of (columns_in (atom_rows f))
+
+-- the tableau has the formula's rows and columns, and a basis with its solved form
+pub record IsTableauOf (f : FormulaParts) (t : TableauParts) : Type 0 where
+  pub rows : t.rows ≡ atom_rows f
+  pub columns : t.columns ≡ columns_of f
+  pub solved : IsSolvedForm t.rows t.columns t.slots
+
+-- the rows that are bound are those of the atoms that are true under an assignment that gives every clause a true
+-- literal
+pub record IsGuided (f : FormulaParts) (t : TableauParts) : Type 0 where
+  pub assignment : ℕ → Bool
+  pub meets : All (MeetsClause assignment) f.clauses
+  pub bound : t.bound ≡ map assignment (atom_vars f)
+
+-- a basis is reachable: that of the rows, and one that a turn of Bland's rule gives from a reachable basis, where the
+-- bound rows are those of the atoms true under an assignment that gives every clause a true literal
+pub data IsReachable (f : FormulaParts) : List ℕ → Type 0 where
+  begins : IsReachable f (positions_from (columns_of f) (atom_rows f))
+  turns_on : (t t' : TableauParts) (turn : Turn) → IsReachable f (basis_of t.slots) → IsTableauOf f t → IsGuided f t → IsBlandTurn t turn
+      → IsTurnedBy turn t t' → IsReachable f (basis_of t'.slots)
+
+-- a tableau of the formula at a reachable basis, with such rows bound
+pub record IsReached (f : FormulaParts) (t : TableauParts) : Type 0 where
+  pub tableau : IsTableauOf f t
+  pub guided : IsGuided f t
+  pub reachable : IsReachable f (basis_of t.slots)

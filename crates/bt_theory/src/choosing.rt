@@ -1,0 +1,105 @@
+//! Choosing, within a model, an assignment with few atoms that still gives every clause a true literal.
+//!
+//! Each true atom is one more row that the tableau has to meet, so the atoms start as false, and one is
+//! chosen only where a clause has no other true literal.
+ghost use Rattle.std.specs.Prelude.{◌≡◌, ◌↔◌, ◌<◌, true, IsTrue, length, IfOk};
+ghost use Rattle.std.specs.List.{All};
+ghost use Rattle.bt_cnf.specs.Assignments.{truth_in};
+ghost use Rattle.bt_cnf.specs.Meeting.{IsTrueUnder, MeetsClause};
+ghost use Rattle.bt_theory.specs.inner.Choosing.{IsWithin, IsSettled, HasSettled, Settles, IsChosen};
+
+use bt_cnf::{Formula, Lit};
+use std::alloc::{AllocError, Global};
+
+/// Whether a variable is true, or false past the end of the assignment.
+pub fn is_true(assignment: &[bool], var: usize) -> bool
+    ensures { result ≡ truth_in assignment.now var }
+{
+    var < assignment.len() && assignment[var]
+}
+
+/// Whether a literal is true in a model.
+fn holds(lit: Lit, model: &[bool]) -> bool
+    ensures { IsTrue result ↔ IsTrueUnder (truth_in model.now) lit }
+{
+    is_true(model, lit.var.place()) == lit.positive
+}
+
+/// Whether a literal stays true however more of the model is chosen.
+fn is_settled(lit: Lit, model: &[bool], chosen: &[bool]) -> bool
+    ensures { IsTrue result ↔ IsSettled model.now chosen.now lit }
+{
+    if lit.positive {
+        is_true(chosen, lit.var.place())
+    } else {
+        !is_true(model, lit.var.place())
+    }
+}
+
+/// The variable to choose for a clause: that of the last literal which is true in the model. None where a
+/// literal is settled already.
+fn choice(lits: &[Lit], model: &[bool], chosen: &[bool]) -> Option<usize>
+    requires { MeetsClause (truth_in model.now) lits.now }
+    ensures { Settles model.now chosen.now lits.now result }
+{
+    let mut last = None;
+    for lit in lits {
+        if is_settled(*lit, model, chosen) {
+            return None;
+        }
+        if holds(*lit, model) {
+            last = Some(lit.var.place());
+        }
+    }
+    last
+}
+
+/// The model's values of the variables that are no atoms, and false for the atoms.
+fn without_atoms(alloc: Global, formula: &Formula, model: &[bool]) -> Result<Vec<bool>, AllocError>
+    ensures size { IfOk result (λ chosen. length chosen.items ≡ length model.now) }
+    ensures within { IfOk result (λ chosen. IsWithin model.now chosen.items) }
+{
+    let mut chosen = Vec::new(alloc);
+    for (place, value) in model.iter().enumerate() {
+        chosen.push(*value && !is_atom(formula, place))?;
+    }
+    Ok(chosen)
+}
+
+/// Whether the variable at a place is an atom.
+fn is_atom(formula: &Formula, place: usize) -> bool {
+    match formula.var_at(place) {
+        Some(var) => formula.row_of(var).is_some(),
+        None => false,
+    }
+}
+
+/// Chooses what a clause needs.
+fn settle(lits: &[Lit], model: &[bool], chosen: &mut [bool])
+    requires met { MeetsClause (truth_in model.now) lits.now }
+    requires size { length chosen.old ≡ length model.now }
+    requires within { IsWithin model.now chosen.old }
+    ensures within { IsWithin model.now chosen.new }
+    ensures grows { IsWithin chosen.new chosen.old }
+    ensures settled { HasSettled model.now chosen.new lits.now }
+{
+    if let Some(var) = choice(lits, model, chosen) {
+        chosen[var] = true;
+    }
+}
+
+/// An assignment within a model that gives each clause of the formula a true literal: what isn't an atom is
+/// as in the model, and of the atoms those are true that some clause needs.
+pub fn choose(alloc: Global, formula: &Formula, model: &[bool]) -> Result<Vec<bool>, AllocError>
+    requires { All (MeetsClause (truth_in model.now)) formula.now.clauses }
+    ensures { IfOk result (λ chosen. IsChosen model.now chosen.items formula.now.clauses) }
+{
+    let mut chosen = without_atoms(alloc, formula, model)?;
+    for place in 0..formula.clauses() {
+        let Some(id) = formula.clause_at(place) else {
+            unreachable!()
+        };
+        settle(formula.clause(id), model, &mut chosen);
+    }
+    Ok(chosen)
+}

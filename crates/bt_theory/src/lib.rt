@@ -1,0 +1,14 @@
+//! Formulas whose variables may stand for rows of linear constraints, decided by a search for models and by
+//! turns of a tableau: an assignment with values that meets the formula, or a log that refutes it.
+#![tactic(auto)]
+
+mod binding;
+mod choosing;
+mod lemma;
+mod outcome;
+mod round;
+mod solving;
+
+pub use outcome::{Limits, Outcome};
+pub use solving::solve;
+pub use std::alloc::AllocError as Memory;

@@ -1,0 +1,31 @@
+//! What deciding a formula comes to.
+use bt_frac::Frac;
+use bt_log::Log;
+use bt_simplex::{Trail, Wide};
+
+/// How much deciding a formula may take.
+#[derive(Clone, Copy, PartialEq, Eq)]
+pub struct Limits {
+    /// The most steps of the log.
+    pub learnt: u64,
+    /// The most turns of a basis for each assignment that is tried.
+    pub pivots: u64,
+}
+
+/// What deciding a formula comes to.
+#[derive(Drop)]
+pub enum Outcome {
+    /// The assignment and the values of the columns meet the formula.
+    Sat {
+        values: Vec<Frac>,
+        assignment: Vec<bool>,
+    },
+    /// The log refutes the formula.
+    Refuted(Log),
+    /// The log has as many steps as it may, and one more is needed.
+    Spent(Log),
+    /// The turns for one assignment were as many as they may be, and the basis isn't final.
+    Pivots(Trail),
+    /// A number that the turns ask for leaves 128 bits.
+    Wide(Wide),
+}
