@@ -7,7 +7,7 @@ use Rattle.bt_flow.specs.declared.property.Property.{Property}
 use Rattle.bt_words.specs.declared.argument.Argument.{Argument}
 use Rattle.bt_words.specs.declared.argument.Argument.TheVariants.{Named, Order, Chain, Learnt, Pivots}
 use Rattle.bt_words.specs.declared.given.Given.{Given}
-use Rattle.bt_words.specs.declared.command.Limits.{Limits}
+use Rattle.bt_theory.specs.declared.outcome.Limits.{Limits}
 use Rattle.bt_words.specs.declared.command.Family.{Family}
 use Rattle.bt_words.specs.declared.command.Family.TheVariants as family
 use Rattle.bt_words.specs.declared.command.Command.{Command}

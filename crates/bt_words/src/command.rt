@@ -7,21 +7,13 @@ ghost use Rattle.bt_words.specs.declared.command.Command.{Command as ACommand};
 use crate::given::{Given, read_given};
 use crate::verb::Verb;
 use bt_flow::Property;
+use bt_theory::Limits;
 
 /// The most steps of a log, where the words don't say.
 pub const USUAL_LEARNT: u64 = 100_000;
 
 /// The most turns of one call, where the words don't say.
 pub const USUAL_PIVOTS: u64 = 10_000;
-
-/// How far a search goes.
-#[derive(Clone, Copy, PartialEq, Eq)]
-pub struct Limits {
-    /// The most steps of the whole log.
-    pub learnt: u64,
-    /// The most turns of each single call that solves rows.
-    pub pivots: u64,
-}
 
 /// The kinds of networks that are made.
 #[derive(Clone, Copy, PartialEq, Eq)]

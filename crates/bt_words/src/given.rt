@@ -8,8 +8,9 @@ ghost use Rattle.bt_words.specs.declared.argument.Argument.{Argument as AnArgume
 ghost use Rattle.bt_words.specs.declared.given.Given.{Given as AGiven};
 
 use crate::argument::{Argument, next_argument};
-use crate::command::{Family, Limits, USUAL_LEARNT, USUAL_PIVOTS};
+use crate::command::{Family, USUAL_LEARNT, USUAL_PIVOTS};
 use bt_flow::Property;
+use bt_theory::Limits;
 
 /// What is given behind a command's word.
 #[derive(Clone, Copy)]

@@ -13,4 +13,5 @@ mod tests;
 mod verb;
 
 pub use argument::{MOST_LEARNT, MOST_ORDER, MOST_PIVOTS};
-pub use command::{Command, Family, Limits, USUAL_LEARNT, USUAL_PIVOTS, command_of, one_command};
+pub use bt_theory::Limits;
+pub use command::{Command, Family, USUAL_LEARNT, USUAL_PIVOTS, command_of, one_command};
