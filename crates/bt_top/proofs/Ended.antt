@@ -68,6 +68,7 @@ ends words source sink status ending = record {
     complete (told a right t) c bytes w is = inl (a, right_to_input words source a c bytes w is right, t)
     complete (read_fault d v r u s) c bytes w is = inr (inl s)
     complete (no_memory d v r u s) c bytes w is = inr (inr s)
+
     only : IsEnding words source sink status → (c : Command) (bytes : List ℕ) (b : Answer) → IsCommand c words → IsInput c source bytes
         → HasOneRight c → IsRightTo c bytes (Ok b) → IsTold b sink status ⊎ (status ≡ READ_FAULT) ⊎ (status ≡ NO_MEMORY)
     only (told a right t) c bytes b w is once h =

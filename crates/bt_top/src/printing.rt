@@ -24,7 +24,10 @@ pub fn print_spent<K: Sink>(log: &Log, sink: &mut K) -> Result<(), WriteFault>
     ensures { WritesText (passage K.held K.faults sink.old sink.new) (spent_text log.now.steps) result }
 {
     let mut steps = Buffer::new();
-    write_pieces(sink, &[b"spent ", steps.format(log.len()).as_bytes(), b"\n"])?;
+    write_pieces(
+        sink,
+        &[b"spent ", steps.format(log.len()).as_bytes(), b"\n"],
+    )?;
     log.print(sink)
 }
 
@@ -40,18 +43,21 @@ pub fn print_made<K: Sink>(made: &Made, sink: &mut K) -> Result<(), WriteFault>
     let edges = edges.format(made.edges).as_bytes();
     let outputs = outputs.format(made.outputs).as_bytes();
     let balance = balance_word(made.balanced).as_bytes();
-    write_pieces(sink, &[
-        family,
-        b" ",
-        order,
-        b"\nedges ",
-        edges,
-        b"\noutputs ",
-        outputs,
-        b"\n",
-        balance,
-        b" balanced\n",
-    ])
+    write_pieces(
+        sink,
+        &[
+            family,
+            b" ",
+            order,
+            b"\nedges ",
+            edges,
+            b"\noutputs ",
+            outputs,
+            b"\n",
+            balance,
+            b" balanced\n",
+        ],
+    )
 }
 
 /// The word for a kind of network.

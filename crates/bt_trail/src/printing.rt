@@ -71,7 +71,10 @@ fn print_end<K: Sink>(
     ensures { WritesText (passage K.held K.faults sink.old sink.new)
         (end_text operation.now left.now right.now) result }
 {
-    write_pieces(sink, &[b"numbers ", operation, b" ", left, b" ", right, b"\nend\n"])
+    write_pieces(
+        sink,
+        &[b"numbers ", operation, b" ", left, b" ", right, b"\nend\n"],
+    )
 }
 
 /// Writes the lines of a trail.

@@ -17,8 +17,14 @@ fn trail(alloc: Global, turns: &[Turn]) -> Result<Trail, Fail> {
 #[test]
 fn trails(rt: HostRuntime) -> Result<(), Fail> {
     let alloc = rt.alloc();
-    let turn = Turn { leaves: 3, enters: 1 };
-    let last = Turn { leaves: 10, enters: 3 };
+    let turn = Turn {
+        leaves: 3,
+        enters: 1,
+    };
+    let last = Turn {
+        leaves: 10,
+        enters: 3,
+    };
     for (turns, text) in [
         ([].as_slice(), "pivots 0\nstart 3 4 10\nbound 0\nend\n"),
         (
@@ -37,13 +43,39 @@ fn trails(rt: HostRuntime) -> Result<(), Fail> {
 fn wide_numbers(rt: HostRuntime) -> Result<(), Fail> {
     let alloc = rt.alloc();
     for (place, operation, first, last) in [
-        (WidePlace::Entry, Operation::Div, "wide entry 4 1\n", "numbers div 1/3 -2\n"),
-        (WidePlace::Value, Operation::Mul, "wide value 4 1\n", "numbers mul 1/3 -2\n"),
-        (WidePlace::Settle, Operation::Add, "wide settle 4 1\n", "numbers add 1/3 -2\n"),
-        (WidePlace::Lemma, Operation::Mul, "wide lemma 4 1\n", "numbers mul 1/3 -2\n"),
+        (
+            WidePlace::Entry,
+            Operation::Div,
+            "wide entry 4 1\n",
+            "numbers div 1/3 -2\n",
+        ),
+        (
+            WidePlace::Value,
+            Operation::Mul,
+            "wide value 4 1\n",
+            "numbers mul 1/3 -2\n",
+        ),
+        (
+            WidePlace::Settle,
+            Operation::Add,
+            "wide settle 4 1\n",
+            "numbers add 1/3 -2\n",
+        ),
+        (
+            WidePlace::Lemma,
+            Operation::Mul,
+            "wide lemma 4 1\n",
+            "numbers mul 1/3 -2\n",
+        ),
     ] {
         let wide = Wide {
-            trail: trail(alloc, &[Turn { leaves: 3, enters: 1 }])?,
+            trail: trail(
+                alloc,
+                &[Turn {
+                    leaves: 3,
+                    enters: 1,
+                }],
+            )?,
             place,
             basis: vec![in alloc; 1, 4, 10]?,
             row: 4,

@@ -19,29 +19,59 @@ const DECISIONS: [(&str, &str, u8, &str); 10] = [
     ("decide unlimited", BUTTERFLY, 1, "no unlimited\n"),
     ("decide unlimited", LOOP, 1, "no unlimited\n"),
     // No assignment gives each clause a true literal, and so no turn is made.
-    ("decide balanced --learnt 1 --pivots 0", BELT, 0, "yes balanced\n"),
+    (
+        "decide balanced --learnt 1 --pivots 0",
+        BELT,
+        0,
+        "yes balanced\n",
+    ),
     ("decide unlimited --pivots 0", LOOP, 10, "pivots 0\n"),
 ];
 
 /// Limits that are reached, what is made, and what is refused.
 const CASES: [Case; 14] = [
-    Case("decide balanced --learnt 0", &[BUTTERFLY], 4, "spent 0\nend\n"),
+    Case(
+        "decide balanced --learnt 0",
+        &[BUTTERFLY],
+        4,
+        "spent 0\nend\n",
+    ),
     Case("make 2 --learnt=0", &[], 4, "spent 0\nend\n"),
     Case("decide balanced full", &[BELT], 2, "usage\n"),
     Case("decide balanced --learnt 01", &[BELT], 2, "usage\n"),
     Case("make 02", &[BELT], 2, "usage\n"),
     Case("layout", &[BELT], 2, "usage\n"),
-    Case("decide full", &[BELT, "\n\nno full\n"], 3, "refused 40 NetLine 6\n"),
+    Case(
+        "decide full",
+        &[BELT, "\n\nno full\n"],
+        3,
+        "refused 40 NetLine 6\n",
+    ),
     Case("decide full", &["{} "], 3, "refused 20 NotBlueprint\n"),
-    Case("decide full", &["net 0 0 0\nend\n"], 3, "refused 42 NoEnds\n"),
+    Case(
+        "decide full",
+        &["net 0 0 0\nend\n"],
+        3,
+        "refused 42 NoEnds\n",
+    ),
     Case(
         "make 2",
         &["no input is read"],
         0,
         "butterfly 2\nedges 12\noutputs 4\nyes balanced\n",
     ),
-    Case("make 2 --chain", &[], 1, "chain 2\nedges 5\noutputs 3\nno balanced\n"),
-    Case("make --chain 16", &[], 1, "chain 16\nedges 33\noutputs 17\nno balanced\n"),
+    Case(
+        "make 2 --chain",
+        &[],
+        1,
+        "chain 2\nedges 5\noutputs 3\nno balanced\n",
+    ),
+    Case(
+        "make --chain 16",
+        &[],
+        1,
+        "chain 16\nedges 33\noutputs 17\nno balanced\n",
+    ),
     Case("make 6", &[], 3, "refused 43 Order 6\n"),
     Case("make 0 --chain --pivots 0", &[], 3, "refused 43 Order 0\n"),
 ];
@@ -54,7 +84,13 @@ fn words_to_check(alloc: Global, property: &str) -> Result<String, Fail> {
 }
 
 /// Whether the checker gives this status to the design with the text behind it.
-fn is_checked(alloc: Global, words: &str, design: &[u8], text: &[u8], status: u8) -> Result<bool, Fail> {
+fn is_checked(
+    alloc: Global,
+    words: &str,
+    design: &[u8],
+    text: &[u8],
+    status: u8,
+) -> Result<bool, Fail> {
     let mut words = words.split(' ');
     let (Some(_), Some(property)) = (words.next(), words.next()) else {
         return Ok(false);
@@ -71,8 +107,14 @@ fn decisions(rt: HostRuntime) -> Result<(), Fail> {
     let alloc = rt.alloc();
     for (words, design, status, first) in DECISIONS {
         let (given, text) = answer(alloc, words, joined(alloc, &[design])?, (0, 0), 1000)?;
-        assert!(rt; given == status && text.starts_with(first.as_bytes()), "{words}: {given}");
-        assert!(rt; status > 1 || is_checked(alloc, words, design.as_bytes(), &text, status)?, "{words}");
+        assert!(rt;
+            given == status && text.starts_with(first.as_bytes()),
+            "{words}: {given}"
+        );
+        assert!(rt;
+            status > 1 || is_checked(alloc, words, design.as_bytes(), &text, status)?,
+            "{words}"
+        );
     }
     Ok(())
 }
@@ -120,7 +162,12 @@ fn asks_its_chooser(rt: HostRuntime) -> Result<(), Fail> {
     let alloc = rt.alloc();
     let words = "decide balanced";
     let picks = Rc::new(alloc, Cell::new(0u64))?;
-    let counting: Box<dyn Chooser> = Box::new(alloc, Counting { picks: picks.clone()? })?;
+    let counting: Box<dyn Chooser> = Box::new(
+        alloc,
+        Counting {
+            picks: picks.clone()?,
+        },
+    )?;
     let input = joined(alloc, &[BUTTERFLY])?;
     let (status, _) = answer_by(alloc, words, input, (0, 0), 1000, vec![in alloc; counting]?)?;
     assert!(rt; status == 0 && picks.get() > 0);
