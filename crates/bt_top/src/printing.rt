@@ -13,7 +13,8 @@ use itoa::Buffer;
 
 /// Writes the yes certificate for a property.
 pub fn print_proof<K: Sink>(property: Property, log: &Log, sink: &mut K) -> Result<(), WriteFault>
-    ensures { WritesText (passage K.held K.faults sink.old sink.new) (proved_text property log.now.steps) result }
+    ensures { WritesText (passage K.held K.faults sink.old sink.new)
+        (proved_text property log.now.steps) result }
 {
     write_pieces(sink, &[b"yes ", property.name().as_bytes(), b"\n"])?;
     log.print(sink)

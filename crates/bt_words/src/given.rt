@@ -49,7 +49,8 @@ pub fn read_given(words: &[String]) -> Option<Given>
 impl Given {
     /// With one argument more, where it isn't given yet.
     fn with(self, argument: Argument) -> Option<Given>
-        ensures { MatchOption result ((g : AGiven) (more : List AnArgument) → Adds self (argument ∷ more) g → ⊥)
+        ensures { MatchOption result
+            ((g : AGiven) (more : List AnArgument) → Adds self (argument ∷ more) g → ⊥)
             (λ g. Adds self (argument ∷ []) g) }
     {
         match argument {

@@ -3,6 +3,7 @@ use super::designs::{FOUR_TO_FOUR, blueprint_of};
 use super::states::{BUTTERFLY, LOOP, TIERS};
 use super::{BELT, Case, SPLITTER, answer, answer_by, answers_all, joined};
 use bt_cnf::{Chooser, Lit, Pick, Var};
+use bt_text::line_feeds;
 use std::alloc::{AllocError, Global};
 use std::cell::Cell;
 use std::rc::Rc;
@@ -115,6 +116,9 @@ fn decisions(rt: HostRuntime) -> Result<(), Fail> {
             status > 1 || is_checked(alloc, words, design.as_bytes(), &text, status)?,
             "{words}"
         );
+
+        // A trail without turns has four lines.
+        assert!(rt; status != 10 || line_feeds(&text) == 4, "{words}");
     }
     Ok(())
 }
