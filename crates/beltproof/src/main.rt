@@ -1,8 +1,11 @@
 //! The program: its words, standard input and standard output.
 #![tactic(auto)]
 
+use bt_cnf::Chooser;
 use bt_io::{StdSink, StdSource};
+use bt_sat::{Highest, Lowest, Recent};
 use bt_top::{NO_MEMORY, run};
+use std::alloc::AllocError;
 use std::env;
 use std::io::ErrorKind;
 use std::process::ExitCode;
@@ -24,11 +27,21 @@ fn words_of(rt: &HostRuntime) -> Option<Vec<String>> {
     Some(words)
 }
 
+/// Runs the program over the words, with three choosers in turn.
+fn status(rt: &HostRuntime, words: &[String]) -> Result<u8, AllocError> {
+    let alloc = rt.alloc();
+    let lowest: Box<dyn Chooser> = Box::new(alloc, Lowest::new())?;
+    let recent: Box<dyn Chooser> = Box::new(alloc, Recent::new(alloc)?)?;
+    let highest: Box<dyn Chooser> = Box::new(alloc, Highest::new())?;
+    let choosers = vec![in alloc; lowest, recent, highest]?;
+    let mut source = StdSource::new(rt.stdin());
+    let mut sink = StdSink::new(rt.stdout());
+    Ok(run(alloc, words, &mut source, &mut sink, choosers))
+}
+
 fn main(rt: HostRuntime) -> ExitCode {
     let Some(words) = words_of(&rt) else {
         return ExitCode::from(NO_MEMORY);
     };
-    let mut source = StdSource::new(rt.stdin());
-    let mut sink = StdSink::new(rt.stdout());
-    ExitCode::from(run(rt.alloc(), &words, &mut source, &mut sink))
+    ExitCode::from(status(&rt, &words).unwrap_or(NO_MEMORY))
 }

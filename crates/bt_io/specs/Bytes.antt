@@ -1,5 +1,7 @@
 -- What calls do to the bytes that a source has left and that a sink holds.
 use Rattle.std.specs.Prelude.{ℕ, ◌≡◌, ◌+◌, ◌<◌, ◌≤◌, List, length, take, Result, Ok, Err, IfOk, OnOk, OnErr}
+use denote.Ref.{Bor}
+use Rattle.std.specs.List.{flat_map}
 use Rattle.std.specs.Io.KnownBytes.{Appends, Consumes, IsAtEnd}
 use Rattle.bt_io.specs.Passages.{Passage, HasFault}
 use Rattle.bt_io.specs.declared.fault.ReadAll.{ReadAll}
@@ -36,6 +38,10 @@ TakesSome r piece = IfOk r (λ n. 0 < length piece → 0 < n)
 -- a proper prefix of the text was appended to the sink
 abbrev pub AppendsPart : Passage → List ℕ → Type 0
 AppendsPart sink text = (n : ℕ) × (n < length text) × Appends sink.before sink.after (take n text)
+
+-- pieces, one behind the other
+abbrev pub joined : List (Bor (List ℕ)) → List ℕ
+joined pieces = flat_map (λ piece. piece.now) pieces
 
 -- the whole text was appended, or where that failed a proper prefix of it, and then the sink's count of faults rose; the count has not fallen
 pub record WritesText {T E : Type 0} (sink : Passage) (text : List ℕ) (result : Result T E) : Type 0 where

@@ -23,4 +23,4 @@ pub use source::Source;
 pub use std::alloc::AllocError as Memory;
 pub use std_sink::StdSink;
 pub use std_source::StdSource;
-pub use write::write_all_of;
+pub use write::{write_all_of, write_pieces};

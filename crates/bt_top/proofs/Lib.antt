@@ -1,8 +1,7 @@
 pub mod InTurns
-pub mod WordLists
 pub mod Blanks
 pub mod OneDesign
 pub mod OneAnswer
-pub mod OneCommand
+pub mod InputsTold
 pub mod Ended
 pub mod Certified

@@ -1,5 +1,5 @@
 -- A command has one answer to the bytes of its input.
-use Rattle.std.proofs.Common.{◌≡◌, ℕ, List, length, drop, inl, inr, ap, sym, subst, ◌∙◌, arith, Ok}
+use Rattle.std.proofs.Common.{◌≡◌, ℕ, List, length, drop, inl, inr, ap, sym, subst, ◌∙◌, arith, Ok, Err}
 use Rattle.bt_answers.specs.Answers.{HasOneAnswer}
 use Rattle.bt_text.proofs.FirstLines.{IsFirstLine-unique}
 use Rattle.bt_net.specs.Network.{Network, IsNetwork}
@@ -14,13 +14,15 @@ use Rattle.bt_flow.proofs.OneAnswer.{one_breaking_answer}
 use Rattle.bt_flow.proofs.StateTexts.{one_state_read}
 use Rattle.bt_top.specs.declared.answer.Answer.{Answer}
 use Rattle.bt_top.specs.declared.answer.Answer.TheVariants as answer
-use Rattle.bt_top.specs.declared.command.Command.{Command}
-use Rattle.bt_top.specs.declared.command.Command.TheVariants.{FlowCheck, Recover, Check}
+use Rattle.bt_words.specs.declared.command.Command.{Command}
+use Rattle.bt_words.specs.declared.command.Command.TheVariants.{FlowCheck, Recover, Check, Decide, Make}
+use Rattle.bt_top.specs.declared.fault.DesignFault.TheVariants as design
 use Rattle.bt_top.specs.declared.refusal.Refusal.{Refusal}
 use Rattle.bt_top.specs.Designs.{IsDesign}
 use Rattle.bt_top.specs.Certificates.{cert_told, SaysYes, IsYesChecked, IsTextChecked, IsCertificateChecked, IsCertified}
-use Rattle.bt_top.specs.Inputs.{IsRightTo}
-use Rattle.bt_top.specs.Recovering.{IsRefusedAt, IsEnded, IsRecoveredFrom}
+use Rattle.bt_top.specs.Alone.{IsRefusedAt, IsEnded, IsLoneNet}
+use Rattle.bt_top.specs.Answering.{IsRightTo, HasOneRight}
+use Rattle.bt_top.specs.Recovering.{IsRecoveredFrom}
 use Rattle.bt_top.specs.Replies.{design_told}
 use Rattle.bt_top.specs.States.{verdict, state_told, IsJudged, IsStateJudged, IsStateChecked, IsChecked}
 use Rattle.bt_top.specs.Steps.{InTurn}
@@ -59,12 +61,15 @@ one_ended bytes n text a b (inl h) (inl k) = h.1 ∙ sym k.1
 one_ended bytes n text a b (inl h) (inr k) = absurd (omega (arith, ap length h.0, k.0))
 one_ended bytes n text a b (inr h) (inl k) = absurd (omega (arith, ap length k.0, h.0))
 one_ended bytes n text a b (inr h) (inr k) =
-    h.3 ∙ ap (λ r. Ok (answer.Refused r)) (one_refused_at bytes _ h.1 k.1 h.2 k.2) ∙ sym k.3
+    h.3 ∙ ap (λ r. Err (design.Refused r)) (one_refused_at bytes _ h.1 k.1 h.2 k.2) ∙ sym k.3
 
-one_recovered : (bytes : List ℕ) → HasOneAnswer (IsRecoveredFrom bytes)
-one_recovered bytes = one_in_turn (IsDesign bytes) design_told _ (one_design bytes)
+one_lone_net : (bytes : List ℕ) → HasOneAnswer (IsLoneNet bytes)
+one_lone_net bytes = one_in_turn (IsDesign bytes) Err _ (one_design bytes)
     (λ found a b h k. one_ended bytes found.0 k.0 a b
     (subst (λ text. IsEnded bytes found.0 text a) (one_rest (drop found.1 bytes) h.0 k.0 h.1 k.1) h.2) k.2)
+
+one_recovered : (bytes : List ℕ) → HasOneAnswer (IsRecoveredFrom bytes)
+one_recovered bytes = one_in_turn (IsLoneNet bytes) design_told _ (one_lone_net bytes) (λ n a b h k. h ∙ sym k)
 
 -- ---- check
 
@@ -90,8 +95,10 @@ one_certified p bytes =
 
 -- ---- all
 
--- two right answers of a command to the same bytes are equal
-pub one_right_to : (command : Command) (bytes : List ℕ) → HasOneAnswer (IsRightTo command bytes)
-one_right_to (FlowCheck p) bytes = one_checked p bytes
-one_right_to Recover bytes = one_recovered bytes
-one_right_to (Check p) bytes = one_certified p bytes
+-- two right answers of a command that has one to the same bytes are equal
+pub one_right_to : (command : Command) (bytes : List ℕ) → HasOneRight command → HasOneAnswer (IsRightTo command bytes)
+one_right_to (FlowCheck p) bytes once = one_checked p bytes
+one_right_to Recover bytes once = one_recovered bytes
+one_right_to (Check p) bytes once = one_certified p bytes
+one_right_to (Decide p limits) bytes once = absurd once
+one_right_to (Make family order limits) bytes once = absurd once

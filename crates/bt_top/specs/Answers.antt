@@ -1,12 +1,24 @@
 -- The statuses and the texts of answers.
-use Rattle.std.specs.Prelude.{ℕ, List, ◌++◌, codes, decimal}
+use Rattle.std.specs.Prelude.{ℕ, Bool, if◌then◌else◌, List, ◌++◌, length, codes, decimal}
 use Rattle.bt_net.specs.NetText.{line, net_text}
 use Rattle.bt_cert.specs.declared.fault.Cause.{Cause}
 use Rattle.bt_cert.specs.declared.fault.Cause.TheVariants.{Literal, Weight, Sum, Hint, Unit}
+use Rattle.bt_flow.specs.declared.property.Property.{Property}
 use Rattle.bt_flow.specs.Names.{property_name, test_name}
+use Rattle.bt_flow.specs.StateText.{printed_state}
+use Rattle.bt_log.specs.Logs.{Step}
+use Rattle.bt_log.specs.LogText.{log_text}
+use Rattle.bt_trail.specs.TrailText.{pivots_text, wide_text}
+use Rattle.bt_words.specs.declared.command.Family.{Family}
+use Rattle.bt_words.specs.declared.command.Family.TheVariants.{Butterfly, Chain}
+use Rattle.bt_top.specs.declared.making.Made as making
 use Rattle.bt_top.specs.declared.answer.Answer.{Answer}
-use Rattle.bt_top.specs.declared.answer.Answer.TheVariants.{Breaks, Yes, No, Recovered, Usage, Refused, WideState, CertLine, BadStep, NoVerdict, CertWide, NotBreaking, TooLong}
+use Rattle.bt_top.specs.declared.answer.Answer.TheVariants.{Breaks, Yes, No, Recovered, Proved, Broken, Spent, Pivots, Wide, Made, Usage, Refused, WideState, CertLine, BadStep, NoVerdict, CertWide, NotBreaking, TooLong}
 use Rattle.bt_top.specs.Refusals.{refusal_text}
+
+-- the status of a network that was made: 0 where it is balanced, and 1 where it isn't
+abbrev pub made_status : making.Made → ℕ
+made_status made = if made.balanced then 0 else 1
 
 -- the status of an answer
 abbrev pub status_of : Answer → ℕ
@@ -14,6 +26,12 @@ status_of (Breaks p) = 0
 status_of (Yes p) = 0
 status_of (No p) = 1
 status_of (Recovered n) = 0
+status_of (Proved p log) = 0
+status_of (Broken p state) = 1
+status_of (Spent log) = 4
+status_of (Pivots trail) = 10
+status_of (Wide wide) = 5
+status_of (Made made) = made_status made
 status_of Usage = 2
 status_of (Refused r) = 3
 status_of (WideState t a) = 5
@@ -32,12 +50,41 @@ cause_name Sum = codes "sum"
 cause_name Hint = codes "hint"
 cause_name Unit = codes "unit"
 
+-- the word for a kind of network
+abbrev pub family_name : Family → List ℕ
+family_name Butterfly = codes "butterfly"
+family_name Chain = codes "chain"
+
+-- the word for whether a network is balanced
+abbrev pub balance_word : Bool → List ℕ
+balance_word balanced = if balanced then codes "yes" else codes "no"
+
+-- the lines of a network that was made: its kind and order, how many edges and outputs it has, and whether it is balanced
+abbrev pub made_text : making.Made → List ℕ
+made_text made =
+    line (family_name made.family ++ codes " " ++ decimal made.order) ++ line (codes "edges " ++ decimal made.edges)
+    ++ line (codes "outputs " ++ decimal made.outputs) ++ line (balance_word made.balanced ++ codes " balanced")
+
+-- the yes certificate for a property: `yes` and its name, and the steps of the log
+abbrev pub proved_text : Property → List Step → List ℕ
+proved_text p steps = line (codes "yes " ++ property_name p) ++ log_text steps
+
+-- the text of a log that is used up: `spent` and the number of its steps, and the steps
+abbrev pub spent_text : List Step → List ℕ
+spent_text steps = line (codes "spent " ++ decimal (length steps)) ++ log_text steps
+
 -- the text of an answer
 abbrev pub text_of : Answer → List ℕ
 text_of (Breaks p) = line (codes "breaks " ++ property_name p)
 text_of (Yes p) = line (codes "yes " ++ property_name p)
 text_of (No p) = line (codes "no " ++ property_name p)
 text_of (Recovered n) = net_text n
+text_of (Proved p log) = proved_text p log.steps
+text_of (Broken p state) = printed_state p state
+text_of (Spent log) = spent_text log.steps
+text_of (Pivots trail) = pivots_text trail
+text_of (Wide wide) = wide_text wide
+text_of (Made made) = made_text made
 text_of Usage = line (codes "usage")
 text_of (Refused r) = line (codes "refused " ++ refusal_text r)
 text_of (WideState t a) = line (codes "wide state " ++ test_name t ++ codes " " ++ decimal a)

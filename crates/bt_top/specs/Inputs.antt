@@ -1,14 +1,48 @@
--- What a command answers to the bytes of its input.
-use Rattle.std.specs.Prelude.{ℕ, List}
-use Rattle.bt_top.specs.declared.command.Command.{Command}
-use Rattle.bt_top.specs.declared.command.Command.TheVariants.{FlowCheck, Recover, Check}
-use Rattle.bt_top.specs.Certificates.{IsCertified}
-use Rattle.bt_top.specs.Recovering.{IsRecoveredFrom}
-use Rattle.bt_top.specs.Replies.{Reply}
-use Rattle.bt_top.specs.States.{IsChecked}
+-- What a command reads.
+use Rattle.std.specs.Prelude.{◌≡◌, ℕ, ◌≤◌, List, [], length, Result, Ok, Err, Some}
+use Rattle.bt_io.specs.Bytes.{ReadsAll}
+use Rattle.bt_io.specs.Passages.{Passage}
+use Rattle.bt_io.specs.declared.fault.ReadAll.{ReadAll}
+use Rattle.bt_io.specs.declared.fault.ReadAll.TheVariants.{ReadFault, TooLong, Memory}
+use Rattle.bt_words.specs.declared.command.Command.{Command}
+use Rattle.bt_words.specs.declared.command.Command.TheVariants.{FlowCheck, Recover, Check, Decide, Make}
+use Rattle.bt_words.specs.Commands.{IsCommand}
+use Rattle.bt_top.specs.declared.input.TheConstants.{MOST_CHECKED, MOST_OF_DESIGN}
 
--- what a command answers to bytes that are its whole input
-abbrev pub IsRightTo : Command → List ℕ → Reply → Type 0
-IsRightTo (FlowCheck p) bytes = IsChecked p bytes
-IsRightTo Recover bytes = IsRecoveredFrom bytes
-IsRightTo (Check p) bytes = IsCertified p bytes
+-- no byte was taken or given, and no fault counted
+abbrev pub IsUntouched : Passage → Type 0
+IsUntouched p = (p.after ≡ p.before) × (p.faults_after ≡ p.faults)
+
+-- the most bytes that a command reads
+abbrev pub input_limit : Command → ℕ
+input_limit (FlowCheck p) = MOST_CHECKED
+input_limit Recover = MOST_OF_DESIGN
+input_limit (Check p) = MOST_CHECKED
+input_limit (Decide p limits) = MOST_OF_DESIGN
+input_limit (Make family order limits) = 0
+
+-- `make` reads nothing
+abbrev pub ReadsNothing : Command → Type 0
+ReadsNothing (Make family order limits) = Unit {0}
+ReadsNothing other = ⊥
+
+-- the words are no command that reads its input
+abbrev pub IsUnread : List (List ℕ) → Type 0
+IsUnread words = (command : Command) → IsCommand command words → ReadsNothing command
+
+-- a source that isn't read gives no bytes, or memory ran out
+abbrev pub IsLeftAlone : Passage → Result (List ℕ) ReadAll → Type 0
+IsLeftAlone source (Ok bytes) = IsUntouched source × (bytes ≡ [])
+IsLeftAlone source (Err ReadFault) = ⊥
+IsLeftAlone source (Err TooLong) = ⊥
+IsLeftAlone source (Err Memory) = IsUntouched source
+
+-- what a command reads of a source: all that it has, within the command's limit; or nothing
+abbrev pub ReadsInput : Command → Passage → Result (List ℕ) ReadAll → Type 0
+ReadsInput (Make family order limits) source result = IsLeftAlone source result
+ReadsInput command source result = ReadsAll (input_limit command) source result
+
+-- the command's whole input, where the source tells it and it is within the command's limit; that of `make` is empty
+abbrev pub IsInput : Command → Passage → List ℕ → Type 0
+IsInput (Make family order limits) source bytes = bytes ≡ []
+IsInput command source bytes = (source.before ≡ Some bytes) × (length bytes ≤ input_limit command)

@@ -1,12 +1,15 @@
 pub mod Steps
 pub mod Refusals
 pub mod Answers
-pub mod Commands
+pub mod Inputs
 pub mod Designs
+pub mod Alone
 pub mod Replies
 pub mod States
 pub mod Recovering
 pub mod Certificates
-pub mod Inputs
+pub mod Deciding
+pub mod Making
+pub mod Answering
 pub mod Endings
 pub mod inner

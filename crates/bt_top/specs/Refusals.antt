@@ -15,7 +15,7 @@ use Rattle.bt_net.specs.declared.fault.NetFault.TheVariants as net
 use Rattle.bt_top.specs.declared.fault.DesignFault.{DesignFault}
 use Rattle.bt_top.specs.declared.fault.DesignFault.TheVariants as fault
 use Rattle.bt_top.specs.declared.refusal.Refusal.{Refusal}
-use Rattle.bt_top.specs.declared.refusal.Refusal.TheVariants.{Json, Deep, DuplicateKey, NotBlueprint, Book, TooMany, Unsupported, BadMember, OffGrid, Special, Overlap, Unpaired, SideLoad, Blocked, Ring, NetLine, TooLarge, NoEnds}
+use Rattle.bt_top.specs.declared.refusal.Refusal.TheVariants.{Json, Deep, DuplicateKey, NotBlueprint, Book, TooMany, Unsupported, BadMember, OffGrid, Special, Overlap, Unpaired, SideLoad, Blocked, Ring, NetLine, TooLarge, NoEnds, Order}
 
 -- the fault of the JSON text
 abbrev pub json_told : JsonFault → DesignFault
@@ -89,3 +89,4 @@ refusal_text (Ring i) = codes "34 Ring " ++ decimal i
 refusal_text (NetLine k) = codes "40 NetLine " ++ decimal k
 refusal_text TooLarge = codes "41 TooLarge"
 refusal_text NoEnds = codes "42 NoEnds"
+refusal_text (Order order) = codes "43 Order " ++ decimal order

@@ -4,10 +4,13 @@ ghost use Rattle.bt_top.specs.Answers.{status_of};
 ghost use Rattle.bt_top.specs.Replies.{design_told};
 
 use crate::fault::DesignFault;
+use crate::making::Made;
 use crate::refusal::Refusal;
 use bt_cert::Cause;
-use bt_flow::{Property, Test};
+use bt_flow::{Property, State, Test};
+use bt_log::Log;
 use bt_net::Net;
+use bt_simplex::{Trail, Wide};
 use std::alloc::AllocError;
 
 /// What a command answers, once its words and its input are known.
@@ -21,6 +24,18 @@ pub enum Answer {
     No(Property),
     /// The design has this network.
     Recovered(Net),
+    /// The design's network has the property, which the log shows.
+    Proved(Property, Log),
+    /// The state of the design's network breaks the property.
+    Broken(Property, State),
+    /// The log has as many steps as it may, and one more is needed.
+    Spent(Log),
+    /// The turns for one assignment were as many as they may be.
+    Pivots(Trail),
+    /// A number that the turns ask for leaves 128 bits.
+    Wide(Wide),
+    /// Whether a network that was made is balanced.
+    Made(Made),
     /// The words are no command.
     Usage,
     /// The design is refused.
@@ -47,16 +62,19 @@ impl Answer {
         ensures { result ≡ status_of self.now }
     {
         match self {
-            Answer::Breaks(_) | Answer::Yes(_) | Answer::Recovered(_) => 0,
-            Answer::No(_) => 1,
+            Answer::Breaks(_) | Answer::Yes(_) | Answer::Recovered(_) | Answer::Proved(..) => 0,
+            Answer::No(_) | Answer::Broken(..) => 1,
+            Answer::Made(made) => made.status(),
             Answer::Usage => 2,
             Answer::Refused(_) => 3,
-            Answer::WideState(..) => 5,
+            Answer::Spent(_) => 4,
+            Answer::WideState(..) | Answer::Wide(_) => 5,
             Answer::CertLine(_)
             | Answer::BadStep(..)
             | Answer::NoVerdict
             | Answer::CertWide(..)
             | Answer::NotBreaking(..) => 9,
+            Answer::Pivots(_) => 10,
             Answer::TooLong => 11,
         }
     }

@@ -2,7 +2,7 @@
 ghost use Rattle.std.specs.Prelude.{◌≡◌, ◌≤◌, ℕ, List, IfSome, MatchOption, alloc_error, length};
 ghost use Rattle.bt_answers.specs.Answers.{UnlessMemory};
 ghost use Rattle.bt_net.specs.Network.{IsNetwork};
-ghost use Rattle.bt_top.specs.declared.command.TheConstants.{MOST_CHECKED};
+ghost use Rattle.bt_top.specs.declared.input.TheConstants.{MOST_CHECKED};
 ghost use Rattle.bt_top.specs.Certificates.{IsCertified, IsCertificateChecked, IsTextChecked, IsYesChecked, SaysYes, cert_told};
 
 use crate::answer::{Answer, refused};

@@ -3,21 +3,28 @@ ghost use Rattle.std.specs.Prelude.{◌≡◌, ◌≤◌, ℕ, List, IfOk, alloc
 ghost use Rattle.bt_answers.specs.Answers.{UnlessMemory};
 ghost use Rattle.bt_io.specs.Bytes.{WritesText};
 ghost use Rattle.bt_io.specs.Passages.{passage};
-ghost use Rattle.bt_net.specs.NetText.{net_text};
-ghost use Rattle.bt_top.specs.Commands.{IsCommand, IsUsage, input_limit};
-ghost use Rattle.bt_top.specs.Inputs.{IsRightTo};
+ghost use Rattle.bt_top.specs.Answers.{status_of, text_of as answer_text};
+ghost use Rattle.bt_top.specs.Inputs.{IsUnread, ReadsNothing, input_limit};
+ghost use Rattle.bt_top.specs.Answering.{IsRightTo};
 ghost use Rattle.bt_top.specs.Endings.{Ends, status_after};
 ghost use Rattle.bt_top.specs.inner.Lines.{line_text};
-ghost use Rattle.bt_top.specs.inner.Telling.{IsAnswered, IsAnsweredTo, IsToldUnlessMemory, IsLineTold};
+ghost use Rattle.bt_top.specs.inner.Telling.{IsAnswered, IsAnsweredTo, IsPrinted, IsToldUnlessMemory, IsLineTold};
 
 use crate::answer::Answer;
 use crate::certificate::certified;
-use crate::command::{Command, command_of};
+use crate::decision::decided;
 use crate::flow_check::check;
+use crate::input::read_input;
+use crate::making::make;
+use crate::printing::{print_made, print_proof, print_spent};
 use crate::recover::recovered;
 use crate::text::{Line, answer_line, text_of};
-use bt_io::{ReadAll, Sink, Source, WriteFault, read_all, write_all_of};
+use bt_cnf::Chooser;
+use bt_flow::print_state;
+use bt_io::{ReadAll, Sink, Source, WriteFault, write_all_of};
 use bt_net::print;
+use bt_trail::{print_pivots, print_wide};
+use bt_words::{Command, command_of};
 use std::alloc::{AllocError, Global};
 
 /// The status where the source failed.
@@ -30,15 +37,22 @@ pub const WRITE_FAULT: u8 = 7;
 pub const NO_MEMORY: u8 = 8;
 
 /// Does all that the program does: reads the words and the source, writes the answer's text to the sink,
-/// and gives the status. The words exclude the program's name.
+/// and gives the status. The words exclude the program's name. The choosers steer a search, in turns;
+/// what they answer never changes whether the program's answer is right.
 ///
-/// Where the words are no command, the source is as it was.
-pub fn run<S: Source, K: Sink>(alloc: Global, words: &[String], source: &mut S, sink: &mut K) -> u8
+/// Where the words are no command, or are one that reads nothing, the source is as it was.
+pub fn run<S: Source, K: Sink>(
+    alloc: Global,
+    words: &[String],
+    source: &mut S,
+    sink: &mut K,
+    choosers: Vec<Box<dyn Chooser>>,
+) -> u8
     ensures ends { Ends (map string_bytes words.now)
         (passage S.left S.faults source.old source.new) (passage K.held K.faults sink.old sink.new) result }
-    ensures unread { IsUsage (map string_bytes words.now) → source.new ≡ source.old }
+    ensures unread { IsUnread (map string_bytes words.now) → source.new ≡ source.old }
 {
-    match answer_to(alloc, words, source) {
+    match answer_to(alloc, words, source, choosers) {
         Ok(answer) => told(alloc, answer, sink),
         Err(ReadAll::TooLong) => told(alloc, Answer::TooLong, sink),
         Err(ReadAll::ReadFault) => READ_FAULT,
@@ -47,23 +61,34 @@ pub fn run<S: Source, K: Sink>(alloc: Global, words: &[String], source: &mut S, 
 }
 
 /// The answer to the words and the source.
-fn answer_to<S: Source>(alloc: Global, words: &[String], source: &mut S) -> Result<Answer, ReadAll>
+fn answer_to<S: Source>(
+    alloc: Global,
+    words: &[String],
+    source: &mut S,
+    choosers: Vec<Box<dyn Chooser>>,
+) -> Result<Answer, ReadAll>
     ensures answer { IsAnsweredTo (map string_bytes words.now)
         (passage S.left S.faults source.old source.new) result }
-    ensures unread { IsUsage (map string_bytes words.now) → source.new ≡ source.old }
+    ensures unread { IsUnread (map string_bytes words.now) → source.new ≡ source.old }
 {
     match command_of(words) {
-        Some(command) => answer_of(alloc, command, source),
+        Some(command) => answer_of(alloc, command, source, choosers),
         None => Ok(Answer::Usage),
     }
 }
 
 /// The answer of a command to the source.
-fn answer_of<S: Source>(alloc: Global, command: Command, source: &mut S) -> Result<Answer, ReadAll>
-    ensures { IsAnswered command (passage S.left S.faults source.old source.new) result }
+fn answer_of<S: Source>(
+    alloc: Global,
+    command: Command,
+    source: &mut S,
+    choosers: Vec<Box<dyn Chooser>>,
+) -> Result<Answer, ReadAll>
+    ensures answer { IsAnswered command (passage S.left S.faults source.old source.new) result }
+    ensures unread { ReadsNothing command → source.new ≡ source.old }
 {
-    match read_all(alloc, source, command.input_limit()) {
-        Ok(bytes) => match right_answer(alloc, command, &bytes) {
+    match read_input(alloc, command, source) {
+        Ok(bytes) => match right_answer(alloc, command, &bytes, choosers) {
             Ok(answer) => Ok(answer),
             Err(_) => Err(ReadAll::Memory),
         },
@@ -72,7 +97,12 @@ fn answer_of<S: Source>(alloc: Global, command: Command, source: &mut S) -> Resu
 }
 
 /// The answer of a command to the bytes of its input.
-fn right_answer(alloc: Global, command: Command, bytes: &[u8]) -> Result<Answer, AllocError>
+fn right_answer(
+    alloc: Global,
+    command: Command,
+    bytes: &[u8],
+    choosers: Vec<Box<dyn Chooser>>,
+) -> Result<Answer, AllocError>
     requires { length bytes.now ≤ input_limit command }
     ensures { UnlessMemory alloc_error (IsRightTo command bytes.now) result }
 {
@@ -80,6 +110,8 @@ fn right_answer(alloc: Global, command: Command, bytes: &[u8]) -> Result<Answer,
         Command::FlowCheck(property) => check(alloc, property, bytes),
         Command::Recover => recovered(alloc, bytes),
         Command::Check(property) => certified(alloc, property, bytes),
+        Command::Decide(property, limits) => decided(alloc, property, limits, bytes, choosers),
+        Command::Make(family, order, limits) => make(alloc, family, order, limits, choosers),
     }
 }
 
@@ -87,12 +119,29 @@ fn right_answer(alloc: Global, command: Command, bytes: &[u8]) -> Result<Answer,
 fn told<K: Sink>(alloc: Global, answer: Answer, sink: &mut K) -> u8
     ensures { IsToldUnlessMemory answer (passage K.held K.faults sink.old sink.new) result }
 {
-    match answer {
-        Answer::Recovered(net) => status_after(0, print(&net, sink)),
-        Answer::Usage => status_after(2, write_all_of(sink, b"usage\n")),
-        Answer::TooLong => status_after(11, write_all_of(sink, b"too long\n")),
-        said => line_told(alloc, said.status(), &answer_line(&said), sink),
+    match print_lines(&answer, sink) {
+        Some(written) => status_after(answer.status(), written),
+        None => line_told(alloc, answer.status(), &answer_line(&answer), sink),
     }
+}
+
+/// Gives the answer's text to the sink, where that takes no memory.
+fn print_lines<K: Sink>(answer: &Answer, sink: &mut K) -> Option<Result<(), WriteFault>>
+    ensures { IsPrinted answer.now (passage K.held K.faults sink.old sink.new) result }
+{
+    let written = match answer {
+        Answer::Recovered(net) => print(net, sink),
+        Answer::Proved(property, log) => print_proof(*property, log, sink),
+        Answer::Broken(property, state) => print_state(state, *property, sink),
+        Answer::Spent(log) => print_spent(log, sink),
+        Answer::Pivots(trail) => print_pivots(trail, sink),
+        Answer::Wide(wide) => print_wide(wide, sink),
+        Answer::Made(made) => print_made(made, sink),
+        Answer::Usage => write_all_of(sink, b"usage\n"),
+        Answer::TooLong => write_all_of(sink, b"too long\n"),
+        _ => return None,
+    };
+    Some(written)
 }
 
 /// Gives a line to the sink, where there is memory to form it, and gives the status.

@@ -1,7 +1,7 @@
-//! Why a design is refused: one list over the faults of all layers below.
+//! Why a design or an order is refused: one list over the faults of all layers below.
 use bt_entities::Member;
 
-/// Why a design is refused. The numbers are offsets of bytes, indices of entities, and lines from 1.
+/// Why a design or an order is refused. The numbers are offsets of bytes, indices of entities, and lines from 1.
 #[derive(Clone, Copy)]
 pub enum Refusal {
     /// The byte at this offset can't go on JSON text, or the text ends there; or something else than
@@ -42,4 +42,6 @@ pub enum Refusal {
     TooLarge,
     /// The network has no input or no output.
     NoEnds,
+    /// No network that is made has this order.
+    Order(u32),
 }

@@ -3,13 +3,16 @@
 ghost use Rattle.std.specs.Prelude.{◌≤◌};
 
 mod certificates;
+mod decisions;
 mod designs;
 mod large;
 mod networks;
 mod states;
 
 use crate::run;
+use bt_cnf::Chooser;
 use bt_io::{MemSink, MemSource};
+use bt_sat::Recent;
 use itoa::Buffer;
 use std::alloc::Global;
 use std::process::Abort;
@@ -20,6 +23,9 @@ const BELT: &str = "net 1 1 0\nedge i0 o0\nend\n";
 const BELT_STATE: &str = "no unlimited\nload 1\nroom 1\nflow 1\nmark f\nend\n";
 
 const SPLITTER: &str = "net 2 2 1\nedge i0 s0\nedge i1 s0\nedge s0 o0\nedge s0 o1\nend\n";
+
+/// The most bytes that a sink holds: a certificate of a small network has fewer.
+const SINK_ROOM: usize = 1_000_000;
 
 /// The words and the pieces of an input, and the status and the text with which they are answered.
 #[derive(Clone, Copy)]
@@ -58,10 +64,25 @@ fn answer(
 ) -> Result<(u8, Vec<u8>), Fail>
     requires { 1 ≤ most }
 {
+    let recent: Box<dyn Chooser> = Box::new(alloc, Recent::new(alloc)?)?;
+    answer_by(alloc, words, input, fails, most, vec![in alloc; recent]?)
+}
+
+/// The same with these choosers.
+fn answer_by(
+    alloc: Global,
+    words: &str,
+    input: Vec<u8>,
+    fails: (u64, u64),
+    most: usize,
+    choosers: Vec<Box<dyn Chooser>>,
+) -> Result<(u8, Vec<u8>), Fail>
+    requires { 1 ≤ most }
+{
     let words = words_of(alloc, words)?;
     let mut source = MemSource::new(input, vec![in alloc; fails.0]?, most);
-    let mut sink = MemSink::new(alloc, 1000, vec![in alloc; fails.1]?, most)?;
-    let status = run(alloc, &words, &mut source, &mut sink);
+    let mut sink = MemSink::new(alloc, SINK_ROOM, vec![in alloc; fails.1]?, most)?;
+    let status = run(alloc, &words, &mut source, &mut sink, choosers);
     Ok((status, Vec::from_slice(alloc, sink.held())?))
 }
 

@@ -80,12 +80,18 @@ fn push_number(text: &mut Vec<u8>, number: usize) -> Result<(), AllocError>
     text.extend_from_slice(buffer.format(number).as_bytes())
 }
 
-/// The line of an answer, but for a recovered network, whose text has several.
+/// The line of an answer, but for one whose text has several.
 pub fn answer_line(answer: &Answer) -> Line
     ensures { IsLine answer.now → line_text result ≡ answer_text answer.now }
 {
     match *answer {
-        Answer::Recovered(_) => Line("", Detail::Nothing),
+        Answer::Recovered(_)
+        | Answer::Proved(..)
+        | Answer::Broken(..)
+        | Answer::Spent(_)
+        | Answer::Pivots(_)
+        | Answer::Wide(_)
+        | Answer::Made(_) => Line("", Detail::Nothing),
         Answer::Usage => Line("usage", Detail::Nothing),
         Answer::TooLong => Line("too long", Detail::Nothing),
         Answer::Breaks(property) => Line("breaks", Detail::Name(property.name())),
@@ -151,6 +157,7 @@ pub fn refusal_line(refusal: Refusal) -> Line
         Refusal::NetLine(line) => Line("refused 40 NetLine", Detail::Number(line)),
         Refusal::TooLarge => Line("refused 41 TooLarge", Detail::Nothing),
         Refusal::NoEnds => Line("refused 42 NoEnds", Detail::Nothing),
+        Refusal::Order(order) => Line("refused 43 Order", Detail::Number(order as usize)),
     }
 }
 

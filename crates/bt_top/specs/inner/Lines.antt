@@ -2,7 +2,7 @@
 use Rattle.std.specs.Prelude.{ℕ, List, [], ◌++◌, codes, decimal}
 use Rattle.bt_net.specs.NetText.{line}
 use Rattle.bt_top.specs.declared.answer.Answer.{Answer}
-use Rattle.bt_top.specs.declared.answer.Answer.TheVariants.{Recovered, CertLine, BadStep, NoVerdict, CertWide}
+use Rattle.bt_top.specs.declared.answer.Answer.TheVariants.{Recovered, Proved, Broken, Spent, Pivots, Wide, Made, CertLine, BadStep, NoVerdict, CertWide}
 use Rattle.bt_top.specs.declared.text.Detail.{Detail}
 use Rattle.bt_top.specs.declared.text.Detail.TheVariants.{Nothing, Name, Number, Numbers, ThreeNumbers, NameAndNumber, NumberAndName}
 use Rattle.bt_top.specs.declared.text.Line.{Line}
@@ -24,6 +24,12 @@ line_text l = line (l.0.now ++ detail_text l.1)
 -- the answer's text is one line, and it is formed
 abbrev pub IsLine : Answer → Type 0
 IsLine (Recovered n) = ⊥
+IsLine (Proved p log) = ⊥
+IsLine (Broken p state) = ⊥
+IsLine (Spent log) = ⊥
+IsLine (Pivots trail) = ⊥
+IsLine (Wide wide) = ⊥
+IsLine (Made made) = ⊥
 IsLine other = Unit {0}
 
 -- the answer is that a text is no certificate

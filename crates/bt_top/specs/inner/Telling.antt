@@ -1,27 +1,30 @@
 -- What the parts of the program tell of reading, answering and writing.
-use Rattle.std.specs.Prelude.{◌≡◌, ◌≢◌, ℕ, List, ◌⊎◌, Result, Ok, Err}
-use Rattle.bt_io.specs.Bytes.{ReadsAll, WritesText}
+use Rattle.std.specs.Prelude.{◌≡◌, ◌≢◌, ℕ, List, ◌⊎◌, Result, Ok, Err, Option, Some, None}
+use Rattle.bt_io.specs.Bytes.{WritesText}
 use Rattle.bt_io.specs.Passages.{Passage}
 use Rattle.bt_io.specs.declared.fault.ReadAll.{ReadAll}
 use Rattle.bt_io.specs.declared.fault.WriteFault.{WriteFault}
 use Rattle.bt_top.specs.declared.answer.Answer.{Answer}
 use Rattle.bt_top.specs.declared.answer.Answer.TheVariants as answer
-use Rattle.bt_top.specs.declared.command.Command.{Command}
+use Rattle.bt_words.specs.declared.command.Command.{Command}
+use Rattle.bt_words.specs.Commands.{IsCommand}
 use Rattle.bt_top.specs.declared.program.TheConstants.{NO_MEMORY}
-use Rattle.bt_top.specs.Commands.{IsCommand, input_limit}
-use Rattle.bt_top.specs.Inputs.{IsRightTo}
-use Rattle.bt_top.specs.Endings.{IsRight, IsTold, IsUntouched, status_after}
+use Rattle.bt_top.specs.Answers.{text_of}
+use Rattle.bt_top.specs.Inputs.{IsUntouched, ReadsInput}
+use Rattle.bt_top.specs.inner.Lines.{IsLine}
+use Rattle.bt_top.specs.Answering.{IsRightTo}
+use Rattle.bt_top.specs.Endings.{IsRight, IsTold, status_after}
 
 -- a command's right answer to all bytes of the source, or why it has none: the source failed, is too long, or memory ran out
 abbrev pub IsAnswered : Command → Passage → Result Answer ReadAll → Type 0
 IsAnswered command source (Ok a) =
-    (bytes : List ℕ) × ReadsAll (input_limit command) source (Ok bytes) × IsRightTo command bytes (Ok a)
-IsAnswered command source (Err fault) = ReadsAll (input_limit command) source (Err fault)
+    (bytes : List ℕ) × ReadsInput command source (Ok bytes) × IsRightTo command bytes (Ok a)
+IsAnswered command source (Err fault) = ReadsInput command source (Err fault)
 
 -- the right answer to words and a source, or why a command has none
 abbrev pub IsAnsweredTo : List (List ℕ) → Passage → Result Answer ReadAll → Type 0
 IsAnsweredTo words source (Ok a) = IsRight words source a
-IsAnsweredTo words source (Err fault) = (command : Command) × IsCommand command words × ReadsAll (input_limit command) source (Err fault)
+IsAnsweredTo words source (Err fault) = (command : Command) × IsCommand command words × ReadsInput command source (Err fault)
 
 -- the answer is told; or there is no memory for its text, which is not that of one that needs none, and nothing is written
 abbrev pub IsToldUnlessMemory : Answer → Passage → ℕ → Type 0
@@ -33,3 +36,8 @@ abbrev pub IsLineTold : ℕ → List ℕ → Passage → ℕ → Type 0
 IsLineTold due text sink status =
     ((written : Result (Unit {0}) WriteFault) × WritesText sink text written × (status ≡ status_after due written))
     ⊎ ((status ≡ NO_MEMORY) × IsUntouched sink)
+
+-- the answer's text is given to the sink; or it is a line that has to be formed, and nothing is written
+abbrev pub IsPrinted : Answer → Passage → Option (Result (Unit {0}) WriteFault) → Type 0
+IsPrinted a sink (Some written) = WritesText sink (text_of a) written
+IsPrinted a sink None = IsLine a × IsUntouched sink × (a ≢ answer.Usage) × (a ≢ answer.TooLong)

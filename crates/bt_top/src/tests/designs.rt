@@ -3,7 +3,7 @@ use super::{BELT, BELT_STATE, Case, SPLITTER, answer, answers_all, push_number};
 use std::alloc::Global;
 use std::test::Fail;
 
-const FOUR_TO_FOUR: [&str; 8] = [
+pub const FOUR_TO_FOUR: [&str; 8] = [
     "^^.^^", "[].[]", "^^<^^", "^.uu^", "^>>>^", "^^UU.", "[][].", "^^^^.",
 ];
 
@@ -47,7 +47,7 @@ fn entity_of(symbol: u8) -> Option<&'static str> {
 
 /// The blueprint of a map: rows of cells from north to south, where `[` is the west half of a splitter
 /// that faces north, and `U` and `u` are an entrance and an exit to the north.
-fn blueprint_of(alloc: Global, tier: &str, rows: &[&str]) -> Result<Vec<u8>, Fail> {
+pub fn blueprint_of(alloc: Global, tier: &str, rows: &[&str]) -> Result<Vec<u8>, Fail> {
     let mut json = Vec::from_slice(alloc, b"{\"blueprint\":{\"entities\":[")?;
     let mut separator = "";
     for (y, row) in rows.iter().enumerate() {

@@ -2,13 +2,13 @@
 use super::{BELT, BELT_STATE, Case, SPLITTER, answer, answers_all, joined};
 use std::test::Fail;
 
-const LOOP: &str =
+pub const LOOP: &str =
     "net 1 3 3\nedge i0 s0\nedge s0 s1\nedge s0 s2\nedge s1 o0\nedge s1 o1\nedge s2 o2\nedge s2 s0\nend\n";
 
 const LOOP_STATE: &str =
     "no unlimited\nload 1\nroom 0 0 1\nflow 1/2 0 1 0 0 1/2 1/2\nmark b b f b b f f\nend\n";
 
-const BUTTERFLY: &str =
+pub const BUTTERFLY: &str =
     "net 4 4 4\nedge i0 s0\nedge i1 s0\nedge i2 s1\nedge i3 s1\nedge s0 s2\nedge s0 s3\nedge s1 s2\nedge s1 s3\nedge s2 o0\nedge s2 o1\nedge s3 o2\nedge s3 o3\nend\n";
 
 const BUTTERFLY_FRONT: &str =
@@ -18,7 +18,7 @@ const CHAIN: &str = "net 1 3 2\nedge i0 s0\nedge s0 o0\nedge s0 s1\nedge s1 o1\n
 
 const MERGE: &str = "net 3 1 2\nedge i0 s0\nedge i1 s0\nedge s0 s1\nedge i2 s1\nedge s1 o0\nend\n";
 
-const TIERS: &str = "net 1 2 1\nedge i0 s0 4\nedge s0 o0\nedge s0 o1 4\nend\n";
+pub const TIERS: &str = "net 1 2 1\nedge i0 s0 4\nedge s0 o0\nedge s0 o1 4\nend\n";
 
 /// An express belt, of which a basic splitter takes a part.
 const TAP: &str =

@@ -2,4 +2,4 @@ use Rattle.bt_top.proofs.Ended.{to_words}
 use Rattle.bt_top.proofs.program.answer_to.Goals as goal
 
 pub returns-in-Some-clause-answer : goal.returns-in-Some-clause-answer
-returns-in-Some-clause-answer g c = to_words _ _ _ _ c.in-Some.ensures c.answer_of.ensures
+returns-in-Some-clause-answer g c = to_words _ _ _ _ c.in-Some.ensures c.answer_of.ensures.answer

@@ -1,0 +1,55 @@
+-- What is read of a source that tells its bytes.
+use Rattle.std.proofs.Common.{◌≡◌, ℕ, ◌+◌, ◌≤◌, List, [], length, Ok, Err, Some, sym, ◌∙◌, subst, arith}
+use Rattle.bt_io.specs.Bytes.{ReadsAll}
+use Rattle.bt_io.specs.Passages.{Passage}
+use Rattle.bt_io.specs.declared.fault.ReadAll.TheVariants.{TooLong, Memory}
+use Rattle.bt_io.proofs.Told.{all_told, takes_told}
+use Rattle.bt_theory.specs.declared.outcome.Limits.{Limits}
+use Rattle.bt_words.specs.declared.command.Command.{Command}
+use Rattle.bt_words.specs.declared.command.Command.TheVariants.{FlowCheck, Recover, Check, Decide, Make}
+use Rattle.bt_top.specs.Inputs.{ReadsInput, IsInput, input_limit}
+
+read_before_in : (limit : ℕ) (source : Passage) (bytes : List ℕ) → ReadsAll limit source (Ok bytes) → ReadsAll limit source (Err Memory)
+read_before_in limit source bytes h = record { read = (bytes, h.read.0.0, h.read.1); count = h.count }
+
+-- a source that was read to its end gave no more than may be read before memory ran out
+pub read_before : (command : Command) (source : Passage) (bytes : List ℕ) → ReadsInput command source (Ok bytes) → ReadsInput command source (Err Memory)
+read_before (FlowCheck p) source bytes h = read_before_in (input_limit (FlowCheck p)) source bytes h
+read_before Recover source bytes h = read_before_in (input_limit Recover) source bytes h
+read_before (Check p) source bytes h = read_before_in (input_limit (Check p)) source bytes h
+read_before (Decide p limits) source bytes h = read_before_in (input_limit (Decide p limits)) source bytes h
+read_before (Make family order limits) source bytes h = h.0
+
+told_in : (limit : ℕ) (source : Passage) (bytes all : List ℕ) → source.before ≡ Some bytes → ReadsAll limit source (Ok all) → all ≡ bytes
+told_in limit source bytes all is r = all_told source bytes all is r.read.0
+
+-- what was read of a source that tells its bytes is all of them
+pub input_told : (command : Command) (source : Passage) (bytes all : List ℕ) → IsInput command source bytes → ReadsInput command source (Ok all) → all ≡ bytes
+input_told (FlowCheck p) source bytes all is r = told_in (input_limit (FlowCheck p)) source bytes all is.0 r
+input_told Recover source bytes all is r = told_in (input_limit Recover) source bytes all is.0 r
+input_told (Check p) source bytes all is r = told_in (input_limit (Check p)) source bytes all is.0 r
+input_told (Decide p limits) source bytes all is r = told_in (input_limit (Decide p limits)) source bytes all is.0 r
+input_told (Make family order limits) source bytes all is r = r.1 ∙ sym is
+
+few_in : (limit : ℕ) (source : Passage) (bytes : List ℕ) → source.before ≡ Some bytes → length bytes ≤ limit → ReadsAll limit source (Err TooLong) → ⊥
+few_in limit source bytes is few r =
+    let more : limit + 1 ≤ length bytes = takes_told source bytes (limit + 1) is r.read in omega (arith, few, more)
+
+-- of a source that tells its bytes, within the limit, none is past it
+pub not_too_long : (command : Command) (source : Passage) (bytes : List ℕ) → IsInput command source bytes → ReadsInput command source (Err TooLong) → ⊥
+not_too_long (FlowCheck p) source bytes is r = few_in (input_limit (FlowCheck p)) source bytes is.0 is.1 r
+not_too_long Recover source bytes is r = few_in (input_limit Recover) source bytes is.0 is.1 r
+not_too_long (Check p) source bytes is r = few_in (input_limit (Check p)) source bytes is.0 is.1 r
+not_too_long (Decide p limits) source bytes is r = few_in (input_limit (Decide p limits)) source bytes is.0 is.1 r
+not_too_long (Make family order limits) source bytes is r = r
+
+within_in : (limit : ℕ) (source : Passage) (bytes : List ℕ) → ReadsAll limit source (Ok bytes) → length bytes ≤ limit
+within_in limit source bytes r = r.read.1
+
+-- what was read is no more than the command reads
+pub within_limit : (command : Command) (source : Passage) (bytes : List ℕ) → ReadsInput command source (Ok bytes) → length bytes ≤ input_limit command
+within_limit (FlowCheck p) source bytes r = within_in (input_limit (FlowCheck p)) source bytes r
+within_limit Recover source bytes r = within_in (input_limit Recover) source bytes r
+within_limit (Check p) source bytes r = within_in (input_limit (Check p)) source bytes r
+within_limit (Decide p limits) source bytes r = within_in (input_limit (Decide p limits)) source bytes r
+within_limit (Make family order limits) source bytes r = subst (λ xs. length xs ≤ 0) (sym r.1) (omega arith)

@@ -1,0 +1,16 @@
+use Rattle.std.proofs.Common.{refl, alloc_error}
+use Rattle.bt_gen.specs.declared.fault.GenFault.TheVariants.{Memory}
+use Rattle.bt_gen.specs.Orders.{IsGenerated}
+use Rattle.bt_top.specs.Making.{IsBalanceDecided, gen_told, most_of, net_of}
+use Rattle.bt_top.proofs.InTurns.{stops, went}
+use Rattle.bt_top.proofs.making.make.Goals as goal
+
+pub returns-in-Ok : goal.returns-in-Ok
+returns-in-Ok g c =
+    went alloc_error (IsGenerated (most_of c.args.family) (net_of c.args.family) c.args.order) gen_told (IsBalanceDecided c.args.family c.args.order c.args.limits) c.in-Ok.net
+    c.balance_of.result c.in-Ok.ensures c.balance_of.ensures
+
+pub returns-in-Err : goal.returns-in-Err
+returns-in-Err g c =
+    stops Memory alloc_error (IsGenerated (most_of c.args.family) (net_of c.args.family) c.args.order) gen_told (IsBalanceDecided c.args.family c.args.order c.args.limits) c.in-Err.fault
+    c.ungenerated.result refl c.in-Err.ensures c.ungenerated.ensures

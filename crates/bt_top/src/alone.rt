@@ -1,0 +1,50 @@
+//! A design that nothing but blanks follows.
+ghost use Rattle.std.specs.Prelude.{◌≡◌, ◌≤◌, length};
+ghost use Rattle.bt_answers.specs.Answers.{UnlessMemory};
+ghost use Rattle.bt_top.specs.Alone.{IsLoneNet, IsRefusedAt, line_at};
+
+use crate::design::{Design, is_json, read_design};
+use crate::fault::DesignFault;
+use crate::refusal::Refusal;
+use bt_net::Net;
+use bt_text::{line_feeds, skip_blanks};
+use std::alloc::Global;
+
+/// The network of the design that the bytes are, with blanks behind it.
+pub fn read_alone(alloc: Global, bytes: &[u8]) -> Result<Net, DesignFault>
+    ensures { UnlessMemory DesignFault.Memory (IsLoneNet bytes.now) result }
+{
+    match read_design(alloc, bytes) {
+        Ok(Design { net, used }) => {
+            let (_, rest) = bytes.split_at(used);
+            let text = skip_blanks(rest);
+            if text.is_empty() {
+                Ok(net)
+            } else {
+                let at = bytes.len() - text.len();
+                Err(DesignFault::Refused(refused_at(bytes, at)))
+            }
+        }
+        Err(fault) => Err(fault),
+    }
+}
+
+/// What is refused where something begins at this offset behind a design.
+fn refused_at(bytes: &[u8], at: usize) -> Refusal
+    requires { at ≤ length bytes.now }
+    ensures { IsRefusedAt bytes.now at result }
+{
+    if is_json(bytes) {
+        Refusal::Json(at)
+    } else {
+        Refusal::NetLine(line_at(bytes, at))
+    }
+}
+
+/// The number of the line, from 1, on which the byte at this offset stands.
+fn line_at(bytes: &[u8], at: usize) -> usize
+    requires { at ≤ length bytes.now }
+    ensures { result ≡ line_at bytes.now at }
+{
+    line_feeds(&bytes[..at]) + 1
+}

@@ -1,0 +1,42 @@
+//! How much of its input a command reads.
+ghost use Rattle.std.specs.Prelude.{◌≡◌, map};
+ghost use Rattle.bt_answers.specs.Answers.{seen};
+ghost use Rattle.bt_io.specs.Passages.{passage};
+ghost use Rattle.bt_top.specs.Inputs.{ReadsInput, ReadsNothing, input_limit};
+
+use bt_io::{ReadAll, Source, read_all};
+use bt_words::Command;
+use std::alloc::Global;
+
+/// The most bytes that `flow-check` and `check` read: a written state or a certificate may be long.
+pub const MOST_CHECKED: usize = 1_073_741_824;
+
+/// The most bytes that a command reads which wants a design alone.
+pub const MOST_OF_DESIGN: usize = 16_777_216;
+
+/// The most bytes that a command reads.
+fn input_limit(command: Command) -> usize
+    ensures { result ≡ input_limit command }
+{
+    match command {
+        Command::FlowCheck(_) | Command::Check(_) => MOST_CHECKED,
+        Command::Recover | Command::Decide(..) => MOST_OF_DESIGN,
+        Command::Make(..) => 0,
+    }
+}
+
+/// The bytes of a command's input, of which `make` reads none.
+pub fn read_input<S: Source>(
+    alloc: Global,
+    command: Command,
+    source: &mut S,
+) -> Result<Vec<u8>, ReadAll>
+    ensures input { ReadsInput command (passage S.left S.faults source.old source.new)
+        (seen (λ bytes. bytes.items) result) }
+    ensures unread { ReadsNothing command → source.new ≡ source.old }
+{
+    match command {
+        Command::Make(..) => Ok(Vec::new(alloc)),
+        _ => read_all(alloc, source, input_limit(command)),
+    }
+}

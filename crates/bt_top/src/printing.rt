@@ -1,0 +1,79 @@
+//! Writing texts of several lines, line by line, without memory.
+ghost use Rattle.bt_io.specs.Bytes.{WritesText};
+ghost use Rattle.bt_io.specs.Passages.{passage};
+ghost use Rattle.std.specs.Prelude.{◌≡◌};
+ghost use Rattle.bt_top.specs.Answers.{balance_word, family_name, made_text, proved_text, spent_text};
+
+use crate::making::Made;
+use bt_flow::Property;
+use bt_io::{Sink, WriteFault, write_pieces};
+use bt_log::Log;
+use bt_words::Family;
+use itoa::Buffer;
+
+/// Writes the yes certificate for a property.
+pub fn print_proof<K: Sink>(property: Property, log: &Log, sink: &mut K) -> Result<(), WriteFault>
+    ensures { WritesText (passage K.held K.faults sink.old sink.new)
+        (proved_text property log.now.steps) result }
+{
+    write_pieces(sink, &[b"yes ", property.name().as_bytes(), b"\n"])?;
+    log.print(sink)
+}
+
+/// Writes a log that is used up.
+pub fn print_spent<K: Sink>(log: &Log, sink: &mut K) -> Result<(), WriteFault>
+    ensures { WritesText (passage K.held K.faults sink.old sink.new) (spent_text log.now.steps) result }
+{
+    let mut steps = Buffer::new();
+    write_pieces(
+        sink,
+        &[b"spent ", steps.format(log.len()).as_bytes(), b"\n"],
+    )?;
+    log.print(sink)
+}
+
+/// Writes the lines of a network that was made.
+pub fn print_made<K: Sink>(made: &Made, sink: &mut K) -> Result<(), WriteFault>
+    ensures { WritesText (passage K.held K.faults sink.old sink.new) (made_text made.now) result }
+{
+    let mut order = Buffer::new();
+    let mut edges = Buffer::new();
+    let mut outputs = Buffer::new();
+    let family = family_name(made.family).as_bytes();
+    let order = order.format(made.order).as_bytes();
+    let edges = edges.format(made.edges).as_bytes();
+    let outputs = outputs.format(made.outputs).as_bytes();
+    let balance = balance_word(made.balanced).as_bytes();
+    write_pieces(
+        sink,
+        &[
+            family,
+            b" ",
+            order,
+            b"\nedges ",
+            edges,
+            b"\noutputs ",
+            outputs,
+            b"\n",
+            balance,
+            b" balanced\n",
+        ],
+    )
+}
+
+/// The word for a kind of network.
+fn family_name(family: Family) -> &'static str
+    ensures { result.now ≡ family_name family }
+{
+    match family {
+        Family::Butterfly => "butterfly",
+        Family::Chain => "chain",
+    }
+}
+
+/// The word for whether a network is balanced.
+fn balance_word(balanced: bool) -> &'static str
+    ensures { result.now ≡ balance_word balanced }
+{
+    if balanced { "yes" } else { "no" }
+}

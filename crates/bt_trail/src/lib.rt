@@ -1,0 +1,8 @@
+//! The texts of trails, which a check of a tableau leaves behind where it gives no answer.
+#![tactic(auto)]
+
+mod printing;
+#[cfg(test)]
+mod tests;
+
+pub use printing::{print_pivots, print_wide};

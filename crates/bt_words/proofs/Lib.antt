@@ -1,0 +1,4 @@
+pub mod Fronts
+pub mod OneFront
+pub mod Readings
+pub mod OneCommand

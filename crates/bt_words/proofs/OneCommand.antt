@@ -1,0 +1,132 @@
+-- Words are one command at most.
+use Rattle.std.proofs.Common.{◌≡◌, ℕ, Bool, true, false, List, [], ◌∷◌, length, get_or, nat_eq, Some, None, refl, sym, ◌∙◌, ap, subst, arith}
+use Rattle.std.specs.Prelude.{cond, MatchOption}
+use Rattle.std.specs.declared.option.Option.{Option}
+use Rattle.std.specs.Option.{option_to_list}
+use Rattle.bt_words.specs.declared.argument.Argument.{Argument}
+use Rattle.bt_words.specs.declared.given.Given.{Given}
+use Rattle.bt_words.specs.declared.verb.Verb.{Verb}
+use Rattle.bt_words.specs.declared.verb.Verb.TheVariants as verb
+use Rattle.bt_words.specs.declared.command.Family.{Family}
+use Rattle.bt_words.specs.declared.command.Family.TheVariants as family
+use Rattle.bt_words.specs.declared.command.Command.{Command}
+use Rattle.bt_words.specs.declared.command.Command.TheVariants.{FlowCheck, Recover, Check, Decide, Make}
+use Rattle.bt_words.specs.Arguments.{AreArguments}
+use Rattle.bt_words.specs.Verbs.{verb_name, verb_of}
+use Rattle.bt_words.specs.Commands.{Gives, IsGiven, Suits, IsCommand, IsUsage, IsToDecide, IsToMake, is_chain, nothing, mark}
+use Rattle.bt_words.proofs.Fronts.{some_word}
+use Rattle.bt_words.proofs.OneFront.{one_front}
+
+-- the command whose word begins with this byte
+abbrev begun_by : ℕ → Verb
+begun_by byte = cond (nat_eq byte 102) verb.FlowCheck (cond (nat_eq byte 114) verb.Recover (cond (nat_eq byte 99) verb.Check (cond (nat_eq byte 100) verb.Decide verb.Make)))
+
+begins : (v : Verb) → begun_by (get_or (verb_name v) 0 0) ≡ v
+begins verb.FlowCheck = refl
+begins verb.Recover = refl
+begins verb.Check = refl
+begins verb.Decide = refl
+begins verb.Make = refl
+
+-- a word is one command's at most
+same_verb : (v w : Verb) → verb_name v ≡ verb_name w → v ≡ w
+same_verb v w e = sym (begins v) ∙ ap (λ name. begun_by (get_or name 0 0)) e ∙ begins w
+
+-- words are one list of arguments
+same_arguments : (ones others : List Argument) (words : List (List ℕ)) → AreArguments ones words → AreArguments others words → ones ≡ others
+same_arguments [] [] words h k = refl
+same_arguments [] (b ∷ others) words h (front, rest, is, e, k) =
+    absurd (omega (arith, some_word words b rest (front, is, e), ap (λ x. length x) h))
+same_arguments (a ∷ ones) [] words (front, rest, is, e, h) k =
+    absurd (omega (arith, some_word words a rest (front, is, e), ap (λ x. length x) k))
+same_arguments (a ∷ ones) (b ∷ others) words (front, rest, is, e, h) (fore, more, at, f, k) =
+    let one = one_front words a b rest more (front, is, e) (fore, at, f) in
+    let same = same_arguments ones others more (subst (λ x. AreArguments ones x) one.1 h) k in
+    let first = one.0 in
+    cc
+
+same_option : {X : Type 0} (o p : Option X) → option_to_list o ≡ option_to_list p → o ≡ p
+same_option None None e = refl
+same_option None (Some y) e = cc
+same_option (Some x) None e = cc
+same_option (Some x) (Some y) e = cc
+
+same_mark : (b c : Bool) → option_to_list (mark b) ≡ option_to_list (mark c) → b ≡ c
+same_mark true true e = refl
+same_mark true false e = cc
+same_mark false true e = cc
+same_mark false false e = refl
+
+-- words give one thing
+same_given : (g h : Given) (words : List (List ℕ)) → IsGiven g words → IsGiven h words → g ≡ h
+same_given g h words (ones, are, gives) (others, be, give) =
+    let same = same_arguments ones others words are be in
+    let give = subst (λ x. Gives x h) (sym same) give in
+    let p = same_option g.property h.property (sym gives.property ∙ give.property) in
+    let o = same_option g.order h.order (sym gives.order ∙ give.order) in
+    let c = same_mark g.chain h.chain (sym gives.chain ∙ give.chain) in
+    let l = same_option g.learnt h.learnt (sym gives.learnt ∙ give.learnt) in
+    let v = same_option g.pivots h.pivots (sym gives.pivots ∙ give.pivots) in
+    λ i. record { property = p i; order = o i; chain = c i; learnt = l i; pivots = v i }
+
+-- what no command of this word is given
+pub none_checks_flow : (g : Given) → ((p : _) → g ≡ record nothing { property = Some p } → ⊥) → (c : Command) → verb.FlowCheck ≡ verb_of c → Suits c g → ⊥
+none_checks_flow g none (FlowCheck p) v s = none p s
+none_checks_flow g none c v s = cc
+
+pub none_checks : (g : Given) → ((p : _) → g ≡ record nothing { property = Some p } → ⊥) → (c : Command) → verb.Check ≡ verb_of c → Suits c g → ⊥
+none_checks g none (Check p) v s = none p s
+none_checks g none c v s = cc
+
+pub none_decides : (g : Given) → ((p : _) → IsToDecide p g → ⊥) → (c : Command) → verb.Decide ≡ verb_of c → Suits c g → ⊥
+none_decides g none (Decide p limits) v s = none p s.0
+none_decides g none c v s = cc
+
+pub none_makes : (g : Given) → ((k : ℕ) → IsToMake k g → ⊥) → (c : Command) → verb.Make ≡ verb_of c → Suits c g → ⊥
+none_makes g none (Make kind k limits) v s = none k s.0
+none_makes g none c v s = cc
+
+-- words behind which nothing is given are no command
+pub none_given : (words : List (List ℕ)) (word : List ℕ) (behind : List (List ℕ)) → words ≡ word ∷ behind → ((g : Given) → IsGiven g behind → ⊥) → IsUsage words
+none_given words word behind e none c (others, g, is, given, suits) =
+    let same : word ∷ behind ≡ verb_name (verb_of c) ∷ others = sym e ∙ is in
+    let at : others ≡ behind = cc in
+    none g (subst (λ x. IsGiven g x) at given)
+
+-- what suits the word and what is given is what the words are
+pub command_is : (words behind : List (List ℕ)) (v : Verb) (g : Given) (o : Option Command) → words ≡ verb_name v ∷ behind → IsGiven g behind
+    → MatchOption o ((c : Command) → v ≡ verb_of c → Suits c g → ⊥) (λ c. (v ≡ verb_of c) × Suits c g)
+    → MatchOption o (IsUsage words) (λ c. IsCommand c words)
+command_is words behind v g (Some c) e given (at, suits) = (behind, g, e ∙ ap (λ x. verb_name x ∷ behind) at, given, suits)
+command_is words behind v g None e given none = λ c. λ (others, h, is, is_given, suits).
+    let same : verb_name v ∷ behind ≡ verb_name (verb_of c) ∷ others = sym e ∙ is in
+    let at : others ≡ behind = cc in
+    let names : verb_name v ≡ verb_name (verb_of c) = cc in
+    none c (same_verb v (verb_of c) names) (subst (λ x. Suits c x) (same_given h g behind (subst (λ x. IsGiven h x) at is_given) given) suits)
+
+same_family : (k l : Family) → is_chain k ≡ is_chain l → k ≡ l
+same_family family.Butterfly family.Butterfly e = refl
+same_family family.Butterfly family.Chain e = cc
+same_family family.Chain family.Butterfly e = cc
+same_family family.Chain family.Chain e = refl
+
+-- what is given to a word is one command
+same_suited : (c d : Command) (g : Given) → verb_of c ≡ verb_of d → Suits c g → Suits d g → c ≡ d
+same_suited (FlowCheck p) (FlowCheck q) g v h k = let e = ap (λ x. x.property) (sym h ∙ k) in cc
+same_suited Recover Recover g v h k = refl
+same_suited (Check p) (Check q) g v h k = let e = ap (λ x. x.property) (sym h ∙ k) in cc
+same_suited (Decide p l) (Decide q m) g v (h, a) (k, b) = let e = ap (λ x. x.property) (sym h ∙ k) in cc
+same_suited (Make f i l) (Make n j m) g v (h, x, a) (k, y, b) =
+    let e = ap (λ x. x.order) (sym h ∙ k) in
+    let kinds = same_family f n (x ∙ sym y) in
+    cc
+same_suited c d g v h k = cc
+
+-- words are one command at most
+pub same_command : (c d : Command) (words : List (List ℕ)) → IsCommand c words → IsCommand d words → c ≡ d
+same_command c d words (behind, g, e, given, suits) (others, h, f, is_given, suit) =
+    let same : verb_name (verb_of c) ∷ behind ≡ verb_name (verb_of d) ∷ others = sym e ∙ f in
+    let names : verb_name (verb_of c) ≡ verb_name (verb_of d) = cc in
+    let at : others ≡ behind = cc in
+    same_suited c d g (same_verb (verb_of c) (verb_of d) names) suits
+    (subst (λ x. Suits d x) (same_given h g behind (subst (λ x. IsGiven h x) at is_given) given) suit)

@@ -1,0 +1,134 @@
+-- Words begin with one argument at most.
+use Rattle.std.proofs.Common.{◌≡◌, ◌≢◌, ℕ, ◌^◌, ◌<◌, List, [], ◌∷◌, ◌++◌, get_or, drop, nat_eq, refl, sym, ◌∙◌, ap, subst, arith}
+use Rattle.std.specs.Prelude.{codes, cond, decimal}
+use Rattle.std.specs.Int.{IsInRange}
+use Rattle.std.proofs.lemmas.List.{append-nil}
+use Rattle.std.proofs.lemmas.List.Elements.{All-head}
+use Rattle.bt_flow.specs.declared.property.Property.{Property}
+use Rattle.bt_flow.specs.declared.property.Property.TheVariants.{Balanced, DrawnEvenly, Unlimited, Full}
+use Rattle.bt_flow.specs.Names.{property_name}
+use Rattle.bt_frac.proofs.Numerals.{decimal-lacks, decimal_apart}
+use Rattle.bt_text.specs.Lines.{Lacks, SplitsAt}
+use Rattle.bt_text.proofs.FirstLines.{split_apart, SplitsAt-lacks}
+use Rattle.bt_words.specs.declared.argument.Argument.{Argument}
+use Rattle.bt_words.specs.declared.argument.Argument.TheVariants.{Named, Order, Chain, Learnt, Pivots}
+use Rattle.bt_words.specs.Arguments.{IsPlain, IsValued}
+use Rattle.bt_words.specs.inner.Reading.{BeginsWith}
+use Rattle.bt_words.proofs.Fronts.{Front, alone, apart, joined, front_of, name_lacks, some_word}
+
+-- the property whose name begins with this byte
+abbrev begun_by : ℕ → Property
+begun_by byte = cond (nat_eq byte 98) Balanced (cond (nat_eq byte 100) DrawnEvenly (cond (nat_eq byte 117) Unlimited Full))
+
+begins : (p : Property) → begun_by (get_or (property_name p) 0 0) ≡ p
+begins Balanced = refl
+begins DrawnEvenly = refl
+begins Unlimited = refl
+begins Full = refl
+
+-- properties with one name are one
+same_property : (p q : Property) → property_name p ≡ property_name q → p ≡ q
+same_property p q e = sym (begins p) ∙ ap (λ name. begun_by (get_or name 0 0)) e ∙ begins q
+
+-- a numeral begins with a digit
+digit_first : (k byte : ℕ) (rest : List ℕ) → k < 10 ^ 64 → ¬ IsInRange 48 57 byte → byte ∷ rest ≡ decimal k → ⊥
+digit_first k byte rest small other e =
+    All-head (λ other. other ≢ byte) byte rest (subst (Lacks byte) (sym e) (decimal-lacks k byte small other)) refl
+
+-- no property's name is a numeral
+no_number : (p : Property) (k : ℕ) → k < 10 ^ 64 → property_name p ≡ decimal k → ⊥
+no_number Balanced k small e = digit_first k 98 (drop 1 (codes "balanced")) small (λ r. omega (arith, r.1)) e
+no_number DrawnEvenly k small e = digit_first k 100 (drop 1 (codes "drawn-evenly")) small (λ r. omega (arith, r.1)) e
+no_number Unlimited k small e = digit_first k 117 (drop 1 (codes "unlimited")) small (λ r. omega (arith, r.1)) e
+no_number Full k small e = digit_first k 102 (drop 1 (codes "full")) small (λ r. omega (arith, r.1)) e
+
+-- no property's name begins with a dash
+no_dash : (p : Property) (rest : List ℕ) → property_name p ≡ 45 ∷ rest → ⊥
+no_dash Balanced rest e = omega (arith, ap (λ w. get_or w 0 0) e)
+no_dash DrawnEvenly rest e = omega (arith, ap (λ w. get_or w 0 0) e)
+no_dash Unlimited rest e = omega (arith, ap (λ w. get_or w 0 0) e)
+no_dash Full rest e = omega (arith, ap (λ w. get_or w 0 0) e)
+
+-- a word is one argument for itself
+plain_apart : (a b : Argument) (word : List ℕ) → IsPlain a word → IsPlain b word → a ≡ b
+plain_apart (Named p) (Named q) word h k = ap Named (same_property p q (sym h ∙ k))
+plain_apart (Named p) (Order j) word h (small, k) = absurd (no_number p j (omega arith) (sym h ∙ k))
+plain_apart (Named p) Chain word h k = absurd (no_dash p (drop 1 (codes "--chain")) (sym h ∙ k))
+plain_apart (Order i) (Named q) word (small, h) k = absurd (no_number q i (omega arith) (sym k ∙ h))
+plain_apart (Order i) (Order j) word (small, h) (smaller, k) = ap Order (decimal_apart i j (omega arith) (omega arith) (sym h ∙ k))
+plain_apart (Order i) Chain word (small, h) k = absurd (digit_first i 45 (drop 1 (codes "--chain")) (omega arith) (λ r. omega (arith, r.0)) (sym k ∙ h))
+plain_apart Chain (Named q) word h k = absurd (no_dash q (drop 1 (codes "--chain")) (sym k ∙ h))
+plain_apart Chain (Order j) word h (small, k) = absurd (digit_first j 45 (drop 1 (codes "--chain")) (omega arith) (λ r. omega (arith, r.0)) (sym h ∙ k))
+plain_apart Chain Chain word h k = refl
+plain_apart (Learnt m) b word h k = absurd h
+plain_apart (Pivots m) b word h k = absurd h
+plain_apart a (Learnt n) word h k = absurd k
+plain_apart a (Pivots n) word h k = absurd k
+
+-- a name and a value are one option
+valued_apart : (a b : Argument) (name value : List ℕ) → IsValued a name value → IsValued b name value → a ≡ b
+valued_apart (Learnt m) (Learnt n) name value (e, small, h) (f, smaller, k) = ap Learnt (decimal_apart m n (omega arith) (omega arith) (sym h ∙ k))
+valued_apart (Learnt m) (Pivots n) name value (e, small, h) (f, smaller, k) = absurd (omega (arith, ap (λ w. get_or w 0 0) (sym e ∙ f)))
+valued_apart (Pivots m) (Learnt n) name value (e, small, h) (f, smaller, k) = absurd (omega (arith, ap (λ w. get_or w 0 0) (sym e ∙ f)))
+valued_apart (Pivots m) (Pivots n) name value (e, small, h) (f, smaller, k) = ap Pivots (decimal_apart m n (omega arith) (omega arith) (sym h ∙ k))
+valued_apart (Named p) b name value h k = absurd h
+valued_apart (Order p) b name value h k = absurd h
+valued_apart Chain b name value h k = absurd h
+valued_apart a (Named p) name value h k = absurd k
+valued_apart a (Order p) name value h k = absurd k
+valued_apart a Chain name value h k = absurd k
+
+-- the third byte of an option is none of `--chain`
+not_chain : (b : Argument) (name value more : List ℕ) → IsValued b name value → codes "--chain" ≡ codes "--" ++ name ++ more → ⊥
+not_chain (Learnt n) name value more (e, small, k) is =
+    omega (arith, ap (λ w. get_or w 2 0) (is ∙ ap (λ x. codes "--" ++ x ++ more) e))
+not_chain (Pivots n) name value more (e, small, k) is =
+    omega (arith, ap (λ w. get_or w 2 0) (is ∙ ap (λ x. codes "--" ++ x ++ more) e))
+not_chain (Named p) name value more v is = absurd v
+not_chain (Order p) name value more v is = absurd v
+not_chain Chain name value more v is = absurd v
+
+-- a word that is an argument for itself begins no option
+plain_is_none : (a b : Argument) (word name value more : List ℕ) → IsPlain a word → IsValued b name value → word ≡ codes "--" ++ name ++ more → ⊥
+plain_is_none (Named p) b word name value more h k is = no_dash p (45 ∷ (name ++ more)) (sym h ∙ is)
+plain_is_none (Order i) b word name value more (small, h) k is = digit_first i 45 (45 ∷ (name ++ more)) (omega arith) (λ r. omega (arith, r.0)) (sym is ∙ h)
+plain_is_none Chain b word name value more h k is = not_chain b name value more k (sym h ∙ is)
+plain_is_none (Learnt n) b word name value more h k is = absurd h
+plain_is_none (Pivots n) b word name value more h k is = absurd h
+
+no_name : (a b : Argument) (word name value : List ℕ) → IsPlain a word → IsValued b name value → word ≡ codes "--" ++ name → ⊥
+no_name a b word name value h k is = plain_is_none a b word name value [] h k (is ∙ ap (λ x. codes "--" ++ x) (sym (append-nil name)))
+
+-- a name without `=` is none that is joined to a value
+not_joined : (a b : Argument) (word m n v w : List ℕ) → IsValued a m v → IsValued b n w → word ≡ codes "--" ++ m → word ≡ codes "--" ++ n ++ 61 ∷ w → ⊥
+not_joined a b word m n v w h k p q =
+    let same : codes "--" ++ m ≡ codes "--" ++ (n ++ 61 ∷ w) = sym p ∙ q in
+    let s : SplitsAt 61 m n w = record { first = name_lacks b n w k; text_is = cc } in
+    SplitsAt-lacks s (name_lacks a m v h)
+
+-- one way in which a word and those behind it begin with an argument
+front_apart : (word : List ℕ) (rest : List (List ℕ)) (a b : Argument) (more others : List (List ℕ)) → Front word rest a more → Front word rest b others
+    → (a ≡ b) × (more ≡ others)
+front_apart word rest a b more others (alone p q) (alone r s) = (plain_apart a b word p r, q ∙ sym s)
+front_apart word rest a b more others (alone p q) (apart n v k is s) = absurd (no_name a b word n v p k is)
+front_apart word rest a b more others (alone p q) (joined n v k is s) = absurd (plain_is_none a b word n v (61 ∷ v) p k is)
+front_apart word rest a b more others (apart m u h is q) (alone r s) = absurd (no_name b a word m u r h is)
+front_apart word rest a b more others (apart m u h is q) (apart n v k at s) =
+    let names : codes "--" ++ m ≡ codes "--" ++ n = sym is ∙ at in
+    let values : u ∷ more ≡ v ∷ others = sym q ∙ s in
+    let name : m ≡ n = cc in
+    let value : u ≡ v = cc in
+    (valued_apart a b n v (subst (λ x. IsValued a x v) name (subst (λ x. IsValued a m x) value h)) k, cc)
+front_apart word rest a b more others (apart m u h is q) (joined n v k at s) = absurd (not_joined a b word m n u v h k is at)
+front_apart word rest a b more others (joined m u h is q) (alone r s) = absurd (plain_is_none b a word m u (61 ∷ u) r h is)
+front_apart word rest a b more others (joined m u h is q) (apart n v k at s) = absurd (not_joined b a word n m v u k h at is)
+front_apart word rest a b more others (joined m u h is q) (joined n v k at s) =
+    let texts : codes "--" ++ (m ++ 61 ∷ u) ≡ codes "--" ++ (n ++ 61 ∷ v) = sym is ∙ at in
+    let same = split_apart 61 m n u v (name_lacks a m u h) (name_lacks b n v k) cc in
+    (valued_apart a b n v (subst (λ x. IsValued a x v) same.0 (subst (λ x. IsValued a m x) same.1 h)) k, q ∙ sym s)
+
+-- words begin with one argument, and have one rest behind it
+pub one_front : (words : List (List ℕ)) (a b : Argument) (more others : List (List ℕ)) → BeginsWith words a more → BeginsWith words b others → (a ≡ b) × (more ≡ others)
+one_front [] a b more others h k = absurd (omega (arith, some_word [] a more h))
+one_front (word ∷ rest) a b more others h k =
+    front_apart word rest a b more others (front_of (word ∷ rest) word rest a more refl h) (front_of (word ∷ rest) word rest b others refl k)

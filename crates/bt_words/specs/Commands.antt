@@ -1,0 +1,96 @@
+-- The words of commands.
+use Rattle.std.specs.Prelude.{◌≡◌, ℕ, Bool, true, false, List, ◌∷◌, Some, None, unwrap_or}
+use Rattle.std.specs.Option.{option_to_list}
+use Rattle.std.specs.List.{filter_map}
+use Rattle.std.specs.declared.option.Option.{Option}
+use Rattle.bt_flow.specs.declared.property.Property.{Property}
+use Rattle.bt_words.specs.declared.argument.Argument.{Argument}
+use Rattle.bt_words.specs.declared.argument.Argument.TheVariants.{Named, Order, Chain, Learnt, Pivots}
+use Rattle.bt_words.specs.declared.given.Given.{Given}
+use Rattle.bt_theory.specs.declared.outcome.Limits.{Limits}
+use Rattle.bt_words.specs.declared.command.Family.{Family}
+use Rattle.bt_words.specs.declared.command.Family.TheVariants as family
+use Rattle.bt_words.specs.declared.command.Command.{Command}
+use Rattle.bt_words.specs.declared.command.Command.TheVariants.{FlowCheck, Recover, Check, Decide, Make}
+use Rattle.bt_words.specs.declared.command.TheConstants.{USUAL_LEARNT, USUAL_PIVOTS}
+use Rattle.bt_words.specs.Arguments.{AreArguments}
+use Rattle.bt_words.specs.Verbs.{verb_name, verb_of}
+
+-- the property that an argument names
+abbrev pub property_in : Argument → Option Property
+property_in (Named p) = Some p
+property_in other = None
+
+-- the order that it gives
+abbrev pub order_in : Argument → Option ℕ
+order_in (Order k) = Some k
+order_in other = None
+
+-- whether it is `--chain`
+abbrev pub chain_in : Argument → Option (Unit {0})
+chain_in Chain = Some tt
+chain_in other = None
+
+-- the number behind `--learnt`
+abbrev pub learnt_in : Argument → Option ℕ
+learnt_in (Learnt n) = Some n
+learnt_in other = None
+
+-- the number behind `--pivots`
+abbrev pub pivots_in : Argument → Option ℕ
+pivots_in (Pivots n) = Some n
+pivots_in other = None
+
+-- a mark that is there, or not
+abbrev pub mark : Bool → Option (Unit {0})
+mark true = Some tt
+mark false = None
+
+-- what arguments give, of which each kind stands once at most
+pub record Gives (arguments : List Argument) (g : Given) : Type 0 where
+  pub property : filter_map property_in arguments ≡ option_to_list g.property
+  pub order : filter_map order_in arguments ≡ option_to_list g.order
+  pub chain : filter_map chain_in arguments ≡ option_to_list (mark g.chain)
+  pub learnt : filter_map learnt_in arguments ≡ option_to_list g.learnt
+  pub pivots : filter_map pivots_in arguments ≡ option_to_list g.pivots
+
+-- the words are arguments, in any order, and this is what they give
+abbrev pub IsGiven : Given → List (List ℕ) → Type 0
+IsGiven g words = (arguments : List Argument) × AreArguments arguments words × Gives arguments g
+
+-- nothing is given
+abbrev pub nothing : Given
+nothing = record { property = None; order = None; chain = false; learnt = None; pivots = None }
+
+-- the limits are those that are given, or else the usual ones
+abbrev pub limits_of : Given → Limits
+limits_of g = record { learnt = unwrap_or g.learnt USUAL_LEARNT; pivots = unwrap_or g.pivots USUAL_PIVOTS }
+
+-- a butterfly, or a chain where `--chain` says so
+abbrev pub is_chain : Family → Bool
+is_chain family.Butterfly = false
+is_chain family.Chain = true
+
+-- this property is given, and perhaps limits
+abbrev pub IsToDecide : Property → Given → Type 0
+IsToDecide p g = g ≡ record nothing { property = Some p; learnt = g.learnt; pivots = g.pivots }
+
+-- this order is given, and perhaps `--chain` and limits
+abbrev pub IsToMake : ℕ → Given → Type 0
+IsToMake order g = g ≡ record nothing { order = Some order; chain = g.chain; learnt = g.learnt; pivots = g.pivots }
+
+-- what a command is given: a property, or nothing; `decide` a property, and limits where they aren't the usual ones; `make` an order, and whether it is that of a chain, and limits
+abbrev pub Suits : Command → Given → Type 0
+Suits (FlowCheck p) g = g ≡ record nothing { property = Some p }
+Suits Recover g = g ≡ nothing
+Suits (Check p) g = g ≡ record nothing { property = Some p }
+Suits (Decide p limits) g = IsToDecide p g × (limits ≡ limits_of g)
+Suits (Make kind order limits) g = IsToMake order g × (is_chain kind ≡ g.chain) × (limits ≡ limits_of g)
+
+-- the words are the command's word, and behind it what suits the command
+abbrev pub IsCommand : Command → List (List ℕ) → Type 0
+IsCommand command words = (behind : List (List ℕ)) × (g : Given) × (words ≡ verb_name (verb_of command) ∷ behind) × IsGiven g behind × Suits command g
+
+-- the words are no command
+abbrev pub IsUsage : List (List ℕ) → Type 0
+IsUsage words = (command : Command) → IsCommand command words → ⊥

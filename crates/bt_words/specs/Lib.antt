@@ -1,0 +1,4 @@
+pub mod Arguments
+pub mod Verbs
+pub mod Commands
+pub mod inner

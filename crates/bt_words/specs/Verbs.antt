@@ -1,0 +1,22 @@
+-- The words for commands.
+use Rattle.std.specs.Prelude.{ℕ, List, codes}
+use Rattle.bt_words.specs.declared.command.Command.{Command}
+use Rattle.bt_words.specs.declared.command.Command.TheVariants as command
+use Rattle.bt_words.specs.declared.verb.Verb.{Verb}
+use Rattle.bt_words.specs.declared.verb.Verb.TheVariants.{FlowCheck, Recover, Check, Decide, Make}
+
+-- the word for a command
+abbrev pub verb_name : Verb → List ℕ
+verb_name FlowCheck = codes "flow-check"
+verb_name Recover = codes "recover"
+verb_name Check = codes "check"
+verb_name Decide = codes "decide"
+verb_name Make = codes "make"
+
+-- which command it is
+abbrev pub verb_of : Command → Verb
+verb_of (command.FlowCheck p) = FlowCheck
+verb_of command.Recover = Recover
+verb_of (command.Check p) = Check
+verb_of (command.Decide p limits) = Decide
+verb_of (command.Make family order limits) = Make

@@ -1,0 +1,29 @@
+-- Arguments while they are read, from the first word on.
+use Rattle.std.specs.Prelude.{◌≡◌, ℕ, List, ◌++◌}
+use Rattle.std.specs.Option.{option_to_list}
+use Rattle.std.specs.List.{filter_map}
+use Rattle.bt_words.specs.declared.argument.Argument.{Argument}
+use Rattle.bt_words.specs.declared.given.Given.{Given}
+use Rattle.bt_words.specs.Arguments.{IsArgument, AreArguments}
+use Rattle.bt_words.specs.Commands.{property_in, order_in, chain_in, learnt_in, pivots_in, mark, nothing}
+
+-- the words are an argument, and then this rest
+abbrev pub BeginsWith : List (List ℕ) → Argument → List (List ℕ) → Type 0
+BeginsWith words a rest = (front : List (List ℕ)) × IsArgument a front × (words ≡ front ++ rest)
+
+-- what was given so far, and arguments behind it, come to this
+pub record Adds (before : Given) (arguments : List Argument) (g : Given) : Type 0 where
+  pub property : option_to_list before.property ++ filter_map property_in arguments ≡ option_to_list g.property
+  pub order : option_to_list before.order ++ filter_map order_in arguments ≡ option_to_list g.order
+  pub chain : option_to_list (mark before.chain) ++ filter_map chain_in arguments ≡ option_to_list (mark g.chain)
+  pub learnt : option_to_list before.learnt ++ filter_map learnt_in arguments ≡ option_to_list g.learnt
+  pub pivots : option_to_list before.pivots ++ filter_map pivots_in arguments ≡ option_to_list g.pivots
+
+-- what was given so far, and words behind it, come to this
+abbrev pub Reads : Given → List (List ℕ) → Given → Type 0
+Reads before words g = (arguments : List Argument) × AreArguments arguments words × Adds before arguments g
+
+-- what the words come to is what the rest comes to behind what was given so far
+pub record LeadsTo (words : List (List ℕ)) (before : Given) (rest : List (List ℕ)) : Type 0 where
+  pub there : (g : Given) → Reads nothing words g → Reads before rest g
+  pub back : (g : Given) → Reads before rest g → Reads nothing words g

@@ -1,0 +1,79 @@
+//! Arguments: what stands behind a command's word.
+ghost use Rattle.std.specs.Prelude.{◌≡◌, ℕ, List, MatchOption, map, string_bytes};
+ghost use Rattle.bt_words.specs.Arguments.{IsPlain, IsValued};
+ghost use Rattle.bt_words.specs.inner.Reading.{BeginsWith};
+ghost use Rattle.bt_words.specs.declared.argument.Argument.{Argument as AnArgument};
+
+use crate::number::number_up_to;
+use bt_flow::Property;
+use bt_text::{after_word, split_once};
+
+/// The most that an order may be: nine digits.
+pub const MOST_ORDER: u32 = 999_999_999;
+
+/// The most steps to which `--learnt` may limit a log.
+pub const MOST_LEARNT: u64 = 1_000_000;
+
+/// The most turns to which `--pivots` may limit the solving of rows.
+pub const MOST_PIVOTS: u64 = 100_000;
+
+/// An argument of a command.
+#[derive(Clone, Copy)]
+pub enum Argument {
+    /// The name of a property.
+    Named(Property),
+    /// The order of a network that is made.
+    Order(u32),
+    /// `--chain`: the network that is made is a chain.
+    Chain,
+    /// `--learnt`: the most steps of a log.
+    Learnt(u64),
+    /// `--pivots`: the most turns of one call.
+    Pivots(u64),
+}
+
+/// The argument at the front of the words, and the words behind it.
+pub fn next_argument(words: &[String]) -> Option<(Argument, &[String])>
+    ensures { MatchOption result
+        ((a : AnArgument) (rest : List (List ℕ)) → BeginsWith (map string_bytes words.now) a rest → ⊥)
+        (λ found. BeginsWith (map string_bytes words.now) found.0 (map string_bytes found.1.now)) }
+{
+    let (word, rest) = words.split_first()?;
+    if let Some(argument) = plain(word.as_str()) {
+        return Some((argument, rest));
+    }
+    let option = after_word(word.as_bytes(), b"--")?;
+    if let Some((name, value)) = split_once(option, b'=') {
+        return Some((valued(name, value)?, rest));
+    }
+    let (value, rest) = rest.split_first()?;
+    Some((valued(option, value.as_bytes())?, rest))
+}
+
+/// The argument that a word is for itself.
+fn plain(word: &str) -> Option<Argument>
+    ensures { MatchOption result ((a : AnArgument) → IsPlain a word.now → ⊥) (λ a. IsPlain a word.now) }
+{
+    if word == "--chain" {
+        return Some(Argument::Chain);
+    }
+    if let Some(property) = Property::named(word) {
+        return Some(Argument::Named(property));
+    }
+    let order = number_up_to(u64::from(MOST_ORDER), word.as_bytes())?;
+    Some(Argument::Order(order as u32))
+}
+
+/// The option of this name with this value.
+fn valued(name: &[u8], value: &[u8]) -> Option<Argument>
+    ensures { MatchOption result ((a : AnArgument) → IsValued a name.now value.now → ⊥)
+        (λ a. IsValued a name.now value.now) }
+{
+    if name == b"learnt".as_slice() {
+        return Some(Argument::Learnt(number_up_to(MOST_LEARNT, value)?));
+    }
+    if name == b"pivots".as_slice() {
+        return Some(Argument::Pivots(number_up_to(MOST_PIVOTS, value)?));
+    }
+    None
+}

@@ -1,0 +1,72 @@
+//! The command that words are.
+ghost use Rattle.std.specs.Prelude.{◌≡◌, ℕ, List, MatchOption, map, string_bytes};
+ghost use Rattle.bt_words.specs.Verbs.{verb_of};
+ghost use Rattle.bt_words.specs.Commands.{IsCommand, IsUsage, Suits};
+ghost use Rattle.bt_words.specs.declared.command.Command.{Command as ACommand};
+
+use crate::given::{Given, read_given};
+use crate::verb::Verb;
+use bt_flow::Property;
+use bt_theory::Limits;
+
+/// The most steps of a log, where the words don't say.
+pub const USUAL_LEARNT: u64 = 100_000;
+
+/// The most turns of one call, where the words don't say.
+pub const USUAL_PIVOTS: u64 = 10_000;
+
+/// The kinds of networks that are made.
+#[derive(Clone, Copy, PartialEq, Eq)]
+pub enum Family {
+    Butterfly,
+    Chain,
+}
+
+/// A command of the program.
+#[derive(Clone, Copy, PartialEq, Eq)]
+pub enum Command {
+    /// `flow-check`: does the written state of a design break the property?
+    FlowCheck(Property),
+    /// `recover`: which network has the design?
+    Recover,
+    /// `check`: does the certificate show that the design has the property, or that it hasn't?
+    Check(Property),
+    /// `decide`: has the design the property?
+    Decide(Property, Limits),
+    /// `make`: is the network of this kind and order balanced?
+    Make(Family, u32, Limits),
+}
+
+/// The command that the words are.
+pub fn command_of(words: &[String]) -> Option<Command>
+    ensures { MatchOption result (IsUsage (map string_bytes words.now))
+        (λ command. IsCommand command (map string_bytes words.now)) }
+{
+    let (word, behind) = words.split_first()?;
+    let verb = Verb::named(word.as_str())?;
+    with_given(verb, read_given(behind)?)
+}
+
+/// Words are one command at most.
+pub fn one_command()
+    ensures { (c d : ACommand) (words : List (List ℕ)) → IsCommand c words → IsCommand d words → c ≡ d }
+{}
+
+/// The command of this word, where what is given suits it.
+fn with_given(verb: Verb, given: Given) -> Option<Command>
+    ensures { MatchOption result ((c : ACommand) → verb ≡ verb_of c → Suits c given → ⊥)
+        (λ c. (verb ≡ verb_of c) × Suits c given) }
+{
+    match verb {
+        Verb::FlowCheck => Some(Command::FlowCheck(given.only_property()?)),
+        Verb::Recover if given.is_nothing() => Some(Command::Recover),
+        Verb::Recover => None,
+        Verb::Check => Some(Command::Check(given.only_property()?)),
+        Verb::Decide => Some(Command::Decide(given.property_and_limits()?, given.limits())),
+        Verb::Make => Some(Command::Make(
+            given.family(),
+            given.order_and_limits()?,
+            given.limits(),
+        )),
+    }
+}

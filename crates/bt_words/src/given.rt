@@ -1,0 +1,165 @@
+//! What is given behind a command's word, each argument at most once.
+ghost use Rattle.std.specs.Prelude.{◌≡◌, ℕ, List, [], ◌∷◌, Some, MatchOption, map, string_bytes};
+ghost use Rattle.std.specs.Prelude.{◌↔◌, IsTrue};
+ghost use Rattle.bt_flow.specs.declared.property.Property.{Property as AProperty};
+ghost use Rattle.bt_words.specs.Commands.{IsGiven, IsToDecide, IsToMake, is_chain, limits_of, nothing};
+ghost use Rattle.bt_words.specs.inner.Reading.{Adds};
+ghost use Rattle.bt_words.specs.declared.argument.Argument.{Argument as AnArgument};
+ghost use Rattle.bt_words.specs.declared.given.Given.{Given as AGiven};
+
+use crate::argument::{Argument, next_argument};
+use crate::command::{Family, USUAL_LEARNT, USUAL_PIVOTS};
+use bt_flow::Property;
+use bt_theory::Limits;
+
+/// What is given behind a command's word.
+#[derive(Clone, Copy)]
+pub struct Given {
+    pub property: Option<Property>,
+    pub order: Option<u32>,
+    pub chain: bool,
+    pub learnt: Option<u64>,
+    pub pivots: Option<u64>,
+}
+
+/// Nothing is given.
+pub const NOTHING: Given = Given {
+    property: None,
+    order: None,
+    chain: false,
+    learnt: None,
+    pivots: None,
+};
+
+/// What the words behind a command's word give.
+pub fn read_given(words: &[String]) -> Option<Given>
+    ensures { MatchOption result ((g : AGiven) → IsGiven g (map string_bytes words.now) → ⊥)
+        (λ g. IsGiven g (map string_bytes words.now)) }
+{
+    let mut given = NOTHING;
+    let mut rest = words;
+    while !rest.is_empty() {
+        let (argument, behind) = next_argument(rest)?;
+        given = given.with(argument)?;
+        rest = behind;
+    }
+    Some(given)
+}
+
+impl Given {
+    /// With one argument more, where it isn't given yet.
+    fn with(self, argument: Argument) -> Option<Given>
+        ensures { MatchOption result
+            ((g : AGiven) (more : List AnArgument) → Adds self (argument ∷ more) g → ⊥)
+            (λ g. Adds self (argument ∷ []) g) }
+    {
+        match argument {
+            Argument::Named(property) if self.property.is_none() => Some(Given {
+                property: Some(property),
+                ..self
+            }),
+            Argument::Order(order) if self.order.is_none() => Some(Given {
+                order: Some(order),
+                ..self
+            }),
+            Argument::Chain if !self.chain => Some(Given {
+                chain: true,
+                ..self
+            }),
+            Argument::Learnt(learnt) if self.learnt.is_none() => Some(Given {
+                learnt: Some(learnt),
+                ..self
+            }),
+            Argument::Pivots(pivots) if self.pivots.is_none() => Some(Given {
+                pivots: Some(pivots),
+                ..self
+            }),
+            _ => None,
+        }
+    }
+}
+
+impl Given {
+    /// Whether nothing is given.
+    pub fn is_nothing(self) -> bool
+        ensures { IsTrue result ↔ (self ≡ nothing) }
+    {
+        match self {
+            Given {
+                property: None,
+                order: None,
+                chain: false,
+                learnt: None,
+                pivots: None,
+            } => true,
+            _ => false,
+        }
+    }
+
+    /// The property, where it alone is given.
+    pub fn only_property(self) -> Option<Property>
+        ensures { MatchOption result ((p : AProperty) → self ≡ record nothing { property = Some p } → ⊥)
+            (λ p. self ≡ record nothing { property = Some p }) }
+    {
+        match self {
+            Given {
+                property: Some(property),
+                order: None,
+                chain: false,
+                learnt: None,
+                pivots: None,
+            } => Some(property),
+            _ => None,
+        }
+    }
+
+    /// The property, where no other is given but limits.
+    pub fn property_and_limits(self) -> Option<Property>
+        ensures { MatchOption result ((p : AProperty) → IsToDecide p self → ⊥) (λ p. IsToDecide p self) }
+    {
+        match self {
+            Given {
+                property: Some(property),
+                order: None,
+                chain: false,
+                ..
+            } => Some(property),
+            _ => None,
+        }
+    }
+
+    /// The order, where no other is given but limits and which kind of network it is.
+    pub fn order_and_limits(self) -> Option<u32>
+        ensures { MatchOption result ((k : ℕ) → IsToMake k self → ⊥) (λ k. IsToMake k self) }
+    {
+        match self {
+            Given {
+                property: None,
+                order,
+                ..
+            } => order,
+            _ => None,
+        }
+    }
+
+    /// The kind of network that is made.
+    pub fn family(self) -> Family
+        ensures { is_chain result ≡ self.chain }
+    {
+        if self.chain {
+            Family::Chain
+        } else {
+            Family::Butterfly
+        }
+    }
+
+    /// The limits that are given, or else the usual ones.
+    pub fn limits(self) -> Limits
+        ensures { result ≡ limits_of self }
+    {
+        Limits {
+            learnt: self.learnt.unwrap_or(USUAL_LEARNT),
+            pivots: self.pivots.unwrap_or(USUAL_PIVOTS),
+        }
+    }
+}

@@ -1,0 +1,17 @@
+//! The words of the command line: which command they are, and what is given with it.
+//!
+//! The first word is the command. Behind it stand its arguments in any order: a word for itself, or an
+//! option, whose value follows it as the next word or behind `=`. Each argument stands once at most.
+#![tactic(auto)]
+
+mod argument;
+mod command;
+mod given;
+mod number;
+#[cfg(test)]
+mod tests;
+mod verb;
+
+pub use argument::{MOST_LEARNT, MOST_ORDER, MOST_PIVOTS};
+pub use bt_theory::Limits;
+pub use command::{Command, Family, USUAL_LEARNT, USUAL_PIVOTS, command_of, one_command};
