@@ -7,7 +7,6 @@ use Rattle.bt_parts.specs.declared.part.Part.{Part}
 use Rattle.bt_parts.specs.declared.part.Rect.{Rect}
 use Rattle.bt_parts.specs.Cells.{step, steps, IsInside}
 use Rattle.bt_model.specs.Requests.{LayoutRequest}
-use Rattle.bt_place.specs.declared.fact.Fact.{Fact}
 use Rattle.bt_place.specs.declared.fact.Fact.TheVariants.{Distance, Begins, HalfOn, Still}
 use Rattle.bt_place.specs.declared.fact.Half.TheVariants.{Greater}
 use Rattle.bt_place.specs.declared.fact.Shape.{Shape}
@@ -15,7 +14,7 @@ use Rattle.bt_place.specs.declared.fact.Shape.TheVariants as shape
 use Rattle.bt_place.specs.Contents.{holds}
 use Rattle.bt_place.specs.PlaceFormula.{most_distance}
 use Rattle.bt_decode.specs.Kept.{kind_of, IsKept}
-use Rattle.bt_decode.specs.inner.Spots.{spots_in, spot_in, cell_numbered, read_in}
+use Rattle.bt_decode.specs.inner.Spots.{spots_in, cell_numbered, read_in}
 
 -- what comes to the cell is handed on to this one, or goes to it under the ground
 abbrev pub IsNext : LayoutRequest → List Bool → Cell → Cell → Type 0
