@@ -9,7 +9,7 @@ use Rattle.bt_place.specs.declared.fact.Shape.{Shape}
 use Rattle.bt_place.specs.declared.fact.Shape.TheVariants as shape
 use Rattle.bt_place.specs.Contents.{holds}
 use Rattle.bt_place.specs.PlaceFormula.{most_distance}
-use Rattle.bt_decode.specs.Kept.{begun, half, handed, under, IsKept}
+use Rattle.bt_decode.specs.inner.Kept.{begun, half, handed, under, IsKept}
 use Rattle.bt_decode.proofs.Solved.{Solved, Says, Denies}
 use Rattle.bt_decode.proofs.CellFacts.{one_shape, one_dir, half_there}
 use Rattle.bt_decode.proofs.GoingFacts.{Takes, by_belt, by_entrance, by_half, taker_there, begun_there}

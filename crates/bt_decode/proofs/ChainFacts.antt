@@ -28,7 +28,7 @@ use Rattle.bt_place.specs.declared.fact.Shape.{Shape}
 use Rattle.bt_place.specs.declared.fact.Shape.TheVariants as shape
 use Rattle.bt_place.specs.Contents.{holds}
 use Rattle.bt_place.specs.Spots.{before, half_at}
-use Rattle.bt_decode.specs.Kept.{half, IsKeptPart}
+use Rattle.bt_decode.specs.inner.Kept.{half, IsKeptPart}
 use Rattle.bt_decode.proofs.Geometry.{beside-before}
 use Rattle.bt_decode.proofs.ListFacts.{element_at}
 use Rattle.bt_decode.proofs.Solved.{Solved, Says, Denies}

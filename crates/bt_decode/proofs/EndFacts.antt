@@ -25,7 +25,7 @@ use Rattle.bt_place.specs.declared.fact.Shape.TheVariants as shape
 use Rattle.bt_place.specs.Contents.{holds}
 use Rattle.bt_place.specs.Going.{runners}
 use Rattle.bt_place.specs.Spots.{behind}
-use Rattle.bt_decode.specs.Kept.{kind_of, begun, IsKeptPart}
+use Rattle.bt_decode.specs.inner.Kept.{kind_of, begun, IsKeptPart}
 use Rattle.bt_decode.proofs.Readings.{In}
 use Rattle.bt_decode.proofs.ListFacts.{contains_in, all_at, all_from, counted}
 use Rattle.bt_decode.proofs.Solved.{Solved, Says}

@@ -21,7 +21,7 @@ use Rattle.bt_place.specs.declared.fact.Half.TheVariants.{Greater}
 use Rattle.bt_place.specs.declared.fact.Shape.{Shape}
 use Rattle.bt_place.specs.declared.fact.Shape.TheVariants as shape
 use Rattle.bt_place.specs.Contents.{holds}
-use Rattle.bt_decode.specs.Kept.{kind_of, IsKept, IsKeptPart}
+use Rattle.bt_decode.specs.inner.Kept.{kind_of, IsKept, IsKeptPart}
 use Rattle.bt_decode.specs.Solutions.{IsSolution, ComesAbove}
 use Rattle.bt_decode.specs.inner.Spots.{spots_in, spot_in, cell_numbered, read_in}
 use Rattle.bt_decode.specs.inner.Reaching.{StandsAs, IsMarked, AreMarks, HasStarts}

@@ -28,7 +28,7 @@ use Rattle.bt_place.specs.Contents.{holds}
 use Rattle.bt_place.specs.Going.{runners, givers}
 use Rattle.bt_place.specs.PlaceFormula.{most_distance}
 use Rattle.bt_place.specs.Spots.{behind}
-use Rattle.bt_decode.specs.Kept.{kind_of, handed, under, IsKeptPart}
+use Rattle.bt_decode.specs.inner.Kept.{kind_of, handed, under, IsKeptPart}
 use Rattle.bt_decode.proofs.Readings.{In}
 use Rattle.bt_decode.proofs.Geometry.{dir_cases, no_opposite, behind-step}
 use Rattle.bt_decode.proofs.Solved.{Solved, Says, Denies, denied}

@@ -34,7 +34,7 @@ use Rattle.bt_place.specs.declared.fact.Shape.TheVariants as shape
 use Rattle.bt_place.specs.Contents.{holds}
 use Rattle.bt_place.specs.Pinning.{stands_there, end_shapes}
 use Rattle.bt_place.specs.Spots.{half_at}
-use Rattle.bt_decode.specs.Kept.{IsKeptPart}
+use Rattle.bt_decode.specs.inner.Kept.{IsKeptPart}
 use Rattle.bt_decode.proofs.Readings.{In}
 use Rattle.bt_decode.proofs.ListFacts.{Listed, listed, lists_each, element_at, zipped, all_at, all_from, contains_in, contains_at}
 use Rattle.bt_decode.proofs.Solved.{Solved, Says, Denies}

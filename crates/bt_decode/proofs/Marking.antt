@@ -13,7 +13,7 @@ use Rattle.bt_place.specs.declared.fact.Shape.{Shape}
 use Rattle.bt_place.specs.declared.fact.Shape.TheVariants as shape
 use Rattle.bt_place.specs.Contents.{holds}
 use Rattle.bt_place.specs.PlaceFormula.{most_distance}
-use Rattle.bt_decode.specs.Kept.{kind_of, IsReached, begun, half, handed, under, IsKept}
+use Rattle.bt_decode.specs.inner.Kept.{kind_of, IsReached, begun, half, handed, under, IsKept}
 use Rattle.bt_decode.specs.Solutions.{IsSolution}
 use Rattle.bt_decode.specs.inner.Spots.{spots_in, spot_in, cell_numbered, read_in}
 use Rattle.bt_decode.specs.inner.Reaching.{IsNext, IsStart, IsReach, TellsNext, IsMarked, AreMarks, Keeps, HasStarts}

@@ -14,7 +14,7 @@ use Rattle.bt_place.specs.declared.fact.Shape.{Shape}
 use Rattle.bt_place.specs.declared.fact.Shape.TheVariants as shape
 use Rattle.bt_place.specs.Contents.{holds}
 use Rattle.bt_place.specs.Spots.{before}
-use Rattle.bt_decode.specs.Kept.{kind_of, half, IsKeptPart}
+use Rattle.bt_decode.specs.inner.Kept.{kind_of, half, IsKeptPart}
 use Rattle.bt_decode.proofs.Geometry.{before-beside, beside-before}
 use Rattle.bt_decode.proofs.Solved.{Solved, Says}
 use Rattle.bt_decode.proofs.CellFacts.{one_shape, one_dir, half_on, mate_there}

@@ -16,7 +16,7 @@ use Rattle.bt_place.specs.declared.fact.Shape.{Shape}
 use Rattle.bt_place.specs.declared.fact.Shape.TheVariants as shape
 use Rattle.bt_place.specs.Contents.{holds}
 use Rattle.bt_place.specs.Spots.{behind}
-use Rattle.bt_decode.specs.Kept.{kind_of, begun, half, handed, under, IsKeptPart}
+use Rattle.bt_decode.specs.inner.Kept.{kind_of, begun, half, handed, under, IsKeptPart}
 use Rattle.bt_decode.proofs.Readings.{In}
 use Rattle.bt_decode.proofs.Geometry.{behind-step}
 use Rattle.bt_decode.proofs.Solved.{Solved, Says, Denies}

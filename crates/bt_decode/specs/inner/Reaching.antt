@@ -13,7 +13,7 @@ use Rattle.bt_place.specs.declared.fact.Shape.{Shape}
 use Rattle.bt_place.specs.declared.fact.Shape.TheVariants as shape
 use Rattle.bt_place.specs.Contents.{holds}
 use Rattle.bt_place.specs.PlaceFormula.{most_distance}
-use Rattle.bt_decode.specs.Kept.{kind_of, IsKept}
+use Rattle.bt_decode.specs.inner.Kept.{kind_of, IsKept}
 use Rattle.bt_decode.specs.inner.Spots.{spots_in, cell_numbered, read_in}
 
 -- what comes to the cell is handed on to this one, or goes to it under the ground
