@@ -1,20 +1,18 @@
 -- How a cell is reached, by what it holds.
-use Rattle.std.proofs.Common.{◌≡◌, ◌⊎◌, ◌≢◌, ℕ, ◌+◌, ◌<◌, ◌≤◌, Bool, true, false, refl, sym, ◌∙◌, ap, subst, inl, inr, ⊎_elim}
+use Rattle.std.proofs.Common.{◌≡◌, ◌⊎◌, ◌≢◌, ℕ, ◌≤◌, refl, ap, subst, inl, inr, ⊎_elim}
 use Rattle.bt_parts.specs.declared.part.Cell.{Cell}
 use Rattle.bt_parts.specs.declared.part.Dir.{Dir}
-use Rattle.bt_parts.specs.Cells.{step, steps, opposite, IsInside}
-use Rattle.bt_place.specs.declared.fact.Fact.{Fact}
-use Rattle.bt_place.specs.declared.fact.Fact.TheVariants.{Distance, Begins, HalfOn, Still}
+use Rattle.bt_parts.specs.Cells.{step, steps, IsInside}
+use Rattle.bt_place.specs.declared.fact.Fact.TheVariants.{Distance, Begins, Still}
 use Rattle.bt_place.specs.declared.fact.Half.{Half}
-use Rattle.bt_place.specs.declared.fact.Half.TheVariants.{Lesser, Greater}
 use Rattle.bt_place.specs.declared.fact.Shape.{Shape}
 use Rattle.bt_place.specs.declared.fact.Shape.TheVariants as shape
 use Rattle.bt_place.specs.Contents.{holds}
 use Rattle.bt_place.specs.PlaceFormula.{most_distance}
-use Rattle.bt_decode.specs.Kept.{IsReached, begun, half, handed, under, IsKept}
+use Rattle.bt_decode.specs.inner.Kept.{begun, half, handed, under, IsKept}
 use Rattle.bt_decode.proofs.Solved.{Solved, Says, Denies}
 use Rattle.bt_decode.proofs.CellFacts.{one_shape, one_dir, half_there}
-use Rattle.bt_decode.proofs.GoingFacts.{Takes, by_belt, by_entrance, by_half, going_inside, taker_there, begun_there}
+use Rattle.bt_decode.proofs.GoingFacts.{Takes, by_belt, by_entrance, by_half, taker_there, begun_there}
 use Rattle.bt_decode.proofs.TunnelFacts.{exit_there}
 
 -- the cell is reached

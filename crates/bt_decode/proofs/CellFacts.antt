@@ -1,5 +1,5 @@
 -- What a cell holds: one thing; halves side by side; and where splitters stand.
-use Rattle.std.proofs.Common.{◌≡◌, ◌⊎◌, ◌≢◌, ℕ, ◌+◌, ◌<◌, Bool, true, List, [], ◌∷◌, ◌++◌, map, refl, sym, ◌∙◌, ap, subst, inl, inr, ⊎_elim, arith}
+use Rattle.std.proofs.Common.{◌≡◌, ◌⊎◌, ℕ, ◌<◌, List, [], ◌∷◌, ◌++◌, map, refl, subst, inl, inr, ⊎_elim, arith}
 use Rattle.std.specs.Prelude.{unsigned_abs}
 use Rattle.std.specs.List.{flat_map, range_with_len}
 use Rattle.bt_parts.specs.declared.part.Cell.{Cell}
@@ -10,15 +10,15 @@ use Rattle.bt_place.specs.declared.fact.Content.TheVariants.{Empty, Turned}
 use Rattle.bt_place.specs.declared.fact.Fact.{Fact}
 use Rattle.bt_place.specs.declared.fact.Fact.TheVariants.{Kind, Name, Column, Row, Points, HalfOn, At}
 use Rattle.bt_place.specs.declared.fact.Half.{Half}
-use Rattle.bt_place.specs.declared.fact.Half.TheVariants.{Lesser, Greater}
+use Rattle.bt_place.specs.declared.fact.Half.TheVariants.{Lesser}
 use Rattle.bt_place.specs.declared.fact.Shape.{Shape}
 use Rattle.bt_place.specs.declared.fact.Shape.TheVariants as shape
 use Rattle.bt_place.specs.Contents.{holds, contents, half_kinds, mate_rule}
-use Rattle.bt_place.specs.Rules.{Rule, rule, at_most_one, AllHold, OneHolds, Keeps}
+use Rattle.bt_place.specs.Rules.{Rule, rule, at_most_one, Keeps}
 use Rattle.bt_place.specs.Spots.{dirs, halves, other_half, mate, before, where_inside, cells_of}
 use Rattle.bt_place.specs.Standing.{owner_rule, at_rules, stands_on, name_rule, stands_at}
-use Rattle.bt_decode.proofs.Readings.{In, in_map, in_mapped, in_flat, in_flattened, in_range, range_has, all_in, all_left, all_right, all_mapped, all_flat, one_in, one_from, one_mapped, one_holds}
-use Rattle.bt_decode.proofs.Geometry.{in_dirs, in_halves, in_contents, in_cells, cells_inside, same_spot, across}
+use Rattle.bt_decode.proofs.Readings.{In, in_map, in_mapped, in_flat, in_flattened, in_range, range_has, all_left, all_right, all_mapped, all_flat, one_in, one_from, one_mapped, one_holds}
+use Rattle.bt_decode.proofs.Geometry.{in_dirs, in_halves, in_contents, cells_inside, same_spot, across}
 use Rattle.bt_decode.proofs.Solved.{Solved, Says, Kept, one_inside, contents_kept, halves_kept, mates_kept, standing_kept, place_kept}
 
 module _ (w : Solved) (c : Cell) (h : IsInside w.r.rect c) where

@@ -1,46 +1,45 @@
 -- Splitters and their names, how labels go along, and the chain of each edge.
-use Rattle.std.proofs.Common.{◌≡◌, ◌⊎◌, ◌≢◌, ℕ, ◌+◌, ◌<◌, ◌==◌, Bool, true, false, List, [], ◌∷◌, length, Some, eqb, refl, sym, ◌∙◌, ap, subst, inl, inr, ⊎_elim, arith}
+use Rattle.std.proofs.Common.{◌≡◌, ◌⊎◌, ◌≢◌, ℕ, ◌<◌, true, List, [], length, refl, sym, ◌∙◌, ap, subst, inl, inr, ⊎_elim}
 use Rattle.std.proofs.lemmas.Bool.{eq-eqb}
 use Rattle.bt_parts.specs.declared.part.Cell.{Cell}
 use Rattle.bt_parts.specs.declared.part.Dir.{Dir}
-use Rattle.bt_parts.specs.declared.part.Kind.TheVariants as kind
 use Rattle.bt_parts.specs.declared.part.Part.{Part}
 use Rattle.bt_parts.specs.Cells.{step, steps, beside, IsInside}
-use Rattle.bt_parts.specs.Layouts.{HasPart, IsAt, Pairs}
-use Rattle.bt_parts.proofs.Places.{same_part, one_there}
+use Rattle.bt_parts.specs.Layouts.{HasPart, IsAt}
+use Rattle.bt_parts.proofs.Places.{same_part}
 use Rattle.bt_net.specs.declared.network.Edge.{Edge}
 use Rattle.bt_net.specs.declared.network.Start.{Start}
 use Rattle.bt_net.specs.declared.network.Start.TheVariants as from
 use Rattle.bt_net.specs.declared.network.Target.{Target}
 use Rattle.bt_net.specs.declared.network.Target.TheVariants as to
 use Rattle.bt_net.specs.Network.{leaves as leaves_splitter, StartsIn, EndsIn}
-use Rattle.bt_model.specs.Chains.{IsSplitter, IsLink, Path, one, more, IsInput, IsOutput, Source, begins, leaves, Sink, ends, enters, Chain, EndsAs, IsChain}
-use Rattle.bt_model.specs.Handing.{FeedsFrom, Hands}
+use Rattle.bt_model.specs.Chains.{IsSplitter, IsLink, Path, one, more, IsOutput, Source, begins, leaves, Sink, ends, enters, Chain, EndsAs, IsChain}
+use Rattle.bt_model.specs.Handing.{Hands}
 use Rattle.bt_model.specs.Shown.{ListsEach}
 use Rattle.bt_model.proofs.HandLemmas.{one_handed}
 use Rattle.bt_model.proofs.PathLemmas.{path_start}
 use Rattle.bt_model.specs.Orderly.{IsOrderly}
 use Rattle.bt_model.proofs.ChainLemmas.{orderly_of, path_stop}
 use Rattle.bt_model.proofs.ExistLemmas.{IsRun, run_from, input_link, output_link, input_chain, half_chain, empty_chain}
-use Rattle.bt_place.specs.declared.fact.Fact.TheVariants.{Name, Label, First, Last, Leaves, HalfOn, Still, At}
+use Rattle.bt_place.specs.declared.fact.Fact.TheVariants.{Name, Label, Last, Leaves, Still, At}
 use Rattle.bt_place.specs.declared.fact.Half.{Half}
 use Rattle.bt_place.specs.declared.fact.Half.TheVariants.{Lesser, Greater}
 use Rattle.bt_place.specs.declared.fact.Shape.{Shape}
 use Rattle.bt_place.specs.declared.fact.Shape.TheVariants as shape
 use Rattle.bt_place.specs.Contents.{holds}
 use Rattle.bt_place.specs.Spots.{before, half_at}
-use Rattle.bt_decode.specs.Kept.{kind_of, half, IsKeptPart}
-use Rattle.bt_decode.proofs.Geometry.{before-beside, beside-before}
+use Rattle.bt_decode.specs.inner.Kept.{half, IsKeptPart}
+use Rattle.bt_decode.proofs.Geometry.{beside-before}
 use Rattle.bt_decode.proofs.ListFacts.{element_at}
 use Rattle.bt_decode.proofs.Solved.{Solved, Says, Denies}
-use Rattle.bt_decode.proofs.CellFacts.{one_shape, one_dir, half_on, half_there, mate_there, owner_of, one_name, named_by, at_lesser, at_name, stands_somewhere, one_place}
-use Rattle.bt_decode.proofs.GoingFacts.{going_inside, last_there}
-use Rattle.bt_decode.proofs.LabelFacts.{IsEdge, edge_below, same_edge, half_unlabelled, one_label, first_label, last_label, label_on, label_into, label_ends}
-use Rattle.bt_decode.proofs.PortFacts.{port_there, one_port, ports_apart, handed_edge, edge_goes, edge_on}
+use Rattle.bt_decode.proofs.CellFacts.{half_on, half_there, mate_there, owner_of, one_name, named_by, at_lesser, at_name, stands_somewhere, one_place}
+use Rattle.bt_decode.proofs.GoingFacts.{going_inside}
+use Rattle.bt_decode.proofs.LabelFacts.{IsEdge, edge_below, half_unlabelled, first_label, label_on, label_into, label_ends}
+use Rattle.bt_decode.proofs.PortFacts.{port_there, edge_goes, edge_on}
 use Rattle.bt_decode.proofs.TunnelFacts.{label_under}
 use Rattle.bt_decode.proofs.Arrivals.{Reached, reached_inside}
-use Rattle.bt_decode.proofs.PartFacts.{part_on, standing, kept_part, part_there, part_at, at_there, own_at, one_index, well_placed, home}
-use Rattle.bt_decode.proofs.HandFacts.{Going, feeds_going, going_feeds, next_there, entrance_pair, entrance_of, half_of}
+use Rattle.bt_decode.proofs.PartFacts.{part_on, standing, kept_part, part_there, part_at, at_there, own_at, one_index, well_placed}
+use Rattle.bt_decode.proofs.HandFacts.{feeds_going, going_feeds, next_there, entrance_pair, entrance_of, half_of}
 use Rattle.bt_decode.proofs.RingFacts.{link_cell, link_shape, none_ringed, clean}
 use Rattle.bt_decode.proofs.EndFacts.{edge_starts, edge_ends, output_faces, IsFirstOf, first_at, first_input, first_there}
 
@@ -115,8 +114,7 @@ module _ (w : Solved) (parts : List Part) (lists : ListsEach (IsKeptPart w.r w.r
   same_stand s t i n m =
       let same = same_part parts i (part_on w (shape.Half Lesser) n.dir n.cell) (part_on w (shape.Half Lesser) m.dir m.cell) n.is_i m.is_i in
       let cells : n.cell ≡ m.cell = ap (λ p. p.cell) same in
-      let dirs : n.dir ≡ m.dir = ap (λ p. p.dir) same in
-      (
+      let dirs : n.dir ≡ m.dir = ap (λ p. p.dir) same in (
         cells,
         dirs,
         one_name w m.cell m.inside s t n.below m.below
@@ -187,8 +185,7 @@ module _ (w : Solved) (parts : List Part) (lists : ListsEach (IsKeptPart w.r w.r
         let says = subst (λ s. Says w (holds a s here.dir)) of here.says in
         let is_i = subst (λ s. HasPart parts i (part_on w s here.dir a)) of here.is_i in
         let own = entrance_pair w parts lists a here.dir i here.reached says is_i in
-        let exits : own.exit ≡ j = one_handed parts (well_placed w parts lists) i own.exit j link (inl own.pair) (inl pair) in
-        (
+        let exits : own.exit ≡ j = one_handed parts (well_placed w parts lists) i own.exit j link (inl own.pair) (inl pair) in (
           steps own.distance here.dir a,
           subst (λ k. IsAt parts k (steps own.distance here.dir a)) exits
               (at_there w parts lists own.exit shape.Exit here.dir (steps own.distance here.dir a) own.is_exit),
@@ -198,8 +195,7 @@ module _ (w : Solved) (parts : List Part) (lists : ListsEach (IsKeptPart w.r w.r
         let going = feeds_going w parts lists i feeds.0 j feeds.1 in
         let same : a ≡ feeds.0 = link_cell parts i a feeds.0 link at feeds.1.look.giver in
         let inside = reached_inside w feeds.0 going.reached in
-        let front = going_inside w feeds.0 inside going.dir going.goes in
-        (
+        let front = going_inside w feeds.0 inside going.dir going.goes in (
           step going.dir feeds.0,
           going.there,
           label_on w feeds.0 inside e edge is going.dir front going.goes (subst (λ c. Says w (Label c e)) same label)
@@ -289,8 +285,7 @@ module _ (w : Solved) (parts : List Part) (lists : ListsEach (IsKeptPart w.r w.r
         let i = first.0 in let f = first.1 in
         let input = first_input w parts lists k i f in
         let at = first_at w parts lists k i f in
-        let run = run_from parts orderly (none_ringed w parts lists) i (input_link parts i input) in
-        (
+        let run = run_from parts orderly (none_ringed w parts lists) i (input_link parts i input) in (
           record { source = begins i f.cell; links = run.links; sink = run.sink },
           record {
             edge = edge;
@@ -317,13 +312,16 @@ module _ (w : Solved) (parts : List Part) (lists : ListsEach (IsKeptPart w.r w.r
           let front = step n.dir (half_at h n.dir n.cell) in
           let here = standing w parts lists q front at in
           let inside = reached_inside w front here.reached in
-          let link : IsLink parts q = (part_on w here.of here.dir front, here.is_i, λ splits.
-          let side = half_of here.of splits in
-          half_unlabelled w front inside e (edge_below w e edge is)
-          (half_on w front inside side.0 here.dir (subst (λ z. Says w (holds front z here.dir)) side.1 here.says)) label) in
+          let link : IsLink parts q = (
+            part_on w here.of here.dir front,
+            here.is_i,
+            λ splits.
+                let side = half_of here.of splits in
+                half_unlabelled w front inside e (edge_below w e edge is)
+                (half_on w front inside side.0 here.dir (subst (λ z. Says w (holds front z here.dir)) side.1 here.says)) label,
+          ) in
           let run = run_from parts orderly (none_ringed w parts lists) q link in
-          let feeds = going_feeds w parts lists (half_at h n.dir n.cell) n.dir on.reached goes i q on.there at in
-          (
+          let feeds = going_feeds w parts lists (half_at h n.dir n.cell) n.dir on.reached goes i q on.there at in (
             record { source = leaves i (half_at h n.dir n.cell); links = run.links; sink = run.sink },
             record {
               edge = edge;
@@ -340,8 +338,7 @@ module _ (w : Solved) (parts : List Part) (lists : ListsEach (IsKeptPart w.r w.r
           let front = step n.dir (half_at h n.dir n.cell) in
           let inside = going_inside w (half_at h n.dir n.cell) on.inside n.dir goes in
           let other = named_part front t q inside (subst (EndsIn w.r.net) targets (edge_ends w e edge is)) name at in
-          let feeds = going_feeds w parts lists (half_at h n.dir n.cell) n.dir on.reached goes i q on.there at in
-          (
+          let feeds = going_feeds w parts lists (half_at h n.dir n.cell) n.dir on.reached goes i q on.there at in (
             record { source = leaves i (half_at h n.dir n.cell); links = []; sink = enters q },
             record {
               edge = edge;

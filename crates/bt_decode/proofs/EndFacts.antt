@@ -1,15 +1,13 @@
 -- The kept parts fit the request, and where its inputs begin.
-use Rattle.std.proofs.Common.{◌≡◌, ◌⊎◌, ◌≢◌, ℕ, ◌+◌, ◌<◌, ◌==◌, Bool, true, false, List, [], ◌∷◌, length, Some, eqb, refl, sym, ◌∙◌, ap, subst, inl, inr, ⊎_elim, arith}
-use Rattle.std.specs.List.{Contains, slice_get}
+use Rattle.std.proofs.Common.{◌≡◌, ◌⊎◌, ◌≢◌, ℕ, ◌<◌, true, List, refl, sym, ◌∙◌, ap, subst, inl, inr, ⊎_elim}
 use Rattle.std.proofs.lemmas.Bool.{eqb-true, false≢true}
 use Rattle.bt_parts.specs.declared.part.Cell.{Cell}
 use Rattle.bt_parts.specs.declared.part.Dir.{Dir}
 use Rattle.bt_parts.specs.declared.part.Kind.TheVariants as kind
 use Rattle.bt_parts.specs.declared.part.Part.{Part}
 use Rattle.bt_parts.specs.Cells.{step, opposite, IsInside}
-use Rattle.bt_parts.specs.Layouts.{HasPart, IsAt, Pairs}
+use Rattle.bt_parts.specs.Layouts.{HasPart, IsAt}
 use Rattle.bt_parts.proofs.Places.{same_part, one_there}
-use Rattle.bt_net.specs.declared.network.Block.{Block}
 use Rattle.bt_net.specs.declared.network.Edge.{Edge}
 use Rattle.bt_net.specs.declared.network.Start.{Start}
 use Rattle.bt_net.specs.declared.network.Start.TheVariants as from
@@ -17,29 +15,27 @@ use Rattle.bt_net.specs.declared.network.Target.{Target}
 use Rattle.bt_net.specs.declared.network.Target.TheVariants as to
 use Rattle.bt_net.specs.Network.{leaves, is_input, is_output, StartsIn, EndsIn}
 use Rattle.bt_model.specs.Chains.{IsLink, IsInput, IsOutput}
-use Rattle.bt_model.specs.Handing.{Feeds}
 use Rattle.bt_model.specs.Laying.{Fits}
 use Rattle.bt_model.specs.Requests.{blocked}
 use Rattle.bt_model.specs.Shown.{ListsEach}
-use Rattle.bt_place.specs.declared.fact.Fact.TheVariants.{First, Last, Begins, Still}
+use Rattle.bt_place.specs.declared.fact.Fact.TheVariants.{First, Begins}
 use Rattle.bt_place.specs.declared.fact.Half.{Half}
 use Rattle.bt_place.specs.declared.fact.Shape.{Shape}
 use Rattle.bt_place.specs.declared.fact.Shape.TheVariants as shape
 use Rattle.bt_place.specs.Contents.{holds}
 use Rattle.bt_place.specs.Going.{runners}
 use Rattle.bt_place.specs.Spots.{behind}
-use Rattle.bt_decode.specs.Kept.{kind_of, begun, IsKeptPart}
+use Rattle.bt_decode.specs.inner.Kept.{kind_of, begun, IsKeptPart}
 use Rattle.bt_decode.proofs.Readings.{In}
-use Rattle.bt_decode.proofs.Geometry.{behind-step, inside_cases}
 use Rattle.bt_decode.proofs.ListFacts.{contains_in, all_at, all_from, counted}
-use Rattle.bt_decode.proofs.Solved.{Solved, Says, Denies}
+use Rattle.bt_decode.proofs.Solved.{Solved, Says}
 use Rattle.bt_decode.proofs.CellFacts.{one_dir, not_empty}
-use Rattle.bt_decode.proofs.GoingFacts.{runner_goes, runner_ends, giver_there, begun_there, begun_first, first_begun, begun_still, input_stands, one_first}
+use Rattle.bt_decode.proofs.GoingFacts.{runner_goes, giver_there, begun_there, begun_first, first_begun, input_stands, one_first}
 use Rattle.bt_decode.proofs.LabelFacts.{IsEdge, edge_below, same_edge, first_label, one_label}
 use Rattle.bt_decode.proofs.PinFacts.{blocked_empty}
-use Rattle.bt_decode.proofs.Arrivals.{Reached, reached_inside, FromCell, taken_reached}
-use Rattle.bt_decode.proofs.PartFacts.{part_on, standing, kept_part, part_there, part_at, at_there, own_at, well_placed}
-use Rattle.bt_decode.proofs.HandFacts.{feeds_going, going_feeds, next_there}
+use Rattle.bt_decode.proofs.Arrivals.{reached_inside, FromCell, taken_reached}
+use Rattle.bt_decode.proofs.PartFacts.{part_on, standing, kept_part, part_there, at_there, own_at, well_placed}
+use Rattle.bt_decode.proofs.HandFacts.{going_feeds, next_there}
 use Rattle.bt_decode.proofs.RingFacts.{link_cell, begun_unfed}
 
 -- ---- the network's edges
@@ -118,8 +114,7 @@ module _ (w : Solved) (parts : List Part) (lists : ListsEach (IsKeptPart w.r w.r
   output_faces i part is_i output =
       let kept = kept_part w parts lists i part is_i in
       let same = same_part parts i output.part part output.is_i is_i in
-      let runs = runner_shape kept.of (subst (λ k. (k ≡ kind.Belt) ⊎ (k ≡ kind.Exit)) (ap (λ p. p.kind) same ∙ kept.is_kind) output.kind) in
-      (
+      let runs = runner_shape kept.of (subst (λ k. (k ≡ kind.Belt) ⊎ (k ≡ kind.Exit)) (ap (λ p. p.kind) same ∙ kept.is_kind) output.kind) in (
         kept.of,
         runs,
         kept.stands,
@@ -209,8 +204,7 @@ module _ (w : Solved) (parts : List Part) (lists : ListsEach (IsKeptPart w.r w.r
   input_number i input =
       let c = input.part.cell in
       let inside = reached_inside w c (kept_part w parts lists i input.part input.is_i).kept in
-      let first = begun_first w c inside (input_begins i input.part input.is_i input) in
-      (
+      let first = begun_first w c inside (input_begins i input.part input.is_i input) in (
         first.0,
         first.1,
         λ j f. one_there parts (well_placed w parts lists) j i c

@@ -1,14 +1,13 @@
 -- Gathering the parts of the cells that are marked.
-use Rattle.std.proofs.Common.{◌≡◌, ◌⊎◌, ◌≢◌, ℕ, ◌+◌, ◌*◌, ◌<◌, ◌≤◌, ◌<ℤ◌, pos, Bool, true, false, List, [], ◌∷◌, ◌++◌, length, get_or, refl, sym, ◌∙◌, ap, subst, inl, inr, ⊎_elim, arith}
+use Rattle.std.proofs.Common.{◌≡◌, ◌≢◌, ℕ, ◌+◌, ◌*◌, ◌<◌, ◌≤◌, pos, Bool, true, false, List, [], ◌∷◌, ◌++◌, length, get_or, sym, ◌∙◌, ap, subst, inl, inr, ⊎_elim, arith}
 use Rattle.std.specs.Prelude.{unsigned_abs}
 use Rattle.std.specs.List.{AllPairs, Contains}
-use Rattle.std.proofs.lemmas.Bool.{both_ways, cases_lt, cases_order}
+use Rattle.std.proofs.lemmas.Bool.{cases_lt, cases_order}
 use Rattle.std.proofs.lemmas.Int.{ints}
 use Rattle.std.proofs.lemmas.List.{get_or_default}
 use Rattle.std.proofs.lemmas.List.Elements.{Contains-append_left, Contains-push, Contains-push_cases}
 use Rattle.std.proofs.lemmas.List.Quantifiers.{all_pairs_push}
 use Rattle.std.proofs.Math.Nat.{mul-le-mul_right}
-use Rattle.bt_parts.specs.declared.part.Cell.{Cell}
 use Rattle.bt_parts.specs.declared.part.Dir.{Dir}
 use Rattle.bt_parts.specs.declared.part.Part.{Part}
 use Rattle.bt_parts.specs.declared.part.Rect.{Rect}
@@ -22,10 +21,10 @@ use Rattle.bt_place.specs.declared.fact.Half.TheVariants.{Greater}
 use Rattle.bt_place.specs.declared.fact.Shape.{Shape}
 use Rattle.bt_place.specs.declared.fact.Shape.TheVariants as shape
 use Rattle.bt_place.specs.Contents.{holds}
-use Rattle.bt_decode.specs.Kept.{kind_of, IsKept, IsKeptPart}
+use Rattle.bt_decode.specs.inner.Kept.{kind_of, IsKept, IsKeptPart}
 use Rattle.bt_decode.specs.Solutions.{IsSolution, ComesAbove}
 use Rattle.bt_decode.specs.inner.Spots.{spots_in, spot_in, cell_numbered, read_in}
-use Rattle.bt_decode.specs.inner.Reaching.{StandsAs, TellsPart, IsMarked, AreMarks, HasStarts}
+use Rattle.bt_decode.specs.inner.Reaching.{StandsAs, IsMarked, AreMarks, HasStarts}
 use Rattle.bt_decode.proofs.Geometry.{across, cell_of}
 use Rattle.bt_decode.proofs.CellFacts.{one_shape, one_dir, not_empty}
 use Rattle.bt_decode.proofs.Arrivals.{reached_inside}
@@ -68,8 +67,11 @@ above_of rect one other h k lt =
         → ay * rect.width + ax < by' * rect.width + bx → ComesAbove one other
     by ax ay bx by' e_ax e_ay e_bx e_by a_lt b_lt less =
         ⊎_elim
-        (λ same. inr (e_ay ∙ ap pos same ∙ sym e_by, (let rows : ay * rect.width ≡ by' * rect.width = ap (λ n. n * rect.width) same in
-        let x : ax < bx = omega arith in omega (arith, ints))))
+        (λ same. inr (
+          e_ay ∙ ap pos same ∙ sym e_by,
+          (let rows : ay * rect.width ≡ by' * rect.width = ap (λ n. n * rect.width) same in
+              let x : ax < bx = omega arith in omega (arith, ints)),
+        ))
         (λ apart. ⊎_elim
         (λ below. inl (omega (arith, ints)))
         (λ over. let rows : (by' + 1) * rect.width ≤ ay * rect.width = mul-le-mul_right rect.width (let o : by' + 1 ≤ ay = omega arith in o) in

@@ -1,25 +1,23 @@
 -- What is handed from cell to cell, and where inputs begin and outputs end.
-use Rattle.std.proofs.Common.{◌≡◌, ◌⊎◌, ◌≢◌, ℕ, ◌+◌, ◌<◌, Bool, true, false, List, [], ◌∷◌, ◌++◌, map, cond, refl, sym, ◌∙◌, ap, subst, inl, inr, ⊎_elim, arith}
+use Rattle.std.proofs.Common.{◌≡◌, ◌⊎◌, ◌≢◌, ℕ, ◌<◌, List, [], ◌∷◌, ◌++◌, map, cond, refl, sym, subst, inl, inr, ⊎_elim, arith}
 use Rattle.std.specs.List.{flat_map, range_with_len}
 use Rattle.bt_parts.specs.declared.part.Cell.{Cell}
 use Rattle.bt_parts.specs.declared.part.Dir.{Dir}
 use Rattle.bt_parts.specs.Cells.{step, opposite, IsInside}
-use Rattle.bt_parts.proofs.Steps.{opposite-opposite}
 use Rattle.bt_place.specs.declared.fact.Content.TheVariants.{Empty}
 use Rattle.bt_place.specs.declared.fact.Fact.{Fact}
 use Rattle.bt_place.specs.declared.fact.Fact.TheVariants.{Kind, First, Last, Begins, Still}
 use Rattle.bt_place.specs.declared.fact.Half.{Half}
-use Rattle.bt_place.specs.declared.fact.Half.TheVariants.{Lesser, Greater}
 use Rattle.bt_place.specs.declared.fact.Shape.{Shape}
 use Rattle.bt_place.specs.declared.fact.Shape.TheVariants as shape
 use Rattle.bt_place.specs.Contents.{holds}
 use Rattle.bt_place.specs.Ends.{starters, enders}
 use Rattle.bt_place.specs.Going.{runners, givers, takers, inner_rules, outer_rules, going_rules, still_into, fed_belt, fed_entrance, once_rules}
-use Rattle.bt_place.specs.Rules.{Rule, rule, not_all, at_most_one, all_but_one, OneHolds, Keeps}
-use Rattle.bt_place.specs.Spots.{dirs, halves, others_than, behind, is_inside, where_inside, where_outside, border_of}
-use Rattle.bt_decode.proofs.Readings.{In, in_left, in_map, in_mapped, in_flat, in_flattened, in_append, in_range, range_has, all_in, all_left, all_right, all_mapped, all_flat, one_in, one_from, one_mapped, one_holds, one_fails}
-use Rattle.bt_decode.proofs.Geometry.{in_dirs, in_halves, in_border, border_inside, others_apart, inside_cases, inside_true, inside_false, where_in, behind-step, step-behind}
-use Rattle.bt_decode.proofs.Solved.{Solved, Says, Denies, denied, not_said, Kept, one_inside, one_outside, handing_kept, end_kept, input_kept, output_kept}
+use Rattle.bt_place.specs.Rules.{Rule, rule, not_all, all_but_one, Keeps}
+use Rattle.bt_place.specs.Spots.{dirs, halves, others_than, behind, where_outside, border_of}
+use Rattle.bt_decode.proofs.Readings.{In, in_map, in_mapped, in_flat, in_flattened, in_append, in_range, range_has, all_left, all_right, all_mapped, all_flat, one_in, one_from, one_mapped, one_holds, one_fails}
+use Rattle.bt_decode.proofs.Geometry.{in_dirs, in_halves, in_border, border_inside, others_apart, inside_cases, inside_true, inside_false, where_in}
+use Rattle.bt_decode.proofs.Solved.{Solved, Says, Denies, denied, not_said, Kept, one_outside, handing_kept, end_kept, input_kept, output_kept}
 
 -- a shape that takes what comes to it in this direction, so turned
 pub data Takes (dir : Dir) : Shape → Dir → Type 0 where

@@ -1,6 +1,5 @@
 -- Which of the kept parts hands to which.
-use Rattle.std.proofs.Common.{◌≡◌, ◌⊎◌, ◌≢◌, ℕ, zero, suc, ◌+◌, ◌-◌, ◌<◌, ◌≤◌, Bool, true, false, List, [], ◌∷◌, length, Some, refl, sym, ◌∙◌, ap, subst, inl, inr, ⊎_elim, arith}
-use Rattle.std.proofs.lemmas.Bool.{cases_order}
+use Rattle.std.proofs.Common.{◌≡◌, ◌⊎◌, ◌≢◌, ℕ, zero, suc, ◌+◌, ◌-◌, ◌<◌, ◌≤◌, List, refl, sym, ◌∙◌, ap, subst, inl, inr, ⊎_elim, arith}
 use Rattle.std.proofs.lemmas.Int.{ints}
 use Rattle.bt_parts.specs.declared.part.Cell.{Cell}
 use Rattle.bt_parts.specs.declared.part.Dir.{Dir}
@@ -12,35 +11,32 @@ use Rattle.bt_parts.specs.declared.part.Side.{Side}
 use Rattle.bt_parts.specs.declared.part.Side.TheVariants.{Behind, Across, Ahead}
 use Rattle.bt_parts.specs.Cells.{step, steps, opposite, Covers, IsInside}
 use Rattle.bt_parts.specs.Handing.{ComesFrom, TakesFrom}
-use Rattle.bt_parts.specs.Layouts.{HasPart, IsAt, IsWellPlaced, IsUnderground, IsPieceOn, Pairs, ArePaired, IsPieceAt}
+use Rattle.bt_parts.specs.Layouts.{HasPart, IsAt, IsPieceOn, Pairs, ArePaired, IsPieceAt}
 use Rattle.bt_parts.specs.inner.Looking.{IsFirstPiece}
 use Rattle.bt_parts.proofs.Pieces.{one_first, back_first}
 use Rattle.bt_parts.proofs.Places.{same_part, one_there}
 use Rattle.bt_parts.proofs.Steps.{opposite-opposite, steps_none}
-use Rattle.bt_model.specs.Clean.{IsPaired, HasTwoFeeders, IsSeenAcross, IsSideLoaded, IsHalfBlocked, IsBlocked}
-use Rattle.bt_model.specs.Handing.{LooksFrom, FeedsFrom, Feeds, Hands, BlocksFrom}
+use Rattle.bt_model.specs.Clean.{IsPaired, HasTwoFeeders, IsSeenAcross, IsSideLoaded, IsBlocked}
+use Rattle.bt_model.specs.Handing.{LooksFrom, FeedsFrom, BlocksFrom}
 use Rattle.bt_model.specs.Shown.{ListsEach}
 use Rattle.bt_model.proofs.HandLemmas.{entrance_paired, one_handed}
-
-use Rattle.bt_place.specs.declared.fact.Fact.{Fact}
 use Rattle.bt_place.specs.declared.fact.Fact.TheVariants.{Distance, Still, Tunnel}
 use Rattle.bt_place.specs.declared.fact.Half.{Half}
-use Rattle.bt_place.specs.declared.fact.Half.TheVariants.{Lesser, Greater}
 use Rattle.bt_place.specs.declared.fact.Shape.{Shape}
 use Rattle.bt_place.specs.declared.fact.Shape.TheVariants as shape
 use Rattle.bt_place.specs.Contents.{holds}
 use Rattle.bt_place.specs.Going.{runners, givers}
 use Rattle.bt_place.specs.PlaceFormula.{most_distance}
 use Rattle.bt_place.specs.Spots.{behind}
-use Rattle.bt_decode.specs.Kept.{kind_of, handed, under, IsKeptPart}
+use Rattle.bt_decode.specs.inner.Kept.{kind_of, handed, under, IsKeptPart}
 use Rattle.bt_decode.proofs.Readings.{In}
 use Rattle.bt_decode.proofs.Geometry.{dir_cases, no_opposite, behind-step}
 use Rattle.bt_decode.proofs.Solved.{Solved, Says, Denies, denied}
-use Rattle.bt_decode.proofs.CellFacts.{one_shape, one_dir, not_empty}
+use Rattle.bt_decode.proofs.CellFacts.{not_empty}
 use Rattle.bt_decode.proofs.GoingFacts.{Takes, by_belt, by_entrance, by_half, going_inside, giver_there, taker_there, runner_goes, half_goes, one_into}
 use Rattle.bt_decode.proofs.TunnelFacts.{distance_there, exit_there, tunnel_between, entrance_tunnels, tunnel_no_exit, tunnel_passes}
 use Rattle.bt_decode.proofs.Arrivals.{Reached, reached_inside, FromEntrance, exit_reached}
-use Rattle.bt_decode.proofs.PartFacts.{home, part_on, Standing, part_there, standing, part_at, at_there, own_at, well_placed}
+use Rattle.bt_decode.proofs.PartFacts.{home, part_on, part_there, standing, part_at, at_there, own_at, well_placed}
 
 -- ---- shapes
 
@@ -356,8 +352,7 @@ module _ (w : Solved) (parts : List Part) (lists : ListsEach (IsKeptPart w.r w.r
       → (from : FromEntrance w c dir) × (i : ℕ) × HasPart parts i (part_on w shape.Entrance dir from.near) × Pairs parts i j
   exit_pair c dir j reached exit is_j =
       let from = exit_reached w c dir reached exit in
-      let entrance = part_there w parts lists shape.Entrance dir from.near from.reached from.entrance in
-      (
+      let entrance = part_there w parts lists shape.Entrance dir from.near from.reached from.entrance in (
         from,
         entrance.0,
         entrance.1,

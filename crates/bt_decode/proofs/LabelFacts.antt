@@ -1,22 +1,20 @@
 -- Labels: which edge the part on a cell belongs to, and how that goes on.
-use Rattle.std.proofs.Common.{◌≡◌, ◌⊎◌, ◌≢◌, ℕ, zero, suc, ◌+◌, ◌<◌, Bool, true, false, List, [], ◌∷◌, ◌++◌, length, map, cond, Some, refl, sym, ◌∙◌, ap, subst, inl, inr, ⊎_elim, arith}
+use Rattle.std.proofs.Common.{◌≡◌, ℕ, zero, suc, ◌+◌, ◌<◌, List, [], ◌∷◌, ◌++◌, length, map, cond, Some, refl, sym, ◌∙◌, ap, subst, inl, inr, ⊎_elim, arith}
 use Rattle.std.specs.List.{flat_map, range_with_len, enumerate_from, slice_get}
 use Rattle.std.proofs.lemmas.Option.{same_Some, none-some, slice_get_within}
 use Rattle.bt_parts.specs.declared.part.Cell.{Cell}
 use Rattle.bt_parts.specs.declared.part.Dir.{Dir}
 use Rattle.bt_parts.specs.Cells.{step, IsInside}
 use Rattle.bt_net.specs.declared.network.Edge.{Edge}
-use Rattle.bt_net.specs.declared.network.Start.{Start}
 use Rattle.bt_net.specs.declared.network.Start.TheVariants as from
 use Rattle.bt_net.specs.declared.network.Target.{Target}
 use Rattle.bt_net.specs.declared.network.Target.TheVariants as to
 use Rattle.bt_place.specs.declared.fact.Content.TheVariants.{Empty}
-use Rattle.bt_place.specs.declared.fact.Fact.{Fact}
 use Rattle.bt_place.specs.declared.fact.Fact.TheVariants.{Kind, Name, Label, First, Last, HalfOn, Still}
 use Rattle.bt_place.specs.declared.fact.Shape.{Shape}
 use Rattle.bt_place.specs.Contents.{holds}
 use Rattle.bt_place.specs.Going.{runners}
-use Rattle.bt_place.specs.Labels.{label_rules, start_rules, target_rules, into_half_rules, from_half_rules, label_on_rules, last_of, label_end_rules, label_way_rules, edge_rules}
+use Rattle.bt_place.specs.Labels.{start_rules, target_rules, into_half_rules, from_half_rules, label_on_rules, last_of, label_end_rules, label_way_rules, edge_rules}
 use Rattle.bt_place.specs.Rules.{Rule, rule, some_of, not_all, at_most_one, OneHolds, Keeps}
 use Rattle.bt_place.specs.Spots.{dirs}
 use Rattle.bt_decode.proofs.Readings.{In, in_map, in_range, all_left, all_right, all_mapped, all_flat, one_holds}

@@ -1,18 +1,15 @@
 -- The kept parts lay the request.
-use Rattle.std.proofs.Common.{◌≡◌, ◌⊎◌, ◌≢◌, ℕ, ◌+◌, ◌<◌, Bool, true, false, List, [], ◌∷◌, length, Some, Option, refl, sym, ◌∙◌, ap, subst, inl, inr, ⊎_elim, arith}
-use Rattle.std.specs.List.{All, AllByRecursion, AllZip, Contains, slice_get}
-use Rattle.std.specs.Option.{IfSome}
+use Rattle.std.proofs.Common.{◌≡◌, ◌⊎◌, ℕ, ◌<◌, true, List, length, Some, refl, sym, ◌∙◌, ap, subst, inl, inr, arith}
+use Rattle.std.specs.List.{slice_get}
 use Rattle.std.proofs.lemmas.Int.{ints}
 use Rattle.std.proofs.lemmas.List.Sorted.{IsPermutation-refl}
-use Rattle.std.proofs.lemmas.Option.{same_Some}
 use Rattle.bt_parts.specs.declared.part.Cell.{Cell}
 use Rattle.bt_parts.specs.declared.part.Dir.{Dir}
 use Rattle.bt_parts.specs.declared.part.Dir.TheVariants.{North, East, South, West}
-use Rattle.bt_parts.specs.declared.part.Kind.TheVariants as kind
 use Rattle.bt_parts.specs.declared.part.Part.{Part}
-use Rattle.bt_parts.specs.Cells.{step, beside, Covers, IsInside}
-use Rattle.bt_parts.specs.Layouts.{HasPart, IsAt}
-use Rattle.bt_parts.proofs.Places.{same_part, one_there, covers_at}
+use Rattle.bt_parts.specs.Cells.{beside, Covers, IsInside}
+use Rattle.bt_parts.specs.Layouts.{IsAt}
+use Rattle.bt_parts.proofs.Places.{same_part, one_there}
 use Rattle.bt_net.specs.declared.network.Edge.{Edge}
 use Rattle.bt_net.specs.declared.network.End.{End}
 use Rattle.bt_net.specs.declared.network.End.TheVariants.{Input, Output}
@@ -22,23 +19,22 @@ use Rattle.bt_net.specs.declared.network.Start.TheVariants as from
 use Rattle.bt_net.specs.declared.network.Target.{Target}
 use Rattle.bt_net.specs.declared.network.Target.TheVariants as to
 use Rattle.bt_net.specs.Network.{leaves as leaves_splitter}
-use Rattle.bt_model.specs.Chains.{IsSplitter, IsInput, IsOutput, Source, begins, leaves, Sink, ends, enters, Chain, StartsAs, IsLongest, IsEmptyChain, IsChain}
+use Rattle.bt_model.specs.Chains.{IsSplitter, IsInput, IsOutput, Source, begins, leaves, Sink, ends, enters, Chain, StartsAs, IsChain}
 use Rattle.bt_model.specs.Handing.{FeedsFrom}
 use Rattle.bt_model.specs.Laying.{IsNamed, KeepsPin, Lays}
-use Rattle.bt_model.specs.Requests.{LayoutRequest, HasEnd, pinned}
+use Rattle.bt_model.specs.Requests.{HasEnd, pinned}
 use Rattle.bt_model.specs.Shown.{Naming, ListsEach, IsNaming, IsStartOf, IsTargetOf, IsEdgeOf, Shows}
 use Rattle.bt_model.proofs.ChainLemmas.{chain_from}
 use Rattle.bt_model.proofs.ExistLemmas.{input_link, output_link}
-use Rattle.bt_place.specs.declared.fact.Fact.TheVariants.{First, Last, Label, Leaves, Still, At}
+use Rattle.bt_place.specs.declared.fact.Fact.TheVariants.{First, Last, Leaves, Still}
 use Rattle.bt_place.specs.declared.fact.Half.{Half}
 use Rattle.bt_place.specs.declared.fact.Half.TheVariants.{Lesser, Greater}
 use Rattle.bt_place.specs.declared.fact.Shape.{Shape}
 use Rattle.bt_place.specs.declared.fact.Shape.TheVariants as shape
 use Rattle.bt_place.specs.Contents.{holds}
-use Rattle.bt_place.specs.Going.{runners}
 use Rattle.bt_place.specs.Pinning.{stands_there, end_shapes}
 use Rattle.bt_place.specs.Spots.{half_at}
-use Rattle.bt_decode.specs.Kept.{IsKeptPart}
+use Rattle.bt_decode.specs.inner.Kept.{IsKeptPart}
 use Rattle.bt_decode.proofs.Readings.{In}
 use Rattle.bt_decode.proofs.ListFacts.{Listed, listed, lists_each, element_at, zipped, all_at, all_from, contains_in, contains_at}
 use Rattle.bt_decode.proofs.Solved.{Solved, Says, Denies}
@@ -52,7 +48,7 @@ use Rattle.bt_decode.proofs.PartFacts.{home, part_on, kept_part, own_at, well_pl
 use Rattle.bt_decode.proofs.HandFacts.{feeds_going}
 use Rattle.bt_decode.proofs.RingFacts.{link_cell, clean}
 use Rattle.bt_decode.proofs.EndFacts.{input_edge, output_edge, leaves_start, output_faces, fits, IsFirstOf, first_at, first_input, first_there, one_first_part, input_number, one_input_at}
-use Rattle.bt_decode.proofs.ChainFacts.{leaves_by, IsSplitterOf, splitter_is, splitter_there, one_splitter, splitter_number, same_stand, IsHalfOf, half_spot, IsLastOf, IsSourceOf, IsSinkOf, IsChainOf, chain_there}
+use Rattle.bt_decode.proofs.ChainFacts.{leaves_by, IsSplitterOf, splitter_is, splitter_there, one_splitter, splitter_number, same_stand, half_spot, IsLastOf, IsSourceOf, IsSinkOf, IsChainOf, chain_there}
 
 beside_apart : (dir : Dir) (c : Cell) → c ≡ beside dir c → ⊥
 beside_apart North c e = let x = ap (λ z. z.x) e in omega (arith, ints)
@@ -127,8 +123,7 @@ module _ (w : Solved) (parts : List Part) (lists : ListsEach (IsKeptPart w.r w.r
       let part = output.part in
       let faces = output_faces w parts lists i part output.is_i output in
       let inside = reached_inside w part.cell (kept_part w parts lists i part output.is_i).kept in
-      let last = runner_ends w part.cell inside faces.0 part.dir faces.1 faces.3 faces.2 in
-      (
+      let last = runner_ends w part.cell inside faces.0 part.dir faces.1 faces.3 faces.2 in (
         last.0,
         last.1,
         λ j l. one_there parts (well_placed w parts lists) j i part.cell
@@ -192,8 +187,7 @@ module _ (w : Solved) (parts : List Part) (lists : ListsEach (IsKeptPart w.r w.r
   input_source : (i : ℕ) (c : Cell) → IsInput parts i → IsAt parts i c → HasNumber (begins i c)
   input_source i c input at =
       let number = input_number w parts lists i input in
-      let edge = input_edge w number.0 number.1 in
-      (
+      let edge = input_edge w number.0 number.1 in (
         edge.0,
         edge_below w edge.0 edge.1 edge.2,
         λ chain of. by number.0 edge.0 number.2 chain.source (of_edge edge.0 edge.1 edge.2 (from.Input number.0) edge.3 chain of),
@@ -229,8 +223,7 @@ module _ (w : Solved) (parts : List Part) (lists : ListsEach (IsKeptPart w.r w.r
           let dirs : going.dir ≡ n.dir = one_dir w (half_at side.0 n.dir n.cell) on.inside going.of (shape.Half side.0) going.dir n.dir says on.says in
           let goes : Denies w (Still (half_at side.0 n.dir n.cell) n.dir) =
           subst (λ d. Denies w (Still (half_at side.0 n.dir n.cell) d)) dirs (subst (λ x. Denies w (Still x going.dir)) side.1 going.goes) in
-          let edge = handed_edge w t n.below n.cell n.dir n.inside n.at side.0 on.inside goes in
-          (
+          let edge = handed_edge w t n.below n.cell n.dir n.inside n.at side.0 on.inside goes in (
             edge.0,
             edge_below w edge.0 edge.1 edge.2,
             λ chain of. by t mine n side.0 side.1 edge.0 edge.1 edge.2 edge.3 edge.4 chain.source

@@ -1,6 +1,5 @@
 -- Where what comes to a cell goes, and marking it.
-use Rattle.std.proofs.Common.{◌≡◌, ◌⊎◌, ◌≢◌, ℕ, ◌+◌, ◌<◌, ◌≤◌, Bool, true, false, List, length, set, replicate, Option, Some, None, refl, sym, ◌∙◌, ap, subst, inl, inr, ⊎_elim, arith}
-use Rattle.std.specs.Option.{MatchOption}
+use Rattle.std.proofs.Common.{◌≡◌, ◌⊎◌, ◌≢◌, ℕ, ◌+◌, ◌<◌, Bool, true, false, List, length, set, replicate, Some, None, refl, sym, ◌∙◌, ap, subst, inl, inr, ⊎_elim, arith}
 use Rattle.std.proofs.lemmas.Bool.{cases_eq, cases_lt, false≢true}
 use Rattle.std.proofs.lemmas.List.{get_or-set_same, get_or-set_other, length-set, get_or_past, get_or-replicate, length-replicate}
 use Rattle.bt_parts.specs.declared.part.Cell.{Cell}
@@ -8,27 +7,23 @@ use Rattle.bt_parts.specs.declared.part.Dir.{Dir}
 use Rattle.bt_parts.specs.declared.part.Kind.TheVariants as kind
 use Rattle.bt_parts.specs.Cells.{step, steps, IsInside}
 use Rattle.bt_model.specs.Requests.{LayoutRequest, IsRequest}
-use Rattle.bt_place.specs.declared.fact.Content.TheVariants.{Empty, Turned}
-use Rattle.bt_place.specs.declared.fact.Fact.TheVariants.{Kind, Distance, Begins, HalfOn, Still}
-use Rattle.bt_place.specs.declared.fact.Half.{Half}
-use Rattle.bt_place.specs.declared.fact.Half.TheVariants.{Lesser, Greater}
+use Rattle.bt_place.specs.declared.fact.Content.TheVariants.{Empty}
+use Rattle.bt_place.specs.declared.fact.Fact.TheVariants.{Kind, Still}
 use Rattle.bt_place.specs.declared.fact.Shape.{Shape}
 use Rattle.bt_place.specs.declared.fact.Shape.TheVariants as shape
 use Rattle.bt_place.specs.Contents.{holds}
-use Rattle.bt_place.specs.Going.{givers}
 use Rattle.bt_place.specs.PlaceFormula.{most_distance}
-use Rattle.bt_decode.specs.Kept.{kind_of, IsReached, begun, half, handed, under, IsKept}
+use Rattle.bt_decode.specs.inner.Kept.{kind_of, IsReached, begun, half, handed, under, IsKept}
 use Rattle.bt_decode.specs.Solutions.{IsSolution}
 use Rattle.bt_decode.specs.inner.Spots.{spots_in, spot_in, cell_numbered, read_in}
-use Rattle.bt_decode.specs.inner.Reaching.{IsNext, IsStart, IsReach, IsAheadOf, TellsNext, IsMarked, AreMarks, Keeps, HasStarts}
-use Rattle.bt_decode.proofs.Readings.{In}
-use Rattle.bt_decode.proofs.Solved.{Solved, Says, Denies, said, not_said}
+use Rattle.bt_decode.specs.inner.Reaching.{IsNext, IsStart, IsReach, TellsNext, IsMarked, AreMarks, Keeps, HasStarts}
+use Rattle.bt_decode.proofs.Solved.{Says, said}
 use Rattle.bt_decode.proofs.CellFacts.{one_shape, one_dir, not_empty}
 use Rattle.bt_decode.proofs.GoingFacts.{giver_there, taker_there, going_inside, runner_goes, half_goes}
 use Rattle.bt_decode.proofs.TunnelFacts.{exit_there, one_distance}
 use Rattle.bt_decode.proofs.Arrivals.{reached_inside}
 use Rattle.bt_decode.proofs.HandFacts.{giver_no_entrance}
-use Rattle.bt_decode.proofs.Numbers.{spot_within, numbered_spot, spot_numbered, numbered_inside, one_number, solved_of}
+use Rattle.bt_decode.proofs.Numbers.{spot_within, spot_numbered, numbered_inside, one_number, solved_of}
 
 -- on the way from a start, what follows the last cell that was marked isn't marked yet
 pub record IsMarking (r : LayoutRequest) (assignment : List Bool) (before marks : List Bool) (start i : ℕ) : Type 0 where
@@ -203,9 +198,9 @@ module _ (r : LayoutRequest) (assignment : List Bool) (is : IsRequest r) (soluti
             (λ had. on.sound k k_lt had) (marked_cases marks i k marked);
         closed = λ k l k_lt l_lt marked way. ⊎_elim
             (λ e. inr (one_number r.rect l j (next_once (cell_numbered r.rect i) (cell_numbered r.rect l) (cell_numbered r.rect j)
-                (numbered_inside r.rect i is.grid on.within) (subst (λ x. IsNext r assignment (cell_numbered r.rect x) (cell_numbered r.rect l)) e way) next.1)))
+            (numbered_inside r.rect i is.grid on.within) (subst (λ x. IsNext r assignment (cell_numbered r.rect x) (cell_numbered r.rect l)) e way) next.1)))
             (λ had. inl (⊎_elim (λ done. marked_still marks i lt l done) (λ e. subst (λ x. IsMarked (set marks i true) x) (sym e) (marked_here marks i lt))
-                (on.closed k l k_lt l_lt had way)))
+            (on.closed k l k_lt l_lt had way)))
             (marked_cases marks i k marked);
         keeps = λ k marked. marked_still marks i lt k (on.keeps k marked);
         started = inl (⊎_elim (λ done. marked_still marks i lt start done) (λ e. subst (λ x. IsMarked (set marks i true) x) e (marked_here marks i lt)) on.started);
@@ -222,7 +217,7 @@ module _ (r : LayoutRequest) (assignment : List Bool) (is : IsRequest r) (soluti
         closed = λ k l k_lt l_lt marked way. ⊎_elim
             (λ e. absurd (none (cell_numbered r.rect l) (subst (λ x. IsNext r assignment (cell_numbered r.rect x) (cell_numbered r.rect l)) e way)))
             (λ had. ⊎_elim (λ done. marked_still marks i lt l done) (λ e. subst (λ x. IsMarked (set marks i true) x) (sym e) (marked_here marks i lt))
-                (on.closed k l k_lt l_lt had way))
+            (on.closed k l k_lt l_lt had way))
             (marked_cases marks i k marked);
       }
 

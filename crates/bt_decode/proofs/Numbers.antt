@@ -1,7 +1,6 @@
 -- Cells by their numbers, and what an assignment that is a solution reads.
-use Rattle.std.proofs.Common.{◌≡◌, ◌⊎◌, ◌≢◌, ℕ, ◌+◌, ◌-◌, ◌*◌, ◌/◌, ◌%◌, ◌<◌, ◌≤◌, pos, Bool, true, false, List, refl, sym, ◌∙◌, ap, subst, inl, inr, ⊎_elim, arith}
+use Rattle.std.proofs.Common.{◌≡◌, ℕ, ◌+◌, ◌-◌, ◌*◌, ◌/◌, ◌%◌, ◌<◌, ◌≤◌, Bool, true, false, List, sym, ◌∙◌, ap, subst, ⊎_elim, arith}
 use Rattle.std.specs.Prelude.{unsigned_abs}
-use Rattle.std.proofs.lemmas.Int.{ints}
 use Rattle.std.proofs.lemmas.Nat.{div-add-mod', div-mul-add, mod-mul-add}
 use Rattle.std.proofs.lemmas.Bool.{cases_lt, both_ways}
 use Rattle.std.proofs.Math.Nat.{mod-lt, mul-le-mul_right}
@@ -14,7 +13,6 @@ use Rattle.bt_cnf.specs.Assignments.{truth_in}
 use Rattle.bt_model.specs.Requests.{LayoutRequest, IsRequest, IsGrid, cell_at}
 use Rattle.bt_place.specs.declared.fact.Content.{Content}
 use Rattle.bt_place.specs.declared.fact.Content.TheVariants.{Empty, Turned}
-use Rattle.bt_place.specs.declared.fact.Fact.TheVariants.{Kind, Distance}
 use Rattle.bt_place.specs.declared.fact.Half.TheVariants.{Lesser, Greater}
 use Rattle.bt_place.specs.declared.fact.Shape.{Shape}
 use Rattle.bt_place.specs.declared.fact.Shape.TheVariants as shape

@@ -1,26 +1,20 @@
 -- The parts of the cells that are reached, by what the cells hold.
-use Rattle.std.proofs.Common.{◌≡◌, ◌⊎◌, ◌≢◌, ℕ, ◌+◌, ◌<◌, ◌≤◌, Bool, true, false, List, length, Some, refl, sym, ◌∙◌, ap, subst, inl, inr, ⊎_elim, arith}
-use Rattle.std.specs.List.{Contains, AllPairs, slice_get}
+use Rattle.std.proofs.Common.{◌≡◌, ◌≢◌, ℕ, List, length, refl, sym, ◌∙◌, ap, subst, inl, inr, arith}
 use Rattle.std.proofs.lemmas.Option.{slice_get_within, slice_get_read, get_or_from_slice_get}
 use Rattle.bt_parts.specs.declared.part.Cell.{Cell}
 use Rattle.bt_parts.specs.declared.part.Dir.{Dir}
-use Rattle.bt_parts.specs.declared.part.Kind.{Kind}
 use Rattle.bt_parts.specs.declared.part.Kind.TheVariants as kind
 use Rattle.bt_parts.specs.declared.part.Part.{Part}
-use Rattle.bt_parts.specs.declared.part.Tier.{Tier}
-use Rattle.bt_parts.specs.Cells.{step, steps, opposite, beside, Covers, IsInside}
-use Rattle.bt_parts.specs.Layouts.{HasPart, IsAt, ShareCell, IsWellPlaced}
-use Rattle.bt_parts.proofs.Places.{same_part, covers_at}
+use Rattle.bt_parts.specs.Cells.{beside, Covers, IsInside}
+use Rattle.bt_parts.specs.Layouts.{HasPart, IsAt, IsWellPlaced}
 use Rattle.bt_model.specs.Shown.{ListsEach}
 use Rattle.bt_model.proofs.Sorted.{one_place}
-use Rattle.bt_place.specs.declared.fact.Fact.{Fact}
-use Rattle.bt_place.specs.declared.fact.Half.{Half}
 use Rattle.bt_place.specs.declared.fact.Half.TheVariants.{Lesser, Greater}
 use Rattle.bt_place.specs.declared.fact.Shape.{Shape}
 use Rattle.bt_place.specs.declared.fact.Shape.TheVariants as shape
 use Rattle.bt_place.specs.Contents.{holds}
 use Rattle.bt_place.specs.Spots.{before}
-use Rattle.bt_decode.specs.Kept.{kind_of, IsReached, half, IsKeptPart}
+use Rattle.bt_decode.specs.inner.Kept.{kind_of, half, IsKeptPart}
 use Rattle.bt_decode.proofs.Geometry.{before-beside, beside-before}
 use Rattle.bt_decode.proofs.Solved.{Solved, Says}
 use Rattle.bt_decode.proofs.CellFacts.{one_shape, one_dir, half_on, mate_there}

@@ -1,11 +1,8 @@
 -- Pins and blocks.
-use Rattle.std.proofs.Common.{◌≡◌, ◌⊎◌, ◌≢◌, ℕ, Bool, true, List, [], ◌∷◌, map, Option, Some, None, refl, sym, ◌∙◌, ap, subst, inl, inr, ⊎_elim}
-use Rattle.std.specs.List.{flat_map}
+use Rattle.std.proofs.Common.{◌≡◌, [], ◌∷◌, map, Option, Some, None, sym, ⊎_elim}
 use Rattle.std.specs.Option.{IfSome}
-use Rattle.bt_parts.specs.declared.part.Cell.{Cell}
 use Rattle.bt_parts.specs.declared.part.Dir.{Dir}
 use Rattle.bt_net.specs.declared.network.Block.{Block}
-use Rattle.bt_net.specs.declared.network.End.{End}
 use Rattle.bt_net.specs.declared.network.Pin.{Pin}
 use Rattle.bt_model.specs.Requests.{pinned, blocked}
 use Rattle.bt_place.specs.declared.fact.Content.TheVariants.{Empty}

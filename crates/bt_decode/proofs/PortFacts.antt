@@ -1,6 +1,6 @@
 -- Ports: by which half of its splitter an edge leaves; and pins and blocks.
-use Rattle.std.proofs.Common.{◌≡◌, ◌⊎◌, ◌≢◌, ℕ, ◌+◌, ◌<◌, Bool, true, false, List, [], ◌∷◌, ◌++◌, length, map, cond, Some, refl, sym, ◌∙◌, ap, subst, inl, inr, ⊎_elim, arith}
-use Rattle.std.specs.List.{flat_map, filter, enumerate_from, slice_get}
+use Rattle.std.proofs.Common.{◌≡◌, ◌⊎◌, ℕ, ◌<◌, true, List, [], ◌∷◌, ◌++◌, map, Some, refl, subst, inl, inr, ⊎_elim, arith}
+use Rattle.std.specs.List.{flat_map, enumerate_from, slice_get}
 use Rattle.bt_parts.specs.declared.part.Cell.{Cell}
 use Rattle.bt_parts.specs.declared.part.Dir.{Dir}
 use Rattle.bt_parts.specs.Cells.{step, IsInside}
@@ -8,14 +8,13 @@ use Rattle.bt_net.specs.declared.network.Edge.{Edge}
 use Rattle.bt_net.specs.declared.network.Target.{Target}
 use Rattle.bt_net.specs.declared.network.Target.TheVariants as to
 use Rattle.bt_net.specs.Network.{leaves, enters}
-use Rattle.bt_place.specs.declared.fact.Fact.{Fact}
 use Rattle.bt_place.specs.declared.fact.Fact.TheVariants.{Name, Label, Leaves, Enters, Still, At}
 use Rattle.bt_place.specs.declared.fact.Half.{Half}
 use Rattle.bt_place.specs.declared.fact.Half.TheVariants.{Lesser, Greater}
 use Rattle.bt_place.specs.Ports.{edges_from, edges_into, one_port_rules, apart_rules, goes_on, at_once_rules, leaving_rules, entering_rule, half_port_rules, standing_port_rules}
-use Rattle.bt_place.specs.Rules.{Rule, rule, not_all, at_most_one, OneHolds, Keeps}
+use Rattle.bt_place.specs.Rules.{Rule, rule, at_most_one, OneHolds, Keeps}
 use Rattle.bt_place.specs.Spots.{dirs, halves, half_at, where_inside, cells_of}
-use Rattle.bt_decode.proofs.Readings.{In, in_map, all_left, all_right, all_mapped, all_flat, one_mapped, one_holds}
+use Rattle.bt_decode.proofs.Readings.{In, in_map, all_left, all_right, all_flat, one_mapped, one_holds}
 use Rattle.bt_decode.proofs.Geometry.{in_dirs, in_halves, in_cells, in_filter, filter_has, where_in}
 use Rattle.bt_decode.proofs.Solved.{Solved, Says, Denies, denied, not_said, Kept, port_kept}
 use Rattle.bt_decode.proofs.LabelFacts.{IsEdge, in_enumerated, enumerated}

@@ -1,9 +1,9 @@
 -- What lists of rules say of a reading of facts.
-use Rattle.std.proofs.Common.{◌≡◌, ◌⊎◌, ◌≢◌, ℕ, zero, suc, ◌+◌, ◌<◌, ◌≤◌, Bool, true, false, List, [], ◌∷◌, ◌++◌, map, refl, sym, ◌∙◌, ap, subst, inl, inr, ⊎_elim, arith}
+use Rattle.std.proofs.Common.{◌≡◌, ◌⊎◌, ℕ, zero, suc, ◌+◌, ◌<◌, ◌≤◌, Bool, true, false, List, [], ◌∷◌, ◌++◌, map, refl, sym, ◌∙◌, ap, subst, inl, inr, ⊎_elim, arith}
 use Rattle.std.specs.List.{AllByRecursion, flat_map, range_with_len}
-use Rattle.std.proofs.lemmas.Bool.{both_ways, cases_order, cases_lt}
+use Rattle.std.proofs.lemmas.Bool.{both_ways, cases_order}
 use Rattle.bt_place.specs.declared.fact.Fact.{Fact}
-use Rattle.bt_place.specs.Rules.{Rule, rule, not_all, some_of, at_most_one, all_but_one, AllHold, OneHolds, Keeps}
+use Rattle.bt_place.specs.Rules.{not_all, some_of, at_most_one, all_but_one, OneHolds, Keeps}
 
 -- x is one of the list
 abbrev pub In : {X : Type 0} → X → List X → Type 0

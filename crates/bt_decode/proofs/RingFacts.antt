@@ -1,32 +1,31 @@
 -- No kept part is on a ring, so that the kept parts are clean.
-use Rattle.std.proofs.Common.{◌≡◌, ◌⊎◌, ◌≢◌, ℕ, ◌≤◌, Bool, true, false, List, [], ◌∷◌, refl, sym, ◌∙◌, ap, subst, inl, inr, ⊎_elim}
+use Rattle.std.proofs.Common.{◌≡◌, ◌⊎◌, ◌≢◌, ℕ, List, refl, sym, ◌∙◌, ap, subst, inl, inr, ⊎_elim}
 use Rattle.bt_parts.specs.declared.part.Cell.{Cell}
 use Rattle.bt_parts.specs.declared.part.Dir.{Dir}
 use Rattle.bt_parts.specs.declared.part.Kind.TheVariants as kind
 use Rattle.bt_parts.specs.declared.part.Part.{Part}
 use Rattle.bt_parts.specs.Cells.{step, steps, IsInside}
-use Rattle.bt_parts.specs.Layouts.{HasPart, IsAt, Pairs}
+use Rattle.bt_parts.specs.Layouts.{IsAt, Pairs}
 use Rattle.bt_parts.proofs.Places.{same_part, own_cell, covers_at}
 use Rattle.bt_model.specs.Chains.{IsLink, Path, one, more}
 use Rattle.bt_model.specs.Clean.{IsOnRing, IsClean}
-use Rattle.bt_model.specs.Handing.{FeedsFrom, Feeds, Hands}
+use Rattle.bt_model.specs.Handing.{Feeds, Hands}
 use Rattle.bt_model.specs.Shown.{ListsEach}
-use Rattle.bt_place.specs.declared.fact.Fact.TheVariants.{Distance, Begins, HalfOn, Still}
+use Rattle.bt_place.specs.declared.fact.Fact.TheVariants.{Begins, Still}
 use Rattle.bt_place.specs.declared.fact.Shape.{Shape}
 use Rattle.bt_place.specs.declared.fact.Shape.TheVariants as shape
 use Rattle.bt_place.specs.Contents.{holds}
-use Rattle.bt_place.specs.PlaceFormula.{most_distance}
 use Rattle.bt_place.specs.Spots.{behind}
-use Rattle.bt_decode.specs.Kept.{kind_of, IsReached, begun, half, handed, under, IsKeptPart}
+use Rattle.bt_decode.specs.inner.Kept.{kind_of, begun, half, handed, under, IsKeptPart}
 use Rattle.bt_decode.proofs.Readings.{In}
 use Rattle.bt_decode.proofs.Geometry.{behind-step}
 use Rattle.bt_decode.proofs.Solved.{Solved, Says, Denies}
 use Rattle.bt_decode.proofs.CellFacts.{one_shape, half_there}
-use Rattle.bt_decode.proofs.GoingFacts.{taker_there, begun_there, begun_still, going_inside}
+use Rattle.bt_decode.proofs.GoingFacts.{taker_there, begun_there, begun_still}
 use Rattle.bt_decode.proofs.TunnelFacts.{exit_there}
 use Rattle.bt_decode.proofs.Arrivals.{Reached, reached_inside, takes_no_exit}
-use Rattle.bt_decode.proofs.PartFacts.{part_on, Standing, part_there, standing, part_at, at_there, own_at, well_placed}
-use Rattle.bt_decode.proofs.HandFacts.{Going, feeds_going, one_near, pair_there, one_entrance, pieces_paired, none_side_loaded, none_blocked}
+use Rattle.bt_decode.proofs.PartFacts.{part_there, standing, part_at, at_there, own_at, well_placed}
+use Rattle.bt_decode.proofs.HandFacts.{feeds_going, one_near, pair_there, one_entrance, pieces_paired, none_side_loaded, none_blocked}
 
 -- each part of a path is its first, or one of the path hands to it
 pub path_before : (parts : List Part) (i last : ℕ) (links : List ℕ) → Path parts i last links → (j : ℕ) → In j links
@@ -35,8 +34,7 @@ path_before parts i last links (one a link) j (inl e) = (subst (IsLink parts) (s
 path_before parts i last links (one a link) j (inr none) = absurd none
 path_before parts i last links (more a b l rest link hands path) j (inl e) = (subst (IsLink parts) (sym e) link, inl e)
 path_before parts i last links (more a b l rest link hands path) j (inr there) =
-    let found = path_before parts b l rest path j there in
-    (
+    let found = path_before parts b l rest path j there in (
       found.0,
       ⊎_elim (λ e. inr (a, inl refl, subst (Hands parts a) (sym e) hands)) (λ before. inr (before.0, inr before.1, before.2)) found.1,
     )
@@ -55,8 +53,7 @@ IsClosed parts links = (j : ℕ) → In j links → IsLink parts j × ((k : ℕ)
 
 ring_closed : (parts : List Part) (i : ℕ) (ring : IsOnRing parts i) → IsClosed parts ring.links
 ring_closed parts i ring j there =
-    let found = path_before parts i ring.last ring.links ring.path j there in
-    (
+    let found = path_before parts i ring.last ring.links ring.path j there in (
       found.0,
       ⊎_elim (λ e. (ring.last, path_last parts i ring.last ring.links ring.path, subst (Hands parts ring.last) (sym e) ring.closed)) (λ before. before) found.1,
     )

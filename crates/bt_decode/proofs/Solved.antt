@@ -1,9 +1,8 @@
 -- A request with a reading of the facts that keeps its rules: the rules family by family.
-use Rattle.std.proofs.Common.{◌≡◌, ◌⊎◌, ℕ, ◌+◌, ◌<◌, Bool, true, false, List, [], ◌∷◌, ◌++◌, length, map, refl, sym, ap, subst, inl, inr, ⊎_elim, arith}
+use Rattle.std.proofs.Common.{◌≡◌, ◌⊎◌, ℕ, ◌<◌, Bool, true, false, List, ◌++◌, length, map, subst, ⊎_elim, arith}
 use Rattle.std.specs.List.{AllByRecursion, flat_map, range_with_len}
 use Rattle.std.proofs.lemmas.Bool.{both_ways, cases_Bool}
 use Rattle.bt_parts.specs.declared.part.Cell.{Cell}
-use Rattle.bt_parts.specs.declared.part.Rect.{Rect}
 use Rattle.bt_parts.specs.Cells.{IsInside}
 use Rattle.bt_net.specs.declared.network.Block.{Block}
 use Rattle.bt_net.specs.declared.network.Pin.{Pin}
@@ -20,7 +19,7 @@ use Rattle.bt_place.specs.Rules.{Rule, Keeps, OneHolds}
 use Rattle.bt_place.specs.Spots.{cells_of, where_inside, where_outside}
 use Rattle.bt_place.specs.Standing.{standing_rules, place_rules}
 use Rattle.bt_place.specs.Underground.{underground_rules}
-use Rattle.bt_decode.proofs.Readings.{In, all_in, all_left, all_right, all_mapped, all_flat, in_range}
+use Rattle.bt_decode.proofs.Readings.{In, all_left, all_right, all_mapped, all_flat, in_range}
 use Rattle.bt_decode.proofs.Geometry.{in_cells, inside_cases, where_in, where_out, out_in, out_out}
 
 -- the reading keeps each rule of the request

@@ -1,17 +1,16 @@
 -- Underground pairs: how far an entrance's exit lies, and what isn't between.
-use Rattle.std.proofs.Common.{◌≡◌, ◌⊎◌, ◌≢◌, ℕ, ◌+◌, ◌-◌, ◌<◌, ◌≤◌, Bool, true, false, List, [], ◌∷◌, ◌++◌, length, map, refl, sym, ◌∙◌, ap, subst, inl, inr, ⊎_elim, arith}
+use Rattle.std.proofs.Common.{◌≡◌, ℕ, ◌-◌, ◌<◌, ◌≤◌, List, [], ◌∷◌, ◌++◌, length, map, subst, ⊎_elim, arith}
 use Rattle.std.specs.List.{flat_map, range_with_len}
 use Rattle.bt_parts.specs.declared.part.Cell.{Cell}
 use Rattle.bt_parts.specs.declared.part.Dir.{Dir}
 use Rattle.bt_parts.specs.Cells.{step, steps, opposite, IsInside}
-use Rattle.bt_place.specs.declared.fact.Fact.{Fact}
 use Rattle.bt_place.specs.declared.fact.Fact.TheVariants.{Label, Distance, Tunnel}
 use Rattle.bt_place.specs.declared.fact.Shape.TheVariants as shape
 use Rattle.bt_place.specs.Contents.{holds}
 use Rattle.bt_place.specs.PlaceFormula.{most_distance}
 use Rattle.bt_place.specs.Rules.{Rule, rule, not_all, at_most_one, Keeps}
 use Rattle.bt_place.specs.Spots.{dirs, where_inside, where_outside}
-use Rattle.bt_place.specs.Underground.{tunnel_into, tunnel_rules, distance_rules, pair_label_rules, entrance_rules}
+use Rattle.bt_place.specs.Underground.{tunnel_rules, distance_rules, pair_label_rules, entrance_rules}
 use Rattle.bt_decode.proofs.Readings.{In, in_map, in_range, range_has, all_left, all_right, all_mapped, all_flat, one_mapped, one_holds}
 use Rattle.bt_decode.proofs.Geometry.{in_dirs, where_in}
 use Rattle.bt_decode.proofs.Solved.{Solved, Says, Kept, one_inside, underground_kept}

@@ -1,6 +1,5 @@
 -- The assignments that are decoded, and the order of the parts.
 use Rattle.std.specs.Prelude.{◌≡◌, ℕ, Bool, List, ◌⊎◌, ◌<ℤ◌}
-use Rattle.bt_parts.specs.declared.part.Cell.{Cell}
 use Rattle.bt_parts.specs.declared.part.Part.{Part}
 use Rattle.bt_frac.specs.Ratio.{Ratio}
 use Rattle.bt_cnf.specs.Assignments.{truth_in}

@@ -1,3 +1,4 @@
 -- What private functions alone cite: no public clause rests on these.
+pub mod Kept
 pub mod Spots
 pub mod Reaching

@@ -99,7 +99,10 @@ fn content_numbered(number: usize) -> Content
     if number == 0 {
         return Content::Empty;
     }
-    Content::Turned(shape_numbered((number - 1) / 4), dir_numbered((number - 1) % 4))
+    Content::Turned(
+        shape_numbered((number - 1) / 4),
+        dir_numbered((number - 1) % 4),
+    )
 }
 
 /// What the cell with this number holds.

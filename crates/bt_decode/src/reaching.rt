@@ -3,7 +3,7 @@
 //!
 //! Each cell is marked once, so that this takes no more steps than there are cells.
 ghost use Rattle.std.specs.Prelude.{◌≡◌, ◌↔◌, ◌<◌, IsTrue, IfOk};
-ghost use Rattle.bt_decode.specs.Kept.{IsKept};
+ghost use Rattle.bt_decode.specs.inner.Kept.{IsKept};
 ghost use Rattle.bt_decode.specs.Solutions.{IsSolution};
 ghost use Rattle.bt_decode.specs.inner.Spots.{spots_in, cell_numbered, read_in};
 ghost use Rattle.bt_decode.specs.inner.Reaching.{IsStart, TellsNext, IsMarked, AreMarks, Keeps, HasStarts};

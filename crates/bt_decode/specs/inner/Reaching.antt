@@ -7,15 +7,14 @@ use Rattle.bt_parts.specs.declared.part.Part.{Part}
 use Rattle.bt_parts.specs.declared.part.Rect.{Rect}
 use Rattle.bt_parts.specs.Cells.{step, steps, IsInside}
 use Rattle.bt_model.specs.Requests.{LayoutRequest}
-use Rattle.bt_place.specs.declared.fact.Fact.{Fact}
 use Rattle.bt_place.specs.declared.fact.Fact.TheVariants.{Distance, Begins, HalfOn, Still}
 use Rattle.bt_place.specs.declared.fact.Half.TheVariants.{Greater}
 use Rattle.bt_place.specs.declared.fact.Shape.{Shape}
 use Rattle.bt_place.specs.declared.fact.Shape.TheVariants as shape
 use Rattle.bt_place.specs.Contents.{holds}
 use Rattle.bt_place.specs.PlaceFormula.{most_distance}
-use Rattle.bt_decode.specs.Kept.{kind_of, IsKept}
-use Rattle.bt_decode.specs.inner.Spots.{spots_in, spot_in, cell_numbered, read_in}
+use Rattle.bt_decode.specs.inner.Kept.{kind_of, IsKept}
+use Rattle.bt_decode.specs.inner.Spots.{spots_in, cell_numbered, read_in}
 
 -- what comes to the cell is handed on to this one, or goes to it under the ground
 abbrev pub IsNext : LayoutRequest → List Bool → Cell → Cell → Type 0
@@ -42,7 +41,8 @@ IsAheadOf rect c dir k found = MatchOption found (IsInside rect (steps k dir c) 
 -- the number of the next cell, if there is one
 abbrev pub TellsNext : LayoutRequest → List Bool → ℕ → Option ℕ → Type 0
 TellsNext r assignment i found = MatchOption found ((n : Cell) → IsNext r assignment (cell_numbered r.rect i) n → ⊥)
-    (λ j. (j < spots_in r.rect) × IsNext r assignment (cell_numbered r.rect i) (cell_numbered r.rect j))
+    (λ j. (j < spots_in r.rect)
+    × IsNext r assignment (cell_numbered r.rect i) (cell_numbered r.rect j))
 
 -- the cell with this number is marked
 abbrev pub IsMarked : List Bool → ℕ → Type 0
@@ -51,7 +51,8 @@ IsMarked marks i = slice_index_or marks i false ≡ true
 -- marked cells are reached, and what comes from them comes to marked cells
 pub record AreMarks (r : LayoutRequest) (assignment : List Bool) (marks : List Bool) : Type 0 where
   pub count : length marks ≡ spots_in r.rect
-  pub sound : (i : ℕ) → i < spots_in r.rect → IsMarked marks i → IsKept r (read_in r assignment) (cell_numbered r.rect i)
+  pub sound : (i : ℕ) → i < spots_in r.rect → IsMarked marks i
+      → IsKept r (read_in r assignment) (cell_numbered r.rect i)
   pub closed : (i j : ℕ) → i < spots_in r.rect → j < spots_in r.rect → IsMarked marks i
       → IsNext r assignment (cell_numbered r.rect i) (cell_numbered r.rect j) → IsMarked marks j
 
@@ -61,11 +62,13 @@ Keeps old new = (i : ℕ) → IsMarked old i → IsMarked new i
 
 -- the starts up to here are marked
 abbrev pub HasStarts : LayoutRequest → List Bool → List Bool → ℕ → Type 0
-HasStarts r assignment marks n = (i : ℕ) → i < n → i < spots_in r.rect → IsStart r assignment (cell_numbered r.rect i) → IsMarked marks i
+HasStarts r assignment marks n = (i : ℕ) → i < n → i < spots_in r.rect
+    → IsStart r assignment (cell_numbered r.rect i) → IsMarked marks i
 
 -- the kind of the part whose own cell has this shape
 abbrev pub TellsKind : Shape → Option Kind → Type 0
-TellsKind of found = MatchOption found (of ≡ shape.Half Greater) (λ kind. (kind ≡ kind_of of) × (of ≢ shape.Half Greater))
+TellsKind of found = MatchOption found (of ≡ shape.Half Greater)
+    (λ kind. (kind ≡ kind_of of) × (of ≢ shape.Half Greater))
 
 -- the part stands on its cell with this shape, and has the request's tier
 pub record StandsAs (r : LayoutRequest) (assignment : List Bool) (part : Part) (of : Shape) : Type 0 where
@@ -77,5 +80,6 @@ pub record StandsAs (r : LayoutRequest) (assignment : List Bool) (part : Part) (
 -- the part of which the cell with this number is the own one, if there is one
 abbrev pub TellsPart : LayoutRequest → List Bool → ℕ → Option Part → Type 0
 TellsPart r assignment i found = MatchOption found
-    ((of : Shape) (dir : Dir) → of ≢ shape.Half Greater → read_in r assignment (holds (cell_numbered r.rect i) of dir) ≡ true → ⊥)
+    ((of : Shape) (dir : Dir) → of ≢ shape.Half Greater
+    → read_in r assignment (holds (cell_numbered r.rect i) of dir) ≡ true → ⊥)
     (λ part. (part.cell ≡ cell_numbered r.rect i) × ((of : Shape) × StandsAs r assignment part of))

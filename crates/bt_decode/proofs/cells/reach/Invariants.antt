@@ -1,4 +1,4 @@
-use Rattle.std.proofs.Common.{◌≡◌, ℕ, ◌+◌, ◌*◌, ◌<◌, false}
+use Rattle.std.proofs.Common.{◌≡◌, ℕ, ◌+◌, ◌<◌, false}
 use Rattle.bt_cnf.specs.Assignments.{truth_in}
 use Rattle.bt_decode.proofs.cells.reach.Given as goal
 

@@ -1,7 +1,7 @@
-use Rattle.std.proofs.Common.{◌≡◌, ◌+◌, ◌<◌, Bool, true, false, List, length, ap, sym, ◌∙◌, subst, arith}
+use Rattle.std.proofs.Common.{◌≡◌, ◌+◌, ◌<◌, ap, sym, ◌∙◌, subst, arith}
 use Rattle.std.proofs.lemmas.Bool.{both_ways}
 use Rattle.bt_decode.specs.inner.Spots.{spots_in}
-use Rattle.bt_decode.specs.inner.Reaching.{IsMarked, HasStarts}
+use Rattle.bt_decode.specs.inner.Reaching.{IsMarked}
 use Rattle.bt_decode.proofs.Gathering.{IsGathered, mark_read, gathered_unmarked, gathered_none, gathered_more, gathered_lays, gathered_order}
 use Rattle.bt_decode.proofs.decoding.decode.Goals as goal
 use Rattle.bt_decode.proofs.decoding.decode.Goals.{in-Some+in_ok-push, in_default}
@@ -21,14 +21,14 @@ loop-i-preserved c =
     let read = mark_read marks c.loop-i.i c.index.result.now (subst (λ n. c.loop-i.i < n) (sym c.in_ok-marks.ensures.marks.count) within) c.index.ensures in
     let marked : IsMarked marks c.loop-i.i = read ∙ c.if-not-index.false in
     elim c.match-part_on.branch [
-      in-Some+in_ok-push w ↦
-        subst (λ items. IsGathered c.args.request.now c.args.assignment.now (c.loop-i.i + 1) items) (sym w.in_ok-push.ensures.items ∙ ap (λ v. v.items) (sym w.parts-is))
-        (gathered_more c.args.request.now c.args.assignment.now c.known.ensures c.requires marks c.in_ok-marks.ensures.marks c.loop-i.i within c.loop-i.parts.items c.loop-i.invariant
-        w.in-Some.part marked w.in-Some.ensures.0 w.in-Some.ensures.1.0 w.in-Some.ensures.1.1)
-    | in_default w ↦
-        subst (λ v. IsGathered c.args.request.now c.args.assignment.now (c.loop-i.i + 1) v.items) (sym w.parts-is)
-        (gathered_none c.args.request.now c.args.assignment.now c.known.ensures c.requires marks c.in_ok-marks.ensures.marks c.loop-i.i within c.loop-i.parts.items c.loop-i.invariant
-        w.in_default.ensures)
+      | in-Some+in_ok-push w ↦
+          subst (λ items. IsGathered c.args.request.now c.args.assignment.now (c.loop-i.i + 1) items) (sym w.in_ok-push.ensures.items ∙ ap (λ v. v.items) (sym w.parts-is))
+          (gathered_more c.args.request.now c.args.assignment.now c.known.ensures c.requires marks c.in_ok-marks.ensures.marks c.loop-i.i within c.loop-i.parts.items c.loop-i.invariant
+          w.in-Some.part marked w.in-Some.ensures.0 w.in-Some.ensures.1.0 w.in-Some.ensures.1.1)
+      | in_default w ↦
+          subst (λ v. IsGathered c.args.request.now c.args.assignment.now (c.loop-i.i + 1) v.items) (sym w.parts-is)
+          (gathered_none c.args.request.now c.args.assignment.now c.known.ensures c.requires marks c.in_ok-marks.ensures.marks c.loop-i.i within c.loop-i.parts.items c.loop-i.invariant
+          w.in_default.ensures)
     ]
 
 pub returns-clause-lays : goal.returns-clause-lays

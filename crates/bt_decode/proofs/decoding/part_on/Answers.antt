@@ -1,4 +1,3 @@
-use Rattle.std.proofs.Common.{◌∙◌}
 use Rattle.bt_decode.proofs.Gathering.{none_on_empty, none_on_greater}
 use Rattle.bt_decode.proofs.decoding.part_on.Goals as goal
 

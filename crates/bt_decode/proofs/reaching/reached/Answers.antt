@@ -1,7 +1,6 @@
-use Rattle.std.proofs.Common.{◌≡◌, ◌+◌, ◌<◌, sym, subst, arith}
+use Rattle.std.proofs.Common.{◌+◌, ◌<◌, sym, subst, arith}
 use Rattle.std.proofs.lemmas.Bool.{both_ways}
-use Rattle.bt_decode.specs.inner.Spots.{spots_in}
-use Rattle.bt_decode.specs.inner.Reaching.{AreMarks, HasStarts, IsMarked}
+use Rattle.bt_decode.specs.inner.Reaching.{AreMarks, HasStarts}
 use Rattle.bt_decode.proofs.Marking.{none_marked, start_kept, starts_more}
 use Rattle.bt_decode.proofs.reaching.reached.Goals as goal
 use Rattle.bt_decode.proofs.reaching.reached.Goals.{then-starts, else-starts}
@@ -25,13 +24,13 @@ loop-i-preserved c =
     let i = c.loop-i.i in
     record {
       are = elim c.if-starts.branch [
-        then-starts w ↦ subst (λ v. AreMarks r a v.items) (sym w.marks-is) w.mark_from.ensures.marks
-      | else-starts w ↦ subst (λ v. AreMarks r a v.items) (sym w.marks-is) c.loop-i.invariant.are
+        | then-starts w ↦ subst (λ v. AreMarks r a v.items) (sym w.marks-is) w.mark_from.ensures.marks
+        | else-starts w ↦ subst (λ v. AreMarks r a v.items) (sym w.marks-is) c.loop-i.invariant.are
       ];
       starts = elim c.if-starts.branch [
-        then-starts w ↦ subst (λ v. HasStarts r a v.items (i + 1)) (sym w.marks-is)
+        | then-starts w ↦ subst (λ v. HasStarts r a v.items (i + 1)) (sym w.marks-is)
             (starts_more r a c.loop-i.marks.items w.mark_from.new.marks.items i w.mark_from.ensures.keeps c.loop-i.invariant.starts (λ start. w.mark_from.ensures.start))
-      | else-starts w ↦ subst (λ v. HasStarts r a v.items (i + 1)) (sym w.marks-is)
+        | else-starts w ↦ subst (λ v. HasStarts r a v.items (i + 1)) (sym w.marks-is)
             (starts_more r a c.loop-i.marks.items c.loop-i.marks.items i (λ k marked. marked) c.loop-i.invariant.starts
             (λ start. absurd (both_ways c.starts.result w.if-starts.false (c.starts.ensures.1 start))))
       ];
