@@ -97,7 +97,7 @@ coefficient_named column [] part is = cc
 coefficient_named column (term ∷ terms) part is =
     coefficient_named_by column term terms part (term.0 == column) refl is (coefficient_named column terms part)
 
-named_at : (front : List (RowParts × Ratio)) (here : RowParts × Ratio) (rest : List (RowParts × Ratio)) (column : ℕ) → Contains (columns_of here.0.terms) column
+pub named_at : (front : List (RowParts × Ratio)) (here : RowParts × Ratio) (rest : List (RowParts × Ratio)) (column : ℕ) → Contains (columns_of here.0.terms) column
     → Contains (columns_in (map (λ r. r.0) (front ++ here ∷ rest))) column
 named_at [] here rest column h = Contains-append_left (columns_of here.0.terms) (columns_in (map (λ r. r.0) rest)) column h
 named_at (x ∷ front) here rest column h =

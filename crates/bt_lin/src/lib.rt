@@ -17,6 +17,7 @@ mod weighing;
 mod wide;
 
 pub use law::false_sums_fail;
+pub use places::{Place, part};
 pub use signs::may_weigh;
 pub use values::eval;
 pub use weigher::Weigher;

@@ -5,6 +5,7 @@ pub mod Failing
 pub mod FirstForms
 pub mod FirstLines
 pub mod Indicators
+pub mod LineWeights
 pub mod Meeting
 pub mod Numbers
 pub mod OneForm
@@ -20,4 +21,5 @@ pub mod Totals
 pub mod Turned
 pub mod UnfitTurns
 pub mod Walks
+pub mod WideSums
 pub mod Zeros

@@ -229,6 +229,42 @@ module _ (t : TableauParts) (p : ℕ) (terms line : Terms) (tableau : IsTableau 
           let number = (number_has q terms (Some n) of_terms.0.numbers (sym e)).0 in
           e ∙ ap (λ r. Some r) (lowest_same n z number low (next (back (total_at q 0 terms n of_terms.0 e)) (next (back sum) here)).same)
 
+  -- the line has -1 at its position
+  pub own_named : coefficient_at p line ≡ Some (negated one)
+  own_named = by (coefficient_at p line) refl
+    where
+      by : (o : Option Ratio) → coefficient_at p line ≡ o → coefficient_at p line ≡ Some (negated one)
+      by None e =
+          let none = lacking_total p line is_line.numbers (none_lacks p line e) in
+          let rest = lacking_total p terms of_terms.0.numbers (none_lacks p terms lacks) in
+          let first : Alike (negated (indicator p p)) (negated one) = subst (λ r. Alike (negated r) (negated one)) (sym (here_is p p refl)) (itself (negated one) one_some) in
+          let sum = next (line_total (indicator p) (indicator_some p)) (next (both_plus first rest) (next (swap_plus (negated one) nothing one_some nothing_some) (drop_zero nothing (negated one) nothing_some one_some refl))) in
+          let zero : (negated one).over ≡ pos 0 = zero_of (negated one) (next (back sum) none) in
+          absurd (omega (arith, ints, zero))
+      by (Some z) e = elim (entry_is p z e) [
+        | inl own ↦ e ∙ ap (λ r. Some r) own.1
+        | inr theirs ↦ let both : None ≡ Some z = sym lacks ∙ theirs in absurd cc
+      ]
+
+  -- and every number of the terms
+  pub theirs_named : (q : ℕ) (n : Ratio) → coefficient_at q terms ≡ Some n → coefficient_at q line ≡ Some n
+  theirs_named q n named = by (coefficient_at q line) refl
+    where
+      apart : p ≢ q
+      apart same = let both : None ≡ Some n = sym lacks ∙ ap (λ m. coefficient_at m terms) same ∙ named in absurd cc
+
+      by : (o : Option Ratio) → coefficient_at q line ≡ o → coefficient_at q line ≡ Some n
+      by None e =
+          let none = lacking_total q line is_line.numbers (none_lacks q line e) in
+          let zero : (negated (indicator q p)).over ≡ pos 0 = ap (λ r. (negated r).over) (other_is q p apart) in
+          let sum = next (line_total (indicator q) (indicator_some q))
+          (drop_zero (negated (indicator q p)) (total (indicator q) terms) (indicator_some q p) (total_positive (indicator q) (indicator_some q) terms of_terms.0.numbers) zero) in
+          absurd ((number_has q terms (Some n) of_terms.0.numbers (sym named)).1 (zero_of n (next (back (next sum (total_at q 0 terms n of_terms.0 named))) none)))
+      by (Some z) e = elim (entry_is q z e) [
+        | inl own ↦ absurd (apart (sym own.0))
+        | inr theirs ↦ e ∙ sym theirs ∙ named
+      ]
+
 -- what holds of each number of a line
 pub line_all : (P : ℕ × Ratio → Type 0) (line : Terms) → IsLine line → ((q : ℕ) (z : Ratio) → coefficient_at q line ≡ Some z → P (q, z)) → All P line
 line_all P line is_line h i d inside = h (get_or line i d).0 (get_or line i d).1 (number_at_place 0 line i d is_line inside)
@@ -597,10 +633,8 @@ module _ (t : TableauParts) (p : ℕ) (terms line : Terms) (above : Bool) (table
       All-map (λ w. IsBound t w.0) (weight_of t.columns above) line
       (line_all (λ u. IsBound t (u.0 - t.columns)) line is_line (λ q z named. let there = line_bound q z named in bound_marked t q there.0 there.1))
 
-  pub weights_within : All (λ pick. pick < length t.rows) (map (λ w. w.0) (map (weight_of t.columns above) line))
-  weights_within =
-      All-map (λ pick. pick < length t.rows) (λ w. w.0) (map (weight_of t.columns above) line)
-      (All-map (λ w. w.0 < length t.rows) (weight_of t.columns above) line (line_all (λ u. u.0 - t.columns < length t.rows) line is_line inside))
+  pub weights_within : All (λ w. w.0 < length t.rows) (map (weight_of t.columns above) line)
+  weights_within = All-map (λ w. w.0 < length t.rows) (weight_of t.columns above) line (line_all (λ u. u.0 - t.columns < length t.rows) line is_line inside)
     where
       inside : (q : ℕ) (z : Ratio) → coefficient_at q line ≡ Some z → q - t.columns < length t.rows
       inside q z named =
@@ -611,10 +645,13 @@ module _ (t : TableauParts) (p : ℕ) (terms line : Terms) (above : Bool) (table
           omega arith
 
 -- the rows of the weights are rows
-pub picks_within : (t : TableauParts) (p : ℕ) (weights : List (ℕ × Ratio)) → IsTableau t → IsStuckAt t p → AreLineWeights t p weights → All (λ pick. pick < length t.rows) (map (λ w. w.0) weights)
-picks_within t p weights tableau stuck are =
-    subst (λ ws. All (λ pick. pick < length t.rows) (map (λ (w : ℕ × Ratio). w.0) ws)) (sym are.weights_are)
+pub rows_within : (t : TableauParts) (p : ℕ) (weights : List (ℕ × Ratio)) → IsTableau t → IsStuckAt t p → AreLineWeights t p weights → All (λ w. w.0 < length t.rows) weights
+rows_within t p weights tableau stuck are =
+    subst (λ ws. All (λ (w : ℕ × Ratio). w.0 < length t.rows) ws) (sym are.weights_are)
     (weights_within t p are.terms are.line are.above tableau stuck are.slot are.is_line are.combination are.is_above)
+
+pub picks_within : (t : TableauParts) (p : ℕ) (weights : List (ℕ × Ratio)) → IsTableau t → IsStuckAt t p → AreLineWeights t p weights → All (λ pick. pick < length t.rows) (map (λ w. w.0) weights)
+picks_within t p weights tableau stuck are = All-map (λ pick. pick < length t.rows) (λ (w : ℕ × Ratio). w.0) weights (rows_within t p weights tableau stuck are)
 
 -- weights that `farkas` finds no wide place for refute the bound rows
 pub refutes : (t : TableauParts) (p : ℕ) (weights : List (ℕ × Ratio)) (answer : Bool) → IsTableau t → IsStuckAt t p → AreLineWeights t p weights → IsFarkas (weighted_rows t.rows weights) (Ok answer) → RefutesBoundRows t weights

@@ -7,6 +7,7 @@ pub mod Settling
 pub mod Shares
 pub mod Starts
 pub mod Steps
+pub mod Sums
 pub mod TurnedSlots
 pub mod UnfitPoints
 pub mod UnfitTurns

@@ -18,6 +18,7 @@ use crate::causes::Cause;
 use crate::line::{Line, Term};
 use crate::merging::combined;
 use crate::points::{bound_value, line_point, terms_at};
+use crate::sums::sum_cause;
 use crate::tableau::Tableau;
 use bt_frac::{Delta, Frac, Row};
 use bt_lin::farkas;
@@ -138,7 +139,6 @@ pub fn lemma(
     let (picks, numbers) = parted(alloc, &weights)?;
     match farkas(tableau.rows(), &picks, &numbers) {
         Ok(_) => Ok(Ok(weights)),
-        // Which product or sum of the weighted rows leaves 128 bits isn't told yet: the check gives up.
-        Err(_) => Err(AllocError),
+        Err(at) => Ok(Err(sum_cause(tableau.rows(), &weights, at))),
     }
 }

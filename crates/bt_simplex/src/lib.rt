@@ -13,6 +13,7 @@ mod points;
 mod running;
 mod settling;
 mod starting;
+mod sums;
 mod tableau;
 #[cfg(test)]
 mod tests;

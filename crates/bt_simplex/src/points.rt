@@ -57,7 +57,7 @@ pub fn terms_at(slots: &[Option<Line>], position: usize) -> Option<&[Term]>
 
 /// The sum with the product of a number and a part of a point added to it; or the operation whose
 /// result doesn't fit.
-fn added_part(sum: &Frac, position: usize, number: &Frac, part: &Frac) -> Result<Frac, Unfit>
+pub fn added_part(sum: &Frac, position: usize, number: &Frac, part: &Frac) -> Result<Frac, Unfit>
     ensures known { IsLowest sum.now × IsLowest number.now × IsLowest part.now }
     ensures sum { IfOk result (AddsPart sum.now number.now part.now) }
     ensures unfit { IfErr result (IsUnfitHere position (Some sum.now) number.now part.now) }

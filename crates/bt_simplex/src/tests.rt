@@ -1,4 +1,4 @@
-use crate::{Check, Tableau, Turn, are_over};
+use crate::{Check, Operation, Tableau, Turn, WidePlace, are_over};
 use bt_frac::{Frac, Relation, Row};
 use std::alloc::Global;
 use std::test::Fail;
@@ -45,8 +45,8 @@ fn turns(rt: HostRuntime) -> Result<(), Fail> {
 }
 
 /// What a check of the rows answers, where all of them are bound.
-fn answered(alloc: Global, rows: &[Row], pivots: u64) -> Result<Check, Fail> {
-    let mut tableau = tableau(alloc, rows, 1)?;
+fn answered(alloc: Global, rows: &[Row], columns: usize, pivots: u64) -> Result<Check, Fail> {
+    let mut tableau = tableau(alloc, rows, columns)?;
     for row in 0..rows.len() {
         if row < tableau.rows().len() {
             tableau.set_bound(row);
@@ -78,8 +78,33 @@ fn answers(rt: HostRuntime) -> Result<(), Fail> {
             row(alloc, first, relation, bound)?,
             row(alloc, second, Relation::AtLeast, limit)?,
         ];
-        let check = answered(alloc, &rows, pivots)?;
+        let check = answered(alloc, &rows, 1, pivots)?;
         assert!(rt; letter(&check) == answer);
     }
+    Ok(())
+}
+
+/// The row of 1/2^100 times the first column and 2^100 times the second.
+fn steep_row(alloc: Global) -> Result<Row, Fail> {
+    let great: i128 = 1 << 100;
+    let (Some(least), Some(most)) = (Frac::new(1, great), Frac::new(great, 1)) else {
+        return Err("no number".into());
+    };
+    let terms = [(0, least), (1, most)];
+    match Row::new(alloc, &terms, Relation::AtLeast, Frac::whole(1))? {
+        Some(row) => Ok(row),
+        None => Err("no row".into()),
+    }
+}
+
+#[test]
+fn wide(rt: HostRuntime) -> Result<(), Fail> {
+    let alloc = rt.alloc();
+    let rows = [steep_row(alloc)?];
+    let Check::Wide(wide) = answered(alloc, &rows, 2, 10)? else {
+        return Err("it fits".into());
+    };
+    assert!(rt; wide.place == WidePlace::Entry && wide.operation == Operation::Div);
+    assert!(rt; [wide.trail.turns.len(), wide.row, wide.column] == [0, 2, 1]);
     Ok(())
 }

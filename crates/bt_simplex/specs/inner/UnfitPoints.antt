@@ -1,6 +1,6 @@
 -- Points, part by part, and operations of them whose results leave 128 bits.
 use Rattle.std.specs.Prelude.{◌≡◌, ◌⊎◌, ℕ, Some}
-use Rattle.bt_frac.specs.Ratio.{Ratio, IsLowest, IsSum}
+use Rattle.bt_frac.specs.Ratio.{Ratio, IsLowest, IsSum, CanAdd}
 use Rattle.bt_frac.specs.Products.{IsProduct}
 use Rattle.bt_frac.specs.declared.delta.Delta.{Delta}
 use Rattle.bt_simplex.specs.Lines.{Terms}
@@ -16,6 +16,7 @@ pub record AddsPart (sum number part next : Ratio) : Type 0 where
   pub product_lowest : IsLowest product
   pub is_product : IsProduct number part product
   pub is_sum : IsSum sum product next
+  pub fits : CanAdd sum product
   pub lowest : IsLowest next
 
 -- the same of both parts of a point
