@@ -163,8 +163,7 @@ pub sum_is_cause : (t : TableauParts) (p : ℕ) (weights : List (ℕ × Ratio)) 
     → IsFirstWide (weighted_rows t.rows weights) at → IsUnfitSum (weighted_rows t.rows weights) at cause → IsCause t cause
 sum_is_cause t p weights at cause tableau stuck are first (place, number, unfit) = (
   unfit.none,
-  subst (λ reason. IsStepAt t reason cause.row cause.column cause.operation cause.left cause.right) (sym unfit.lemma)
-  (
+  subst (λ reason. IsStepAt t reason cause.row cause.column cause.operation cause.left cause.right) (sym unfit.lemma) (
     p,
     stuck,
     record {

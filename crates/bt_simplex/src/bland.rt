@@ -87,7 +87,8 @@ fn fails(tableau: &Tableau, slots: &[Option<Line>], position: usize) -> Result<b
 
 /// The least position that fails.
 pub fn leaving(tableau: &Tableau, slots: &[Option<Line>]) -> Least
-    ensures { Finds (with_slots tableau.now slots.now) (λ p. Fails (with_slots tableau.now slots.now) p) result }
+    ensures { Finds (with_slots tableau.now slots.now)
+        (λ p. Fails (with_slots tableau.now slots.now) p) result }
 {
     for position in 0..slots.len() {
         match fails(tableau, slots, position) {
@@ -118,7 +119,8 @@ fn first_entering(tableau: &Tableau, row: &Row, point: &Delta, terms: &[Term]) -
 /// The least position that can enter for one that fails.
 pub fn entering(tableau: &Tableau, slots: &[Option<Line>], leaves: usize) -> Least
     requires { Fails (with_slots tableau.now slots.now) leaves }
-    ensures { Finds (with_slots tableau.now slots.now) (λ e. CanEnter (with_slots tableau.now slots.now) leaves e) result }
+    ensures { Finds (with_slots tableau.now slots.now)
+        (λ e. CanEnter (with_slots tableau.now slots.now) leaves e) result }
 {
     let Some(terms) = terms_at(slots, leaves) else {
         return Least::Nowhere;

@@ -137,7 +137,8 @@ fn scaled(factor: &Frac, term: Term) -> Result<Term, Unfit>
 
 /// The product of these numbers, at a position.
 fn unfit_product(position: usize, factor: &Frac, by: &Frac) -> Unfit
-    ensures { result ≡ record { column = position; operation = Operation.Mul; left = factor.now; right = by.now } }
+    ensures { result
+        ≡ record { column = position; operation = Operation.Mul; left = factor.now; right = by.now } }
 {
     Unfit {
         column: position,

@@ -21,7 +21,14 @@ use std::cmp::Ordering;
 
 /// Why a number asked for at a position doesn't fit.
 fn settle_cause(position: usize, operation: Operation, left: Frac, right: Frac) -> Cause
-    ensures { result ≡ record { place = WidePlace.Settle; row = position; column = 0; operation = operation; left = left; right = right } }
+    ensures { result ≡ record {
+      place = WidePlace.Settle;
+      row = position;
+      column = 0;
+      operation = operation;
+      left = left;
+      right = right;
+    } }
 {
     Cause {
         place: WidePlace::Settle,
@@ -156,7 +163,8 @@ pub fn settled(
 ) -> Result<Result<Vec<Frac>, Cause>, AllocError>
     requires tableau { IsTableau (with_slots tableau.now slots.now) }
     requires met { IsMet (with_slots tableau.now slots.now) }
-    ensures meets { IfOk result (λ o. IfOk o (λ v. MeetsBoundRows (with_slots tableau.now slots.now) v.items)) }
+    ensures meets { IfOk result
+        (λ o. IfOk o (λ v. MeetsBoundRows (with_slots tableau.now slots.now) v.items)) }
     ensures unfit { IfOk result (λ o. IfErr o (IsCause (with_slots tableau.now slots.now))) }
 {
     let epsilon = match epsilon(tableau, slots) {
