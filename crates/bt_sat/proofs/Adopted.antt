@@ -109,35 +109,32 @@ module _ (old new : Search) (l : Lit) (reason : Option ℕ) (assigns : Assigns o
   pub variables_same : length new.assignment.values ≡ length old.assignment.values
   variables_same = ap length assigns.values ∙ length-set old.assignment.values l.var (Some l.positive)
 
--- one clause more that is watched, of which the first literal is unset and the others are false
-module _ (all : List (List Lit)) (old new : Search) (lits : List Lit) (number : ℕ) (keeps : Keeps lits number old new) (is : number ≡ length all) (ordered : IsOrdered all old) where
-  pub numbered_kept : AreNumbered (all ++ lits ∷ []) new
-  numbered_kept =
-      let count = ordered.numbered.count in
+-- one clause more that is watched, whose number is known
+module _ (old new : Search) (lits : List Lit) (number : ℕ) (keeps : Keeps lits number old new) where
+  pub numbered_kept : (all : List (List Lit)) → number < length all → AreSame (clause_at all number) lits → AreNumbered all old → AreNumbered all new
+  numbered_kept all among same numbered =
+      let count = numbered.count in
       let more : length new.clauses ≡ length old.clauses + 1 = ap length keeps.clauses ∙ length-append old.clauses (lits ∷ []) in
-      let size : length (all ++ lits ∷ []) ≡ length all + 1 = length-append all (lits ∷ []) in
       let before : (id : ℕ) → id < length old.clauses → get_or new.numbers.items id 0 ≡ get_or old.numbers.items id 0 =
       λ id small. ap (λ ns. get_or ns id 0) keeps.numbers ∙ get_or_append_left old.numbers.items (number ∷ []) 0 id (omega (arith, small, count)) in
-      let here : (id : ℕ) → id ≡ length old.clauses → get_or new.numbers.items id 0 ≡ length all =
-      λ id same. ap (λ ns. get_or ns id 0) keeps.numbers ∙ get_or_push old.numbers.items number 0 id (count ∙ sym same) ∙ is in
+      let here : (id : ℕ) → id ≡ length old.clauses → get_or new.numbers.items id 0 ≡ number =
+      λ id same. ap (λ ns. get_or ns id 0) keeps.numbers ∙ get_or_push old.numbers.items number 0 id (count ∙ sym same) in
       let kept_before : (id : ℕ) → id < length old.clauses → kept_at new.clauses id ≡ kept_at old.clauses id =
       λ id small. ap (λ cs. kept_at cs id) keeps.clauses ∙ get_or_append_left old.clauses (lits ∷ []) [] id small in
       let kept_here : (id : ℕ) → id ≡ length old.clauses → kept_at new.clauses id ≡ lits = λ id same. ap (λ cs. kept_at cs id) keeps.clauses ∙ get_or_push old.clauses lits [] id (sym same) in
       record {
         count = omega (arith, ap length keeps.numbers, length-append old.numbers.items (number ∷ []), count, more);
         below = λ id small. elim (lt_or_eq id (length old.clauses) (omega (arith, small, more))) [
-          | inl earlier ↦ omega (arith, before id earlier, ordered.numbered.below id earlier, size)
-          | inr last ↦ omega (arith, here id last, size)
+          | inl earlier ↦ omega (arith, before id earlier, numbered.below id earlier)
+          | inr last ↦ omega (arith, here id last, among)
         ];
         same = λ id small. elim (lt_or_eq id (length old.clauses) (omega (arith, small, more))) [
           | inl earlier ↦
-              subst (λ n. AreSame (clause_at (all ++ lits ∷ []) n) (kept_at new.clauses id)) (sym (before id earlier))
-              (subst (AreSame (clause_at (all ++ lits ∷ []) (get_or old.numbers.items id 0))) (sym (kept_before id earlier))
-              (subst (λ c. AreSame c (kept_at old.clauses id)) (sym (clause_still all lits (get_or old.numbers.items id 0) (ordered.numbered.below id earlier))) (ordered.numbered.same id earlier)))
+              subst (λ n. AreSame (clause_at all n) (kept_at new.clauses id)) (sym (before id earlier))
+              (subst (AreSame (clause_at all (get_or old.numbers.items id 0))) (sym (kept_before id earlier)) (numbered.same id earlier))
           | inr last ↦
-              subst (λ n. AreSame (clause_at (all ++ lits ∷ []) n) (kept_at new.clauses id)) (sym (here id last))
-              (subst (AreSame (clause_at (all ++ lits ∷ []) (length all))) (sym (kept_here id last))
-              (subst (λ c. AreSame c lits) (sym (get_or_push all lits [] (length all) refl)) (λ m. ((λ x. x), (λ x. x)))))
+              subst (λ n. AreSame (clause_at all n) (kept_at new.clauses id)) (sym (here id last))
+              (subst (AreSame (clause_at all number)) (sym (kept_here id last)) same)
         ];
       }
 
@@ -202,6 +199,52 @@ settled_longer s a l reason whole assigns is =
       rest = all_more (IsAtRest is.part T) (IsAtRest is.part a.trail.items) s.clauses (λ c rest. rest_grows is.part T a.trail.items c wider rest) is.rest;
     }
 
+-- one clause more that is watched, which no front of a level unsettles
+module _ (all : List (List Lit)) (s mid : Search) (lits : List Lit) (keeps : Keeps lits (length all) s mid) (ordered : IsOrdered all s)
+    (rests : (j : ℕ) → j < length s.starts.items → IsAtRest (front_of s j) (front_of s j) lits) where
+  front_kept : (j : ℕ) → front_of mid j ≡ front_of s j
+  front_kept j =
+      ap (λ (b : Assignment). take (get_or mid.starts.items j (length b.trail.items)) b.trail.items) keeps.assignment
+      ∙ ap (λ (v : Vec ℕ). take (get_or v.items j (length s.assignment.trail.items)) s.assignment.trail.items) keeps.starts
+
+  start_kept : (j : ℕ) → start_of mid j ≡ start_of s j
+  start_kept j =
+      ap (λ (b : Assignment). get_or mid.starts.items j (length b.trail.items)) keeps.assignment ∙ ap (λ (v : Vec ℕ). get_or v.items j (length s.assignment.trail.items)) keeps.starts
+
+  count_kept : length mid.starts.items ≡ length s.starts.items
+  count_kept = ap (λ (v : Vec ℕ). length v.items) keeps.starts
+
+  size_kept : length mid.assignment.trail.items ≡ length s.assignment.trail.items
+  size_kept = ap (λ (b : Assignment). length b.trail.items) keeps.assignment
+
+  pub levels_kept : AreLevels mid
+  levels_kept =
+      let old = ordered.levels in
+      record {
+        within = λ j small. omega (arith, start_kept j, size_kept, old.within j (omega (arith, small, count_kept)));
+        ascend = λ i j order small. omega (arith, start_kept i, start_kept j, old.ascend i j order (omega (arith, small, count_kept)));
+        rests = λ j small.
+            let inside : j < length s.starts.items = omega (arith, small, count_kept) in
+            subst (λ front. All (IsAtRest front front) mid.clauses) (sym (front_kept j))
+            (subst (All (IsAtRest (front_of s j) (front_of s j))) (sym keeps.clauses)
+            (All-push (IsAtRest (front_of s j) (front_of s j)) s.clauses lits (old.rests j inside) (rests j inside)));
+      }
+
+  pub ordered_kept : IsOrdered (all ++ lits ∷ []) mid
+  ordered_kept = record {
+    whole = record {
+      watched = keeps.watched;
+      truths = subst (λ (b : Assignment). AreTrue b.values b.trail.items) (sym keeps.assignment) ordered.whole.truths;
+    };
+    numbered =
+        numbered_kept s mid lits (length all) keeps (all ++ lits ∷ []) (omega (arith, length-append all (lits ∷ [])))
+        (subst (λ c. AreSame c lits) (sym (get_or_push all lits [] (length all) refl)) (λ m. ((λ x. x), (λ x. x)))) (numbered_still all lits s ordered.numbered);
+    reasoned =
+        subst (AreReasons (all ++ lits ∷ []) mid.starts.items) (sym keeps.assignment)
+        (subst (λ (v : Vec ℕ). AreReasons (all ++ lits ∷ []) v.items s.assignment) (sym keeps.starts) (reasons_still all lits s.starts.items s.assignment ordered.reasoned));
+    levels = levels_kept;
+  }
+
 module _ (all : List (List Lit)) (s : Search) (lits : List Lit) (is : IsAsserting all s lits) where
   first_below : (lit_at lits 0).var < length s.assignment.values
   first_below = is.below 0 no_lit is.some
@@ -258,48 +301,10 @@ module _ (all : List (List Lit)) (s : Search) (lits : List Lit) (is : IsAssertin
     no_first : (front : List Lit) → ((m : Lit) → Contains front m → Contains s.assignment.trail.items m) → Contains front (opposite (first lits)) → ⊥
     no_first front within among = is.not_false (is.ready.ordered.whole.truths.true_in (opposite (first lits)) (within (opposite (first lits)) among))
 
-    front_kept : (j : ℕ) → front_of mid j ≡ front_of s j
-    front_kept j =
-        ap (λ (b : Assignment). take (get_or mid.starts.items j (length b.trail.items)) b.trail.items) keeps.assignment
-        ∙ ap (λ (v : Vec ℕ). take (get_or v.items j (length s.assignment.trail.items)) s.assignment.trail.items) keeps.starts
-
-    start_kept : (j : ℕ) → start_of mid j ≡ start_of s j
-    start_kept j =
-        ap (λ (b : Assignment). get_or mid.starts.items j (length b.trail.items)) keeps.assignment ∙ ap (λ (v : Vec ℕ). get_or v.items j (length s.assignment.trail.items)) keeps.starts
-
-    count_kept : length mid.starts.items ≡ length s.starts.items
-    count_kept = ap (λ (v : Vec ℕ). length v.items) keeps.starts
-
-    size_kept : length mid.assignment.trail.items ≡ length s.assignment.trail.items
-    size_kept = ap (λ (b : Assignment). length b.trail.items) keeps.assignment
-
-    levels_kept : AreLevels mid
-    levels_kept =
-        let old = is.ready.ordered.levels in
-        record {
-          within = λ j small. omega (arith, start_kept j, size_kept, old.within j (omega (arith, small, count_kept)));
-          ascend = λ i j order small. omega (arith, start_kept i, start_kept j, old.ascend i j order (omega (arith, small, count_kept)));
-          rests = λ j small.
-              let inside : j < length s.starts.items = omega (arith, small, count_kept) in
-              subst (λ front. All (IsAtRest front front) mid.clauses) (sym (front_kept j))
-              (subst (All (IsAtRest (front_of s j) (front_of s j))) (sym keeps.clauses)
-              (All-push (IsAtRest (front_of s j) (front_of s j)) s.clauses lits (old.rests j inside) (record {
-                if_first = λ h. absurd (no_first (front_of s j) (λ m among. take_in (start_of s j) s.assignment.trail.items m among) h);
-                if_second = λ h. absurd (is.second many j inside h);
-              })));
-        }
-
-    ordered_kept : IsOrdered (all ++ lits ∷ []) mid
-    ordered_kept = record {
-      whole = record {
-        watched = keeps.watched;
-        truths = subst (λ (b : Assignment). AreTrue b.values b.trail.items) (sym keeps.assignment) is.ready.ordered.whole.truths;
-      };
-      numbered = numbered_kept all s mid lits (length all) keeps refl is.ready.ordered;
-      reasoned =
-          subst (AreReasons (all ++ lits ∷ []) mid.starts.items) (sym keeps.assignment)
-          (subst (λ (v : Vec ℕ). AreReasons (all ++ lits ∷ []) v.items s.assignment) (sym keeps.starts) (reasons_still all lits s.starts.items s.assignment is.ready.ordered.reasoned));
-      levels = levels_kept;
+    still_rests : (j : ℕ) → j < length s.starts.items → IsAtRest (front_of s j) (front_of s j) lits
+    still_rests j inside = record {
+      if_first = λ h. absurd (no_first (front_of s j) (λ m among. take_in (start_of s j) s.assignment.trail.items m among) h);
+      if_second = λ h. absurd (is.second many j inside h);
     }
 
     pub adopted_many : (a : Assignment) → Assigns mid.assignment a (lit_at lits 0) (Some (length all)) → IsReady (all ++ lits ∷ []) (length s.assignment.trail.items) (with_assignment mid a)
@@ -310,7 +315,7 @@ module _ (all : List (List Lit)) (s : Search) (lits : List Lit) (is : IsAssertin
         let assigns_s : Assigns s.assignment a l (Some (length all)) = subst (λ b. Assigns b a l (Some (length all))) keeps.assignment assigns in
         let wider : (m : Lit) → Contains T m → Contains a.trail.items m = λ m among. subst (λ ts. Contains ts m) (sym assigns_s.trail) (Contains-append_left T (l ∷ []) m among) in
         let ordered : IsOrdered (all ++ lits ∷ []) new =
-        ordered_longer (all ++ lits ∷ []) mid a l (Some (length all)) ordered_kept assigns
+        ordered_longer (all ++ lits ∷ []) mid a l (Some (length all)) (ordered_kept all s mid lits keeps is.ready.ordered still_rests) assigns
         (subst (λ (b : Assignment). l.var < length b.values) (sym keeps.assignment) first_below)
         (subst (λ (b : Assignment). IsTrueIn b.values l → ⊥) (sym keeps.assignment) is.not_true)
         (subst (λ (b : Assignment). IsFalseIn b.values l → ⊥) (sym keeps.assignment) is.not_false)
@@ -323,7 +328,7 @@ module _ (all : List (List Lit)) (s : Search) (lits : List Lit) (is : IsAssertin
         record {
           ordered = ordered;
           held = All-push (IsHeld new) all lits
-              (all_more (IsHeld s) (IsHeld new) all (λ c held. held_longer mid new l (Some (length all)) assigns refl refl levels_kept c (held_more all s mid lits (length all) keeps refl is.ready.ordered c held)) is.ready.held)
+              (all_more (IsHeld s) (IsHeld new) all (λ c held. held_longer mid new l (Some (length all)) assigns refl refl (levels_kept all s mid lits keeps is.ready.ordered still_rests) c (held_more s mid lits (length all) keeps c held)) is.ready.held)
               (among_watched (length s.clauses) (omega (arith, more)) (λ m. (
                 (λ among. subst (λ c. Contains c m) (sym last) among),
                 (λ among. subst (λ c. Contains c m) last among),

@@ -17,7 +17,7 @@ use Rattle.bt_sat.specs.declared.search.Search.{Search}
 use Rattle.bt_sat.specs.inner.Choices.{KeepsLog}
 use Rattle.bt_sat.specs.inner.Hunting.{Finds, HuntsOn, Meets, StepsOn}
 use Rattle.bt_sat.specs.inner.Levels.{GoesBack, IsHeld, IsReady}
-use Rattle.bt_sat.specs.inner.Progressing.{LogsStep}
+use Rattle.bt_sat.specs.inner.Progressing.{KeepsFormula, LogsStep}
 use Rattle.bt_sat.specs.inner.Telling.{Tells}
 use Rattle.bt_sat.proofs.Leveled
 use Rattle.bt_sat.proofs.Served.{served_next, served_none}
@@ -30,6 +30,13 @@ ready_back all settled level old new ready back known = record {
   ordered = Leveled.back_ordered all old new level ready.ordered back;
   held = all_more (IsHeld old) (IsHeld new) all (Leveled.back_held all old new level ready.ordered back) ready.held;
   settles = Leveled.back_settled all old new level ready.ordered back known;
+}
+
+-- the log is of the same formula still
+pub kept_next : (old mid new : Progress) → KeepsFormula old mid → KeepsFormula mid new → KeepsFormula old new
+kept_next old mid new was is = record {
+  formula = is.formula ∙ was.formula;
+  first = is.first ∙ was.first;
 }
 
 -- at first no step was added

@@ -1,4 +1,5 @@
 pub mod Adding
+pub mod Admitted
 pub mod Adopted
 pub mod Advancing
 pub mod Asserted
@@ -7,6 +8,7 @@ pub mod Back
 pub mod Chosen
 pub mod Cutting
 pub mod Deriving
+pub mod Ended
 pub mod Ending
 pub mod Heaps
 pub mod Hunted
@@ -14,10 +16,15 @@ pub mod Inferring
 pub mod Keeping
 pub mod Leveled
 pub mod Lists
+pub mod Loaded
 pub mod Logging
+pub mod Modelled
 pub mod Noting
+pub mod Picking
 pub mod Reasoning
+pub mod Retreated
 pub mod Served
 pub mod Settled
 pub mod Sides
+pub mod Taken
 pub mod Visiting

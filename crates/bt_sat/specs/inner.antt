@@ -8,8 +8,12 @@ pub mod AttendingIn
 pub mod Choices
 pub mod Hunting
 pub mod Keeping
+pub mod Kernels
 pub mod Known
+pub mod Lemmas
 pub mod Levels
+pub mod Loading
+pub mod Loads
 pub mod Progressing
 pub mod Propagating
 pub mod Reasons

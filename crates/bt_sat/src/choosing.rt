@@ -2,7 +2,7 @@
 ghost use Rattle.std.specs.Prelude.{◌≡◌, ◌<◌, length, map, OnOk, IfOk, None, vec_len};
 ghost use Rattle.bt_cnf.specs.Choosing.{Ascends};
 ghost use Rattle.bt_sat.specs.inner.Choices.{AddsUnset, AreUnset, BeginsLevel, Decides};
-ghost use Rattle.bt_sat.specs.inner.Progressing.{IsRunning};
+ghost use Rattle.bt_sat.specs.inner.Progressing.{IsRunning, KeepsFormula};
 
 use crate::assignment::assign;
 use crate::progress::Progress;
@@ -72,6 +72,7 @@ pub fn decide<C: Chooser>(
     requires none { progress.old.conflict ≡ None }
     requires settled { progress.old.settled ≡ length progress.old.search.assignment.trail.items }
     ensures decides { IfOk result (Decides progress.old progress.new) }
+    ensures kept { KeepsFormula progress.old progress.new }
     ensures same { map C.told_lengths choosers.new.items ≡ map C.told_lengths choosers.old.items }
     ensures count { vec_len choosers.new ≡ vec_len choosers.old }
 {

@@ -1,7 +1,7 @@
 //! Going down from choice to choice.
 ghost use Rattle.std.specs.Prelude.{◌≡◌, map, IfOk, None, vec_len};
 ghost use Rattle.bt_sat.specs.inner.Choices.{Descends};
-ghost use Rattle.bt_sat.specs.inner.Progressing.{IsRunning};
+ghost use Rattle.bt_sat.specs.inner.Progressing.{IsRunning, KeepsFormula};
 
 use crate::choosing::decide;
 use crate::progress::{Progress, infer};
@@ -16,6 +16,7 @@ pub fn descend<C: Chooser>(
 ) -> Result<Option<usize>, AllocError>
     requires { IsRunning progress.old }
     ensures descends { IfOk result (Descends progress.old progress.new) }
+    ensures kept { KeepsFormula progress.old progress.new }
     ensures same { map C.told_lengths choosers.new.items ≡ map C.told_lengths choosers.old.items }
     ensures count { vec_len choosers.new ≡ vec_len choosers.old }
 {

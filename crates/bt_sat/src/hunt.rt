@@ -2,7 +2,7 @@
 ghost use Rattle.std.specs.Prelude.{◌≡◌, ◌≤◌, length, map, IfOk, None, Some, vec_len};
 ghost use Rattle.bt_sat.specs.Serving.{IsFair};
 ghost use Rattle.bt_sat.specs.inner.Hunting.{Hunts, Meets, Restarts};
-ghost use Rattle.bt_sat.specs.inner.Progressing.{IsRunning};
+ghost use Rattle.bt_sat.specs.inner.Progressing.{IsRunning, KeepsFormula};
 
 use crate::descent::descend;
 use crate::levels::go_back;
@@ -44,7 +44,8 @@ fn meet<C: Chooser>(
     requires conflict { progress.old.conflict ≡ Some conflict }
     requires paced { progress.old.served ≤ length progress.old.known.log.steps }
     requires fair { IsFair progress.old.served (vec_len choosers.old) }
-    ensures { IfOk result (Meets progress.old (map C.told_lengths choosers.old.items)
+    ensures kept { KeepsFormula progress.old progress.new }
+    ensures meets { IfOk result (Meets progress.old (map C.told_lengths choosers.old.items)
         progress.new (map C.told_lengths choosers.new.items)) }
 {
     let served = progress.served;
@@ -69,7 +70,8 @@ pub fn hunt<C: Chooser>(progress: &mut Progress, choosers: &mut Vec<C>) -> Resul
     requires running { IsRunning progress.old }
     requires paced { progress.old.served ≤ length progress.old.known.log.steps }
     requires fair { IsFair progress.old.served (vec_len choosers.old) }
-    ensures { IfOk result (Hunts progress.old (map C.told_lengths choosers.old.items)
+    ensures kept { KeepsFormula progress.old progress.new }
+    ensures hunts { IfOk result (Hunts progress.old (map C.told_lengths choosers.old.items)
         progress.new (map C.told_lengths choosers.new.items)) }
 {
     while let Some(conflict) = descend(progress, choosers)? {

@@ -25,7 +25,7 @@ pub struct Lesson {
 }
 
 /// The literals that are false at places of the trail.
-fn name_lits(lits: &mut Vec<Lit>, picked: &[usize], trail: &[Lit]) -> Result<(), AllocError>
+pub fn name_lits(lits: &mut Vec<Lit>, picked: &[usize], trail: &[Lit]) -> Result<(), AllocError>
     requires { All (λ k. k < length trail.now) picked.now }
     ensures { OnOk result (lits.new.items ≡ falses_at trail.now picked.now) }
 {
@@ -37,7 +37,7 @@ fn name_lits(lits: &mut Vec<Lit>, picked: &[usize], trail: &[Lit]) -> Result<(),
 }
 
 /// The number of levels at which all literals of a clause but the first are false.
-fn assertion_level(starts: &[usize], picked: &[usize]) -> usize
+pub fn assertion_level(starts: &[usize], picked: &[usize]) -> usize
     requires { IsNonDecreasing starts.now }
     ensures { IsAssertionLevel starts.now picked.now result }
 {

@@ -1,6 +1,6 @@
 //! A search in progress: propagation, learning, and the log.
 ghost use Rattle.std.specs.Prelude.{◌≡◌, OnOk, IfOk, None, Some};
-ghost use Rattle.bt_sat.specs.inner.Progressing.{Infers, IsRunning, Teaches};
+ghost use Rattle.bt_sat.specs.inner.Progressing.{Infers, IsRunning, KeepsFormula, Teaches};
 
 use crate::known::Known;
 use crate::learning::{Lesson, adopt, prepare};
@@ -41,7 +41,8 @@ pub enum Taught {
 pub fn infer(progress: &mut Progress) -> Result<(), AllocError>
     requires running { IsRunning progress.old }
     requires ready { progress.old.conflict ≡ None }
-    ensures { OnOk result (Infers progress.old progress.new) }
+    ensures infers { OnOk result (Infers progress.old progress.new) }
+    ensures kept { KeepsFormula progress.old progress.new }
 {
     match propagate(&mut progress.search, progress.settled)? {
         Some(id) => progress.conflict = number_of(&progress.search.numbers, id),
@@ -54,7 +55,8 @@ pub fn infer(progress: &mut Progress) -> Result<(), AllocError>
 pub fn learn(progress: &mut Progress, conflict: usize) -> Result<Taught, AllocError>
     requires running { IsRunning progress.old }
     requires conflict { progress.old.conflict ≡ Some conflict }
-    ensures { IfOk result (Teaches progress.old progress.new) }
+    ensures teaches { IfOk result (Teaches progress.old progress.new) }
+    ensures kept { KeepsFormula progress.old progress.new }
 {
     prepare(
         &mut progress.lesson,

@@ -1,14 +1,26 @@
 //! For each variable, the kept clauses that watch one of its two literals.
-ghost use Rattle.std.specs.Prelude.{◌≡◌, ◌<◌, length, OnOk, slice_index_or, slice_get, Some, []};
+ghost use Rattle.std.specs.Prelude.{◌≡◌, ◌<◌, length, IfOk, OnOk, slice_index_or, slice_get, Some, []};
+ghost use Rattle.bt_sat.specs.inner.Loads.{AreEmptyLists};
 ghost use Rattle.bt_sat.specs.inner.Sides.{lists_of, Gains, Loses};
 
 use crate::kept::Watched;
 use bt_arena::Id;
 use bt_cnf::Var;
-use std::alloc::AllocError;
+use std::alloc::{AllocError, Global};
 
 /// For each variable, the clauses that watch its positive literal, or those that watch its negative one.
 pub type Side = Vec<Vec<Id<Watched>>>;
+
+/// Empty lists for so many variables.
+pub fn empty_lists(alloc: Global, vars: usize) -> Result<Side, AllocError>
+    ensures { IfOk result (λ side. AreEmptyLists vars (lists_of side)) }
+{
+    let mut side = Vec::new(alloc);
+    for _ in 0..vars {
+        side.push(Vec::new(alloc))?;
+    }
+    Ok(side)
+}
 
 /// The number of clauses on a variable's list.
 pub fn list_len(side: &Side, var: Var) -> usize

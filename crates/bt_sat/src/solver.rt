@@ -1,4 +1,14 @@
-//! What a search for models answers, and how long an epoch is.
+//! A search for models that learns clauses.
+ghost use Rattle.std.specs.Prelude.{◌≡◌, ◌≤◌, map, IfOk, OnErr, vec_len};
+ghost use Rattle.bt_sat.specs.Answering.{GivesNext, IsAdded, MayAnswer};
+ghost use Rattle.bt_sat.specs.Solving.{begun, log_of, IsLemmaOf, LacksMemory};
+ghost use Rattle.bt_sat.specs.declared.solver.TheConstants.{EPOCH_STEPS};
+
+use crate::kernel::Kernel;
+use bt_cnf::{Chooser, Formula, Lit};
+use bt_frac::Frac;
+use bt_log::Log;
+use std::alloc::{AllocError, Global};
 
 /// The number of steps after which an epoch ends, where another chooser is left to serve the next one.
 pub const EPOCH_STEPS: u64 = 128;
@@ -21,4 +31,74 @@ pub enum Added {
     Kept,
     /// The log has as many steps as it may already. Nothing has changed.
     Spent,
+}
+
+/// A search for models of a formula, whose log may have a limited number of steps, and which is steered by
+/// choosers: the first serves until it was told of 128 steps and another one is left, then the next. The
+/// choosers are of one type, which may be `Box<dyn Chooser>`.
+#[derive(Drop)]
+pub struct Solver<C> {
+    kernel: Kernel,
+    choosers: Vec<C>,
+    ghost fair: { EPOCH_STEPS ≤ kernel.served → vec_len choosers ≤ 1 },
+}
+
+impl<C: Chooser> Solver<C> {
+    /// A search that begins, with an empty log. Without choosers the lowest unset variable is set to false.
+    pub fn new(
+        alloc: Global,
+        formula: Formula,
+        choosers: Vec<C>,
+        limit: u64,
+    ) -> Result<Solver<C>, AllocError>
+        ensures kernel { IfOk result (λ s. s.kernel ≡ begun formula limit) }
+        ensures choosers { IfOk result
+            (λ s. map C.told_lengths s.choosers.items ≡ map C.told_lengths choosers.items) }
+    {
+        Ok(Solver {
+            kernel: Kernel::new(alloc, formula, limit)?,
+            choosers,
+        })
+    }
+
+    /// Searches for a model, and learns clauses. After `Refuted` and `Spent` each later call answers the
+    /// same. After want of memory, here or in `add_lemma`, each later call lacks memory.
+    pub fn next_model(&mut self) -> Result<Answer, AllocError>
+        ensures given { IfOk result (GivesNext self.old.kernel (map C.told_lengths self.old.choosers.items)
+            self.new.kernel (map C.told_lengths self.new.choosers.items)) }
+        ensures may { MayAnswer self.old.kernel result }
+        ensures memory { OnErr result (self.new.kernel.standing ≡ LacksMemory) }
+    {
+        self.kernel.next_model(&mut self.choosers)
+    }
+
+    /// Adds a lemma: a clause whose literals are all false under the model that was answered last.
+    pub fn add_lemma(&mut self, lits: &[Lit], weights: &[Frac]) -> Result<Added, AllocError>
+        requires { IsLemmaOf self.old.kernel lits.now weights.now }
+        ensures { IsAdded self.old.kernel (map C.told_lengths self.old.choosers.items) lits.now weights.now
+            self.new.kernel (map C.told_lengths self.new.choosers.items) result }
+    {
+        self.kernel.add_lemma(&mut self.choosers, lits, weights)
+    }
+
+    /// The steps so far.
+    pub fn log(&self) -> &Log
+        ensures { result.now ≡ log_of self.now.kernel }
+    {
+        self.kernel.log()
+    }
+
+    /// The formula.
+    pub fn formula(&self) -> &Formula
+        ensures { result.now ≡ self.now.kernel.formula }
+    {
+        self.kernel.formula()
+    }
+
+    /// Gives the steps so far, and drops the rest.
+    pub fn into_log(self) -> Log
+        ensures { result ≡ log_of self.kernel }
+    {
+        self.kernel.into_log()
+    }
 }

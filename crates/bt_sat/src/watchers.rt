@@ -1,12 +1,13 @@
 //! For each literal, the kept clauses that watch it.
-ghost use Rattle.std.specs.Prelude.{◌≡◌, ◌<◌, length, OnOk, slice_index_or};
+ghost use Rattle.std.specs.Prelude.{◌≡◌, ◌<◌, length, IfOk, OnOk, slice_index_or};
+ghost use Rattle.bt_sat.specs.inner.Loads.{AreUnwatched};
 ghost use Rattle.bt_sat.specs.inner.Watchers.{watchers, Watches, Unwatches};
 
 use crate::kept::Watched;
-use crate::side::{Side, list_add, list_at, list_len, list_remove};
+use crate::side::{Side, empty_lists, list_add, list_at, list_len, list_remove};
 use bt_arena::Id;
 use bt_cnf::Lit;
-use std::alloc::AllocError;
+use std::alloc::{AllocError, Global};
 use std::marker::Model;
 
 /// For each literal, the kept clauses that watch it, in no order.
@@ -29,6 +30,16 @@ impl Model for Watchers {
 }
 
 impl Watchers {
+    /// Lists for so many variables, whose literals no clause watches.
+    pub fn new(alloc: Global, vars: usize) -> Result<Watchers, AllocError>
+        ensures { IfOk result (λ w. AreUnwatched vars w) }
+    {
+        Ok(Watchers {
+            positives: empty_lists(alloc, vars)?,
+            negatives: empty_lists(alloc, vars)?,
+        })
+    }
+
     /// The number of clauses that watch a literal.
     pub fn len(&self, lit: &Lit) -> usize
         requires positives { lit.now.var < length self.now.positives }

@@ -69,3 +69,8 @@ pub record Infers (old new : Progress) : Type 0 where
   pub served : new.served ≡ old.served
   pub settled : new.conflict ≡ None → new.settled ≡ length new.search.assignment.trail.items
   pub fewer : unset new.search.assignment.values ≤ unset old.search.assignment.values
+
+-- the log is of the same formula
+pub record KeepsFormula (old new : Progress) : Type 0 where
+  pub formula : new.known.formula ≡ old.known.formula
+  pub first : new.known.log.first ≡ old.known.log.first

@@ -1,7 +1,7 @@
 use Rattle.std.proofs.Common.{◌-◌, length, map, vec_len}
 use Rattle.bt_sat.specs.Serving.{IsFair}
 use Rattle.bt_sat.specs.inner.Hunting.{HuntsOn}
-use Rattle.bt_sat.specs.inner.Progressing.{IsRunning}
+use Rattle.bt_sat.specs.inner.Progressing.{IsRunning, KeepsFormula}
 use Rattle.bt_sat.proofs.hunt.hunt.Given as goal
 
 abbrev pub invariant-loop-conflict : goal.invariant-loop-conflict
@@ -9,6 +9,7 @@ invariant-loop-conflict g l = record {
   on : HuntsOn l.fn.progress (map g.C.Chooser.told_lengths l.fn.choosers.items) l.progress (map g.C.Chooser.told_lengths l.choosers.items);
   running : IsRunning l.progress;
   fair : IsFair l.progress.served (vec_len l.choosers);
+  kept : KeepsFormula l.fn.progress l.progress;
 }
 
 abbrev pub decreases-loop-conflict : goal.decreases-loop-conflict

@@ -7,8 +7,8 @@ use Rattle.bt_sat.specs.inner.Propagating.{Propagates}
 use Rattle.bt_sat.proofs.Inferring
 use Rattle.bt_sat.proofs.progress.infer.Goals as goal
 
-pub returns-in-Some : goal.returns-in-Some
-returns-in-Some c =
+pub returns-in-Some-clause-infers : goal.returns-in-Some-clause-infers
+returns-in-Some-clause-infers c =
     let p = c.args.progress.now in
     let s = c.propagate.new.search in
     let all = clauses_in p.known in
@@ -27,8 +27,8 @@ returns-in-Some c =
       fewer = Inferring.fewer p.search s came.0;
     }
 
-pub returns-in-None : goal.returns-in-None
-returns-in-None c =
+pub returns-in-None-clause-infers : goal.returns-in-None-clause-infers
+returns-in-None-clause-infers c =
     let p = c.args.progress.now in
     let s = c.propagate.new.search in
     let all = clauses_in p.known in

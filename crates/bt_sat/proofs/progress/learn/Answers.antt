@@ -8,8 +8,8 @@ use Rattle.bt_sat.specs.inner.Progressing.{IsNextStep, LogsStep}
 use Rattle.bt_sat.proofs.Logging
 use Rattle.bt_sat.proofs.progress.learn.Goals as goal
 
-pub returns-then-len-progress : goal.returns-then-len-progress
-returns-then-len-progress c =
+pub returns-then-len-progress-clause-teaches : goal.returns-then-len-progress-clause-teaches
+returns-then-len-progress-clause-teaches c =
     let p = c.args.progress.now in
     let lits = c.prepare.new.lesson.lits.items in
     let hints = c.prepare.new.lesson.analysis.hints.items in
@@ -17,8 +17,8 @@ returns-then-len-progress c =
     subst (λ n. IsPrepared (clauses_in p.known) n c.prepare.new.search lits hints) c.requires.running.variables c.in_ok-prepare.ensures in
     (refl, refl, refl, sym c.len.ensures ∙ c.if-len-progress.true, (Learnt lits hints, Logging.prepared_next p.known c.prepare.new.search lits hints is))
 
-pub returns : goal.returns
-returns c =
+pub returns-clause-teaches : goal.returns-clause-teaches
+returns-clause-teaches c =
     let p = c.args.progress.now in
     let s = c.prepare.new.search in
     let lits = c.prepare.new.lesson.lits.items in

@@ -1,0 +1,195 @@
+-- What a search that has answered holds.
+use Rattle.std.proofs.Common.{◌≡◌, ◌≢◌, ℕ, ◌≤◌, ◌<◌, ◌+◌, ◌⊎◌, inl, inr, arith, Bool, List, [], ◌∷◌, ◌++◌, length, sym, subst, refl, ap, ◌∙◌, Option, None, Some, length-append, append-nil}
+use Rattle.std.specs.List.{All}
+use Rattle.std.proofs.lemmas.List.{same_from_push}
+use Rattle.std.proofs.lemmas.List.Elements.{All-contains, All-nil, Contains-append_left}
+use Rattle.bt_frac.specs.Ratio.{Ratio}
+use Rattle.bt_cnf.specs.Formulas.{FormulaParts}
+use Rattle.bt_cnf.specs.Meeting.{IsTrueUnder}
+use Rattle.bt_cnf.specs.declared.literal.Lit.{Lit}
+use Rattle.bt_log.specs.Logs.{Step, Learnt, Lemma, LogParts, clause_of}
+use Rattle.bt_log.specs.Refuting.{Refutes}
+use Rattle.bt_log.specs.Validity.{AreValid}
+use Rattle.bt_sat.specs.Answering.{AddsLemma, GivesNext, Says}
+use Rattle.bt_sat.specs.Serving.{IsFair}
+use Rattle.bt_sat.specs.Solving.{AreFresh, AreNonempty, EndsRefuted, EndsSpent, IsLearnt, IsLemmaOf, IsModel, IsSoundLog, IsSpent, KeepsModel, LacksMemory, Searches, Standing, under}
+use Rattle.bt_sat.specs.declared.kernel.Stage.{Stage}
+use Rattle.bt_sat.specs.declared.kernel.Stage.TheVariants.{Running, Complete, Refuted, Full, Lost}
+use Rattle.bt_sat.specs.declared.known.Known.{Known}
+use Rattle.bt_sat.specs.declared.progress.Progress.{Progress}
+use Rattle.bt_sat.specs.declared.solver.Answer.{Answer}
+use Rattle.bt_sat.specs.declared.solver.Answer.TheVariants as answer
+use Rattle.bt_sat.specs.inner.Choices.{IsComplete}
+use Rattle.bt_sat.specs.inner.Hunting.{IsFull, IsRefuted}
+use Rattle.bt_sat.specs.inner.Kernels.{AddsTo, AnswersBy, Comes, MayGoOn, StandsAt, model_of, parts_of, stage_after}
+use Rattle.bt_sat.specs.inner.Progressing.{IsLogged, IsNextStep}
+use Rattle.bt_sat.specs.inner.Truths.{IsFalseIn}
+use Rattle.bt_sat.proofs.Logging.{fresh_push, valid_push}
+use Rattle.bt_sat.proofs.Modelled.{complete_model, lemma_falses, lemma_next}
+use Rattle.bt_sat.proofs.Served.{served_none, served_next}
+use Rattle.bt_sat.proofs.Settled.{all_of}
+
+all_front : {X : Type 0} (P : X → Type 0) (front : List X) (last : X) → All P (front ++ last ∷ []) → All P front
+all_front P front last all = all_of P front (λ x among. All-contains P (front ++ last ∷ []) x all (Contains-append_left front (last ∷ []) x among))
+
+-- a log that is in order is sound
+logged_sound : (p : Progress) (stage : Stage) → IsLogged p.known p.limit → IsSoundLog (parts_of p stage)
+logged_sound p stage is = record {
+  valid = is.valid;
+  fresh = is.fresh;
+  nonempty = λ front last split. all_front (λ step. clause_of step ≢ []) front last (subst AreNonempty split is.nonempty);
+  within = is.within;
+}
+
+-- where the last step is the empty clause
+module _ (p : Progress) (is : IsRefuted p) where
+  abbrev last : Step
+  last = Learnt [] is.hints
+
+  steps_are : p.known.log.steps ≡ is.before.log.steps ++ last ∷ []
+  steps_are = ap (λ (l : LogParts). l.steps) is.logs.log
+
+  refuted_valid : AreValid p.known.formula p.known.formula.clauses p.known.log.steps
+  refuted_valid =
+      subst (AreValid p.known.formula p.known.formula.clauses) (sym steps_are)
+      (subst (λ (f : FormulaParts). AreValid f f.clauses (is.before.log.steps ++ last ∷ [])) (sym is.logs.formula)
+      (valid_push is.before.formula is.before.formula.clauses is.before.log.steps last is.logged.valid is.next.valid))
+
+  refuted_fresh : AreFresh p.known.formula.clauses p.known.log.steps
+  refuted_fresh =
+      subst (AreFresh p.known.formula.clauses) (sym steps_are)
+      (subst (λ (f : FormulaParts). AreFresh f.clauses (is.before.log.steps ++ last ∷ [])) (sym is.logs.formula)
+      (fresh_push is.before.formula.clauses is.before.log.steps last is.logged.fresh is.next.fresh))
+
+  pub refuted_sound : (stage : Stage) → IsSoundLog (parts_of p stage)
+  refuted_sound stage = record {
+    valid = refuted_valid;
+    fresh = refuted_fresh;
+    nonempty = λ front final split. subst AreNonempty (sym (same_from_push front is.before.log.steps final last (sym split ∙ steps_are)).0) is.logged.nonempty;
+    within = omega (arith, ap length steps_are, length-append is.before.log.steps (last ∷ []), is.room);
+  }
+
+  pub refutes : Refutes p.known.formula p.known.log.steps
+  refutes = record {
+    valid = refuted_valid;
+    ends = record { front = is.before.log.steps; last = last; split = steps_are; empty = refl };
+  }
+
+-- one more step would be more than the limit says
+full_spent : (p : Progress) (stage : Stage) → IsFull p → IsSpent (parts_of p stage)
+full_spent p stage is = record {
+  full = is.full;
+  nonempty = is.logged.nonempty;
+  more = is.step;
+  valid = is.next.valid;
+  fresh = is.next.fresh;
+}
+
+comes_sound : (p : Progress) (answer : Answer) → Comes p answer → IsSoundLog (parts_of p (stage_after answer))
+comes_sound p (answer.Model model) comes = logged_sound p Complete comes.0.running.logged
+comes_sound p answer.Refuted comes = refuted_sound p comes Refuted
+comes_sound p answer.Spent comes = logged_sound p Full comes.logged
+
+comes_says : (p : Progress) (answer : Answer) → Comes p answer → Says (parts_of p (stage_after answer)) answer
+comes_says p (answer.Model model) comes = (
+  ap (λ m. KeepsModel m) (sym comes.1),
+  subst (IsModel (parts_of p Complete)) (sym comes.1) (complete_model p (parts_of p Complete) comes.0 refl refl),
+)
+comes_says p answer.Refuted comes = (refl, refutes p comes)
+comes_says p answer.Spent comes = (refl, full_spent p Full comes)
+
+-- an answer that was searched for
+pub gives : (old new : Progress) (was : Stage) (waiting left : List (Option (List ℕ))) (answer : Answer) → MayGoOn (parts_of old was).standing → AnswersBy old waiting new left answer
+    → GivesNext (parts_of old was) waiting (parts_of new (stage_after answer)) left answer
+gives old new was waiting left answer may by = record {
+  added = by.0.added;
+  learnt = by.0.learnt;
+  goes_on = record { formula = by.0.formula; limit = by.0.limit; steps = ap (λ (l : LogParts). l.steps) by.0.log };
+  serves = by.0.serves;
+  sound = comes_sound new answer by.1;
+  says = comes_says new answer by.1;
+  refuted = λ ends. absurd (subst MayGoOn ends may);
+  spent = λ ends. absurd (subst MayGoOn ends may);
+}
+
+-- the same answer again
+again : (p : Progress) (stage : Stage) (waiting : List (Option (List ℕ))) (answer : Answer) → IsFair p.served (length waiting) → IsSoundLog (parts_of p stage) → Says (parts_of p stage) answer
+    → GivesNext (parts_of p stage) waiting (parts_of p stage) waiting answer
+again p stage waiting answer fair sound says = record {
+  added = [];
+  learnt = All-nil IsLearnt;
+  goes_on = record { formula = refl; limit = refl; steps = sym (append-nil p.known.log.steps) };
+  serves = served_none p.served waiting fair;
+  sound = sound;
+  says = says;
+  refuted = λ ends. refl;
+  spent = λ ends. refl;
+}
+
+pub again_refuted : (p : Progress) (stage : Stage) (waiting : List (Option (List ℕ))) → stage ≡ Refuted → StandsAt p stage → IsFair p.served (length waiting)
+    → GivesNext (parts_of p stage) waiting (parts_of p stage) waiting answer.Refuted
+again_refuted p stage waiting at stands fair =
+    let is : IsRefuted p = subst (StandsAt p) at stands in
+    subst (λ s. GivesNext (parts_of p s) waiting (parts_of p s) waiting answer.Refuted) (sym at) (again p Refuted waiting answer.Refuted fair (refuted_sound p is Refuted) (refl, refutes p is))
+
+pub again_spent : (p : Progress) (stage : Stage) (waiting : List (Option (List ℕ))) → stage ≡ Full → StandsAt p stage → IsFair p.served (length waiting)
+    → GivesNext (parts_of p stage) waiting (parts_of p stage) waiting answer.Spent
+again_spent p stage waiting at stands fair =
+    let is : IsFull p = subst (StandsAt p) at stands in
+    subst (λ s. GivesNext (parts_of p s) waiting (parts_of p s) waiting answer.Spent) (sym at) (again p Full waiting answer.Spent fair (logged_sound p Full is.logged) (refl, full_spent p Full is))
+
+-- what is known where a lemma comes
+pub record MeetsLemma (p : Progress) (lits : List Lit) (weights : List Ratio) : Type 0 where
+  pub complete : IsComplete p
+  pub paced : p.served ≤ length p.known.log.steps
+  pub falses : All (IsFalseIn p.search.assignment.values) lits
+  pub next : IsNextStep p.known (Lemma lits weights)
+
+abbrev model_in : Standing → List Bool
+model_in (KeepsModel model) = model
+model_in _ = []
+
+pub meets_lemma : (p : Progress) (stage : Stage) (lits : List Lit) (weights : List Ratio) → StandsAt p stage → IsLemmaOf (parts_of p stage) lits weights → MeetsLemma p lits weights
+meets_lemma p Running lits weights stands of =
+    let no_model : Searches ≡ KeepsModel of.model = of.keeps in
+    cc
+meets_lemma p Complete lits weights stands of =
+    let values = p.search.assignment.values in
+    let same : model_of values ≡ of.model = ap model_in of.keeps in
+    let unmet = subst (λ m. All (λ l. IsTrueUnder (under m) l → ⊥) lits) (sym same) of.unmet in
+    record {
+      complete = stands.0;
+      paced = stands.1;
+      falses = lemma_falses p.known.formula values lits weights of.valid unmet;
+      next = lemma_next p lits weights stands.0 of.valid unmet;
+    }
+meets_lemma p Refuted lits weights stands of =
+    let no_model : EndsRefuted ≡ KeepsModel of.model = of.keeps in
+    cc
+meets_lemma p Full lits weights stands of =
+    let no_model : EndsSpent ≡ KeepsModel of.model = of.keeps in
+    cc
+meets_lemma p Lost lits weights stands of =
+    let no_model : LacksMemory ≡ KeepsModel of.model = of.keeps in
+    cc
+
+-- the lemma was added
+pub adds : (old new : Progress) (was : Stage) (waiting left : List (Option (List ℕ))) (lits : List Lit) (weights : List Ratio) → IsFair old.served (length waiting)
+    → length old.known.log.steps < old.limit → AddsTo old waiting lits weights new left → AddsLemma (parts_of old was) waiting lits weights (parts_of new Running) left
+adds old new was waiting left lits weights fair room by = record {
+  room = room;
+  goes_on = record { formula = by.logs.formula; limit = by.limit; steps = ap (λ (l : LogParts). l.steps) by.logs.log };
+  serves = served_next old.served waiting [] old.served waiting (length lits) new.served left (served_none old.served waiting fair) by.tells;
+  sound = logged_sound new Running by.running.logged;
+  searches = refl;
+}
+
+-- no lemma can be added, where the log has as many steps as it may
+pub no_room : (p : Progress) (stage : Stage) (lits : List Lit) (weights : List Ratio) → MeetsLemma p lits weights → length p.known.log.steps ≡ p.limit → IsSpent (parts_of p stage)
+no_room p stage lits weights is full = record {
+  full = full;
+  nonempty = is.complete.running.logged.nonempty;
+  more = Lemma lits weights;
+  valid = is.next.valid;
+  fresh = is.next.fresh;
+}

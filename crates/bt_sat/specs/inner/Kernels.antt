@@ -1,0 +1,84 @@
+-- What a search holds beside its choosers.
+use Rattle.std.specs.Prelude.{◌≡◌, ◌≤◌, ℕ, Bool, false, List, Option, None, Some, length, map}
+use Rattle.bt_frac.specs.Ratio.{Ratio}
+use Rattle.bt_cnf.specs.declared.literal.Lit.{Lit}
+use Rattle.bt_log.specs.Logs.{Lemma}
+use Rattle.bt_sat.specs.Solving.{SolverParts, Standing, Searches, KeepsModel, EndsRefuted, EndsSpent, LacksMemory}
+use Rattle.bt_sat.specs.declared.progress.Progress.{Progress}
+use Rattle.bt_sat.specs.declared.solver.Answer.{Answer}
+use Rattle.bt_sat.specs.declared.solver.Answer.TheVariants as answer
+use Rattle.bt_sat.specs.declared.kernel.Stage.{Stage}
+use Rattle.bt_sat.specs.declared.kernel.Stage.TheVariants.{Running, Complete, Refuted, Full, Lost}
+use Rattle.bt_sat.specs.inner.Choices.{IsComplete}
+use Rattle.bt_sat.specs.inner.Hunting.{HuntsOn, IsFull, IsRefuted}
+use Rattle.bt_sat.specs.inner.Progressing.{IsRunning, LogsStep}
+use Rattle.bt_sat.specs.inner.Telling.{Tells}
+
+-- the value of a variable, which is false where it has none
+abbrev pub value_of : Option Bool → Bool
+value_of None = false
+value_of (Some value) = value
+
+-- the values of the variables
+abbrev pub model_of : List (Option Bool) → List Bool
+model_of values = map value_of values
+
+-- where the search stands, as callers see it
+abbrev pub standing_of : Stage → List (Option Bool) → Standing
+standing_of Running values = Searches
+standing_of Complete values = KeepsModel (model_of values)
+standing_of Refuted values = EndsRefuted
+standing_of Full values = EndsSpent
+standing_of Lost values = LacksMemory
+
+-- what callers see of a search
+abbrev pub parts_of : Progress → Stage → SolverParts
+parts_of p stage = record {
+  formula = p.known.formula;
+  steps = p.known.log.steps;
+  limit = p.limit;
+  served = p.served;
+  standing = standing_of stage p.search.assignment.values;
+}
+
+-- what is known of the search at each stage
+abbrev pub StandsAt : Progress → Stage → Type 0
+StandsAt p Running = IsRunning p × (p.served ≤ length p.known.log.steps)
+StandsAt p Complete = IsComplete p × (p.served ≤ length p.known.log.steps)
+StandsAt p Refuted = IsRefuted p
+StandsAt p Full = IsFull p
+StandsAt p Lost = Unit {0}
+
+-- the log follows the formula, and the search is where its stage says
+pub record IsSound (p : Progress) (stage : Stage) : Type 0 where
+  pub first : p.known.log.first ≡ length p.known.formula.clauses
+  pub stands : StandsAt p stage
+
+-- what an answer says of the search
+abbrev pub Comes : Progress → Answer → Type 0
+Comes p (answer.Model model) = IsComplete p × (model.items ≡ model_of p.search.assignment.values)
+Comes p answer.Refuted = IsRefuted p
+Comes p answer.Spent = IsFull p
+
+-- learnt steps were added, and the answer holds
+abbrev pub AnswersBy : Progress → List (Option (List ℕ)) → Progress → List (Option (List ℕ)) → Answer → Type 0
+AnswersBy old waiting new left answer = HuntsOn old waiting new left × Comes new answer
+
+-- the stage to which an answer leads
+abbrev pub stage_after : Answer → Stage
+stage_after (answer.Model model) = Complete
+stage_after answer.Refuted = Refuted
+stage_after answer.Spent = Full
+
+-- the search has not come to its end
+abbrev pub MayGoOn : Standing → Type 0
+MayGoOn Searches = Unit {0}
+MayGoOn (KeepsModel model) = Unit {0}
+MayGoOn _ = ⊥
+
+-- the lemma is one more step, of which the choosers were told, and the search may go on
+pub record AddsTo (old : Progress) (waiting : List (Option (List ℕ))) (lits : List Lit) (weights : List Ratio) (new : Progress) (left : List (Option (List ℕ))) : Type 0 where
+  pub running : IsRunning new
+  pub logs : LogsStep old.known new.known (Lemma lits weights)
+  pub limit : new.limit ≡ old.limit
+  pub tells : Tells old.served waiting (length lits) new.served left

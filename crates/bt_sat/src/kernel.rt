@@ -1,0 +1,162 @@
+//! What a search holds beside its choosers.
+ghost use Rattle.std.specs.Prelude.{◌≡◌, map, IfOk, OnErr, vec_len};
+ghost use Rattle.bt_sat.specs.Answering.{GivesNext, IsAdded, MayAnswer};
+ghost use Rattle.bt_sat.specs.Serving.{IsFair};
+ghost use Rattle.bt_sat.specs.Solving.{begun, log_of, IsLemmaOf, LacksMemory};
+ghost use Rattle.bt_sat.specs.inner.Kernels.{MayGoOn, stage_after};
+
+use crate::loading::load;
+use crate::progress::Progress;
+use crate::solver::{Added, Answer};
+use crate::turns::{add, answer};
+use bt_cnf::{Chooser, Formula, Lit};
+use bt_frac::Frac;
+use bt_log::Log;
+use std::alloc::{AllocError, Global};
+use std::marker::Model;
+
+/// How far a search has come.
+#[derive(Clone, Copy)]
+pub enum Stage {
+    /// It goes on.
+    Running,
+    /// All variables have a value, which is the model that was answered.
+    Complete,
+    /// The log refutes the formula.
+    Refuted,
+    /// The log has no room for one more step.
+    Full,
+    /// Memory ran out.
+    Lost,
+}
+
+/// A search, without its choosers.
+#[derive(Drop)]
+pub struct Kernel {
+    progress: Progress,
+    stage: Stage,
+}
+
+impl Model for Kernel {
+    ghost use Rattle.bt_sat.specs.Solving.{SolverParts};
+
+    ghost Value = { SolverParts };
+
+    ghost use Rattle.bt_sat.specs.inner.Kernels.{IsSound, parts_of};
+
+    ghost view = { λ k. parts_of k.progress k.stage };
+
+    ghost invariant = { λ k. IsSound k.progress k.stage };
+}
+
+/// The stage to which an answer leads.
+fn stage_of(answer: &Answer) -> Stage
+    ensures { result ≡ stage_after answer.now }
+{
+    match answer {
+        Answer::Model(_) => Stage::Complete,
+        Answer::Refuted => Stage::Refuted,
+        Answer::Spent => Stage::Full,
+    }
+}
+
+impl Kernel {
+    /// A search that begins, with an empty log.
+    pub fn new(alloc: Global, formula: Formula, limit: u64) -> Result<Kernel, AllocError>
+        ensures { IfOk result (λ k. k ≡ begun formula limit) }
+    {
+        Ok(Kernel {
+            progress: load(alloc, formula, limit)?,
+            stage: Stage::Running,
+        })
+    }
+
+    /// Searches on for the next model.
+    fn go_on<C: Chooser>(&mut self, choosers: &mut Vec<C>) -> Result<Answer, AllocError>
+        requires goes_on { MayGoOn self.old.standing }
+        requires fair { IsFair self.old.served (vec_len choosers.old) }
+        ensures given { IfOk result (GivesNext self.old (map C.told_lengths choosers.old.items)
+            self.new (map C.told_lengths choosers.new.items)) }
+        ensures memory { OnErr result (self.new.standing ≡ LacksMemory) }
+        ensures fair { IsFair self.new.served (vec_len choosers.new) }
+    {
+        match answer(&mut self.progress, choosers) {
+            Ok(answer) => {
+                self.stage = stage_of(&answer);
+                Ok(answer)
+            }
+            Err(error) => {
+                self.stage = Stage::Lost;
+                self.progress.served = 0;
+                Err(error)
+            }
+        }
+    }
+
+    /// Searches for the next model, where the search has not come to its end.
+    pub fn next_model<C: Chooser>(&mut self, choosers: &mut Vec<C>) -> Result<Answer, AllocError>
+        requires { IsFair self.old.served (vec_len choosers.old) }
+        ensures given { IfOk result (GivesNext self.old (map C.told_lengths choosers.old.items)
+            self.new (map C.told_lengths choosers.new.items)) }
+        ensures may { MayAnswer self.old result }
+        ensures memory { OnErr result (self.new.standing ≡ LacksMemory) }
+        ensures fair { IsFair self.new.served (vec_len choosers.new) }
+    {
+        match self.stage {
+            Stage::Running | Stage::Complete => self.go_on(choosers),
+            Stage::Refuted => Ok(Answer::Refuted),
+            Stage::Full => Ok(Answer::Spent),
+            Stage::Lost => Err(AllocError),
+        }
+    }
+
+    /// Adds a lemma where the log has room for a step.
+    pub fn add_lemma<C: Chooser>(
+        &mut self,
+        choosers: &mut Vec<C>,
+        lits: &[Lit],
+        weights: &[Frac],
+    ) -> Result<Added, AllocError>
+        requires lemma { IsLemmaOf self.old lits.now weights.now }
+        requires fair { IsFair self.old.served (vec_len choosers.old) }
+        ensures added { IsAdded self.old (map C.told_lengths choosers.old.items) lits.now weights.now
+            self.new (map C.told_lengths choosers.new.items) result }
+        ensures fair { IsFair self.new.served (vec_len choosers.new) }
+    {
+        if self.progress.known.log.len() as u64 == self.progress.limit {
+            return Ok(Added::Spent);
+        }
+        match add(&mut self.progress, choosers, lits, weights) {
+            Ok(()) => {
+                self.stage = Stage::Running;
+                Ok(Added::Kept)
+            }
+            Err(error) => {
+                self.stage = Stage::Lost;
+                self.progress.served = 0;
+                Err(error)
+            }
+        }
+    }
+
+    /// The steps so far.
+    pub fn log(&self) -> &Log
+        ensures { result.now ≡ log_of self.now }
+    {
+        &self.progress.known.log
+    }
+
+    /// The formula.
+    pub fn formula(&self) -> &Formula
+        ensures { result.now ≡ self.now.formula }
+    {
+        &self.progress.known.formula
+    }
+
+    /// Gives the steps so far.
+    pub fn into_log(self) -> Log
+        ensures { result ≡ log_of self }
+    {
+        self.progress.known.log
+    }
+}

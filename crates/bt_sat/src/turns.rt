@@ -1,0 +1,86 @@
+//! One turn of a search: for the next model, or with one more lemma.
+ghost use Rattle.std.specs.Prelude.{◌≡◌, ◌≤◌, length, map, slice_index_or, IfOk, OnOk, None, vec_len};
+ghost use Rattle.std.specs.List.{All};
+ghost use Rattle.bt_log.specs.Logs.{Lemma};
+ghost use Rattle.bt_sat.specs.Serving.{IsFair};
+ghost use Rattle.bt_sat.specs.inner.Choices.{IsComplete};
+ghost use Rattle.bt_sat.specs.inner.Kernels.{AddsTo, AnswersBy, model_of, value_of};
+ghost use Rattle.bt_sat.specs.inner.Progressing.{HasRoom, IsNextStep, IsRunning, KeepsFormula};
+ghost use Rattle.bt_sat.specs.inner.Truths.{IsFalseIn};
+
+use crate::hunt::{Found, hunt};
+use crate::lemmas::take_lemma;
+use crate::progress::Progress;
+use crate::serving::tell;
+use crate::solver::Answer;
+use crate::truth::Values;
+use bt_cnf::{Chooser, Lit};
+use bt_frac::Frac;
+use std::alloc::{AllocError, Global};
+
+/// The value of the variable at a place, which is false where it has none.
+fn value_at(values: &Values, place: usize) -> bool
+    ensures { result ≡ value_of (slice_index_or values.now place None) }
+{
+    match values.id_at(place) {
+        Some(var) => (*values.get(var)).unwrap_or(false),
+        None => false,
+    }
+}
+
+/// The values of the variables.
+fn list_model(alloc: Global, values: &Values) -> Result<Vec<bool>, AllocError>
+    ensures { IfOk result (λ model. model.items ≡ model_of values.now) }
+{
+    let mut model = Vec::new(alloc);
+    for place in 0..values.len() {
+        model.push(value_at(values, place))?;
+    }
+    Ok(model)
+}
+
+/// Searches until there is a model, or the log refutes, or it has no room.
+pub fn answer<C: Chooser>(
+    progress: &mut Progress,
+    choosers: &mut Vec<C>,
+) -> Result<Answer, AllocError>
+    requires running { IsRunning progress.old }
+    requires paced { progress.old.served ≤ length progress.old.known.log.steps }
+    requires fair { IsFair progress.old.served (vec_len choosers.old) }
+    ensures kept { KeepsFormula progress.old progress.new }
+    ensures answers { IfOk result (AnswersBy progress.old (map C.told_lengths choosers.old.items)
+        progress.new (map C.told_lengths choosers.new.items)) }
+{
+    match hunt(progress, choosers)? {
+        Found::Model => {
+            let alloc = progress.unset.allocator().clone()?;
+            let model = list_model(alloc, &progress.search.assignment.values)?;
+            Ok(Answer::Model(model))
+        }
+        Found::Refuted => Ok(Answer::Refuted),
+        Found::Spent => Ok(Answer::Spent),
+    }
+}
+
+/// Adds a lemma whose literals are all false, and tells the chooser that serves.
+pub fn add<C: Chooser>(
+    progress: &mut Progress,
+    choosers: &mut Vec<C>,
+    lits: &[Lit],
+    weights: &[Frac],
+) -> Result<(), AllocError>
+    requires complete { IsComplete progress.old }
+    requires falses { All (IsFalseIn progress.old.search.assignment.values) lits.now }
+    requires next { IsNextStep progress.old.known (Lemma lits.now weights.now) }
+    requires room { HasRoom progress.old }
+    requires paced { progress.old.served ≤ length progress.old.known.log.steps }
+    requires fair { IsFair progress.old.served (vec_len choosers.old) }
+    ensures kept { KeepsFormula progress.old progress.new }
+    ensures adds { OnOk result (AddsTo progress.old (map C.told_lengths choosers.old.items)
+        lits.now weights.now progress.new (map C.told_lengths choosers.new.items)) }
+{
+    let served = progress.served;
+    take_lemma(progress, lits, weights)?;
+    progress.served = tell(choosers, served, lits)?;
+    Ok(())
+}
