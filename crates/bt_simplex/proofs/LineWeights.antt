@@ -1,17 +1,14 @@
 -- The weights of the failing line are those of the basis.
-use Rattle.std.proofs.Common.{◌≡◌, ◌≢◌, ◌⊎◌, ◌↔◌, ℕ, ◌+◌, ◌-◌, ◌==◌, ◌≤◌, ◌*◌, arith, pos, ℤ, ◌*ℤ◌, Bool, true, false, IsTrue, if◌then◌else◌, map, List, [], ◌∷◌, Option, Some, None, ap, sym, ◌∙◌, refl, subst, inl, inr}
+use Rattle.std.proofs.Common.{◌≡◌, ◌≢◌, ◌↔◌, ℕ, ◌+◌, ◌-◌, ◌==◌, ◌≤◌, ◌*◌, arith, pos, ℤ, ◌*ℤ◌, Bool, true, false, IsTrue, if◌then◌else◌, map, List, [], ◌∷◌, Some, None, ap, sym, ◌∙◌, refl, subst, inl, inr}
 use Rattle.std.specs.List.{All}
 use Rattle.std.proofs.lemmas.Int.{ints}
 use Rattle.std.proofs.lemmas.Bool.Decides.{nat_tests}
 use Rattle.std.proofs.lemmas.List.Elements.{All-head, All-tail}
 use Rattle.bt_frac.specs.Ratio.{Ratio, negated}
-use Rattle.bt_frac.specs.Columns.{AreColumnsFrom}
-use Rattle.bt_frac.specs.Rows.{RowParts, columns_of}
 use Rattle.bt_frac.specs.Values.{times}
 use Rattle.bt_lin.specs.WeightedRows.{coefficient_at}
 use Rattle.bt_simplex.specs.Lines.{one, Terms}
 use Rattle.bt_simplex.specs.Points.{bound_row}
-use Rattle.bt_simplex.specs.SolvedForms.{slot_at}
 use Rattle.bt_simplex.specs.Tableaus.{TableauParts, IsTableau}
 use Rattle.bt_simplex.specs.Turns.{IsStuckAt}
 use Rattle.bt_simplex.specs.Weights.{StandsAbove, IsSign, IsWeight, AreWeights}

@@ -1,5 +1,5 @@
 -- Where a sum of weighted rows is wide, and by which operation.
-use Rattle.std.proofs.Common.{◌≡◌, ℕ, ◌<◌, ◌+◌, arith, List, [], ◌∷◌, ◌++◌, length, get_or, take, drop, take-append-drop, Option, Some, None, map, zero, suc, ◌⊎◌, inl, inr, ap, sym, ◌∙◌, refl, subst}
+use Rattle.std.proofs.Common.{◌≡◌, ℕ, ◌<◌, ◌+◌, arith, List, [], ◌∷◌, ◌++◌, length, get_or, take, drop, take-append-drop, Some, None, map, zero, suc, ◌⊎◌, inl, inr, ap, sym, ◌∙◌, refl, subst}
 use Rattle.std.specs.List.{All}
 use Rattle.std.specs.Prelude.{Contains}
 use Rattle.std.proofs.lemmas.List.{get_or_default, length-take-le}
@@ -7,7 +7,7 @@ use Rattle.std.proofs.lemmas.List.Elements.{All-contains}
 use Rattle.bt_frac.specs.Ratio.{Ratio, IsLowest, IsWide, SameRatio}
 use Rattle.bt_frac.specs.Products.{IsProduct}
 use Rattle.bt_frac.specs.Rows.{RowParts, columns_in, end_of}
-use Rattle.bt_frac.specs.Values.{nothing, times, sum_of_products}
+use Rattle.bt_frac.specs.Values.{nothing, sum_of_products}
 use Rattle.bt_frac.proofs.RowColumns.{left_from}
 use Rattle.bt_lin.specs.Farkas.{IsWidePlace, IsFirstWide}
 use Rattle.bt_lin.specs.RunningSums.{AddsProduct, IsWideStep, RunsTo}
@@ -16,12 +16,12 @@ use Rattle.bt_lin.specs.declared.places.Place.{Place}
 use Rattle.bt_lin.specs.declared.places.Place.TheVariants.{Column, Bound}
 use Rattle.bt_lin.specs.declared.wide.WideAt.{WideAt}
 use Rattle.bt_lin.proofs.FarkasLemmas.{below_end}
-use Rattle.bt_lin.proofs.PlaceLemmas.{wide_at, unwide_by_run, unwide_before, row_within, coefficient_named, named_at}
+use Rattle.bt_lin.proofs.PlaceLemmas.{wide_at, unwide_before, row_within, coefficient_named, named_at}
 use Rattle.bt_lin.proofs.RunLemmas.{runs_reach}
 use Rattle.bt_simplex.specs.Causes.{IsNone, IsAddend, IsRowStep, IsStepAt, IsCause}
 use Rattle.bt_simplex.specs.Tableaus.{TableauParts, IsTableau}
 use Rattle.bt_simplex.specs.Turns.{IsStuckAt}
-use Rattle.bt_simplex.specs.Weights.{AreWeights, weighted_rows}
+use Rattle.bt_simplex.specs.Weights.{weighted_rows}
 use Rattle.bt_simplex.specs.declared.answers.Operation.{Operation}
 use Rattle.bt_simplex.specs.declared.answers.Operation.TheVariants.{Add, Mul, Div}
 use Rattle.bt_simplex.specs.declared.causes.Cause.{Cause}

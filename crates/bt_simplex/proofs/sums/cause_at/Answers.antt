@@ -1,4 +1,4 @@
-use Rattle.std.proofs.Common.{◌≡◌, ◌<◌, ◌+◌, ◌∙◌, arith, length, take, sym, subst}
+use Rattle.std.proofs.Common.{◌<◌, ◌+◌, ◌∙◌, arith, length, take, sym, subst}
 use Rattle.bt_frac.specs.Values.{nothing}
 use Rattle.bt_lin.specs.RunningSums.{RunsTo}
 use Rattle.bt_lin.specs.WeightedRows.{pairs_at}
