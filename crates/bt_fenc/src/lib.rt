@@ -18,6 +18,9 @@ mod splitters;
 mod tests;
 
 pub use encoding::encode;
-pub use law::{breaking_meets, flow_formulas_are_small, meeting_breaks, refuted_holds, steady_meets, true_claims_meet};
+pub use law::{
+    breaking_meets, flow_formulas_are_small, meeting_breaks, refuted_holds, steady_meets,
+    true_claims_meet,
+};
 pub use solution::state_of;
 pub use std::alloc::AllocError as Memory;

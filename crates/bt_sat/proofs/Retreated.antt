@@ -47,8 +47,8 @@ module _ (all : List (List Lit)) (old new : Search) (clause : List Lit) (picked 
   below_vars : All (λ (l : Lit). l.var < length new.assignment.values) (falses_at old.assignment.trail.items picked)
   below_vars = subst (λ n. All (λ (l : Lit). l.var < n) (falses_at old.assignment.trail.items picked)) (sym back.forgets.variables)
       (all_of (λ (l : Lit). l.var < length old.assignment.values) (falses_at old.assignment.trail.items picked) (λ l among.
-          let (k, there, is) = in_map (false_at old.assignment.trail.items) picked l among in
-          subst (λ (x : Lit). x.var < length old.assignment.values) is (ready.ordered.whole.truths.below k no_lit (are.within k there))))
+      let (k, there, is) = in_map (false_at old.assignment.trail.items) picked l among in
+      subst (λ (x : Lit). x.var < length old.assignment.values) is (ready.ordered.whole.truths.below k no_lit (are.within k there))))
 
   asserts : start_of old level ≤ get_or picked 0 0 → CanAdmit all new (falses_at old.assignment.trail.items picked)
   asserts high =

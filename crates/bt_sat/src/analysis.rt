@@ -30,7 +30,12 @@ pub struct Cut {
 }
 
 /// Puts the places of a clause's literals on the agenda, but for one.
-pub fn note(agenda: &mut Agenda, places: &[usize], clause: &[Lit], but: usize) -> Result<(), AllocError>
+pub fn note(
+    agenda: &mut Agenda,
+    places: &[usize],
+    clause: &[Lit],
+    but: usize,
+) -> Result<(), AllocError>
     requires { All (λ l. l.var < length places.now) clause.now }
     ensures { OnOk result (Notes places.now clause.now but agenda.old agenda.new) }
 {

@@ -69,11 +69,7 @@ fn admit(search: &mut Search, known: &Known, lits: &[Lit]) -> Result<Option<usiz
 }
 
 /// Logs a lemma whose literals are all false, and lets the search go on with it.
-pub fn take_lemma(
-    progress: &mut Progress,
-    lits: &[Lit],
-    weights: &[Frac],
-) -> Result<(), AllocError>
+pub fn take_lemma(progress: &mut Progress, lits: &[Lit], weights: &[Frac]) -> Result<(), AllocError>
     requires complete { IsComplete progress.old }
     requires falses { All (IsFalseIn progress.old.search.assignment.values) lits.now }
     requires next { IsNextStep progress.old.known (Lemma lits.now weights.now) }
@@ -83,11 +79,7 @@ pub fn take_lemma(
 {
     retreat(&mut progress.lesson, &mut progress.search, lits)?;
     progress.settled = progress.search.assignment.trail.len();
-    progress.conflict = admit(
-        &mut progress.search,
-        &progress.known,
-        &progress.lesson.lits,
-    )?;
+    progress.conflict = admit(&mut progress.search, &progress.known, &progress.lesson.lits)?;
     progress.known.log.add_lemma(lits, weights)?;
     Ok(())
 }
