@@ -1,3 +1,4 @@
+pub mod Assignments
 pub mod Choosing
 pub mod Formulas
 pub mod Meeting

@@ -1,17 +1,16 @@
 -- What the map from cells to indices tells of the parts.
-use Rattle.std.proofs.Common.{◌≡◌, ◌↔◌, ◌⊎◌, ℕ, ◌+◌, ◌<◌, ◌≤◌, min, List, length, Option, Some, None, refl, sym, ◌∙◌, ap, subst, inl, inr, ⊎_elim, arith}
+use Rattle.std.proofs.Common.{◌≡◌, ◌↔◌, ℕ, ◌+◌, ◌<◌, ◌≤◌, min, List, length, Option, Some, None, refl, sym, ◌∙◌, ap, subst, inl, inr, ⊎_elim, arith}
 use Rattle.std.specs.Option.{MatchOption}
 use Rattle.std.specs.BTreeMap.{BTreeMap, Updates}
 use Rattle.std.proofs.lemmas.Option.{same_Some, none-some, slice_get_within}
 use Rattle.std.proofs.lemmas.Bool.{cases_lt}
 use Rattle.bt_parts.specs.declared.part.Cell.{Cell}
-use Rattle.bt_parts.specs.declared.part.Kind.{Kind}
-use Rattle.bt_parts.specs.declared.part.Kind.TheVariants.{Belt, Entrance, Exit, Splitter}
 use Rattle.bt_parts.specs.declared.part.Part.{Part}
-use Rattle.bt_parts.specs.Cells.{Covers, IsGreaterHalf, beside}
+use Rattle.bt_parts.specs.Cells.{Covers, IsGreaterHalf}
 use Rattle.bt_parts.specs.Layouts.{HasPart, IsAt, IsWellPlaced}
 use Rattle.bt_parts.specs.Order.{cell_order}
 use Rattle.bt_parts.proofs.CellOrder.{cell_cases}
+use Rattle.bt_parts.proofs.Coverings.{covers_cases}
 use Rattle.bt_parts.proofs.Places.{covers_at}
 use Rattle.bt_grid.specs.inner.Index.{index_at, IsIndexOf, IsLesser, IsFreeFor, IsLeastOn, Adds}
 use Rattle.bt_grid.specs.Placing.{IsFirstOverlap}
@@ -25,23 +24,6 @@ each_cell : (part : Part) (second : Option Cell) → IsSecond part second → (P
     → P part.cell → ((cell : Cell) → second ≡ Some cell → P cell) → (cell : Cell) → Covers part cell → P cell
 each_cell part second is_second P first greater cell (inl e) = subst P (sym e) first
 each_cell part second is_second P first greater cell (inr g) = greater cell ((is_second cell).1 g)
-
-splitter_cases : (kind : Kind) → (kind ≡ Splitter) ⊎ (kind ≡ Splitter → ⊥)
-splitter_cases Belt = inr (λ e. cc)
-splitter_cases Entrance = inr (λ e. cc)
-splitter_cases Exit = inr (λ e. cc)
-splitter_cases Splitter = inl refl
-
--- a part covers a cell or not
-pub covers_cases : (part : Part) (cell : Cell) → Covers part cell ⊎ (Covers part cell → ⊥)
-covers_cases part cell =
-    ⊎_elim (λ one. inl (inl one.0))
-    (λ one. ⊎_elim
-    (λ kind. ⊎_elim (λ two. inl (inr (kind, two.0))) (λ two. inr (⊎_elim one.0 (λ g. two.0 g.1)))
-    (cell_cases cell (beside part.dir part.cell)))
-    (λ other. inr (⊎_elim one.0 (λ g. other g.0)))
-    (splitter_cases part.kind))
-    (cell_cases cell part.cell)
 
 index_on : (cells : BTreeMap Cell ℕ) (second : Option Cell) (other : Option ℕ)
     → MatchOption second (other ≡ None) (λ cell. other ≡ index_at cells cell)

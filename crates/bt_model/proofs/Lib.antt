@@ -5,3 +5,9 @@ pub mod PathLemmas
 pub mod Covering
 pub mod Sorted
 pub mod SpeedLemmas
+pub mod Places
+pub mod SightLemmas
+pub mod HandLaws
+pub mod ChainLemmas
+pub mod ExistLemmas
+pub mod SameChain

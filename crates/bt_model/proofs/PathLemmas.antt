@@ -251,3 +251,24 @@ links_missed parts placed i j giver taker is_i is_j above there none k link =
     let on : LinksTo parts i j = subst (λ x. LinksTo parts i x) same link in
     none (λ e. on.1.2 (subst (λ t. t.kind ≡ Splitter) (same_part parts j taker on.1.0 is_j on.1.1) e))
     (feeds_part parts i j giver taker giver.cell is_i is_j (subst (λ x. FeedsFrom parts i giver.cell x) same ahead.0))
+
+-- a path that comes back to its first part has it on a ring
+path_closes : (parts : List Part) (i last : ℕ) (links : List ℕ) → Path parts i last links → (k : ℕ) → suc k < length links → get_or links (suc k) 0 ≡ i → IsOnRing parts i
+path_closes parts i last links path k lt back =
+    ⊎_elim
+    (λ next.
+    let front = path_front parts i last links path k (omega arith) in
+    record { last = get_or links k 0; links = front.0; path = front.1; closed = subst (λ x. Hands parts (get_or links k 0) x) back next.0.2 })
+    (λ end. let e = end.0 in absurd (omega arith))
+    (path_next parts i last links path k (omega arith))
+
+-- a part that a path has twice is on a ring
+pub path_twice : (parts : List Part) (i last : ℕ) (links : List ℕ) → Path parts i last links → (k l : ℕ) → k < l → l < length links
+    → get_or links k 0 ≡ get_or links l 0 → IsOnRing parts (get_or links k 0)
+path_twice parts i last links (one j link) k l lt in' same = absurd (omega arith)
+path_twice parts i last links (more j m e rest link hands path) zero zero lt in' same = absurd (omega arith)
+path_twice parts i last links (more j m e rest link hands path) zero (suc l) lt in' same =
+    path_closes parts j last (j ∷ rest) (more j m last rest link hands path) l in' (sym same)
+path_twice parts i last links (more j m e rest link hands path) (suc k) zero lt in' same = absurd (omega arith)
+path_twice parts i last links (more j m e rest link hands path) (suc k) (suc l) lt in' same =
+    path_twice parts m last rest path k l (omega arith) (omega arith) same

@@ -2,6 +2,8 @@ pub mod Chains
 pub mod Clean
 pub mod Handing
 pub mod Laying
+pub mod Orderly
 pub mod Requests
 pub mod Shown
 pub mod Speeds
+pub mod inner

@@ -8,7 +8,7 @@ use Rattle.bt_net.specs.declared.network.Edge.{Edge}
 use Rattle.bt_net.specs.Network.{Network}
 use Rattle.bt_model.specs.Chains.{Chain, begins, ends, IsChain}
 use Rattle.bt_model.specs.Shown.{Naming, IsEdgeOf, Shows}
-use Rattle.bt_recover.proofs.Counts.{zip_length, zip_at}
+use Rattle.bt_model.proofs.Places.{zip_length, zip_at}
 use Rattle.bt_place.proofs.Placing.{Placed, placed}
 
 -- each edge has a chain that it stands for, and each chain is that of one edge

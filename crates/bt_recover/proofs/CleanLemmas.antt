@@ -9,7 +9,7 @@ use Rattle.bt_grid.specs.declared.pairing.PairFault.{PairFault}
 use Rattle.bt_grid.specs.declared.pairing.PairFault.TheVariants.{Unpaired, Memory}
 use Rattle.bt_grid.specs.Pairing.{ArePartners, partner_of, ArePairedAs}
 use Rattle.bt_model.specs.Clean.{IsPaired, IsSideLoaded, IsBlocked, IsOnRing, IsClean}
-use Rattle.bt_recover.specs.Recovered.{Never, IsOrderly}
+use Rattle.bt_model.specs.Orderly.{Never, IsOrderly}
 use Rattle.bt_recover.specs.inner.Refused.{IsRefused, fault_of}
 
 one_pair : (parts : List Part) (partners : List (Option ℕ)) → ArePartners parts partners → (i : ℕ) → IsPieceAt parts i → (o : Option ℕ) → partner_of partners i ≡ o → IsPaired parts i

@@ -2,7 +2,7 @@
 use Rattle.std.proofs.Common.{◌≡◌, ◌≢◌, ◌⊎◌, ℕ, ◌+◌, ◌<◌, ◌≤◌, List, [], ◌∷◌, ◌++◌, length, get_or, Some, refl, sym, ◌∙◌, ap, subst, inl, inr, ⊎_elim, arith}
 use Rattle.std.specs.List.{slice_get, AllPairs, Contains}
 use Rattle.std.proofs.lemmas.Int.{ints}
-use Rattle.std.proofs.lemmas.Option.{same_Some, slice_get_within, slice_get-get_or, get_or_from_slice_get}
+use Rattle.std.proofs.lemmas.Option.{same_Some, slice_get_within, get_or_from_slice_get}
 use Rattle.std.proofs.lemmas.Bool.{cases_lt}
 use Rattle.std.proofs.lemmas.List.{get_or_default, length_push}
 use Rattle.std.proofs.lemmas.List.Elements.{Contains-append_left, Contains-push, Contains-push_cases}
@@ -29,10 +29,11 @@ use Rattle.bt_recover.specs.declared.edges.Way.{Way}
 use Rattle.bt_recover.specs.inner.Edges.{AreNames, LeadsTo, LeadsFrom, StartsNone, AreEdges, HasEdges, AllDone}
 use Rattle.bt_recover.specs.inner.Speeds.{IsSlowedBy}
 use Rattle.bt_recover.proofs.Done.{InputsDone, SplittersDone, HalfDone}
-use Rattle.bt_recover.proofs.HandLaws.{front_fed}
-use Rattle.bt_recover.proofs.ChainLemmas.{orderly_of, chain_from}
-use Rattle.bt_recover.proofs.ExistLemmas.{no_long_path, input_chain, half_chain, empty_chain}
-use Rattle.bt_recover.proofs.SameChain.{begins_cell, leaves_half}
+use Rattle.bt_model.proofs.HandLaws.{front_fed}
+use Rattle.bt_model.proofs.ChainLemmas.{orderly_of, chain_from}
+use Rattle.bt_model.proofs.ExistLemmas.{no_long_path, input_chain, half_chain, empty_chain}
+use Rattle.bt_model.proofs.Places.{contained_at}
+use Rattle.bt_model.proofs.SameChain.{begins_cell, leaves_half}
 use Rattle.bt_recover.proofs.Counts.{zip_push}
 
 -- ---- following a chain
@@ -297,9 +298,6 @@ edges_input parts clean naming names k i edges edge input at n has =
     }) (inr (edge, n, refl)) has
 
 -- all inputs are done
-pub contained_at : (xs : List ℕ) (x : ℕ) → Contains xs x → (k : ℕ) × (k < length xs) × (slice_get xs k ≡ Some x)
-contained_at xs x there = (there.0, there.1, slice_get-get_or xs there.0 x there.1 ∙ ap Some there.2)
-
 input_of : (parts : List Part) (c : Chain) (i : ℕ) (cell : Cell) → IsChain parts c → c.source ≡ begins i cell → IsInput parts i
 input_of parts c i cell (inl h) e = (subst (λ x. StartsAs parts x h.first) e h.starts).1
 input_of parts c i cell (inr h) e = absurd (let s = h.source in cc)

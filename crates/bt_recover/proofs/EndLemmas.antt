@@ -27,7 +27,7 @@ use Rattle.bt_model.specs.Chains.{IsInput, IsOutput}
 use Rattle.bt_model.specs.Shown.{Precedes, IsPlacedBefore, ListsEach}
 use Rattle.bt_parts.proofs.Places.{same_part, one_there}
 use Rattle.bt_recover.specs.inner.Ends.{ListsUpTo, IsKeyed, AreKeyed}
-use Rattle.bt_recover.proofs.ExistLemmas.{input_unhanded}
+use Rattle.bt_model.proofs.ExistLemmas.{input_unhanded}
 
 pub none_listed : (P : ℕ → Type 0) → ListsUpTo P [] 0
 none_listed P = record {

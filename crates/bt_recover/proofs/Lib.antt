@@ -1,15 +1,11 @@
-pub mod ChainLemmas
 pub mod CleanLemmas
 pub mod Counts
 pub mod Done
 pub mod EdgeLemmas
 pub mod EndLemmas
-pub mod ExistLemmas
-pub mod HandLaws
 pub mod MarkLemmas
 pub mod NetworkLemmas
 pub mod OneRecovery
+pub mod PartnerLaws
 pub mod RefusalLemmas
-pub mod SameChain
-pub mod SightLemmas
 pub mod WiredLemmas

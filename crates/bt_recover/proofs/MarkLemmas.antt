@@ -10,31 +10,11 @@ use Rattle.bt_model.specs.Handing.{Hands}
 use Rattle.bt_model.specs.Chains.{IsLink, LinksTo, Path, one, more}
 use Rattle.bt_model.specs.Clean.{IsOnRing}
 use Rattle.bt_model.proofs.HandLemmas.{one_handed}
-use Rattle.bt_model.proofs.PathLemmas.{path_start, path_snoc, path_within, path_next, path_front, crowded}
-use Rattle.bt_recover.specs.Recovered.{IsFirst, Never, IsOrderly}
+use Rattle.bt_model.proofs.PathLemmas.{path_start, path_snoc, path_within, path_twice, crowded}
+use Rattle.bt_model.specs.Orderly.{Never, IsOrderly}
+use Rattle.bt_recover.specs.Recovered.{IsFirst}
 use Rattle.bt_recover.specs.inner.Marks.{IsMarked, AreMarks, Keeps, IsUnmarkedLink}
-use Rattle.bt_recover.proofs.HandLaws.{one_giver}
-
--- a path that comes back to its first part has it on a ring
-path_closes : (parts : List Part) (i last : ℕ) (links : List ℕ) → Path parts i last links → (k : ℕ) → suc k < length links → get_or links (suc k) 0 ≡ i → IsOnRing parts i
-path_closes parts i last links path k lt back =
-    ⊎_elim
-    (λ next.
-    let front = path_front parts i last links path k (omega arith) in
-    record { last = get_or links k 0; links = front.0; path = front.1; closed = subst (λ x. Hands parts (get_or links k 0) x) back next.0.2 })
-    (λ end. let e = end.0 in absurd (omega arith))
-    (path_next parts i last links path k (omega arith))
-
--- a part that a path has twice is on a ring
-pub path_twice : (parts : List Part) (i last : ℕ) (links : List ℕ) → Path parts i last links → (k l : ℕ) → k < l → l < length links
-    → get_or links k 0 ≡ get_or links l 0 → IsOnRing parts (get_or links k 0)
-path_twice parts i last links (one j link) k l lt in' same = absurd (omega arith)
-path_twice parts i last links (more j m e rest link hands path) zero zero lt in' same = absurd (omega arith)
-path_twice parts i last links (more j m e rest link hands path) zero (suc l) lt in' same =
-    path_closes parts j last (j ∷ rest) (more j m last rest link hands path) l in' (sym same)
-path_twice parts i last links (more j m e rest link hands path) (suc k) zero lt in' same = absurd (omega arith)
-path_twice parts i last links (more j m e rest link hands path) (suc k) (suc l) lt in' same =
-    path_twice parts m last rest path k l (omega arith) (omega arith) same
+use Rattle.bt_model.proofs.HandLaws.{one_giver}
 
 -- what a part on a ring hands to is on the ring
 ring_next : (parts : List Part) → IsWellPlaced parts → (i j last : ℕ) (links : List ℕ) → Path parts i last links → Hands parts last i → LinksTo parts i j → IsOnRing parts j

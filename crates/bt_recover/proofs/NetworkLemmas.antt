@@ -30,9 +30,10 @@ use Rattle.bt_recover.specs.declared.edges.Way.{Way}
 use Rattle.bt_recover.specs.inner.Edges.{AreNames, HasMany, KeepsOthers, AreNumbered, AreNumbers, AreLabels, target_at, LeadsTo, LeadsFrom, cap_at, edge_to, AddsEdge, AddsHalves, HasEdges, AllDone, net_with}
 use Rattle.bt_recover.specs.inner.Refused.{size_fault, IsNetTold}
 use Rattle.bt_recover.proofs.Done.{InputsDone, SplittersDone}
-use Rattle.bt_recover.proofs.ChainLemmas.{orderly_of, no_link}
-use Rattle.bt_recover.proofs.ExistLemmas.{at_cases, part_cases, run_from, input_link, output_link, input_chain, half_chain, empty_chain}
-use Rattle.bt_recover.proofs.EdgeLemmas.{IsEdgeFrom, AddsEdgeFrom, half_feeds, half_starts_none, leads_from_input, contained_at, edges_none, edges_input, edges_inputs, edges_halves, edges_all}
+use Rattle.bt_model.proofs.ChainLemmas.{orderly_of, no_link}
+use Rattle.bt_model.proofs.ExistLemmas.{at_cases, part_cases, run_from, input_link, output_link, input_chain, half_chain, empty_chain}
+use Rattle.bt_model.proofs.Places.{contained_at}
+use Rattle.bt_recover.proofs.EdgeLemmas.{IsEdgeFrom, AddsEdgeFrom, half_feeds, half_starts_none, leads_from_input, edges_none, edges_input, edges_inputs, edges_halves, edges_all}
 
 -- ---- the numbers of the parts
 

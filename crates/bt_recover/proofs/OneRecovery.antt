@@ -12,7 +12,8 @@ use Rattle.bt_model.specs.Shown.{Naming, IsNumbered}
 use Rattle.bt_model.proofs.OneNetwork.{same_network, same_naming}
 use Rattle.bt_recover.specs.declared.fault.RecoverFault.{RecoverFault}
 use Rattle.bt_recover.specs.declared.fault.RecoverFault.TheVariants.{Unpaired, SideLoad, Blocked, Ring, TooLarge, NoEnds, Memory}
-use Rattle.bt_recover.specs.Recovered.{IsFirst, AllPaired, Never, IsRecovered}
+use Rattle.bt_model.specs.Orderly.{AllPaired, Never}
+use Rattle.bt_recover.specs.Recovered.{IsFirst, IsRecovered}
 use Rattle.bt_recover.specs.inner.Refused.{IsRefused, IsNetTold}
 
 -- what is told of a layout

@@ -7,18 +7,16 @@ use Rattle.bt_parts.specs.declared.part.Dir.{Dir}
 use Rattle.bt_parts.specs.declared.part.Kind.TheVariants.{Belt, Entrance, Splitter}
 use Rattle.bt_parts.specs.declared.part.Part.{Part}
 use Rattle.bt_parts.specs.declared.part.Side.{Side}
-use Rattle.bt_parts.specs.declared.part.Side.TheVariants.{Across, Ahead}
+use Rattle.bt_parts.specs.declared.part.Side.TheVariants.{Across}
 use Rattle.bt_parts.specs.Cells.{Covers, IsGreaterHalf, step, opposite}
-use Rattle.bt_parts.specs.Handing.{ComesFrom, TakesFrom}
+use Rattle.bt_parts.specs.Handing.{ComesFrom}
 use Rattle.bt_parts.specs.Layouts.{HasPart, IsAt, IsWellPlaced, IsUnderground}
-use Rattle.bt_model.specs.Handing.{Feeds, BlocksFrom}
+use Rattle.bt_model.specs.Handing.{BlocksFrom}
 use Rattle.bt_model.specs.Clean.{HasTwoFeeders, IsSeenAcross, IsSideLoaded, IsHalfBlocked, IsBlocked}
 use Rattle.bt_parts.proofs.Places.{same_part, covers_at, within_at}
-use Rattle.bt_recover.specs.inner.Sight.{left, LooksToward, IsSeen, IsSeenAside, IsSeenTwice}
-use Rattle.bt_recover.proofs.SightLemmas.{toward, from_toward, one_toward, one_dir, dir_cases, not_opposite, not_left, not_right, left_not_opposite, right_not_opposite, comes, one_side}
-
-belt_link : (part : Part) → part.kind ≡ Belt → part.kind ≢ Splitter
-belt_link part e k = absurd (let a = e in let b = k in cc)
+use Rattle.bt_model.proofs.HandLaws.{belt_fed, belt_feeder}
+use Rattle.bt_model.specs.inner.Sight.{left, LooksToward, IsSeen, IsSeenAside, IsSeenTwice}
+use Rattle.bt_model.proofs.SightLemmas.{toward, from_toward, one_toward, one_dir, dir_cases, not_opposite, not_left, not_right, left_not_opposite, right_not_opposite, one_side}
 
 piece_link : (part : Part) → IsUnderground part → part.kind ≢ Splitter
 piece_link part (inl e) k = absurd (let a = e in let b = k in cc)
@@ -27,33 +25,6 @@ piece_link part (inr e) k = absurd (let a = e in let b = k in cc)
 belt_no_piece : (part : Part) → part.kind ≡ Belt → IsUnderground part → ⊥
 belt_no_piece part e (inl k) = let a = e in let b = k in cc
 belt_no_piece part e (inr k) = let a = e in let b = k in cc
-
--- a belt takes from all sides but ahead
-pub belt_fed : (parts : List Part) (p i : ℕ) (dir : Dir) (part : Part) → HasPart parts i part → part.kind ≡ Belt → dir ≢ opposite part.dir
-    → LooksToward parts part.cell dir p → Feeds parts p i
-belt_fed parts p i dir part is_i belt aside there =
-    let from = comes dir part.dir in
-    let look = from_toward parts p i dir part from.0 is_i from.1 there in (
-      step (opposite dir) part.cell,
-      record {
-        side = from.0;
-        look = look;
-        takes = subst (λ k. TakesFrom k from.0) (sym (ap (λ t. t.kind) (same_part parts i look.taker.part part look.taker.is_i is_i) ∙ belt))
-            (λ e. aside (subst (λ s. ComesFrom dir part.dir s) e from.1));
-      },
-    )
-
--- a feeder of a belt looks at it, and not from ahead
-pub belt_feeder : (parts : List Part) (p i : ℕ) (part : Part) → HasPart parts i part → part.kind ≡ Belt → Feeds parts p i
-    → (dir : Dir) × (dir ≢ opposite part.dir) × LooksToward parts part.cell dir p
-belt_feeder parts p i part is_i belt feeds =
-    let look = feeds.1.look in
-    let same = same_part parts i look.taker.part part look.taker.is_i is_i in
-    let takes : TakesFrom Belt feeds.1.side = subst (λ k. TakesFrom k feeds.1.side) (ap (λ t. t.kind) same ∙ belt) feeds.1.takes in (
-      look.giver.part.dir,
-      λ e. takes (one_side look.giver.part.dir part.dir feeds.1.side Ahead (subst (λ t. ComesFrom look.giver.part.dir t.dir feeds.1.side) same look.comes) e),
-      toward parts p i feeds.0 feeds.1.side part is_i (belt_link part belt) look,
-    )
 
 two_seen : (parts : List Part) (i : ℕ) (part : Part) → HasPart parts i part → part.kind ≡ Belt
     → (d e : Dir) → d ≢ e → d ≢ opposite part.dir → e ≢ opposite part.dir → IsSeen parts part.cell d → IsSeen parts part.cell e → HasTwoFeeders parts i

@@ -17,10 +17,11 @@ use Rattle.bt_model.specs.Chains.{IsSplitter, IsInput, IsOutput, Source, begins,
 use Rattle.bt_model.specs.Shown.{Naming, IsNaming, IsStartOf, IsTargetOf, IsEdgeOf, IsNumbered}
 use Rattle.bt_model.proofs.Sorted.{one_place}
 use Rattle.bt_model.proofs.SpeedLemmas.{cap_range}
-use Rattle.bt_recover.proofs.ChainLemmas.{orderly_of, chain_from}
-use Rattle.bt_recover.proofs.ExistLemmas.{from_input, to_output}
-use Rattle.bt_recover.proofs.SameChain.{same_begins, same_ends, leaves_half, Hop, hop_of, hop_half, same_hop}
-use Rattle.bt_recover.proofs.Counts.{zip_length, zip_at, AtMostOne, AtMostTwo, count_one, count_two, count_some, two_of_three}
+use Rattle.bt_model.proofs.ChainLemmas.{orderly_of, chain_from}
+use Rattle.bt_model.proofs.ExistLemmas.{from_input, to_output}
+use Rattle.bt_model.proofs.SameChain.{same_begins, same_ends, leaves_half, Hop, hop_of, hop_half, same_hop}
+use Rattle.bt_model.proofs.Places.{zip_length, zip_at}
+use Rattle.bt_recover.proofs.Counts.{AtMostOne, AtMostTwo, count_one, count_two, count_some, two_of_three}
 
 -- what the tests of edges tell
 input_tells : (i : ℕ) (e : Edge) → is_input i e ≡ true → e.start ≡ from.Input i

@@ -1,10 +1,11 @@
 -- What `recover` tells of a layout: the network that it shows, or the first refusal.
 use Rattle.std.specs.Prelude.{ℕ, ◌<◌, List, Result, Ok, Err}
 use Rattle.bt_parts.specs.declared.part.Part.{Part}
-use Rattle.bt_parts.specs.Layouts.{IsWellPlaced, IsPieceAt, IsUnpaired}
+use Rattle.bt_parts.specs.Layouts.{IsUnpaired}
 use Rattle.bt_net.specs.Network.{Network, IsNetwork, IsLarge, LacksEnds}
 use Rattle.bt_model.specs.Shown.{Naming, IsNumbered}
-use Rattle.bt_model.specs.Clean.{IsPaired, IsSideLoaded, IsBlocked, IsOnRing}
+use Rattle.bt_model.specs.Clean.{IsSideLoaded, IsBlocked, IsOnRing}
+use Rattle.bt_model.specs.Orderly.{Never, AllPaired, IsOrderly}
 use Rattle.bt_recover.specs.declared.fault.RecoverFault.{RecoverFault}
 use Rattle.bt_recover.specs.declared.fault.RecoverFault.TheVariants.{Unpaired, SideLoad, Blocked, Ring, TooLarge, NoEnds, Memory}
 use Rattle.bt_recover.specs.declared.recovery.Traced.{Traced}
@@ -17,21 +18,6 @@ network_and_naming traced =
 -- i is of this kind, and no lesser number is
 abbrev pub IsFirst : (ℕ → Type 0) → ℕ → Type 0
 IsFirst P i = P i × ((j : ℕ) → j < i → P j → ⊥)
-
--- no number is of this kind
-abbrev pub Never : (ℕ → Type 0) → Type 0
-Never P = (i : ℕ) → P i → ⊥
-
--- each underground piece is in one pair, and in no other
-abbrev pub AllPaired : List Part → Type 0
-AllPaired parts = (i : ℕ) → IsPieceAt parts i → IsPaired parts i
-
--- all that makes a layout clean, but that it may have rings
-pub record IsOrderly (parts : List Part) : Type 0 where
-  pub well_placed : IsWellPlaced parts
-  pub paired : AllPaired parts
-  pub no_side_load : Never (IsSideLoaded parts)
-  pub no_blocked : Never (IsBlocked parts)
 
 -- the right answer to a layout in which no two parts share a cell: its network with its own numbering, and
 -- which parts bear the numbers; or the first fault in this order, of the least part: a piece in no pair,

@@ -3,6 +3,5 @@ pub mod Edges
 pub mod Ends
 pub mod Marks
 pub mod Refused
-pub mod Sight
 pub mod Speeds
 pub mod Told

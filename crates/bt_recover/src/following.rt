@@ -8,8 +8,8 @@ ghost use Rattle.bt_parts.specs.Layouts.{HasPart, IsAt, IsWellPlaced};
 ghost use Rattle.bt_grid.specs.Pairing.{ArePartners};
 ghost use Rattle.bt_model.specs.Handing.{Hands};
 ghost use Rattle.bt_model.specs.Chains.{IsLink, LinksTo, IsOutput};
-ghost use Rattle.bt_recover.specs.Recovered.{IsOrderly};
-ghost use Rattle.bt_recover.specs.inner.Sight.{IsBeltFeeder};
+ghost use Rattle.bt_model.specs.Orderly.{IsOrderly};
+ghost use Rattle.bt_model.specs.inner.Sight.{IsBeltFeeder};
 ghost use Rattle.bt_recover.specs.inner.Told.{TellsOne};
 
 use crate::sight::{left, looker};

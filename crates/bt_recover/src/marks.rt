@@ -6,7 +6,7 @@ ghost use Rattle.std.specs.Prelude.{◌≡◌, ◌≢◌, ◌↔◌, ◌⊎◌, 
 ghost use Rattle.bt_grid.specs.Pairing.{ArePartners};
 ghost use Rattle.bt_model.specs.Chains.{IsLink, LinksTo};
 ghost use Rattle.bt_model.specs.Clean.{IsOnRing};
-ghost use Rattle.bt_recover.specs.Recovered.{IsOrderly};
+ghost use Rattle.bt_model.specs.Orderly.{IsOrderly};
 ghost use Rattle.bt_recover.specs.inner.Marks.{IsMarked, AreMarks, Keeps, IsUnmarkedLink};
 ghost use Rattle.bt_recover.specs.inner.Told.{TellsFirst};
 

@@ -2,7 +2,7 @@
 ghost use Rattle.std.specs.Prelude.{◌≡◌, ◌≢◌, ◌↔◌, ◌⊎◌, ℕ, ◌<◌, length, IsTrue, MatchOption, IfSome};
 ghost use Rattle.bt_parts.specs.Cells.{IsInRange, opposite};
 ghost use Rattle.bt_parts.specs.Layouts.{HasPart, IsAt};
-ghost use Rattle.bt_recover.specs.inner.Sight.{left, LooksToward, IsSeen, IsSeenAside, IsSeenOnBoth, IsSeenTwice};
+ghost use Rattle.bt_model.specs.inner.Sight.{left, LooksToward, IsSeen, IsSeenAside, IsSeenOnBoth, IsSeenTwice};
 ghost use Rattle.bt_recover.specs.inner.Told.{TellsOne};
 
 use bt_grid::Grid;

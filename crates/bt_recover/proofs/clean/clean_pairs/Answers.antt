@@ -1,7 +1,8 @@
 use Rattle.std.proofs.Common.{subst, sym, inl}
 use Rattle.std.proofs.lemmas.Option.{MatchOption-at_some, MatchOption-at_none}
 use Rattle.bt_model.specs.Clean.{IsOnRing}
-use Rattle.bt_recover.specs.Recovered.{IsFirst, Never}
+use Rattle.bt_model.specs.Orderly.{Never}
+use Rattle.bt_recover.specs.Recovered.{IsFirst}
 use Rattle.bt_recover.specs.inner.Refused.{IsRefused}
 use Rattle.bt_recover.proofs.CleanLemmas.{all_paired, orderly, clean, pair_refused}
 use Rattle.bt_recover.proofs.clean.clean_pairs.Goals as goal

@@ -3,7 +3,7 @@ use Rattle.bt_net.specs.declared.network.Start.TheVariants as from
 use Rattle.bt_model.specs.Chains.{IsInput, IsSplitter, IsLink}
 use Rattle.bt_recover.specs.inner.Edges.{naming_of, HasEdges, LeadsTo, AddsHalves}
 use Rattle.bt_recover.proofs.Done.{InputsDone, SplittersDone}
-use Rattle.bt_recover.proofs.ExistLemmas.{input_link}
+use Rattle.bt_model.proofs.ExistLemmas.{input_link}
 use Rattle.bt_recover.proofs.EdgeLemmas.{edges_none, edges_inputs, edges_all}
 use Rattle.bt_recover.proofs.NetworkLemmas.{each_at, input_within, splitter_within, input_step, halves_step}
 use Rattle.bt_recover.proofs.edges.edges_of.Goals as goal

@@ -1,6 +1,6 @@
 use Rattle.std.proofs.Common.{length, ap, arith}
 use Rattle.std.proofs.lemmas.Bool.{iff_false}
-use Rattle.bt_recover.proofs.ChainLemmas.{orderly_of}
+use Rattle.bt_model.proofs.ChainLemmas.{orderly_of}
 use Rattle.bt_recover.proofs.EdgeLemmas.{number_at, following_first, following_more, following_output, following_splitter, following_too_long}
 use Rattle.bt_recover.proofs.edges.way_from.Goals as goal
 

@@ -1,9 +1,9 @@
 use Rattle.std.proofs.Common.{ℕ, ◌∙◌, ap, subst}
 use Rattle.bt_parts.specs.Cells.{opposite}
 use Rattle.std.specs.Option.{MatchOption}
-use Rattle.bt_recover.specs.inner.Sight.{LooksToward}
-use Rattle.bt_recover.proofs.SightLemmas.{not_opposite}
-use Rattle.bt_recover.proofs.HandLaws.{three_seen}
+use Rattle.bt_model.specs.inner.Sight.{LooksToward}
+use Rattle.bt_model.proofs.SightLemmas.{not_opposite}
+use Rattle.bt_model.proofs.HandLaws.{three_seen}
 use Rattle.bt_recover.proofs.following.belt_feeder.Goals as goal
 
 pub returns-in-Some-clause-feeder : goal.returns-in-Some-clause-feeder

@@ -1,4 +1,5 @@
-use Rattle.bt_recover.proofs.HandLaws.{belt_giver, entrance_giver, exit_giver, splitter_giver, partner_within}
+use Rattle.bt_model.proofs.HandLaws.{belt_giver, entrance_giver, splitter_giver}
+use Rattle.bt_recover.proofs.PartnerLaws.{exit_giver, partner_within}
 use Rattle.bt_recover.proofs.following.giver.Goals as goal
 
 pub returns-in-Belt-clause-gives : goal.returns-in-Belt-clause-gives

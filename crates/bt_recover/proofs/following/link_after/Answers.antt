@@ -1,5 +1,5 @@
 use Rattle.std.proofs.lemmas.Bool.{iff_false}
-use Rattle.bt_recover.proofs.HandLaws.{no_link_after, output_hands_none}
+use Rattle.bt_model.proofs.HandLaws.{no_link_after, output_hands_none}
 use Rattle.bt_recover.proofs.following.link_after.Goals as goal
 
 pub returns-in_default-clause-next : goal.returns-in_default-clause-next

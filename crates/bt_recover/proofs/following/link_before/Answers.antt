@@ -1,5 +1,5 @@
 use Rattle.std.proofs.lemmas.Bool.{iff_false}
-use Rattle.bt_recover.proofs.HandLaws.{no_link_before}
+use Rattle.bt_model.proofs.HandLaws.{no_link_before}
 use Rattle.bt_recover.proofs.following.link_before.Goals as goal
 
 pub returns-in_default : goal.returns-in_default

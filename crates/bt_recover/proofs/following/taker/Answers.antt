@@ -1,5 +1,6 @@
 use Rattle.std.proofs.lemmas.Bool.{iff_false}
-use Rattle.bt_recover.proofs.HandLaws.{entrance_taker, front_taker, partner_within, at_within}
+use Rattle.bt_model.proofs.HandLaws.{front_taker, at_within}
+use Rattle.bt_recover.proofs.PartnerLaws.{entrance_taker, partner_within}
 use Rattle.bt_recover.proofs.following.taker.Goals as goal
 
 pub returns-then-is_kind-clause-takes : goal.returns-then-is_kind-clause-takes

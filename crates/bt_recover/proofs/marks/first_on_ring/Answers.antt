@@ -1,6 +1,7 @@
 use Rattle.std.proofs.Common.{◌≡◌, length, ap, subst, arith}
 use Rattle.std.specs.Option.{MatchOption}
-use Rattle.bt_recover.specs.Recovered.{IsFirst, Never}
+use Rattle.bt_model.specs.Orderly.{Never}
+use Rattle.bt_recover.specs.Recovered.{IsFirst}
 use Rattle.bt_recover.specs.inner.Marks.{IsUnmarkedLink}
 use Rattle.bt_recover.proofs.MarkLemmas.{starts_more, first_ring, HasStarts}
 use Rattle.bt_recover.proofs.marks.first_on_ring.Goals as goal

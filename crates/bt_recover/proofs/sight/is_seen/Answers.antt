@@ -1,5 +1,5 @@
-use Rattle.bt_recover.specs.inner.Sight.{LooksToward}
-use Rattle.bt_recover.proofs.SightLemmas.{some_tells}
+use Rattle.bt_model.specs.inner.Sight.{LooksToward}
+use Rattle.bt_model.proofs.SightLemmas.{some_tells}
 use Rattle.bt_recover.proofs.sight.is_seen.Goals as goal
 
 pub returns : goal.returns

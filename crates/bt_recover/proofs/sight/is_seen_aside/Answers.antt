@@ -1,7 +1,7 @@
 use Rattle.std.proofs.Common.{subst, sym, ap, ◌∙◌, inr, ⊎_elim}
 use Rattle.std.proofs.lemmas.Bool.{iff_false}
 use Rattle.bt_parts.specs.Cells.{opposite}
-use Rattle.bt_recover.specs.inner.Sight.{IsSeen}
+use Rattle.bt_model.specs.inner.Sight.{IsSeen}
 use Rattle.bt_recover.proofs.sight.is_seen_aside.Goals as goal
 
 pub returns-else-is_seen : goal.returns-else-is_seen

@@ -2,7 +2,7 @@ use Rattle.std.proofs.Common.{refl}
 use Rattle.std.proofs.lemmas.Bool.{iff_false}
 use Rattle.std.proofs.lemmas.Option.{same_Some}
 use Rattle.bt_parts.proofs.Places.{within_at}
-use Rattle.bt_recover.proofs.SightLemmas.{looker_found, looker_missed, looker_at}
+use Rattle.bt_model.proofs.SightLemmas.{looker_found, looker_missed, looker_at}
 use Rattle.bt_recover.proofs.sight.looker.Goals as goal
 
 pub returns-in_default-clause-seen : goal.returns-in_default-clause-seen

@@ -1,9 +1,10 @@
 -- In an orderly layout each belt and underground piece is handed to by one part, and hands to what is in front of it.
 use Rattle.std.proofs.Common.{◌≡◌, ◌≢◌, ◌⊎◌, ◌↔◌, ℕ, ◌<◌, List, length, Option, Some, None, refl, sym, ◌∙◌, ap, subst, inl, inr, ⊎_elim}
 use Rattle.std.specs.Option.{MatchOption, IfSome}
-use Rattle.std.proofs.lemmas.Option.{none-some, slice_get_within}
+use Rattle.std.proofs.lemmas.Option.{none-some}
 use Rattle.std.proofs.lemmas.Bool.{cases_eq}
 use Rattle.bt_parts.specs.declared.part.Cell.{Cell}
+use Rattle.bt_parts.specs.declared.part.Dir.{Dir}
 use Rattle.bt_parts.specs.declared.part.Kind.{Kind}
 use Rattle.bt_parts.specs.declared.part.Kind.TheVariants.{Belt, Entrance, Exit, Splitter}
 use Rattle.bt_parts.specs.declared.part.Part.{Part}
@@ -12,16 +13,44 @@ use Rattle.bt_parts.specs.declared.part.Side.TheVariants.{Behind, Across, Ahead}
 use Rattle.bt_parts.specs.Cells.{step, opposite}
 use Rattle.bt_parts.specs.Handing.{ComesFrom, TakesFrom}
 use Rattle.bt_parts.specs.Layouts.{HasPart, IsAt, IsUnderground, Pairs}
-use Rattle.bt_grid.specs.Pairing.{ArePartners, partner_of}
 use Rattle.bt_model.specs.Handing.{LooksFrom, FeedsFrom, Feeds, Hands, BlocksFrom}
 use Rattle.bt_model.specs.Chains.{IsLink, LinksTo, IsOutput}
 use Rattle.bt_model.specs.Clean.{IsSeenAcross}
 use Rattle.bt_parts.proofs.Places.{same_part, covers_at, within_at}
 use Rattle.bt_model.proofs.HandLemmas.{one_handed, feeds_own as fed_own, taker_at}
-use Rattle.bt_recover.specs.inner.Sight.{left, LooksToward, IsBeltFeeder}
-use Rattle.bt_recover.specs.Recovered.{IsOrderly}
-use Rattle.bt_recover.proofs.SightLemmas.{toward, from_toward, one_toward, dir_cases, comes, right_not_opposite}
-use Rattle.bt_recover.proofs.RefusalLemmas.{belt_fed, belt_feeder}
+use Rattle.bt_model.specs.inner.Sight.{left, LooksToward, IsBeltFeeder}
+use Rattle.bt_model.specs.Orderly.{IsOrderly}
+use Rattle.bt_model.proofs.SightLemmas.{toward, from_toward, one_toward, dir_cases, comes, one_side, right_not_opposite}
+
+pub belt_link : (part : Part) → part.kind ≡ Belt → part.kind ≢ Splitter
+belt_link part e k = absurd (let a = e in let b = k in cc)
+
+-- a belt takes from all sides but ahead
+pub belt_fed : (parts : List Part) (p i : ℕ) (dir : Dir) (part : Part) → HasPart parts i part → part.kind ≡ Belt → dir ≢ opposite part.dir
+    → LooksToward parts part.cell dir p → Feeds parts p i
+belt_fed parts p i dir part is_i belt aside there =
+    let from = comes dir part.dir in
+    let look = from_toward parts p i dir part from.0 is_i from.1 there in (
+      step (opposite dir) part.cell,
+      record {
+        side = from.0;
+        look = look;
+        takes = subst (λ k. TakesFrom k from.0) (sym (ap (λ t. t.kind) (same_part parts i look.taker.part part look.taker.is_i is_i) ∙ belt))
+            (λ e. aside (subst (λ s. ComesFrom dir part.dir s) e from.1));
+      },
+    )
+
+-- a feeder of a belt looks at it, and not from ahead
+pub belt_feeder : (parts : List Part) (p i : ℕ) (part : Part) → HasPart parts i part → part.kind ≡ Belt → Feeds parts p i
+    → (dir : Dir) × (dir ≢ opposite part.dir) × LooksToward parts part.cell dir p
+belt_feeder parts p i part is_i belt feeds =
+    let look = feeds.1.look in
+    let same = same_part parts i look.taker.part part look.taker.is_i is_i in
+    let takes : TakesFrom Belt feeds.1.side = subst (λ k. TakesFrom k feeds.1.side) (ap (λ t. t.kind) same ∙ belt) feeds.1.takes in (
+      look.giver.part.dir,
+      λ e. takes (one_side look.giver.part.dir part.dir feeds.1.side Ahead (subst (λ t. ComesFrom look.giver.part.dir t.dir feeds.1.side) same look.comes) e),
+      toward parts p i feeds.0 feeds.1.side part is_i (belt_link part belt) look,
+    )
 
 -- the kinds of a pair's ends
 pub pair_enters : (parts : List Part) (a b : ℕ) (part : Part) → HasPart parts a part → Pairs parts a b → part.kind ≡ Entrance
@@ -50,7 +79,7 @@ entrance_feeder parts p i part is_i enters feeds =
     (toward parts p i feeds.0 feeds.1.side part is_i (λ e. let k = enters in cc) feeds.1.look)
 
 -- nothing feeds an exit
-exit_unfed : (parts : List Part) (p i : ℕ) (part : Part) → HasPart parts i part → part.kind ≡ Exit → Feeds parts p i → ⊥
+pub exit_unfed : (parts : List Part) (p i : ℕ) (part : Part) → HasPart parts i part → part.kind ≡ Exit → Feeds parts p i → ⊥
 exit_unfed parts p i part is_i leaves feeds = subst (λ k. TakesFrom k feeds.1.side) leaves (takes_at parts p i feeds.0 part is_i feeds.1)
 
 -- one part hands to a belt or an underground piece
@@ -154,25 +183,8 @@ entrance_giver parts i part (Some p) is_i enters some =
       },
     )
 
-pub exit_giver : (parts : List Part) (partners : List (Option ℕ)) (i : ℕ) (part : Part) (o : Option ℕ) → HasPart parts i part → part.kind ≡ Exit
-    → ArePartners parts partners → o ≡ partner_of partners i → MatchOption o ((p : ℕ) → Hands parts p i → ⊥) (λ p. Hands parts p i)
-exit_giver parts partners i part None is_i leaves are e = λ p hands. ⊎_elim
-    (λ pair. none-some p (e ∙ (are.other_end i p).1 (inr pair)))
-    (λ feeds. exit_unfed parts p i part is_i leaves feeds) hands
-exit_giver parts partners i part (Some p) is_i leaves are e =
-    ⊎_elim (λ enters. let a = leaves in let b = pair_enters parts i p part is_i enters in absurd (cc)) (λ pair. inl pair)
-    ((are.other_end i p).0 (sym e))
-
 pub splitter_giver : (parts : List Part) (i : ℕ) (part : Part) → HasPart parts i part → part.kind ≡ Splitter → IsLink parts i → (p : ℕ) → Hands parts p i → ⊥
 splitter_giver parts i part is_i splits link p hands = link.2 (subst (λ q. q.kind ≡ Splitter) (same_part parts i part link.0 is_i link.1) splits)
-
--- the other end of a piece is a part
-pub partner_within : (parts : List Part) (partners : List (Option ℕ)) (i : ℕ) (o : Option ℕ) → ArePartners parts partners → o ≡ partner_of partners i
-    → IfSome o (λ p. p < length parts)
-partner_within parts partners i None are e = tt
-partner_within parts partners i (Some p) are e =
-    ⊎_elim (λ pair. slice_get_within parts p pair.exit pair.is_b) (λ pair. slice_get_within parts p pair.entrance pair.is_a)
-    ((are.other_end i p).0 (sym e))
 
 -- a looker of a belt from one of three directions
 pub three_seen : (parts : List Part) (belt : Part)
@@ -185,14 +197,6 @@ three_seen parts belt none_behind none_left None none_right = λ p feeder.
     (λ more. ⊎_elim (λ e. none_right p (subst (λ d. LooksToward parts belt.cell d p) e feeder.2)) (λ e. feeder.1 e) more) other)
     (dir_cases belt.dir feeder.0)
 three_seen parts belt none_behind none_left (Some p) some = (opposite (left belt.dir), right_not_opposite belt.dir, some)
-
--- what an entrance hands to
-pub entrance_taker : (parts : List Part) (partners : List (Option ℕ)) (i : ℕ) (part : Part) (o : Option ℕ) → HasPart parts i part → part.kind ≡ Entrance
-    → ArePartners parts partners → o ≡ partner_of partners i → MatchOption o (IsOutput parts i) (Hands parts i)
-entrance_taker parts partners i part None is_i enters are e = absurd ((are.no_piece i).0 (sym e) (part, is_i, inl enters))
-entrance_taker parts partners i part (Some j) is_i enters are e =
-    ⊎_elim (λ pair. inl pair) (λ leaves. let a = enters in let b = pair_leaves parts j i part is_i leaves in absurd (cc))
-    ((are.other_end i j).0 (sym e))
 
 kind_cases : (part : Part) → (kind : Kind) → part.kind ≡ kind → kind ≢ Splitter → kind ≢ Entrance → (part.kind ≡ Belt) ⊎ (part.kind ≡ Exit)
 kind_cases part Belt k link above = inl k

@@ -12,10 +12,10 @@ use Rattle.bt_model.specs.Handing.{FeedsFrom, Feeds, Hands}
 use Rattle.bt_model.specs.Chains.{IsSplitter, IsLink, Path, Source, begins, leaves, ends, enters, Chain, StartsAs, EndsAs, IsLongest, IsEmptyChain, IsChain}
 use Rattle.bt_parts.proofs.Places.{same_part, own_cell, one_there, covers_at}
 use Rattle.bt_model.proofs.PathLemmas.{path_start}
-use Rattle.bt_recover.specs.Recovered.{IsOrderly}
-use Rattle.bt_recover.proofs.HandLaws.{takes_at, comes_at, one_giver, pair_leaves}
-use Rattle.bt_recover.proofs.ChainLemmas.{no_link, chain_from, same_first, longest_same, no_links_before, path_stop}
-use Rattle.bt_recover.proofs.ExistLemmas.{input_no_splitter}
+use Rattle.bt_model.specs.Orderly.{IsOrderly}
+use Rattle.bt_model.proofs.HandLaws.{takes_at, comes_at, one_giver, pair_leaves}
+use Rattle.bt_model.proofs.ChainLemmas.{no_link, chain_from, same_first, longest_same, no_links_before, path_stop}
+use Rattle.bt_model.proofs.ExistLemmas.{input_no_splitter}
 
 -- a chain's cell of its input is the part's
 pub begins_cell : (parts : List Part) (chain : Chain) (a : ℕ) (cell : Cell) → IsChain parts chain → chain.source ≡ begins a cell → (part : Part) × HasPart parts a part × (cell ≡ part.cell)

@@ -15,7 +15,7 @@ use Rattle.bt_parts.specs.Layouts.{HasPart, IsAt, IsWellPlaced}
 use Rattle.bt_parts.proofs.Steps.{near_end, opposite-opposite}
 use Rattle.bt_model.specs.Handing.{LooksFrom}
 use Rattle.bt_parts.proofs.Places.{same_part, own_cell, one_there, covers_at}
-use Rattle.bt_recover.specs.inner.Sight.{left, LooksToward}
+use Rattle.bt_model.specs.inner.Sight.{left, LooksToward}
 
 pub looker_found : (parts : List Part) (cell there : Cell) (dir from : Dir) (p : ℕ) (part : Part) → from ≡ opposite dir → there ≡ steps 1 from cell
     → HasPart parts p part → IsAt parts p there → ((part.kind ≢ Entrance) × (part.dir ≡ dir)) → LooksToward parts cell dir p

@@ -10,19 +10,19 @@ use Rattle.bt_parts.specs.declared.part.Kind.TheVariants.{Belt, Entrance, Exit, 
 use Rattle.bt_parts.specs.declared.part.Part.{Part}
 use Rattle.bt_parts.specs.Cells.{Covers, step, opposite}
 use Rattle.bt_parts.specs.Layouts.{HasPart, IsAt, IsWellPlaced}
-use Rattle.bt_grid.proofs.IndexLemmas.{covers_cases}
+use Rattle.bt_parts.proofs.Coverings.{splitter_cases, covers_cases}
 use Rattle.bt_model.specs.Handing.{FeedsFrom, Feeds, Hands}
 use Rattle.bt_model.specs.Chains.{IsSplitter, IsLink, LinksTo, Path, one, more, IsInput, IsOutput, begins, leaves, Sink, ends, enters, Chain, EndsAs, IsChain}
 use Rattle.bt_model.specs.Clean.{IsOnRing}
 use Rattle.bt_parts.proofs.Places.{one_there}
 use Rattle.bt_model.proofs.HandLemmas.{one_handed}
 use Rattle.bt_model.proofs.PathLemmas.{path_start, path_snoc, path_within, crowded}
-use Rattle.bt_recover.specs.Recovered.{Never, IsOrderly}
-use Rattle.bt_recover.specs.inner.Sight.{left, LooksToward, IsBeltFeeder}
-use Rattle.bt_recover.proofs.SightLemmas.{looker_found, looker_missed, dir_cases, not_left, not_right, not_opposite, left_not_opposite}
-use Rattle.bt_recover.proofs.HandLaws.{belt_giver, entrance_giver, three_seen, one_giver, output_hands_none, pair_enters, pair_leaves, front_fed}
-use Rattle.bt_recover.proofs.ChainLemmas.{no_link, path_stop}
-use Rattle.bt_recover.proofs.MarkLemmas.{path_twice}
+use Rattle.bt_model.specs.Orderly.{Never, IsOrderly}
+use Rattle.bt_model.specs.inner.Sight.{left, LooksToward, IsBeltFeeder}
+use Rattle.bt_model.proofs.SightLemmas.{looker_found, looker_missed, dir_cases, not_left, not_right, not_opposite, left_not_opposite}
+use Rattle.bt_model.proofs.HandLaws.{belt_giver, entrance_giver, three_seen, one_giver, output_hands_none, pair_enters, pair_leaves, front_fed}
+use Rattle.bt_model.proofs.ChainLemmas.{no_link, path_stop}
+use Rattle.bt_model.proofs.PathLemmas.{path_twice}
 
 -- a part is on the cell, or none is
 pub at_cases : (parts : List Part) (cell : Cell) → ((i : ℕ) × IsAt parts i cell) ⊎ ((i : ℕ) → IsAt parts i cell → ⊥)
@@ -44,12 +44,6 @@ entrance_cases Belt = inr (λ e. cc)
 entrance_cases Entrance = inl refl
 entrance_cases Exit = inr (λ e. cc)
 entrance_cases Splitter = inr (λ e. cc)
-
-splitter_cases : (kind : Kind) → (kind ≡ Splitter) ⊎ (kind ≢ Splitter)
-splitter_cases Belt = inr (λ e. cc)
-splitter_cases Entrance = inr (λ e. cc)
-splitter_cases Exit = inr (λ e. cc)
-splitter_cases Splitter = inl refl
 
 along_cases : (part : Part) (dir : Dir) → ((part.kind ≢ Entrance) × (part.dir ≡ dir)) ⊎ ((part.kind ≢ Entrance) × (part.dir ≡ dir) → ⊥)
 along_cases part dir =

@@ -11,8 +11,8 @@ use Rattle.bt_model.specs.Clean.{IsClean}
 use Rattle.bt_parts.proofs.Places.{same_part}
 use Rattle.bt_model.proofs.HandLemmas.{one_handed, one_fed}
 use Rattle.bt_model.proofs.PathLemmas.{path_start, path_head, path_next}
-use Rattle.bt_recover.specs.Recovered.{IsOrderly}
-use Rattle.bt_recover.proofs.HandLaws.{one_giver, output_hands_none}
+use Rattle.bt_model.specs.Orderly.{IsOrderly}
+use Rattle.bt_model.proofs.HandLaws.{one_giver, output_hands_none}
 
 -- a clean layout is orderly
 pub orderly_of : (parts : List Part) → IsClean parts → IsOrderly parts
