@@ -11,11 +11,11 @@ use Rattle.bt_model.specs.Clean.{IsClean}
 use Rattle.bt_model.proofs.HandLemmas.{one_handed}
 use Rattle.bt_model.proofs.PathLemmas.{path_start, path_head, path_next, path_front}
 use Rattle.bt_model.proofs.Sorted.{contains_head, contains_more, contains_none}
-use Rattle.bt_recover.specs.Recovered.{IsOrderly}
-use Rattle.bt_recover.proofs.ChainLemmas.{orderly_of, no_link, path_stop, same_first, no_links_before, chain_from}
-use Rattle.bt_recover.proofs.ExistLemmas.{run_from, front_of, giver_cases, giver_part, part_cases, half_chain, empty_chain, input_chain, unhanded_input, splitter_feeds}
-use Rattle.bt_recover.proofs.HandLaws.{output_hands_none}
-use Rattle.bt_recover.proofs.SameChain.{source_cell}
+use Rattle.bt_model.specs.Orderly.{IsOrderly}
+use Rattle.bt_model.proofs.ChainLemmas.{orderly_of, no_link, path_stop, same_first, no_links_before, chain_from}
+use Rattle.bt_model.proofs.ExistLemmas.{run_from, front_of, giver_cases, giver_part, part_cases, half_chain, empty_chain, input_chain, unhanded_input, splitter_feeds}
+use Rattle.bt_model.proofs.HandLaws.{output_hands_none}
+use Rattle.bt_model.proofs.SameChain.{source_cell}
 use Rattle.bt_place.proofs.Reading.{last_link, ComesFromCell}
 
 -- a path and another from its end on are one path, which has all of the other

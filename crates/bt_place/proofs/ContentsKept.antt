@@ -6,7 +6,7 @@ use Rattle.bt_parts.specs.declared.part.Part.{Part}
 use Rattle.bt_parts.specs.Cells.{beside}
 use Rattle.bt_model.specs.Laying.{Lays}
 use Rattle.bt_model.specs.Requests.{LayoutRequest}
-use Rattle.bt_recover.proofs.ExistLemmas.{at_cases}
+use Rattle.bt_model.proofs.ExistLemmas.{at_cases}
 use Rattle.bt_place.specs.declared.fact.Content.{Content}
 use Rattle.bt_place.specs.declared.fact.Content.TheVariants.{Empty, Turned}
 use Rattle.bt_place.specs.declared.fact.Fact.TheVariants.{Kind, HalfOn}

@@ -17,11 +17,11 @@ use Rattle.bt_parts.proofs.Places.{same_part, one_there, covers_at, own_cell}
 use Rattle.bt_net.specs.declared.network.Edge.{Edge}
 use Rattle.bt_model.specs.Chains.{IsSplitter, IsInput, Source, begins, leaves, Sink, ends, enters}
 use Rattle.bt_model.specs.Shown.{Naming, ListsEach}
-use Rattle.bt_recover.specs.Recovered.{IsOrderly}
+use Rattle.bt_model.specs.Orderly.{IsOrderly}
 use Rattle.bt_model.proofs.HandLemmas.{entrance_paired, one_handed}
-use Rattle.bt_recover.proofs.ExistLemmas.{at_cases, giver_cases, unhanded_input, input_link, input_unhanded, part_cases}
-use Rattle.bt_recover.proofs.HandLaws.{front_fed}
-use Rattle.bt_recover.proofs.ChainLemmas.{no_link}
+use Rattle.bt_model.proofs.ExistLemmas.{at_cases, giver_cases, unhanded_input, input_link, input_unhanded, part_cases}
+use Rattle.bt_model.proofs.HandLaws.{front_fed}
+use Rattle.bt_model.proofs.ChainLemmas.{no_link}
 use Rattle.bt_place.specs.declared.fact.Content.TheVariants.{Empty, Turned}
 use Rattle.bt_place.specs.declared.fact.Fact.{Fact}
 use Rattle.bt_place.specs.declared.fact.Fact.TheVariants as fact

@@ -11,7 +11,7 @@ use Rattle.bt_parts.proofs.Places.{covers_at, own_cell}
 use Rattle.bt_model.specs.Chains.{IsInput, IsOutput}
 use Rattle.bt_model.specs.Laying.{Lays}
 use Rattle.bt_model.specs.Requests.{LayoutRequest}
-use Rattle.bt_recover.proofs.ExistLemmas.{input_no_splitter}
+use Rattle.bt_model.proofs.ExistLemmas.{input_no_splitter}
 use Rattle.bt_place.specs.declared.fact.Fact.{Fact}
 use Rattle.bt_place.specs.declared.fact.Fact.TheVariants.{First, Last, Begins}
 use Rattle.bt_place.specs.declared.fact.Shape.TheVariants as shape

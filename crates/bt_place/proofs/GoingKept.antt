@@ -18,10 +18,10 @@ use Rattle.bt_model.specs.Chains.{IsLink, IsInput, IsOutput}
 use Rattle.bt_model.specs.Handing.{FeedsFrom, Feeds}
 use Rattle.bt_model.specs.Laying.{Lays}
 use Rattle.bt_model.specs.Requests.{LayoutRequest}
-use Rattle.bt_recover.proofs.EdgeLemmas.{contained_at}
-use Rattle.bt_recover.proofs.ExistLemmas.{at_cases, giver_cases, unhanded_input}
-use Rattle.bt_recover.proofs.HandLaws.{front_fed, takes_at, comes_at, pair_leaves}
-use Rattle.bt_recover.proofs.SightLemmas.{one_side}
+use Rattle.bt_model.proofs.Places.{contained_at}
+use Rattle.bt_model.proofs.ExistLemmas.{at_cases, giver_cases, unhanded_input}
+use Rattle.bt_model.proofs.HandLaws.{front_fed, takes_at, comes_at, pair_leaves}
+use Rattle.bt_model.proofs.SightLemmas.{one_side}
 use Rattle.bt_place.specs.declared.fact.Content.TheVariants.{Empty}
 use Rattle.bt_place.specs.declared.fact.Fact.{Fact}
 use Rattle.bt_place.specs.declared.fact.Fact.TheVariants.{First, Last, Begins, Still}

@@ -18,8 +18,8 @@ use Rattle.bt_model.specs.Handing.{Hands}
 use Rattle.bt_model.specs.Laying.{Lays}
 use Rattle.bt_model.specs.Requests.{LayoutRequest}
 use Rattle.bt_model.specs.Shown.{IsStartOf, IsTargetOf, IsEdgeOf}
-use Rattle.bt_recover.proofs.ChainLemmas.{no_link}
-use Rattle.bt_recover.proofs.ExistLemmas.{at_cases, part_cases}
+use Rattle.bt_model.proofs.ChainLemmas.{no_link}
+use Rattle.bt_model.proofs.ExistLemmas.{at_cases, part_cases}
 use Rattle.bt_place.specs.declared.fact.Content.TheVariants.{Empty}
 use Rattle.bt_place.specs.declared.fact.Fact.{Fact}
 use Rattle.bt_place.specs.declared.fact.Fact.TheVariants.{Kind, Name, Label, First, Last, Leaves, Enters, HalfOn, Still}

@@ -23,9 +23,9 @@ use Rattle.bt_model.specs.Laying.{Lays}
 use Rattle.bt_model.specs.Requests.{LayoutRequest}
 use Rattle.bt_model.specs.Shown.{IsStartOf, IsTargetOf}
 use Rattle.bt_model.proofs.Sorted.{one_place, contains_head, contains_more}
-use Rattle.bt_recover.proofs.ChainLemmas.{no_link, chain_from}
-use Rattle.bt_recover.proofs.HandLaws.{takes_at, comes_at}
-use Rattle.bt_recover.proofs.SameChain.{Hop, hop_of, hop_half, same_hop, leaves_half}
+use Rattle.bt_model.proofs.ChainLemmas.{no_link, chain_from}
+use Rattle.bt_model.proofs.HandLaws.{takes_at, comes_at}
+use Rattle.bt_model.proofs.SameChain.{Hop, hop_of, hop_half, same_hop, leaves_half}
 use Rattle.bt_place.specs.declared.fact.Fact.{Fact}
 use Rattle.bt_place.specs.declared.fact.Fact.TheVariants.{Leaves, Enters, Still, At}
 use Rattle.bt_place.specs.declared.fact.Half.{Half}

@@ -13,7 +13,7 @@ use Rattle.bt_model.specs.Chains.{IsSplitter}
 use Rattle.bt_model.specs.Laying.{Lays}
 use Rattle.bt_model.specs.Requests.{LayoutRequest}
 use Rattle.bt_model.proofs.Sorted.{one_place}
-use Rattle.bt_recover.proofs.EdgeLemmas.{contained_at}
+use Rattle.bt_model.proofs.Places.{contained_at}
 use Rattle.bt_place.specs.declared.fact.Fact.{Fact}
 use Rattle.bt_place.specs.declared.fact.Fact.TheVariants.{Name, Column, Row, Points, At}
 use Rattle.bt_place.specs.declared.fact.Half.{Half}

@@ -14,8 +14,8 @@ use Rattle.bt_parts.proofs.Steps.{steps_none}
 use Rattle.bt_model.specs.Chains.{IsLink}
 use Rattle.bt_model.specs.Laying.{Lays}
 use Rattle.bt_model.specs.Requests.{LayoutRequest}
-use Rattle.bt_recover.proofs.HandLaws.{pair_enters}
-use Rattle.bt_recover.proofs.SightLemmas.{not_opposite}
+use Rattle.bt_model.proofs.HandLaws.{pair_enters}
+use Rattle.bt_model.proofs.SightLemmas.{not_opposite}
 use Rattle.bt_place.specs.declared.fact.Fact.{Fact}
 use Rattle.bt_place.specs.declared.fact.Fact.TheVariants.{Label, Distance, Tunnel}
 use Rattle.bt_place.specs.declared.fact.Shape.{Shape}
