@@ -21,3 +21,6 @@ pub mod Ranking
 pub mod RulesWithin
 pub mod Laying
 pub mod DraftLemmas
+pub mod Loops
+pub mod OneOf
+pub mod PortsAdded

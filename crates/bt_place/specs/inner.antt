@@ -1,1 +1,6 @@
 pub mod Drafts
+pub mod Near
+pub mod Pieces
+pub mod Parts
+pub mod Sided
+pub mod Standing

@@ -1,0 +1,14 @@
+use Rattle.std.proofs.Common.{append-nil, sym, ◌-◌}
+use Rattle.bt_place.proofs.Loops.{mapped_all, mapped_more}
+use Rattle.bt_place.specs.Contents.{mate_rule}
+use Rattle.bt_place.specs.Spots.{dirs}
+use Rattle.bt_place.proofs.contents.add_mates_of.Goals as goal
+
+pub loop-dir-init : goal.loop-dir-init
+loop-dir-init c = sym (append-nil c.args.draft.now)
+
+pub loop-dir-preserved : goal.loop-dir-preserved
+loop-dir-preserved c = mapped_more (mate_rule c.args.rect c.args.cell c.args.half) dirs c.args.draft.now c.loop-dir.draft c.add_mate.new.draft c.loop-dir.dir-index _ c.loop-dir-test.true c.loop-dir.invariant c.in_ok-add_mate.ensures
+
+pub returns : goal.returns
+returns c = mapped_all (mate_rule c.args.rect c.args.cell c.args.half) dirs c.args.draft.now c.loop-dir.draft c.loop-dir.dir-index c.loop-dir-test.false c.loop-dir.invariant

@@ -1,0 +1,14 @@
+use Rattle.std.proofs.Common.{append-nil, sym, ◌-◌}
+use Rattle.bt_place.proofs.Loops.{taken_all, taken_more}
+use Rattle.bt_place.specs.Spots.{dirs}
+use Rattle.bt_place.specs.Underground.{entrance_rules}
+use Rattle.bt_place.proofs.underground.add_entrances.Goals as goal
+
+pub loop-dir-init : goal.loop-dir-init
+loop-dir-init c = sym (append-nil c.args.draft.now)
+
+pub loop-dir-preserved : goal.loop-dir-preserved
+loop-dir-preserved c = taken_more (entrance_rules c.args.rect c.args.most c.args.edges c.args.cell) dirs c.args.draft.now c.loop-dir.draft c.add_entrance.new.draft c.loop-dir.dir-index _ c.loop-dir-test.true c.loop-dir.invariant c.in_ok-add_entrance.ensures
+
+pub returns : goal.returns
+returns c = taken_all (entrance_rules c.args.rect c.args.most c.args.edges c.args.cell) dirs c.args.draft.now c.loop-dir.draft c.loop-dir.dir-index c.loop-dir-test.false c.loop-dir.invariant
