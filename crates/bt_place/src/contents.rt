@@ -79,14 +79,23 @@ fn add_half(alloc: Global, draft: &mut Draft, cell: Cell) -> Result<(), AllocErr
 }
 
 /// Adds that beside a half so turned stands the other one.
-fn add_mate(draft: &mut Draft, rect: Rect, cell: Cell, half: Half, dir: Dir) -> Result<(), AllocError>
+fn add_mate(
+    draft: &mut Draft,
+    rect: Rect,
+    cell: Cell,
+    half: Half,
+    dir: Dir,
+) -> Result<(), AllocError>
     requires { IsNear cell }
     ensures { OnOk result (draft.new ≡ draft.old ++ contents.mate_rule rect cell half dir ∷ []) }
 {
     let given = holds(cell, Shape::Half(half), dir);
     let other = mate(half, dir, cell);
     if is_inside(rect, other) {
-        draft.add(&[given], &[holds(other, Shape::Half(other_half(half)), dir)])
+        draft.add(
+            &[given],
+            &[holds(other, Shape::Half(other_half(half)), dir)],
+        )
     } else {
         draft.add(&[given], &[])
     }
@@ -113,7 +122,12 @@ fn add_mates(draft: &mut Draft, rect: Rect, cell: Cell) -> Result<(), AllocError
 }
 
 /// Adds the rules of what a cell holds.
-pub fn add_cell_contents(alloc: Global, draft: &mut Draft, rect: Rect, cell: Cell) -> Result<(), AllocError>
+pub fn add_cell_contents(
+    alloc: Global,
+    draft: &mut Draft,
+    rect: Rect,
+    cell: Cell,
+) -> Result<(), AllocError>
     requires { IsNear cell }
     ensures { OnOk result (draft.new ≡ draft.old ++ (contents.content_rules cell ++ contents.half_rules cell
         ++ contents.mate_rules rect cell)) }

@@ -69,7 +69,13 @@ fn enders(alloc: Global, rect: Rect, cell: Cell) -> Result<Vec<Fact>, AllocError
 }
 
 /// Adds that an input begins on the cell where `Begins` says so, with a part with which one may begin.
-fn add_begins(alloc: Global, draft: &mut Draft, rect: Rect, inputs: usize, cell: Cell) -> Result<(), AllocError>
+fn add_begins(
+    alloc: Global,
+    draft: &mut Draft,
+    rect: Rect,
+    inputs: usize,
+    cell: Cell,
+) -> Result<(), AllocError>
     requires { IsNear cell }
     ensures { OnOk result (draft.new ≡ draft.old ++ parts.begin_rules rect inputs cell) }
 {
@@ -91,7 +97,12 @@ fn add_firsts(draft: &mut Draft, inputs: usize, cell: Cell) -> Result<(), AllocE
 }
 
 /// Adds that an output ends only with these parts.
-fn add_lasts(draft: &mut Draft, outputs: usize, cell: Cell, parts: &[Fact]) -> Result<(), AllocError>
+fn add_lasts(
+    draft: &mut Draft,
+    outputs: usize,
+    cell: Cell,
+    parts: &[Fact],
+) -> Result<(), AllocError>
     ensures { OnOk result (draft.new ≡ draft.old
         ++ map (λ o. rule (fact.Last cell o ∷ []) parts.now) (range_with_len 0 outputs)) }
 {
@@ -102,7 +113,14 @@ fn add_lasts(draft: &mut Draft, outputs: usize, cell: Cell, parts: &[Fact]) -> R
 }
 
 /// Adds the rules of where inputs begin and outputs end, at a cell.
-pub fn add_ends(alloc: Global, draft: &mut Draft, rect: Rect, inputs: usize, outputs: usize, cell: Cell) -> Result<(), AllocError>
+pub fn add_ends(
+    alloc: Global,
+    draft: &mut Draft,
+    rect: Rect,
+    inputs: usize,
+    outputs: usize,
+    cell: Cell,
+) -> Result<(), AllocError>
     requires { IsNear cell }
     ensures { OnOk result (draft.new ≡ draft.old ++ ends.end_rules rect inputs outputs cell) }
 {
@@ -141,7 +159,12 @@ fn add_one_of(draft: &mut Draft, facts: &[Fact]) -> Result<(), AllocError>
 }
 
 /// Adds that the input begins on exactly one of these cells.
-pub fn add_input(alloc: Global, draft: &mut Draft, border: &[Cell], input: usize) -> Result<(), AllocError>
+pub fn add_input(
+    alloc: Global,
+    draft: &mut Draft,
+    border: &[Cell],
+    input: usize,
+) -> Result<(), AllocError>
     ensures { OnOk result (draft.new ≡ draft.old ++ sided.input_rules_on border.now input) }
 {
     let facts = firsts_on(alloc, border, input)?;
@@ -149,7 +172,12 @@ pub fn add_input(alloc: Global, draft: &mut Draft, border: &[Cell], input: usize
 }
 
 /// Adds that the output ends on exactly one of these cells.
-pub fn add_output(alloc: Global, draft: &mut Draft, border: &[Cell], output: usize) -> Result<(), AllocError>
+pub fn add_output(
+    alloc: Global,
+    draft: &mut Draft,
+    border: &[Cell],
+    output: usize,
+) -> Result<(), AllocError>
     ensures { OnOk result (draft.new ≡ draft.old ++ sided.output_rules_on border.now output) }
 {
     let facts = lasts_on(alloc, border, output)?;

@@ -64,8 +64,14 @@ fn add_running(draft: &mut Draft, cell: Cell, dir: Dir) -> Result<(), AllocError
     let nothing = Fact::Kind(ahead(dir, cell), Content::Empty);
     draft.add(&[holds(cell, Shape::Belt, dir), still], &[])?;
     draft.add(&[holds(cell, Shape::Exit, dir), still], &[])?;
-    draft.add(&[holds(cell, Shape::Half(Half::Lesser), dir), still], &[nothing])?;
-    draft.add(&[holds(cell, Shape::Half(Half::Greater), dir), still], &[nothing])
+    draft.add(
+        &[holds(cell, Shape::Half(Half::Lesser), dir), still],
+        &[nothing],
+    )?;
+    draft.add(
+        &[holds(cell, Shape::Half(Half::Greater), dir), still],
+        &[nothing],
+    )
 }
 
 /// Adds what the cell hands on in a direction to a cell inside the rectangle.
@@ -78,7 +84,13 @@ fn add_inner(alloc: Global, draft: &mut Draft, cell: Cell, dir: Dir) -> Result<(
 }
 
 /// Adds that to the outside nothing is handed, and that a belt or an exit that faces it ends an output.
-fn add_outer(alloc: Global, draft: &mut Draft, outputs: usize, cell: Cell, dir: Dir) -> Result<(), AllocError>
+fn add_outer(
+    alloc: Global,
+    draft: &mut Draft,
+    outputs: usize,
+    cell: Cell,
+    dir: Dir,
+) -> Result<(), AllocError>
     ensures { OnOk result (draft.new ≡ draft.old ++ going.outer_rules outputs cell dir) }
 {
     let ends = lasts(alloc, cell, outputs)?;
@@ -88,7 +100,14 @@ fn add_outer(alloc: Global, draft: &mut Draft, outputs: usize, cell: Cell, dir: 
 }
 
 /// Adds what the cell hands on in a direction.
-fn add_going(alloc: Global, draft: &mut Draft, rect: Rect, outputs: usize, cell: Cell, dir: Dir) -> Result<(), AllocError>
+fn add_going(
+    alloc: Global,
+    draft: &mut Draft,
+    rect: Rect,
+    outputs: usize,
+    cell: Cell,
+    dir: Dir,
+) -> Result<(), AllocError>
     requires { IsNear cell }
     ensures { OnOk result (draft.new ≡ draft.old ++ going.going_rules rect outputs cell dir) }
 {
@@ -100,7 +119,13 @@ fn add_going(alloc: Global, draft: &mut Draft, rect: Rect, outputs: usize, cell:
 }
 
 /// Adds what the cell hands on.
-fn add_all_going(alloc: Global, draft: &mut Draft, rect: Rect, outputs: usize, cell: Cell) -> Result<(), AllocError>
+fn add_all_going(
+    alloc: Global,
+    draft: &mut Draft,
+    rect: Rect,
+    outputs: usize,
+    cell: Cell,
+) -> Result<(), AllocError>
     requires { IsNear cell }
     ensures { OnOk result (draft.new ≡ draft.old ++ flat_map (going.going_rules rect outputs cell) dirs) }
 {
@@ -111,7 +136,12 @@ fn add_all_going(alloc: Global, draft: &mut Draft, rect: Rect, outputs: usize, c
 }
 
 /// Adds that nothing comes to the cell from behind in this direction, where that is inside.
-pub fn push_still_into(facts: &mut Vec<Fact>, rect: Rect, cell: Cell, dir: Dir) -> Result<(), AllocError>
+pub fn push_still_into(
+    facts: &mut Vec<Fact>,
+    rect: Rect,
+    cell: Cell,
+    dir: Dir,
+) -> Result<(), AllocError>
     requires { IsNear cell }
     ensures { OnOk result (facts.new.items ≡ facts.old.items ++ going.still_into rect cell dir) }
 {
@@ -123,7 +153,12 @@ pub fn push_still_into(facts: &mut Vec<Fact>, rect: Rect, cell: Cell, dir: Dir) 
 }
 
 /// Adds that nothing comes to the cell in any of these directions.
-fn push_stills_into(facts: &mut Vec<Fact>, rect: Rect, cell: Cell, towards: &[Dir]) -> Result<(), AllocError>
+fn push_stills_into(
+    facts: &mut Vec<Fact>,
+    rect: Rect,
+    cell: Cell,
+    towards: &[Dir],
+) -> Result<(), AllocError>
     requires { IsNear cell }
     ensures { OnOk result (facts.new.items ≡ facts.old.items ++ flat_map (going.still_into rect cell) towards.now) }
 {
@@ -145,7 +180,13 @@ fn unfed_belt(alloc: Global, rect: Rect, cell: Cell, dir: Dir) -> Result<Vec<Fac
 }
 
 /// Adds that where these hold an input begins, which it does only where what is behind is outside.
-fn add_beginning(draft: &mut Draft, given: &[Fact], rect: Rect, cell: Cell, dir: Dir) -> Result<(), AllocError>
+fn add_beginning(
+    draft: &mut Draft,
+    given: &[Fact],
+    rect: Rect,
+    cell: Cell,
+    dir: Dir,
+) -> Result<(), AllocError>
     requires { IsNear cell }
     ensures { OnOk result (draft.new ≡ draft.old
         ++ rules.rule given.now (where_outside rect (behind_of dir cell) (fact.Begins cell ∷ [])) ∷ []) }
@@ -158,7 +199,13 @@ fn add_beginning(draft: &mut Draft, given: &[Fact], rect: Rect, cell: Cell, dir:
 }
 
 /// Adds that a belt so turned is fed, or begins an input.
-fn add_fed_belt(alloc: Global, draft: &mut Draft, rect: Rect, cell: Cell, dir: Dir) -> Result<(), AllocError>
+fn add_fed_belt(
+    alloc: Global,
+    draft: &mut Draft,
+    rect: Rect,
+    cell: Cell,
+    dir: Dir,
+) -> Result<(), AllocError>
     requires { IsNear cell }
     ensures { OnOk result (draft.new ≡ draft.old ++ going.fed_belt rect cell dir ∷ []) }
 {
@@ -167,7 +214,13 @@ fn add_fed_belt(alloc: Global, draft: &mut Draft, rect: Rect, cell: Cell, dir: D
 }
 
 /// Adds that an entrance so turned is fed, or begins an input.
-fn add_fed_entrance(alloc: Global, draft: &mut Draft, rect: Rect, cell: Cell, dir: Dir) -> Result<(), AllocError>
+fn add_fed_entrance(
+    alloc: Global,
+    draft: &mut Draft,
+    rect: Rect,
+    cell: Cell,
+    dir: Dir,
+) -> Result<(), AllocError>
     requires { IsNear cell }
     ensures { OnOk result (draft.new ≡ draft.old ++ going.fed_entrance rect cell dir ∷ []) }
 {
@@ -188,7 +241,12 @@ fn add_fed_belts(alloc: Global, draft: &mut Draft, rect: Rect, cell: Cell) -> Re
 }
 
 /// Adds that an entrance is fed, or begins an input.
-fn add_fed_entrances(alloc: Global, draft: &mut Draft, rect: Rect, cell: Cell) -> Result<(), AllocError>
+fn add_fed_entrances(
+    alloc: Global,
+    draft: &mut Draft,
+    rect: Rect,
+    cell: Cell,
+) -> Result<(), AllocError>
     requires { IsNear cell }
     ensures { OnOk result (draft.new ≡ draft.old ++ map (going.fed_entrance rect cell) dirs) }
 {
@@ -212,7 +270,13 @@ fn add_once(alloc: Global, draft: &mut Draft, rect: Rect, cell: Cell) -> Result<
 }
 
 /// Adds the rules of what is handed on, at a cell.
-pub fn add_handing(alloc: Global, draft: &mut Draft, rect: Rect, outputs: usize, cell: Cell) -> Result<(), AllocError>
+pub fn add_handing(
+    alloc: Global,
+    draft: &mut Draft,
+    rect: Rect,
+    outputs: usize,
+    cell: Cell,
+) -> Result<(), AllocError>
     requires { IsNear cell }
     ensures { OnOk result (draft.new ≡ draft.old ++ going.handing_rules rect outputs cell) }
 {

@@ -19,7 +19,12 @@ use bt_parts::{Cell, Dir, Rect};
 use std::alloc::{AllocError, Global};
 
 /// Adds that a cell that holds no half, and is not empty, has a label.
-fn add_some_label(alloc: Global, draft: &mut Draft, edges: usize, cell: Cell) -> Result<(), AllocError>
+fn add_some_label(
+    alloc: Global,
+    draft: &mut Draft,
+    edges: usize,
+    cell: Cell,
+) -> Result<(), AllocError>
     ensures { OnOk result (draft.new ≡ draft.old ++ some_of (fact.Kind cell Empty ∷ fact.HalfOn cell
         ∷ map (fact.Label cell) (range_with_len 0 edges)) ∷ []) }
 {
@@ -41,7 +46,12 @@ fn add_no_label(draft: &mut Draft, given: Fact, edges: usize, cell: Cell) -> Res
 }
 
 /// Adds that the cell has at most one label.
-fn add_one_label(alloc: Global, draft: &mut Draft, edges: usize, cell: Cell) -> Result<(), AllocError>
+fn add_one_label(
+    alloc: Global,
+    draft: &mut Draft,
+    edges: usize,
+    cell: Cell,
+) -> Result<(), AllocError>
     ensures { OnOk result (draft.new ≡ draft.old ++ at_most_one (map (fact.Label cell) (range_with_len 0 edges))) }
 {
     let facts = labels(alloc, cell, edges)?;
@@ -63,7 +73,10 @@ fn add_start(draft: &mut Draft, cell: Cell, edge: usize, start: Start) -> Result
     ensures { OnOk result (draft.new ≡ draft.old ++ labels.start_rules cell edge start) }
 {
     match start {
-        Start::Input(input) => draft.add(&[Fact::First(cell, input as usize)], &[Fact::Label(cell, edge)]),
+        Start::Input(input) => draft.add(
+            &[Fact::First(cell, input as usize)],
+            &[Fact::Label(cell, edge)],
+        ),
         Start::Split(_) => Ok(()),
     }
 }
@@ -73,14 +86,23 @@ fn add_target(draft: &mut Draft, cell: Cell, edge: usize, target: Target) -> Res
     ensures { OnOk result (draft.new ≡ draft.old ++ labels.target_rules cell edge target) }
 {
     match target {
-        Target::Output(output) => draft.add(&[Fact::Last(cell, output as usize)], &[Fact::Label(cell, edge)]),
+        Target::Output(output) => draft.add(
+            &[Fact::Last(cell, output as usize)],
+            &[Fact::Label(cell, edge)],
+        ),
         Target::Split(_) => Ok(()),
     }
 }
 
 /// Adds that what is handed to a half with the label of an edge goes to the splitter at which the edge
 /// ends, by that half.
-fn add_into_half(draft: &mut Draft, cell: Cell, dir: Dir, edge: usize, target: Target) -> Result<(), AllocError>
+fn add_into_half(
+    draft: &mut Draft,
+    cell: Cell,
+    dir: Dir,
+    edge: usize,
+    target: Target,
+) -> Result<(), AllocError>
     requires { IsNear cell }
     ensures { OnOk result (draft.new ≡ draft.old ++ labels.into_half_rules cell dir edge target) }
 {
@@ -93,16 +115,28 @@ fn add_into_half(draft: &mut Draft, cell: Cell, dir: Dir, edge: usize, target: T
             let to = to as usize;
             draft.add(&[label, Fact::HalfOn(next)], &[still, Fact::Name(next, to)])?;
             let lesser = holds(next, Shape::Half(Half::Lesser), dir);
-            draft.add(&[label, lesser], &[still, Fact::Enters(to, edge, Half::Lesser)])?;
+            draft.add(
+                &[label, lesser],
+                &[still, Fact::Enters(to, edge, Half::Lesser)],
+            )?;
             let greater = holds(next, Shape::Half(Half::Greater), dir);
-            draft.add(&[label, greater], &[still, Fact::Enters(to, edge, Half::Greater)])
+            draft.add(
+                &[label, greater],
+                &[still, Fact::Enters(to, edge, Half::Greater)],
+            )
         }
     }
 }
 
 /// Adds that what a half hands to the label of an edge comes from the splitter at which the edge starts, by
 /// that half.
-fn add_from_half(draft: &mut Draft, cell: Cell, dir: Dir, edge: usize, start: Start) -> Result<(), AllocError>
+fn add_from_half(
+    draft: &mut Draft,
+    cell: Cell,
+    dir: Dir,
+    edge: usize,
+    start: Start,
+) -> Result<(), AllocError>
     requires { IsNear cell }
     ensures { OnOk result (draft.new ≡ draft.old ++ labels.from_half_rules cell dir edge start) }
 {
@@ -112,17 +146,32 @@ fn add_from_half(draft: &mut Draft, cell: Cell, dir: Dir, edge: usize, start: St
         Start::Input(_) => draft.add(&[label, Fact::HalfOn(cell)], &[still]),
         Start::Split(from) => {
             let from = from as usize;
-            draft.add(&[label, Fact::HalfOn(cell)], &[still, Fact::Name(cell, from)])?;
+            draft.add(
+                &[label, Fact::HalfOn(cell)],
+                &[still, Fact::Name(cell, from)],
+            )?;
             let lesser = holds(cell, Shape::Half(Half::Lesser), dir);
-            draft.add(&[label, lesser], &[still, Fact::Leaves(from, edge, Half::Lesser)])?;
+            draft.add(
+                &[label, lesser],
+                &[still, Fact::Leaves(from, edge, Half::Lesser)],
+            )?;
             let greater = holds(cell, Shape::Half(Half::Greater), dir);
-            draft.add(&[label, greater], &[still, Fact::Leaves(from, edge, Half::Greater)])
+            draft.add(
+                &[label, greater],
+                &[still, Fact::Leaves(from, edge, Half::Greater)],
+            )
         }
     }
 }
 
 /// Adds that a label goes on to the part that is handed to, and comes from the part that hands.
-fn add_label_on(draft: &mut Draft, cell: Cell, dir: Dir, number: usize, edge: Edge) -> Result<(), AllocError>
+fn add_label_on(
+    draft: &mut Draft,
+    cell: Cell,
+    dir: Dir,
+    number: usize,
+    edge: Edge,
+) -> Result<(), AllocError>
     requires { IsNear cell }
     ensures { OnOk result (draft.new ≡ draft.old ++ labels.label_on_rules cell dir number edge) }
 {
@@ -137,7 +186,13 @@ fn add_label_on(draft: &mut Draft, cell: Cell, dir: Dir, number: usize, edge: Ed
 }
 
 /// Adds that a belt or exit that faces the outside ends the output of the edge of its label.
-fn add_label_end(draft: &mut Draft, cell: Cell, dir: Dir, number: usize, edge: Edge) -> Result<(), AllocError>
+fn add_label_end(
+    draft: &mut Draft,
+    cell: Cell,
+    dir: Dir,
+    number: usize,
+    edge: Edge,
+) -> Result<(), AllocError>
     ensures { OnOk result (draft.new ≡ draft.old ++ labels.label_end_rules cell dir number edge) }
 {
     let label = Fact::Label(cell, number);
@@ -157,7 +212,14 @@ fn add_label_end(draft: &mut Draft, cell: Cell, dir: Dir, number: usize, edge: E
 }
 
 /// Adds how the label of an edge goes on from the cell in a direction.
-fn add_label_way(draft: &mut Draft, rect: Rect, cell: Cell, number: usize, edge: Edge, dir: Dir) -> Result<(), AllocError>
+fn add_label_way(
+    draft: &mut Draft,
+    rect: Rect,
+    cell: Cell,
+    number: usize,
+    edge: Edge,
+    dir: Dir,
+) -> Result<(), AllocError>
     requires { IsNear cell }
     ensures { OnOk result (draft.new ≡ draft.old ++ labels.label_way_rules rect cell number edge dir) }
 {
@@ -169,7 +231,13 @@ fn add_label_way(draft: &mut Draft, rect: Rect, cell: Cell, number: usize, edge:
 }
 
 /// Adds how the label of an edge goes on from the cell.
-fn add_label_ways(draft: &mut Draft, rect: Rect, cell: Cell, number: usize, edge: Edge) -> Result<(), AllocError>
+fn add_label_ways(
+    draft: &mut Draft,
+    rect: Rect,
+    cell: Cell,
+    number: usize,
+    edge: Edge,
+) -> Result<(), AllocError>
     requires { IsNear cell }
     ensures { OnOk result (draft.new ≡ draft.old ++ flat_map (labels.label_way_rules rect cell number edge) dirs) }
 {
@@ -180,7 +248,13 @@ fn add_label_ways(draft: &mut Draft, rect: Rect, cell: Cell, number: usize, edge
 }
 
 /// Adds the rules of the label of an edge, at a cell.
-fn add_edge(draft: &mut Draft, rect: Rect, cell: Cell, number: usize, edge: Edge) -> Result<(), AllocError>
+fn add_edge(
+    draft: &mut Draft,
+    rect: Rect,
+    cell: Cell,
+    number: usize,
+    edge: Edge,
+) -> Result<(), AllocError>
     requires { IsNear cell }
     ensures { OnOk result (draft.new ≡ draft.old ++ labels.edge_rules rect cell (number, edge)) }
 {
@@ -201,7 +275,13 @@ fn add_edges(draft: &mut Draft, rect: Rect, edges: &[Edge], cell: Cell) -> Resul
 }
 
 /// Adds the rules of labels, at a cell.
-pub fn add_labelling(alloc: Global, draft: &mut Draft, rect: Rect, edges: &[Edge], cell: Cell) -> Result<(), AllocError>
+pub fn add_labelling(
+    alloc: Global,
+    draft: &mut Draft,
+    rect: Rect,
+    edges: &[Edge],
+    cell: Cell,
+) -> Result<(), AllocError>
     requires { IsNear cell }
     ensures { OnOk result (draft.new ≡ draft.old ++ labels.labelling_rules rect edges.now cell) }
 {

@@ -36,7 +36,12 @@ fn stands_there(cell: Cell, end: End) -> Fact
 }
 
 /// Adds that no part of this shape is turned any of these ways.
-fn add_not_turned(draft: &mut Draft, cell: Cell, shape: Shape, others: &[Dir]) -> Result<(), AllocError>
+fn add_not_turned(
+    draft: &mut Draft,
+    cell: Cell,
+    shape: Shape,
+    others: &[Dir],
+) -> Result<(), AllocError>
     ensures { OnOk result (draft.new ≡ draft.old
         ++ map (λ other. not_all (contents.holds cell shape other ∷ [])) others.now) }
 {

@@ -44,7 +44,12 @@ pub fn enters(splitter: usize, edge: Edge) -> bool
 }
 
 /// Adds that one of the two holds and not both, or that neither does.
-fn add_one_port(draft: &mut Draft, lesser: Fact, greater: Fact, some: bool) -> Result<(), AllocError>
+fn add_one_port(
+    draft: &mut Draft,
+    lesser: Fact,
+    greater: Fact,
+    some: bool,
+) -> Result<(), AllocError>
     ensures { OnOk result (draft.new ≡ draft.old ++ stands.port_rules_of lesser greater some) }
 {
     if some {
@@ -57,7 +62,12 @@ fn add_one_port(draft: &mut Draft, lesser: Fact, greater: Fact, some: bool) -> R
 }
 
 /// Adds by how many halves the edge leaves the splitter.
-fn add_leaving_port(draft: &mut Draft, splitter: usize, number: usize, edge: Edge) -> Result<(), AllocError>
+fn add_leaving_port(
+    draft: &mut Draft,
+    splitter: usize,
+    number: usize,
+    edge: Edge,
+) -> Result<(), AllocError>
     ensures { OnOk result (draft.new ≡ draft.old
         ++ ports.one_port_rules (fact.Leaves splitter number) (network.leaves splitter edge)) }
 {
@@ -67,7 +77,12 @@ fn add_leaving_port(draft: &mut Draft, splitter: usize, number: usize, edge: Edg
 }
 
 /// Adds by how many halves the edge comes into the splitter.
-fn add_entering_port(draft: &mut Draft, splitter: usize, number: usize, edge: Edge) -> Result<(), AllocError>
+fn add_entering_port(
+    draft: &mut Draft,
+    splitter: usize,
+    number: usize,
+    edge: Edge,
+) -> Result<(), AllocError>
     ensures { OnOk result (draft.new ≡ draft.old
         ++ ports.one_port_rules (fact.Enters splitter number) (network.enters splitter edge)) }
 {
@@ -101,7 +116,12 @@ fn add_entering_ports(draft: &mut Draft, edges: &[Edge], splitter: usize) -> Res
 }
 
 /// Adds the edge with its number, where it leaves the splitter.
-fn push_if_leaves(found: &mut Vec<(usize, Edge)>, splitter: usize, number: usize, edge: Edge) -> Result<(), AllocError>
+fn push_if_leaves(
+    found: &mut Vec<(usize, Edge)>,
+    splitter: usize,
+    number: usize,
+    edge: Edge,
+) -> Result<(), AllocError>
     ensures { OnOk result (found.new.items ≡ found.old.items
         ++ (if network.leaves splitter edge then (number, edge) ∷ [] else [])) }
 {
@@ -112,7 +132,11 @@ fn push_if_leaves(found: &mut Vec<(usize, Edge)>, splitter: usize, number: usize
 }
 
 /// The edges that leave the splitter, with their numbers.
-fn edges_from(alloc: Global, edges: &[Edge], splitter: usize) -> Result<Vec<(usize, Edge)>, AllocError>
+fn edges_from(
+    alloc: Global,
+    edges: &[Edge],
+    splitter: usize,
+) -> Result<Vec<(usize, Edge)>, AllocError>
     ensures { IfOk result (λ found. found.items ≡ ports.edges_from edges.now splitter) }
 {
     let mut found = Vec::new(alloc);
@@ -123,7 +147,12 @@ fn edges_from(alloc: Global, edges: &[Edge], splitter: usize) -> Result<Vec<(usi
 }
 
 /// Adds the edge with its number, where it comes into the splitter.
-fn push_if_enters(found: &mut Vec<(usize, Edge)>, splitter: usize, number: usize, edge: Edge) -> Result<(), AllocError>
+fn push_if_enters(
+    found: &mut Vec<(usize, Edge)>,
+    splitter: usize,
+    number: usize,
+    edge: Edge,
+) -> Result<(), AllocError>
     ensures { OnOk result (found.new.items ≡ found.old.items
         ++ (if network.enters splitter edge then (number, edge) ∷ [] else [])) }
 {
@@ -134,7 +163,11 @@ fn push_if_enters(found: &mut Vec<(usize, Edge)>, splitter: usize, number: usize
 }
 
 /// The edges that come into the splitter, with their numbers.
-fn edges_into(alloc: Global, edges: &[Edge], splitter: usize) -> Result<Vec<(usize, Edge)>, AllocError>
+fn edges_into(
+    alloc: Global,
+    edges: &[Edge],
+    splitter: usize,
+) -> Result<Vec<(usize, Edge)>, AllocError>
     ensures { IfOk result (λ found. found.items ≡ ports.edges_into edges.now splitter) }
 {
     let mut found = Vec::new(alloc);
@@ -145,7 +178,12 @@ fn edges_into(alloc: Global, edges: &[Edge], splitter: usize) -> Result<Vec<(usi
 }
 
 /// Adds that these edges leave the splitter by the half.
-fn push_leaving(facts: &mut Vec<Fact>, from: &[(usize, Edge)], splitter: usize, half: Half) -> Result<(), AllocError>
+fn push_leaving(
+    facts: &mut Vec<Fact>,
+    from: &[(usize, Edge)],
+    splitter: usize,
+    half: Half,
+) -> Result<(), AllocError>
     ensures { OnOk result (facts.new.items ≡ facts.old.items
         ++ map (λ numbered. fact.Leaves splitter numbered.0 half) from.now) }
 {
@@ -156,7 +194,12 @@ fn push_leaving(facts: &mut Vec<Fact>, from: &[(usize, Edge)], splitter: usize, 
 }
 
 /// Adds that these edges come into the splitter by the half.
-fn push_entering(facts: &mut Vec<Fact>, into: &[(usize, Edge)], splitter: usize, half: Half) -> Result<(), AllocError>
+fn push_entering(
+    facts: &mut Vec<Fact>,
+    into: &[(usize, Edge)],
+    splitter: usize,
+    half: Half,
+) -> Result<(), AllocError>
     ensures { OnOk result (facts.new.items ≡ facts.old.items
         ++ map (λ numbered. fact.Enters splitter numbered.0 half) into.now) }
 {
@@ -186,7 +229,14 @@ fn add_apart(
 }
 
 /// Adds where an edge goes on, from a half that hands to the cell.
-fn add_goes_on(draft: &mut Draft, at: Fact, port: Fact, cell: Cell, number: usize, target: Target) -> Result<(), AllocError>
+fn add_goes_on(
+    draft: &mut Draft,
+    at: Fact,
+    port: Fact,
+    cell: Cell,
+    number: usize,
+    target: Target,
+) -> Result<(), AllocError>
     ensures { OnOk result (draft.new ≡ draft.old ++ stands.goes_on_rule at port cell number target ∷ []) }
 {
     let label = Fact::Label(cell, number);
@@ -197,16 +247,30 @@ fn add_goes_on(draft: &mut Draft, at: Fact, port: Fact, cell: Cell, number: usiz
 }
 
 /// Adds that an edge that leaves by a half and meets a half at once comes in by that half.
-fn add_at_once(draft: &mut Draft, at: Fact, port: Fact, cell: Cell, dir: Dir, number: usize, target: Target) -> Result<(), AllocError>
+fn add_at_once(
+    draft: &mut Draft,
+    at: Fact,
+    port: Fact,
+    cell: Cell,
+    dir: Dir,
+    number: usize,
+    target: Target,
+) -> Result<(), AllocError>
     ensures { OnOk result (draft.new ≡ draft.old ++ ports.at_once_rules at port cell dir number target) }
 {
     match target {
         Target::Output(_) => Ok(()),
         Target::Split(to) => {
             let lesser = holds(cell, Shape::Half(Half::Lesser), dir);
-            draft.add(&[at, port, lesser], &[Fact::Enters(to as usize, number, Half::Lesser)])?;
+            draft.add(
+                &[at, port, lesser],
+                &[Fact::Enters(to as usize, number, Half::Lesser)],
+            )?;
             let greater = holds(cell, Shape::Half(Half::Greater), dir);
-            draft.add(&[at, port, greater], &[Fact::Enters(to as usize, number, Half::Greater)])
+            draft.add(
+                &[at, port, greater],
+                &[Fact::Enters(to as usize, number, Half::Greater)],
+            )
         }
     }
 }
@@ -223,23 +287,47 @@ pub struct Standing {
 }
 
 /// Adds that an edge that leaves by the half is handed on, and what is in front.
-fn add_leaving(draft: &mut Draft, rect: Rect, standing: Standing, number: usize, edge: Edge) -> Result<(), AllocError>
+fn add_leaving(
+    draft: &mut Draft,
+    rect: Rect,
+    standing: Standing,
+    number: usize,
+    edge: Edge,
+) -> Result<(), AllocError>
     requires { IsNear standing.cell }
     ensures { OnOk result (draft.new ≡ draft.old
         ++ ports.leaving_rules rect standing.at standing.splitter standing.half standing.cell standing.dir (number, edge)) }
 {
     let port = Fact::Leaves(standing.splitter, number, standing.half);
-    draft.add(&[standing.at, port, Fact::Still(standing.cell, standing.dir)], &[])?;
+    draft.add(
+        &[standing.at, port, Fact::Still(standing.cell, standing.dir)],
+        &[],
+    )?;
     let next = ahead(standing.dir, standing.cell);
     if is_inside(rect, next) {
         add_goes_on(draft, standing.at, port, next, number, edge.target)?;
-        add_at_once(draft, standing.at, port, next, standing.dir, number, edge.target)?;
+        add_at_once(
+            draft,
+            standing.at,
+            port,
+            next,
+            standing.dir,
+            number,
+            edge.target,
+        )?;
     }
     Ok(())
 }
 
 /// Adds that into an edge's half something is handed from behind.
-fn add_entering(alloc: Global, draft: &mut Draft, rect: Rect, standing: Standing, number: usize, edge: Edge) -> Result<(), AllocError>
+fn add_entering(
+    alloc: Global,
+    draft: &mut Draft,
+    rect: Rect,
+    standing: Standing,
+    number: usize,
+    edge: Edge,
+) -> Result<(), AllocError>
     requires { IsNear standing.cell }
     ensures { OnOk result (draft.new ≡ draft.old
         ++ ports.entering_rule rect standing.at standing.splitter standing.half standing.cell standing.dir (number, edge) ∷ []) }
@@ -252,7 +340,12 @@ fn add_entering(alloc: Global, draft: &mut Draft, rect: Rect, standing: Standing
 }
 
 /// Adds what the half hands on by these edges.
-fn add_all_leaving(draft: &mut Draft, rect: Rect, from: &[(usize, Edge)], standing: Standing) -> Result<(), AllocError>
+fn add_all_leaving(
+    draft: &mut Draft,
+    rect: Rect,
+    from: &[(usize, Edge)],
+    standing: Standing,
+) -> Result<(), AllocError>
     requires { IsNear standing.cell }
     ensures { OnOk result (draft.new ≡ draft.old
         ++ flat_map (ports.leaving_rules rect standing.at standing.splitter standing.half standing.cell standing.dir) from.now) }
@@ -264,7 +357,13 @@ fn add_all_leaving(draft: &mut Draft, rect: Rect, from: &[(usize, Edge)], standi
 }
 
 /// Adds that something is handed to the half by these edges.
-fn add_all_entering(alloc: Global, draft: &mut Draft, rect: Rect, into: &[(usize, Edge)], standing: Standing) -> Result<(), AllocError>
+fn add_all_entering(
+    alloc: Global,
+    draft: &mut Draft,
+    rect: Rect,
+    into: &[(usize, Edge)],
+    standing: Standing,
+) -> Result<(), AllocError>
     requires { IsNear standing.cell }
     ensures { OnOk result (draft.new ≡ draft.old
         ++ map (ports.entering_rule rect standing.at standing.splitter standing.half standing.cell standing.dir) into.now) }
@@ -276,7 +375,12 @@ fn add_all_entering(alloc: Global, draft: &mut Draft, rect: Rect, into: &[(usize
 }
 
 /// Adds that what the half hands on is one of these edges.
-fn add_some_leaving(alloc: Global, draft: &mut Draft, from: &[(usize, Edge)], standing: Standing) -> Result<(), AllocError>
+fn add_some_leaving(
+    alloc: Global,
+    draft: &mut Draft,
+    from: &[(usize, Edge)],
+    standing: Standing,
+) -> Result<(), AllocError>
     ensures { OnOk result (draft.new ≡ draft.old
         ++ stands.some_leaving from.now standing.at standing.splitter standing.half standing.cell standing.dir ∷ []) }
 {

@@ -17,7 +17,13 @@ use bt_parts::{Cell, Dir, Rect};
 use std::alloc::{AllocError, Global};
 
 /// Adds that a lesser half so turned is that of some splitter.
-fn add_owner(alloc: Global, draft: &mut Draft, splitters: usize, cell: Cell, dir: Dir) -> Result<(), AllocError>
+fn add_owner(
+    alloc: Global,
+    draft: &mut Draft,
+    splitters: usize,
+    cell: Cell,
+    dir: Dir,
+) -> Result<(), AllocError>
     ensures { OnOk result (draft.new ≡ draft.old ++ standing.owner_rule splitters cell dir ∷ []) }
 {
     let owners = owners(alloc, cell, dir, splitters)?;
@@ -25,7 +31,12 @@ fn add_owner(alloc: Global, draft: &mut Draft, splitters: usize, cell: Cell, dir
 }
 
 /// Adds that a lesser half is that of some splitter.
-fn add_owners(alloc: Global, draft: &mut Draft, splitters: usize, cell: Cell) -> Result<(), AllocError>
+fn add_owners(
+    alloc: Global,
+    draft: &mut Draft,
+    splitters: usize,
+    cell: Cell,
+) -> Result<(), AllocError>
     ensures { OnOk result (draft.new ≡ draft.old ++ map (standing.owner_rule splitters cell) dirs) }
 {
     for dir in DIRS {
@@ -35,7 +46,13 @@ fn add_owners(alloc: Global, draft: &mut Draft, splitters: usize, cell: Cell) ->
 }
 
 /// Adds what follows where a splitter stands here, so turned.
-fn add_at(draft: &mut Draft, rect: Rect, splitter: usize, cell: Cell, dir: Dir) -> Result<(), AllocError>
+fn add_at(
+    draft: &mut Draft,
+    rect: Rect,
+    splitter: usize,
+    cell: Cell,
+    dir: Dir,
+) -> Result<(), AllocError>
     requires { IsNear cell }
     ensures { OnOk result (draft.new ≡ draft.old ++ standing.at_rules rect splitter cell dir) }
 {
@@ -44,7 +61,13 @@ fn add_at(draft: &mut Draft, rect: Rect, splitter: usize, cell: Cell, dir: Dir) 
     let row = cell.y.unsigned_abs() as usize;
     let lesser = holds(cell, Shape::Half(Half::Lesser), dir);
     let here = Fact::Name(cell, splitter);
-    let place = [lesser, here, Fact::Column(splitter, column), Fact::Row(splitter, row), Fact::Points(splitter, dir)];
+    let place = [
+        lesser,
+        here,
+        Fact::Column(splitter, column),
+        Fact::Row(splitter, row),
+        Fact::Points(splitter, dir),
+    ];
     add_implied(draft, &[at], &place)?;
     let other = mate(Half::Lesser, dir, cell);
     if is_inside(rect, other) {
@@ -65,7 +88,12 @@ fn add_here(draft: &mut Draft, rect: Rect, splitter: usize, cell: Cell) -> Resul
 }
 
 /// Adds what follows where any splitter stands here.
-fn add_all_here(draft: &mut Draft, rect: Rect, splitters: usize, cell: Cell) -> Result<(), AllocError>
+fn add_all_here(
+    draft: &mut Draft,
+    rect: Rect,
+    splitters: usize,
+    cell: Cell,
+) -> Result<(), AllocError>
     requires { IsNear cell }
     ensures { OnOk result (draft.new ≡ draft.old
         ++ flat_map (λ s. flat_map (standing.at_rules rect s cell) dirs) (range_with_len 0 splitters)) }
@@ -77,7 +105,13 @@ fn add_all_here(draft: &mut Draft, rect: Rect, splitters: usize, cell: Cell) -> 
 }
 
 /// Adds where the splitter stands with one of its halves on the cell, so turned.
-fn push_stands_on(facts: &mut Vec<Fact>, rect: Rect, splitter: usize, cell: Cell, dir: Dir) -> Result<(), AllocError>
+fn push_stands_on(
+    facts: &mut Vec<Fact>,
+    rect: Rect,
+    splitter: usize,
+    cell: Cell,
+    dir: Dir,
+) -> Result<(), AllocError>
     requires { IsNear cell }
     ensures { OnOk result (facts.new.items ≡ facts.old.items ++ standing.stands_on rect splitter cell dir) }
 {
@@ -90,7 +124,12 @@ fn push_stands_on(facts: &mut Vec<Fact>, rect: Rect, splitter: usize, cell: Cell
 }
 
 /// Where the splitter stands with one of its halves on the cell.
-fn stands_on(alloc: Global, rect: Rect, splitter: usize, cell: Cell) -> Result<Vec<Fact>, AllocError>
+fn stands_on(
+    alloc: Global,
+    rect: Rect,
+    splitter: usize,
+    cell: Cell,
+) -> Result<Vec<Fact>, AllocError>
     requires { IsNear cell }
     ensures { IfOk result (λ facts. facts.items ≡ flat_map (standing.stands_on rect splitter cell) dirs) }
 {
@@ -102,7 +141,13 @@ fn stands_on(alloc: Global, rect: Rect, splitter: usize, cell: Cell) -> Result<V
 }
 
 /// Adds that a cell that bears the name of the splitter has one of its halves.
-fn add_name(alloc: Global, draft: &mut Draft, rect: Rect, cell: Cell, splitter: usize) -> Result<(), AllocError>
+fn add_name(
+    alloc: Global,
+    draft: &mut Draft,
+    rect: Rect,
+    cell: Cell,
+    splitter: usize,
+) -> Result<(), AllocError>
     requires { IsNear cell }
     ensures { OnOk result (draft.new ≡ draft.old ++ standing.name_rule rect cell splitter ∷ []) }
 {
@@ -111,7 +156,13 @@ fn add_name(alloc: Global, draft: &mut Draft, rect: Rect, cell: Cell, splitter: 
 }
 
 /// Adds that a cell that bears the name of a splitter has one of its halves.
-fn add_names(alloc: Global, draft: &mut Draft, rect: Rect, cell: Cell, splitters: usize) -> Result<(), AllocError>
+fn add_names(
+    alloc: Global,
+    draft: &mut Draft,
+    rect: Rect,
+    cell: Cell,
+    splitters: usize,
+) -> Result<(), AllocError>
     requires { IsNear cell }
     ensures { OnOk result (draft.new ≡ draft.old ++ map (standing.name_rule rect cell) (range_with_len 0 splitters)) }
 {
@@ -122,7 +173,12 @@ fn add_names(alloc: Global, draft: &mut Draft, rect: Rect, cell: Cell, splitters
 }
 
 /// Adds that a cell bears at most one name.
-fn add_one_name(alloc: Global, draft: &mut Draft, cell: Cell, splitters: usize) -> Result<(), AllocError>
+fn add_one_name(
+    alloc: Global,
+    draft: &mut Draft,
+    cell: Cell,
+    splitters: usize,
+) -> Result<(), AllocError>
     ensures { OnOk result (draft.new ≡ draft.old ++ at_most_one (map (fact.Name cell) (range_with_len 0 splitters))) }
 {
     let facts = names(alloc, cell, splitters)?;
@@ -130,7 +186,13 @@ fn add_one_name(alloc: Global, draft: &mut Draft, cell: Cell, splitters: usize) 
 }
 
 /// Adds the rules of where splitters stand, at a cell.
-pub fn add_standing(alloc: Global, draft: &mut Draft, rect: Rect, splitters: usize, cell: Cell) -> Result<(), AllocError>
+pub fn add_standing(
+    alloc: Global,
+    draft: &mut Draft,
+    rect: Rect,
+    splitters: usize,
+    cell: Cell,
+) -> Result<(), AllocError>
     requires { IsNear cell }
     ensures { OnOk result (draft.new ≡ draft.old ++ standing.standing_rules rect splitters cell) }
 {
@@ -162,7 +224,12 @@ fn stands_at(alloc: Global, cells: &[Cell], splitter: usize) -> Result<Vec<Fact>
 }
 
 /// Adds that the splitter is in at most one column.
-fn add_one_column(alloc: Global, draft: &mut Draft, rect: Rect, splitter: usize) -> Result<(), AllocError>
+fn add_one_column(
+    alloc: Global,
+    draft: &mut Draft,
+    rect: Rect,
+    splitter: usize,
+) -> Result<(), AllocError>
     ensures { OnOk result (draft.new ≡ draft.old
         ++ at_most_one (map (fact.Column splitter) (range_with_len 0 rect.width))) }
 {
@@ -171,7 +238,12 @@ fn add_one_column(alloc: Global, draft: &mut Draft, rect: Rect, splitter: usize)
 }
 
 /// Adds that the splitter is in at most one row.
-fn add_one_row(alloc: Global, draft: &mut Draft, rect: Rect, splitter: usize) -> Result<(), AllocError>
+fn add_one_row(
+    alloc: Global,
+    draft: &mut Draft,
+    rect: Rect,
+    splitter: usize,
+) -> Result<(), AllocError>
     ensures { OnOk result (draft.new ≡ draft.old
         ++ at_most_one (map (fact.Row splitter) (range_with_len 0 rect.height))) }
 {
@@ -191,7 +263,13 @@ fn add_one_direction(draft: &mut Draft, splitter: usize) -> Result<(), AllocErro
 }
 
 /// Adds that the splitter stands in exactly one place.
-pub fn add_place(alloc: Global, draft: &mut Draft, rect: Rect, cells: &[Cell], splitter: usize) -> Result<(), AllocError>
+pub fn add_place(
+    alloc: Global,
+    draft: &mut Draft,
+    rect: Rect,
+    cells: &[Cell],
+    splitter: usize,
+) -> Result<(), AllocError>
     requires { cells.now ≡ cells_of rect }
     ensures { OnOk result (draft.new ≡ draft.old ++ standing.place_rules rect splitter) }
 {

@@ -21,7 +21,12 @@ use bt_parts::{Cell, Dir, Rect};
 use std::alloc::{AllocError, Global};
 
 /// Adds that a tunnel of this direction comes to the cell from behind, where that is inside.
-fn push_tunnel_into(facts: &mut Vec<Fact>, rect: Rect, cell: Cell, dir: Dir) -> Result<(), AllocError>
+fn push_tunnel_into(
+    facts: &mut Vec<Fact>,
+    rect: Rect,
+    cell: Cell,
+    dir: Dir,
+) -> Result<(), AllocError>
     requires { IsNear cell }
     ensures { OnOk result (facts.new.items ≡ facts.old.items ++ underground.tunnel_into rect cell dir) }
 {
@@ -33,18 +38,33 @@ fn push_tunnel_into(facts: &mut Vec<Fact>, rect: Rect, cell: Cell, dir: Dir) -> 
 }
 
 /// Adds that an entrance begins a tunnel and an exit has one behind it.
-fn add_end_tunnels(alloc: Global, draft: &mut Draft, rect: Rect, cell: Cell, dir: Dir) -> Result<(), AllocError>
+fn add_end_tunnels(
+    alloc: Global,
+    draft: &mut Draft,
+    rect: Rect,
+    cell: Cell,
+    dir: Dir,
+) -> Result<(), AllocError>
     requires { IsNear cell }
     ensures { OnOk result (draft.new ≡ draft.old ++ parts.end_tunnel_rules rect cell dir) }
 {
     let mut into = Vec::new(alloc);
     push_tunnel_into(&mut into, rect, cell, dir)?;
-    draft.add(&[holds(cell, Shape::Entrance, dir)], &[Fact::Tunnel(cell, dir)])?;
+    draft.add(
+        &[holds(cell, Shape::Entrance, dir)],
+        &[Fact::Tunnel(cell, dir)],
+    )?;
     draft.add(&[holds(cell, Shape::Exit, dir)], &into)
 }
 
 /// Adds that a tunnel comes from an entrance or from a tunnel behind, and ends at an exit.
-fn add_sources(alloc: Global, draft: &mut Draft, rect: Rect, cell: Cell, dir: Dir) -> Result<(), AllocError>
+fn add_sources(
+    alloc: Global,
+    draft: &mut Draft,
+    rect: Rect,
+    cell: Cell,
+    dir: Dir,
+) -> Result<(), AllocError>
     requires { IsNear cell }
     ensures { OnOk result (draft.new ≡ draft.old ++ parts.source_rules rect cell dir) }
 {
@@ -65,14 +85,24 @@ fn add_passing(draft: &mut Draft, rect: Rect, cell: Cell, dir: Dir) -> Result<()
     if is_inside(rect, next) {
         let entrance = holds(next, Shape::Entrance, dir);
         let facing = holds(next, Shape::Entrance, dir.opposite());
-        add_excluded(draft, tunnel, &[entrance, facing, holds(next, Shape::Exit, dir.opposite())])
+        add_excluded(
+            draft,
+            tunnel,
+            &[entrance, facing, holds(next, Shape::Exit, dir.opposite())],
+        )
     } else {
         draft.add(&[tunnel], &[])
     }
 }
 
 /// Adds the rules of a tunnel at the cell in a direction.
-fn add_tunnel(alloc: Global, draft: &mut Draft, rect: Rect, cell: Cell, dir: Dir) -> Result<(), AllocError>
+fn add_tunnel(
+    alloc: Global,
+    draft: &mut Draft,
+    rect: Rect,
+    cell: Cell,
+    dir: Dir,
+) -> Result<(), AllocError>
     requires { IsNear cell }
     ensures { OnOk result (draft.new ≡ draft.old ++ underground.tunnel_rules rect cell dir) }
 {
@@ -102,14 +132,23 @@ fn far(dir: Dir, cell: Cell, distance: usize) -> Cell
 }
 
 /// Adds that so far ahead of an entrance with this distance is a tunnel.
-fn add_way(draft: &mut Draft, cell: Cell, dir: Dir, distance: usize, place: usize) -> Result<(), AllocError>
+fn add_way(
+    draft: &mut Draft,
+    cell: Cell,
+    dir: Dir,
+    distance: usize,
+    place: usize,
+) -> Result<(), AllocError>
     requires near { IsNear cell }
     requires few { place < 64 }
     ensures { OnOk result (draft.new ≡ draft.old
         ++ rule (contents.holds cell shape.Entrance dir ∷ fact.Distance cell distance ∷ [])
         (fact.Tunnel (steps place dir cell) dir ∷ []) ∷ []) }
 {
-    let given = [holds(cell, Shape::Entrance, dir), Fact::Distance(cell, distance)];
+    let given = [
+        holds(cell, Shape::Entrance, dir),
+        Fact::Distance(cell, distance),
+    ];
     draft.add(&given, &[Fact::Tunnel(far(dir, cell, place), dir)])
 }
 
@@ -129,13 +168,22 @@ fn add_between(draft: &mut Draft, cell: Cell, dir: Dir, distance: usize) -> Resu
 }
 
 /// Adds that an entrance with this distance has its exit there, and that the way between is a tunnel.
-fn add_distance(draft: &mut Draft, rect: Rect, cell: Cell, dir: Dir, distance: usize) -> Result<(), AllocError>
+fn add_distance(
+    draft: &mut Draft,
+    rect: Rect,
+    cell: Cell,
+    dir: Dir,
+    distance: usize,
+) -> Result<(), AllocError>
     requires near { IsNear cell }
     requires some { 1 ≤ distance }
     requires few { distance < 64 }
     ensures { OnOk result (draft.new ≡ draft.old ++ underground.distance_rules rect cell dir distance) }
 {
-    let given = [holds(cell, Shape::Entrance, dir), Fact::Distance(cell, distance)];
+    let given = [
+        holds(cell, Shape::Entrance, dir),
+        Fact::Distance(cell, distance),
+    ];
     let end = far(dir, cell, distance);
     if is_inside(rect, end) {
         draft.add(&given, &[holds(end, Shape::Exit, dir)])?;
@@ -146,7 +194,13 @@ fn add_distance(draft: &mut Draft, rect: Rect, cell: Cell, dir: Dir, distance: u
 }
 
 /// Adds where the exits of an entrance are.
-fn add_distances(draft: &mut Draft, rect: Rect, most: usize, cell: Cell, dir: Dir) -> Result<(), AllocError>
+fn add_distances(
+    draft: &mut Draft,
+    rect: Rect,
+    most: usize,
+    cell: Cell,
+    dir: Dir,
+) -> Result<(), AllocError>
     requires near { IsNear cell }
     requires few { most < 63 }
     ensures { OnOk result (draft.new ≡ draft.old
@@ -159,7 +213,14 @@ fn add_distances(draft: &mut Draft, rect: Rect, most: usize, cell: Cell, dir: Di
 }
 
 /// Adds that an entrance and its exit this far ahead both have the label of an edge, or both haven't.
-fn add_pair_label(draft: &mut Draft, rect: Rect, cell: Cell, dir: Dir, distance: usize, edge: usize) -> Result<(), AllocError>
+fn add_pair_label(
+    draft: &mut Draft,
+    rect: Rect,
+    cell: Cell,
+    dir: Dir,
+    distance: usize,
+    edge: usize,
+) -> Result<(), AllocError>
     requires near { IsNear cell }
     requires few { distance < 64 }
     ensures { OnOk result (draft.new ≡ draft.old ++ underground.pair_label_rules rect cell dir distance edge) }
@@ -177,7 +238,14 @@ fn add_pair_label(draft: &mut Draft, rect: Rect, cell: Cell, dir: Dir, distance:
 }
 
 /// Adds that an entrance and its exit this far ahead have the same label.
-fn add_same_label(draft: &mut Draft, rect: Rect, edges: usize, cell: Cell, dir: Dir, distance: usize) -> Result<(), AllocError>
+fn add_same_label(
+    draft: &mut Draft,
+    rect: Rect,
+    edges: usize,
+    cell: Cell,
+    dir: Dir,
+    distance: usize,
+) -> Result<(), AllocError>
     requires near { IsNear cell }
     requires few { distance < 64 }
     ensures { OnOk result (draft.new ≡ draft.old
@@ -190,7 +258,14 @@ fn add_same_label(draft: &mut Draft, rect: Rect, edges: usize, cell: Cell, dir: 
 }
 
 /// Adds that an entrance and its exit have the same label.
-fn add_same_labels(draft: &mut Draft, rect: Rect, most: usize, edges: usize, cell: Cell, dir: Dir) -> Result<(), AllocError>
+fn add_same_labels(
+    draft: &mut Draft,
+    rect: Rect,
+    most: usize,
+    edges: usize,
+    cell: Cell,
+    dir: Dir,
+) -> Result<(), AllocError>
     requires near { IsNear cell }
     requires few { most < 63 }
     ensures { OnOk result (draft.new ≡ draft.old
@@ -204,7 +279,15 @@ fn add_same_labels(draft: &mut Draft, rect: Rect, most: usize, edges: usize, cel
 }
 
 /// Adds that an entrance so turned has a distance, and what follows of it.
-fn add_entrance(alloc: Global, draft: &mut Draft, rect: Rect, most: usize, edges: usize, cell: Cell, dir: Dir) -> Result<(), AllocError>
+fn add_entrance(
+    alloc: Global,
+    draft: &mut Draft,
+    rect: Rect,
+    most: usize,
+    edges: usize,
+    cell: Cell,
+    dir: Dir,
+) -> Result<(), AllocError>
     requires near { IsNear cell }
     requires few { most < 63 }
     ensures { OnOk result (draft.new ≡ draft.old ++ underground.entrance_rules rect most edges cell dir) }
@@ -216,7 +299,14 @@ fn add_entrance(alloc: Global, draft: &mut Draft, rect: Rect, most: usize, edges
 }
 
 /// Adds that an entrance has a distance, and what follows of it.
-fn add_entrances(alloc: Global, draft: &mut Draft, rect: Rect, most: usize, edges: usize, cell: Cell) -> Result<(), AllocError>
+fn add_entrances(
+    alloc: Global,
+    draft: &mut Draft,
+    rect: Rect,
+    most: usize,
+    edges: usize,
+    cell: Cell,
+) -> Result<(), AllocError>
     requires near { IsNear cell }
     requires few { most < 63 }
     ensures { OnOk result (draft.new ≡ draft.old ++ flat_map (underground.entrance_rules rect most edges cell) dirs) }
@@ -228,7 +318,12 @@ fn add_entrances(alloc: Global, draft: &mut Draft, rect: Rect, most: usize, edge
 }
 
 /// Adds that an entrance has at most one distance.
-fn add_one_distance(alloc: Global, draft: &mut Draft, most: usize, cell: Cell) -> Result<(), AllocError>
+fn add_one_distance(
+    alloc: Global,
+    draft: &mut Draft,
+    most: usize,
+    cell: Cell,
+) -> Result<(), AllocError>
     requires { most < 63 }
     ensures { OnOk result (draft.new ≡ draft.old ++ at_most_one (map (fact.Distance cell) (range_with_len 1 most))) }
 {
@@ -237,7 +332,14 @@ fn add_one_distance(alloc: Global, draft: &mut Draft, most: usize, cell: Cell) -
 }
 
 /// Adds the rules of underground pairs of at most this distance, at a cell.
-pub fn add_underground(alloc: Global, draft: &mut Draft, rect: Rect, most: usize, edges: usize, cell: Cell) -> Result<(), AllocError>
+pub fn add_underground(
+    alloc: Global,
+    draft: &mut Draft,
+    rect: Rect,
+    most: usize,
+    edges: usize,
+    cell: Cell,
+) -> Result<(), AllocError>
     requires near { IsNear cell }
     requires few { most < 63 }
     ensures { OnOk result (draft.new ≡ draft.old ++ underground.underground_rules rect most edges cell) }

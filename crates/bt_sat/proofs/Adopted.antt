@@ -1,5 +1,5 @@
 -- A clause that is learnt is kept, and its first literal becomes true.
-use Rattle.std.proofs.Common.{◌≡◌, ◌≢◌, ℕ, ◌≤◌, ◌<◌, ◌+◌, ◌⊎◌, inl, inr, arith, Bool, List, [], ◌∷◌, ◌++◌, length, get_or, zero, suc, sym, subst, refl, ap, ◌∙◌, Option, None, Some, length-append, length-set}
+use Rattle.std.proofs.Common.{◌≡◌, ℕ, ◌<◌, ◌+◌, ◌⊎◌, inl, inr, arith, List, [], ◌∷◌, ◌++◌, length, get_or, sym, subst, refl, ap, ◌∙◌, Option, None, Some, length-append, length-set}
 use Rattle.std.specs.Prelude.{Contains, take, slice_set}
 use Rattle.std.specs.List.{All}
 use Rattle.std.specs.Global.{Vec}
@@ -12,7 +12,7 @@ use Rattle.bt_sat.specs.declared.assignment.Assignment.{Assignment}
 use Rattle.bt_sat.specs.declared.search.Search.{Search}
 use Rattle.bt_sat.specs.inner.Asserting.{IsAsserting}
 use Rattle.bt_sat.specs.inner.Assigning.{Assigns}
-use Rattle.bt_sat.specs.inner.Attending.{no_lit, first, second}
+use Rattle.bt_sat.specs.inner.Attending.{no_lit, first}
 use Rattle.bt_sat.specs.inner.Keeping.{kept_at, AreTrue, AreWatched, IsAtRest, IsWatchable}
 use Rattle.bt_sat.specs.inner.Levels.{start_of, front_of, AreLevels, IsOrdered, IsHeld, among_watched, alone, IsReady}
 use Rattle.bt_sat.specs.inner.Propagating.{IsSettledTo, IsWhole, Keeps}
@@ -21,11 +21,9 @@ use Rattle.bt_sat.specs.inner.Truths.{IsTrueIn, IsFalseIn}
 use Rattle.bt_sat.proofs.Back.{take_all_of, take_in}
 use Rattle.bt_sat.proofs.Cutting.{past}
 use Rattle.bt_sat.proofs.Deriving.{lt_or}
-use Rattle.bt_sat.proofs.Keeping.{not_both, rest_grows, truths_more}
-use Rattle.bt_sat.proofs.Leveled
+use Rattle.bt_sat.proofs.Keeping.{rest_grows, truths_more}
 use Rattle.bt_sat.proofs.Lists.{nat_or}
 use Rattle.bt_sat.proofs.Reasoning.{lt_or_eq, reasons_more}
-use Rattle.bt_sat.proofs.Settled.{all_of}
 use Rattle.bt_sat.proofs.Visiting.{all_more}
 
 -- a clause keeps its number where one more comes behind

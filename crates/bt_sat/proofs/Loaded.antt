@@ -1,11 +1,11 @@
 -- Loading the clauses of a formula.
-use Rattle.std.proofs.Common.{◌≡◌, ◌≢◌, ℕ, ◌≤◌, ◌<◌, ◌+◌, ◌⊎◌, inl, inr, arith, Bool, true, false, List, [], ◌∷◌, ◌++◌, length, get_or, sym, subst, refl, ap, ◌∙◌, Option, None, Some, length-append}
-use Rattle.std.specs.Prelude.{Contains, take, cond}
+use Rattle.std.proofs.Common.{◌≡◌, ℕ, ◌≤◌, ◌<◌, ◌+◌, ◌⊎◌, inl, inr, arith, Bool, true, false, List, [], ◌∷◌, length, get_or, sym, subst, refl, ap, ◌∙◌, None, Some, length-append}
+use Rattle.std.specs.Prelude.{Contains, cond}
 use Rattle.std.specs.List.{All, swap}
 use Rattle.std.specs.Global.{Vec}
 use Rattle.std.proofs.lemmas.List.{get_or_default, get_or_push}
 use Rattle.std.proofs.lemmas.List.Edits.{Swapped, length-swap, swapped_from_swap}
-use Rattle.std.proofs.lemmas.List.Elements.{All-push, Contains-push}
+use Rattle.std.proofs.lemmas.List.Elements.{Contains-push}
 use Rattle.std.proofs.lemmas.List.Sorted.{All-permutation, Contains-permutation, IsPermutation-swap, IsPermutation-sym}
 use Rattle.bt_cnf.specs.Formulas.{LitsBelow}
 use Rattle.bt_cnf.specs.declared.literal.Lit.{Lit}
@@ -15,11 +15,11 @@ use Rattle.bt_sat.specs.declared.assignment.Assignment.{Assignment}
 use Rattle.bt_sat.specs.declared.search.Search.{Search}
 use Rattle.bt_sat.specs.inner.Assigning.{Assigns}
 use Rattle.bt_sat.specs.inner.Attending.{no_lit, first, second}
-use Rattle.bt_sat.specs.inner.Keeping.{kept_at, AreTrue, AreWatched, IsAtRest, IsWatchable}
-use Rattle.bt_sat.specs.inner.Levels.{start_of, front_of, AreLevels, IsOrdered, IsHeld, among_watched, alone, IsReady, IsInConflict}
-use Rattle.bt_sat.specs.inner.Loads.{AreEmptyLists, AreUnwatched, AreUnsetAll, IsUnassigned, IsEmptySearch, IsOther, ArePaired, HasLoaded, Loads}
-use Rattle.bt_sat.specs.inner.Propagating.{IsSettledTo, IsWhole, Keeps}
-use Rattle.bt_sat.specs.inner.Reasons.{AreSame, lit_at, IsReason, AreNumbered, AreReasons}
+use Rattle.bt_sat.specs.inner.Keeping.{kept_at, AreTrue, IsAtRest, IsWatchable}
+use Rattle.bt_sat.specs.inner.Levels.{start_of, front_of, AreLevels, IsHeld, among_watched, alone, IsReady, IsInConflict}
+use Rattle.bt_sat.specs.inner.Loads.{AreUnwatched, IsEmptySearch, IsOther, ArePaired, HasLoaded}
+use Rattle.bt_sat.specs.inner.Propagating.{IsWhole, Keeps}
+use Rattle.bt_sat.specs.inner.Reasons.{AreSame, lit_at, IsReason, AreReasons}
 use Rattle.bt_sat.specs.inner.Truths.{IsTrueIn, IsFalseIn}
 use Rattle.bt_sat.specs.inner.Watchers.{watchers}
 use Rattle.bt_sat.specs.inner.WatchersParts.{WatchersParts}

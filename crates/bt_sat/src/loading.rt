@@ -1,6 +1,7 @@
 //! Loading a formula: the search that begins.
 ghost use Rattle.std.specs.Prelude.{◌≡◌, ◌<◌, Some, length, IfOk, OnOk};
 ghost use Rattle.std.specs.List.{All};
+ghost use Rattle.bt_cnf.specs.Formulas.{LitsBelow};
 ghost use Rattle.bt_log.specs.Validity.{clause_at};
 ghost use Rattle.bt_sat.specs.inner.Loading.{IsLoaded};
 ghost use Rattle.bt_sat.specs.inner.Loads.{ArePaired, AreUnsetAll, HasLoaded, IsEmptySearch, IsOther, IsUnassigned, Loads};
@@ -180,4 +181,64 @@ pub fn load(alloc: Global, formula: Formula, limit: u64) -> Result<Progress, All
         settled: 0,
         conflict,
     })
+}
+
+#[cfg(test)]
+mod tests {
+    use super::*;
+    use crate::choosers::Lowest;
+    use crate::hunt::{Found, hunt};
+    use std::test::Fail;
+
+    // The literals that numbers stand for: 1 for the first variable, and -1 for its negation.
+    fn lits_of(alloc: Global, formula: &Formula, numbers: &[i32]) -> Result<Vec<Lit>, Fail>
+        ensures { IfOk result (λ lits. LitsBelow formula.now.vars lits.items) }
+    {
+        let mut lits = Vec::new(alloc);
+        for number in numbers {
+            let count = number.unsigned_abs() as usize;
+            let place = count.checked_sub(1).ok_or("no variable")?;
+            lits.push(Lit {
+                var: formula.var_at(place).ok_or("no variable")?,
+                positive: *number > 0,
+            })?;
+        }
+        Ok(lits)
+    }
+
+    // A formula over three variables.
+    fn formula_of(alloc: Global, clauses: &[&[i32]]) -> Result<Formula, Fail> {
+        let mut formula = Formula::new(alloc, 3)?;
+        for clause in clauses {
+            let lits = lits_of(alloc, &formula, clause)?;
+            let _ = formula.add_clause(&lits)?;
+        }
+        Ok(formula)
+    }
+
+    #[test]
+    fn loads_clauses(rt: HostRuntime) -> Result<(), Fail> {
+        let table: [(&[&[i32]], Option<usize>, usize, usize, bool); 7] = [
+            (&[], None, 0, 0, true),
+            (&[&[1, 2], &[]], Some(1), 0, 1, false),
+            (&[&[1, 1, 1], &[1], &[2, 2, -3]], None, 1, 1, true),
+            (&[&[1], &[2], &[-1, -1], &[3]], Some(2), 2, 0, false),
+            (&[&[1], &[-1, -2], &[-1, 2]], None, 1, 2, false),
+            (&[&[1, -1], &[-2, -3], &[2, 3, 3]], None, 0, 3, true),
+            (&[&[1, 2], &[1, -2], &[-1, 3], &[-1, -3]], None, 0, 4, false),
+        ];
+        for (clauses, conflict, trail, kept, has_model) in table {
+            let formula = formula_of(rt.alloc(), clauses)?;
+            let mut progress = load(rt.alloc(), formula, 9)?;
+            assert!(rt;
+                progress.conflict == conflict && progress.search.assignment.trail.len() == trail
+            );
+            assert!(rt; progress.search.clauses.len() == kept);
+            let mut choosers: Vec<Lowest> = Vec::new(rt.alloc());
+            let found = hunt(&mut progress, &mut choosers)?;
+            assert!(rt; matches!(found, Found::Model) == has_model);
+            assert!(rt; matches!(found, Found::Refuted) != has_model);
+        }
+        Ok(())
+    }
 }

@@ -1,5 +1,5 @@
 -- Loading the clauses of a formula, one by one.
-use Rattle.std.specs.Prelude.{◌≡◌, ◌≢◌, ◌≤◌, ◌<◌, ◌+◌, ℕ, Bool, true, false, List, [], Option, Some, None, length, slice_index_or, IsPermutation}
+use Rattle.std.specs.Prelude.{◌≡◌, ◌≢◌, ◌≤◌, ◌<◌, ◌+◌, ℕ, Bool, true, false, List, [], Option, Some, None, length, IsPermutation}
 use Rattle.std.specs.List.{All}
 use Rattle.bt_cnf.specs.declared.literal.Lit.{Lit}
 use Rattle.bt_log.specs.Validity.{clause_at}

@@ -1,7 +1,6 @@
 use Rattle.bt_sat.proofs.Loaded.{true_loaded, unit_loaded}
 use Rattle.bt_sat.proofs.loading.load_lit.Goals as goal
-use Rattle.bt_cnf.specs.declared.literal.Lit.{Lit}
-use Rattle.std.proofs.Common.{◌≡◌, Some, refl, subst}
+use Rattle.std.proofs.Common.{Some, refl, subst}
 use Rattle.std.proofs.lemmas.Bool.{false≢true}
 use Rattle.bt_sat.specs.inner.Assigning.{Assigns}
 

@@ -1,5 +1,3 @@
-use Rattle.std.proofs.Common.{◌≡◌, length, None}
-use Rattle.std.specs.List.{All}
 use Rattle.bt_sat.specs.inner.Loads.{AreUnsetAll}
 use Rattle.bt_sat.proofs.loading.unset_values.Given as goal
 
