@@ -20,7 +20,8 @@ use std::alloc::{AllocError, Global};
 
 /// Adds a belt on the cell in each of these directions.
 fn push_belts(facts: &mut Vec<Fact>, cell: Cell, towards: &[Dir]) -> Result<(), AllocError>
-    ensures { OnOk result (facts.new.items ≡ facts.old.items ++ map (contents.holds cell shape.Belt) towards.now) }
+    ensures { OnOk result (facts.new.items ≡ facts.old.items ++ map
+        (contents.holds cell shape.Belt) towards.now) }
 {
     for dir in towards {
         facts.push(Fact::Kind(cell, Content::Turned(Shape::Belt, *dir)))?;
@@ -160,7 +161,8 @@ fn push_stills_into(
     towards: &[Dir],
 ) -> Result<(), AllocError>
     requires { IsNear cell }
-    ensures { OnOk result (facts.new.items ≡ facts.old.items ++ flat_map (going.still_into rect cell) towards.now) }
+    ensures { OnOk result (facts.new.items ≡ facts.old.items ++ flat_map
+        (going.still_into rect cell) towards.now) }
 {
     for dir in towards {
         push_still_into(facts, rect, cell, *dir)?;

@@ -52,7 +52,8 @@ fn add_one_label(
     edges: usize,
     cell: Cell,
 ) -> Result<(), AllocError>
-    ensures { OnOk result (draft.new ≡ draft.old ++ at_most_one (map (fact.Label cell) (range_with_len 0 edges))) }
+    ensures { OnOk result (draft.new ≡ draft.old ++ at_most_one
+        (map (fact.Label cell) (range_with_len 0 edges))) }
 {
     let facts = labels(alloc, cell, edges)?;
     add_at_most_one(draft, &facts)
@@ -239,7 +240,8 @@ fn add_label_ways(
     edge: Edge,
 ) -> Result<(), AllocError>
     requires { IsNear cell }
-    ensures { OnOk result (draft.new ≡ draft.old ++ flat_map (labels.label_way_rules rect cell number edge) dirs) }
+    ensures { OnOk result (draft.new ≡ draft.old ++ flat_map
+        (labels.label_way_rules rect cell number edge) dirs) }
 {
     for dir in DIRS {
         add_label_way(draft, rect, cell, number, edge, dir)?;
@@ -266,7 +268,8 @@ fn add_edge(
 /// Adds the rules of the label of each edge, at a cell.
 fn add_edges(draft: &mut Draft, rect: Rect, edges: &[Edge], cell: Cell) -> Result<(), AllocError>
     requires { IsNear cell }
-    ensures { OnOk result (draft.new ≡ draft.old ++ flat_map (labels.edge_rules rect cell) (enumerate_from 0 edges.now)) }
+    ensures { OnOk result (draft.new ≡ draft.old ++ flat_map (labels.edge_rules rect cell)
+        (enumerate_from 0 edges.now)) }
 {
     for (number, edge) in edges.iter().enumerate() {
         add_edge(draft, rect, cell, number, *edge)?;

@@ -54,7 +54,8 @@ fn add_not_turned(
 /// Adds that the part of an end is turned this way.
 fn add_turned(draft: &mut Draft, cell: Cell, end: End, dir: Dir) -> Result<(), AllocError>
     ensures { OnOk result (draft.new ≡ draft.old
-        ++ flat_map (λ of. map (λ other. not_all (contents.holds cell of other ∷ [])) (others_of dir)) (pinning.end_shapes end)) }
+        ++ flat_map (λ of. map (λ other. not_all (contents.holds cell of other ∷ [])) (others_of dir))
+        (pinning.end_shapes end)) }
 {
     let others = others_than(dir);
     let piece = match end {

@@ -94,7 +94,8 @@ fn add_entering_port(
 /// Adds by how many halves each edge leaves the splitter.
 fn add_leaving_ports(draft: &mut Draft, edges: &[Edge], splitter: usize) -> Result<(), AllocError>
     ensures { OnOk result (draft.new ≡ draft.old
-        ++ flat_map (λ numbered. ports.one_port_rules (fact.Leaves splitter numbered.0) (network.leaves splitter numbered.1))
+        ++ flat_map (λ numbered. ports.one_port_rules (fact.Leaves splitter numbered.0)
+        (network.leaves splitter numbered.1))
         (enumerate_from 0 edges.now)) }
 {
     for (number, edge) in edges.iter().enumerate() {
@@ -106,7 +107,8 @@ fn add_leaving_ports(draft: &mut Draft, edges: &[Edge], splitter: usize) -> Resu
 /// Adds by how many halves each edge comes into the splitter.
 fn add_entering_ports(draft: &mut Draft, edges: &[Edge], splitter: usize) -> Result<(), AllocError>
     ensures { OnOk result (draft.new ≡ draft.old
-        ++ flat_map (λ numbered. ports.one_port_rules (fact.Enters splitter numbered.0) (network.enters splitter numbered.1))
+        ++ flat_map (λ numbered. ports.one_port_rules (fact.Enters splitter numbered.0)
+        (network.enters splitter numbered.1))
         (enumerate_from 0 edges.now)) }
 {
     for (number, edge) in edges.iter().enumerate() {
@@ -296,7 +298,8 @@ fn add_leaving(
 ) -> Result<(), AllocError>
     requires { IsNear standing.cell }
     ensures { OnOk result (draft.new ≡ draft.old
-        ++ ports.leaving_rules rect standing.at standing.splitter standing.half standing.cell standing.dir (number, edge)) }
+        ++ ports.leaving_rules rect standing.at standing.splitter standing.half standing.cell standing.dir
+        (number, edge)) }
 {
     let port = Fact::Leaves(standing.splitter, number, standing.half);
     draft.add(
@@ -330,7 +333,8 @@ fn add_entering(
 ) -> Result<(), AllocError>
     requires { IsNear standing.cell }
     ensures { OnOk result (draft.new ≡ draft.old
-        ++ ports.entering_rule rect standing.at standing.splitter standing.half standing.cell standing.dir (number, edge) ∷ []) }
+        ++ ports.entering_rule rect standing.at standing.splitter standing.half standing.cell standing.dir
+        (number, edge) ∷ []) }
 {
     let _ = edge;
     let port = Fact::Enters(standing.splitter, number, standing.half);
@@ -348,7 +352,8 @@ fn add_all_leaving(
 ) -> Result<(), AllocError>
     requires { IsNear standing.cell }
     ensures { OnOk result (draft.new ≡ draft.old
-        ++ flat_map (ports.leaving_rules rect standing.at standing.splitter standing.half standing.cell standing.dir) from.now) }
+        ++ flat_map (ports.leaving_rules rect standing.at standing.splitter standing.half standing.cell
+        standing.dir) from.now) }
 {
     for numbered in from {
         add_leaving(draft, rect, standing, numbered.0, numbered.1)?;
@@ -366,7 +371,8 @@ fn add_all_entering(
 ) -> Result<(), AllocError>
     requires { IsNear standing.cell }
     ensures { OnOk result (draft.new ≡ draft.old
-        ++ map (ports.entering_rule rect standing.at standing.splitter standing.half standing.cell standing.dir) into.now) }
+        ++ map (ports.entering_rule rect standing.at standing.splitter standing.half standing.cell
+        standing.dir) into.now) }
 {
     for numbered in into {
         add_entering(alloc, draft, rect, standing, numbered.0, numbered.1)?;
@@ -382,7 +388,8 @@ fn add_some_leaving(
     standing: Standing,
 ) -> Result<(), AllocError>
     ensures { OnOk result (draft.new ≡ draft.old
-        ++ stands.some_leaving from.now standing.at standing.splitter standing.half standing.cell standing.dir ∷ []) }
+        ++ stands.some_leaving from.now standing.at standing.splitter standing.half standing.cell
+        standing.dir ∷ []) }
 {
     let mut facts = vec![in alloc; Fact::Still(standing.cell, standing.dir)]?;
     push_leaving(&mut facts, from, standing.splitter, standing.half)?;
@@ -438,7 +445,8 @@ fn add_standing_ports(
     dir: Dir,
 ) -> Result<(), AllocError>
     requires { IsInRange cell }
-    ensures { OnOk result (draft.new ≡ draft.old ++ parts.standing_ports rect from.now into.now splitter cell dir) }
+    ensures { OnOk result (draft.new ≡ draft.old ++ parts.standing_ports rect from.now into.now splitter
+        cell dir) }
 {
     let at = Fact::At(splitter, cell, dir);
     let lesser = Standing {
@@ -512,7 +520,8 @@ fn add_ports_of(
     requires { All IsInRange cells.now }
     ensures { OnOk result (draft.new ≡ draft.old ++ (stands.apart from.now into.now splitter Lesser
         ++ stands.apart from.now into.now splitter Greater
-        ++ flat_map (λ c. flat_map (parts.standing_ports rect from.now into.now splitter c) dirs) cells.now)) }
+        ++ flat_map (λ c. flat_map (parts.standing_ports rect from.now into.now splitter c) dirs)
+        cells.now)) }
 {
     add_apart(alloc, draft, from, into, splitter, Half::Lesser)?;
     add_apart(alloc, draft, from, into, splitter, Half::Greater)?;

@@ -164,7 +164,8 @@ fn add_names(
     splitters: usize,
 ) -> Result<(), AllocError>
     requires { IsNear cell }
-    ensures { OnOk result (draft.new ≡ draft.old ++ map (standing.name_rule rect cell) (range_with_len 0 splitters)) }
+    ensures { OnOk result (draft.new ≡ draft.old ++ map (standing.name_rule rect cell)
+        (range_with_len 0 splitters)) }
 {
     for splitter in 0..splitters {
         add_name(alloc, draft, rect, cell, splitter)?;
@@ -179,7 +180,8 @@ fn add_one_name(
     cell: Cell,
     splitters: usize,
 ) -> Result<(), AllocError>
-    ensures { OnOk result (draft.new ≡ draft.old ++ at_most_one (map (fact.Name cell) (range_with_len 0 splitters))) }
+    ensures { OnOk result (draft.new ≡ draft.old ++ at_most_one
+        (map (fact.Name cell) (range_with_len 0 splitters))) }
 {
     let facts = names(alloc, cell, splitters)?;
     add_at_most_one(draft, &facts)

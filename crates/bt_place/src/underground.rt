@@ -223,7 +223,8 @@ fn add_pair_label(
 ) -> Result<(), AllocError>
     requires near { IsNear cell }
     requires few { distance < 64 }
-    ensures { OnOk result (draft.new ≡ draft.old ++ underground.pair_label_rules rect cell dir distance edge) }
+    ensures { OnOk result (draft.new ≡ draft.old ++ underground.pair_label_rules rect cell dir distance
+        edge) }
 {
     let end = far(dir, cell, distance);
     if is_inside(rect, end) {
@@ -309,7 +310,8 @@ fn add_entrances(
 ) -> Result<(), AllocError>
     requires near { IsNear cell }
     requires few { most < 63 }
-    ensures { OnOk result (draft.new ≡ draft.old ++ flat_map (underground.entrance_rules rect most edges cell) dirs) }
+    ensures { OnOk result (draft.new ≡ draft.old ++ flat_map
+        (underground.entrance_rules rect most edges cell) dirs) }
 {
     for dir in DIRS {
         add_entrance(alloc, draft, rect, most, edges, cell, dir)?;
@@ -325,7 +327,8 @@ fn add_one_distance(
     cell: Cell,
 ) -> Result<(), AllocError>
     requires { most < 63 }
-    ensures { OnOk result (draft.new ≡ draft.old ++ at_most_one (map (fact.Distance cell) (range_with_len 1 most))) }
+    ensures { OnOk result (draft.new ≡ draft.old ++ at_most_one
+        (map (fact.Distance cell) (range_with_len 1 most))) }
 {
     let facts = distances(alloc, cell, most)?;
     add_at_most_one(draft, &facts)
