@@ -1,4 +1,6 @@
 //! Decisions of properties, with certificates that the checker accepts, and networks that are made.
+ghost use Rattle.std.specs.Prelude.{None};
+
 use super::designs::{FOUR_TO_FOUR, blueprint_of};
 use super::states::{BUTTERFLY, LOOP, TIERS};
 use super::{BELT, Case, SPLITTER, answer, answer_by, answers_all, joined};
