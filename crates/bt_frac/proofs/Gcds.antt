@@ -23,7 +23,7 @@ coprime_quotients a b g some h = (
 pub gcd_positive : (a b g : ℕ) → IsGcd a b g → 0 < b → 0 < g
 gcd_positive a b g h some = pos_of_dvd_of_pos h.1 some
 
-neg_mul : (m n : ℕ) → neg_ℤ (pos m) *ℤ pos n ≡ neg_ℤ (pos (m * n))
+pub neg_mul : (m n : ℕ) → neg_ℤ (pos m) *ℤ pos n ≡ neg_ℤ (pos (m * n))
 neg_mul zero n = ap pos (zero-mul n) ∙ ap (λ m. neg_ℤ (pos m)) (sym (zero-mul n))
 neg_mul (suc m) n = refl
 
@@ -83,6 +83,13 @@ numbers a b g h = record { common = g; is_common = h; left = a.over *ℤ pos (b.
 
 pub coprime_one : (a : ℕ) → IsGcd a 1 1
 coprime_one a = (one-dvd a, one-dvd 1, λ d p q. q)
+
+-- nor has 1 a common divisor with a number
+pub one_coprime : (m n : ℕ) → m ≡ 1 → IsGcd m n 1
+one_coprime m n e = subst (λ k. IsGcd k n 1) (sym e) (one-dvd 1, one-dvd n, λ d p q. p)
+
+pub coprime_to_one : (m n : ℕ) → n ≡ 1 → IsGcd m n 1
+coprime_to_one m n e = subst (λ k. IsGcd m k 1) (sym e) (coprime_one m)
 
 pub abs_negated : (z : ℤ) → unsigned_abs (pos 0 -ℤ z) ≡ unsigned_abs z
 abs_negated z = omega (arith, ints)

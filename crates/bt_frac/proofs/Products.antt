@@ -1,14 +1,15 @@
 -- The product of two fractions in lowest terms.
-use Rattle.std.proofs.Common.{◌≡◌, ℕ, ◌*◌, ◌<◌, ◌/◌, ◌^◌, arith, pos, ◌*ℤ◌, ap, sym, ◌∙◌, subst, unsigned_abs, Bool}
+use Rattle.std.proofs.Common.{◌≡◌, ℕ, ◌*◌, ◌<◌, ◌/◌, ◌^◌, arith, ℤ, pos, neg_ℤ, ◌*ℤ◌, ap, sym, ◌∙◌, subst, unsigned_abs, Bool, true, false, if◌then◌else◌}
 use Rattle.std.specs.Int.{IsGcd}
 use Rattle.std.proofs.lemmas.Int.{unsigned_abs-mul}
+use Rattle.std.proofs.lemmas.Nat.{mul-lt}
 use Rattle.std.proofs.lemmas.Nat.Gcd.{dvd_trans, IsGcd-swap}
 use Rattle.std.proofs.Math.Nat.{div-mul_cancel, dvd-mul_right, one-dvd}
 use Rattle.bt_frac.specs.Ratio.{Ratio, IsLowest, parts_ratio}
 use Rattle.bt_frac.specs.Products.{IsProduct}
-use Rattle.bt_frac.specs.inner.ProductParts.{AreProductParts}
+use Rattle.bt_frac.specs.inner.ProductParts.{AreProductParts, IsProductSign}
 use Rattle.bt_frac.proofs.Euclid.{euclid, coprime_part, same_under}
-use Rattle.bt_frac.proofs.Gcds.{quotient_positive}
+use Rattle.bt_frac.proofs.Gcds.{quotient_positive, neg_mul}
 use Rattle.bt_frac.proofs.Over.{under_positive}
 use Rattle.bt_frac.proofs.Quotients.{cancel, quotients_apart, parts_lowest}
 use Prim.Native.Nat.{◌∣◌}
@@ -32,6 +33,14 @@ quotient_divides n g h = subst (λ m. n / g ∣ m) (div-mul_cancel g h) (dvd-mul
 
 regrouped : (m p n q g h : ℕ) → m * p * (n * h * (q * g)) ≡ m * g * (p * h) * (n * q)
 regrouped m p n q g h = omega arith
+
+part_short : (n g : ℕ) → n < 2 ^ 63 → n / g < 2 ^ 63
+part_short n g h = omega arith
+
+quotients_fit : (m n g h : ℕ) → m < 2 ^ 63 → n < 2 ^ 63 → m / g * (n / h) < 2 ^ 127
+quotients_fit m n g h p q =
+    let small : m / g * (n / h) < 2 ^ 126 = mul-lt (m / g) (n / h) (2 ^ 63) (2 ^ 63) (part_short m g p) (part_short n h q) in
+    omega arith
 
 module _ (a b c d g h : ℕ) (left : IsGcd a b 1) (left_some : 0 < b) (right : IsGcd c d 1) (right_some : 0 < d)
     (left_common : IsGcd a d g) (right_common : IsGcd c b h) where
@@ -82,6 +91,13 @@ module _ (a b c d g h : ℕ) (left : IsGcd a b 1) (left_some : 0 < b) (right : I
         under_fits = under_fits;
       }
 
+  -- parts below 2 ^ 63 have a product that fits
+  pub short_are_parts : (m n : ℕ) → m ≡ a / g * (c / h) → n ≡ b / h * (d / g)
+      → a < 2 ^ 63 → b < 2 ^ 63 → c < 2 ^ 63 → d < 2 ^ 63 → AreProductParts a b c d m n
+  short_are_parts m n over under a_short b_short c_short d_short =
+      are_parts m n over (subst (λ k. k < 2 ^ 127) (sym over) (quotients_fit a c g h a_short c_short))
+      under (subst (λ k. k < 2 ^ 127) (sym under) (quotients_fit b d h g b_short d_short))
+
   pub no_over : (a / g * (c / h) < 2 ^ 127 → ⊥) → (m n : ℕ) → AreProductParts a b c d m n → ⊥
   no_over wide m n are = wide (subst (λ k. k < 2 ^ 127) (parts_are m n are).0 are.over_fits)
 
@@ -114,3 +130,14 @@ no_product x y m n size other_size none f low is =
 
 pub parts_are_lowest : (negative : Bool) (a b c d m n : ℕ) → AreProductParts a b c d m n → IsLowest (parts_ratio negative m n)
 parts_are_lowest negative a b c d m n are = parts_lowest negative m n are.positive are.over_fits are.under_fits are.coprime
+
+-- the product with the sign of its factors
+pub product_is : (negative : Bool) (x y : ℤ) (b d m n : ℕ) → IsProductSign x y negative → m * (b * d) ≡ unsigned_abs x * unsigned_abs y * n
+    → (if negative then neg_ℤ (pos m) else pos m) *ℤ pos (b * d) ≡ x *ℤ y *ℤ pos n
+product_is true x y b d m n sign same =
+    neg_mul m (b * d) ∙ ap (λ k. neg_ℤ (pos k)) same ∙ sym (neg_mul (unsigned_abs x * unsigned_abs y) n) ∙ ap (λ z. z *ℤ pos n) (sym sign)
+product_is false x y b d m n sign same = ap pos same ∙ ap (λ z. z *ℤ pos n) (sym sign)
+
+-- what is told of two fractions is told of what their views are
+pub product_seen : {a a' b b' : Ratio} (r : Ratio) → a ≡ a' → b ≡ b' → IsProduct a b r → IsProduct a' b' r
+product_seen {a} {a'} {b} {b'} r ea eb p = subst (λ y. IsProduct a' y r) eb (subst (λ x. IsProduct x b r) ea p)

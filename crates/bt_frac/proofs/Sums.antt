@@ -7,6 +7,7 @@ use Rattle.std.proofs.lemmas.Nat.Gcd.{dvd_trans, IsGcd-swap, same_from_IsGcd}
 use Rattle.std.proofs.Math.Nat.{dvd-mul_left_of_dvd, dvd-add, dvd-add_iff_left, one-dvd, dvd-mul_right, div-mul_cancel, mul-one}
 use Rattle.std.proofs.Math.IntN.{*ℤ_comm}
 use Rattle.bt_frac.specs.Ratio.{Ratio, IsLowest, FitsPart, IsShort, IsSum, AddNumbers, AddFits, CanAdd, IsWide}
+use Rattle.bt_frac.specs.inner.Wholes.{IsShortWhole}
 use Rattle.bt_frac.proofs.Euclid.{euclid, coprime_part, common_of}
 use Rattle.bt_frac.proofs.Gcds.{all_fit, gcd_positive, coprime_quotients}
 use Rattle.bt_frac.proofs.Ring.{add_comm, mul_assoc, turn_last, mul_distrib_right}
@@ -103,6 +104,15 @@ short_fits a b p q =
     let right : unsigned_abs (b.over *ℤ pos (a.under / g)) < 2 ^ 126 = product_below b.over a.under g q.over_short p.under_short in
     let under : a.under * (b.under / g) < 2 ^ 126 = mul-lt a.under (b.under / g) (2 ^ 63) (2 ^ 63) p.under_short (part_below b.under g q.under_short) in
     all_fit a b g common.1 (omega arith) (omega arith) (sum_below (a.over *ℤ pos (b.under / g)) (b.over *ℤ pos (a.under / g)) left right) (omega arith)
+
+pub wholes_fit : (a b : Ratio) → IsShortWhole a → IsShortWhole b → (n : AddNumbers a b) × AddFits n
+wholes_fit a b p q = short_fits a b (whole_short a p) (whole_short b q)
+  where
+    whole_short : (r : Ratio) → IsShortWhole r → IsShort r
+    whole_short r h = record { over_short = h.over_short; under_short = below_short r.under h.is_whole }
+      where
+        below_short : (n : ℕ) → n ≡ 1 → n < 2 ^ 63
+        below_short n e = omega arith
 
 -- the working numbers of an addition are the same wherever they are named, so a sum is not both wide and fitting
 pub fits_alike : (a b : Ratio) (m n : AddNumbers a b) → AddFits m → AddFits n

@@ -1,4 +1,5 @@
 -- What the contracts of private functions cite.
 pub mod Inverses
 pub mod ProductParts
+pub mod Wholes
 pub mod Words

@@ -3,7 +3,7 @@ use Rattle.std.specs.Int.{w128}
 use Rattle.std.proofs.lemmas.Int.{to_z-of_z}
 use Rattle.bt_frac.specs.Ratio.{Ratio}
 use Rattle.bt_frac.proofs.Products.{HaveNoProduct, no_product, parts_are_lowest}
-use Rattle.bt_frac.proofs.frac.Frac.mul.Goals as goal
+use Rattle.bt_frac.proofs.frac.Frac.mul_wide.Goals as goal
 
 seen : {a a' b b' : Ratio} (P : Ratio → Ratio → Type 0) → a ≡ a' → b ≡ b' → P a b → P a' b'
 seen {a} {a'} {b} {b'} P ea eb p = subst (λ y. P a' y) eb (subst (λ x. P x b) ea p)
