@@ -1,5 +1,5 @@
 -- The product of two fractions in lowest terms.
-use Rattle.std.proofs.Common.{◌≡◌, ℕ, ◌*◌, ◌<◌, ◌/◌, ◌^◌, arith, ℤ, pos, neg_ℤ, ◌*ℤ◌, ap, sym, ◌∙◌, subst, unsigned_abs, Bool, true, false, if◌then◌else◌}
+use Rattle.std.proofs.Common.{◌≡◌, ℕ, ◌*◌, ◌<◌, ◌/◌, ◌^◌, arith, ℤ, pos, neg_ℤ, ◌*ℤ◌, ap, sym, ◌∙◌, subst, unsigned_abs, Bool, true, false, if◌then◌else◌, lit<}
 use Rattle.std.specs.Int.{IsGcd}
 use Rattle.std.proofs.lemmas.Int.{unsigned_abs-mul}
 use Rattle.std.proofs.lemmas.Nat.{mul-lt}
@@ -9,7 +9,7 @@ use Rattle.bt_frac.specs.Ratio.{Ratio, IsLowest, parts_ratio}
 use Rattle.bt_frac.specs.Products.{IsProduct}
 use Rattle.bt_frac.specs.inner.ProductParts.{AreProductParts, IsProductSign}
 use Rattle.bt_frac.proofs.Euclid.{euclid, coprime_part, same_under}
-use Rattle.bt_frac.proofs.Gcds.{quotient_positive, neg_mul}
+use Rattle.bt_frac.proofs.Gcds.{quotient_positive, neg_mul, coprime_one}
 use Rattle.bt_frac.proofs.Over.{under_positive}
 use Rattle.bt_frac.proofs.Quotients.{cancel, quotients_apart, parts_lowest}
 use Prim.Native.Nat.{◌∣◌}
@@ -103,6 +103,14 @@ module _ (a b c d g h : ℕ) (left : IsGcd a b 1) (left_some : 0 < b) (right : I
 
   pub no_under : (b / h * (d / g) < 2 ^ 127 → ⊥) → (m n : ℕ) → AreProductParts a b c d m n → ⊥
   no_under wide m n are = wide (subst (λ k. k < 2 ^ 127) (parts_are m n are).1 are.under_fits)
+
+-- the product with 0
+pub no_size_parts : (a b c d : ℕ) → a * c ≡ 0 → AreProductParts a b c d 0 1
+no_size_parts a b c d e =
+    record { same = zeros (a * c) (b * d) e; positive = lit< tt; coprime = coprime_one 0; over_fits = lit< tt; under_fits = lit< tt }
+  where
+    zeros : (m n : ℕ) → m ≡ 0 → 0 * n ≡ m * 1
+    zeros m n e = omega arith
 
 -- no fraction in lowest terms is the product
 abbrev pub HaveNoProduct : Ratio → Ratio → Type 0

@@ -1,6 +1,6 @@
 //! The product of fractions, and their quotient: each numerator loses what it shares with the other denominator, so
 //! that what is multiplied is in lowest terms and no product is larger than it must be.
-ghost use Rattle.std.specs.Prelude.{◌≢◌, ℕ, pos, ◌<◌, ◌^◌, IfSome, IfNone};
+ghost use Rattle.std.specs.Prelude.{◌≡◌, ◌≢◌, ◌*◌, IsTrue, ℕ, pos, ◌<◌, ◌^◌, IfSome, IfNone};
 ghost use Rattle.std.specs.Int.{IsGcd};
 ghost use Rattle.bt_frac.specs.Ratio.{Ratio, IsLowest, IsShort};
 ghost use Rattle.bt_frac.specs.Products.{IsProduct, IsDivision};
@@ -141,13 +141,15 @@ fn product_parts(
     Some((size, under))
 }
 
+/// Whether one of two factors is 0.
+fn is_either_zero(left: u128, right: u128) -> bool
+    ensures { IsTrue result → left * right ≡ 0 }
+{
+    left == 0 || right == 0
+}
+
 /// The magnitude of the numerator, and the denominator, of a product in lowest terms, of parts below 2^63.
-fn short_product_parts(
-    left: u128,
-    left_under: u128,
-    right: u128,
-    right_under: u128,
-) -> (u128, u128)
+fn short_product_parts(left: u128, left_under: u128, right: u128, right_under: u128) -> (u128, u128)
     requires left_lowest { IsGcd left left_under 1 }
     requires left_some { 0 < left_under }
     requires right_lowest { IsGcd right right_under 1 }
@@ -158,6 +160,9 @@ fn short_product_parts(
     requires right_under_short { right_under < 2 ^ 63 }
     ensures { AreProductParts left left_under right right_under result.0 result.1 }
 {
+    if is_either_zero(left, right) {
+        return (0, 1);
+    }
     let (left, left_under) = (left as u64, left_under as u64);
     let (right, right_under) = (right as u64, right_under as u64);
     let left_common = short_gcd(left, right_under);

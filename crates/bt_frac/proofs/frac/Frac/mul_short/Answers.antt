@@ -1,7 +1,7 @@
-use Rattle.std.proofs.Common.{FitsSigned, rules, ◌≡◌, subst}
+use Rattle.std.proofs.Common.{FitsSigned, rules}
 use Rattle.std.specs.Int.{w128}
 use Rattle.std.proofs.lemmas.Int.{to_z-of_z}
-use Rattle.bt_frac.specs.Ratio.{Ratio, parts_ratio}
+use Rattle.bt_frac.specs.Ratio.{parts_ratio}
 use Rattle.bt_frac.proofs.Products.{product_is, parts_are_lowest, product_seen}
 use Rattle.bt_frac.proofs.frac.Frac.mul_short.Goals as goal
 

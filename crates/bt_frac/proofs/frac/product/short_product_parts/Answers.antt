@@ -1,5 +1,5 @@
 use Rattle.bt_frac.proofs.Gcds.{gcd_positive}
-use Rattle.bt_frac.proofs.Products.{short_are_parts}
+use Rattle.bt_frac.proofs.Products.{short_are_parts, no_size_parts}
 use Rattle.bt_frac.proofs.frac.product.short_product_parts.Goals as goal
 
 pub short_quotient-requires : goal.short_quotient-requires
@@ -13,6 +13,9 @@ short_quotient-requires-3 c = gcd_positive _ _ _ c.short_gcd-right_common.ensure
 
 pub short_quotient-requires-4 : goal.short_quotient-requires-4
 short_quotient-requires-4 c = gcd_positive _ _ _ c.short_gcd-left_common.ensures c.requires.right_some
+
+pub returns-then-is_either_zero : goal.returns-then-is_either_zero
+returns-then-is_either_zero c = no_size_parts _ _ _ _ (c.is_either_zero.ensures c.if-is_either_zero.true)
 
 pub returns : goal.returns
 returns c =
