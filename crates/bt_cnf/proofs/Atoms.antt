@@ -117,6 +117,64 @@ stored_more places clauses atoms rows columns var row place end is next is_row p
   end = ap (λ n. max n end) is.end ∙ ap (λ n. max (end_of (columns_in rows)) n) end_is ∙ sym (end_more rows row);
 }
 
+-- literals stay below one more variable
+lits_below_more : (vars : ℕ) (clauses : List (List Lit)) → All (LitsBelow vars) clauses → All (LitsBelow (vars + 1)) clauses
+lits_below_more vars clauses all i d below = λ j e inside. (let l = all i d below j e inside in omega (arith, l))
+
+ascend_wider : (least end : ℕ) (ns : List ℕ) → AscendBelow least end ns → AscendBelow least (end + 1) ns
+ascend_wider least end [] ascend = tt
+ascend_wider least end (n ∷ ns) ascend = (ascend.0, omega (arith, ascend.1), ascend_wider (n + 1) end ns ascend.2)
+
+ascend_all : (least end : ℕ) (ns : List ℕ) → AscendBelow least end ns → All (λ m. m < end) ns
+ascend_all least end [] ascend = All-nil (λ m. m < end)
+ascend_all least end (n ∷ ns) ascend = All-cons (λ m. m < end) n ns ascend.1 (ascend_all (n + 1) end ns ascend.2)
+
+-- a formula with one more variable, which is an atom
+formula_longer : (f : FormulaParts) (row : RowParts) → IsFormula f → IsRow row → IsFormula (record f { vars = f.vars + 1; atoms = f.atoms ++ (f.vars, row) ∷ [] })
+formula_longer f row is is_row = record {
+  clauses = lits_below_more f.vars f.clauses is.clauses;
+  atoms =
+      subst (AscendBelow 0 (f.vars + 1)) (sym (map-push (λ a. a.0) f.atoms (f.vars, row)))
+      (ascend_more 0 (f.vars + 1) f.vars (map (λ a. a.0) f.atoms) (ascend_wider 0 f.vars (map (λ a. a.0) f.atoms) is.atoms)
+      (ascend_all 0 f.vars (map (λ a. a.0) f.atoms) is.atoms) (omega arith) (omega arith));
+  rows = All-push (λ a. IsRow a.1) f.atoms (f.vars, row) is.rows is_row;
+}
+
+places_longer : (places : List (Option ℕ)) (atoms : List ℕ) (place : ℕ) → ArePlaces atoms places → place ≡ length atoms
+    → ArePlaces (atoms ++ length places ∷ []) (places ++ Some place ∷ [])
+places_longer places atoms place are is other inside =
+    elim (same_or other (length places)) [
+      | inl same ↦ rw same (rw (at_end places (Some place) None, is) (place_at atoms (length places)))
+      | inr differs ↦
+          let before : other < length places = omega (arith, length-append places (Some place ∷ []), inside, differs) in
+          rw (get_or_append_left places (Some place ∷ []) None other before)
+          (place_before atoms (length places) other (get_or places other None) differs (are other before))
+    ]
+  where
+    at_end : {X : Type 0} (xs : List X) (x d : X) → get_or (xs ++ x ∷ []) (length xs) d ≡ x
+    at_end [] x d = refl
+    at_end (y ∷ xs) x d = at_end xs x d
+
+pub parts_longer : (places : List (Option ℕ)) (clauses : List (List Lit)) (atoms : List ℕ) (rows : List RowParts) (row : RowParts) (place : ℕ) → length atoms ≡ length rows
+    → record { vars = length places + 1; clauses = clauses; atoms = zip atoms rows ++ (length places, row) ∷ [] }
+    ≡ parts_of (places ++ Some place ∷ []) clauses (atoms ++ length places ∷ []) (rows ++ row ∷ [])
+parts_longer places clauses atoms rows row place same =
+    ap (λ n. record { vars = n; clauses = clauses; atoms = zip atoms rows ++ (length places, row) ∷ [] }) (sym (length-append places (Some place ∷ [])))
+    ∙ ap (λ pairs. record { vars = length (places ++ Some place ∷ []); clauses = clauses; atoms = pairs }) (sym (zip_more atoms rows (length places) row same))
+
+-- what a formula is kept in, with one more variable that is an atom
+pub stored_longer : (places : List (Option ℕ)) (clauses : List (List Lit)) (atoms : List ℕ) (rows : List RowParts) (columns : ℕ) (row : RowParts) (place end : ℕ)
+    → IsStored places clauses atoms rows columns → IsRow row → place ≡ length rows → end ≡ end_of (columns_of row.terms)
+    → IsStored (places ++ Some place ∷ []) clauses (atoms ++ length places ∷ []) (rows ++ row ∷ []) (max columns end)
+stored_longer places clauses atoms rows columns row place end is is_row place_is end_is = record {
+  formula =
+      subst IsFormula (parts_longer places clauses atoms rows row place is.paired)
+      (formula_longer (parts_of places clauses atoms rows) row is.formula is_row);
+  paired = omega (arith, length-append atoms (length places ∷ []), length-append rows (row ∷ []), is.paired);
+  named = places_longer places atoms place is.named (place_is ∙ sym is.paired);
+  end = ap (λ n. max n end) is.end ∙ ap (λ n. max (end_of (columns_in rows)) n) end_is ∙ sym (end_more rows row);
+}
+
 -- a vector after a push that didn't fail
 pub appended : {X U E : Type 0} (r : Result U E) (u : U) (old mid new : List X) (x : X) → r ≡ Ok u → mid ≡ old → new ≡ (if is_ok r then mid ++ x ∷ [] else mid) → new ≡ old ++ x ∷ []
 appended r u old mid new x ok same is = is ∙ ap (λ b. if b then mid ++ x ∷ [] else mid) (ap is_ok ok) ∙ ap (λ xs. xs ++ x ∷ []) same

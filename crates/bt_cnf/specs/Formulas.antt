@@ -40,3 +40,8 @@ AddsClause old lits new (Err e) = new ≡ old
 abbrev pub AddsAtom : FormulaParts → ℕ → RowParts → FormulaParts → Result (Unit {0}) AllocError → Type 0
 AddsAtom old var row new (Ok done) = new ≡ record old { atoms = old.atoms ++ (var, row) ∷ [] }
 AddsAtom old var row new (Err e) = new ≡ old
+
+-- a variable was added that is an atom with this row, and it was told; or nothing was changed
+abbrev pub AppendsAtom : FormulaParts → RowParts → FormulaParts → Result ℕ AllocError → Type 0
+AppendsAtom old row new (Ok var) = (var ≡ old.vars) × (new ≡ record old { vars = old.vars + 1; atoms = old.atoms ++ (old.vars, row) ∷ [] })
+AppendsAtom old row new (Err e) = new ≡ old

@@ -1,7 +1,7 @@
 //! Formulas, with constant-time access to the row of a variable.
 ghost use Rattle.std.specs.Prelude.{◌≡◌, ◌<◌, ◌≤◌, length, map, slice_get, Some, IfSome, IsNone, ◌↔◌, IfOk, []};
 ghost use Rattle.bt_frac.specs.Rows.{IsRow, columns_of, columns_in, end_of};
-ghost use Rattle.bt_cnf.specs.Formulas.{LitsBelow, IsFormula, IsNextAtom, AddsClause, AddsAtom};
+ghost use Rattle.bt_cnf.specs.Formulas.{LitsBelow, IsFormula, IsNextAtom, AddsClause, AddsAtom, AppendsAtom};
 ghost use Rattle.bt_cnf.specs.Places.{IsPlaceOf};
 
 use crate::literal::{Clause, ClauseId, Lit, Var, Variable};
@@ -75,6 +75,20 @@ impl Formula {
         self.rows.push(row).unwrap();
         *self.places.get_mut(var) = Some(place);
         Ok(())
+    }
+
+    /// Appends a variable that is an atom with this row, and gives the variable.
+    pub fn add_atom(&mut self, row: Row) -> Result<Var, AllocError>
+        ensures { AppendsAtom self.old row self.new result }
+    {
+        // The room is made first, so that a refusal leaves the formula as it was.
+        self.atoms.reserve(1)?;
+        self.rows.reserve(1)?;
+        let var = self.places.add(Some(self.rows.len()))?;
+        self.columns = self.columns.max(end_column(&row));
+        self.atoms.push(var.place()).unwrap();
+        self.rows.push(row).unwrap();
+        Ok(var)
     }
 
     /// The number of variables.
