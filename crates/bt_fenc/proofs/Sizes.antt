@@ -1,9 +1,9 @@
 -- A network's flow formulas are small, since the network is.
-use Rattle.std.proofs.Common.{◌≡◌, ℕ, ◌<◌, ◌≤◌, ◌+◌, ◌*◌, ◌^◌, Bool, true, false, List, [], ◌∷◌, ◌++◌, length, map, cond, ltb, ap, sym, ◌∙◌, refl, subst, arith, zero, suc, length-append}
+use Rattle.std.proofs.Common.{◌≡◌, ℕ, ◌<◌, ◌≤◌, ◌+◌, ◌*◌, Bool, true, false, List, [], ◌∷◌, ◌++◌, length, map, cond, ltb, ap, ◌∙◌, refl, arith, zero, suc, length-append}
 use Rattle.std.specs.List.{flat_map, range_with_len}
 use Rattle.std.proofs.lemmas.Grind.{flat_map-append}
 use Rattle.std.proofs.lemmas.List.FromFn.{length-map-range_with_len}
-use Rattle.bt_net.specs.Network.{Network, IsNetwork, leaves, enters}
+use Rattle.bt_net.specs.Network.{Network, IsNetwork}
 use Rattle.bt_flow.specs.declared.ports.Role.{Role}
 use Rattle.bt_flow.specs.declared.ports.Role.TheVariants.{OutOf, Into}
 use Rattle.bt_flow.specs.declared.property.Property.{Property}
@@ -11,10 +11,10 @@ use Rattle.bt_flow.specs.declared.property.Property.TheVariants.{Balanced, Drawn
 use Rattle.bt_flow.specs.Ports.{numbers_where, plays}
 use Rattle.bt_flow.proofs.Numbers.{length-numbers_where, few_at, ends_of}
 use Rattle.bt_fenc.specs.declared.claim.Claim.{Claim}
-use Rattle.bt_fenc.specs.declared.claim.Claim.TheVariants.{Mark, Says}
+use Rattle.bt_fenc.specs.declared.claim.Claim.TheVariants.{Says}
 use Rattle.bt_fenc.specs.declared.family.Family.{Family}
 use Rattle.bt_fenc.specs.declared.family.Family.TheVariants as of
-use Rattle.bt_fenc.specs.Columns.{input_edge, output_edge, input_edges, output_edges, in_edges, out_edges, at_least, not_below, cap_at}
+use Rattle.bt_fenc.specs.Columns.{input_edge, output_edge, input_edges, output_edges, in_edges, out_edges, at_least, cap_at}
 use Rattle.bt_fenc.specs.Families.{clauses_at, places, family_clauses, families, even_clause, even_clauses, backing_clause}
 use Rattle.bt_fenc.specs.Properties.{property_clauses, loaded_clauses, open_clauses, short_clauses, unequal_clause, differ}
 use Rattle.bt_fenc.specs.Numbering.{mentioned, rows_in, clauses_from}

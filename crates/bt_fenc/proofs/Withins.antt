@@ -113,7 +113,7 @@ module _ (n : Network) (is : IsNetwork n) where
       ((h.0, (tt, last_claim (ltb (cap_at n a) (cap_at n b)) a (cap_at n a))), ((h.1.0, (tt, last_claim (ltb (cap_at n b) (cap_at n a)) b (cap_at n b))), tt))
   evens_within mark (a ∷ b ∷ c ∷ edges) h = tt
 
-  at_within : (f : Family) (k : ℕ) → AreWithin (length n.edges) (clauses_at n f k)
+  pub at_within : (f : Family) (k : ℕ) → AreWithin (length n.edges) (clauses_at n f k)
   at_within of.Flows k = ((tt, tt), ((tt, tt), tt))
   at_within of.Loads k = ((tt, tt), ((tt, tt), tt))
   at_within of.Rooms k = ((tt, tt), ((tt, tt), tt))
@@ -144,7 +144,7 @@ module _ (n : Network) (is : IsNetwork n) where
   unequal_within [] = tt
   unequal_within (first ∷ others) = each-flat_map _ (λ x. Unit {0}) (differ first) others (each_any others) (λ b t. (tt, (tt, tt)))
 
-  property_within : (p : Property) → AreWithin (length n.edges) (property_clauses n p)
+  pub property_within : (p : Property) → AreWithin (length n.edges) (property_clauses n p)
   property_within Balanced = each-append (AllByRecursion (IsWithin (length n.edges))) (open_clauses n) (unequal_clause (output_edges n) ∷ []) open_within (unequal_within (output_edges n), tt)
   property_within DrawnEvenly = each-append (AllByRecursion (IsWithin (length n.edges))) (loaded_clauses n) (unequal_clause (input_edges n) ∷ []) loaded_within (unequal_within (input_edges n), tt)
   property_within Unlimited = short_within

@@ -1,5 +1,5 @@
 -- How large flow formulas are.
-use Rattle.std.specs.Prelude.{ℕ, ◌<◌, ◌^◌, length}
+use Rattle.std.specs.Prelude.{◌<◌, ◌^◌, length}
 use Rattle.bt_net.specs.Network.{Network, IsNetwork}
 use Rattle.bt_flow.specs.declared.property.Property.{Property}
 use Rattle.bt_cnf.specs.Formulas.{FormulaParts}

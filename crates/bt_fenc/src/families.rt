@@ -1,5 +1,5 @@
 //! The clauses that say that a state is admissible and steady.
-ghost use Rattle.std.specs.Prelude.{◌≡◌, ◌++◌, ◌<◌, ◌-◌, ◌^◌, OnOk, IfOk, true, false, flat_map};
+ghost use Rattle.std.specs.Prelude.{◌≡◌, ◌++◌, ◌<◌, ◌-◌, ◌^◌, OnOk, IfOk, true, false};
 ghost use Rattle.bt_flow.specs.Ports.{ArePorts};
 ghost use Rattle.bt_frac.specs.declared.row.Relation.TheVariants as Relation;
 ghost use Rattle.bt_fenc.specs.Columns as columns;
@@ -9,7 +9,7 @@ ghost use Rattle.bt_fenc.specs.declared.family.Family.TheVariants as Family;
 use crate::claim::Claim;
 use crate::draft::Draft;
 use crate::ends::{cap_at, input_edge, load_column, numbers_of, output_edge, room_column};
-use crate::family::{FAMILIES, Family};
+use crate::family::Family;
 use crate::rows::{at_least, at_most, not_below, row_of};
 use crate::splitters::{add_backing, add_even, merge};
 use bt_flow::{Port, Ports};
@@ -165,7 +165,7 @@ fn add_output(
 }
 
 /// Adds the clauses of a family at a place.
-fn add_at(
+pub fn add_at(
     alloc: Global,
     net: &Net,
     ports: &Ports,
@@ -191,7 +191,7 @@ fn add_at(
 }
 
 /// How many places a family has.
-fn places(net: &Net, family: Family) -> usize
+pub fn places(net: &Net, family: Family) -> usize
     ensures { result ≡ families.places net.now family }
 {
     match family {
@@ -202,38 +202,4 @@ fn places(net: &Net, family: Family) -> usize
             net.splitters() as usize
         }
     }
-}
-
-/// Adds the clauses of a family at all its places.
-fn add_family(
-    alloc: Global,
-    net: &Net,
-    ports: &Ports,
-    draft: &mut Draft,
-    family: Family,
-) -> Result<(), AllocError>
-    requires ports { ArePorts net.now ports.now }
-    ensures { OnOk result (draft.new ≡ draft.old ++ families.family_clauses net.now family) }
-{
-    for place in 0..places(net, family) {
-        add_at(alloc, net, ports, draft, family, place)?;
-    }
-    Ok(())
-}
-
-/// Adds the clauses of all families.
-pub fn add_families(
-    alloc: Global,
-    net: &Net,
-    ports: &Ports,
-    draft: &mut Draft,
-) -> Result<(), AllocError>
-    requires { ArePorts net.now ports.now }
-    ensures { OnOk result (draft.new ≡ draft.old
-        ++ flat_map (families.family_clauses net.now) families.families) }
-{
-    for family in FAMILIES {
-        add_family(alloc, net, ports, draft, family)?;
-    }
-    Ok(())
 }

@@ -1,7 +1,0 @@
-use Rattle.std.proofs.Common.{◌≡◌, ◌++◌, take}
-use Rattle.std.specs.List.{flat_map}
-use Rattle.bt_fenc.specs.Families.{families, family_clauses}
-use Rattle.bt_fenc.proofs.families.add_families.Given as goal
-
-abbrev pub invariant-loop-family : goal.invariant-loop-family
-invariant-loop-family l = l.draft ≡ l.initial.draft ++ flat_map (family_clauses l.net) (take l.family-index families)

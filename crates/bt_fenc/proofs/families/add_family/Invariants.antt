@@ -1,7 +1,0 @@
-use Rattle.std.proofs.Common.{◌≡◌, ◌++◌}
-use Rattle.std.specs.List.{flat_map, range_with_len}
-use Rattle.bt_fenc.specs.Families.{clauses_at}
-use Rattle.bt_fenc.proofs.families.add_family.Given as goal
-
-abbrev pub invariant-loop-place : goal.invariant-loop-place
-invariant-loop-place l = l.draft ≡ l.initial.draft ++ flat_map (clauses_at l.net l.family) (range_with_len 0 l.place)
