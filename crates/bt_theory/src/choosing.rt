@@ -6,9 +6,9 @@ ghost use Rattle.std.specs.Prelude.{◌≡◌, ◌↔◌, ◌<◌, true, IsTrue,
 ghost use Rattle.std.specs.List.{All};
 ghost use Rattle.bt_cnf.specs.Assignments.{truth_in};
 ghost use Rattle.bt_cnf.specs.Meeting.{IsTrueUnder, MeetsClause};
-ghost use Rattle.bt_theory.specs.inner.Choosing.{IsWithin, IsSettled, HasSettled, Settles, IsChosen};
+ghost use Rattle.bt_theory.specs.inner.Choosing.{IsWithin, StaysTrue, HasSettled, Settles, IsChosen};
 
-use bt_cnf::{Formula, Lit};
+use bt_cnf::{Formula, Lit, Var};
 use std::alloc::{AllocError, Global};
 
 /// Whether a variable is true, or false past the end of the assignment.
@@ -25,15 +25,11 @@ fn holds(lit: Lit, model: &[bool]) -> bool
     is_true(model, lit.var.place()) == lit.positive
 }
 
-/// Whether a literal stays true however more of the model is chosen.
-fn is_settled(lit: Lit, model: &[bool], chosen: &[bool]) -> bool
-    ensures { IsTrue result ↔ IsSettled model.now chosen.now lit }
+/// Whether a literal that is true in a model stays so however more of the model is chosen.
+fn is_settled(lit: Lit, chosen: &[bool]) -> bool
+    ensures { IsTrue result ↔ StaysTrue chosen.now lit }
 {
-    if lit.positive {
-        is_true(chosen, lit.var.place())
-    } else {
-        !is_true(model, lit.var.place())
-    }
+    !lit.positive || is_true(chosen, lit.var.place())
 }
 
 /// The variable to choose for a clause: that of the last literal which is true in the model. None where a
@@ -44,34 +40,37 @@ fn choice(lits: &[Lit], model: &[bool], chosen: &[bool]) -> Option<usize>
 {
     let mut last = None;
     for lit in lits {
-        if is_settled(*lit, model, chosen) {
-            return None;
-        }
         if holds(*lit, model) {
+            if is_settled(*lit, chosen) {
+                return None;
+            }
             last = Some(lit.var.place());
         }
     }
     last
 }
 
+/// Makes the atoms false.
+fn clear(chosen: &mut [bool], atoms: &[Var])
+    ensures size { length chosen.new ≡ length chosen.old }
+    ensures within { IsWithin chosen.old chosen.new }
+{
+    for var in atoms {
+        let place = var.place();
+        if place < chosen.len() {
+            chosen[place] = false;
+        }
+    }
+}
+
 /// The model's values of the variables that are no atoms, and false for the atoms.
-fn without_atoms(alloc: Global, formula: &Formula, model: &[bool]) -> Result<Vec<bool>, AllocError>
+fn without_atoms(alloc: Global, atoms: &[Var], model: &[bool]) -> Result<Vec<bool>, AllocError>
     ensures size { IfOk result (λ chosen. length chosen.items ≡ length model.now) }
     ensures within { IfOk result (λ chosen. IsWithin model.now chosen.items) }
 {
-    let mut chosen = Vec::new(alloc);
-    for (place, value) in model.iter().enumerate() {
-        chosen.push(*value && !is_atom(formula, place))?;
-    }
+    let mut chosen = Vec::from_slice(alloc, model)?;
+    clear(&mut chosen, atoms);
     Ok(chosen)
-}
-
-/// Whether the variable at a place is an atom.
-fn is_atom(formula: &Formula, place: usize) -> bool {
-    match formula.var_at(place) {
-        Some(var) => formula.row_of(var).is_some(),
-        None => false,
-    }
 }
 
 /// Chooses what a clause needs.
@@ -88,13 +87,18 @@ fn settle(lits: &[Lit], model: &[bool], chosen: &mut [bool])
     }
 }
 
-/// An assignment within a model that gives each clause of the formula a true literal: what isn't an atom is
-/// as in the model, and of the atoms those are true that some clause needs.
-pub fn choose(alloc: Global, formula: &Formula, model: &[bool]) -> Result<Vec<bool>, AllocError>
+/// An assignment within a model that gives each clause of the formula a true literal: what isn't among the
+/// atoms is as in the model, and of the atoms those are true that some clause needs.
+pub fn choose(
+    alloc: Global,
+    formula: &Formula,
+    atoms: &[Var],
+    model: &[bool],
+) -> Result<Vec<bool>, AllocError>
     requires { All (MeetsClause (truth_in model.now)) formula.now.clauses }
     ensures { IfOk result (λ chosen. IsChosen model.now chosen.items formula.now.clauses) }
 {
-    let mut chosen = without_atoms(alloc, formula, model)?;
+    let mut chosen = without_atoms(alloc, atoms, model)?;
     for place in 0..formula.clauses() {
         let Some(id) = formula.clause_at(place) else {
             unreachable!()

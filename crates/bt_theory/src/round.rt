@@ -65,7 +65,7 @@ fn try_model<C: Chooser>(
     requires model { HasModel solver.old.kernel model.now }
     ensures { IfOk result (IsRound pivots solver.old.kernel solver.new.kernel tableau.new) }
 {
-    let chosen = choose(alloc, solver.formula(), model)?;
+    let chosen = choose(alloc, solver.formula(), atoms, model)?;
     bind(tableau, atoms, &chosen);
     match tableau.check(alloc, pivots)? {
         Check::Sat(values) => Ok(Some(End::Sat {

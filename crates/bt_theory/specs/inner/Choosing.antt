@@ -13,7 +13,11 @@ IsWithin model chosen = (var : ℕ) → truth_in chosen var ≡ true → truth_i
 abbrev pub IsSettled : List Bool → List Bool → Lit → Type 0
 IsSettled model chosen l = ((l.positive ≡ true) × (truth_in chosen l.var ≡ true)) ⊎ ((l.positive ≡ false) × (truth_in model l.var ≡ false))
 
--- the clause has such a literal
+-- a literal that is true in the model is settled: it is negative, or chosen
+abbrev pub StaysTrue : List Bool → Lit → Type 0
+StaysTrue chosen l = (l.positive ≡ false) ⊎ (truth_in chosen l.var ≡ true)
+
+-- the clause has a literal that is settled
 abbrev pub HasSettled : List Bool → List Bool → List Lit → Type 0
 HasSettled model chosen lits = Any (IsSettled model chosen) lits
 
