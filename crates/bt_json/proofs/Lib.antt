@@ -23,5 +23,6 @@ pub mod Lenient
 pub mod Dues
 pub mod Events
 pub mod OneRead
+pub mod Longer
 pub mod NameLemmas
 pub mod FrameSteps
