@@ -24,5 +24,6 @@ pub mod Dues
 pub mod Events
 pub mod OneRead
 pub mod Longer
+pub mod FirstBytes
 pub mod NameLemmas
 pub mod FrameSteps
