@@ -2,7 +2,7 @@
 use Rattle.std.specs.Prelude.{◌≤◌, length}
 use Rattle.bt_net.specs.Network.{Network}
 use Rattle.bt_flow.specs.declared.property.Property.{Property}
-use Rattle.bt_flow.specs.States.{IsTrueOf}
+use Rattle.bt_flow.specs.States.{AreLowest, IsTrueOf}
 use Rattle.bt_flow.specs.Properties.{Holds, Breaks}
 use Rattle.bt_fenc.specs.FlowFormula.{flow_formula}
 use Rattle.bt_theory.specs.declared.outcome.Limits.{Limits}
@@ -10,11 +10,11 @@ use Rattle.bt_theory.specs.Outcomes.{IsRefutation, IsUsedUp, TurnsOn, IsTooWide}
 use Rattle.bt_decide.specs.declared.verdict.Verdict.{Verdict}
 use Rattle.bt_decide.specs.declared.verdict.Verdict.TheVariants.{Yes, No, Spent, Pivots, Wide}
 
--- what is right to say: the network has the property, and the log refutes its flow formula; or the state breaks the
--- property; or a limit is reached, or a number leaves 128 bits, in deciding the flow formula
+-- what is right to say: the network has the property, and the log refutes its flow formula; or the state, whose
+-- fractions are in lowest terms, breaks the property; or a limit is reached, or a number leaves 128 bits, in deciding the flow formula
 abbrev pub IsVerdict : Network → Property → Limits → Verdict → Type 0
 IsVerdict n p limits (Yes log) = Holds n p × IsRefutation (flow_formula n p) log.steps × (length log.steps ≤ limits.learnt)
-IsVerdict n p limits (No state) = IsTrueOf n state (Breaks n p)
+IsVerdict n p limits (No state) = IsTrueOf n state (Breaks n p) × AreLowest state
 IsVerdict n p limits (Spent log) = IsUsedUp (flow_formula n p) limits.learnt log.steps
 IsVerdict n p limits (Pivots trail) = TurnsOn (flow_formula n p) limits.pivots trail
 IsVerdict n p limits (Wide at) = IsTooWide (flow_formula n p) limits.pivots at

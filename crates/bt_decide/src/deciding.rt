@@ -27,6 +27,8 @@ pub fn decide<C: Chooser>(
     match solve(alloc, formula, choosers, limits)? {
         Outcome::Sat { values, assignment } => {
             let state = state_of(alloc, net, &values, &assignment)?;
+            // The flows tell a proof that the fractions are in lowest terms.
+            let _ = state.flows();
             Ok(Verdict::No(state))
         }
         Outcome::Refuted(log) => Ok(Verdict::Yes(log)),

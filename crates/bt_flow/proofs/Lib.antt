@@ -22,3 +22,4 @@ pub mod Decided
 pub mod Denominators
 pub mod OneWide
 pub mod OneAnswer
+pub mod Fitting

@@ -103,7 +103,8 @@ laws_pass n p s h test.Input b low high l = h.input b l
 laws_pass n p s h test.Output b low high l = h.output b l
 laws_pass n p s h test.Conclusion b low high l = absurd (omega (arith, high))
 
-breaks_pass : (n : Network) (p : Property) (s : Flows) → Breaks n p s → (u : Test) (b : ℕ) → b < places n u → PassesAt n p s u b
+-- a state that breaks the property passes each test
+pub breaks_pass : (n : Network) (p : Property) (s : Flows) → Breaks n p s → (u : Test) (b : ℕ) → b < places n u → PassesAt n p s u b
 breaks_pass n p s h test.Load b l = (h.admissible.loads b l, λ a. h.meets.loads a b l)
 breaks_pass n p s h test.Room b l = (h.admissible.rooms b l, λ a. h.meets.rooms a b l)
 breaks_pass n p s h test.Range b l = h.steady.range b l

@@ -23,5 +23,7 @@ pub mod Lenient
 pub mod Dues
 pub mod Events
 pub mod OneRead
+pub mod Longer
+pub mod FirstBytes
 pub mod NameLemmas
 pub mod FrameSteps

@@ -4,6 +4,7 @@
 mod decimal;
 mod fault;
 mod kind;
+mod law;
 mod limits;
 mod names;
 mod nested;
@@ -15,6 +16,7 @@ mod tree;
 
 pub use decimal::Decimal;
 pub use fault::JsonFault;
+pub use law::longer_is_read;
 pub use limits::{MOST_EXPONENT, MOST_HALVES, MOST_LEVELS};
 pub use reader::read;
 pub use std::alloc::AllocError as Memory;

@@ -8,3 +8,4 @@ pub mod PinSpelling
 pub mod ItemLines
 pub mod Bodies
 pub mod OneReading
+pub mod Longer

@@ -34,7 +34,7 @@ back : (m n : Network) → SameSizes m n → SameSizes n m
 back m n sizes = record { inputs = sym sizes.inputs; outputs = sym sizes.outputs; splitters = sym sizes.splitters }
 
 -- edge lines have bytes
-edges-some : (lines : List (List ℕ)) (es : List Edge) → AllZip IsEdgeLine lines es → All (λ l. 0 < length l) lines
+pub edges-some : (lines : List (List ℕ)) (es : List Edge) → AllZip IsEdgeLine lines es → All (λ l. 0 < length l) lines
 edges-some [] [] are = All-nil (λ l. 0 < length l)
 edges-some [] (e ∷ es) are = absurd are
 edges-some (l ∷ ls) [] are = absurd are

@@ -5,4 +5,5 @@ pub mod Wiring
 pub mod Refusals
 pub mod PinRefusals
 pub mod Readings
+pub mod Longer
 pub mod inner

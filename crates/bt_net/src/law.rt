@@ -2,7 +2,8 @@
 ghost use Rattle.std.specs.Prelude.{◌≡◌, ℕ, List};
 ghost use Rattle.bt_net.specs.Network.{Network, IsNetwork};
 ghost use Rattle.bt_net.specs.NetText.{BeginsWithNet};
-ghost use Rattle.bt_net.specs.Readings.{PrintedIsRead, PrintedIsPlain};
+ghost use Rattle.bt_net.specs.Readings.{IsNetRead, IsPlainRead, PrintedIsRead, PrintedIsPlain};
+ghost use Rattle.bt_net.specs.Longer.{Stays, StaysRefused};
 
 /// Bytes begin with the text of one network at most, and what follows it is one.
 pub fn one_net()
@@ -14,4 +15,13 @@ pub fn one_net()
 pub fn printed_is_read()
     ensures read { PrintedIsRead }
     ensures plain { PrintedIsPlain }
+{}
+
+/// What is read of bytes is read of longer ones that begin with them, but where the last line lacks its
+/// line feed; and so is a refusal, but where it is that of a line which the bytes don't have yet.
+pub fn longer_is_read()
+    ensures read { Stays IsNetRead }
+    ensures plain { Stays IsPlainRead }
+    ensures refused { StaysRefused IsNetRead }
+    ensures plainly_refused { StaysRefused IsPlainRead }
 {}

@@ -5,3 +5,5 @@ pub mod OneAnswer
 pub mod InputsTold
 pub mod Ended
 pub mod Certified
+pub mod LongerDesigns
+pub mod Rechecked

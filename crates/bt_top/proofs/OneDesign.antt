@@ -58,7 +58,7 @@ blueprint_network value answer n is (stopped fault h e) = absurd (not_both n (en
 blueprint_network value answer n is (went_on parts h k) = layout_network parts answer n is k
 
 -- what is seen of a result is a value's where the result is one
-seen_ok : {A B E : Type 0} (f : A → B) (r : Result A E) (b : B) → Ok b ≡ seen f r → (a : A) × (r ≡ Ok a) × (b ≡ f a)
+pub seen_ok : {A B E : Type 0} (f : A → B) (r : Result A E) (b : B) → Ok b ≡ seen f r → (a : A) × (r ≡ Ok a) × (b ≡ f a)
 seen_ok f (Ok a) b e = (a, refl, same_value b (f a) e)
 seen_ok f (Err fault) b e = absurd (not_both b fault e)
 

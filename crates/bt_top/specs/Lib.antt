@@ -12,4 +12,6 @@ pub mod Deciding
 pub mod Making
 pub mod Answering
 pub mod Endings
+pub mod Longer
+pub mod Rechecking
 pub mod inner

@@ -12,6 +12,7 @@ mod design;
 mod fault;
 mod flow_check;
 mod input;
+mod law;
 mod making;
 mod printing;
 mod program;
@@ -21,6 +22,7 @@ mod text;
 
 pub use answer::Answer;
 pub use input::{MOST_CHECKED, MOST_OF_DESIGN};
+pub use law::{decided_is_checked, longer_is_read};
 pub use making::Made;
 pub use program::{NO_MEMORY, READ_FAULT, WRITE_FAULT, run};
 pub use refusal::Refusal;

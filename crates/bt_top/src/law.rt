@@ -1,0 +1,17 @@
+//! Laws of what the commands answer, as contracts of functions that do nothing.
+ghost use Rattle.bt_top.specs.Longer.{DesignStays, RefusalStays};
+ghost use Rattle.bt_top.specs.Rechecking.{ProofIsChecked, StateIsChecked};
+
+/// What is read of the design at the front of bytes is read of longer ones that begin with them, where it
+/// doesn't rest on where the bytes end.
+pub fn longer_is_read()
+    ensures design { DesignStays }
+    ensures refused { RefusalStays }
+{}
+
+/// `check` says yes to a design with the proof that `decide` writes of it, and no to a design with the
+/// state that `decide` writes, but where a sum leaves 128 bits.
+pub fn decided_is_checked()
+    ensures proved { ProofIsChecked }
+    ensures state { StateIsChecked }
+{}
