@@ -12,6 +12,7 @@ ghost use Rattle.bt_simplex.specs.inner.UnfitPoints.{AddsPart, AddsTerm, IsUnfit
 use crate::answers::{Operation, WidePlace};
 use crate::causes::{Cause, Unfit};
 use crate::line::{Line, Term};
+use crate::merging::is_zero;
 use crate::tableau::Tableau;
 use bt_frac::{Delta, Frac, Relation, Row};
 
@@ -62,7 +63,10 @@ pub fn added_part(sum: &Frac, position: usize, number: &Frac, part: &Frac) -> Re
     ensures sum { IfOk result (AddsPart sum.now number.now part.now) }
     ensures unfit { IfErr result (IsUnfitHere position (Some sum.now) number.now part.now) }
 {
-    let _ = sum.denominator();
+    let _ = (sum.denominator(), number.denominator(), part.denominator());
+    if is_zero(part) {
+        return Ok(*sum);
+    }
     let Some(product) = number.mul(part) else {
         return Err(Unfit {
             column: position,

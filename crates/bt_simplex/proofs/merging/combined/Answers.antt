@@ -5,7 +5,7 @@ use Rattle.bt_simplex.proofs.merging.combined.Goals as goal
 
 pub loop-first-init : goal.loop-first-init
 loop-first-init c =
-    subst (λ items. IsWalk c.args.left.now c.args.factor.now c.args.right.now items c.args.left.now c.args.right.now) (sym c.new-terms.ensures.items)
+    subst (λ items. IsWalk c.args.left.now c.args.factor.now c.args.right.now items c.args.left.now c.args.right.now) (sym c.in_ok-terms.ensures.items)
     (walk_begins c.args.left.now c.args.factor.now c.args.right.now c.requires.lowest c.requires.left c.requires.right)
 
 pub loop-first-preserved-in_ok-push-in-Ok : goal.loop-first-preserved-in_ok-push-in-Ok
