@@ -1,11 +1,14 @@
 -- A product with 0, and what it adds to a sum.
-use Rattle.std.proofs.Common.{◌≡◌, ◌*◌, ◌/◌, ◌<◌, ◌^◌, ℕ, ℤ, arith, pos, zero, ◌+ℤ◌, ◌*ℤ◌, ap, sym, ◌∙◌, refl, subst, unsigned_abs, lit<}
+use Rattle.std.proofs.Common.{◌≡◌, ◌*◌, ◌/◌, ◌<◌, ◌^◌, ℕ, ℤ, arith, pos, zero, Option, Some, None, ◌+ℤ◌, ◌*ℤ◌, ap, sym, ◌∙◌, refl, subst, unsigned_abs, lit<}
 use Rattle.std.proofs.Math.IntN.{zero-*ℤ, *ℤ-zero}
 use Rattle.std.proofs.lemmas.Int.{ints}
 use Rattle.bt_frac.proofs.Gcds.{coprime_one, whole_lowest}
 use Rattle.bt_frac.specs.Ratio.{Ratio, IsLowest, FitsPart, CanAdd}
 use Rattle.bt_frac.specs.Values.{nothing}
-use Rattle.bt_simplex.specs.inner.UnfitPoints.{AddsPart}
+use Rattle.bt_frac.specs.declared.delta.Delta.{Delta}
+use Rattle.bt_simplex.specs.Tableaus.{TableauParts}
+use Rattle.bt_simplex.specs.Points.{bound_row, resting, value_or_zero}
+use Rattle.bt_simplex.specs.inner.UnfitPoints.{AddsPart, AddsTerm}
 
 -- a product with 1 or 0
 times_one : (z : ℤ) → z *ℤ pos 1 ≡ z
@@ -49,3 +52,9 @@ adds_nothing sum number part low none = record {
   fits = nothing_fits sum low;
   lowest = low;
 }
+
+-- a position that isn't a bound row adds nothing where it rests
+pub unbound_adds_nothing : (t : TableauParts) (q : ℕ) (number : Ratio) (sum : Delta) → bound_row t q ≡ None → IsLowest sum.value → IsLowest sum.tiny → AddsTerm (resting t q) sum number sum
+unbound_adds_nothing t q number sum none low low' =
+    subst (λ o. AddsTerm (value_or_zero o) sum number sum) (sym none)
+    (record { value = adds_nothing sum.value number nothing low refl; tiny = adds_nothing sum.tiny number nothing low' refl })

@@ -91,7 +91,11 @@ fn added_term(tableau: &Tableau, sum: &Delta, term: &Term) -> Result<Delta, Unfi
     ensures sum { IfOk result (AddsTerm (resting tableau.now term.now.0) sum.now term.now.1) }
     ensures unfit { IfErr result (IsUnfitTerm (resting tableau.now term.now.0) sum.now term.now) }
 {
-    let point = rest(tableau, term.0);
+    let _ = (sum.value.denominator(), sum.tiny.denominator());
+    let Some(row) = tableau.bound_row(term.0) else {
+        return Ok(*sum);
+    };
+    let point = bound_value(row);
     let value = added_part(&sum.value, term.0, &term.1, &point.value)?;
     let tiny = added_part(&sum.tiny, term.0, &term.1, &point.tiny)?;
     Ok(Delta { value, tiny })
