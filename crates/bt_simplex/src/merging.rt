@@ -29,7 +29,27 @@ pub fn combined(
     ensures sum { IfOk result (λ o. IfOk o (IsCombination left.now factor.now right.now)) }
     ensures unfit { IfOk result (λ o. IfErr o (IsUnfit left.now factor.now right.now)) }
 {
-    let mut terms = Vec::with_capacity(alloc, left.len() + right.len())?;
+    merged(Vec::new(alloc), left, factor, right)
+}
+
+/// The same, in the room of a list whose terms are dropped.
+pub fn merged(
+    room: Vec<Term>,
+    left: &[Term],
+    factor: &Frac,
+    right: &[Term],
+) -> Result<Result<Line, Unfit>, AllocError>
+    requires factor { factor.now.over ≢ pos 0 }
+    requires lowest { IsLowest factor.now }
+    requires left { IsLine left.now }
+    requires right { IsLine right.now }
+    ensures line { IfOk result (λ o. IfOk o IsLine) }
+    ensures sum { IfOk result (λ o. IfOk o (IsCombination left.now factor.now right.now)) }
+    ensures unfit { IfOk result (λ o. IfErr o (IsUnfit left.now factor.now right.now)) }
+{
+    let mut terms = room;
+    terms.clear();
+    terms.reserve(left.len() + right.len())?;
     let mut first = left;
     let mut second = right;
     while !are_empty(first, second) {
