@@ -102,3 +102,17 @@ entering_here P terms i t inside is so_far has = ahead_least P terms t (drop (i 
 
 pub entering_none : (P : ℕ → Ratio → Type 0) (terms : Terms) (i : ℕ) → length terms ≤ i → IsAhead P terms (drop i terms) → (q : ℕ) → Names terms P q → ⊥
 entering_none P terms i past so_far = ahead_none P terms (subst (λ l. IsAhead P terms l) (drop_all i terms past) so_far)
+
+-- a line names no position that its first term has passed
+passed_from : (least : ℕ) (terms : Terms) (q : ℕ) → q < least → IsLineFrom least terms → coefficient_at q terms ≡ None
+passed_from least [] q before line = refl
+passed_from least (t ∷ rest) q before line =
+    let low : least ≤ t.0 = line.ascends.0 in
+    number_later t rest q (λ e. omega arith) ∙ passed_from (t.0 + 1) rest q (omega arith) (rest_line least t rest line)
+
+pub passed_none : (least : ℕ) (terms : Terms) (i : ℕ) (t : ℕ × Ratio) (q : ℕ) → IsLineFrom least terms → i < length terms → t ≡ get_or terms i t → q < t.0 → coefficient_at q (drop i terms) ≡ None
+passed_none least [] i t q line inside is before = absurd (omega arith)
+passed_none least (u ∷ terms) zero t q line inside is before =
+    let ahead : q < u.0 = subst (λ x. q < x.0) is before in
+    number_later u terms q (λ e. omega arith) ∙ passed_from (u.0 + 1) terms q (omega arith) (rest_line least u terms line)
+passed_none least (u ∷ terms) (suc i) t q line inside is before = passed_none (u.0 + 1) terms i t q (rest_line least u terms line) (omega arith) is before

@@ -7,6 +7,7 @@ pub mod FirstLines
 pub mod Indicators
 pub mod LineWeights
 pub mod Meeting
+pub mod Nothings
 pub mod Numbers
 pub mod OneForm
 pub mod Refutations

@@ -43,13 +43,17 @@ impl Line {
     }
 }
 
-/// The number of a position among terms, where it has one.
+/// The number of a position in a line, where it has one.
 fn found(terms: &[Term], position: usize) -> Option<Frac>
+    requires { IsLine terms.now }
     ensures { result ≡ coefficient_at position terms.now }
 {
     for (other, number) in terms {
         if *other == position {
             return Some(*number);
+        }
+        if *other > position {
+            return None;
         }
     }
     None

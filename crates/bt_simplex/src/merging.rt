@@ -1,6 +1,6 @@
 //! Sums of a line and a number times another, formed by one walk over both.
 ghost use Rattle.std.specs.Prelude.{◌≡◌, ◌≢◌, pos, IfOk, IfErr, IfSome, IfNone, None, Some, [], ◌∷◌, IsTrue, ◌↔◌};
-ghost use Rattle.bt_frac.specs.Ratio.{IsLowest};
+ghost use Rattle.bt_frac.specs.Ratio.{Ratio, IsLowest};
 ghost use Rattle.bt_frac.specs.Products.{IsProduct};
 ghost use Rattle.bt_simplex.specs.Lines.{IsLine, IsCombination};
 ghost use Rattle.bt_simplex.specs.inner.Steps.{IsStep, AddsTo};
@@ -29,7 +29,27 @@ pub fn combined(
     ensures sum { IfOk result (λ o. IfOk o (IsCombination left.now factor.now right.now)) }
     ensures unfit { IfOk result (λ o. IfErr o (IsUnfit left.now factor.now right.now)) }
 {
-    let mut terms = Vec::new(alloc);
+    merged(Vec::new(alloc), left, factor, right)
+}
+
+/// The same, in the room of a list whose terms are dropped.
+pub fn merged(
+    room: Vec<Term>,
+    left: &[Term],
+    factor: &Frac,
+    right: &[Term],
+) -> Result<Result<Line, Unfit>, AllocError>
+    requires factor { factor.now.over ≢ pos 0 }
+    requires lowest { IsLowest factor.now }
+    requires left { IsLine left.now }
+    requires right { IsLine right.now }
+    ensures line { IfOk result (λ o. IfOk o IsLine) }
+    ensures sum { IfOk result (λ o. IfOk o (IsCombination left.now factor.now right.now)) }
+    ensures unfit { IfOk result (λ o. IfErr o (IsUnfit left.now factor.now right.now)) }
+{
+    let mut terms = room;
+    terms.clear();
+    terms.reserve(left.len() + right.len())?;
     let mut first = left;
     let mut second = right;
     while !are_empty(first, second) {
@@ -107,7 +127,7 @@ fn added(position: usize, number: &Frac, factor: &Frac, by: &Frac) -> Result<Opt
     ensures term { IfOk result (AddsTo position number.now factor.now by.now) }
     ensures unfit { IfErr result (IsUnfitHere position (Some number.now) factor.now by.now) }
 {
-    let Some(product) = factor.mul(by) else {
+    let Some(product) = product(factor, by) else {
         return Err(unfit_product(position, factor, by));
     };
     let Some(sum) = number.add(&product) else {
@@ -129,10 +149,26 @@ fn scaled(factor: &Frac, term: Term) -> Result<Term, Unfit>
     ensures term { IfOk result (λ t. (t.0 ≡ term.0) × IsLowest t.1 × IsProduct factor.now term.1 t.1) }
     ensures unfit { IfErr result (IsUnfitHere term.0 None factor.now term.1) }
 {
-    let Some(product) = factor.mul(&term.1) else {
+    let Some(product) = product(factor, &term.1) else {
         return Err(unfit_product(term.0, factor, &term.1));
     };
     Ok((term.0, product))
+}
+
+/// The product of two numbers. Of 1 and of -1 it needs no product of parts.
+fn product(factor: &Frac, by: &Frac) -> Option<Frac>
+    ensures some { IfSome result (IsProduct factor.now by.now) }
+    ensures lowest { IfSome result IsLowest }
+    ensures none { IfNone result ((f : Ratio) → IsLowest f → IsProduct factor.now by.now f → ⊥) }
+{
+    let _ = by.denominator();
+    if *factor == Frac::whole(1) {
+        Some(*by)
+    } else if *factor == Frac::whole(-1) {
+        Some(by.negate())
+    } else {
+        factor.mul(by)
+    }
 }
 
 /// The product of these numbers, at a position.

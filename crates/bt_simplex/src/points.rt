@@ -12,6 +12,7 @@ ghost use Rattle.bt_simplex.specs.inner.UnfitPoints.{AddsPart, AddsTerm, IsUnfit
 use crate::answers::{Operation, WidePlace};
 use crate::causes::{Cause, Unfit};
 use crate::line::{Line, Term};
+use crate::merging::is_zero;
 use crate::tableau::Tableau;
 use bt_frac::{Delta, Frac, Relation, Row};
 
@@ -62,7 +63,10 @@ pub fn added_part(sum: &Frac, position: usize, number: &Frac, part: &Frac) -> Re
     ensures sum { IfOk result (AddsPart sum.now number.now part.now) }
     ensures unfit { IfErr result (IsUnfitHere position (Some sum.now) number.now part.now) }
 {
-    let _ = sum.denominator();
+    let _ = (sum.denominator(), number.denominator(), part.denominator());
+    if is_zero(part) {
+        return Ok(*sum);
+    }
     let Some(product) = number.mul(part) else {
         return Err(Unfit {
             column: position,
@@ -87,7 +91,11 @@ fn added_term(tableau: &Tableau, sum: &Delta, term: &Term) -> Result<Delta, Unfi
     ensures sum { IfOk result (AddsTerm (resting tableau.now term.now.0) sum.now term.now.1) }
     ensures unfit { IfErr result (IsUnfitTerm (resting tableau.now term.now.0) sum.now term.now) }
 {
-    let point = rest(tableau, term.0);
+    let _ = (sum.value.denominator(), sum.tiny.denominator());
+    let Some(row) = tableau.bound_row(term.0) else {
+        return Ok(*sum);
+    };
+    let point = bound_value(row);
     let value = added_part(&sum.value, term.0, &term.1, &point.value)?;
     let tiny = added_part(&sum.tiny, term.0, &term.1, &point.tiny)?;
     Ok(Delta { value, tiny })

@@ -11,7 +11,7 @@ ghost use Rattle.bt_simplex.specs.inner.UnfitTurns.{IsUnfitShare, IsUnfitTerm, I
 use crate::answers::{Operation, WidePlace};
 use crate::causes::{Cause, Unfit};
 use crate::line::{Line, Term};
-use crate::merging::combined;
+use crate::merging::{combined, merged};
 use bt_frac::Frac;
 use std::alloc::{AllocError, Global};
 
@@ -77,17 +77,17 @@ fn zero_line(
 /// What a turn makes of a slot.
 #[derive(Drop)]
 enum Change {
-    /// The slot has no line, or one without the entering position.
-    Stays,
+    /// The slot has no line, or one without the entering position. The room is not used.
+    Stays(Vec<Term>),
     /// The slot's line, with what the entering position stands for in place of it.
     Line(Line),
     /// A product or a sum doesn't fit.
     Wide(Unfit),
 }
 
-/// What a turn makes of a slot, by a line that is 0.
+/// What a turn makes of a slot, by a line that is 0, in the room of a list whose terms are dropped.
 fn changed(
-    alloc: Global,
+    room: Vec<Term>,
     slot: &Option<Line>,
     enters: usize,
     zero: &[Term],
@@ -96,12 +96,12 @@ fn changed(
     ensures { IfOk result (IsChange enters zero.now slot.now) }
 {
     let Some(line) = slot else {
-        return Ok(Change::Stays);
+        return Ok(Change::Stays(room));
     };
     let Some(number) = line.number_at(enters) else {
-        return Ok(Change::Stays);
+        return Ok(Change::Stays(room));
     };
-    match combined(alloc, line.terms(), &number, zero)? {
+    match merged(room, line.terms(), &number, zero)? {
         Ok(line) => Ok(Change::Line(line)),
         Err(unfit) => Ok(Change::Wide(unfit)),
     }
@@ -126,6 +126,14 @@ fn entry_cause(row: usize, unfit: Unfit) -> Cause
     }
 }
 
+/// The room of a line that is needed no more.
+fn room_of(alloc: Global, line: Option<Line>) -> Vec<Term> {
+    match line {
+        Some(line) => line.terms,
+        None => Vec::new(alloc),
+    }
+}
+
 /// Puts what the entering position stands for in place of it, in each line; or tells a product or a sum
 /// that doesn't fit.
 fn substitute(
@@ -138,10 +146,14 @@ fn substitute(
     ensures done { IfOk result (λ o. IfOk o (λ _. AreSubstituted enters zero.now slots.old slots.new)) }
     ensures unfit { IfOk result (λ o. IfErr o (IsUnfitSlot enters zero.now slots.old slots.new)) }
 {
+    let mut room = Vec::new(alloc);
     for i in 0..slots.len() {
-        match changed(alloc, &slots[i], enters, zero)? {
-            Change::Stays => {}
-            Change::Line(line) => slots[i] = Some(line),
+        match changed(room, &slots[i], enters, zero)? {
+            Change::Stays(same) => room = same,
+            Change::Line(line) => {
+                let old = std::mem::replace(&mut slots[i], Some(line));
+                room = room_of(alloc, old);
+            }
             Change::Wide(unfit) => return Ok(Err(entry_cause(i, unfit))),
         }
     }

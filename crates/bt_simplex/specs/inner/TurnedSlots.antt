@@ -31,7 +31,7 @@ pub record AreSubstituted (position : ℕ) (zero : Terms) (slots slots' : Slots)
 
 -- what a turn makes of a slot
 abbrev pub IsChange : ℕ → Terms → Option Terms → Change → Type 0
-IsChange position zero slot Stays = IsSubstituted position zero slot slot
+IsChange position zero slot (Stays room) = IsSubstituted position zero slot slot
 IsChange position zero slot (Line line) = IsSubstituted position zero slot (Some line)
 IsChange position zero slot (Wide unfit) = (terms : Terms) × (slot ≡ Some terms) × ((number : Ratio) × (coefficient_at position terms ≡ Some number) × IsUnfit terms number zero unfit)
 

@@ -1,6 +1,6 @@
 use Rattle.std.proofs.Common.{◌+◌, length}
 use Rattle.bt_simplex.proofs.Walks.{IsWalk}
-use Rattle.bt_simplex.proofs.merging.combined.Given as goal
+use Rattle.bt_simplex.proofs.merging.merged.Given as goal
 
 abbrev pub invariant-loop-first : goal.invariant-loop-first
 invariant-loop-first l = IsWalk l.left l.factor l.right l.terms.items l.first l.second

@@ -1,11 +1,11 @@
-use Rattle.std.proofs.Common.{sym, subst}
+use Rattle.std.proofs.Common.{◌∙◌, sym, subst}
 use Rattle.bt_simplex.specs.inner.Steps.{IsStep}
 use Rattle.bt_simplex.proofs.Walks.{IsWalk, walk_begins, walk_stays, walk_grows, walk_ends, kept_unfit}
-use Rattle.bt_simplex.proofs.merging.combined.Goals as goal
+use Rattle.bt_simplex.proofs.merging.merged.Goals as goal
 
 pub loop-first-init : goal.loop-first-init
 loop-first-init c =
-    subst (λ items. IsWalk c.args.left.now c.args.factor.now c.args.right.now items c.args.left.now c.args.right.now) (sym c.new-terms.ensures.items)
+    subst (λ items. IsWalk c.args.left.now c.args.factor.now c.args.right.now items c.args.left.now c.args.right.now) (sym (c.reserve.ensures.items ∙ c.clear.ensures.items))
     (walk_begins c.args.left.now c.args.factor.now c.args.right.now c.requires.lowest c.requires.left c.requires.right)
 
 pub loop-first-preserved-in_ok-push-in-Ok : goal.loop-first-preserved-in_ok-push-in-Ok
