@@ -109,7 +109,7 @@ module _ (z : Sizes) where
   same_spot : (c : Cell) → IsSpot z c → cell_at (unsigned_abs c.x) (unsigned_abs c.y) ≡ c
   same_spot c h = ap (λ x. record { x = x; y = pos (unsigned_abs c.y) }) (natural c.x h.0) ∙ ap (λ y. record { x = c.x; y = y }) (natural c.y h.2)
 
-  found_cell : (c : Cell) → IsSpot z c → Found (cells_of rect) (spot_of z c) c
+  pub found_cell : (c : Cell) → IsSpot z c → Found (cells_of rect) (spot_of z c) c
   found_cell c h =
       let x = unsigned_abs c.x in let y = unsigned_abs c.y in
       subst (Found (cells_of rect) (spot_of z c)) (same_spot c h)
@@ -122,7 +122,7 @@ module _ (z : Sizes) where
   abbrev pub along_cells : List Cell
   along_cells = cond (ltb z.height z.width) (cells_of rect) (flat_map (λ x. map (cell_at x) (range_with_len 0 z.height)) (range_with_len 0 z.width))
 
-  found_along : (c : Cell) → IsSpot z c → Found along_cells (along z c) c
+  pub found_along : (c : Cell) → IsSpot z c → Found along_cells (along z c) c
   found_along c h = by (ltb z.height z.width)
     where
       x : ℕ
@@ -141,13 +141,13 @@ module _ (z : Sizes) where
           (found_map (cell_at (unsigned_abs c.x)) (range_with_len 0 z.height) (unsigned_abs c.y) (unsigned_abs c.y)
           (subst (Found (range_with_len 0 z.height) (unsigned_abs c.y)) (let e : 0 + unsigned_abs c.y ≡ unsigned_abs c.y = omega arith in e) (found_range 0 z.height (unsigned_abs c.y) (below c.y z.height h.2 h.3)))))
 
-  length_cells : length (cells_of rect) ≡ spots z
+  pub length_cells : length (cells_of rect) ≡ spots z
   length_cells =
       let rows = length_flat (row_cells rect) (range_with_len 0 z.height) z.width (λ w. length_map (λ v. cell_at v w) (range_with_len 0 z.width) ∙ length_range 0 z.width) in
       let high = length_range 0 z.height in
       rows ∙ ap (λ n. n * z.width) high ∙ (let e : z.height * z.width ≡ z.width * z.height = omega arith in e)
 
-  length_along : length along_cells ≡ spots z
+  pub length_along : length along_cells ≡ spots z
   length_along = by (ltb z.height z.width)
     where
       columns : length (flat_map (λ x. map (cell_at x) (range_with_len 0 z.height)) (range_with_len 0 z.width)) ≡ spots z
