@@ -1,25 +1,16 @@
 -- Going back to what was true before a level began.
-use Rattle.std.proofs.Common.{◌≡◌, ◌≢◌, ℕ, ◌≤◌, ◌<◌, ◌+◌, ◌⊎◌, inl, inr, arith, Bool, List, [], ◌∷◌, ◌++◌, length, get_or, zero, suc, min, sym, subst, refl, ap, ◌∙◌, Option, None, Some, length-set, length-append, get_or-set_same, get_or-set_other}
-use Rattle.std.specs.Prelude.{Contains, IsPermutation, slice_set, take}
-use Rattle.std.specs.List.{All}
+use Rattle.std.proofs.Common.{◌≡◌, ◌≢◌, ℕ, ◌≤◌, ◌<◌, inl, inr, arith, Bool, List, [], ◌∷◌, ◌++◌, length, get_or, zero, suc, min, sym, subst, refl, ap, ◌∙◌, Option, None, Some, length-set, get_or-set_same, get_or-set_other}
+use Rattle.std.specs.Prelude.{Contains, slice_set, take}
 use Rattle.std.specs.Global.{Vec}
-use Rattle.std.proofs.Math.Seq.{take-length, take-append_seam}
-use Rattle.std.proofs.lemmas.List.{get_or_default, get_or-take, get_or_append_left, get_or_push, length-take, length-take-le, take-append-le}
+use Rattle.std.proofs.lemmas.List.{get_or_default, get_or-take, length-take}
 use Rattle.std.proofs.lemmas.List.Elements.{All-contains, Contains-append_left, Contains-push, Contains-push_cases}
 use Rattle.bt_cnf.specs.declared.literal.Lit.{Lit}
 use Rattle.bt_sat.specs.declared.assignment.Assignment.{Assignment}
-use Rattle.bt_sat.specs.declared.search.Search.{Search}
 use Rattle.bt_sat.specs.inner.Attending.{no_lit}
-use Rattle.bt_sat.specs.inner.Keeping.{kept_at, AreTrue, AreWatched, IsAtRest}
-use Rattle.bt_sat.specs.inner.Levels.{start_of, front_of, AreLevels, IsOrdered, IsHeld, among_watched, alone, ArePlaced, Forgets, GoesBack}
-use Rattle.bt_sat.specs.inner.Propagating as p
-use Rattle.bt_sat.specs.inner.Propagating.{GoesOn, IsKept, IsSettledTo, IsWhole}
-use Rattle.bt_sat.specs.inner.Reasons.{AreSame, lit_at, IsReason, AreNumbered, AreReasons, IsReasoned}
-use Rattle.bt_sat.specs.inner.Truths.{IsTrueIn, IsFalseIn}
-use Rattle.bt_sat.proofs.Advancing.{all_here, numbered_goes, same_permuted}
+use Rattle.bt_sat.specs.inner.Keeping.{AreTrue}
+use Rattle.bt_sat.specs.inner.Levels.{ArePlaced}
+use Rattle.bt_sat.specs.inner.Reasons.{lit_at}
 use Rattle.bt_sat.proofs.Lists.{nat_or}
-use Rattle.bt_sat.proofs.Reasoning.{lit_in}
-use Rattle.bt_sat.proofs.Visiting.{all_more}
 
 pub take_take : {X : Type 0} (i n : ℕ) (xs : List X) → i ≤ n → take i (take n xs) ≡ take i xs
 take_take zero n xs below = refl

@@ -1,8 +1,7 @@
 -- Where a conflict is cut.
-use Rattle.std.proofs.Common.{◌≡◌, ℕ, ◌≤◌, ◌<◌, ◌+◌, ◌-◌, ◌⊎◌, inl, inr, arith, List, [], ◌∷◌, length, get_or, zero, suc, sym, subst, refl, Some}
+use Rattle.std.proofs.Common.{◌≡◌, ℕ, ◌≤◌, ◌<◌, ◌+◌, ◌-◌, inl, inr, arith, List, [], ◌∷◌, length, get_or, zero, suc, sym, subst, refl, Some}
 use Rattle.std.specs.Prelude.{Contains}
 use Rattle.std.proofs.lemmas.List.{get_or_default}
-use Rattle.bt_sat.specs.declared.analysis.Cut.{Cut}
 use Rattle.bt_sat.specs.declared.search.Search.{Search}
 use Rattle.bt_sat.specs.inner.Agendas.{IsGreatest, Reaches}
 use Rattle.bt_sat.specs.inner.Analysing.{IsTopLevel, IsCut}

@@ -1,5 +1,5 @@
 -- Tracing a conflict back.
-use Rattle.std.proofs.Common.{◌≡◌, ◌≢◌, ℕ, ◌≤◌, ◌<◌, ◌+◌, ◌-◌, ◌⊎◌, ◌↔◌, inl, inr, arith, Bool, true, false, not, List, [], ◌∷◌, ◌++◌, length, map, reverse, get_or, zero, suc, sym, subst, refl, ap, ◌∙◌, Option, None, Some, length-append}
+use Rattle.std.proofs.Common.{◌≡◌, ◌≢◌, ℕ, ◌≤◌, ◌<◌, ◌+◌, ◌⊎◌, inl, inr, arith, List, [], ◌∷◌, ◌++◌, length, map, reverse, get_or, sym, subst, refl, ap, ◌∙◌, None, length-append}
 use Rattle.std.specs.Prelude.{Contains, take}
 use Rattle.std.specs.List.{All}
 use Rattle.std.proofs.lemmas.List.{get_or_default, get_or-take, get_or_append_left, get_or_push, length-take, reverse-append}
@@ -9,13 +9,12 @@ use Rattle.bt_log.specs.Units.{opposite, IsUnit, UnitsRefute}
 use Rattle.bt_log.specs.Validity.{clause_at}
 use Rattle.bt_sat.specs.declared.analysis.Cut.{Cut}
 use Rattle.bt_sat.specs.declared.search.Search.{Search}
-use Rattle.bt_sat.specs.inner.Agendas.{IsGreatest, Takes, Reaches}
+use Rattle.bt_sat.specs.inner.Agendas.{IsGreatest}
 use Rattle.bt_sat.specs.inner.Analysing.{false_at, falses_at, IsNoted, Notes, IsUnderway, IsDerived, IsLevelled, IsGrounded, IsTracing, IsTaken, IsTraced, IsLearnable}
 use Rattle.bt_sat.specs.inner.Attending.{no_lit}
-use Rattle.bt_sat.specs.inner.Keeping.{AreTrue}
-use Rattle.bt_sat.specs.inner.Levels.{start_of, AreLevels, IsOrdered}
-use Rattle.bt_sat.specs.inner.Reasons.{lit_at, IsReason, AreReasons}
-use Rattle.bt_sat.specs.inner.Truths.{IsTrueIn, IsFalseIn}
+use Rattle.bt_sat.specs.inner.Levels.{start_of, IsOrdered}
+use Rattle.bt_sat.specs.inner.Reasons.{lit_at, IsReason}
+use Rattle.bt_sat.specs.inner.Truths.{IsFalseIn}
 use Rattle.bt_sat.proofs.Back.{apart_places}
 use Rattle.bt_sat.proofs.Ending.{twice_opposite}
 use Rattle.bt_sat.proofs.Keeping.{not_both}

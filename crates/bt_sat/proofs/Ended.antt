@@ -1,9 +1,10 @@
 -- What a search that has answered holds.
-use Rattle.std.proofs.Common.{◌≡◌, ◌≢◌, ℕ, ◌≤◌, ◌<◌, ◌+◌, ◌⊎◌, inl, inr, arith, Bool, List, [], ◌∷◌, ◌++◌, length, sym, subst, refl, ap, ◌∙◌, Option, None, Some, length-append, append-nil}
+use Rattle.std.proofs.Common.{◌≡◌, ◌≢◌, ℕ, ◌≤◌, ◌<◌, ◌^◌, arith, Bool, List, [], ◌∷◌, ◌++◌, length, sym, subst, refl, ap, ◌∙◌, Option, length-append, append-nil}
 use Rattle.std.specs.List.{All}
 use Rattle.std.proofs.lemmas.List.{same_from_push}
 use Rattle.std.proofs.lemmas.List.Elements.{All-contains, All-nil, Contains-append_left}
 use Rattle.bt_frac.specs.Ratio.{Ratio}
+use Rattle.bt_cnf.specs.Assignments.{truth_in}
 use Rattle.bt_cnf.specs.Formulas.{FormulaParts}
 use Rattle.bt_cnf.specs.Meeting.{IsTrueUnder}
 use Rattle.bt_cnf.specs.declared.literal.Lit.{Lit}
@@ -12,7 +13,7 @@ use Rattle.bt_log.specs.Refuting.{Refutes}
 use Rattle.bt_log.specs.Validity.{AreValid}
 use Rattle.bt_sat.specs.Answering.{AddsLemma, GivesNext, Says}
 use Rattle.bt_sat.specs.Serving.{IsFair}
-use Rattle.bt_sat.specs.Solving.{AreFresh, AreNonempty, EndsRefuted, EndsSpent, IsLearnt, IsLemmaOf, IsModel, IsSoundLog, IsSpent, KeepsModel, LacksMemory, Searches, Standing, under}
+use Rattle.bt_sat.specs.Solving.{AreFresh, AreNonempty, EndsRefuted, EndsSpent, IsLearnt, IsLemmaOf, IsModel, IsSoundLog, IsSpent, KeepsModel, LacksMemory, Searches, Standing}
 use Rattle.bt_sat.specs.declared.kernel.Stage.{Stage}
 use Rattle.bt_sat.specs.declared.kernel.Stage.TheVariants.{Running, Complete, Refuted, Full, Lost}
 use Rattle.bt_sat.specs.declared.known.Known.{Known}
@@ -24,6 +25,7 @@ use Rattle.bt_sat.specs.inner.Hunting.{IsFull, IsRefuted}
 use Rattle.bt_sat.specs.inner.Kernels.{AddsTo, AnswersBy, Comes, MayGoOn, StandsAt, model_of, parts_of, stage_after}
 use Rattle.bt_sat.specs.inner.Progressing.{IsLogged, IsNextStep}
 use Rattle.bt_sat.specs.inner.Truths.{IsFalseIn}
+use Rattle.bt_sat.proofs.Counting.{fresh_steps_are_few}
 use Rattle.bt_sat.proofs.Logging.{fresh_push, valid_push}
 use Rattle.bt_sat.proofs.Modelled.{complete_model, lemma_falses, lemma_next}
 use Rattle.bt_sat.proofs.Served.{served_none, served_next}
@@ -75,10 +77,16 @@ module _ (p : Progress) (is : IsRefuted p) where
     ends = record { front = is.before.log.steps; last = last; split = steps_are; empty = refl };
   }
 
+-- a log in order that is full has fewer steps than there are clauses
+few_steps : (known : Known) (limit : ℕ) → IsLogged known limit → length known.log.steps ≡ limit → limit < 3 ^ known.formula.vars
+few_steps known limit is full =
+    subst (λ n. n < 3 ^ known.formula.vars) full (fresh_steps_are_few known.formula known.log.steps is.formula is.valid is.fresh is.nonempty)
+
 -- one more step would be more than the limit says
 full_spent : (p : Progress) (stage : Stage) → IsFull p → IsSpent (parts_of p stage)
 full_spent p stage is = record {
   full = is.full;
+  few = few_steps p.known p.limit is.logged is.full;
   nonempty = is.logged.nonempty;
   more = is.step;
   valid = is.next.valid;
@@ -156,7 +164,7 @@ meets_lemma p Running lits weights stands of =
 meets_lemma p Complete lits weights stands of =
     let values = p.search.assignment.values in
     let same : model_of values ≡ of.model = ap model_in of.keeps in
-    let unmet = subst (λ m. All (λ l. IsTrueUnder (under m) l → ⊥) lits) (sym same) of.unmet in
+    let unmet = subst (λ m. All (λ l. IsTrueUnder (truth_in m) l → ⊥) lits) (sym same) of.unmet in
     record {
       complete = stands.0;
       paced = stands.1;
@@ -188,6 +196,7 @@ adds old new was waiting left lits weights fair room by = record {
 pub no_room : (p : Progress) (stage : Stage) (lits : List Lit) (weights : List Ratio) → MeetsLemma p lits weights → length p.known.log.steps ≡ p.limit → IsSpent (parts_of p stage)
 no_room p stage lits weights is full = record {
   full = full;
+  few = few_steps p.known p.limit is.complete.running.logged full;
   nonempty = is.complete.running.logged.nonempty;
   more = Lemma lits weights;
   valid = is.next.valid;

@@ -1,5 +1,5 @@
 -- Heaps of numbers.
-use Rattle.std.proofs.Common.{◌≡◌, ◌≢◌, ℕ, ◌≤◌, ◌<◌, ◌⊎◌, ◌↔◌, inl, inr, arith, Bool, true, false, List, [], ◌∷◌, length, sym, subst, refl, ap, ◌∙◌, Option, None, Some}
+use Rattle.std.proofs.Common.{◌≡◌, ◌≢◌, ℕ, ◌≤◌, ◌<◌, ◌⊎◌, inl, inr, arith, true, false, List, [], ◌∷◌, sym, subst, refl, ap, ◌∙◌, Option, None, Some}
 use Rattle.std.specs.Prelude.{Contains, IsPermutation, IfSome, IfNone}
 use Rattle.std.specs.BinaryHeap.{IsHeap, IsUpperBound, lt_by_cmp, PopsGreatest}
 use Rattle.std.specs.Cmp.{nat_cmp_is}

@@ -1,6 +1,5 @@
 -- The search, from conflict to conflict.
-use Rattle.std.proofs.Common.{◌≡◌, ℕ, ◌≤◌, ◌<◌, ◌+◌, ◌⊎◌, inl, inr, arith, List, [], ◌∷◌, ◌++◌, length, map, sym, subst, refl, ap, ◌∙◌, Option, None, Some, length-append, append-nil, append_assoc, vec_len}
-use Rattle.std.specs.List.{All}
+use Rattle.std.proofs.Common.{◌≡◌, ℕ, ◌≤◌, ◌<◌, ◌+◌, inl, inr, arith, List, [], ◌∷◌, ◌++◌, length, map, sym, subst, refl, ap, ◌∙◌, Option, Some, length-append, append-nil, append_assoc, vec_len}
 use Rattle.std.specs.Global.{Vec}
 use Rattle.std.proofs.lemmas.List.{length-map, map-append}
 use Rattle.std.proofs.lemmas.List.Elements.{All-nil, All-push}
@@ -17,8 +16,7 @@ use Rattle.bt_sat.specs.declared.search.Search.{Search}
 use Rattle.bt_sat.specs.inner.Choices.{KeepsLog}
 use Rattle.bt_sat.specs.inner.Hunting.{Finds, HuntsOn, Meets, StepsOn}
 use Rattle.bt_sat.specs.inner.Levels.{GoesBack, IsHeld, IsReady}
-use Rattle.bt_sat.specs.inner.Progressing.{KeepsFormula, LogsStep}
-use Rattle.bt_sat.specs.inner.Telling.{Tells}
+use Rattle.bt_sat.specs.inner.Progressing.{KeepsFormula}
 use Rattle.bt_sat.proofs.Leveled
 use Rattle.bt_sat.proofs.Served.{served_next, served_none}
 use Rattle.bt_sat.proofs.Visiting.{all_more}

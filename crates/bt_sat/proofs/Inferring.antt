@@ -1,15 +1,14 @@
 -- What propagation makes of a search.
-use Rattle.std.proofs.Common.{◌≡◌, ℕ, ◌≤◌, ◌<◌, ◌+◌, arith, List, [], length, get_or, sym, subst, ap, ◌∙◌, Option, None, Some, length-append}
-use Rattle.std.specs.Prelude.{Contains, slice_get}
-use Rattle.std.specs.List.{All}
+use Rattle.std.proofs.Common.{◌≡◌, ℕ, ◌≤◌, ◌<◌, ◌+◌, arith, List, length, get_or, sym, subst, ap, ◌∙◌, Option, None, Some, length-append}
+use Rattle.std.specs.Prelude.{slice_get}
 use Rattle.std.proofs.lemmas.List.Elements.{All-contains}
 use Rattle.bt_cnf.specs.declared.literal.Lit.{Lit}
 use Rattle.bt_log.specs.Validity.{clause_at}
 use Rattle.bt_sat.specs.declared.search.Search.{Search}
 use Rattle.bt_sat.specs.inner.Keeping.{kept_at}
-use Rattle.bt_sat.specs.inner.Levels.{IsOrdered, IsHeld, IsReady, IsInConflict}
+use Rattle.bt_sat.specs.inner.Levels.{IsHeld, IsReady}
 use Rattle.bt_sat.specs.inner.Progressing.{Stands}
-use Rattle.bt_sat.specs.inner.Propagating.{GoesOn, FailsAt, IsWhole, Propagates}
+use Rattle.bt_sat.specs.inner.Propagating.{GoesOn, Propagates}
 use Rattle.bt_sat.specs.inner.Reasons.{AreSame}
 use Rattle.bt_sat.specs.inner.Truths.{IsFalseIn, unset}
 use Rattle.bt_sat.proofs.Leveled

@@ -1,25 +1,23 @@
 -- What going back, going on and choosing keep of the levels.
-use Rattle.std.proofs.Common.{◌≡◌, ◌≢◌, ℕ, ◌≤◌, ◌<◌, ◌+◌, ◌⊎◌, inl, inr, arith, Bool, List, [], ◌∷◌, ◌++◌, length, get_or, zero, suc, min, sym, subst, refl, ap, ◌∙◌, Option, None, Some, length-append}
-use Rattle.std.specs.Prelude.{Contains, IsPermutation, take}
+use Rattle.std.proofs.Common.{◌≡◌, ℕ, ◌≤◌, ◌<◌, inl, inr, arith, List, [], length, get_or, min, sym, subst, ap, ◌∙◌, None, length-append}
+use Rattle.std.specs.Prelude.{Contains, take}
 use Rattle.std.specs.List.{All}
 use Rattle.std.specs.Global.{Vec}
-use Rattle.std.proofs.lemmas.List.{get_or_default, get_or-take, get_or_append_left, length-take, length-take-le, take-append-le}
-use Rattle.std.proofs.lemmas.List.Elements.{All-contains, Contains-append_left}
+use Rattle.std.proofs.lemmas.List.{get_or_default, get_or-take, length-take, length-take-le, take-append-le}
+use Rattle.std.proofs.lemmas.List.Elements.{Contains-append_left}
 use Rattle.bt_cnf.specs.declared.literal.Lit.{Lit}
-use Rattle.bt_sat.specs.declared.assignment.Assignment.{Assignment}
 use Rattle.bt_sat.specs.declared.search.Search.{Search}
 use Rattle.bt_sat.specs.inner.Attending.{no_lit}
-use Rattle.bt_sat.specs.inner.Keeping.{kept_at, AreTrue, AreWatched, IsAtRest}
-use Rattle.bt_sat.specs.inner.Levels.{start_of, front_of, AreLevels, IsOrdered, IsHeld, among_watched, alone, IsReady, Forgets, GoesBack}
+use Rattle.bt_sat.specs.inner.Keeping.{kept_at, AreWatched, IsAtRest}
+use Rattle.bt_sat.specs.inner.Levels.{start_of, front_of, AreLevels, IsOrdered, IsHeld, among_watched, alone, GoesBack}
 use Rattle.bt_sat.specs.inner.Propagating as kept
 use Rattle.bt_sat.specs.inner.Propagating.{GoesOn, IsKept, IsSettledTo, IsWhole}
-use Rattle.bt_sat.specs.inner.Reasons.{AreSame, lit_at, IsReason, AreNumbered, AreReasons, IsReasoned}
+use Rattle.bt_sat.specs.inner.Reasons.{AreSame, lit_at, IsReason, AreNumbered, IsReasoned}
 use Rattle.bt_sat.proofs.Advancing.{all_here, numbered_goes, same_permuted}
 use Rattle.bt_sat.proofs.Back.{take_take, take_all_of, take_in, place_in_take}
 use Rattle.bt_sat.proofs.Cutting.{past}
 use Rattle.bt_sat.proofs.Deriving.{lt_or}
-use Rattle.bt_sat.proofs.Reasoning.{lit_in, lt_or_eq}
-use Rattle.bt_sat.proofs.Visiting.{all_more}
+use Rattle.bt_sat.proofs.Reasoning.{lt_or_eq}
 
 -- levels begin within the trail
 pub start_within : (s : Search) → AreLevels s → (level : ℕ) → start_of s level ≤ length s.assignment.trail.items

@@ -1,9 +1,8 @@
 -- One more step of the log.
-use Rattle.std.proofs.Common.{◌≡◌, ◌≢◌, ℕ, ◌≤◌, ◌<◌, ◌+◌, ◌⊎◌, inl, inr, arith, List, [], ◌∷◌, ◌++◌, length, map, sym, subst, refl, ap, ◌∙◌, Option, None, Some, length-append, append-nil, append_assoc}
+use Rattle.std.proofs.Common.{◌≡◌, ◌≢◌, ℕ, ◌<◌, inl, inr, arith, List, [], ◌∷◌, ◌++◌, length, map, sym, subst, ap, ◌∙◌, length-append, append-nil, append_assoc}
 use Rattle.std.specs.Prelude.{Contains}
-use Rattle.std.specs.List.{All}
 use Rattle.std.proofs.lemmas.List.{get_or_default, map-append}
-use Rattle.std.proofs.lemmas.List.Elements.{All-push, All-nil}
+use Rattle.std.proofs.lemmas.List.Elements.{All-push}
 use Rattle.bt_cnf.specs.Formulas.{FormulaParts}
 use Rattle.bt_cnf.specs.declared.literal.Lit.{Lit}
 use Rattle.bt_log.specs.Logs.{Step, Learnt, LogParts, clause_of}
@@ -11,17 +10,17 @@ use Rattle.bt_log.specs.Units.{opposite}
 use Rattle.bt_log.specs.Validity.{AreValid, IsValidStep}
 use Rattle.bt_sat.specs.Freshness.{IsFreshLearnt, IsFreshStep}
 use Rattle.bt_sat.specs.Propagation.{IsSettled}
-use Rattle.bt_sat.specs.Solving.{AreFresh, AreNonempty}
+use Rattle.bt_sat.specs.Solving.{AreFresh}
 use Rattle.bt_sat.specs.declared.known.Known.{Known}
 use Rattle.bt_sat.specs.declared.search.Search.{Search}
-use Rattle.bt_sat.specs.inner.Asserting.{IsAsserting, IsHinted, IsPrepared}
+use Rattle.bt_sat.specs.inner.Asserting.{IsAsserting, IsPrepared}
 use Rattle.bt_sat.specs.inner.Known.{clauses_in}
-use Rattle.bt_sat.specs.inner.Levels.{IsHeld, IsReady}
+use Rattle.bt_sat.specs.inner.Levels.{IsHeld}
 use Rattle.bt_sat.specs.inner.Progressing.{IsLogged, IsNextStep, LogsStep}
 use Rattle.bt_sat.specs.inner.Propagating.{IsKept, falses_of}
 use Rattle.bt_sat.specs.inner.Reasons.{lit_at}
 use Rattle.bt_sat.specs.inner.Attending.{no_lit}
-use Rattle.bt_sat.specs.inner.Truths.{IsTrueIn, IsFalseIn}
+use Rattle.bt_sat.specs.inner.Truths.{IsFalseIn}
 use Rattle.bt_sat.proofs.Advancing.{goes_not}
 use Rattle.bt_sat.proofs.Ending.{contains_opposite, opposite_in, propagated, twice_opposite}
 use Rattle.bt_sat.proofs.Leveled.{held_kept}
@@ -56,6 +55,7 @@ pub logged_push : (old new : Known) (limit : ℕ) (step : Step) → IsLogged old
 logged_push old new limit step is logs next some room =
     let f = old.formula in
     let done : IsLogged (record { formula = old.formula; log = record { first = old.log.first; steps = old.log.steps ++ step ∷ [] } }) limit = record {
+      formula = is.formula;
       first = is.first;
       valid = valid_push f f.clauses old.log.steps step is.valid next.valid;
       fresh = fresh_push f.clauses old.log.steps step is.fresh next.fresh;

@@ -1,22 +1,20 @@
 -- Where all variables have a value and nothing is unsettled, there is a model.
-use Rattle.std.proofs.Common.{◌≡◌, ◌≢◌, ℕ, ◌≤◌, ◌<◌, ◌+◌, ◌⊎◌, inl, inr, arith, List, [], ◌∷◌, ◌++◌, length, map, get_or, Bool, true, false, not, sym, subst, refl, ap, ◌∙◌, Option, None, Some}
+use Rattle.std.proofs.Common.{◌≡◌, ℕ, ◌<◌, ◌⊎◌, inl, inr, arith, List, [], ◌∷◌, ◌++◌, length, map, get_or, Bool, true, false, not, sym, subst, refl, ap, ◌∙◌, Option, None, Some}
 use Rattle.std.specs.Prelude.{Contains}
-use Rattle.std.specs.List.{All, AllZip, Any}
+use Rattle.std.specs.List.{All}
 use Rattle.std.proofs.lemmas.List.{length-map}
 use Rattle.std.proofs.lemmas.List.Elements.{All-contains}
 use Rattle.std.proofs.Math.ListN.{get_or-map}
 use Rattle.bt_frac.specs.Ratio.{Ratio}
-use Rattle.bt_frac.specs.Rows.{RowParts}
+use Rattle.bt_cnf.specs.Assignments.{truth_in}
 use Rattle.bt_cnf.specs.Formulas.{FormulaParts}
 use Rattle.bt_cnf.specs.Meeting.{IsTrueUnder, MeetsClause}
 use Rattle.bt_cnf.specs.declared.literal.Lit.{Lit}
 use Rattle.bt_log.specs.Logs.{Lemma, clause_of}
 use Rattle.bt_log.specs.Units.{opposite}
-use Rattle.bt_log.specs.Validity.{IsValidLemma, NegatesAtom}
-use Rattle.bt_sat.specs.Freshness.{IsFreshLemma}
+use Rattle.bt_log.specs.Validity.{IsValidLemma}
 use Rattle.bt_sat.specs.Propagation.{IsFalseClause, IsSettled}
-use Rattle.bt_sat.specs.Solving.{SolverParts, IsModel, clauses_of, under}
-use Rattle.bt_sat.specs.declared.known.Known.{Known}
+use Rattle.bt_sat.specs.Solving.{SolverParts, IsModel, clauses_of}
 use Rattle.bt_sat.specs.declared.progress.Progress.{Progress}
 use Rattle.bt_sat.specs.declared.search.Search.{Search}
 use Rattle.bt_sat.specs.inner.Choices.{IsComplete, IsUnset}
@@ -29,6 +27,7 @@ use Rattle.bt_sat.specs.inner.Propagating.{IsKept, falses_of}
 use Rattle.bt_sat.specs.inner.Truths.{IsFalseIn, IsTrueIn}
 use Rattle.bt_sat.proofs.Advancing.{goes_not}
 use Rattle.bt_sat.proofs.Back.{take_in}
+use Rattle.bt_sat.proofs.Counting.{all_negated}
 use Rattle.bt_sat.proofs.Ending.{contains_opposite, propagated, twice_opposite}
 use Rattle.bt_sat.proofs.Leveled.{held_kept}
 use Rattle.bt_sat.proofs.Lists.{contains_here, contains_there, first_or, none_in}
@@ -82,15 +81,15 @@ held_below all s clause ordered (alone m among_m only true_m) l among =
     (All-contains (λ x. x.var < length s.assignment.values) s.assignment.trail.items m ordered.whole.truths.below (take_in (start_of s 0) s.assignment.trail.items m true_m))
 
 -- the value of a variable in the model
-pub value_is : (values : List (Option Bool)) (var : ℕ) → under (model_of values) var ≡ value_of (get_or values var None)
+pub value_is : (values : List (Option Bool)) (var : ℕ) → truth_in (model_of values) var ≡ value_of (get_or values var None)
 value_is values var = get_or-map value_of values var None
 
 -- a true literal is true under the model
-true_under : (values : List (Option Bool)) (l : Lit) → IsTrueIn values l → IsTrueUnder (under (model_of values)) l
+true_under : (values : List (Option Bool)) (l : Lit) → IsTrueIn values l → IsTrueUnder (truth_in (model_of values)) l
 true_under values l is = value_is values l.var ∙ ap value_of is
 
 -- each clause has a true literal
-pub complete_meets : (p : Progress) → IsComplete p → All (MeetsClause (under (model_of p.search.assignment.values))) (clauses_in p.known)
+pub complete_meets : (p : Progress) → IsComplete p → All (MeetsClause (truth_in (model_of p.search.assignment.values))) (clauses_in p.known)
 complete_meets p is =
     let s = p.search in
     let all = clauses_in p.known in
@@ -98,7 +97,7 @@ complete_meets p is =
     let ready : IsReady all p.settled s = subst (Stands all p.settled s) is.none is.running.stands in
     let end = propagated s s p.settled (goes_not s) ready.settles (omega (arith, is.settled)) in
     let settled : IsSettled all (falses_of s) = end.2 all (all_more (IsHeld s) (IsKept s) all (held_kept s) ready.held) in
-    all_of (MeetsClause (under (model_of values))) all (λ clause among. elim (some_true values clause) [
+    all_of (MeetsClause (truth_in (model_of values))) all (λ clause among. elim (some_true values clause) [
       | inl found ↦ (found.1.0, found.0, found.1.1, found.1.2, true_under values found.0 found.2)
       | inr none ↦
           let held : IsHeld s clause = All-contains (IsHeld s) all clause ready.held among in
@@ -116,20 +115,11 @@ complete_model p parts is formula steps =
     let clauses : clauses_in p.known ≡ clauses_of parts = ap (λ (f : FormulaParts). f.clauses ++ map clause_of p.known.log.steps) (sym formula) ∙ ap (λ ss. parts.formula.clauses ++ map clause_of ss) (sym steps) in
     record {
       size = length-map p.search.assignment.values value_of ∙ is.running.variables ∙ ap (λ (f : FormulaParts). f.vars) (sym formula);
-      meets = subst (All (MeetsClause (under model))) clauses (complete_meets p is);
+      meets = subst (All (MeetsClause (truth_in model))) clauses (complete_meets p is);
     }
 
--- the literals of a lemma are negations
-all_negated : (f : FormulaParts) (lits : List Lit) (rows : List RowParts) → AllZip (NegatesAtom f) lits rows → (l : Lit) → Contains lits l → l.positive ≡ false
-all_negated f [] rows zips l among = absurd (none_in l among)
-all_negated f (x ∷ lits) [] zips l among = absurd zips
-all_negated f (x ∷ lits) (row ∷ rows) zips l among = elim (first_or x l lits among) [
-  | inl same ↦ subst (λ (m : Lit). m.positive ≡ false) same zips.0.0
-  | inr later ↦ all_negated f lits rows zips.1 l later
-]
-
 -- a negation that isn't true under the model is false
-false_under : (values : List (Option Bool)) (l : Lit) → l.positive ≡ false → (IsTrueUnder (under (model_of values)) l → ⊥) → IsFalseIn values l
+false_under : (values : List (Option Bool)) (l : Lit) → l.positive ≡ false → (IsTrueUnder (truth_in (model_of values)) l → ⊥) → IsFalseIn values l
 false_under values l negated unmet = inner (get_or values l.var None) l.positive negated (λ e. unmet (value_is values l.var ∙ e))
   where
     inner : (v : Option Bool) (b : Bool) → b ≡ false → (value_of v ≡ b → ⊥) → v ≡ Some (not b)
@@ -141,18 +131,18 @@ false_under values l negated unmet = inner (get_or values l.var None) l.positive
     inner (Some false) false negated unmet = absurd (unmet refl)
 
 pub lemma_falses : (f : FormulaParts) (values : List (Option Bool)) (lits : List Lit) (weights : List Ratio) → IsValidLemma f lits weights
-    → All (λ l. IsTrueUnder (under (model_of values)) l → ⊥) lits → All (IsFalseIn values) lits
+    → All (λ l. IsTrueUnder (truth_in (model_of values)) l → ⊥) lits → All (IsFalseIn values) lits
 lemma_falses f values lits weights valid unmet =
     all_of (IsFalseIn values) lits
-    (λ l among. false_under values l (all_negated f lits valid.rows valid.negated l among) (All-contains (λ m. IsTrueUnder (under (model_of values)) m → ⊥) lits l unmet among))
+    (λ l among. false_under values l (all_negated f lits valid.rows valid.negated l among) (All-contains (λ m. IsTrueUnder (truth_in (model_of values)) m → ⊥) lits l unmet among))
 
 -- such a lemma is valid and fresh
 pub lemma_next : (p : Progress) (lits : List Lit) (weights : List Ratio) → IsComplete p → IsValidLemma p.known.formula lits weights
-    → All (λ l. IsTrueUnder (under (model_of p.search.assignment.values)) l → ⊥) lits → IsNextStep p.known (Lemma lits weights)
+    → All (λ l. IsTrueUnder (truth_in (model_of p.search.assignment.values)) l → ⊥) lits → IsNextStep p.known (Lemma lits weights)
 lemma_next p lits weights is valid unmet = record {
   valid = valid;
   fresh = record {
-    assignment = under (model_of p.search.assignment.values);
+    assignment = truth_in (model_of p.search.assignment.values);
     meets = complete_meets p is;
     unmet = unmet;
   };

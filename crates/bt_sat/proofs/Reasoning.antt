@@ -1,22 +1,20 @@
 -- Why literals are true.
-use Rattle.std.proofs.Common.{◌≡◌, ◌≢◌, ℕ, ◌≤◌, ◌<◌, ◌+◌, ◌⊎◌, inl, inr, arith, Bool, true, false, not, List, [], ◌∷◌, ◌++◌, length, get_or, zero, suc, sym, subst, refl, ap, ◌∙◌, Option, None, Some, length-set, length-append, get_or-set_same, get_or-set_other}
-use Rattle.std.specs.Prelude.{Contains, slice_get, slice_set, take}
-use Rattle.std.specs.List.{All}
+use Rattle.std.proofs.Common.{◌≡◌, ◌≢◌, ℕ, ◌≤◌, ◌<◌, ◌+◌, ◌⊎◌, inl, inr, arith, Bool, true, false, not, List, [], ◌∷◌, length, get_or, zero, suc, sym, subst, refl, ap, ◌∙◌, Option, None, Some, length-set, length-append, get_or-set_same, get_or-set_other}
+use Rattle.std.specs.Prelude.{Contains, slice_get, take}
 use Rattle.std.proofs.lemmas.List.{get_or_default, get_or_append_left, get_or_push, take-append-le}
 use Rattle.std.proofs.lemmas.List.Elements.{All-contains}
 use Rattle.std.proofs.lemmas.List.Sorted.{Contains-permutation, IsPermutation-sym}
 use Rattle.bt_cnf.specs.declared.literal.Lit.{Lit}
 use Rattle.bt_log.specs.Units.{opposite}
 use Rattle.bt_log.specs.Validity.{clause_at}
-use Rattle.bt_log.proofs.Sound.{twice}
 use Rattle.bt_sat.specs.declared.assignment.Assignment.{Assignment}
 use Rattle.bt_sat.specs.declared.search.Search.{Search}
 use Rattle.bt_sat.specs.inner.Assigning.{Assigns}
-use Rattle.bt_sat.specs.inner.Attending.{no_lit, first, KeepsPair, Leaves}
+use Rattle.bt_sat.specs.inner.Attending.{no_lit, KeepsPair, Leaves}
 use Rattle.bt_sat.specs.inner.Keeping.{kept_at, AreTrue}
 use Rattle.bt_sat.specs.inner.Reasons.{AreSame, lit_at, IsReason, AreNumbered, AreReasons}
 use Rattle.bt_sat.specs.inner.Truths.{IsTrueIn, IsFalseIn}
-use Rattle.bt_sat.proofs.Lists.{nat_or, got_at}
+use Rattle.bt_sat.proofs.Lists.{got_at}
 use Rattle.bt_sat.proofs.Settled.{all_of}
 
 -- a variable that is set makes each of its literals true or false

@@ -1,10 +1,10 @@
 -- Which chooser serves after one more step.
-use Rattle.std.proofs.Common.{◌≡◌, ◌≢◌, ℕ, ◌≤◌, ◌<◌, ◌+◌, ◌-◌, ◌*◌, ◌⊎◌, inl, inr, arith, List, [], ◌∷◌, ◌++◌, length, zero, suc, sym, subst, refl, ap, ◌∙◌, Option, None, Some, length-append, append-nil, append_assoc}
+use Rattle.std.proofs.Common.{◌≡◌, ℕ, ◌≤◌, ◌+◌, ◌-◌, ◌*◌, inl, inr, arith, List, [], ◌∷◌, ◌++◌, length, zero, suc, sym, subst, refl, ap, ◌∙◌, Option, None, Some, length-append, append-nil, append_assoc}
 use Rattle.std.specs.Prelude.{drop}
 use Rattle.bt_cnf.specs.Choosing.{Gains}
-use Rattle.bt_sat.specs.Serving.{FirstGains, EndsEpochs, ServesOn, IsFair}
+use Rattle.bt_sat.specs.Serving.{FirstGains, ServesOn, IsFair}
 use Rattle.bt_sat.specs.declared.solver.TheConstants.{EPOCH_STEPS}
-use Rattle.bt_sat.specs.inner.Telling.{IsServedOn, IsPassedOn, Tells}
+use Rattle.bt_sat.specs.inner.Telling.{Tells}
 
 gains_more : (a b c : Option (List ℕ)) (xs ys : List ℕ) → Gains a b xs → Gains b c ys → Gains a c (xs ++ ys)
 gains_more None None None xs ys p q = tt

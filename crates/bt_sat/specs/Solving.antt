@@ -1,7 +1,8 @@
 -- A search for models: what it holds, and what its answers say.
-use Rattle.std.specs.Prelude.{◌≡◌, ◌≢◌, ◌<◌, ◌≤◌, ℕ, Bool, false, List, [], ◌∷◌, ◌++◌, length, map, slice_index_or}
+use Rattle.std.specs.Prelude.{◌≡◌, ◌≢◌, ◌<◌, ◌≤◌, ◌^◌, ℕ, Bool, List, [], ◌∷◌, ◌++◌, length, map}
 use Rattle.std.specs.List.{All}
 use Rattle.bt_frac.specs.Ratio.{Ratio}
+use Rattle.bt_cnf.specs.Assignments.{truth_in}
 use Rattle.bt_cnf.specs.Formulas.{FormulaParts}
 use Rattle.bt_cnf.specs.Meeting.{IsTrueUnder, MeetsClause}
 use Rattle.bt_cnf.specs.declared.literal.Lit.{Lit}
@@ -39,14 +40,10 @@ log_of s = record { first = length s.formula.clauses; steps = s.steps }
 abbrev pub clauses_of : SolverParts → List (List Lit)
 clauses_of s = s.formula.clauses ++ map clause_of s.steps
 
--- each variable has its value
-abbrev pub under : List Bool → ℕ → Bool
-under model var = slice_index_or model var false
-
 -- each variable has a value, and each clause of the formula and of the log a true literal
 pub record IsModel (s : SolverParts) (model : List Bool) : Type 0 where
   pub size : length model ≡ s.formula.vars
-  pub meets : All (MeetsClause (under model)) (clauses_of s)
+  pub meets : All (MeetsClause (truth_in model)) (clauses_of s)
 
 -- each step is fresh after these clauses and those of the earlier steps
 abbrev pub AreFresh : List (List Lit) → List Step → Type 0
@@ -64,9 +61,11 @@ pub record IsSoundLog (s : SolverParts) : Type 0 where
   pub nonempty : (front : List Step) (last : Step) → s.steps ≡ front ++ last ∷ [] → AreNonempty front
   pub within : length s.steps ≤ s.limit
 
--- the log has as many steps as the limit says, none is empty, and one more step is valid and fresh after them
+-- the log has as many steps as the limit says, which are fewer than 3 ^ v over v variables, none is empty, and one more
+-- step is valid and fresh after them
 pub record IsSpent (s : SolverParts) : Type 0 where
   pub full : length s.steps ≡ s.limit
+  pub few : s.limit < 3 ^ s.formula.vars
   pub nonempty : AreNonempty s.steps
   pub more : Step
   pub valid : IsValidStep s.formula (clauses_of s) more
@@ -87,5 +86,5 @@ pub record GoesOnBy (added : List Step) (old new : SolverParts) : Type 0 where
 pub record IsLemmaOf (s : SolverParts) (lits : List Lit) (weights : List Ratio) : Type 0 where
   pub model : List Bool
   pub keeps : s.standing ≡ KeepsModel model
-  pub unmet : All (λ l. IsTrueUnder (under model) l → ⊥) lits
+  pub unmet : All (λ l. IsTrueUnder (truth_in model) l → ⊥) lits
   pub valid : IsValidLemma s.formula lits weights

@@ -1,9 +1,16 @@
-//! A law of propagation, as the contract of a function that does nothing.
-ghost use Rattle.bt_sat.specs.Laws.{SettledIsOpen};
+//! Laws of propagation and of logs, as the contracts of functions that do nothing.
+ghost use Rattle.bt_sat.specs.Laws.{FreshStepsAreFew, SettledIsOpen};
 
 /// A clause is fresh where propagation has come to its end without a false clause, all its literals but
 /// one are false, and that one isn't true. So is the clause that a search learns, once it has gone back to
 /// the level where all but one of its literals are false.
 pub fn settled_is_open()
     ensures { SettledIsOpen }
+{}
+
+/// A log over v variables has fewer than 3 ^ v steps, where each is valid and fresh, and none is empty: as a
+/// set of literals, its clause is none of the earlier ones. So a search with a limit of 3 ^ v or more is
+/// never spent.
+pub fn fresh_steps_are_few()
+    ensures { FreshStepsAreFew }
 {}

@@ -27,6 +27,6 @@ mod watched;
 mod watchers;
 
 pub use choosers::{Highest, Lowest, Recent};
-pub use law::settled_is_open;
+pub use law::{fresh_steps_are_few, settled_is_open};
 pub use solver::{Added, Answer, EPOCH_STEPS, Solver};
 pub use std::alloc::AllocError as Memory;

@@ -48,7 +48,7 @@ sound_log s sound fits = record { valid = sound.valid; fresh = sound.fresh; none
 
 pub used_up : (s : SolverParts) → IsSoundLog s → All (Fits s.formula) s.steps → IsSpent s → IsUsedUp s.formula s.limit s.steps
 used_up s sound fits spent =
-    record { sound = sound_log s sound fits; full = spent.full; nonempty = spent.nonempty; more = spent.more; valid = spent.valid; fresh = spent.fresh }
+    record { sound = sound_log s sound fits; full = spent.full; few = spent.few; nonempty = spent.nonempty; more = spent.more; valid = spent.valid; fresh = spent.fresh }
 
 -- what was ready goes on being so, where steps follow whose sums fit
 ready_on : (s s' : SolverParts) (t : TableauParts) (more : List Step) → GoesOnBy more s s' → IsTableauOf s.formula t → IsReachable s.formula (basis_of t.slots)

@@ -1,5 +1,5 @@
 -- What is right to say of a formula that is decided within limits.
-use Rattle.std.specs.Prelude.{◌≡◌, ◌≤◌, ℕ, List, [], ◌∷◌, ◌++◌, length, map, true, Ok}
+use Rattle.std.specs.Prelude.{◌≡◌, ◌<◌, ◌≤◌, ◌^◌, ℕ, List, [], ◌∷◌, ◌++◌, length, map, true, Ok}
 use Rattle.std.specs.List.{All, AllZip, zip}
 use Rattle.bt_frac.specs.Ratio.{Ratio}
 use Rattle.bt_frac.specs.Rows.{RowParts}
@@ -47,10 +47,12 @@ pub record IsRefutation (f : FormulaParts) (steps : List Step) : Type 0 where
   pub sound : IsSound f steps
   pub refutes : Refutes f steps
 
--- the log is sound and has so many steps, of which none is empty, and one more would be valid and fresh
+-- the log is sound and has so many steps, of which none is empty, and one more would be valid and fresh; over v variables
+-- these are fewer than 3 ^ v
 pub record IsUsedUp (f : FormulaParts) (limit : ℕ) (steps : List Step) : Type 0 where
   pub sound : IsSound f steps
   pub full : length steps ≡ limit
+  pub few : limit < 3 ^ f.vars
   pub nonempty : AreNonempty steps
   pub more : Step
   pub valid : IsValidStep f (f.clauses ++ map clause_of steps) more

@@ -1,6 +1,5 @@
 -- Choosing what to set next.
 use Rattle.std.specs.Prelude.{◌≡◌, ◌⊎◌, ◌<◌, ℕ, Bool, true, false, List, [], ◌∷◌, ◌++◌, Option, Some, None, length, slice_index_or, Contains}
-use Rattle.std.specs.List.{All}
 use Rattle.bt_cnf.specs.Choosing.{Ascends}
 use Rattle.bt_cnf.specs.declared.literal.Lit.{Lit}
 use Rattle.bt_sat.specs.declared.progress.Progress.{Progress}

@@ -1,7 +1,8 @@
 -- A search in progress.
 use Rattle.std.specs.Prelude.{◌≡◌, ◌<◌, ◌≤◌, ◌+◌, ◌^◌, ℕ, List, [], ◌∷◌, ◌++◌, Option, Some, None, length}
+use Rattle.bt_cnf.specs.Formulas.{IsFormula}
 use Rattle.bt_cnf.specs.declared.literal.Lit.{Lit}
-use Rattle.bt_log.specs.Logs.{Step, Learnt, LogParts}
+use Rattle.bt_log.specs.Logs.{Step, Learnt}
 use Rattle.bt_log.specs.Validity.{AreValid, IsValidStep}
 use Rattle.bt_sat.specs.Freshness.{IsFreshStep}
 use Rattle.bt_sat.specs.Solving.{AreFresh, AreNonempty}
@@ -16,6 +17,7 @@ use Rattle.bt_sat.specs.inner.Truths.{unset}
 
 -- the log follows the formula, its steps are valid, fresh and not empty, and no more than the limit says
 pub record IsLogged (known : Known) (limit : ℕ) : Type 0 where
+  pub formula : IsFormula known.formula
   pub first : known.log.first ≡ length known.formula.clauses
   pub valid : AreValid known.formula known.formula.clauses known.log.steps
   pub fresh : AreFresh known.formula.clauses known.log.steps

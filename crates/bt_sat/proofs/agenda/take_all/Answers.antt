@@ -1,4 +1,4 @@
-use Rattle.std.proofs.Common.{◌≡◌, ◌≢◌, ℕ, arith, sym, subst, ap, ◌∙◌, Some, None, inl, inr}
+use Rattle.std.proofs.Common.{◌≡◌, ◌≢◌, sym, subst, ◌∙◌, Some, inl, inr}
 use Rattle.std.specs.Prelude.{Contains}
 use Rattle.std.specs.BinaryHeap.{heap_items}
 use Rattle.bt_sat.specs.inner.Agendas.{IsGreatest}

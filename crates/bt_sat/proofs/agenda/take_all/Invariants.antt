@@ -1,4 +1,4 @@
-use Rattle.std.proofs.Common.{◌≡◌, ◌≢◌, ℕ, ◌≤◌, length}
+use Rattle.std.proofs.Common.{◌≢◌, ℕ, ◌≤◌}
 use Rattle.std.specs.Prelude.{Contains}
 use Rattle.std.specs.BinaryHeap.{heap_items, heap_len, IsHeap}
 use Rattle.std.specs.Ordering.{nat_cmp}

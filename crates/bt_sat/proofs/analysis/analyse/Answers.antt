@@ -1,4 +1,4 @@
-use Rattle.std.proofs.Common.{◌≡◌, ◌<◌, arith, length, subst, sym}
+use Rattle.std.proofs.Common.{◌≡◌, arith, length, subst}
 use Rattle.bt_sat.specs.inner.Analysing.{IsTracing}
 use Rattle.bt_sat.specs.inner.Known.{clauses_in}
 use Rattle.bt_sat.proofs.Deriving

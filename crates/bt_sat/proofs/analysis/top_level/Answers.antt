@@ -1,4 +1,4 @@
-use Rattle.std.proofs.Common.{◌<◌, ℕ, arith, subst}
+use Rattle.std.proofs.Common.{◌<◌, arith, subst}
 use Rattle.bt_sat.specs.inner.Levels.{IsLevelOf}
 use Rattle.bt_sat.proofs.Cutting
 use Rattle.bt_sat.proofs.analysis.top_level.Goals as goal

@@ -1,6 +1,6 @@
-use Rattle.std.proofs.Common.{◌≡◌, List, ℕ, length, map, refl, sym, subst, ap, ◌∙◌, vec_len, Option, None, Some}
+use Rattle.std.proofs.Common.{map, refl, subst, None, Some}
 use Rattle.bt_sat.specs.inner.Choices.{Descends}
-use Rattle.bt_sat.specs.inner.Hunting.{Hunts, HuntsOn, Meets}
+use Rattle.bt_sat.specs.inner.Hunting.{HuntsOn, Meets}
 use Rattle.bt_sat.proofs.Hunted.{fair_count, fair_map, hunts_end, hunts_kept, hunts_none, hunts_step, kept_next}
 use Rattle.bt_sat.proofs.Served.{fair_after}
 use Rattle.bt_sat.proofs.hunt.hunt.Goals as goal

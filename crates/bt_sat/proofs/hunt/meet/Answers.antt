@@ -1,5 +1,5 @@
-use Rattle.std.proofs.Common.{◌≡◌, ◌<◌, ◌+◌, length, arith, refl, sym, subst, ap, ◌∙◌}
-use Rattle.bt_sat.specs.declared.progress.Taught.TheVariants.{Goes, Refutes, Lacks}
+use Rattle.std.proofs.Common.{arith, subst}
+use Rattle.bt_sat.specs.declared.progress.Taught.TheVariants.{Goes, Refutes}
 use Rattle.bt_sat.specs.inner.Progressing.{Teaches}
 use Rattle.bt_sat.proofs.hunt.meet.Goals as goal
 

@@ -1,6 +1,5 @@
-use Rattle.std.proofs.Common.{◌≡◌, ◌<◌, ℕ, [], ◌∷◌, ◌++◌, length, arith, Some, sym, subst, ap, ◌∙◌}
+use Rattle.std.proofs.Common.{◌≡◌, length, arith, Some, sym, subst, ◌∙◌}
 use Rattle.std.proofs.lemmas.List.{get_or_default}
-use Rattle.bt_cnf.specs.declared.literal.Lit.{Lit}
 use Rattle.bt_sat.specs.inner.Assigning.{Assigns}
 use Rattle.bt_sat.specs.inner.Attending.{no_lit}
 use Rattle.bt_sat.specs.inner.Known.{clauses_in}

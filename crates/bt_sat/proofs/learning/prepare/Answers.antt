@@ -1,11 +1,11 @@
-use Rattle.std.proofs.Common.{◌≡◌, ◌<◌, ◌≤◌, ℕ, length, get_or, arith, sym, subst, ap, ◌∙◌}
+use Rattle.std.proofs.Common.{◌≡◌, ◌<◌, length, get_or, arith, sym, subst, ap, ◌∙◌}
 use Rattle.std.specs.List.{All}
 use Rattle.std.specs.List.Sorted.{IsNonDecreasing}
 use Rattle.std.proofs.lemmas.List.{get_or_default}
 use Rattle.bt_sat.specs.inner.Analysing.{falses_at}
 use Rattle.bt_sat.specs.inner.Asserting.{IsPrepared}
 use Rattle.bt_sat.specs.inner.Known.{clauses_in}
-use Rattle.bt_sat.specs.inner.Levels.{start_of, IsAssertionLevel}
+use Rattle.bt_sat.specs.inner.Levels.{IsAssertionLevel}
 use Rattle.bt_sat.proofs.Asserted
 use Rattle.bt_sat.proofs.Leveled.{start_rises}
 use Rattle.bt_sat.proofs.learning.prepare.Goals as goal

@@ -1,4 +1,4 @@
-use Rattle.std.proofs.Common.{◌≡◌, ◌<◌, ◌≤◌, ◌+◌, arith, length, sym, subst, ap, ◌∙◌, ◌≢◌, ℕ, [], ◌∷◌, ◌++◌, min, length-append, length-set, None, refl}
+use Rattle.std.proofs.Common.{◌≡◌, ◌<◌, ◌+◌, arith, length, sym, subst, ap, ◌∙◌, ◌≢◌, ℕ, [], ◌∷◌, ◌++◌, min, length-append, length-set, None, refl}
 use Rattle.std.specs.Prelude.{take}
 use Rattle.std.proofs.Math.Seq.{take-append_seam}
 use Rattle.std.proofs.lemmas.List.{get_or_append_left, get_or_push, length-take}

@@ -1,4 +1,4 @@
-use Rattle.std.proofs.Common.{◌≡◌, ◌-◌, ◌⊎◌, ◌≤◌, length, min}
+use Rattle.std.proofs.Common.{◌≡◌, ◌≤◌, length, min}
 use Rattle.std.specs.Prelude.{take}
 use Rattle.bt_sat.specs.inner.Keeping.{AreTrue}
 use Rattle.bt_sat.proofs.levels.forget.Given as goal

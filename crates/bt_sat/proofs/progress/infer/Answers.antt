@@ -1,4 +1,4 @@
-use Rattle.std.proofs.Common.{◌≡◌, ℕ, length, arith, refl, sym, subst, ap, ◌∙◌, None, Some}
+use Rattle.std.proofs.Common.{◌≡◌, length, arith, refl, sym, subst, ap, ◌∙◌, None, Some}
 use Rattle.std.specs.Prelude.{slice_get}
 use Rattle.bt_sat.specs.inner.Known.{clauses_in}
 use Rattle.bt_sat.specs.inner.Levels.{IsReady}

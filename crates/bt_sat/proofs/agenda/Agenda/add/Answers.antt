@@ -1,4 +1,4 @@
-use Rattle.std.proofs.Common.{sym, ap, subst}
+use Rattle.std.proofs.Common.{subst}
 use Rattle.std.specs.BinaryHeap.{heap_items}
 use Rattle.bt_sat.specs.inner.Agendas.{Adds}
 use Rattle.bt_sat.proofs.Heaps.{added}

@@ -1,4 +1,4 @@
-use Rattle.std.proofs.Common.{◌≡◌, ◌<◌, ◌∙◌, arith, length, map, refl, sym, subst, vec_len}
+use Rattle.std.proofs.Common.{◌<◌, ◌∙◌, arith, length, map, refl, sym, subst, vec_len}
 use Rattle.bt_sat.specs.Answering.{AddsLemma}
 use Rattle.bt_sat.specs.Serving.{IsFair}
 use Rattle.bt_sat.specs.Solving.{SolverParts, IsLemmaOf, IsSpent}

@@ -1,4 +1,4 @@
-use Rattle.std.proofs.Common.{◌≡◌, length, map, sym, subst}
+use Rattle.std.proofs.Common.{map, sym, subst}
 use Rattle.bt_sat.specs.Answering.{GivesNext}
 use Rattle.bt_sat.specs.Solving.{SolverParts}
 use Rattle.bt_sat.specs.inner.Kernels.{MayGoOn, parts_of}
