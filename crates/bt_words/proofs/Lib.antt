@@ -1,3 +1,4 @@
+pub mod Grids
 pub mod Fronts
 pub mod OneFront
 pub mod Readings

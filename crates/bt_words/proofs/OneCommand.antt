@@ -1,36 +1,47 @@
 -- Words are one command at most.
-use Rattle.std.proofs.Common.{◌≡◌, ℕ, Bool, true, false, List, [], ◌∷◌, length, get_or, nat_eq, Some, None, refl, sym, ◌∙◌, ap, subst, arith}
+use Rattle.std.proofs.Common.{◌≡◌, ℕ, Bool, true, false, List, [], ◌∷◌, length, get_or, nat_eq, Some, None, refl, sym, ◌∙◌, ap, subst, inl, inr, arith}
 use Rattle.std.specs.Prelude.{cond, MatchOption}
 use Rattle.std.specs.declared.option.Option.{Option}
 use Rattle.std.specs.Option.{option_to_list}
+use Rattle.std.specs.List.{filter_map}
+use Rattle.bt_model.specs.Requests.{IsGrid}
+use Rattle.bt_parts.specs.declared.part.Rect.{Rect}
+use Rattle.bt_parts.specs.declared.part.Tier.{Tier}
 use Rattle.bt_words.specs.declared.argument.Argument.{Argument}
+use Rattle.bt_words.specs.declared.argument.Argument.TheVariants.{Named, Order, Chain, Learnt, Pivots, Grid, OfTier}
 use Rattle.bt_words.specs.declared.given.Given.{Given}
 use Rattle.bt_words.specs.declared.verb.Verb.{Verb}
 use Rattle.bt_words.specs.declared.verb.Verb.TheVariants as verb
 use Rattle.bt_words.specs.declared.command.Family.{Family}
 use Rattle.bt_words.specs.declared.command.Family.TheVariants as family
 use Rattle.bt_words.specs.declared.command.Command.{Command}
-use Rattle.bt_words.specs.declared.command.Command.TheVariants.{FlowCheck, Recover, Check, Decide, Make}
+use Rattle.bt_words.specs.declared.command.Command.TheVariants.{FlowCheck, Recover, Check, Decide, Make, Layout, CheckLayout}
 use Rattle.bt_words.specs.Arguments.{AreArguments}
 use Rattle.bt_words.specs.Verbs.{verb_name, verb_of}
-use Rattle.bt_words.specs.Commands.{Gives, IsGiven, Suits, IsCommand, IsUsage, IsToDecide, IsToMake, is_chain, nothing, mark}
+use Rattle.bt_words.specs.Commands.{Gives, IsGiven, Suits, IsCommand, IsUsage, IsToDecide, IsToMake, IsToLay, IsToCheckLayout, is_chain, nothing, mark, grid_in}
 use Rattle.bt_words.proofs.Fronts.{some_word}
 use Rattle.bt_words.proofs.OneFront.{one_front}
 
 -- the command whose word begins with this byte
 abbrev begun_by : ℕ → Verb
-begun_by byte = cond (nat_eq byte 102) verb.FlowCheck (cond (nat_eq byte 114) verb.Recover (cond (nat_eq byte 99) verb.Check (cond (nat_eq byte 100) verb.Decide verb.Make)))
+begun_by byte = cond (nat_eq byte 102) verb.FlowCheck (cond (nat_eq byte 114) verb.Recover (cond (nat_eq byte 99) verb.Check (cond (nat_eq byte 100) verb.Decide (cond (nat_eq byte 109) verb.Make verb.Layout))))
 
-begins : (v : Verb) → begun_by (get_or (verb_name v) 0 0) ≡ v
+-- the command with this word: that of one byte alone begins as another does
+abbrev named_by : List ℕ → Verb
+named_by name = cond (nat_eq (length name) 12) verb.CheckLayout (begun_by (get_or name 0 0))
+
+begins : (v : Verb) → named_by (verb_name v) ≡ v
 begins verb.FlowCheck = refl
 begins verb.Recover = refl
 begins verb.Check = refl
 begins verb.Decide = refl
 begins verb.Make = refl
+begins verb.Layout = refl
+begins verb.CheckLayout = refl
 
 -- a word is one command's at most
 same_verb : (v w : Verb) → verb_name v ≡ verb_name w → v ≡ w
-same_verb v w e = sym (begins v) ∙ ap (λ name. begun_by (get_or name 0 0)) e ∙ begins w
+same_verb v w e = sym (begins v) ∙ ap named_by e ∙ begins w
 
 -- words are one list of arguments
 same_arguments : (ones others : List Argument) (words : List (List ℕ)) → AreArguments ones words → AreArguments others words → ones ≡ others
@@ -67,7 +78,9 @@ same_given g h words (ones, are, gives) (others, be, give) =
     let c = same_mark g.chain h.chain (sym gives.chain ∙ give.chain) in
     let l = same_option g.learnt h.learnt (sym gives.learnt ∙ give.learnt) in
     let v = same_option g.pivots h.pivots (sym gives.pivots ∙ give.pivots) in
-    λ i. record { property = p i; order = o i; chain = c i; learnt = l i; pivots = v i }
+    let r = same_option g.grid h.grid (sym gives.grid ∙ give.grid) in
+    let t = same_option g.tier h.tier (sym gives.tier ∙ give.tier) in
+    λ i. record { property = p i; order = o i; chain = c i; learnt = l i; pivots = v i; grid = r i; tier = t i }
 
 -- what no command of this word is given
 pub none_checks_flow : (g : Given) → ((p : _) → g ≡ record nothing { property = Some p } → ⊥) → (c : Command) → verb.FlowCheck ≡ verb_of c → Suits c g → ⊥
@@ -85,6 +98,14 @@ none_decides g none c v s = cc
 pub none_makes : (g : Given) → ((k : ℕ) → IsToMake k g → ⊥) → (c : Command) → verb.Make ≡ verb_of c → Suits c g → ⊥
 none_makes g none (Make kind k limits) v s = none k s.0
 none_makes g none c v s = cc
+
+pub none_lays : (g : Given) → ((r : _) → IsToLay r g → ⊥) → (c : Command) → verb.Layout ≡ verb_of c → Suits c g → ⊥
+none_lays g none (Layout r t n) v s = none r s.0
+none_lays g none c v s = cc
+
+pub none_checks_layouts : (g : Given) → ((r : _) → IsToCheckLayout r g → ⊥) → (c : Command) → verb.CheckLayout ≡ verb_of c → Suits c g → ⊥
+none_checks_layouts g none (CheckLayout r t) v s = none r s.0
+none_checks_layouts g none c v s = cc
 
 -- words behind which nothing is given are no command
 pub none_given : (words : List (List ℕ)) (word : List ℕ) (behind : List (List ℕ)) → words ≡ word ∷ behind → ((g : Given) → IsGiven g behind → ⊥) → IsUsage words
@@ -120,6 +141,8 @@ same_suited (Make f i l) (Make n j m) g v (h, x, a) (k, y, b) =
     let e = ap (λ x. x.order) (sym h ∙ k) in
     let kinds = same_family f n (x ∙ sym y) in
     cc
+same_suited (Layout r t n) (Layout s u m) g v (h, x, a) (k, y, b) = let e = ap (λ x. x.grid) (sym h ∙ k) in cc
+same_suited (CheckLayout r t) (CheckLayout s u) g v (h, x) (k, y) = let e = ap (λ x. x.grid) (sym h ∙ k) in cc
 same_suited c d g v h k = cc
 
 -- words are one command at most
@@ -130,3 +153,24 @@ same_command c d words (behind, g, e, given, suits) (others, h, f, is_given, sui
     let at : others ≡ behind = cc in
     same_suited c d g (same_verb (verb_of c) (verb_of d) names) suits
     (subst (λ x. Suits d x) (same_given h g behind (subst (λ x. IsGiven h x) at is_given) given) suit)
+
+-- a grid among arguments is one that an argument is
+grid_given : (arguments : List Argument) (words : List (List ℕ)) (grid : Rect) → AreArguments arguments words → filter_map grid_in arguments ≡ grid ∷ [] → IsGrid grid
+grid_given [] words grid are e = cc
+grid_given (Grid r ∷ more) words grid (front, rest, inl (word, plain, is), at, are) e = absurd plain
+grid_given (Grid r ∷ more) words grid (front, rest, inr (name, value, valued, is), at, are) e = subst IsGrid (let same = e in cc) valued.1.0
+grid_given (Named p ∷ more) words grid (front, rest, is, at, are) e = grid_given more rest grid are e
+grid_given (Order k ∷ more) words grid (front, rest, is, at, are) e = grid_given more rest grid are e
+grid_given (Chain ∷ more) words grid (front, rest, is, at, are) e = grid_given more rest grid are e
+grid_given (Learnt n ∷ more) words grid (front, rest, is, at, are) e = grid_given more rest grid are e
+grid_given (Pivots n ∷ more) words grid (front, rest, is, at, are) e = grid_given more rest grid are e
+grid_given (OfTier t ∷ more) words grid (front, rest, is, at, are) e = grid_given more rest grid are e
+
+-- the grid of `layout` and of `check-layout` has from 1 to `MOST_ACROSS` cells each way
+pub grid_to_lay : (grid : Rect) (tier : Tier) (learnt : ℕ) (words : List (List ℕ)) → IsCommand (Layout grid tier learnt) words → IsGrid grid
+grid_to_lay grid tier learnt words (behind, g, e, (arguments, are, gives), suits) =
+    grid_given arguments behind grid are (gives.grid ∙ ap (λ x. option_to_list x.grid) suits.0)
+
+pub grid_to_check : (grid : Rect) (tier : Tier) (words : List (List ℕ)) → IsCommand (CheckLayout grid tier) words → IsGrid grid
+grid_to_check grid tier words (behind, g, e, (arguments, are, gives), suits) =
+    grid_given arguments behind grid are (gives.grid ∙ ap (λ x. option_to_list x.grid) suits.0)

@@ -11,8 +11,9 @@ use Rattle.bt_frac.proofs.Numerals.{decimal-lacks, decimal_apart}
 use Rattle.bt_text.specs.Lines.{Lacks, SplitsAt}
 use Rattle.bt_text.proofs.FirstLines.{split_apart, SplitsAt-lacks}
 use Rattle.bt_words.specs.declared.argument.Argument.{Argument}
-use Rattle.bt_words.specs.declared.argument.Argument.TheVariants.{Named, Order, Chain, Learnt, Pivots}
+use Rattle.bt_words.specs.declared.argument.Argument.TheVariants.{Named, Order, Chain, Learnt, Pivots, Grid, OfTier}
 use Rattle.bt_words.specs.Arguments.{IsPlain, IsValued}
+use Rattle.bt_words.proofs.Grids.{same_grid, same_tier}
 use Rattle.bt_words.specs.inner.Reading.{BeginsWith}
 use Rattle.bt_words.proofs.Fronts.{Front, alone, apart, joined, front_of, name_lacks, some_word}
 
@@ -62,31 +63,50 @@ plain_apart Chain (Order j) word h (small, k) = absurd (digit_first j 45 (drop 1
 plain_apart Chain Chain word h k = refl
 plain_apart (Learnt m) b word h k = absurd h
 plain_apart (Pivots m) b word h k = absurd h
+plain_apart (Grid m) b word h k = absurd h
+plain_apart (OfTier m) b word h k = absurd h
 plain_apart a (Learnt n) word h k = absurd k
 plain_apart a (Pivots n) word h k = absurd k
+plain_apart a (Grid n) word h k = absurd k
+plain_apart a (OfTier n) word h k = absurd k
+
+-- the name of an option
+abbrev option_name : Argument → List ℕ
+option_name (Learnt n) = codes "learnt"
+option_name (Pivots n) = codes "pivots"
+option_name (Grid grid) = codes "grid"
+option_name (OfTier tier) = codes "tier"
+option_name other = []
+
+has_name : (a : Argument) (name value : List ℕ) → IsValued a name value → name ≡ option_name a
+has_name (Learnt n) name value v = v.0
+has_name (Pivots n) name value v = v.0
+has_name (Grid grid) name value v = v.0
+has_name (OfTier tier) name value v = v.0
+has_name (Named p) name value v = absurd v
+has_name (Order k) name value v = absurd v
+has_name Chain name value v = absurd v
 
 -- a name and a value are one option
 valued_apart : (a b : Argument) (name value : List ℕ) → IsValued a name value → IsValued b name value → a ≡ b
 valued_apart (Learnt m) (Learnt n) name value (e, small, h) (f, smaller, k) = ap Learnt (decimal_apart m n (omega arith) (omega arith) (sym h ∙ k))
-valued_apart (Learnt m) (Pivots n) name value (e, small, h) (f, smaller, k) = absurd (omega (arith, ap (λ w. get_or w 0 0) (sym e ∙ f)))
-valued_apart (Pivots m) (Learnt n) name value (e, small, h) (f, smaller, k) = absurd (omega (arith, ap (λ w. get_or w 0 0) (sym e ∙ f)))
 valued_apart (Pivots m) (Pivots n) name value (e, small, h) (f, smaller, k) = ap Pivots (decimal_apart m n (omega arith) (omega arith) (sym h ∙ k))
+valued_apart (Grid one) (Grid other) name value (e, h) (f, k) = ap Grid (same_grid one other value h k)
+valued_apart (OfTier one) (OfTier other) name value (e, h) (f, k) = ap OfTier (same_tier one other (sym h ∙ k))
 valued_apart (Named p) b name value h k = absurd h
 valued_apart (Order p) b name value h k = absurd h
 valued_apart Chain b name value h k = absurd h
 valued_apart a (Named p) name value h k = absurd k
 valued_apart a (Order p) name value h k = absurd k
 valued_apart a Chain name value h k = absurd k
+valued_apart a b name value h k = absurd (omega (arith, ap (λ w. get_or w 0 0) (sym (has_name a name value h) ∙ has_name b name value k)))
 
 -- the third byte of an option is none of `--chain`
 not_chain : (b : Argument) (name value more : List ℕ) → IsValued b name value → codes "--chain" ≡ codes "--" ++ name ++ more → ⊥
-not_chain (Learnt n) name value more (e, small, k) is =
-    omega (arith, ap (λ w. get_or w 2 0) (is ∙ ap (λ x. codes "--" ++ x ++ more) e))
-not_chain (Pivots n) name value more (e, small, k) is =
-    omega (arith, ap (λ w. get_or w 2 0) (is ∙ ap (λ x. codes "--" ++ x ++ more) e))
 not_chain (Named p) name value more v is = absurd v
 not_chain (Order p) name value more v is = absurd v
 not_chain Chain name value more v is = absurd v
+not_chain b name value more v is = omega (arith, ap (λ w. get_or w 2 0) (is ∙ ap (λ x. codes "--" ++ x ++ more) (has_name b name value v)))
 
 -- a word that is an argument for itself begins no option
 plain_is_none : (a b : Argument) (word name value more : List ℕ) → IsPlain a word → IsValued b name value → word ≡ codes "--" ++ name ++ more → ⊥
@@ -95,6 +115,8 @@ plain_is_none (Order i) b word name value more (small, h) k is = digit_first i 4
 plain_is_none Chain b word name value more h k is = not_chain b name value more k (sym h ∙ is)
 plain_is_none (Learnt n) b word name value more h k is = absurd h
 plain_is_none (Pivots n) b word name value more h k is = absurd h
+plain_is_none (Grid n) b word name value more h k is = absurd h
+plain_is_none (OfTier n) b word name value more h k is = absurd h
 
 no_name : (a b : Argument) (word name value : List ℕ) → IsPlain a word → IsValued b name value → word ≡ codes "--" ++ name → ⊥
 no_name a b word name value h k is = plain_is_none a b word name value [] h k (is ∙ ap (λ x. codes "--" ++ x) (sym (append-nil name)))

@@ -7,7 +7,7 @@ use Rattle.std.proofs.lemmas.List.{append-nil, append_assoc}
 use Rattle.bt_words.specs.declared.argument.Argument.{Argument}
 use Rattle.bt_words.specs.declared.given.Given.{Given}
 use Rattle.bt_words.specs.Arguments.{AreArguments}
-use Rattle.bt_words.specs.Commands.{IsGiven, nothing, mark, property_in, order_in, chain_in, learnt_in, pivots_in}
+use Rattle.bt_words.specs.Commands.{IsGiven, nothing, mark, property_in, order_in, chain_in, learnt_in, pivots_in, grid_in, tier_in}
 use Rattle.bt_words.specs.inner.Reading.{BeginsWith, Adds, Reads, LeadsTo}
 use Rattle.bt_words.proofs.Fronts.{some_word}
 use Rattle.bt_words.proofs.OneFront.{one_front}
@@ -42,6 +42,8 @@ adds_there before now g a more one all = record {
   chain = sym (put (option_to_list (mark before.chain)) (option_to_list (mark now.chain)) (chain_in a) (filter_map chain_in more) one.chain) ∙ all.chain;
   learnt = sym (put (option_to_list before.learnt) (option_to_list now.learnt) (learnt_in a) (filter_map learnt_in more) one.learnt) ∙ all.learnt;
   pivots = sym (put (option_to_list before.pivots) (option_to_list now.pivots) (pivots_in a) (filter_map pivots_in more) one.pivots) ∙ all.pivots;
+  grid = sym (put (option_to_list before.grid) (option_to_list now.grid) (grid_in a) (filter_map grid_in more) one.grid) ∙ all.grid;
+  tier = sym (put (option_to_list before.tier) (option_to_list now.tier) (tier_in a) (filter_map tier_in more) one.tier) ∙ all.tier;
 }
 
 adds_back : (before now g : Given) (a : Argument) (more : List Argument) → Adds before (a ∷ []) now → Adds now more g → Adds before (a ∷ more) g
@@ -51,6 +53,8 @@ adds_back before now g a more one rest = record {
   chain = put (option_to_list (mark before.chain)) (option_to_list (mark now.chain)) (chain_in a) (filter_map chain_in more) one.chain ∙ rest.chain;
   learnt = put (option_to_list before.learnt) (option_to_list now.learnt) (learnt_in a) (filter_map learnt_in more) one.learnt ∙ rest.learnt;
   pivots = put (option_to_list before.pivots) (option_to_list now.pivots) (pivots_in a) (filter_map pivots_in more) one.pivots ∙ rest.pivots;
+  grid = put (option_to_list before.grid) (option_to_list now.grid) (grid_in a) (filter_map grid_in more) one.grid ∙ rest.grid;
+  tier = put (option_to_list before.tier) (option_to_list now.tier) (tier_in a) (filter_map tier_in more) one.tier ∙ rest.tier;
 }
 
 adds_none : (before : Given) → Adds before [] before
@@ -60,16 +64,18 @@ adds_none before = record {
   chain = append-nil (option_to_list (mark before.chain));
   learnt = append-nil (option_to_list before.learnt);
   pivots = append-nil (option_to_list before.pivots);
+  grid = append-nil (option_to_list before.grid);
+  tier = append-nil (option_to_list before.tier);
 }
 
 -- what is given, with nothing before it
 reads_all : (words : List (List ℕ)) (g : Given) → IsGiven g words → Reads nothing words g
 reads_all words g (arguments, are, gives) =
-    (arguments, are, record { property = gives.property; order = gives.order; chain = gives.chain; learnt = gives.learnt; pivots = gives.pivots })
+    (arguments, are, record { property = gives.property; order = gives.order; chain = gives.chain; learnt = gives.learnt; pivots = gives.pivots; grid = gives.grid; tier = gives.tier })
 
 all_read : (words : List (List ℕ)) (g : Given) → Reads nothing words g → IsGiven g words
 all_read words g (arguments, are, adds) =
-    (arguments, are, record { property = adds.property; order = adds.order; chain = adds.chain; learnt = adds.learnt; pivots = adds.pivots })
+    (arguments, are, record { property = adds.property; order = adds.order; chain = adds.chain; learnt = adds.learnt; pivots = adds.pivots; grid = adds.grid; tier = adds.tier })
 
 -- at the front all words are the rest
 pub leads_at_first : (words : List (List ℕ)) → LeadsTo words nothing words

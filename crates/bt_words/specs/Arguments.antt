@@ -1,9 +1,24 @@
 -- The arguments of a command, and how they are written behind its word.
 use Rattle.std.specs.Prelude.{◌≡◌, ℕ, ◌≤◌, ◌⊎◌, List, [], ◌∷◌, ◌++◌, codes, decimal}
 use Rattle.bt_flow.specs.Names.{property_name}
+use Rattle.bt_model.specs.Requests.{IsGrid}
+use Rattle.bt_parts.specs.declared.part.Rect.{Rect}
+use Rattle.bt_parts.specs.declared.part.Tier.{Tier}
+use Rattle.bt_parts.specs.declared.part.Tier.TheVariants.{Basic, Fast, Express, Turbo}
 use Rattle.bt_words.specs.declared.argument.Argument.{Argument}
-use Rattle.bt_words.specs.declared.argument.Argument.TheVariants.{Named, Order, Chain, Learnt, Pivots}
+use Rattle.bt_words.specs.declared.argument.Argument.TheVariants.{Named, Order, Chain, Learnt, Pivots, Grid, OfTier}
 use Rattle.bt_words.specs.declared.argument.TheConstants.{MOST_ORDER, MOST_LEARNT, MOST_PIVOTS}
+
+-- the name of a tier
+abbrev pub tier_name : Tier → List ℕ
+tier_name Basic = codes "basic"
+tier_name Fast = codes "fast"
+tier_name Express = codes "express"
+tier_name Turbo = codes "turbo"
+
+-- the word is the grid's width, `x` and its height, each from 1 to `MOST_ACROSS`
+abbrev pub IsGridWord : Rect → List ℕ → Type 0
+IsGridWord grid word = IsGrid grid × (word ≡ decimal grid.width ++ 120 ∷ decimal grid.height)
 
 -- the argument is this word for itself: a property's name, a whole number, or `--chain`
 abbrev pub IsPlain : Argument → List ℕ → Type 0
@@ -12,14 +27,18 @@ IsPlain (Order k) word = (k ≤ MOST_ORDER) × (word ≡ decimal k)
 IsPlain Chain word = word ≡ codes "--chain"
 IsPlain (Learnt n) word = ⊥
 IsPlain (Pivots n) word = ⊥
+IsPlain (Grid grid) word = ⊥
+IsPlain (OfTier tier) word = ⊥
 
--- the argument is the option of this name with this value: a whole number in its range
+-- the argument is the option of this name with this value: a whole number in its range, a grid, or the name of a tier
 abbrev pub IsValued : Argument → List ℕ → List ℕ → Type 0
 IsValued (Named p) name value = ⊥
 IsValued (Order k) name value = ⊥
 IsValued Chain name value = ⊥
 IsValued (Learnt n) name value = (name ≡ codes "learnt") × (n ≤ MOST_LEARNT) × (value ≡ decimal n)
 IsValued (Pivots n) name value = (name ≡ codes "pivots") × (n ≤ MOST_PIVOTS) × (value ≡ decimal n)
+IsValued (Grid grid) name value = (name ≡ codes "grid") × IsGridWord grid value
+IsValued (OfTier tier) name value = (name ≡ codes "tier") × (value ≡ tier_name tier)
 
 -- an option is written `--name value`, as two words, or `--name=value`
 abbrev pub IsOption : List ℕ → List ℕ → List (List ℕ) → Type 0

@@ -4,14 +4,17 @@ use Rattle.std.specs.Option.{option_to_list}
 use Rattle.std.specs.List.{filter_map}
 use Rattle.std.specs.declared.option.Option.{Option}
 use Rattle.bt_flow.specs.declared.property.Property.{Property}
+use Rattle.bt_parts.specs.declared.part.Rect.{Rect}
+use Rattle.bt_parts.specs.declared.part.Tier.{Tier}
+use Rattle.bt_parts.specs.declared.part.Tier.TheVariants.{Basic}
 use Rattle.bt_words.specs.declared.argument.Argument.{Argument}
-use Rattle.bt_words.specs.declared.argument.Argument.TheVariants.{Named, Order, Chain, Learnt, Pivots}
+use Rattle.bt_words.specs.declared.argument.Argument.TheVariants.{Named, Order, Chain, Learnt, Pivots, Grid, OfTier}
 use Rattle.bt_words.specs.declared.given.Given.{Given}
 use Rattle.bt_theory.specs.declared.outcome.Limits.{Limits}
 use Rattle.bt_words.specs.declared.command.Family.{Family}
 use Rattle.bt_words.specs.declared.command.Family.TheVariants as family
 use Rattle.bt_words.specs.declared.command.Command.{Command}
-use Rattle.bt_words.specs.declared.command.Command.TheVariants.{FlowCheck, Recover, Check, Decide, Make}
+use Rattle.bt_words.specs.declared.command.Command.TheVariants.{FlowCheck, Recover, Check, Decide, Make, Layout, CheckLayout}
 use Rattle.bt_words.specs.declared.command.TheConstants.{USUAL_LEARNT, USUAL_PIVOTS}
 use Rattle.bt_words.specs.Arguments.{AreArguments}
 use Rattle.bt_words.specs.Verbs.{verb_name, verb_of}
@@ -41,6 +44,16 @@ abbrev pub pivots_in : Argument → Option ℕ
 pivots_in (Pivots n) = Some n
 pivots_in other = None
 
+-- the grid behind `--grid`
+abbrev pub grid_in : Argument → Option Rect
+grid_in (Grid grid) = Some grid
+grid_in other = None
+
+-- the tier behind `--tier`
+abbrev pub tier_in : Argument → Option Tier
+tier_in (OfTier tier) = Some tier
+tier_in other = None
+
 -- a mark that is there, or not
 abbrev pub mark : Bool → Option (Unit {0})
 mark true = Some tt
@@ -53,6 +66,8 @@ pub record Gives (arguments : List Argument) (g : Given) : Type 0 where
   pub chain : filter_map chain_in arguments ≡ option_to_list (mark g.chain)
   pub learnt : filter_map learnt_in arguments ≡ option_to_list g.learnt
   pub pivots : filter_map pivots_in arguments ≡ option_to_list g.pivots
+  pub grid : filter_map grid_in arguments ≡ option_to_list g.grid
+  pub tier : filter_map tier_in arguments ≡ option_to_list g.tier
 
 -- the words are arguments, in any order, and this is what they give
 abbrev pub IsGiven : Given → List (List ℕ) → Type 0
@@ -60,11 +75,15 @@ IsGiven g words = (arguments : List Argument) × AreArguments arguments words ×
 
 -- nothing is given
 abbrev pub nothing : Given
-nothing = record { property = None; order = None; chain = false; learnt = None; pivots = None }
+nothing = record { property = None; order = None; chain = false; learnt = None; pivots = None; grid = None; tier = None }
 
 -- the limits are those that are given, or else the usual ones
 abbrev pub limits_of : Given → Limits
 limits_of g = record { learnt = unwrap_or g.learnt USUAL_LEARNT; pivots = unwrap_or g.pivots USUAL_PIVOTS }
+
+-- the tier that is given, or else the basic one
+abbrev pub tier_of : Given → Tier
+tier_of g = unwrap_or g.tier Basic
 
 -- a butterfly, or a chain where `--chain` says so
 abbrev pub is_chain : Family → Bool
@@ -79,13 +98,23 @@ IsToDecide p g = g ≡ record nothing { property = Some p; learnt = g.learnt; pi
 abbrev pub IsToMake : ℕ → Given → Type 0
 IsToMake order g = g ≡ record nothing { order = Some order; chain = g.chain; learnt = g.learnt; pivots = g.pivots }
 
--- what a command is given: a property, or nothing; `decide` a property, and limits where they aren't the usual ones; `make` an order, and whether it is that of a chain, and limits
+-- this grid is given, and perhaps a tier and the most steps of a log
+abbrev pub IsToLay : Rect → Given → Type 0
+IsToLay grid g = g ≡ record nothing { grid = Some grid; tier = g.tier; learnt = g.learnt }
+
+-- this grid is given, and perhaps a tier
+abbrev pub IsToCheckLayout : Rect → Given → Type 0
+IsToCheckLayout grid g = g ≡ record nothing { grid = Some grid; tier = g.tier }
+
+-- what a command is given: a property, or nothing; `decide` a property, and limits where they aren't the usual ones; `make` an order, and whether it is that of a chain, and limits; the two that speak of layouts a grid, and a tier where it isn't the basic one, and `layout` the most steps of a log where they aren't the usual ones
 abbrev pub Suits : Command → Given → Type 0
 Suits (FlowCheck p) g = g ≡ record nothing { property = Some p }
 Suits Recover g = g ≡ nothing
 Suits (Check p) g = g ≡ record nothing { property = Some p }
 Suits (Decide p limits) g = IsToDecide p g × (limits ≡ limits_of g)
 Suits (Make kind order limits) g = IsToMake order g × (is_chain kind ≡ g.chain) × (limits ≡ limits_of g)
+Suits (Layout grid tier learnt) g = IsToLay grid g × (tier ≡ tier_of g) × (learnt ≡ (limits_of g).learnt)
+Suits (CheckLayout grid tier) g = IsToCheckLayout grid g × (tier ≡ tier_of g)
 
 -- the words are the command's word, and behind it what suits the command
 abbrev pub IsCommand : Command → List (List ℕ) → Type 0

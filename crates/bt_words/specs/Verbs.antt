@@ -3,7 +3,7 @@ use Rattle.std.specs.Prelude.{ℕ, List, codes}
 use Rattle.bt_words.specs.declared.command.Command.{Command}
 use Rattle.bt_words.specs.declared.command.Command.TheVariants as command
 use Rattle.bt_words.specs.declared.verb.Verb.{Verb}
-use Rattle.bt_words.specs.declared.verb.Verb.TheVariants.{FlowCheck, Recover, Check, Decide, Make}
+use Rattle.bt_words.specs.declared.verb.Verb.TheVariants.{FlowCheck, Recover, Check, Decide, Make, Layout, CheckLayout}
 
 -- the word for a command
 abbrev pub verb_name : Verb → List ℕ
@@ -12,6 +12,8 @@ verb_name Recover = codes "recover"
 verb_name Check = codes "check"
 verb_name Decide = codes "decide"
 verb_name Make = codes "make"
+verb_name Layout = codes "layout"
+verb_name CheckLayout = codes "check-layout"
 
 -- which command it is
 abbrev pub verb_of : Command → Verb
@@ -20,3 +22,5 @@ verb_of command.Recover = Recover
 verb_of (command.Check p) = Check
 verb_of (command.Decide p limits) = Decide
 verb_of (command.Make family order limits) = Make
+verb_of (command.Layout grid tier learnt) = Layout
+verb_of (command.CheckLayout grid tier) = CheckLayout

@@ -4,8 +4,10 @@ ghost use Rattle.bt_words.specs.Arguments.{IsPlain, IsValued};
 ghost use Rattle.bt_words.specs.inner.Reading.{BeginsWith};
 ghost use Rattle.bt_words.specs.declared.argument.Argument.{Argument as AnArgument};
 
+use crate::grid::{grid_of, tier_named};
 use crate::number::number_up_to;
 use bt_flow::Property;
+use bt_parts::{Rect, Tier};
 use bt_text::{after_word, split_once};
 
 /// The most that an order may be: nine digits.
@@ -30,6 +32,10 @@ pub enum Argument {
     Learnt(u64),
     /// `--pivots`: the most turns of one call.
     Pivots(u64),
+    /// `--grid`: the cells on which a layout lies.
+    Grid(Rect),
+    /// `--tier`: the tier of its parts.
+    OfTier(Tier),
 }
 
 /// The argument at the front of the words, and the words behind it.
@@ -74,6 +80,12 @@ fn valued(name: &[u8], value: &[u8]) -> Option<Argument>
     }
     if name == b"pivots".as_slice() {
         return Some(Argument::Pivots(number_up_to(MOST_PIVOTS, value)?));
+    }
+    if name == b"grid".as_slice() {
+        return Some(Argument::Grid(grid_of(value)?));
+    }
+    if name == b"tier".as_slice() {
+        return Some(Argument::OfTier(tier_named(value)?));
     }
     None
 }

@@ -3,10 +3,12 @@ ghost use Rattle.std.specs.Prelude.{◌≡◌, ℕ, List, MatchOption, map, stri
 ghost use Rattle.bt_words.specs.Verbs.{verb_of};
 ghost use Rattle.bt_words.specs.Commands.{IsCommand, IsUsage, Suits};
 ghost use Rattle.bt_words.specs.declared.command.Command.{Command as ACommand};
+ghost use Rattle.bt_words.specs.declared.verb.Verb.TheVariants.{Layout, CheckLayout};
 
 use crate::given::{Given, read_given};
 use crate::verb::Verb;
 use bt_flow::Property;
+use bt_parts::{Rect, Tier};
 use bt_theory::Limits;
 
 /// The most steps of a log, where the words don't say.
@@ -35,6 +37,11 @@ pub enum Command {
     Decide(Property, Limits),
     /// `make`: is the network of this kind and order balanced?
     Make(Family, u32, Limits),
+    /// `layout`: how do parts of this tier on this grid show the network that is asked for, found in at
+    /// most so many steps of a log?
+    Layout(Rect, Tier, u64),
+    /// `check-layout`: does the certificate show that no parts of this tier on this grid do?
+    CheckLayout(Rect, Tier),
 }
 
 /// The command that the words are.
@@ -68,5 +75,25 @@ fn with_given(verb: Verb, given: Given) -> Option<Command>
             given.order_and_limits()?,
             given.limits(),
         )),
+        Verb::Layout => laid(given),
+        Verb::CheckLayout => layout_checked(given),
     }
+}
+
+/// `layout`, where what is given suits it.
+fn laid(given: Given) -> Option<Command>
+    ensures { MatchOption result ((c : ACommand) → Layout ≡ verb_of c → Suits c given → ⊥)
+        (λ c. (Layout ≡ verb_of c) × Suits c given) }
+{
+    let grid = given.grid_to_lay()?;
+    Some(Command::Layout(grid, given.tier(), given.limits().learnt))
+}
+
+/// `check-layout`, where what is given suits it.
+fn layout_checked(given: Given) -> Option<Command>
+    ensures { MatchOption result ((c : ACommand) → CheckLayout ≡ verb_of c → Suits c given → ⊥)
+        (λ c. (CheckLayout ≡ verb_of c) × Suits c given) }
+{
+    let grid = given.grid_to_check()?;
+    Some(Command::CheckLayout(grid, given.tier()))
 }

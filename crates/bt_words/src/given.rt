@@ -2,7 +2,9 @@
 ghost use Rattle.std.specs.Prelude.{◌≡◌, ℕ, List, [], ◌∷◌, Some, MatchOption, map, string_bytes};
 ghost use Rattle.std.specs.Prelude.{◌↔◌, IsTrue};
 ghost use Rattle.bt_flow.specs.declared.property.Property.{Property as AProperty};
-ghost use Rattle.bt_words.specs.Commands.{IsGiven, IsToDecide, IsToMake, is_chain, limits_of, nothing};
+ghost use Rattle.bt_parts.specs.declared.part.Rect.{Rect as ARect};
+ghost use Rattle.bt_words.specs.Commands.{IsGiven, IsToDecide, IsToMake, IsToLay, IsToCheckLayout};
+ghost use Rattle.bt_words.specs.Commands.{is_chain, limits_of, tier_of, nothing};
 ghost use Rattle.bt_words.specs.inner.Reading.{Adds};
 ghost use Rattle.bt_words.specs.declared.argument.Argument.{Argument as AnArgument};
 ghost use Rattle.bt_words.specs.declared.given.Given.{Given as AGiven};
@@ -10,6 +12,7 @@ ghost use Rattle.bt_words.specs.declared.given.Given.{Given as AGiven};
 use crate::argument::{Argument, next_argument};
 use crate::command::{Family, USUAL_LEARNT, USUAL_PIVOTS};
 use bt_flow::Property;
+use bt_parts::{Rect, Tier};
 use bt_theory::Limits;
 
 /// What is given behind a command's word.
@@ -20,6 +23,8 @@ pub struct Given {
     pub chain: bool,
     pub learnt: Option<u64>,
     pub pivots: Option<u64>,
+    pub grid: Option<Rect>,
+    pub tier: Option<Tier>,
 }
 
 /// Nothing is given.
@@ -29,6 +34,8 @@ pub const NOTHING: Given = Given {
     chain: false,
     learnt: None,
     pivots: None,
+    grid: None,
+    tier: None,
 };
 
 /// What the words behind a command's word give.
@@ -74,6 +81,14 @@ impl Given {
                 pivots: Some(pivots),
                 ..self
             }),
+            Argument::Grid(grid) if self.grid.is_none() => Some(Given {
+                grid: Some(grid),
+                ..self
+            }),
+            Argument::OfTier(tier) if self.tier.is_none() => Some(Given {
+                tier: Some(tier),
+                ..self
+            }),
             _ => None,
         }
     }
@@ -91,6 +106,8 @@ impl Given {
                 chain: false,
                 learnt: None,
                 pivots: None,
+                grid: None,
+                tier: None,
             } => true,
             _ => false,
         }
@@ -108,6 +125,8 @@ impl Given {
                 chain: false,
                 learnt: None,
                 pivots: None,
+                grid: None,
+                tier: None,
             } => Some(property),
             _ => None,
         }
@@ -122,6 +141,8 @@ impl Given {
                 property: Some(property),
                 order: None,
                 chain: false,
+                grid: None,
+                tier: None,
                 ..
             } => Some(property),
             _ => None,
@@ -136,6 +157,8 @@ impl Given {
             Given {
                 property: None,
                 order,
+                grid: None,
+                tier: None,
                 ..
             } => order,
             _ => None,
@@ -151,6 +174,49 @@ impl Given {
         } else {
             Family::Butterfly
         }
+    }
+
+    /// The grid, where no other is given but the tier and the most steps of a log.
+    pub fn grid_to_lay(self) -> Option<Rect>
+        ensures { MatchOption result ((r : ARect) → IsToLay r self → ⊥) (λ r. IsToLay r self) }
+    {
+        match self {
+            Given {
+                property: None,
+                order: None,
+                chain: false,
+                pivots: None,
+                grid,
+                ..
+            } => grid,
+            _ => None,
+        }
+    }
+
+    /// The grid, where no other is given but the tier.
+    pub fn grid_to_check(self) -> Option<Rect>
+        ensures { MatchOption result ((r : ARect) → IsToCheckLayout r self → ⊥)
+            (λ r. IsToCheckLayout r self) }
+    {
+        match self {
+            Given {
+                property: None,
+                order: None,
+                chain: false,
+                learnt: None,
+                pivots: None,
+                grid,
+                ..
+            } => grid,
+            _ => None,
+        }
+    }
+
+    /// The tier that is given, or else the basic one.
+    pub fn tier(self) -> Tier
+        ensures { result ≡ tier_of self }
+    {
+        self.tier.unwrap_or(Tier::Basic)
     }
 
     /// The limits that are given, or else the usual ones.

@@ -7,6 +7,7 @@
 mod argument;
 mod command;
 mod given;
+mod grid;
 mod number;
 #[cfg(test)]
 mod tests;

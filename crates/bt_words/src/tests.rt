@@ -1,6 +1,7 @@
 //! Words that are commands, and words that are none.
 use crate::{Command, Family, Limits, USUAL_LEARNT, USUAL_PIVOTS, command_of};
 use bt_flow::Property;
+use bt_parts::{Rect, Tier};
 use std::alloc::Global;
 use std::test::Fail;
 
@@ -80,7 +81,54 @@ const COMMANDS: [(&str, Command); 16] = [
     ),
 ];
 
-const NONE: [&str; 48] = [
+/// Words, and the width, the height, the tier and the most steps of the layout that they ask for.
+const LAYOUTS: [(&str, u32, u32, Tier, u64); 6] = [
+    ("layout --grid 5x8", 5, 8, Tier::Basic, USUAL_LEARNT),
+    ("layout --grid=5x8", 5, 8, Tier::Basic, USUAL_LEARNT),
+    (
+        "layout --grid 16x16 --tier basic --learnt 0",
+        16,
+        16,
+        Tier::Basic,
+        0,
+    ),
+    (
+        "layout --learnt=1000000 --tier=turbo --grid=1x16",
+        1,
+        16,
+        Tier::Turbo,
+        1_000_000,
+    ),
+    (
+        "layout --tier fast --grid 16x1",
+        16,
+        1,
+        Tier::Fast,
+        USUAL_LEARNT,
+    ),
+    (
+        "layout --tier=express --learnt 7 --grid 2x3",
+        2,
+        3,
+        Tier::Express,
+        7,
+    ),
+];
+
+/// Words, and the width, the height and the tier of the layouts that they say are none.
+const NO_LAYOUTS: [(&str, u32, u32, Tier); 4] = [
+    ("check-layout --grid 5x8", 5, 8, Tier::Basic),
+    ("check-layout --grid=10x9 --tier turbo", 10, 9, Tier::Turbo),
+    ("check-layout --tier=fast --grid 1x1", 1, 1, Tier::Fast),
+    (
+        "check-layout --tier express --grid=16x16",
+        16,
+        16,
+        Tier::Express,
+    ),
+];
+
+const NONE: [&str; 84] = [
     "",
     "help",
     "--help",
@@ -128,7 +176,43 @@ const NONE: [&str; 48] = [
     "make 2 balanced",
     "make 2 --chain --chain",
     "make 2 --chain=1",
+    "make 2 --grid 2x2",
+    "make 2 --tier basic",
+    "recover --tier basic",
+    "check full --grid 2x2",
     "layout",
+    "layout --tier basic",
+    "layout --grid",
+    "layout --grid=",
+    "layout 5x8",
+    "layout --grid 0x1",
+    "layout --grid 1x0",
+    "layout --grid 17x1",
+    "layout --grid 1x17",
+    "layout --grid 1x",
+    "layout --grid x1",
+    "layout --grid x",
+    "layout --grid 11",
+    "layout --grid 01x1",
+    "layout --grid 1x01",
+    "layout --grid 1x1x1",
+    "layout --grid 1X1",
+    "layout --grid +1x1",
+    "layout --grid 1x1 --grid 1x1",
+    "layout --grid=1x1 --grid 2x2",
+    "layout --grid 5x8 --tier",
+    "layout --grid 5x8 --tier Basic",
+    "layout --grid 5x8 --tier yellow",
+    "layout --grid 5x8 --tier fast --tier fast",
+    "layout --grid 5x8 --learnt 1000001",
+    "layout --grid 5x8 --pivots 1",
+    "layout --grid 5x8 --chain",
+    "layout --grid 5x8 balanced",
+    "layout --grid 5x8 2",
+    "check-layout",
+    "check-layout --grid 17x17",
+    "check-layout --grid 5x8 --learnt 1",
+    "check-layout --grid 5x8 full",
 ];
 
 fn command(alloc: Global, words: &str) -> Result<Option<Command>, Fail> {
@@ -142,6 +226,19 @@ fn command(alloc: Global, words: &str) -> Result<Option<Command>, Fail> {
 #[test]
 fn commands(rt: HostRuntime) -> Result<(), Fail> {
     for (words, expected) in COMMANDS {
+        assert!(rt; command(rt.alloc(), words)? == Some(expected), "{words}");
+    }
+    Ok(())
+}
+
+#[test]
+fn layouts(rt: HostRuntime) -> Result<(), Fail> {
+    for (words, width, height, tier, learnt) in LAYOUTS {
+        let expected = Command::Layout(Rect { width, height }, tier, learnt);
+        assert!(rt; command(rt.alloc(), words)? == Some(expected), "{words}");
+    }
+    for (words, width, height, tier) in NO_LAYOUTS {
+        let expected = Command::CheckLayout(Rect { width, height }, tier);
         assert!(rt; command(rt.alloc(), words)? == Some(expected), "{words}");
     }
     Ok(())

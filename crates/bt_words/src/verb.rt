@@ -10,6 +10,8 @@ pub enum Verb {
     Check,
     Decide,
     Make,
+    Layout,
+    CheckLayout,
 }
 
 impl Verb {
@@ -23,6 +25,8 @@ impl Verb {
             "check" => Some(Verb::Check),
             "decide" => Some(Verb::Decide),
             "make" => Some(Verb::Make),
+            "layout" => Some(Verb::Layout),
+            "check-layout" => Some(Verb::CheckLayout),
             _ => None,
         }
     }
