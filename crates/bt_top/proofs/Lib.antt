@@ -5,3 +5,8 @@ pub mod OneAnswer
 pub mod InputsTold
 pub mod Ended
 pub mod Certified
+pub mod StandingAlone
+pub mod OneRequest
+pub mod NoneCertified
+pub mod Grids
+pub mod LaidOut

@@ -29,7 +29,8 @@ one_layout_net parts = one_in_turn (IsPlaced parts) _ _ (one_placed parts) one_p
 one_blueprint_net : (value : Json) → HasOneAnswer (IsBlueprintNet value)
 one_blueprint_net value = one_in_turn (IsPartsOf value) _ _ (one_parts value) one_layout_net
 
-one_json_design : (bytes : List ℕ) → HasOneAnswer (IsJsonDesign bytes)
+-- two right answers to JSON text are equal
+pub one_json_design : (bytes : List ℕ) → HasOneAnswer (IsJsonDesign bytes)
 one_json_design bytes = one_in_turn (IsRead bytes) _ _ (one_read bytes)
     (λ read a b h k. h.2 ∙ ap (seen (λ n. (n, read.1))) (one_blueprint_net read.0 h.0 k.0 h.1 k.1) ∙ sym k.2)
 
@@ -58,7 +59,7 @@ blueprint_network value answer n is (stopped fault h e) = absurd (not_both n (en
 blueprint_network value answer n is (went_on parts h k) = layout_network parts answer n is k
 
 -- what is seen of a result is a value's where the result is one
-seen_ok : {A B E : Type 0} (f : A → B) (r : Result A E) (b : B) → Ok b ≡ seen f r → (a : A) × (r ≡ Ok a) × (b ≡ f a)
+pub seen_ok : {A B E : Type 0} (f : A → B) (r : Result A E) (b : B) → Ok b ≡ seen f r → (a : A) × (r ≡ Ok a) × (b ≡ f a)
 seen_ok f (Ok a) b e = (a, refl, same_value b (f a) e)
 seen_ok f (Err fault) b e = absurd (not_both b fault e)
 
