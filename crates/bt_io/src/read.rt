@@ -1,6 +1,7 @@
-//! Reading a source to its end.
-ghost use Rattle.std.specs.Prelude.{◌^◌, ◌<◌, vec_items};
+//! Reading a source to its end, block by block.
+ghost use Rattle.std.specs.Prelude.{◌^◌, ◌<◌, ◌≤◌, length, vec_items};
 ghost use Rattle.bt_answers.specs.Answers.{seen};
+ghost use Rattle.bt_io.specs.Blocks.{ReadsOn};
 ghost use Rattle.bt_io.specs.Bytes.{ReadsAll};
 ghost use Rattle.bt_io.specs.Passages.{passage};
 
@@ -9,7 +10,37 @@ use crate::source::Source;
 use std::alloc::Global;
 
 /// The most bytes that one call asks of its source.
-const CHUNK: usize = 65536;
+const BLOCK: usize = 65536;
+
+/// Reads the next block of a source behind the bytes that were read so far, and gives whether there was one: else the
+/// source has ended. No more than `limit` bytes are read in all.
+///
+/// `ReadFault` comes only where the source's count of faults rose, and `TooLong` exactly where one byte past the limit was
+/// taken. After `ReadFault` and `Memory` nothing was taken.
+pub fn read_on<S: Source>(
+    source: &mut S,
+    bytes: &mut Vec<u8>,
+    limit: usize,
+) -> Result<bool, ReadAll>
+    requires limit { limit < 2 ^ 62 }
+    requires within { length bytes.old.items ≤ limit }
+    ensures { ReadsOn limit (passage S.left S.faults source.old source.new) bytes.old.items bytes.new.items result }
+{
+    let mut block = [0u8; BLOCK];
+    let room = (limit + 1 - bytes.len()).min(BLOCK);
+    let piece = &mut block[..room];
+
+    // The memory is taken first, so that want of memory loses no byte of the source.
+    bytes.reserve(room)?;
+    let Ok(count) = source.read(piece) else {
+        return Err(ReadAll::ReadFault);
+    };
+    bytes.extend_from_slice(&piece[..count]).unwrap();
+    if bytes.len() > limit {
+        return Err(ReadAll::TooLong);
+    }
+    Ok(count > 0)
+}
 
 /// Reads a source to its end, of at most `limit` bytes.
 ///
@@ -20,22 +51,13 @@ pub fn read_all<S: Source>(alloc: Global, source: &mut S, limit: usize) -> Resul
     ensures { ReadsAll limit (passage S.left S.faults source.old source.new) (seen vec_items result) }
 {
     let mut bytes = Vec::new(alloc);
-    let mut chunk = [0u8; CHUNK];
-    while bytes.len() <= limit {
-        let room = (limit + 1 - bytes.len()).min(CHUNK);
-        let piece = &mut chunk[..room];
-
-        // The memory is taken first, so that want of memory loses no byte of the source.
-        bytes.reserve(room)?;
-        let Ok(count) = source.read(piece) else {
-            return Err(ReadAll::ReadFault);
-        };
-        if count == 0 {
-            return Ok(bytes);
+    loop {
+        match read_on(source, &mut bytes, limit) {
+            Ok(true) => {}
+            Ok(false) => return Ok(bytes),
+            Err(fault) => return Err(fault),
         }
-        bytes.extend_from_slice(&piece[..count]).unwrap();
     }
-    Err(ReadAll::TooLong)
 }
 
 #[cfg(test)]
