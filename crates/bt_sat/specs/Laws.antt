@@ -1,12 +1,12 @@
--- When a clause is fresh that a search may learn, and how many fresh steps there can be.
-use Rattle.std.specs.Prelude.{◌≢◌, ◌<◌, ◌^◌, List, Contains, length}
+-- When a step is fresh, and how many fresh steps there can be.
+use Rattle.std.specs.Prelude.{◌≡◌, ◌≢◌, ◌<◌, ◌^◌, List, [], Contains, length}
 use Rattle.bt_cnf.specs.Formulas.{FormulaParts, IsFormula}
 use Rattle.bt_cnf.specs.declared.literal.Lit.{Lit}
-use Rattle.bt_log.specs.Logs.{Step}
+use Rattle.bt_log.specs.Logs.{Step, clause_of}
 use Rattle.bt_log.specs.Units.{opposite}
 use Rattle.bt_log.specs.Validity.{AreValid}
-use Rattle.bt_sat.specs.Propagation.{IsSettled}
-use Rattle.bt_sat.specs.Freshness.{IsOpen}
+use Rattle.bt_sat.specs.Propagation.{IsSettled, MeetsFalse}
+use Rattle.bt_sat.specs.Freshness.{IsFreshStep, IsOpen}
 use Rattle.bt_sat.specs.Solving.{AreFresh, AreNonempty}
 
 -- where propagation has come to its end, a clause whose literals but one are false, and whose last isn't true, doesn't
@@ -14,6 +14,10 @@ use Rattle.bt_sat.specs.Solving.{AreFresh, AreNonempty}
 abbrev pub SettledIsOpen : Type 0
 SettledIsOpen = (clauses : List (List Lit)) (falses lits : List Lit) (x : Lit) → IsSettled clauses falses → Contains lits x
     → ((l : Lit) → Contains lits l → l ≢ x → Contains falses l) → (Contains falses (opposite x) → ⊥) → IsOpen clauses lits x
+
+-- where propagation meets a false clause before anything is chosen, only the empty step is fresh
+abbrev pub OnlyEmptyAfterConflict : Type 0
+OnlyEmptyAfterConflict = (clauses : List (List Lit)) (step : Step) → MeetsFalse clauses [] → IsFreshStep clauses step → clause_of step ≡ []
 
 -- a log whose steps are each valid and fresh after the formula's clauses and the earlier steps, and of which none is
 -- empty, has fewer than 3 ^ v steps over v variables

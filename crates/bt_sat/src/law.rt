@@ -1,5 +1,5 @@
 //! Laws of propagation and of logs, as the contracts of functions that do nothing.
-ghost use Rattle.bt_sat.specs.Laws.{FreshStepsAreFew, SettledIsOpen};
+ghost use Rattle.bt_sat.specs.Laws.{FreshStepsAreFew, OnlyEmptyAfterConflict, SettledIsOpen};
 
 /// A clause is fresh where propagation has come to its end without a false clause, all its literals but
 /// one are false, and that one isn't true. So is the clause that a search learns, once it has gone back to
@@ -13,4 +13,10 @@ pub fn settled_is_open()
 /// never spent.
 pub fn fresh_steps_are_few()
     ensures { FreshStepsAreFew }
+{}
+
+/// Where propagation over clauses meets a false one before anything is chosen, only the empty step is fresh
+/// after them. So a formula that propagation alone refutes is spent only where no step may be logged.
+pub fn only_empty_after_conflict()
+    ensures { OnlyEmptyAfterConflict }
 {}

@@ -21,12 +21,14 @@ mod search;
 mod serving;
 mod side;
 mod solver;
+#[cfg(test)]
+mod tests;
 mod truth;
 mod turns;
 mod watched;
 mod watchers;
 
 pub use choosers::{Highest, Lowest, Recent};
-pub use law::{fresh_steps_are_few, settled_is_open};
+pub use law::{fresh_steps_are_few, only_empty_after_conflict, settled_is_open};
 pub use solver::{Added, Answer, EPOCH_STEPS, Solver};
 pub use std::alloc::AllocError as Memory;
