@@ -24,7 +24,8 @@ pub fn read_on<S: Source>(
 ) -> Result<bool, ReadAll>
     requires limit { limit < 2 ^ 62 }
     requires within { length bytes.old.items ≤ limit }
-    ensures { ReadsOn limit (passage S.left S.faults source.old source.new) bytes.old.items bytes.new.items result }
+    ensures { ReadsOn limit (passage S.left S.faults source.old source.new)
+        bytes.old.items bytes.new.items result }
 {
     let mut block = [0u8; BLOCK];
     let room = (limit + 1 - bytes.len()).min(BLOCK);
