@@ -29,7 +29,8 @@ fn write_at(
     requires ports { ArePorts net.now ports.now }
     requires place { place < families.places net.now family }
     requires marks { length net.now.edges ≤ formula.old.vars }
-    ensures { OnOk result (formula.new ≡ with_clauses formula.old (families.clauses_at net.now family place)) }
+    ensures { OnOk result (formula.new
+        ≡ with_clauses formula.old (families.clauses_at net.now family place)) }
 {
     let mut draft = Draft::new(alloc);
     add_at(alloc, net, ports, &mut draft, family, place)?;

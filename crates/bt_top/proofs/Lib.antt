@@ -12,3 +12,4 @@ pub mod OneRequest
 pub mod NoneCertified
 pub mod Grids
 pub mod LaidOut
+pub mod Fronts

@@ -7,6 +7,7 @@
 
 mod alone;
 mod answer;
+mod blocks;
 mod certificate;
 mod decision;
 mod design;

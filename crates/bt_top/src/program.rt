@@ -12,6 +12,7 @@ ghost use Rattle.bt_top.specs.inner.Lines.{IsLine};
 ghost use Rattle.bt_top.specs.inner.Telling.{IsAnswered, IsAnsweredTo, IsPrinted, IsToldUnlessMemory, IsLineTold};
 
 use crate::answer::Answer;
+use crate::blocks::certified_from;
 use crate::certificate::certified;
 use crate::decision::decided;
 use crate::flow_check::check;
@@ -82,6 +83,23 @@ fn answer_to<S: Source>(
 
 /// The answer of a command to the source.
 fn answer_of<S: Source>(
+    alloc: Global,
+    command: Command,
+    source: &mut S,
+    choosers: Vec<Box<dyn Chooser>>,
+) -> Result<Answer, ReadAll>
+    requires { HasGrid command }
+    ensures answer { IsAnswered command (passage S.left S.faults source.old source.new) result }
+    ensures unread { ReadsNothing command → source.new ≡ source.old }
+{
+    match command {
+        Command::Check(property) => certified_from(alloc, property, source),
+        _ => whole_answer(alloc, command, source, choosers),
+    }
+}
+
+/// The answer of a command to the source, which is read whole.
+fn whole_answer<S: Source>(
     alloc: Global,
     command: Command,
     source: &mut S,
