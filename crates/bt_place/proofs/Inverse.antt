@@ -186,7 +186,7 @@ module _ (z : Sizes) where
       ∷ map fact.HalfOn (cells_of rect)
       ∷ map fact.Begins (cells_of rect)
       ∷ by_cell (λ c. map (fact.Tunnel c) dirs)
-      ∷ by_cell (λ c. map (fact.Still c) dirs)
+      ∷ flat_map (λ c. map (fact.Still c) dirs) (reverse along_cells)
       ∷ flat_map (λ s. flat_map (λ c. map (fact.At s c) dirs) (reverse along_cells)) (reverse order)
       ∷ []
 
@@ -263,7 +263,7 @@ module _ (z : Sizes) where
       on = length_map fact.HalfOn (cells_of rect) ∙ length_cells;
       begins = length_map fact.Begins (cells_of rect) ∙ length_cells;
       tunnels = cell_length (λ c. map (fact.Tunnel c) dirs) 4 (λ c. refl);
-      stills = cell_length (λ c. map (fact.Still c) dirs) 4 (λ c. refl);
+      stills = length_flat (λ c. map (fact.Still c) dirs) (reverse along_cells) 4 (λ c. refl) ∙ ap (λ n. n * 4) (length-reverse along_cells ∙ length_along);
       places = length_flat (λ s. flat_map (λ c. map (fact.At s c) dirs) (reverse along_cells)) (reverse order) (spots z * 4)
           (λ s. length_flat (λ c. map (fact.At s c) dirs) (reverse along_cells) 4 (λ c. refl) ∙ ap (λ n. n * 4) (length-reverse along_cells ∙ length_along))
           ∙ ap (λ n. n * (spots z * 4)) (length-reverse order ∙ ranks.long);
@@ -366,9 +366,11 @@ module _ (z : Sizes) where
     }
     stands (fact.Still c dir) h = record {
       block = 14;
-      place = spot_of z c * 4 + dir_number dir;
+      place = (spots z - 1 - along z c) * 4 + dir_number dir;
       number = let l = lengths in omega (arith, l.kinds, l.names, l.labels, l.firsts, l.lasts, l.distances, l.leaving, l.entering, l.columns, l.rows, l.points, l.on, l.begins, l.tunnels);
-      there = in_cell (λ c. map (fact.Still c) dirs) 4 (dir_number dir) c (fact.Still c dir) (λ c. refl) h (found_map (fact.Still c) dirs (dir_number dir) dir (found_dir dir));
+      there = found_flat (λ c. map (fact.Still c) dirs) (reverse along_cells) 4 (spots z - 1 - along z c) (dir_number dir) c (fact.Still c dir) (λ c. refl)
+          (found_reverse along_cells (spots z) (along z c) c length_along (found_along c h))
+          (found_map (fact.Still c) dirs (dir_number dir) dir (found_dir dir));
     }
     stands (fact.At s c dir) h =
         let rank = slice_index z.ranks s in

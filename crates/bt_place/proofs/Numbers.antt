@@ -70,14 +70,14 @@ pub along_within : (z : Sizes) (c : Cell) → IsSpot z c → along z c < spots z
 along_within z c h = let lt = (found_along z c h).within in let long = length_along z in omega (arith, lt, long)
 
 -- the number of a splitter's place, as it is computed
-pub place_is : (z w : Sizes) → z ≡ w → (s : ℕ) (c : Cell) (n at rank : ℕ)
-    → n ≡ 0 + ((z.splitters - 1 - rank) * (z.width * z.height) + (z.width * z.height - 1 - at)) → at ≡ along w c → rank ≡ slice_index z.ranks s
+pub place_is : (z w : Sizes) → z ≡ w → (s : ℕ) (c : Cell) (n back rank : ℕ)
+    → n ≡ 0 + ((z.splitters - 1 - rank) * (z.width * z.height) + back) → back ≡ spots w - 1 - along w c → rank ≡ slice_index z.ranks s
     → n ≡ place_number w s c
-place_is z w same s c n at rank is along_is rank_is =
-    let at_is : at ≡ along z c = along_is ∙ ap (λ v. along v c) (sym same) in
-    is ∙ (let e : 0 + ((z.splitters - 1 - rank) * (z.width * z.height) + (z.width * z.height - 1 - at)) ≡ (z.splitters - 1 - rank) * spots z + (spots z - 1 - at) = omega arith in e)
-    ∙ ap (λ k. (z.splitters - 1 - k) * spots z + (spots z - 1 - at)) rank_is
-    ∙ ap (λ k. (z.splitters - 1 - slice_index z.ranks s) * spots z + (spots z - 1 - k)) at_is
+place_is z w same s c n back rank is back_is rank_is =
+    let back_here : back ≡ spots z - 1 - along z c = back_is ∙ ap (λ v. spots v - 1 - along v c) (sym same) in
+    is ∙ (let e : 0 + ((z.splitters - 1 - rank) * (z.width * z.height) + back) ≡ (z.splitters - 1 - rank) * spots z + back = omega arith in e)
+    ∙ ap (λ k. (z.splitters - 1 - k) * spots z + back) rank_is
+    ∙ ap (λ k. (z.splitters - 1 - slice_index z.ranks s) * spots z + k) back_here
     ∙ ap (λ v. place_number v s c) same
 
 -- ---- the numbers of a request

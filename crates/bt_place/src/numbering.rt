@@ -1,5 +1,5 @@
 //! The variables of facts.
-ghost use Rattle.std.specs.Prelude.{◌≡◌, ◌<◌, ◌+◌, ◌*◌, ◌^◌, IfOk};
+ghost use Rattle.std.specs.Prelude.{◌≡◌, ◌<◌, ◌+◌, ◌-◌, ◌*◌, ◌^◌, IfOk};
 ghost use Rattle.bt_model.specs.Requests.{IsRequest};
 ghost use Rattle.bt_place.specs.Numbering as numbering;
 ghost use Rattle.bt_place.specs.PlaceFormula.{sizes_of};
@@ -152,7 +152,15 @@ impl Numbers {
         }
     }
 
-    /// The number of a splitter's place on a cell, where that of the first splitter on the first cell comes last.
+    /// The number of a cell along the longer side, from the last cell on.
+    fn from_last(&self, cell: Cell) -> usize
+        requires { IsSpot self.now cell }
+        ensures { result ≡ numbering.spots self.now - 1 - numbering.along self.now cell }
+    {
+        self.extent.width * self.extent.height - 1 - self.along(cell)
+    }
+
+    /// The number of a splitter's place on a cell. That of the first splitter on the first cell comes last.
     fn place(&self, splitter: usize, cell: Cell) -> usize
         requires splitter { splitter < self.now.splitters }
         requires cell { IsSpot self.now cell }
@@ -160,7 +168,7 @@ impl Numbers {
     {
         let spots = self.extent.width * self.extent.height;
         let behind = self.extent.splitters - 1 - self.ranks[splitter];
-        numbered(0, behind, spots, spots - 1 - self.along(cell))
+        numbered(0, behind, spots, self.from_last(cell))
     }
 
     /// The number of a fact of a cell and something of which there are so many.
@@ -208,7 +216,9 @@ impl Numbers {
             Fact::HalfOn(cell) => self.on_cell(starts.halves, cell, 1, 0),
             Fact::Begins(cell) => self.on_cell(starts.begins, cell, 1, 0),
             Fact::Tunnel(cell, dir) => self.on_cell(starts.tunnels, cell, 4, dir_number(dir)),
-            Fact::Still(cell, dir) => self.on_cell(starts.stills, cell, 4, dir_number(dir)),
+            Fact::Still(cell, dir) => {
+                numbered(starts.stills, self.from_last(cell), 4, dir_number(dir))
+            }
             Fact::At(s, cell, dir) => {
                 numbered(starts.places, self.place(s, cell), 4, dir_number(dir))
             }

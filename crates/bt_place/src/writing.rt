@@ -77,7 +77,8 @@ fn push_all_given(
 ) -> Result<(), AllocError>
     requires within { AllByRecursion (λ c. IsWithin numbers.now c.fact) claims.now }
     requires vars { HasVariables numbers.now formula.now.vars }
-    ensures { OnOk result (lits.new.items ≡ lits.old.items ++ flat_map (given_literal numbers.now) claims.now) }
+    ensures { OnOk result (lits.new.items ≡ lits.old.items
+        ++ flat_map (given_literal numbers.now) claims.now) }
 {
     for claim in claims {
         push_given(lits, formula, numbers, *claim)?;

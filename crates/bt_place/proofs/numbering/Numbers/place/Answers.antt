@@ -2,7 +2,7 @@ use Rattle.std.proofs.Common.{◌≡◌, ◌<◌, ◌≤◌, ◌+◌, ◌-◌, �
 use Rattle.std.specs.Prelude.{slice_index}
 use Rattle.bt_place.specs.Numbering.{Sizes, spots, along}
 use Rattle.bt_place.specs.inner.Blocks.{sizes_with, place_number}
-use Rattle.bt_place.proofs.Numbers.{ranks_long, rank_within, rank_read, along_within, place_is}
+use Rattle.bt_place.proofs.Numbers.{ranks_long, rank_within, rank_read, place_is}
 use Rattle.bt_place.proofs.numbering.Numbers.place.Goals as goal
 
 pub index-requires : goal.index-requires
@@ -20,16 +20,9 @@ overflow_sub-behind-2 c =
     let is = rank_read z c.self.inside.starts c.self.invariant c.args.splitter c.index.result.now lt c.index.ensures in
     omega (arith, rank, is)
 
-pub overflow_sub-spots-2 : goal.overflow_sub-spots-2
-overflow_sub-spots-2 c =
-    let within = along_within c.args.self.now c.args.cell c.requires.cell in
-    let same : spots (sizes_with c.self.inside.extent c.self.inside.ranks.items) ≡ spots c.args.self.now = ap spots c.self.view_is in
-    let is = c.along.ensures in
-    omega (arith, within, same, is)
-
 pub returns : goal.returns
 returns c =
     let z = sizes_with c.self.inside.extent c.self.inside.ranks.items in
     let lt : c.args.splitter < z.splitters = subst (λ (w : Sizes). c.args.splitter < w.splitters) (sym c.self.view_is) c.requires.splitter in
-    place_is z c.args.self.now c.self.view_is c.args.splitter c.args.cell c.numbered.result c.along.result c.index.result.now c.numbered.ensures c.along.ensures
+    place_is z c.args.self.now c.self.view_is c.args.splitter c.args.cell c.numbered.result c.from_last.result c.index.result.now c.numbered.ensures c.from_last.ensures
     (rank_read z c.self.inside.starts c.self.invariant c.args.splitter c.index.result.now lt c.index.ensures)
