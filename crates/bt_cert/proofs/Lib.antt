@@ -8,6 +8,7 @@ pub mod ItemLists
 pub mod Numbers
 pub mod OneAnswer
 pub mod OneJudgement
+pub mod Narrow
 pub mod Printed
 pub mod Stages
 pub mod Stepped

@@ -109,7 +109,7 @@ module _ (z : Sizes) where
   same_spot : (c : Cell) → IsSpot z c → cell_at (unsigned_abs c.x) (unsigned_abs c.y) ≡ c
   same_spot c h = ap (λ x. record { x = x; y = pos (unsigned_abs c.y) }) (natural c.x h.0) ∙ ap (λ y. record { x = c.x; y = y }) (natural c.y h.2)
 
-  found_cell : (c : Cell) → IsSpot z c → Found (cells_of rect) (spot_of z c) c
+  pub found_cell : (c : Cell) → IsSpot z c → Found (cells_of rect) (spot_of z c) c
   found_cell c h =
       let x = unsigned_abs c.x in let y = unsigned_abs c.y in
       subst (Found (cells_of rect) (spot_of z c)) (same_spot c h)
@@ -122,7 +122,7 @@ module _ (z : Sizes) where
   abbrev pub along_cells : List Cell
   along_cells = cond (ltb z.height z.width) (cells_of rect) (flat_map (λ x. map (cell_at x) (range_with_len 0 z.height)) (range_with_len 0 z.width))
 
-  found_along : (c : Cell) → IsSpot z c → Found along_cells (along z c) c
+  pub found_along : (c : Cell) → IsSpot z c → Found along_cells (along z c) c
   found_along c h = by (ltb z.height z.width)
     where
       x : ℕ
@@ -141,13 +141,13 @@ module _ (z : Sizes) where
           (found_map (cell_at (unsigned_abs c.x)) (range_with_len 0 z.height) (unsigned_abs c.y) (unsigned_abs c.y)
           (subst (Found (range_with_len 0 z.height) (unsigned_abs c.y)) (let e : 0 + unsigned_abs c.y ≡ unsigned_abs c.y = omega arith in e) (found_range 0 z.height (unsigned_abs c.y) (below c.y z.height h.2 h.3)))))
 
-  length_cells : length (cells_of rect) ≡ spots z
+  pub length_cells : length (cells_of rect) ≡ spots z
   length_cells =
       let rows = length_flat (row_cells rect) (range_with_len 0 z.height) z.width (λ w. length_map (λ v. cell_at v w) (range_with_len 0 z.width) ∙ length_range 0 z.width) in
       let high = length_range 0 z.height in
       rows ∙ ap (λ n. n * z.width) high ∙ (let e : z.height * z.width ≡ z.width * z.height = omega arith in e)
 
-  length_along : length along_cells ≡ spots z
+  pub length_along : length along_cells ≡ spots z
   length_along = by (ltb z.height z.width)
     where
       columns : length (flat_map (λ x. map (cell_at x) (range_with_len 0 z.height)) (range_with_len 0 z.width)) ≡ spots z
@@ -186,7 +186,7 @@ module _ (z : Sizes) where
       ∷ map fact.HalfOn (cells_of rect)
       ∷ map fact.Begins (cells_of rect)
       ∷ by_cell (λ c. map (fact.Tunnel c) dirs)
-      ∷ by_cell (λ c. map (fact.Still c) dirs)
+      ∷ flat_map (λ c. map (fact.Still c) dirs) (reverse along_cells)
       ∷ flat_map (λ s. flat_map (λ c. map (fact.At s c) dirs) (reverse along_cells)) (reverse order)
       ∷ []
 
@@ -263,7 +263,7 @@ module _ (z : Sizes) where
       on = length_map fact.HalfOn (cells_of rect) ∙ length_cells;
       begins = length_map fact.Begins (cells_of rect) ∙ length_cells;
       tunnels = cell_length (λ c. map (fact.Tunnel c) dirs) 4 (λ c. refl);
-      stills = cell_length (λ c. map (fact.Still c) dirs) 4 (λ c. refl);
+      stills = length_flat (λ c. map (fact.Still c) dirs) (reverse along_cells) 4 (λ c. refl) ∙ ap (λ n. n * 4) (length-reverse along_cells ∙ length_along);
       places = length_flat (λ s. flat_map (λ c. map (fact.At s c) dirs) (reverse along_cells)) (reverse order) (spots z * 4)
           (λ s. length_flat (λ c. map (fact.At s c) dirs) (reverse along_cells) 4 (λ c. refl) ∙ ap (λ n. n * 4) (length-reverse along_cells ∙ length_along))
           ∙ ap (λ n. n * (spots z * 4)) (length-reverse order ∙ ranks.long);
@@ -366,9 +366,11 @@ module _ (z : Sizes) where
     }
     stands (fact.Still c dir) h = record {
       block = 14;
-      place = spot_of z c * 4 + dir_number dir;
+      place = (spots z - 1 - along z c) * 4 + dir_number dir;
       number = let l = lengths in omega (arith, l.kinds, l.names, l.labels, l.firsts, l.lasts, l.distances, l.leaving, l.entering, l.columns, l.rows, l.points, l.on, l.begins, l.tunnels);
-      there = in_cell (λ c. map (fact.Still c) dirs) 4 (dir_number dir) c (fact.Still c dir) (λ c. refl) h (found_map (fact.Still c) dirs (dir_number dir) dir (found_dir dir));
+      there = found_flat (λ c. map (fact.Still c) dirs) (reverse along_cells) 4 (spots z - 1 - along z c) (dir_number dir) c (fact.Still c dir) (λ c. refl)
+          (found_reverse along_cells (spots z) (along z c) c length_along (found_along c h))
+          (found_map (fact.Still c) dirs (dir_number dir) dir (found_dir dir));
     }
     stands (fact.At s c dir) h =
         let rank = slice_index z.ranks s in

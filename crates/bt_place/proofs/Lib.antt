@@ -18,6 +18,10 @@ pub mod PinningKept
 pub mod Counting
 pub mod Inverse
 pub mod Ranking
+pub mod Ordering
+pub mod Numbers
+pub mod Written
+pub mod Encoded
 pub mod RulesWithin
 pub mod Laying
 pub mod DraftLemmas

@@ -257,13 +257,13 @@ module _ (r : LayoutRequest) (is : IsRequest r) where
   border_inside : (c : Cell) → In (border_of r.rect) c → I c
   border_inside c h = from_cells r.rect c (from_filter (is_border r.rect) (cells_of r.rect) c h).0
 
-  inputs_within : (i : ℕ) → i < r.net.inputs → R (input_rules r.rect i)
+  pub inputs_within : (i : ℕ) → i < r.net.inputs → R (input_rules r.rect i)
   inputs_within i lt = (
     record { given = tt; one_of = each_map (IsWithin z) (λ c. fact.First c i) (border_of r.rect) (λ c at. (border_inside c at, lt)) },
     at_most_within z (map (λ c. fact.First c i) (border_of r.rect)) (each_map (IsWithin z) (λ c. fact.First c i) (border_of r.rect) (λ c at. (border_inside c at, lt))),
   )
 
-  outputs_within : (o : ℕ) → o < r.net.outputs → R (output_rules r.rect o)
+  pub outputs_within : (o : ℕ) → o < r.net.outputs → R (output_rules r.rect o)
   outputs_within o lt = (
     record { given = tt; one_of = each_map (IsWithin z) (λ c. fact.Last c o) (border_of r.rect) (λ c at. (border_inside c at, lt)) },
     at_most_within z (map (λ c. fact.Last c o) (border_of r.rect)) (each_map (IsWithin z) (λ c. fact.Last c o) (border_of r.rect) (λ c at. (border_inside c at, lt))),
@@ -473,7 +473,7 @@ module _ (r : LayoutRequest) (is : IsRequest r) where
 
   -- ---- all rules
 
-  cell_within : (c : Cell) → I c → R (cell_rules r c)
+  pub cell_within : (c : Cell) → I c → R (cell_rules r c)
   cell_within c h =
       let n = length r.net.edges in
       let a = content_rules c in let b = half_rules c in let m = mate_rules r.rect c in let s = standing_rules r.rect r.net.splitters c in
@@ -486,6 +486,18 @@ module _ (r : LayoutRequest) (is : IsRequest r) where
       (each_four (HasWithin z) a b m s (contents_within c h) (halves_within c h) (mates_within c h) (standing_within c h))
       (handing_within c h)) (ends_within c h)) (underground_within c h)) (labelling_within c h)
 
+  pub splitter_within : (s : ℕ) → s < r.net.splitters → R (splitter_rules r s)
+  splitter_within s lt = each_both (HasWithin z) (place_rules r.rect s) (port_rules r.rect r.net.edges s) (places_within s lt) (ports_within s lt)
+
+  pub pins_within : R (flat_map pin_rules r.pins)
+  pins_within = each_flat (HasWithin z) pin_rules r.pins (λ pin h. (
+    record { given = tt; one_of = (end_within (pinned pin) pin.end (all_of (λ q. I (pinned q)) r.pins pin is.pins_inside h) (all_of (λ q. HasEnd r.net q.end) r.pins pin is.ends h), tt) },
+    turned_within (pinned pin) pin.end pin.dir (all_of (λ q. I (pinned q)) r.pins pin is.pins_inside h),
+  ))
+
+  pub blocks_within : R (map block_rule r.blocks)
+  blocks_within = each_map (HasWithin z) block_rule r.blocks (λ block h. record { given = tt; one_of = (all_of (λ q. I (blocked q)) r.blocks block is.blocks_inside h, tt) })
+
   pub rules_within : R (rules_of r)
   rules_within =
       let a = flat_map (cell_rules r) (cells_of r.rect) in
@@ -497,12 +509,8 @@ module _ (r : LayoutRequest) (is : IsRequest r) where
       (each_both (HasWithin z) (a ++ b ++ i ++ o) p
       (each_four (HasWithin z) a b i o
       (each_flat (HasWithin z) (cell_rules r) (cells_of r.rect) (λ c h. cell_within c (from_cells r.rect c h)))
-      (each_flat (HasWithin z) (splitter_rules r) (range_with_len 0 r.net.splitters) (λ s h. let lt = below r.net.splitters s h in
-      each_both (HasWithin z) (place_rules r.rect s) (port_rules r.rect r.net.edges s) (places_within s lt) (ports_within s lt)))
+      (each_flat (HasWithin z) (splitter_rules r) (range_with_len 0 r.net.splitters) (λ s h. splitter_within s (below r.net.splitters s h)))
       (each_flat (HasWithin z) (input_rules r.rect) (range_with_len 0 r.net.inputs) (λ k h. inputs_within k (below r.net.inputs k h)))
       (each_flat (HasWithin z) (output_rules r.rect) (range_with_len 0 r.net.outputs) (λ k h. outputs_within k (below r.net.outputs k h))))
-      (each_flat (HasWithin z) pin_rules r.pins (λ pin h. (
-        record { given = tt; one_of = (end_within (pinned pin) pin.end (all_of (λ q. I (pinned q)) r.pins pin is.pins_inside h) (all_of (λ q. HasEnd r.net q.end) r.pins pin is.ends h), tt) },
-        turned_within (pinned pin) pin.end pin.dir (all_of (λ q. I (pinned q)) r.pins pin is.pins_inside h),
-      ))))
-      (each_map (HasWithin z) block_rule r.blocks (λ block h. record { given = tt; one_of = (all_of (λ q. I (blocked q)) r.blocks block is.blocks_inside h, tt) }))
+      pins_within)
+      blocks_within

@@ -148,7 +148,8 @@ places_from z = stills_from z + spots z * 4
 abbrev pub variables : Sizes → ℕ
 variables z = places_from z + z.splitters * spots z * 4
 
--- the variable of a fact; the places of the first splitter come last, and of these that on the first cell
+-- the variable of a fact. The places of the first splitter come last. They and what cells hand on are numbered from the
+-- last cell along the longer side to the first one, so that a search settles cells where it has just placed splitters
 abbrev pub variable_of : Sizes → Fact → ℕ
 variable_of z (fact.Kind c content) = spot_of z c * 21 + content_number content
 variable_of z (fact.Name c s) = names_from z + (spot_of z c * z.splitters + s)
@@ -164,6 +165,6 @@ variable_of z (fact.Points s dir) = points_from z + (s * 4 + dir_number dir)
 variable_of z (fact.HalfOn c) = halves_from z + spot_of z c
 variable_of z (fact.Begins c) = begins_from z + spot_of z c
 variable_of z (fact.Tunnel c dir) = tunnels_from z + (spot_of z c * 4 + dir_number dir)
-variable_of z (fact.Still c dir) = stills_from z + (spot_of z c * 4 + dir_number dir)
+variable_of z (fact.Still c dir) = stills_from z + ((spots z - 1 - along z c) * 4 + dir_number dir)
 variable_of z (fact.At s c dir) = places_from z
     + (((z.splitters - 1 - slice_index z.ranks s) * spots z + (spots z - 1 - along z c)) * 4 + dir_number dir)

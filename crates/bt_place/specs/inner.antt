@@ -4,3 +4,6 @@ pub mod Pieces
 pub mod Parts
 pub mod Sided
 pub mod Standing
+pub mod Blocks
+pub mod Writing
+pub mod Order

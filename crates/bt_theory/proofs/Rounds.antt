@@ -38,7 +38,7 @@ pub all_front : {X : Type 0} (P : X → Type 0) (xs ys : List X) → All P (xs +
 all_front P xs ys h = λ k d l. All-contains P (xs ++ ys) (get_or xs k d) h (Contains-append_left xs ys (get_or xs k d) (Contains-get_or xs k d l))
 
 -- learnt steps have no sum
-learnt_fit : (f : FormulaParts) (step : Step) → IsLearnt step → Fits f step
+pub learnt_fit : (f : FormulaParts) (step : Step) → IsLearnt step → Fits f step
 learnt_fit f (Lemma lits weights) h = absurd h
 learnt_fit f (Learnt lits hints) h = tt
 

@@ -26,11 +26,10 @@ pub to_words : (words : List (List ℕ)) (command : Command) (source : Passage) 
 to_words words command source (Ok a) w h = to_bytes command h.0 w h.1 h.2
 to_words words command source (Err fault) w h = (command, w, h)
 
--- a text that is the answer's is told, unless memory ran out
-pub line_is_told : (a : Answer) (text : List ℕ) (sink : Passage) (status : ℕ) → text ≡ text_of a → a ≢ answer.Usage → a ≢ answer.TooLong
-    → IsLineTold (status_of a) text sink status → IsToldUnlessMemory a sink status
-line_is_told a text sink status e u v (inl h) = inl (h.0, subst (λ t. WritesText sink t h.0) e h.1, h.2)
-line_is_told a text sink status e u v (inr h) = inr (h.0, h.1, u, v)
+-- a line that is told is told unless memory ran out
+pub line_is_told : (a : Answer) (sink : Passage) (status : ℕ) → a ≢ answer.Usage → a ≢ answer.TooLong → IsLineTold a sink status → IsToldUnlessMemory a sink status
+line_is_told a sink status u v (inl h) = inl h
+line_is_told a sink status u v (inr h) = inr (h.0, h.1, u, v)
 
 -- what comes of a sink that was left as it was comes of it from the start
 pub after_untouched : {K : Type 0} (held : K → Option (List ℕ)) (faults : K → ℕ) (old mid now : K) → IsUntouched (passage held faults old mid)

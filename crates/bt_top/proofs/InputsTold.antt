@@ -6,7 +6,7 @@ use Rattle.bt_io.specs.declared.fault.ReadAll.TheVariants.{TooLong, Memory}
 use Rattle.bt_io.proofs.Told.{all_told, takes_told}
 use Rattle.bt_theory.specs.declared.outcome.Limits.{Limits}
 use Rattle.bt_words.specs.declared.command.Command.{Command}
-use Rattle.bt_words.specs.declared.command.Command.TheVariants.{FlowCheck, Recover, Check, Decide, Make}
+use Rattle.bt_words.specs.declared.command.Command.TheVariants.{FlowCheck, Recover, Check, Decide, Make, Layout, CheckLayout}
 use Rattle.bt_top.specs.Inputs.{ReadsInput, IsInput, input_limit}
 
 read_before_in : (limit : ℕ) (source : Passage) (bytes : List ℕ) → ReadsAll limit source (Ok bytes) → ReadsAll limit source (Err Memory)
@@ -19,6 +19,8 @@ read_before Recover source bytes h = read_before_in (input_limit Recover) source
 read_before (Check p) source bytes h = read_before_in (input_limit (Check p)) source bytes h
 read_before (Decide p limits) source bytes h = read_before_in (input_limit (Decide p limits)) source bytes h
 read_before (Make family order limits) source bytes h = h.0
+read_before (Layout rect tier learnt) source bytes h = read_before_in (input_limit (Layout rect tier learnt)) source bytes h
+read_before (CheckLayout rect tier) source bytes h = read_before_in (input_limit (CheckLayout rect tier)) source bytes h
 
 told_in : (limit : ℕ) (source : Passage) (bytes all : List ℕ) → source.before ≡ Some bytes → ReadsAll limit source (Ok all) → all ≡ bytes
 told_in limit source bytes all is r = all_told source bytes all is r.read.0
@@ -30,6 +32,8 @@ input_told Recover source bytes all is r = told_in (input_limit Recover) source 
 input_told (Check p) source bytes all is r = told_in (input_limit (Check p)) source bytes all is.0 r
 input_told (Decide p limits) source bytes all is r = told_in (input_limit (Decide p limits)) source bytes all is.0 r
 input_told (Make family order limits) source bytes all is r = r.1 ∙ sym is
+input_told (Layout rect tier learnt) source bytes all is r = told_in (input_limit (Layout rect tier learnt)) source bytes all is.0 r
+input_told (CheckLayout rect tier) source bytes all is r = told_in (input_limit (CheckLayout rect tier)) source bytes all is.0 r
 
 few_in : (limit : ℕ) (source : Passage) (bytes : List ℕ) → source.before ≡ Some bytes → length bytes ≤ limit → ReadsAll limit source (Err TooLong) → ⊥
 few_in limit source bytes is few r =
@@ -42,6 +46,8 @@ not_too_long Recover source bytes is r = few_in (input_limit Recover) source byt
 not_too_long (Check p) source bytes is r = few_in (input_limit (Check p)) source bytes is.0 is.1 r
 not_too_long (Decide p limits) source bytes is r = few_in (input_limit (Decide p limits)) source bytes is.0 is.1 r
 not_too_long (Make family order limits) source bytes is r = r
+not_too_long (Layout rect tier learnt) source bytes is r = few_in (input_limit (Layout rect tier learnt)) source bytes is.0 is.1 r
+not_too_long (CheckLayout rect tier) source bytes is r = few_in (input_limit (CheckLayout rect tier)) source bytes is.0 is.1 r
 
 within_in : (limit : ℕ) (source : Passage) (bytes : List ℕ) → ReadsAll limit source (Ok bytes) → length bytes ≤ limit
 within_in limit source bytes r = r.read.1
@@ -53,3 +59,5 @@ within_limit Recover source bytes r = within_in (input_limit Recover) source byt
 within_limit (Check p) source bytes r = within_in (input_limit (Check p)) source bytes r
 within_limit (Decide p limits) source bytes r = within_in (input_limit (Decide p limits)) source bytes r
 within_limit (Make family order limits) source bytes r = subst (λ xs. length xs ≤ 0) (sym r.1) (omega arith)
+within_limit (Layout rect tier learnt) source bytes r = within_in (input_limit (Layout rect tier learnt)) source bytes r
+within_limit (CheckLayout rect tier) source bytes r = within_in (input_limit (CheckLayout rect tier)) source bytes r

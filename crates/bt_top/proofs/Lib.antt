@@ -7,3 +7,8 @@ pub mod Ended
 pub mod Certified
 pub mod LongerDesigns
 pub mod Rechecked
+pub mod StandingAlone
+pub mod OneRequest
+pub mod NoneCertified
+pub mod Grids
+pub mod LaidOut

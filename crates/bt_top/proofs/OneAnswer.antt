@@ -6,6 +6,11 @@ use Rattle.bt_net.specs.Network.{Network, IsNetwork}
 use Rattle.bt_fenc.specs.FlowFormula.{flow_formula}
 use Rattle.bt_fenc.proofs.Formulas.{is_formula}
 use Rattle.bt_cert.specs.Certificates.{IsCertRead}
+use Rattle.bt_parts.specs.declared.part.Rect.{Rect}
+use Rattle.bt_parts.specs.declared.part.Tier.{Tier}
+use Rattle.bt_model.specs.Requests.{LayoutRequest, IsRequest}
+use Rattle.bt_place.specs.PlaceFormula.{place_formula}
+use Rattle.bt_layout.proofs.Formulas.{place_is_formula}
 use Rattle.bt_cert.proofs.OneAnswer.{one_answer}
 use Rattle.bt_flow.specs.declared.property.Property.{Property}
 use Rattle.bt_flow.specs.States.{Fractions}
@@ -15,20 +20,23 @@ use Rattle.bt_flow.proofs.StateTexts.{one_state_read}
 use Rattle.bt_top.specs.declared.answer.Answer.{Answer}
 use Rattle.bt_top.specs.declared.answer.Answer.TheVariants as answer
 use Rattle.bt_words.specs.declared.command.Command.{Command}
-use Rattle.bt_words.specs.declared.command.Command.TheVariants.{FlowCheck, Recover, Check, Decide, Make}
+use Rattle.bt_words.specs.declared.command.Command.TheVariants.{FlowCheck, Recover, Check, Decide, Make, Layout, CheckLayout}
 use Rattle.bt_top.specs.declared.fault.DesignFault.TheVariants as design
 use Rattle.bt_top.specs.declared.refusal.Refusal.{Refusal}
 use Rattle.bt_top.specs.Designs.{IsDesign}
 use Rattle.bt_top.specs.Certificates.{cert_told, SaysYes, IsYesChecked, IsTextChecked, IsCertificateChecked, IsCertified}
 use Rattle.bt_top.specs.Alone.{IsRefusedAt, IsEnded, IsLoneNet}
 use Rattle.bt_top.specs.Answering.{IsRightTo, HasOneRight}
+use Rattle.bt_top.specs.NoneCertificates.{IsNoneChecked, IsNoneTextChecked, IsNoneCertificateChecked, IsLayoutChecked}
 use Rattle.bt_top.specs.Recovering.{IsRecoveredFrom}
+use Rattle.bt_top.specs.Requested.{IsFrontRequest}
 use Rattle.bt_top.specs.Replies.{design_told}
 use Rattle.bt_top.specs.States.{verdict, state_told, IsJudged, IsStateJudged, IsStateChecked, IsChecked}
 use Rattle.bt_top.specs.Steps.{InTurn}
 use Rattle.bt_top.proofs.Blanks.{one_rest}
 use Rattle.bt_top.proofs.InTurns.{one_in_turn, one_in_turn_of}
 use Rattle.bt_top.proofs.OneDesign.{one_design, design_network}
+use Rattle.bt_top.proofs.OneRequest.{one_front_request, front_request}
 
 -- ---- flow-check
 
@@ -56,11 +64,11 @@ one_refused_at bytes at r s (inl h) (inr k) = absurd (k.0 h.0)
 one_refused_at bytes at r s (inr h) (inl k) = absurd (h.0 k.0)
 one_refused_at bytes at r s (inr h) (inr k) = h.1 ∙ sym k.1
 
-one_ended : (bytes : List ℕ) (n : Network) (text : List ℕ) → HasOneAnswer (IsEnded bytes n text)
-one_ended bytes n text a b (inl h) (inl k) = h.1 ∙ sym k.1
-one_ended bytes n text a b (inl h) (inr k) = absurd (omega (arith, ap length h.0, k.0))
-one_ended bytes n text a b (inr h) (inl k) = absurd (omega (arith, ap length k.0, h.0))
-one_ended bytes n text a b (inr h) (inr k) =
+one_ended : {X : Type 0} (bytes : List ℕ) (found : X) (text : List ℕ) → HasOneAnswer (IsEnded bytes found text)
+one_ended bytes found text a b (inl h) (inl k) = h.1 ∙ sym k.1
+one_ended bytes found text a b (inl h) (inr k) = absurd (omega (arith, ap length h.0, k.0))
+one_ended bytes found text a b (inr h) (inl k) = absurd (omega (arith, ap length k.0, h.0))
+one_ended bytes found text a b (inr h) (inr k) =
     h.3 ∙ ap (λ r. Err (design.Refused r)) (one_refused_at bytes _ h.1 k.1 h.2 k.2) ∙ sym k.3
 
 one_lone_net : (bytes : List ℕ) → HasOneAnswer (IsLoneNet bytes)
@@ -93,6 +101,28 @@ one_certified p bytes =
     one_in_turn_of (IsDesign bytes) design_told _ (one_design bytes)
     (λ found is. one_certificate found.0 p (design_network bytes found is) (drop found.1 bytes))
 
+-- ---- check-layout
+
+one_none : (r : LayoutRequest) → IsRequest r → (lines : List ℕ) → HasOneAnswer (IsNoneChecked r lines)
+one_none r is lines =
+    one_in_turn (IsCertRead (place_formula r) lines) cert_told _ (one_answer (place_formula r) (place_is_formula r is) lines) (λ done a b h k. h.1 ∙ sym k.1)
+
+one_none_text : (r : LayoutRequest) → IsRequest r → (text : List ℕ) → HasOneAnswer (IsNoneTextChecked r text)
+one_none_text r is text a b (inl h) (inl k) =
+    one_none r is k.0 a b (subst (λ lines. IsNoneChecked r lines a) (IsFirstLine-unique text _ _ h.0 k.0 h.1 k.1).1 h.2) k.2
+one_none_text r is text a b (inl h) (inr k) = absurd (k.0 h.0 h.1)
+one_none_text r is text a b (inr h) (inl k) = absurd (h.0 k.0 k.1)
+one_none_text r is text a b (inr h) (inr k) = h.1 ∙ sym k.1
+
+one_none_certificate : (r : LayoutRequest) → IsRequest r → (rest : List ℕ) → HasOneAnswer (IsNoneCertificateChecked r rest)
+one_none_certificate r is rest a b h k =
+    one_none_text r is k.0 a b (subst (λ text. IsNoneTextChecked r text a) (one_rest rest h.0 k.0 h.1 k.1) h.2) k.2
+
+one_layout_checked : (rect : Rect) (tier : Tier) (bytes : List ℕ) → HasOneAnswer (IsLayoutChecked rect tier bytes)
+one_layout_checked rect tier bytes =
+    one_in_turn_of (IsFrontRequest rect tier bytes) design_told _ (one_front_request rect tier bytes)
+    (λ found is. one_none_certificate found.0 (front_request rect tier bytes found is) (drop found.1 bytes))
+
 -- ---- all
 
 -- two right answers of a command that has one to the same bytes are equal
@@ -102,3 +132,5 @@ one_right_to Recover bytes once = one_recovered bytes
 one_right_to (Check p) bytes once = one_certified p bytes
 one_right_to (Decide p limits) bytes once = absurd once
 one_right_to (Make family order limits) bytes once = absurd once
+one_right_to (Layout rect tier learnt) bytes once = absurd once
+one_right_to (CheckLayout rect tier) bytes once = one_layout_checked rect tier bytes

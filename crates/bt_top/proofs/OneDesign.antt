@@ -29,7 +29,8 @@ one_layout_net parts = one_in_turn (IsPlaced parts) _ _ (one_placed parts) one_p
 one_blueprint_net : (value : Json) → HasOneAnswer (IsBlueprintNet value)
 one_blueprint_net value = one_in_turn (IsPartsOf value) _ _ (one_parts value) one_layout_net
 
-one_json_design : (bytes : List ℕ) → HasOneAnswer (IsJsonDesign bytes)
+-- two right answers to JSON text are equal
+pub one_json_design : (bytes : List ℕ) → HasOneAnswer (IsJsonDesign bytes)
 one_json_design bytes = one_in_turn (IsRead bytes) _ _ (one_read bytes)
     (λ read a b h k. h.2 ∙ ap (seen (λ n. (n, read.1))) (one_blueprint_net read.0 h.0 k.0 h.1 k.1) ∙ sym k.2)
 

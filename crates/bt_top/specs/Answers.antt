@@ -9,11 +9,12 @@ use Rattle.bt_flow.specs.StateText.{printed_state}
 use Rattle.bt_log.specs.Logs.{Step}
 use Rattle.bt_log.specs.LogText.{log_text}
 use Rattle.bt_trail.specs.TrailText.{pivots_text, wide_text}
+use Rattle.bt_write.specs.Written.{blueprint_text}
 use Rattle.bt_words.specs.declared.command.Family.{Family}
 use Rattle.bt_words.specs.declared.command.Family.TheVariants.{Butterfly, Chain}
 use Rattle.bt_top.specs.declared.making.Made as making
 use Rattle.bt_top.specs.declared.answer.Answer.{Answer}
-use Rattle.bt_top.specs.declared.answer.Answer.TheVariants.{Breaks, Yes, No, Recovered, Proved, Broken, Spent, Pivots, Wide, Made, Usage, Refused, WideState, CertLine, BadStep, NoVerdict, CertWide, NotBreaking, TooLong}
+use Rattle.bt_top.specs.declared.answer.Answer.TheVariants.{Breaks, Yes, No, Recovered, Proved, Broken, Spent, Pivots, Wide, Made, LaidOut, Nowhere, NoLayout, Usage, Refused, WideState, CertLine, BadStep, NoVerdict, CertWide, NotBreaking, TooLong}
 use Rattle.bt_top.specs.Refusals.{refusal_text}
 
 -- the status of a network that was made: 0 where it is balanced, and 1 where it isn't
@@ -32,6 +33,9 @@ status_of (Spent log) = 4
 status_of (Pivots trail) = 10
 status_of (Wide wide) = 5
 status_of (Made made) = made_status made
+status_of (LaidOut parts) = 0
+status_of (Nowhere log) = 1
+status_of NoLayout = 1
 status_of Usage = 2
 status_of (Refused r) = 3
 status_of (WideState t a) = 5
@@ -73,6 +77,14 @@ proved_text p steps = line (codes "yes " ++ property_name p) ++ log_text steps
 abbrev pub spent_text : List Step → List ℕ
 spent_text steps = line (codes "spent " ++ decimal (length steps)) ++ log_text steps
 
+-- the word of a certificate that no layout lays a request
+abbrev pub none_word : List ℕ
+none_word = codes "none"
+
+-- the none certificate: `none`, and the steps of the log
+abbrev pub nowhere_text : List Step → List ℕ
+nowhere_text steps = line none_word ++ log_text steps
+
 -- the text of an answer
 abbrev pub text_of : Answer → List ℕ
 text_of (Breaks p) = line (codes "breaks " ++ property_name p)
@@ -85,6 +97,9 @@ text_of (Spent log) = spent_text log.steps
 text_of (Pivots trail) = pivots_text trail
 text_of (Wide wide) = wide_text wide
 text_of (Made made) = made_text made
+text_of (LaidOut parts) = blueprint_text parts.items
+text_of (Nowhere log) = nowhere_text log.steps
+text_of NoLayout = line none_word
 text_of Usage = line (codes "usage")
 text_of (Refused r) = line (codes "refused " ++ refusal_text r)
 text_of (WideState t a) = line (codes "wide state " ++ test_name t ++ codes " " ++ decimal a)

@@ -10,6 +10,9 @@ pub mod Recovering
 pub mod Certificates
 pub mod Deciding
 pub mod Making
+pub mod Requested
+pub mod LayingOut
+pub mod NoneCertificates
 pub mod Answering
 pub mod Endings
 pub mod Longer

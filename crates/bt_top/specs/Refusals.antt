@@ -12,10 +12,12 @@ use Rattle.bt_recover.specs.declared.fault.RecoverFault.{RecoverFault}
 use Rattle.bt_recover.specs.declared.fault.RecoverFault.TheVariants as layout
 use Rattle.bt_net.specs.declared.fault.NetFault.{NetFault}
 use Rattle.bt_net.specs.declared.fault.NetFault.TheVariants as net
+use Rattle.bt_model.specs.declared.fault.RequestFault.{RequestFault}
+use Rattle.bt_model.specs.declared.fault.RequestFault.TheVariants as request
 use Rattle.bt_top.specs.declared.fault.DesignFault.{DesignFault}
 use Rattle.bt_top.specs.declared.fault.DesignFault.TheVariants as fault
 use Rattle.bt_top.specs.declared.refusal.Refusal.{Refusal}
-use Rattle.bt_top.specs.declared.refusal.Refusal.TheVariants.{Json, Deep, DuplicateKey, NotBlueprint, Book, TooMany, Unsupported, BadMember, OffGrid, Special, Overlap, Unpaired, SideLoad, Blocked, Ring, NetLine, TooLarge, NoEnds, Order}
+use Rattle.bt_top.specs.declared.refusal.Refusal.TheVariants.{Json, Deep, DuplicateKey, NotBlueprint, Book, TooMany, Unsupported, BadMember, OffGrid, Special, Overlap, Unpaired, SideLoad, Blocked, Ring, NetLine, TooLarge, NoEnds, Order, Pin, Cap, Block}
 
 -- the fault of the JSON text
 abbrev pub json_told : JsonFault → DesignFault
@@ -57,6 +59,13 @@ net_told net.TooLarge = fault.Refused TooLarge
 net_told net.NoEnds = fault.Refused NoEnds
 net_told net.Memory = fault.Memory
 
+-- why there is no request
+abbrev pub request_told : RequestFault → DesignFault
+request_told request.TooLarge = fault.Refused TooLarge
+request_told (request.Cap k) = fault.Refused (Cap k)
+request_told (request.Pin k) = fault.Refused (Pin k)
+request_told (request.Block k) = fault.Refused (Block k)
+
 -- the word for a member of an entity
 abbrev pub member_name : Member → List ℕ
 member_name member.Entity = codes "entity"
@@ -90,3 +99,6 @@ refusal_text (NetLine k) = codes "40 NetLine " ++ decimal k
 refusal_text TooLarge = codes "41 TooLarge"
 refusal_text NoEnds = codes "42 NoEnds"
 refusal_text (Order order) = codes "43 Order " ++ decimal order
+refusal_text (Pin k) = codes "44 Pin " ++ decimal k
+refusal_text (Cap k) = codes "45 Cap " ++ decimal k
+refusal_text (Block k) = codes "46 Block " ++ decimal k

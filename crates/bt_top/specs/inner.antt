@@ -1,4 +1,6 @@
 -- What private functions tell of their results: definitions that no public clause cites.
+pub mod Behind
 pub mod Found
+pub mod Grids
 pub mod Lines
 pub mod Telling

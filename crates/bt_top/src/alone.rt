@@ -2,6 +2,7 @@
 ghost use Rattle.std.specs.Prelude.{◌≡◌, ◌≤◌, length};
 ghost use Rattle.bt_answers.specs.Answers.{UnlessMemory};
 ghost use Rattle.bt_top.specs.Alone.{IsLoneNet, IsRefusedAt, line_at};
+ghost use Rattle.bt_top.specs.inner.Behind.{IsBehind};
 
 use crate::design::{Design, is_json, read_design};
 use crate::fault::DesignFault;
@@ -15,17 +16,25 @@ pub fn read_alone(alloc: Global, bytes: &[u8]) -> Result<Net, DesignFault>
     ensures { UnlessMemory DesignFault.Memory (IsLoneNet bytes.now) result }
 {
     match read_design(alloc, bytes) {
-        Ok(Design { net, used }) => {
-            let (_, rest) = bytes.split_at(used);
-            let text = skip_blanks(rest);
-            if text.is_empty() {
-                Ok(net)
-            } else {
-                let at = bytes.len() - text.len();
-                Err(DesignFault::Refused(refused_at(bytes, at)))
-            }
-        }
+        Ok(Design { net, used }) => match refused_behind(bytes, used) {
+            None => Ok(net),
+            Some(refusal) => Err(DesignFault::Refused(refusal)),
+        },
         Err(fault) => Err(fault),
+    }
+}
+
+/// What is refused behind the first so many bytes: nothing where only blanks follow them.
+pub fn refused_behind(bytes: &[u8], used: usize) -> Option<Refusal>
+    requires { used ≤ length bytes.now }
+    ensures { IsBehind bytes.now used result }
+{
+    let (_, rest) = bytes.split_at(used);
+    let text = skip_blanks(rest);
+    if text.is_empty() {
+        None
+    } else {
+        Some(refused_at(bytes, bytes.len() - text.len()))
     }
 }
 

@@ -10,6 +10,7 @@ use bt_cert::Cause;
 use bt_flow::{Property, State, Test};
 use bt_log::Log;
 use bt_net::Net;
+use bt_parts::Part;
 use bt_simplex::{Trail, Wide};
 use std::alloc::AllocError;
 
@@ -36,6 +37,12 @@ pub enum Answer {
     Wide(Wide),
     /// Whether a network that was made is balanced.
     Made(Made),
+    /// The parts lay the request.
+    LaidOut(Vec<Part>),
+    /// No parts lay the request, which the log shows.
+    Nowhere(Log),
+    /// The certificate shows that no parts lay the request.
+    NoLayout,
     /// The words are no command.
     Usage,
     /// The design is refused.
@@ -62,8 +69,12 @@ impl Answer {
         ensures { result ≡ status_of self.now }
     {
         match self {
-            Answer::Breaks(_) | Answer::Yes(_) | Answer::Recovered(_) | Answer::Proved(..) => 0,
-            Answer::No(_) | Answer::Broken(..) => 1,
+            Answer::Breaks(_)
+            | Answer::Yes(_)
+            | Answer::Recovered(_)
+            | Answer::Proved(..)
+            | Answer::LaidOut(_) => 0,
+            Answer::No(_) | Answer::Broken(..) | Answer::Nowhere(_) | Answer::NoLayout => 1,
             Answer::Made(made) => made.status(),
             Answer::Usage => 2,
             Answer::Refused(_) => 3,

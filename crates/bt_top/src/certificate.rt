@@ -83,7 +83,7 @@ fn check_steps(
 }
 
 /// The answer where the steps are no certificate.
-fn uncertified(fault: CertFault) -> Result<Answer, AllocError>
+pub fn uncertified(fault: CertFault) -> Result<Answer, AllocError>
     ensures { result ≡ cert_told fault }
 {
     match fault {

@@ -69,7 +69,7 @@ fn read_text(alloc: Global, bytes: &[u8]) -> Result<Design, DesignFault>
 }
 
 /// The design whose JSON text stands at the front of the bytes.
-fn read_json(alloc: Global, bytes: &[u8]) -> Result<Design, DesignFault>
+pub fn read_json(alloc: Global, bytes: &[u8]) -> Result<Design, DesignFault>
     ensures design { UnlessMemory DesignFault.Memory (IsJsonDesign bytes.now) (seen net_and_used result) }
     ensures within { IfOk result (λ design. design.used ≤ length bytes.now) }
 {

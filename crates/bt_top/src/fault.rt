@@ -7,6 +7,7 @@ use crate::refusal::Refusal;
 use bt_entities::EntityFault;
 use bt_grid::GridFault;
 use bt_json::JsonFault;
+use bt_model::RequestFault;
 use bt_net::NetFault;
 use bt_recover::RecoverFault;
 
@@ -97,5 +98,21 @@ impl From<NetFault> for DesignFault {
             NetFault::NoEnds => DesignFault::Refused(Refusal::NoEnds),
             NetFault::Memory => DesignFault::Memory,
         }
+    }
+}
+
+impl From<RequestFault> for DesignFault {
+    ghost use Rattle.bt_top.specs.Refusals.{request_told};
+
+    ghost from_gives = { λ fault told. told ≡ request_told fault };
+
+    fn from(fault: RequestFault) -> Self {
+        let refusal = match fault {
+            RequestFault::TooLarge => Refusal::TooLarge,
+            RequestFault::Cap(edge) => Refusal::Cap(edge),
+            RequestFault::Pin(line) => Refusal::Pin(line),
+            RequestFault::Block(line) => Refusal::Block(line),
+        };
+        DesignFault::Refused(refusal)
     }
 }

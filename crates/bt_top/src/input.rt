@@ -8,10 +8,11 @@ use bt_io::{ReadAll, Source, read_all};
 use bt_words::Command;
 use std::alloc::Global;
 
-/// The most bytes that `flow-check` and `check` read: a written state or a certificate may be long.
+/// The most bytes that `flow-check`, `check` and `check-layout` read: a written state or a certificate may
+/// be long.
 pub const MOST_CHECKED: usize = 1_073_741_824;
 
-/// The most bytes that a command reads which wants a design alone.
+/// The most bytes that a command reads which wants a design or a request alone.
 pub const MOST_OF_DESIGN: usize = 16_777_216;
 
 /// The most bytes that a command reads.
@@ -19,8 +20,8 @@ fn input_limit(command: Command) -> usize
     ensures { result ≡ input_limit command }
 {
     match command {
-        Command::FlowCheck(_) | Command::Check(_) => MOST_CHECKED,
-        Command::Recover | Command::Decide(..) => MOST_OF_DESIGN,
+        Command::FlowCheck(_) | Command::Check(_) | Command::CheckLayout(..) => MOST_CHECKED,
+        Command::Recover | Command::Decide(..) | Command::Layout(..) => MOST_OF_DESIGN,
         Command::Make(..) => 0,
     }
 }

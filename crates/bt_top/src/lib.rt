@@ -1,7 +1,8 @@
 //! All that the program does, over words, a source of bytes and a sink of bytes.
 //!
 //! `program` reads the words and the source and writes the answer; `design`, `alone`, `flow_check`,
-//! `certificate`, `recover`, `decision` and `making` find the answer; `text` and `printing` write it.
+//! `certificate`, `recover`, `decision`, `making`, `laying` and `none_certificate` find the answer; `text`
+//! and `printing` write it.
 #![tactic(auto)]
 
 mod alone;
@@ -13,17 +14,21 @@ mod fault;
 mod flow_check;
 mod input;
 mod law;
+mod laying;
 mod making;
+mod none_certificate;
 mod printing;
 mod program;
 mod recover;
 mod refusal;
+mod request;
 mod text;
 
 pub use answer::Answer;
 pub use input::{MOST_CHECKED, MOST_OF_DESIGN};
 pub use law::{decided_is_checked, longer_is_read};
 pub use making::Made;
+pub use none_certificate::none_is_accepted;
 pub use program::{NO_MEMORY, READ_FAULT, WRITE_FAULT, run};
 pub use refusal::Refusal;
 pub use std::alloc::AllocError as Memory;

@@ -7,7 +7,8 @@ ghost use Rattle.bt_top.specs.Answers.{status_of, text_of as answer_text};
 ghost use Rattle.bt_top.specs.Inputs.{IsUnread, ReadsNothing, input_limit};
 ghost use Rattle.bt_top.specs.Answering.{IsRightTo};
 ghost use Rattle.bt_top.specs.Endings.{Ends, status_after};
-ghost use Rattle.bt_top.specs.inner.Lines.{line_text};
+ghost use Rattle.bt_top.specs.inner.Grids.{HasGrid};
+ghost use Rattle.bt_top.specs.inner.Lines.{IsLine};
 ghost use Rattle.bt_top.specs.inner.Telling.{IsAnswered, IsAnsweredTo, IsPrinted, IsToldUnlessMemory, IsLineTold};
 
 use crate::answer::Answer;
@@ -15,10 +16,12 @@ use crate::certificate::certified;
 use crate::decision::decided;
 use crate::flow_check::check;
 use crate::input::read_input;
+use crate::laying::laid_out;
 use crate::making::make;
-use crate::printing::{print_made, print_proof, print_spent};
+use crate::none_certificate::layout_checked;
+use crate::printing::{print_made, print_nowhere, print_proof, print_spent};
 use crate::recover::recovered;
-use crate::text::{Line, answer_line, text_of};
+use crate::text::text_of_answer;
 use bt_cnf::Chooser;
 use bt_flow::print_state;
 use bt_io::{ReadAll, Sink, Source, WriteFault, write_all_of};
@@ -84,6 +87,7 @@ fn answer_of<S: Source>(
     source: &mut S,
     choosers: Vec<Box<dyn Chooser>>,
 ) -> Result<Answer, ReadAll>
+    requires { HasGrid command }
     ensures answer { IsAnswered command (passage S.left S.faults source.old source.new) result }
     ensures unread { ReadsNothing command → source.new ≡ source.old }
 {
@@ -103,7 +107,8 @@ fn right_answer(
     bytes: &[u8],
     choosers: Vec<Box<dyn Chooser>>,
 ) -> Result<Answer, AllocError>
-    requires { length bytes.now ≤ input_limit command }
+    requires grid { HasGrid command }
+    requires short { length bytes.now ≤ input_limit command }
     ensures { UnlessMemory alloc_error (IsRightTo command bytes.now) result }
 {
     match command {
@@ -112,6 +117,10 @@ fn right_answer(
         Command::Check(property) => certified(alloc, property, bytes),
         Command::Decide(property, limits) => decided(alloc, property, limits, bytes, choosers),
         Command::Make(family, order, limits) => make(alloc, family, order, limits, choosers),
+        Command::Layout(rect, tier, learnt) => {
+            laid_out(alloc, rect, tier, learnt, bytes, choosers)
+        }
+        Command::CheckLayout(rect, tier) => layout_checked(alloc, rect, tier, bytes),
     }
 }
 
@@ -121,7 +130,7 @@ fn told<K: Sink>(alloc: Global, answer: Answer, sink: &mut K) -> u8
 {
     match print_lines(&answer, sink) {
         Some(written) => status_after(answer.status(), written),
-        None => line_told(alloc, answer.status(), &answer_line(&answer), sink),
+        None => line_told(alloc, &answer, sink),
     }
 }
 
@@ -137,6 +146,7 @@ fn print_lines<K: Sink>(answer: &Answer, sink: &mut K) -> Option<Result<(), Writ
         Answer::Pivots(trail) => print_pivots(trail, sink),
         Answer::Wide(wide) => print_wide(wide, sink),
         Answer::Made(made) => print_made(made, sink),
+        Answer::Nowhere(log) => print_nowhere(log, sink),
         Answer::Usage => write_all_of(sink, b"usage\n"),
         Answer::TooLong => write_all_of(sink, b"too long\n"),
         _ => return None,
@@ -144,12 +154,13 @@ fn print_lines<K: Sink>(answer: &Answer, sink: &mut K) -> Option<Result<(), Writ
     Some(written)
 }
 
-/// Gives a line to the sink, where there is memory to form it, and gives the status.
-fn line_told<K: Sink>(alloc: Global, status: u8, line: &Line, sink: &mut K) -> u8
-    ensures { IsLineTold status (line_text line.now) (passage K.held K.faults sink.old sink.new) result }
+/// Gives the line of an answer to the sink, where there is memory to form it, and gives the status.
+fn line_told<K: Sink>(alloc: Global, answer: &Answer, sink: &mut K) -> u8
+    requires { IsLine answer.now }
+    ensures { IsLineTold answer.now (passage K.held K.faults sink.old sink.new) result }
 {
-    match text_of(alloc, line) {
-        Ok(text) => status_after(status, write_all_of(sink, &text)),
+    match text_of_answer(alloc, answer) {
+        Ok(text) => status_after(answer.status(), write_all_of(sink, &text)),
         Err(_) => NO_MEMORY,
     }
 }

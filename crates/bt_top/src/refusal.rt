@@ -1,7 +1,8 @@
-//! Why a design or an order is refused: one list over the faults of all layers below.
+//! Why a design, a request or an order is refused: one list over the faults of all layers below.
 use bt_entities::Member;
 
-/// Why a design or an order is refused. The numbers are offsets of bytes, indices of entities, and lines from 1.
+/// Why a design, a request or an order is refused. The numbers are offsets of bytes, indices of entities or
+/// of edges, and lines from 1.
 #[derive(Clone, Copy)]
 pub enum Refusal {
     /// The byte at this offset can't go on JSON text, or the text ends there; or something else than
@@ -38,10 +39,18 @@ pub enum Refusal {
     /// This line, from 1, may not stand in the network text; or something else than blanks begins on
     /// it, after the network text of a design.
     NetLine(usize),
-    /// The network has more inputs, outputs, splitters or edges than `bt_net::MOST_OF_EACH`.
+    /// The network has more inputs, outputs, splitters or edges than `bt_net::MOST_OF_EACH`, or that of a
+    /// request more edges or splitters than `bt_model::MOST_REQUESTED`.
     TooLarge,
     /// The network has no input or no output.
     NoEnds,
     /// No network that is made has this order.
     Order(u32),
+    /// The pin of this line, from 1, names a cell outside the grid, or the end of a pin of an earlier line.
+    Pin(usize),
+    /// The edge with this number has another cap than 1, which no request asks for.
+    Cap(usize),
+    /// The block of this line, from 1, names a cell outside the grid, the cell of a pin, or that of a block
+    /// of an earlier line.
+    Block(usize),
 }

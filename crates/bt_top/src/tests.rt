@@ -3,9 +3,11 @@
 ghost use Rattle.std.specs.Prelude.{◌≤◌};
 
 mod certificates;
+mod choosers;
 mod decisions;
 mod designs;
 mod large;
+mod layouts;
 mod networks;
 mod states;
 

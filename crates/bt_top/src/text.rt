@@ -3,7 +3,7 @@ ghost use Rattle.std.specs.Prelude.{◌≡◌, ◌++◌, codes, decimal, IfOk, O
 ghost use Rattle.bt_net.specs.NetText.{line};
 ghost use Rattle.bt_top.specs.Answers.{cause_name, text_of as answer_text};
 ghost use Rattle.bt_top.specs.Refusals.{member_name, refusal_text};
-ghost use Rattle.bt_top.specs.inner.Lines.{IsLine, IsOfCertificate, detail_text, line_text};
+ghost use Rattle.bt_top.specs.inner.Lines.{IsFixedLine, IsLine, IsOfCertificate, detail_text, line_text};
 
 use crate::answer::Answer;
 use crate::refusal::Refusal;
@@ -29,7 +29,7 @@ pub enum Detail {
 pub struct Line(pub &'static str, pub Detail);
 
 /// The line, and a line feed.
-pub fn text_of(alloc: Global, line: &Line) -> Result<Vec<u8>, AllocError>
+fn text_of(alloc: Global, line: &Line) -> Result<Vec<u8>, AllocError>
     ensures { IfOk result (λ text. text.items ≡ line_text line.now) }
 {
     let mut text = Vec::from_slice(alloc, line.0.as_bytes())?;
@@ -80,9 +80,20 @@ fn push_number(text: &mut Vec<u8>, number: usize) -> Result<(), AllocError>
     text.extend_from_slice(buffer.format(number).as_bytes())
 }
 
-/// The line of an answer, but for one whose text has several.
-pub fn answer_line(answer: &Answer) -> Line
-    ensures { IsLine answer.now → line_text result ≡ answer_text answer.now }
+/// The text of an answer that is one line.
+pub fn text_of_answer(alloc: Global, answer: &Answer) -> Result<Vec<u8>, AllocError>
+    requires { IsLine answer.now }
+    ensures { IfOk result (λ text. text.items ≡ answer_text answer.now) }
+{
+    match answer {
+        Answer::LaidOut(parts) => bt_write::text_of(alloc, parts),
+        _ => text_of(alloc, &answer_line(answer)),
+    }
+}
+
+/// The line of an answer, but for that of parts, and for one whose text has several.
+fn answer_line(answer: &Answer) -> Line
+    ensures { IsFixedLine answer.now → line_text result ≡ answer_text answer.now }
 {
     match *answer {
         Answer::Recovered(_)
@@ -91,7 +102,10 @@ pub fn answer_line(answer: &Answer) -> Line
         | Answer::Spent(_)
         | Answer::Pivots(_)
         | Answer::Wide(_)
-        | Answer::Made(_) => Line("", Detail::Nothing),
+        | Answer::Made(_)
+        | Answer::LaidOut(_)
+        | Answer::Nowhere(_) => Line("", Detail::Nothing),
+        Answer::NoLayout => Line("none", Detail::Nothing),
         Answer::Usage => Line("usage", Detail::Nothing),
         Answer::TooLong => Line("too long", Detail::Nothing),
         Answer::Breaks(property) => Line("breaks", Detail::Name(property.name())),
@@ -129,7 +143,7 @@ fn certificate_line(answer: &Answer) -> Line
 }
 
 /// The line of a refused design: the number and the name of the refusal, and of what it is said.
-pub fn refusal_line(refusal: Refusal) -> Line
+fn refusal_line(refusal: Refusal) -> Line
     ensures { line_text result ≡ line (codes "refused " ++ refusal_text refusal) }
 {
     match refusal {
@@ -158,11 +172,14 @@ pub fn refusal_line(refusal: Refusal) -> Line
         Refusal::TooLarge => Line("refused 41 TooLarge", Detail::Nothing),
         Refusal::NoEnds => Line("refused 42 NoEnds", Detail::Nothing),
         Refusal::Order(order) => Line("refused 43 Order", Detail::Number(order as usize)),
+        Refusal::Pin(line) => Line("refused 44 Pin", Detail::Number(line)),
+        Refusal::Cap(edge) => Line("refused 45 Cap", Detail::Number(edge)),
+        Refusal::Block(line) => Line("refused 46 Block", Detail::Number(line)),
     }
 }
 
 /// The word for why a step isn't valid.
-pub fn name_of_cause(cause: Cause) -> &'static str
+fn name_of_cause(cause: Cause) -> &'static str
     ensures { result.now ≡ cause_name cause }
 {
     match cause {

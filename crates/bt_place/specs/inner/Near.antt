@@ -1,8 +1,18 @@
 -- Cells so near that the next one can be told.
-use Rattle.std.specs.Prelude.{ℕ, ◌+◌, ◌≤◌, unsigned_abs}
+use Rattle.std.specs.Prelude.{ℕ, ◌<◌, ◌+◌, ◌^◌, ◌≤◌, unsigned_abs}
 use Rattle.bt_parts.specs.declared.part.Cell.{Cell}
+use Rattle.bt_net.specs.declared.network.Block.{Block}
+use Rattle.bt_net.specs.declared.network.Pin.{Pin}
 use Rattle.bt_parts.specs.declared.part.TheConstants.{MOST_COORDINATE}
 
 -- each coordinate has at most one more than the greatest magnitude
 abbrev pub IsNear : Cell → Type 0
 IsNear c = (unsigned_abs c.x ≤ MOST_COORDINATE + 1) × (unsigned_abs c.y ≤ MOST_COORDINATE + 1)
+
+-- the pin's coordinates are numbers of cells
+abbrev pub IsPinnedNear : Pin → Type 0
+IsPinnedNear pin = (pin.x < 2 ^ 31) × (pin.y < 2 ^ 31)
+
+-- the block's coordinates are numbers of cells
+abbrev pub IsBlockedNear : Block → Type 0
+IsBlockedNear block = (block.x < 2 ^ 31) × (block.y < 2 ^ 31)

@@ -2,7 +2,7 @@
 use Rattle.std.specs.Prelude.{ℕ, List, [], ◌++◌, codes, decimal}
 use Rattle.bt_net.specs.NetText.{line}
 use Rattle.bt_top.specs.declared.answer.Answer.{Answer}
-use Rattle.bt_top.specs.declared.answer.Answer.TheVariants.{Recovered, Proved, Broken, Spent, Pivots, Wide, Made, CertLine, BadStep, NoVerdict, CertWide}
+use Rattle.bt_top.specs.declared.answer.Answer.TheVariants.{Recovered, Proved, Broken, Spent, Pivots, Wide, Made, LaidOut, Nowhere, CertLine, BadStep, NoVerdict, CertWide}
 use Rattle.bt_top.specs.declared.text.Detail.{Detail}
 use Rattle.bt_top.specs.declared.text.Detail.TheVariants.{Nothing, Name, Number, Numbers, ThreeNumbers, NameAndNumber, NumberAndName}
 use Rattle.bt_top.specs.declared.text.Line.{Line}
@@ -30,7 +30,13 @@ IsLine (Spent log) = ⊥
 IsLine (Pivots trail) = ⊥
 IsLine (Wide wide) = ⊥
 IsLine (Made made) = ⊥
+IsLine (Nowhere log) = ⊥
 IsLine other = Unit {0}
+
+-- and the line is one of fixed words, numbers and names
+abbrev pub IsFixedLine : Answer → Type 0
+IsFixedLine (LaidOut parts) = ⊥
+IsFixedLine other = IsLine other
 
 -- the answer is that a text is no certificate
 abbrev pub IsOfCertificate : Answer → Type 0

@@ -31,11 +31,9 @@ abbrev pub IsToldUnlessMemory : Answer → Passage → ℕ → Type 0
 IsToldUnlessMemory a sink status =
     IsTold a sink status ⊎ ((status ≡ NO_MEMORY) × IsUntouched sink × (a ≢ answer.Usage) × (a ≢ answer.TooLong))
 
--- a text is given to the sink, and the status is this one or that of a fault of the sink; or there is no memory for it, and nothing is written
-abbrev pub IsLineTold : ℕ → List ℕ → Passage → ℕ → Type 0
-IsLineTold due text sink status =
-    ((written : Result (Unit {0}) WriteFault) × WritesText sink text written × (status ≡ status_after due written))
-    ⊎ ((status ≡ NO_MEMORY) × IsUntouched sink)
+-- the answer is told; or there is no memory for its text, and nothing is written
+abbrev pub IsLineTold : Answer → Passage → ℕ → Type 0
+IsLineTold a sink status = IsTold a sink status ⊎ ((status ≡ NO_MEMORY) × IsUntouched sink)
 
 -- the answer's text is given to the sink; or it is a line that has to be formed, and nothing is written
 abbrev pub IsPrinted : Answer → Passage → Option (Result (Unit {0}) WriteFault) → Type 0

@@ -32,7 +32,7 @@ const DECISIONS: [(&str, &str, u8, &str); 10] = [
 ];
 
 /// Limits that are reached, what is made, and what is refused.
-const CASES: [Case; 14] = [
+const CASES: [Case; 13] = [
     Case(
         "decide balanced --learnt 0",
         &[BUTTERFLY],
@@ -43,7 +43,6 @@ const CASES: [Case; 14] = [
     Case("decide balanced full", &[BELT], 2, "usage\n"),
     Case("decide balanced --learnt 01", &[BELT], 2, "usage\n"),
     Case("make 02", &[BELT], 2, "usage\n"),
-    Case("layout", &[BELT], 2, "usage\n"),
     Case(
         "decide full",
         &[BELT, "\n\nno full\n"],

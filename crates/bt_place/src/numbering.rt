@@ -1,0 +1,239 @@
+//! The variables of facts.
+ghost use Rattle.std.specs.Prelude.{◌≡◌, ◌<◌, ◌+◌, ◌-◌, ◌*◌, ◌^◌, IfOk};
+ghost use Rattle.bt_model.specs.Requests.{IsRequest};
+ghost use Rattle.bt_place.specs.Numbering as numbering;
+ghost use Rattle.bt_place.specs.PlaceFormula.{sizes_of};
+ghost use Rattle.bt_place.specs.Within.{IsSpot, IsWithin};
+ghost use Rattle.bt_place.specs.inner.Blocks.{sizes_with, AreNumbers, place_number};
+
+use crate::blocks::{Extent, Starts, starts_of};
+use crate::fact::{Content, Fact, Half, Shape};
+use crate::order::ranks_of;
+use bt_model::Request;
+use bt_parts::{Cell, Dir};
+use std::alloc::{AllocError, Global};
+use std::marker::Model;
+
+/// The numbers of the variables of a request.
+#[derive(Drop)]
+pub struct Numbers {
+    extent: Extent,
+    /// For each splitter its rank in the order in which the search places them.
+    ranks: Vec<usize>,
+    starts: Starts,
+}
+
+impl Model for Numbers {
+    ghost use Rattle.bt_place.specs.Numbering.{Sizes};
+    ghost use Rattle.bt_place.specs.inner.Blocks.{sizes_with, AreNumbers};
+
+    ghost Value = { Sizes };
+
+    ghost view = { λ n. sizes_with n.extent n.ranks.items };
+
+    ghost invariant = { λ n. AreNumbers (sizes_with n.extent n.ranks.items) n.starts };
+}
+
+/// The number of a direction.
+fn dir_number(dir: Dir) -> usize
+    ensures value { result ≡ numbering.dir_number dir }
+    ensures few { result < 4 }
+{
+    match dir {
+        Dir::North => 0,
+        Dir::East => 1,
+        Dir::South => 2,
+        Dir::West => 3,
+    }
+}
+
+/// The number of a half.
+fn half_number(half: Half) -> usize
+    ensures value { result ≡ numbering.half_number half }
+    ensures few { result < 2 }
+{
+    match half {
+        Half::Lesser => 0,
+        Half::Greater => 1,
+    }
+}
+
+/// The number of a shape.
+fn shape_number(shape: Shape) -> usize
+    ensures value { result ≡ numbering.shape_number shape }
+    ensures few { result < 5 }
+{
+    match shape {
+        Shape::Belt => 0,
+        Shape::Entrance => 1,
+        Shape::Exit => 2,
+        Shape::Half(half) => 3 + half_number(half),
+    }
+}
+
+/// The number of what a cell may hold.
+fn content_number(content: Content) -> usize
+    ensures { result ≡ numbering.content_number content }
+{
+    match content {
+        Content::Empty => 0,
+        Content::Turned(shape, dir) => 1 + (shape_number(shape) * 4 + dir_number(dir)),
+    }
+}
+
+/// The number of a place in a block that begins here, in a row of so many.
+fn numbered(from: usize, row: usize, each: usize, place: usize) -> usize
+    requires { from + (row * each + place) < 2 ^ 64 }
+    ensures { result ≡ from + (row * each + place) }
+{
+    from + (row * each + place)
+}
+
+/// The extent of a request.
+fn extent_of(request: &Request) -> Extent
+    ensures { (ranks : _) → sizes_with result ranks ≡ record (sizes_of request.now) { ranks = ranks } }
+{
+    let net = request.net();
+    let rect = request.rect();
+    Extent {
+        width: rect.width as usize,
+        height: rect.height as usize,
+        splitters: net.splitters() as usize,
+        edges: net.edges().len(),
+        inputs: net.inputs() as usize,
+        outputs: net.outputs() as usize,
+        distances: request.tier().reach() as usize + 1,
+    }
+}
+
+impl Numbers {
+    /// The numbers of the variables of a request.
+    pub fn new(alloc: Global, request: &Request) -> Result<Numbers, AllocError>
+        ensures sizes { IfOk result (λ numbers. numbers ≡ sizes_of request.now) }
+        ensures known { IsRequest request.now }
+    {
+        let net = request.net();
+        let extent = extent_of(request);
+        Ok(Numbers {
+            extent,
+            ranks: ranks_of(alloc, net)?,
+            starts: starts_of(extent),
+        })
+    }
+
+    /// The number of variables.
+    pub fn variables(&self) -> usize
+        ensures { result ≡ numbering.variables self.now }
+    {
+        self.starts.end
+    }
+
+    /// The number of a cell, row by row.
+    fn spot(&self, cell: Cell) -> usize
+        requires { IsSpot self.now cell }
+        ensures { result ≡ numbering.spot_of self.now cell }
+    {
+        let x = cell.x.unsigned_abs() as usize;
+        let y = cell.y.unsigned_abs() as usize;
+        numbered(0, y, self.extent.width, x)
+    }
+
+    /// The number of a cell along the longer side of the rectangle.
+    fn along(&self, cell: Cell) -> usize
+        requires { IsSpot self.now cell }
+        ensures { result ≡ numbering.along self.now cell }
+    {
+        if self.extent.height < self.extent.width {
+            self.spot(cell)
+        } else {
+            let x = cell.x.unsigned_abs() as usize;
+            let y = cell.y.unsigned_abs() as usize;
+            numbered(0, x, self.extent.height, y)
+        }
+    }
+
+    /// The number of a cell along the longer side, from the last cell on.
+    fn from_last(&self, cell: Cell) -> usize
+        requires { IsSpot self.now cell }
+        ensures { result ≡ numbering.spots self.now - 1 - numbering.along self.now cell }
+    {
+        self.extent.width * self.extent.height - 1 - self.along(cell)
+    }
+
+    /// The number of a splitter's place on a cell. That of the first splitter on the first cell comes last.
+    fn place(&self, splitter: usize, cell: Cell) -> usize
+        requires splitter { splitter < self.now.splitters }
+        requires cell { IsSpot self.now cell }
+        ensures { result ≡ place_number self.now splitter cell }
+    {
+        let spots = self.extent.width * self.extent.height;
+        let behind = self.extent.splitters - 1 - self.ranks[splitter];
+        numbered(0, behind, spots, self.from_last(cell))
+    }
+
+    /// The number of a fact of a cell and something of which there are so many.
+    fn on_cell(&self, from: usize, cell: Cell, each: usize, place: usize) -> usize
+        requires cell { IsSpot self.now cell }
+        requires few { from + (numbering.spot_of self.now cell * each + place) < 2 ^ 64 }
+        ensures { result ≡ from + (numbering.spot_of self.now cell * each + place) }
+    {
+        numbered(from, self.spot(cell), each, place)
+    }
+
+    /// The number of a port of a splitter.
+    fn port(&self, from: usize, splitter: usize, edge: usize, half: Half) -> usize
+        requires splitter { splitter < self.now.splitters }
+        requires edge { edge < self.now.edges }
+        requires few { from + ((splitter * self.now.edges + edge) * 2 + numbering.half_number half) < 2 ^ 64 }
+        ensures { result ≡ from + ((splitter * self.now.edges + edge) * 2 + numbering.half_number half) }
+    {
+        let row = numbered(0, splitter, self.extent.edges, edge);
+        numbered(from, row, 2, half_number(half))
+    }
+
+    /// The number of a fact, where that is small.
+    fn number(&self, fact: Fact) -> usize
+        requires within { IsWithin self.now fact }
+        requires few { numbering.variable_of self.now fact < 2 ^ 64 }
+        ensures { result ≡ numbering.variable_of self.now fact }
+    {
+        let extent = self.extent;
+        let starts = self.starts;
+        match fact {
+            Fact::Kind(cell, content) => self.on_cell(0, cell, 21, content_number(content)),
+            Fact::Name(cell, s) => self.on_cell(starts.names, cell, extent.splitters, s),
+            Fact::Label(cell, e) => self.on_cell(starts.labels, cell, extent.edges, e),
+            Fact::First(cell, i) => self.on_cell(starts.firsts, cell, extent.inputs, i),
+            Fact::Last(cell, o) => self.on_cell(starts.lasts, cell, extent.outputs, o),
+            Fact::Distance(cell, k) => {
+                self.on_cell(starts.distances, cell, extent.distances, k - 1)
+            }
+            Fact::Leaves(s, e, half) => self.port(starts.leaving, s, e, half),
+            Fact::Enters(s, e, half) => self.port(starts.entering, s, e, half),
+            Fact::Column(s, x) => numbered(starts.columns, s, extent.width, x),
+            Fact::Row(s, y) => numbered(starts.rows, s, extent.height, y),
+            Fact::Points(s, dir) => numbered(starts.points, s, 4, dir_number(dir)),
+            Fact::HalfOn(cell) => self.on_cell(starts.halves, cell, 1, 0),
+            Fact::Begins(cell) => self.on_cell(starts.begins, cell, 1, 0),
+            Fact::Tunnel(cell, dir) => self.on_cell(starts.tunnels, cell, 4, dir_number(dir)),
+            Fact::Still(cell, dir) => {
+                numbered(starts.stills, self.from_last(cell), 4, dir_number(dir))
+            }
+            Fact::At(s, cell, dir) => {
+                numbered(starts.places, self.place(s, cell), 4, dir_number(dir))
+            }
+        }
+    }
+
+    /// The variable of a fact.
+    pub fn variable_of(&self, fact: Fact) -> usize
+        requires { IsWithin self.now fact }
+        ensures value { result ≡ numbering.variable_of self.now fact }
+        ensures below { result < numbering.variables self.now }
+    {
+        let end = self.starts.end;
+        let variable = self.number(fact);
+        prove!(variable < end);
+        variable
+    }
+}

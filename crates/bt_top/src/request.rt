@@ -1,0 +1,143 @@
+//! The request at the front of an input: a design, whose network text may also name pins and blocks, with
+//! the rectangle and the tier of the command.
+ghost use Rattle.std.specs.Prelude.{◌≡◌, ◌≤◌, IfOk, length};
+ghost use Rattle.bt_answers.specs.Answers.{UnlessMemory, seen};
+ghost use Rattle.bt_model.specs.Requests.{IsGrid};
+ghost use Rattle.bt_top.specs.inner.Found.{pinned_and_used, pinned_of};
+ghost use Rattle.bt_top.specs.Alone.{IsAlone};
+ghost use Rattle.bt_top.specs.Requested.{IsPinned, IsPinnedJson, IsPinnedText};
+ghost use Rattle.bt_top.specs.Requested.{IsFrontRequest, IsLoneRequest, IsRequestFor};
+
+use crate::alone::refused_behind;
+use crate::design::{Design, is_json, read_json};
+use crate::fault::DesignFault;
+use bt_model::Request;
+use bt_net::{Block, Net, Pin};
+use bt_parts::{Rect, Tier};
+use std::alloc::Global;
+
+/// A design's network with its pins and its blocks, and how many bytes the design has.
+#[derive(Drop)]
+pub struct PinnedDesign {
+    pub net: Net,
+    pub pins: Vec<Pin>,
+    pub blocks: Vec<Block>,
+    pub used: usize,
+}
+
+/// The request that the bytes are, with blanks behind it.
+pub fn read_lone_request(
+    alloc: Global,
+    rect: Rect,
+    tier: Tier,
+    bytes: &[u8],
+) -> Result<Request, DesignFault>
+    requires { IsGrid rect }
+    ensures { UnlessMemory DesignFault.Memory (IsLoneRequest rect tier bytes.now) result }
+{
+    match read_lone_pinned(alloc, bytes) {
+        Ok(design) => request_for(rect, tier, design),
+        Err(fault) => Err(fault),
+    }
+}
+
+/// The request at the front of the bytes, and how many bytes it has.
+pub fn read_request(
+    alloc: Global,
+    rect: Rect,
+    tier: Tier,
+    bytes: &[u8],
+) -> Result<(Request, usize), DesignFault>
+    requires { IsGrid rect }
+    ensures request { UnlessMemory DesignFault.Memory (IsFrontRequest rect tier bytes.now) result }
+    ensures within { IfOk result (λ found. found.1 ≤ length bytes.now) }
+{
+    match read_pinned(alloc, bytes) {
+        Ok(design) => {
+            let used = design.used;
+            match request_for(rect, tier, design) {
+                Ok(request) => Ok((request, used)),
+                Err(fault) => Err(fault),
+            }
+        }
+        Err(fault) => Err(fault),
+    }
+}
+
+/// The request for a design in the rectangle, of parts of the tier.
+fn request_for(rect: Rect, tier: Tier, design: PinnedDesign) -> Result<Request, DesignFault>
+    requires { IsGrid rect }
+    ensures { UnlessMemory DesignFault.Memory (IsRequestFor rect tier (pinned_of design)) result }
+{
+    let PinnedDesign {
+        net,
+        pins,
+        blocks,
+        ..
+    } = design;
+    match Request::new(net, rect, tier, pins, blocks) {
+        Ok(request) => Ok(request),
+        Err(fault) => Err(fault.into()),
+    }
+}
+
+/// The design that the bytes are, with its pins and its blocks, and blanks behind it.
+fn read_lone_pinned(alloc: Global, bytes: &[u8]) -> Result<PinnedDesign, DesignFault>
+    ensures { UnlessMemory DesignFault.Memory (IsAlone IsPinned bytes.now) (seen pinned_of result) }
+{
+    match read_pinned(alloc, bytes) {
+        Ok(design) => match refused_behind(bytes, design.used) {
+            None => Ok(design),
+            Some(refusal) => Err(DesignFault::Refused(refusal)),
+        },
+        Err(fault) => Err(fault),
+    }
+}
+
+/// The design at the front of the bytes, with its pins and its blocks.
+fn read_pinned(alloc: Global, bytes: &[u8]) -> Result<PinnedDesign, DesignFault>
+    ensures design { UnlessMemory DesignFault.Memory (IsPinned bytes.now) (seen pinned_and_used result) }
+    ensures within { IfOk result (λ design. design.used ≤ length bytes.now) }
+{
+    if is_json(bytes) {
+        read_pinned_json(alloc, bytes)
+    } else {
+        read_pinned_text(alloc, bytes)
+    }
+}
+
+/// The design whose network text stands at the front of the bytes, with its pins and its blocks.
+fn read_pinned_text(alloc: Global, bytes: &[u8]) -> Result<PinnedDesign, DesignFault>
+    ensures design { UnlessMemory DesignFault.Memory (IsPinnedText bytes.now) (seen pinned_and_used result) }
+    ensures within { IfOk result (λ design. design.used ≤ length bytes.now) }
+{
+    match bt_net::read(alloc, bytes) {
+        Ok(read) => Ok(PinnedDesign {
+            net: read.net,
+            pins: read.pins,
+            blocks: read.blocks,
+            used: read.used,
+        }),
+        Err(fault) => Err(fault.into()),
+    }
+}
+
+/// The design whose JSON text stands at the front of the bytes, which names no pins and no blocks.
+fn read_pinned_json(alloc: Global, bytes: &[u8]) -> Result<PinnedDesign, DesignFault>
+    ensures design { UnlessMemory DesignFault.Memory (IsPinnedJson bytes.now) (seen pinned_and_used result) }
+    ensures within { IfOk result (λ design. design.used ≤ length bytes.now) }
+{
+    match read_json(alloc, bytes) {
+        Ok(Design { net, used }) => {
+            let pins = Vec::new(alloc);
+            let blocks = Vec::new(alloc);
+            Ok(PinnedDesign {
+                net,
+                pins,
+                blocks,
+                used,
+            })
+        }
+        Err(fault) => Err(fault),
+    }
+}
