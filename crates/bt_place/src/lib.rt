@@ -19,6 +19,8 @@ mod pinning;
 mod ports;
 mod spots;
 mod standing;
+#[cfg(test)]
+mod tests;
 mod underground;
 mod writing;
 

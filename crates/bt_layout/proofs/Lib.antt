@@ -1,0 +1,7 @@
+pub mod Few
+pub mod Formulas
+pub mod Refuted
+pub mod Written
+pub mod Sizes
+pub mod Certified
+pub mod Answering

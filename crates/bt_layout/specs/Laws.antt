@@ -1,0 +1,27 @@
+-- What logs that refute a placement formula show, and what is written of layouts.
+use Rattle.std.specs.Prelude.{◌<◌, ◌^◌, List, length}
+use Rattle.bt_parts.specs.declared.part.Part.{Part}
+use Rattle.bt_log.specs.Logs.{Step}
+use Rattle.bt_log.specs.LogText.{log_text}
+use Rattle.bt_log.specs.Refuting.{Refutes}
+use Rattle.bt_cert.specs.Certificates.{IsCertificate}
+use Rattle.bt_model.specs.Laying.{Lays}
+use Rattle.bt_model.specs.Requests.{LayoutRequest, IsRequest}
+use Rattle.bt_write.specs.ReadBack.{IsReadBack}
+use Rattle.bt_place.specs.PlaceFormula.{place_formula}
+use Rattle.bt_theory.specs.Outcomes.{IsRefutation}
+use Rattle.bt_layout.specs.Layouts.{HasNoLayout}
+
+-- where a log refutes the placement formula of a request, no parts lay the request
+abbrev pub RefutedHasNoLayout : Type 0
+RefutedHasNoLayout = (r : LayoutRequest) (steps : List Step) → IsRequest r → Refutes (place_formula r) steps → HasNoLayout r
+
+-- what is printed of a log that soundly refutes a placement formula is a certificate, where it has fewer than 10 ^ 17
+-- steps
+abbrev pub NowhereIsCertificate : Type 0
+NowhereIsCertificate = (r : LayoutRequest) (steps : List Step) → IsRequest r → IsRefutation (place_formula r) steps → length steps < 10 ^ 17
+    → IsCertificate (place_formula r) (log_text steps)
+
+-- what is written of parts that lay a request is read as the same parts
+abbrev pub LaidIsReadBack : Type 0
+LaidIsReadBack = (r : LayoutRequest) (parts : List Part) → IsRequest r → Lays parts r → IsReadBack parts

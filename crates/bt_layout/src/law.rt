@@ -1,0 +1,18 @@
+//! Laws of layouts, as the contracts of functions that do nothing.
+ghost use Rattle.bt_layout.specs.Laws.{RefutedHasNoLayout, NowhereIsCertificate, LaidIsReadBack};
+
+/// Where a log refutes the placement formula of a request, whoever wrote it, no parts lay the request.
+pub fn refuted_has_no_layout()
+    ensures { RefutedHasNoLayout }
+{}
+
+/// What is printed of the log of a search that found nothing is a certificate, which `bt_cert` accepts,
+/// where the log has fewer than 10 ^ 17 steps.
+pub fn nowhere_is_certificate()
+    ensures { NowhereIsCertificate }
+{}
+
+/// What is written of parts that lay a request, as a blueprint, is read back as these parts.
+pub fn laid_is_read_back()
+    ensures { LaidIsReadBack }
+{}
