@@ -6,7 +6,9 @@ pub mod InputsTold
 pub mod Ended
 pub mod Certified
 pub mod LongerDesigns
+pub mod Followed
 pub mod Rechecked
+pub mod RecheckedLayouts
 pub mod StandingAlone
 pub mod OneRequest
 pub mod NoneCertified

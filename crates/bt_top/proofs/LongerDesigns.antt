@@ -1,26 +1,24 @@
 -- A design at the front of longer bytes.
-use Rattle.std.proofs.Common.{◌≡◌, ◌≢◌, ◌⊎◌, ℕ, ◌+◌, ◌<◌, ◌≤◌, Bool, true, false, List, [], ◌∷◌, ◌++◌, length, take, drop, get_or, Result, Ok, Err, refl, sym, ◌∙◌, ap, subst, inl, inr, ⊎_elim, arith, ◌==◌}
-use Rattle.std.specs.Prelude.{All, IsTrue, ◌||◌, slice_index, codes}
-use Rattle.std.specs.List.{AllByRecursion, flat_map}
+use Rattle.std.proofs.Common.{◌≡◌, ◌≢◌, ◌⊎◌, ℕ, ◌+◌, ◌≤◌, Bool, true, false, List, [], ◌∷◌, ◌++◌, length, drop, get_or, Result, Ok, Err, refl, sym, ◌∙◌, ap, subst, inl, inr, arith, ◌==◌}
+use Rattle.std.specs.Prelude.{IsTrue, ◌||◌, codes}
+use Rattle.std.specs.List.{AllByRecursion}
 use Rattle.std.proofs.lemmas.Bool.{eqb-true}
 use Rattle.std.proofs.lemmas.List.{append_assoc, take-append-drop}
-use Rattle.std.proofs.lemmas.List.Elements.{All-nil, All-head, All-from_recursion}
-use Rattle.bt_answers.specs.Answers.{seen}
+use Rattle.std.proofs.lemmas.List.Elements.{All-nil, All-from_recursion}
 use Rattle.bt_text.specs.Blanks.{IsBlank, SkipsBlanks}
 use Rattle.bt_text.specs.Lines.{line, line_feeds, BeginsWithLines}
 use Rattle.bt_json.specs.Json.{Json}
 use Rattle.bt_json.specs.Grammar.{is_blank}
-use Rattle.bt_json.specs.Answers.{IsFront, IsRead}
+use Rattle.bt_json.specs.Answers.{IsFront}
 use Rattle.bt_json.specs.Longer.{EndsAnyhow}
 use Rattle.bt_json.specs.declared.fault.JsonFault.{JsonFault}
 use Rattle.bt_json.specs.declared.fault.JsonFault.TheVariants as json
 use Rattle.bt_json.proofs.FirstBytes.{value_begins}
 use Rattle.bt_json.proofs.Longer.{value_stays, fault_stays}
-use Rattle.bt_net.specs.declared.fault.NetFault.{NetFault}
 use Rattle.bt_net.specs.declared.fault.NetFault.TheVariants as net
 use Rattle.bt_net.specs.Network.{Network}
-use Rattle.bt_net.specs.NetText.{header, BeginsWithNet}
-use Rattle.bt_net.specs.Readings.{Reading, StandsPlain, IsPlainRead}
+use Rattle.bt_net.specs.NetText.{header}
+use Rattle.bt_net.specs.Readings.{IsPlainRead}
 use Rattle.bt_net.specs.Longer.{with_line_feed}
 use Rattle.bt_net.proofs.Longer.{plain_stays, plain_stays_refused}
 use Rattle.bt_top.specs.declared.fault.DesignFault.{DesignFault}
@@ -30,7 +28,7 @@ use Rattle.bt_top.specs.declared.refusal.Refusal.TheVariants as refusal
 use Rattle.bt_top.specs.Designs.{IsJsonText, IsJsonDesign, IsTextDesign, IsDesign}
 use Rattle.bt_top.specs.Longer.{DesignStays, IsOtherText, IsSettled, RefusalStays}
 use Rattle.bt_top.specs.Refusals.{json_told, net_told}
-use Rattle.bt_top.specs.Steps.{InTurn, stopped, went_on}
+use Rattle.bt_top.specs.Steps.{stopped, went_on}
 use Rattle.bt_top.proofs.Blanks.{one_rest}
 use Rattle.bt_top.proofs.InTurns.{same_value, not_both}
 use Rattle.bt_top.proofs.OneDesign.{seen_ok}
@@ -46,10 +44,10 @@ longer_skips bytes rest more byte s = record {
   no_more = λ some. s.no_more (omega arith);
 }
 
-json_text_stays : (bytes more : List ℕ) → IsJsonText bytes → IsJsonText (bytes ++ more)
+pub json_text_stays : (bytes more : List ℕ) → IsJsonText bytes → IsJsonText (bytes ++ more)
 json_text_stays bytes more (rest, s) = (rest ++ more, longer_skips bytes rest more 123 s)
 
-other_text_stays : (bytes more : List ℕ) → IsOtherText bytes → IsJsonText (bytes ++ more) → ⊥
+pub other_text_stays : (bytes more : List ℕ) → IsOtherText bytes → IsJsonText (bytes ++ more) → ⊥
 other_text_stays bytes more (byte, rest, s, other) (after, t) =
     let same : byte ∷ (rest ++ more) ≡ 123 ∷ after = one_rest (bytes ++ more) (byte ∷ (rest ++ more)) (123 ∷ after) (longer_skips bytes rest more byte s) t in
     other cc
@@ -105,7 +103,7 @@ ends_anyhow bytes v after (rest, s) front =
     all_blank (x ∷ xs) all = (blank_is x all.0, all_blank xs all.1)
 
 -- what comes of the JSON text of longer bytes
-json_design_stays : (bytes more : List ℕ) (answer : Result (Network × ℕ) DesignFault) → IsJsonText bytes → ((fault : JsonFault) → answer ≡ Err (json_told fault) → fault ≢ json.Json (length bytes))
+pub json_design_stays : (bytes more : List ℕ) (answer : Result (Network × ℕ) DesignFault) → IsJsonText bytes → ((fault : JsonFault) → answer ≡ Err (json_told fault) → fault ≢ json.Json (length bytes))
     → IsJsonDesign bytes answer → IsJsonDesign (bytes ++ more) answer
 json_design_stays bytes more answer is settled (stopped fault h e) = stopped fault (fault_stays bytes more fault (settled fault e) h) e
 json_design_stays bytes more answer is settled (went_on read h k) = went_on read (value_stays bytes more read.0 read.1 (ends_anyhow bytes read.0 read.1 is h.front) h) k
@@ -119,7 +117,7 @@ not_blank_n (inr (inr (inl e))) = omega (arith, e)
 not_blank_n (inr (inr (inr e))) = omega (arith, e)
 
 -- bytes that begin with a network begin with `n`
-net_first : (bytes rest : List ℕ) (n : Network) (ls : List (List ℕ)) → BeginsWithLines bytes (header n ∷ ls) rest → IsOtherText bytes
+pub net_first : (bytes rest : List ℕ) (n : Network) (ls : List (List ℕ)) → BeginsWithLines bytes (header n ∷ ls) rest → IsOtherText bytes
 net_first [] rest n ls (inl e) = absurd (omega (arith, ap (λ b. get_or b 0 0) e))
 net_first [] rest n ls (inr e) = absurd (omega (arith, ap (λ b. get_or b 0 0) e.0))
 net_first (b ∷ bytes) rest n ls begins =
@@ -131,7 +129,7 @@ net_first (b ∷ bytes) rest n ls begins =
 
 -- ---- designs
 
-json_within : (bytes : List ℕ) (n : Network) (used : ℕ) → IsJsonDesign bytes (Ok (n, used)) → used ≤ length bytes
+pub json_within : (bytes : List ℕ) (n : Network) (used : ℕ) → IsJsonDesign bytes (Ok (n, used)) → used ≤ length bytes
 json_within bytes n used (stopped fault h e) = absurd (not_both (n, used) (json_told fault) e)
 json_within bytes n used (went_on read h k) =
     let net = seen_ok (λ m. (m, read.1)) k.0 (n, used) k.2 in

@@ -36,7 +36,7 @@ none_fault_told r lines fault reply h e =
 -- ---- what `layout` writes
 
 -- the first line of a none certificate, and what follows it
-says_none : (steps : List Step) → SaysNone (nowhere_text steps) (log_text steps)
+pub says_none : (steps : List Step) → SaysNone (nowhere_text steps) (log_text steps)
 says_none steps = inl (record { first = lacks 10 none_word refl; text_is = append_assoc none_word (10 ∷ []) (log_text steps) })
 
 -- it begins with no blank

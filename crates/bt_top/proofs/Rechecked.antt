@@ -1,12 +1,9 @@
 -- What `check` answers to what `decide` wrote.
-use Rattle.std.proofs.Common.{◌≡◌, ◌≢◌, ◌⊎◌, ℕ, ◌+◌, ◌^◌, ◌<◌, ◌≤◌, List, [], ◌∷◌, ◌++◌, length, drop, get_or, alloc_error, Result, Ok, Err, refl, sym, ◌∙◌, ap, subst, inl, inr, arith, length-append}
-use Rattle.std.specs.Prelude.{All, codes, slice_index}
-use Rattle.std.specs.List.{flat_map}
-use Rattle.std.proofs.lemmas.List.{append_assoc, append-nil, drop-append-le}
-use Rattle.std.proofs.lemmas.List.Elements.{All-nil, All-cons, All-append}
-use Rattle.std.proofs.Math.Seq.{drop-append_seam}
+use Rattle.std.proofs.Common.{◌≡◌, ◌⊎◌, ℕ, ◌^◌, ◌<◌, ◌≤◌, List, [], ◌∷◌, ◌++◌, length, drop, get_or, Result, Ok, Err, refl, ap, subst, inl, inr, arith}
+use Rattle.std.specs.Prelude.{codes, slice_index}
+use Rattle.std.proofs.lemmas.List.{append_assoc}
 use Rattle.bt_text.specs.Blanks.{IsBlank, SkipsBlanks}
-use Rattle.bt_text.specs.Lines.{Lacks, line, IsFirstLine}
+use Rattle.bt_text.specs.Lines.{Lacks}
 use Rattle.bt_net.specs.Network.{Network}
 use Rattle.bt_net.proofs.NetLines.{lacks}
 use Rattle.bt_flow.specs.declared.property.Property.{Property}
@@ -27,95 +24,37 @@ use Rattle.bt_flow.proofs.Printed.{printed_is_read}
 use Rattle.bt_flow.proofs.StateTexts.{one_state_read}
 use Rattle.bt_log.specs.declared.log.Log.{Log}
 use Rattle.bt_log.specs.Logs.{Step}
-use Rattle.bt_log.specs.LogText.{step_line, step_text, log_text}
-use Rattle.bt_fenc.specs.FlowFormula.{flow_formula}
-use Rattle.bt_theory.specs.declared.outcome.Limits.{Limits}
+use Rattle.bt_log.specs.LogText.{log_text}
 use Rattle.bt_decide.specs.declared.verdict.Verdict.{Verdict}
 use Rattle.bt_decide.specs.declared.verdict.Verdict.TheVariants as verdict
 use Rattle.bt_decide.specs.Verdicts.{IsVerdict}
 use Rattle.bt_decide.proofs.Certified.{yes_is_certificate}
-use Rattle.bt_top.specs.declared.answer.Answer.{Answer}
 use Rattle.bt_top.specs.declared.answer.Answer.TheVariants as answer
-use Rattle.bt_top.specs.declared.fault.DesignFault.{DesignFault}
-use Rattle.bt_top.specs.declared.fault.DesignFault.TheVariants as design
 use Rattle.bt_top.specs.Alone.{IsLoneNet}
-use Rattle.bt_top.specs.Answers.{text_of, proved_text}
-use Rattle.bt_top.specs.Certificates.{SaysYes, IsYesChecked, IsTextChecked, IsCertificateChecked, IsCertified}
-use Rattle.bt_top.specs.Deciding.{verdict_told, IsDecidedFrom}
+use Rattle.bt_top.specs.Answers.{proved_text}
+use Rattle.bt_top.specs.Certificates.{SaysYes, IsTextChecked, IsCertificateChecked, IsCertified}
+use Rattle.bt_top.specs.Deciding.{verdict_told}
 use Rattle.bt_top.specs.declared.input.TheConstants.{MOST_CHECKED}
-use Rattle.bt_top.specs.declared.refusal.Refusal.{Refusal}
 use Rattle.bt_top.specs.Designs.{IsDesign}
 use Rattle.bt_top.specs.Rechecking.{followed_by, ProofIsChecked, StateIsChecked}
-use Rattle.bt_top.specs.Replies.{Reply, design_told}
+use Rattle.bt_top.specs.Replies.{Reply}
 use Rattle.bt_top.specs.States.{verdict as state_verdict, IsStateJudged}
 use Rattle.bt_top.specs.Steps.{stopped, went_on}
 use Rattle.bt_top.proofs.Blanks.{one_rest}
 use Rattle.bt_top.proofs.Certified.{yes_told}
 use Rattle.bt_top.proofs.InTurns.{same_value, not_both}
-use Rattle.bt_top.proofs.LongerDesigns.{Stays, design_stays, design_within}
+use Rattle.bt_top.proofs.LongerDesigns.{design_stays, design_within}
+use Rattle.bt_top.proofs.Followed.{IsFollowed, is_followed, stands_alone, other_than, no_refusal, few_printed}
 use Rattle.bt_top.proofs.OneDesign.{one_design, design_network}
 
 -- ---- a design alone, and what follows it
 
--- the design of bytes that are one alone: only blanks follow it
-pub record StandsAlone (bytes : List ℕ) (n : Network) : Type 0 where
-  pub used : ℕ
-  pub design : IsDesign bytes (Ok (n, used))
-  pub blanks : SkipsBlanks (drop used bytes) []
-
-stands_alone : (bytes : List ℕ) (n : Network) → IsLoneNet bytes (Ok n) → StandsAlone bytes n
-stands_alone bytes n (stopped fault h e) = absurd (not_both n fault e)
-stands_alone bytes n (went_on found h (text, skips, inl (none, e))) = record {
-  used = found.1;
-  design = subst (λ m. IsDesign bytes (Ok (m, found.1))) (sym (same_value n found.0 e)) h;
-  blanks = subst (SkipsBlanks (drop found.1 bytes)) none skips;
-}
-stands_alone bytes n (went_on found h (text, skips, inr (some, r, at, e))) = absurd (not_both n (design.Refused r) e)
-
--- where a design is followed by a line feed and this text, it stands at the front, and this text follows it and blanks
-pub record IsFollowed (bytes text : List ℕ) (n : Network) : Type 0 where
-  pub used : ℕ
-  pub design : IsDesign (bytes ++ 10 ∷ text) (Ok (n, used))
-  pub rest : SkipsBlanks (drop used (bytes ++ 10 ∷ text)) text
-
--- what stands before an empty rest is blank
-all_blank : (bytes : List ℕ) → SkipsBlanks bytes [] → All IsBlank bytes
-all_blank bytes s = subst (All IsBlank) (sym (s.text_is ∙ append-nil s.blanks)) s.are_blanks
-
-module _ (bytes text : List ℕ) (n : Network) (starts : 0 < length text → IsBlank (slice_index text 0) → ⊥) where
-  followed_by_stays : (used : ℕ) → IsDesign bytes (Ok (n, used)) → used ≤ length bytes → SkipsBlanks (drop used bytes) [] → Stays bytes n used → IsFollowed bytes text n
-  followed_by_stays used h within blanks (inl stays) = record {
-    used = used;
-    design = stays (10 ∷ text);
-    rest = record {
-      blanks = drop used bytes ++ 10 ∷ [];
-      are_blanks = All-append IsBlank (drop used bytes) (10 ∷ []) (all_blank (drop used bytes) blanks) (All-cons IsBlank 10 [] (inr (inr (inl refl))) (All-nil IsBlank));
-      text_is = drop-append-le used bytes (10 ∷ text) within ∙ sym (append_assoc (drop used bytes) (10 ∷ []) text);
-      no_more = starts;
-    };
-  }
-  followed_by_stays used h within blanks (inr (all, fed)) =
-      let long : used + 1 ≡ length (line bytes) = omega (arith, all, length-append bytes (10 ∷ [])) in
-      let rest : drop (used + 1) (bytes ++ 10 ∷ text) ≡ text =
-      ap (drop (used + 1)) (sym (append_assoc bytes (10 ∷ []) text)) ∙ ap (λ m. drop m (line bytes ++ text)) long ∙ drop-append_seam (line bytes) text in
-      record {
-        used = used + 1;
-        design = fed text;
-        rest = record { blanks = []; are_blanks = All-nil IsBlank; text_is = rest; no_more = starts };
-      }
-
-followed : (bytes text : List ℕ) (n : Network) → (0 < length text → IsBlank (slice_index text 0) → ⊥) → IsLoneNet bytes (Ok n) → IsFollowed bytes text n
+followed : (bytes text : List ℕ) (n : Network) → (0 < length text → IsBlank (slice_index text 0) → ⊥) → IsLoneNet bytes (Ok n) → IsFollowed IsDesign bytes text n
 followed bytes text n starts lone =
-    let alone = stands_alone bytes n lone in
-    followed_by_stays bytes text n starts alone.used alone.design (design_within bytes n alone.used alone.design) alone.blanks (design_stays bytes n alone.used alone.design)
+    let alone = stands_alone IsDesign bytes n lone in
+    is_followed IsDesign bytes text n starts alone.used alone.front (design_within bytes n alone.used alone.front) alone.blanks (design_stays bytes n alone.used alone.front)
 
 -- ---- a proof
-
-other_than : (byte : ℕ) → byte ≢ 32 → byte ≢ 9 → byte ≢ 10 → byte ≢ 13 → IsBlank byte → ⊥
-other_than byte a b c d (inl e) = a e
-other_than byte a b c d (inr (inl e)) = b e
-other_than byte a b c d (inr (inr (inl e))) = c e
-other_than byte a b c d (inr (inr (inr e))) = d e
 
 told_yes : (p : Property) (v : Verdict) (log : Log) → answer.Proved p log ≡ verdict_told p v → v ≡ verdict.Yes log
 told_yes p (verdict.Yes found) log e = cc
@@ -131,10 +70,6 @@ told_no p (verdict.Spent found) state e = cc
 told_no p (verdict.Pivots trail) state e = cc
 told_no p (verdict.Wide wide) state e = cc
 
-no_design : (a : Answer) (fault : DesignFault) → ((r : Refusal) → a ≢ answer.Refused r) → Ok a ≡ design_told fault → ⊥
-no_design a (design.Refused r) other e = other r (same_value a (answer.Refused r) e)
-no_design a design.Memory other e = not_both a alloc_error e
-
 yes_lacks : (p : Property) → Lacks 10 (codes "yes " ++ property_name p)
 yes_lacks Balanced = lacks 10 (codes "yes balanced") refl
 yes_lacks DrawnEvenly = lacks 10 (codes "yes drawn-evenly") refl
@@ -144,33 +79,19 @@ yes_lacks Full = lacks 10 (codes "yes full") refl
 says_yes : (p : Property) (steps : List Step) → SaysYes p (proved_text p steps) (log_text steps)
 says_yes p steps = inl (record { first = yes_lacks p; text_is = append_assoc (codes "yes " ++ property_name p) (10 ∷ []) (log_text steps) })
 
--- a log has no more steps than its text has bytes
-steps_in : (steps : List Step) → length steps ≤ length (flat_map step_line steps)
-steps_in [] = omega arith
-steps_in (step ∷ steps) =
-    omega (arith, steps_in steps, length-append (step_line step) (flat_map step_line steps), length-append (step_text step) (10 ∷ []))
-
 few_steps : (bytes : List ℕ) (p : Property) (log : Log) → length (followed_by bytes (answer.Proved p log)) ≤ MOST_CHECKED → length log.steps < 10 ^ 17
-few_steps bytes p log short =
-    omega (
-      arith,
-      short,
-      steps_in log.steps,
-      length-append bytes (10 ∷ proved_text p log.steps),
-      length-append (line (codes "yes " ++ property_name p)) (log_text log.steps),
-      length-append (flat_map step_line log.steps) (codes "end\n"),
-    )
+few_steps bytes p log short = few_printed bytes (codes "yes " ++ property_name p) log.steps short
 
 -- a design and the proof that is written of it
 pub proof_is_checked : ProofIsChecked
-proof_is_checked p limits bytes log (stopped fault h e) short = absurd (no_design (answer.Proved p log) fault (λ r same. cc) e)
+proof_is_checked p limits bytes log (stopped fault h e) short = absurd (no_refusal (answer.Proved p log) fault (λ r same. cc) e)
 proof_is_checked p limits bytes log (went_on n lone (v, is, e)) short =
     let same = told_yes p v log (same_value (answer.Proved p log) (verdict_told p v) e) in
     let right : IsVerdict n p limits (verdict.Yes log) = subst (IsVerdict n p limits) same is in
     let on = followed bytes (proved_text p log.steps) n (λ some. other_than 121 (λ x. omega (arith, x)) (λ x. omega (arith, x)) (λ x. omega (arith, x)) (λ x. omega (arith, x))) lone in
-    let net = design_network (bytes ++ 10 ∷ proved_text p log.steps) (n, on.used) on.design in
+    let net = design_network (bytes ++ 10 ∷ proved_text p log.steps) (n, on.used) on.front in
     let certificate = yes_is_certificate n p log.steps net right.1 (few_steps bytes p log short) in
-    went_on (n, on.used) on.design (proved_text p log.steps, on.rest, inl (log_text log.steps, says_yes p log.steps, yes_told n p (log_text log.steps) net certificate))
+    went_on (n, on.used) on.front (proved_text p log.steps, on.rest, inl (log_text log.steps, says_yes p log.steps, yes_told n p (log_text log.steps) net certificate))
 
 -- ---- a state
 
@@ -211,17 +132,17 @@ module _ (n : Network) (p : Property) (state : Fractions) (reply : Reply) (break
 
 -- a design and the state that is written of it
 module _ (p : Property) (bytes : List ℕ) (state : Fractions) (reply : Reply) (n : Network) (breaks : IsTrueOf n state (Breaks n p)) (lowest : AreLowest state)
-    (on : IsFollowed bytes (printed_state p state) n) where
+    (on : IsFollowed IsDesign bytes (printed_state p state) n) where
   certified : IsCertified p (bytes ++ 10 ∷ printed_state p state) reply → (reply ≡ Ok (answer.No p)) ⊎ ((test : Test) × (place : ℕ) × (reply ≡ Ok (answer.WideState test place)))
-  certified (stopped fault h e) = absurd (not_both (n, on.used) fault (one_design (bytes ++ 10 ∷ printed_state p state) (Ok (n, on.used)) (Err fault) on.design h))
+  certified (stopped fault h e) = absurd (not_both (n, on.used) fault (one_design (bytes ++ 10 ∷ printed_state p state) (Ok (n, on.used)) (Err fault) on.front h))
   certified (went_on found h checked) =
-      let same = same_value found (n, on.used) (one_design (bytes ++ 10 ∷ printed_state p state) (Ok found) (Ok (n, on.used)) h on.design) in
+      let same = same_value found (n, on.used) (one_design (bytes ++ 10 ∷ printed_state p state) (Ok found) (Ok (n, on.used)) h on.front) in
       let here : IsCertificateChecked n p (drop on.used (bytes ++ 10 ∷ printed_state p state)) reply =
       subst (λ (x : Network × ℕ). IsCertificateChecked x.0 p (drop x.1 (bytes ++ 10 ∷ printed_state p state)) reply) same checked in
       certificate_checked n p state reply breaks lowest (drop on.used (bytes ++ 10 ∷ printed_state p state)) on.rest here
 
 pub state_is_checked : StateIsChecked
-state_is_checked p limits bytes state reply (stopped fault h e) checked = absurd (no_design (answer.Broken p state) fault (λ r same. cc) e)
+state_is_checked p limits bytes state reply (stopped fault h e) checked = absurd (no_refusal (answer.Broken p state) fault (λ r same. cc) e)
 state_is_checked p limits bytes state reply (went_on n lone (v, is, e)) checked =
     let same = told_no p v state (same_value (answer.Broken p state) (verdict_told p v) e) in
     let right : IsVerdict n p limits (verdict.No state) = subst (IsVerdict n p limits) same is in

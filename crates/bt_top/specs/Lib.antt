@@ -17,4 +17,5 @@ pub mod Answering
 pub mod Endings
 pub mod Longer
 pub mod Rechecking
+pub mod RecheckingLayouts
 pub mod inner

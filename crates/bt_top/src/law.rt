@@ -1,6 +1,7 @@
 //! Laws of what the commands answer, as contracts of functions that do nothing.
 ghost use Rattle.bt_top.specs.Longer.{DesignStays, RefusalStays};
 ghost use Rattle.bt_top.specs.Rechecking.{ProofIsChecked, StateIsChecked};
+ghost use Rattle.bt_top.specs.RecheckingLayouts.{NoneIsChecked};
 
 /// What is read of the design at the front of bytes is read of longer ones that begin with them, where it
 /// doesn't rest on where the bytes end.
@@ -14,4 +15,9 @@ pub fn longer_is_read()
 pub fn decided_is_checked()
     ensures proved { ProofIsChecked }
     ensures state { StateIsChecked }
+{}
+
+/// `check-layout` accepts a request with the certificate that `layout` writes where it has no layout.
+pub fn laid_out_is_checked()
+    ensures { NoneIsChecked }
 {}

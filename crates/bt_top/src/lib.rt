@@ -27,7 +27,7 @@ mod text;
 
 pub use answer::Answer;
 pub use input::{MOST_CHECKED, MOST_OF_DESIGN};
-pub use law::{decided_is_checked, longer_is_read};
+pub use law::{decided_is_checked, laid_out_is_checked, longer_is_read};
 pub use making::Made;
 pub use none_certificate::none_is_accepted;
 pub use program::{NO_MEMORY, READ_FAULT, WRITE_FAULT, run};
