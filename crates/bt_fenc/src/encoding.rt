@@ -1,6 +1,5 @@
 //! The flow formula of a network and a property.
 ghost use Rattle.std.specs.Prelude.{◌≡◌, ◌<◌, ◌≤◌, length, OnOk, IfOk, flat_map};
-ghost use Rattle.bt_net.specs.Network.{IsNetwork};
 ghost use Rattle.bt_flow.specs.Ports.{ArePorts};
 ghost use Rattle.bt_fenc.specs.Families as families;
 ghost use Rattle.bt_fenc.specs.FlowFormula.{flow_formula};
@@ -25,7 +24,6 @@ fn write_at(
     family: Family,
     place: usize,
 ) -> Result<(), AllocError>
-    requires network { IsNetwork net.now }
     requires ports { ArePorts net.now ports.now }
     requires place { place < families.places net.now family }
     requires marks { length net.now.edges ≤ formula.old.vars }
@@ -45,7 +43,6 @@ fn write_family(
     formula: &mut Formula,
     family: Family,
 ) -> Result<(), AllocError>
-    requires network { IsNetwork net.now }
     requires ports { ArePorts net.now ports.now }
     requires marks { length net.now.edges ≤ formula.old.vars }
     ensures { OnOk result (formula.new ≡ with_clauses formula.old (families.family_clauses net.now family)) }
@@ -63,7 +60,6 @@ fn write_families(
     ports: &Ports,
     formula: &mut Formula,
 ) -> Result<(), AllocError>
-    requires network { IsNetwork net.now }
     requires ports { ArePorts net.now ports.now }
     requires marks { length net.now.edges ≤ formula.old.vars }
     ensures { OnOk result (formula.new ≡ with_clauses formula.old

@@ -38,7 +38,6 @@ pub fn input_edge(net: &Net, ports: &Ports, input: usize) -> usize
     ensures edge { result ≡ columns.input_edge net.now input }
     ensures small { result < 2 ^ 16 }
 {
-    let _ = net;
     first_of(ports.inputs[input])
 }
 
@@ -49,7 +48,6 @@ pub fn output_edge(net: &Net, ports: &Ports, output: usize) -> usize
     ensures edge { result ≡ columns.output_edge net.now output }
     ensures small { result < 2 ^ 16 }
 {
-    let _ = net;
     first_of(ports.outputs[output])
 }
 

@@ -56,7 +56,6 @@ fn conserve_row(alloc: Global, net: &Net, ports: &Ports, splitter: usize) -> Res
     ensures { IfOk result (λ row. row ≡ columns.zero_row
         (columns.in_less_out splitter 0 net.now.edges) Relation.Equal) }
 {
-    let _ = net;
     let entering = numbers_of(alloc, ports.into[splitter])?;
     let leaving = numbers_of(alloc, ports.out_of[splitter])?;
     let terms = merge(alloc, &entering, &leaving)?;

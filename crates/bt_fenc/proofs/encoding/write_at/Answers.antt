@@ -11,4 +11,4 @@ add_clauses-requires c =
     let clauses = clauses_at n c.args.family c.args.place in
     let vars = c.args.formula.now.vars in
     subst (AreWithin vars) (sym (c.in_ok-add_at.ensures ∙ ap (λ l. l ++ clauses) c.new-draft.ensures))
-    (all_within_more (length n.edges) vars c.requires.marks clauses (at_within n c.requires.network c.args.family c.args.place))
+    (all_within_more (length n.edges) vars c.requires.marks clauses (at_within n c.requires.ports.network c.args.family c.args.place))
