@@ -26,6 +26,9 @@ use Rattle.bt_top.specs.Designs.{IsDesign}
 use Rattle.bt_top.specs.Replies.{Reply, design_told}
 use Rattle.bt_top.specs.Steps.{went_on}
 use Rattle.bt_top.specs.declared.answer.Answer.TheVariants as answer
+use Rattle.bt_words.specs.declared.command.Command.TheVariants.{Check}
+use Rattle.bt_top.specs.declared.input.TheConstants.{MOST_CHECKED}
+use Rattle.bt_top.specs.inner.Telling.{IsAnswered}
 use Rattle.bt_top.specs.inner.Fronts.{AnswersLeft, IsFront, steps_told}
 use Rattle.bt_top.proofs.Certified.{yes_told, fault_told}
 use Rattle.bt_top.proofs.LongerDesigns.{Stays, design_stays}
@@ -149,3 +152,9 @@ module _ (n : Network) (p : Property) (lines : List ℕ) (limit : ℕ) (source :
   steps_wrong cert.ReadFault h = record { read = h.checked; count = h.count }
   steps_wrong cert.TooLong h = record { read = h.checked; count = h.count }
   steps_wrong cert.Memory h = record { read = h.checked; count = h.count }
+
+-- what is right of all that a source has left is what `check` answers to the source
+pub check_answered : (p : Property) (source : Passage) (result : Result Answer ReadAll) → AnswersLeft (IsCertified p) MOST_CHECKED source result
+    → IsAnswered (Check p) source result
+check_answered p source (Ok a) h = h
+check_answered p source (Err fault) h = h

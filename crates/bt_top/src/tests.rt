@@ -89,8 +89,15 @@ fn answer_by(
 }
 
 fn answers_all(rt: &impl Abort, alloc: Global, cases: &[Case]) -> Result<(), Fail> {
+    answers_by(rt, alloc, cases, 7)
+}
+
+/// The same where the source and the sink give and take at most so many bytes a call.
+fn answers_by(rt: &impl Abort, alloc: Global, cases: &[Case], most: usize) -> Result<(), Fail>
+    requires { 1 ≤ most }
+{
     for (place, Case(words, input, status, text)) in cases.iter().enumerate() {
-        let (given, written) = answer(alloc, words, joined(alloc, input)?, (0, 0), 7)?;
+        let (given, written) = answer(alloc, words, joined(alloc, input)?, (0, 0), most)?;
         assert!(rt; given == *status, "case {place}: {given}");
         assert!(rt; written.as_slice() == text.as_bytes(), "case {place}");
     }

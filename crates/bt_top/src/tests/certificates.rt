@@ -1,5 +1,5 @@
 //! Certificates behind a design.
-use super::{BELT, BELT_STATE, Case, SPLITTER, answers_all};
+use super::{BELT, BELT_STATE, Case, SPLITTER, answers_all, answers_by};
 use std::test::Fail;
 
 const YES: &str = "yes unlimited\n";
@@ -189,10 +189,14 @@ const REFUSED: [Case; 17] = [
 
 #[test]
 fn accepts_certificates(rt: HostRuntime) -> Result<(), Fail> {
+    answers_by(&rt, rt.alloc(), &ACCEPTED, 1)?;
+    answers_by(&rt, rt.alloc(), &ACCEPTED, 2)?;
     answers_all(&rt, rt.alloc(), &ACCEPTED)
 }
 
 #[test]
 fn refuses_certificates(rt: HostRuntime) -> Result<(), Fail> {
+    answers_by(&rt, rt.alloc(), &REFUSED, 1)?;
+    answers_by(&rt, rt.alloc(), &REFUSED, 2)?;
     answers_all(&rt, rt.alloc(), &REFUSED)
 }

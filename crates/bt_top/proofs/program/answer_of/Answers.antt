@@ -1,0 +1,11 @@
+use Rattle.std.proofs.Common.{subst, sym}
+use Rattle.bt_io.specs.Passages.{passage}
+use Rattle.bt_top.specs.inner.Telling.{IsAnswered}
+use Rattle.bt_top.proofs.Fronts.{check_answered}
+use Rattle.bt_top.proofs.program.answer_of.Goals as goal
+
+pub returns-in-Check-clause-answer : goal.returns-in-Check-clause-answer
+returns-in-Check-clause-answer g c =
+    let source = passage g.S.Source.left g.S.Source.faults c.args.source.now c.certified_from.new.source in
+    subst (λ command. IsAnswered command source c.certified_from.result) (sym c.in-Check.is)
+    (check_answered c.in-Check.property source c.certified_from.result c.certified_from.ensures)
