@@ -1,11 +1,14 @@
 //! Loops that time the crates, for the scripts of bench/. The first word names the loop, and the
-//! second is the number of rounds. The loops over JSON and over a blueprint read their text from
-//! standard input. `check` checks the steps of a log on standard input against the formula that the
-//! second word names, or against the flow formula of the network whose text it is.
+//! second is the number of rounds. The loops over JSON, over a blueprint, over a request and over checks of
+//! a tableau, whose rows are those of a network's flow formula, read their text from standard input. `check`
+//! checks the steps of a log on standard input against the formula that the second word names, or against
+//! the flow formula of the network whose text it is.
 #![tactic(auto)]
 
 mod certificates;
 mod fractions;
+mod pivots;
+mod places;
 
 use bt_cert::check_log;
 use bt_entities::parts_of;
@@ -15,6 +18,8 @@ use bt_io::{Source, StdSource, read_all};
 use bt_json::{Tree, read};
 use certificates::formula_named;
 use fractions::{repeated_sum, small_fractions, wide_fractions};
+use pivots::checks_met;
+use places::literals_written;
 use std::alloc::Global;
 use std::mem::forget;
 use std::{env, io};
@@ -86,6 +91,20 @@ fn refutes<S: Source>(alloc: Global, name: &str, source: &mut S) -> bool {
     }
 }
 
+/// How many checks of the rows of a network's flow formula find values.
+fn checks_met_often(alloc: Global, text: &str, rounds: u64) -> Option<usize> {
+    let formula = formula_named(alloc, text).ok()??;
+    checks_met(alloc, &formula, rounds).ok()?
+}
+
+/// What the loop of this name over a text comes to, or `None` where it fails or there is no such loop.
+fn outcome_over(alloc: Global, name: &str, rounds: u64, text: &str) -> Option<Outcome> {
+    match name {
+        "pivots" => checks_met_often(alloc, text, rounds).map(Outcome::Count),
+        _ => None,
+    }
+}
+
 /// What the loop of this name comes to, or `None` where it fails or there is no such loop.
 fn outcome_of<S: Source>(
     alloc: Global,
@@ -102,7 +121,8 @@ fn outcome_of<S: Source>(
                 "json" => place_after(alloc, &text, rounds, false).map(Outcome::Count),
                 "json-kept" => place_after(alloc, &text, rounds, true).map(Outcome::Count),
                 "grid" => parts_placed_often(alloc, &text, rounds).map(Outcome::Count),
-                _ => None,
+                "place" => literals_written(alloc, &text, rounds).map(Outcome::Count),
+                _ => outcome_over(alloc, name, rounds, std::str::from_utf8(&text).ok()?),
             }
         }
     }

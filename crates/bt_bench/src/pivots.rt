@@ -1,0 +1,65 @@
+//! Checks of a tableau, whose bound rows change by a few from check to check: the same as in
+//! bench/pivots.rs.
+use bt_cnf::Formula;
+use bt_simplex::{Check, Tableau, are_over};
+use std::alloc::{AllocError, Global};
+
+/// How many rows at the front are always bound: those of the ranges and of the splitters of the eight to
+/// eight balancer.
+const ALWAYS: usize = 108;
+
+/// How many rows are bound or let go before each check.
+const CHANGES: u32 = 4;
+
+/// The most turns of a check.
+const TURNS: u64 = 10_000;
+
+/// Binds a row, or lets it go where it is bound.
+fn change(tableau: &mut Tableau, row: usize) {
+    if row >= tableau.rows().len() {
+        return;
+    }
+    match tableau.bound_row(tableau.columns().wrapping_add(row)) {
+        Some(_) => tableau.clear_bound(row),
+        None => tableau.set_bound(row),
+    }
+}
+
+/// Changes some rows, and gives the seed of the next ones.
+fn change_some(tableau: &mut Tableau, seed: u64) -> u64 {
+    let mut next = seed;
+    for _ in 0..CHANGES {
+        next = next
+            .wrapping_mul(6364136223846793005)
+            .wrapping_add(1442695040888963407);
+        let free = tableau.rows().len().saturating_sub(ALWAYS);
+        if let Some(place) = ((next >> 33) as usize).checked_rem(free) {
+            change(tableau, place.wrapping_add(ALWAYS));
+        }
+    }
+    next
+}
+
+/// How many of the checks of the formula's rows find values that meet them.
+pub fn checks_met(
+    alloc: Global,
+    formula: &Formula,
+    rounds: u64,
+) -> Result<Option<usize>, AllocError> {
+    if !are_over(formula.rows(), formula.columns()) {
+        return Ok(None);
+    }
+    let mut tableau = Tableau::new(alloc, formula.rows(), formula.columns())?;
+    for row in 0..ALWAYS {
+        change(&mut tableau, row);
+    }
+    let mut met: usize = 0;
+    let mut seed = 1;
+    for _ in 0..rounds {
+        seed = change_some(&mut tableau, seed);
+        if let Check::Sat(_) = tableau.check(alloc, TURNS)? {
+            met = met.wrapping_add(1);
+        }
+    }
+    Ok(Some(met))
+}
