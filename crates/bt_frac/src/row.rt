@@ -4,6 +4,7 @@ ghost use Rattle.std.specs.Prelude.{◌≡◌, IfOk};
 ghost use Rattle.bt_frac.specs.Rows.{RowParts, IsRow, IsRowOf};
 
 use crate::frac::{Frac, have_columns};
+use smallvec::SmallVec;
 use std::alloc::{AllocError, Global};
 use std::marker::Model;
 
@@ -22,7 +23,8 @@ pub enum Relation {
 /// strictly and are below `usize::MAX`, so that there is a column after the last.
 #[derive(Drop)]
 pub struct Row {
-    terms: Vec<(usize, Frac)>,
+    /// Most rows have at most two terms, which need no block of memory.
+    terms: SmallVec<(usize, Frac), 2>,
     relation: Relation,
     bound: Frac,
 }
@@ -54,7 +56,7 @@ impl Row {
         }
         let _ = bound.denominator();
         Ok(Some(Row {
-            terms: Vec::from_slice(alloc, terms)?,
+            terms: SmallVec::from_slice(alloc, terms)?,
             relation,
             bound,
         }))

@@ -13,11 +13,11 @@ made terms copied relation bound same columns coefficients low =
 pub invariant_of-result : goal.invariant_of-result
 invariant_of-result c =
     let are = c.if-not-have_columns.ensures in
-    made c.args.terms.now _ c.args.relation c.args.bound c.in_ok-from_slice.ensures.items (are.columns.0 refl) (are.known refl) c.denominator.ensures.known
+    made c.args.terms.now _ c.args.relation c.args.bound c.in_ok-from_slice.ensures.ok (are.columns.0 refl) (are.known refl) c.denominator.ensures.known
 
 pub returns : goal.returns
 returns c =
     let are = c.if-not-have_columns.ensures in (
-      made c.args.terms.now _ c.args.relation c.args.bound c.in_ok-from_slice.ensures.items (are.columns.0 refl) (are.known refl) c.denominator.ensures.known,
-      ap (λ ts. record { terms = ts; relation = c.args.relation; bound = c.args.bound }) c.in_ok-from_slice.ensures.items,
+      made c.args.terms.now _ c.args.relation c.args.bound c.in_ok-from_slice.ensures.ok (are.columns.0 refl) (are.known refl) c.denominator.ensures.known,
+      ap (λ ts. record { terms = ts; relation = c.args.relation; bound = c.args.bound }) c.in_ok-from_slice.ensures.ok,
     )
