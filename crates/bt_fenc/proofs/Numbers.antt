@@ -62,13 +62,6 @@ literals_below n m [] h l = tt
 literals_below n m (Mark a b ∷ claims) h l = (h.0, literals_below n m claims h.1 l)
 literals_below n m (Says row ∷ claims) h l = (omega arith, literals_below n (m + 1) claims h.1 (omega arith))
 
-here : {X : Type 0} (P : X → Type 0) (front : List X) (x : X) (back : List X) → AllByRecursion P (front ++ x ∷ back) → P x
-here P [] x back h = h.0
-here P (y ∷ front) x back h = here P front x back h.1
-
-at_middle : {X : Type 0} (P : X → Type 0) (front : List X) (x : X) (back all : List X) → front ++ x ∷ back ≡ all → AllByRecursion P all → P x
-at_middle P front x back all e h = here P front x back (subst (AllByRecursion P) (sym e) h)
-
 -- a formula whose three parts are the same
 abbrev parts : ℕ → List (List Lit) → List (ℕ × RowParts) → FormulaParts
 parts v cs xs = record { vars = v; clauses = cs; atoms = xs }
@@ -76,50 +69,55 @@ parts v cs xs = record { vars = v; clauses = cs; atoms = xs }
 same_parts : (v w : ℕ) (cs ds : List (List Lit)) (xs ys : List (ℕ × RowParts)) → v ≡ w → cs ≡ ds → xs ≡ ys → parts v cs xs ≡ parts w ds ys
 same_parts v w cs ds xs ys p q r = ap (λ n. parts n cs xs) p ∙ ap (λ l. parts w l xs) q ∙ ap (λ l. parts w ds l) r
 
--- a claim is numbered after others
-module _ (old now : FormulaParts) (front back all : List Claim) (claim : Claim) (lits : List Lit) (split : front ++ claim ∷ back ≡ all)
-    (after : IsAfter old [] front now lits) where
-  now_vars : now.vars ≡ old.vars + length (flat_map mentioned front)
-  now_vars = ap (λ f. f.vars) after.formula
-
-  pub claim_within : AllByRecursion (IsWithin old.vars) all → IsWithin now.vars claim
-  claim_within h = claim_wider old.vars now.vars (omega (arith, now_vars)) claim (at_middle (IsWithin old.vars) front claim back all split h)
-
-  pub claim_added : (new : FormulaParts) (more : List Lit) → IsAfter now lits (claim ∷ []) new more → IsAfter old [] (front ++ claim ∷ []) new more
-  claim_added new more g =
-      let one : List RowParts = flat_map mentioned (claim ∷ []) in
-      let rows : flat_map mentioned (front ++ claim ∷ []) ≡ flat_map mentioned front ++ one = flat_map-append mentioned front (claim ∷ []) in
-      let long = ap length rows ∙ length-append (flat_map mentioned front) one in
-      record {
-        formula = g.formula
-            ∙ same_parts (now.vars + length one) (old.vars + length (flat_map mentioned (front ++ claim ∷ []))) now.clauses old.clauses
-            (now.atoms ++ atoms_from now.vars one) (old.atoms ++ atoms_from old.vars (flat_map mentioned (front ++ claim ∷ [])))
-            (omega (arith, now_vars, long))
-            (ap (λ f. f.clauses) after.formula)
-            (ap (λ a. a ++ atoms_from now.vars one) (ap (λ f. f.atoms) after.formula)
-            ∙ append_assoc old.atoms (atoms_from old.vars (flat_map mentioned front)) (atoms_from now.vars one)
-            ∙ ap (λ k. old.atoms ++ (atoms_from old.vars (flat_map mentioned front) ++ atoms_from k one)) now_vars
-            ∙ ap (λ l. old.atoms ++ l) (sym (ap (atoms_from old.vars) rows ∙ atoms-append old.vars (flat_map mentioned front) one)));
-        literals = g.literals ∙ ap (λ l. l ++ literals_from now.vars (claim ∷ [])) after.literals
-            ∙ ap (λ k. literals_from old.vars front ++ literals_from k (claim ∷ [])) now_vars ∙ sym (literals-append old.vars front (claim ∷ []));
-      }
-
 -- no claim is numbered yet
-pub none_after : (f : FormulaParts) (lits : List Lit) → lits ≡ [] → IsAfter f [] [] f lits
-none_after f lits e = record {
+pub none_after : (f : FormulaParts) → IsAfter f [] f []
+none_after f = record {
   formula = same_parts f.vars (f.vars + length {A = RowParts} []) f.clauses f.clauses f.atoms (f.atoms ++ []) (omega arith) refl (sym (append-nil f.atoms));
-  literals = e;
+  literals = refl;
 }
 
+-- a claim is numbered after others
+pub claim_added : (old now new : FormulaParts) (front : List Claim) (claim : Claim) (lits : List Lit) (lit : Lit) → IsAfter old front now lits → IsAfter now (claim ∷ []) new (lit ∷ [])
+    → IsAfter old (front ++ claim ∷ []) new (lits ++ lit ∷ [])
+claim_added old now new front claim lits lit after g =
+    let vars : now.vars ≡ old.vars + length (flat_map mentioned front) = ap (λ f. f.vars) after.formula in
+    let one : List RowParts = flat_map mentioned (claim ∷ []) in
+    let rows : flat_map mentioned (front ++ claim ∷ []) ≡ flat_map mentioned front ++ one = flat_map-append mentioned front (claim ∷ []) in
+    let long = ap length rows ∙ length-append (flat_map mentioned front) one in
+    record {
+      formula = g.formula
+          ∙ same_parts (now.vars + length one) (old.vars + length (flat_map mentioned (front ++ claim ∷ []))) now.clauses old.clauses
+          (now.atoms ++ atoms_from now.vars one) (old.atoms ++ atoms_from old.vars (flat_map mentioned (front ++ claim ∷ [])))
+          (omega (arith, vars, long))
+          (ap (λ f. f.clauses) after.formula)
+          (ap (λ a. a ++ atoms_from now.vars one) (ap (λ f. f.atoms) after.formula)
+          ∙ append_assoc old.atoms (atoms_from old.vars (flat_map mentioned front)) (atoms_from now.vars one)
+          ∙ ap (λ k. old.atoms ++ (atoms_from old.vars (flat_map mentioned front) ++ atoms_from k one)) vars
+          ∙ ap (λ l. old.atoms ++ l) (sym (ap (atoms_from old.vars) rows ∙ atoms-append old.vars (flat_map mentioned front) one)));
+      literals = ap (λ l. l ++ lit ∷ []) after.literals
+          ∙ ap (λ l. literals_from old.vars front ++ l) (g.literals ∙ ap (λ k. literals_from k (claim ∷ [])) vars)
+          ∙ sym (literals-append old.vars front (claim ∷ []));
+    }
+
+-- two rows are numbered after others, and their literals pushed
+pub rows_added : (old now one new : FormulaParts) (front after : List Claim) (a b : RowParts) (lits mid more : List Lit) (x y : Lit) → IsAfter old front now lits
+    → IsAfter now (Says a ∷ []) one (x ∷ []) → mid ≡ lits ++ x ∷ [] → IsAfter one (Says b ∷ []) new (y ∷ []) → more ≡ mid ++ y ∷ []
+    → front ++ Says a ∷ Says b ∷ [] ≡ after → IsAfter old after new more
+rows_added old now one new front after a b lits mid more x y h first e second g same =
+    let both = claim_added old one new (front ++ Says a ∷ []) (Says b) (lits ++ x ∷ []) y (claim_added old now one front (Says a) lits x h first) second in
+    let pushed : (lits ++ x ∷ []) ++ y ∷ [] ≡ more = sym (g ∙ ap (λ l. l ++ y ∷ []) e) in
+    let claims : (front ++ Says a ∷ []) ++ Says b ∷ [] ≡ after = append_assoc front (Says a ∷ []) (Says b ∷ []) ∙ same in
+    subst (IsAfter old after new) pushed (subst (λ c. IsAfter old c new ((lits ++ x ∷ []) ++ y ∷ [])) claims both)
+
 -- all claims of a clause are numbered
-pub clause_below : (old now : FormulaParts) (all : List Claim) (lits : List Lit) → IsAfter old [] all now lits
+pub clause_below : (old now : FormulaParts) (all : List Claim) (lits : List Lit) → IsAfter old all now lits
     → AllByRecursion (IsWithin old.vars) all → All (λ l. l.var < now.vars) lits
 clause_below old now all lits after h =
     let vars = ap (λ f. f.vars) after.formula in
     subst (All (λ l. l.var < now.vars)) (sym after.literals)
     (all_from _ (literals_from old.vars all) (literals_below now.vars old.vars all (within_more old.vars now.vars (omega (arith, vars)) all h) (omega (arith, vars))))
 
-pub clause_added : (old now new : FormulaParts) (all : List Claim) (lits : List Lit) → IsAfter old [] all now lits
+pub clause_added : (old now new : FormulaParts) (all : List Claim) (lits : List Lit) → IsAfter old all now lits
     → new ≡ record now { clauses = now.clauses ++ lits ∷ [] } → new ≡ with_clauses old (all ∷ [])
 clause_added old now new all lits after e =
     let rows = sym (append-nil (flat_map mentioned all)) in
@@ -151,16 +149,11 @@ pub added_more : (old now new : FormulaParts) (before more after : List (List Cl
     → new ≡ with_clauses old after
 added_more old now new before more after e h same = h ∙ ap (λ f. with_clauses f more) e ∙ with_more old before more ∙ ap (with_clauses old) same
 
+-- the same of the formula alone
+pub then_more : (old now : FormulaParts) (before more after : List (List Claim)) → now ≡ with_clauses old before → before ++ more ≡ after
+    → with_clauses now more ≡ with_clauses old after
+then_more old now before more after e same = ap (λ f. with_clauses f more) e ∙ with_more old before more ∙ ap (with_clauses old) same
+
 -- a formula's variables stay, and more come
 pub marks_stay : (marks : ℕ) (old now : FormulaParts) (clauses : List (List Claim)) → now ≡ with_clauses old clauses → marks ≤ old.vars → marks ≤ now.vars
 marks_stay marks old now clauses e h = let v = ap (λ f. f.vars) e in omega (arith, v, h)
-
--- a clause among others that are within the variables of the formula that they are added to
-pub clause_within : (old now : FormulaParts) (before : List (List Claim)) (claims : List Claim) (rest all : List (List Claim)) → before ++ claims ∷ rest ≡ all
-    → now ≡ with_clauses old before → AreWithin old.vars all → AllByRecursion (IsWithin now.vars) claims
-clause_within old now before claims rest all e grown h =
-    within_more old.vars now.vars (marks_stay old.vars old now before grown (omega arith)) claims (at_middle (AllByRecursion (IsWithin old.vars)) before claims rest all e h)
-
-pub none_left : {X : Type 0} (xs : List X) (n : ℕ) → n ≡ length xs → n ≡ 0 → xs ≡ []
-none_left [] n e z = refl
-none_left (x ∷ xs) n e z = absurd (omega arith)

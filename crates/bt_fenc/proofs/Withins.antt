@@ -80,6 +80,11 @@ first_below : (n : ℕ) (numbers : List ℕ) → 0 < n → AllByRecursion (λ x.
 first_below n [] l h = l
 first_below n (x ∷ xs) l h = h.0
 
+-- a clause of rows has no marks
+pub unequal_within : (m : ℕ) (edges : List ℕ) → AllByRecursion (IsWithin m) (unequal_clause edges)
+unequal_within m [] = tt
+unequal_within m (first ∷ others) = each-flat_map _ (λ x. Unit {0}) (differ first) others (each_any others) (λ b t. (tt, (tt, tt)))
+
 module _ (n : Network) (is : IsNetwork n) where
   pub small_numbers : (p : Edge → Bool) (numbers : List ℕ) → numbers ≡ numbers_where p 0 n.edges → All (λ x. x < 2 ^ 64 - 1) numbers
   small_numbers p numbers e =
@@ -93,7 +98,7 @@ module _ (n : Network) (is : IsNetwork n) where
   pub has_edge : 0 < length n.edges
   has_edge = some_edge n.edges (is.wired.one_in 0 (let s = is.some_input in omega (arith, s)))
 
-  all_below : (p : Edge → Bool) → AllByRecursion (λ x. x < length n.edges) (numbers_where p 0 n.edges)
+  pub all_below : (p : Edge → Bool) → AllByRecursion (λ x. x < length n.edges) (numbers_where p 0 n.edges)
   all_below p = numbers_below p 0 (length n.edges) n.edges (omega arith)
 
   pub input_below : (i : ℕ) → input_edge n i < length n.edges
@@ -140,13 +145,9 @@ module _ (n : Network) (is : IsNetwork n) where
   short_within : AreWithin (length n.edges) (short_clauses n)
   short_within = ((tt, tt), ((tt, tt), tt))
 
-  unequal_within : (edges : List ℕ) → AllByRecursion (IsWithin (length n.edges)) (unequal_clause edges)
-  unequal_within [] = tt
-  unequal_within (first ∷ others) = each-flat_map _ (λ x. Unit {0}) (differ first) others (each_any others) (λ b t. (tt, (tt, tt)))
-
   pub property_within : (p : Property) → AreWithin (length n.edges) (property_clauses n p)
-  property_within Balanced = each-append (AllByRecursion (IsWithin (length n.edges))) (open_clauses n) (unequal_clause (output_edges n) ∷ []) open_within (unequal_within (output_edges n), tt)
-  property_within DrawnEvenly = each-append (AllByRecursion (IsWithin (length n.edges))) (loaded_clauses n) (unequal_clause (input_edges n) ∷ []) loaded_within (unequal_within (input_edges n), tt)
+  property_within Balanced = each-append (AllByRecursion (IsWithin (length n.edges))) (open_clauses n) (unequal_clause (output_edges n) ∷ []) open_within (unequal_within (length n.edges) (output_edges n), tt)
+  property_within DrawnEvenly = each-append (AllByRecursion (IsWithin (length n.edges))) (loaded_clauses n) (unequal_clause (input_edges n) ∷ []) loaded_within (unequal_within (length n.edges) (input_edges n), tt)
   property_within Unlimited = short_within
   property_within Full = each-three (AllByRecursion (IsWithin (length n.edges))) (loaded_clauses n) (open_clauses n) (short_clauses n) loaded_within open_within short_within
 

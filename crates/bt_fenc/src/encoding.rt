@@ -1,39 +1,17 @@
 //! The flow formula of a network and a property.
-ghost use Rattle.std.specs.Prelude.{◌≡◌, ◌<◌, ◌≤◌, length, OnOk, IfOk, flat_map};
+ghost use Rattle.std.specs.Prelude.{◌≡◌, ◌≤◌, length, OnOk, IfOk, flat_map};
 ghost use Rattle.bt_flow.specs.Ports.{ArePorts};
 ghost use Rattle.bt_fenc.specs.Families as families;
 ghost use Rattle.bt_fenc.specs.FlowFormula.{flow_formula};
 ghost use Rattle.bt_fenc.specs.inner.Adding.{with_clauses};
 
-use crate::draft::Draft;
 use crate::families::{add_at, places};
 use crate::family::{FAMILIES, Family};
-use crate::numbering::add_clauses;
 use crate::properties::add_property;
 use bt_cnf::Formula;
 use bt_flow::{Ports, Property};
 use bt_net::Net;
 use std::alloc::{AllocError, Global};
-
-/// Adds the clauses of a family at a place to a formula whose first variables are the marks of edges.
-fn write_at(
-    alloc: Global,
-    net: &Net,
-    ports: &Ports,
-    formula: &mut Formula,
-    family: Family,
-    place: usize,
-) -> Result<(), AllocError>
-    requires ports { ArePorts net.now ports.now }
-    requires place { place < families.places net.now family }
-    requires marks { length net.now.edges ≤ formula.old.vars }
-    ensures { OnOk result (formula.new
-        ≡ with_clauses formula.old (families.clauses_at net.now family place)) }
-{
-    let mut draft = Draft::new(alloc);
-    add_at(alloc, net, ports, &mut draft, family, place)?;
-    add_clauses(alloc, formula, draft)
-}
 
 /// Adds the clauses of a family at all its places.
 fn write_family(
@@ -48,7 +26,7 @@ fn write_family(
     ensures { OnOk result (formula.new ≡ with_clauses formula.old (families.family_clauses net.now family)) }
 {
     for place in 0..places(net, family) {
-        write_at(alloc, net, ports, formula, family, place)?;
+        add_at(alloc, net, ports, formula, family, place)?;
     }
     Ok(())
 }
@@ -74,16 +52,12 @@ fn write_families(
 /// The flow formula of a network and a property. Its variables are the marks of the edges, true where
 /// an edge is backed, and then an atom for each mention of a row. The rows' columns are the flows of
 /// the edges, the loads of the inputs and the rooms of the outputs.
-///
-/// The clauses of each place are drawn up and written at once, so that no second copy of the formula is held.
 pub fn encode(alloc: Global, net: &Net, property: Property) -> Result<Formula, AllocError>
     ensures { IfOk result (λ formula. formula ≡ flow_formula net.now property) }
 {
     let ports = Ports::of(net);
     let mut formula = Formula::new(alloc, net.edges().len())?;
     write_families(alloc, net, &ports, &mut formula)?;
-    let mut draft = Draft::new(alloc);
-    add_property(alloc, net, &ports, &mut draft, property)?;
-    add_clauses(alloc, &mut formula, draft)?;
+    add_property(alloc, net, &ports, &mut formula, property)?;
     Ok(formula)
 }

@@ -1,52 +1,60 @@
 //! The clauses that say that a state is admissible and steady.
-ghost use Rattle.std.specs.Prelude.{◌≡◌, ◌++◌, ◌<◌, ◌-◌, ◌^◌, OnOk, IfOk, true, false};
+ghost use Rattle.std.specs.Prelude.{◌≡◌, ◌<◌, ◌≤◌, ◌-◌, ◌^◌, OnOk, IfOk, length};
 ghost use Rattle.bt_flow.specs.Ports.{ArePorts};
 ghost use Rattle.bt_frac.specs.declared.row.Relation.TheVariants as Relation;
 ghost use Rattle.bt_fenc.specs.Columns as columns;
 ghost use Rattle.bt_fenc.specs.Families as families;
+ghost use Rattle.bt_fenc.specs.Within.{AreWithin};
 ghost use Rattle.bt_fenc.specs.declared.family.Family.TheVariants as Family;
+ghost use Rattle.bt_fenc.specs.inner.Adding.{with_clauses};
 
 use crate::claim::Claim;
-use crate::draft::Draft;
 use crate::ends::{cap_at, input_edge, load_column, numbers_of, output_edge, room_column};
 use crate::family::Family;
+use crate::numbering::{add_row, add_two};
 use crate::rows::{at_least, at_most, not_below, row_of};
 use crate::splitters::{add_backing, add_even, merge};
-use bt_flow::{Port, Ports};
+use bt_cnf::Formula;
+use bt_flow::Ports;
 use bt_frac::{Frac, Relation, Row};
 use bt_net::Net;
 use std::alloc::{AllocError, Global};
 
 /// Adds that a column is from 0 to a cap.
-fn add_range(alloc: Global, draft: &mut Draft, column: usize, cap: u32) -> Result<(), AllocError>
+fn add_range(
+    alloc: Global,
+    formula: &mut Formula,
+    column: usize,
+    cap: u32,
+) -> Result<(), AllocError>
     requires { column < 2 ^ 64 - 1 }
-    ensures { OnOk result (draft.new ≡ draft.old ++ families.range_clauses column cap) }
+    ensures { OnOk result (formula.new ≡ with_clauses formula.old (families.range_clauses column cap)) }
 {
     let least = at_least(alloc, column, 0)?;
-    draft.add_row(alloc, least)?;
+    add_row(formula, least)?;
     let most = at_most(alloc, column, cap)?;
-    draft.add_row(alloc, most)
+    add_row(formula, most)
 }
 
 /// Adds that an edge's flow is at most the load or room in a column, and equals it unless the edge has
 /// the mark.
 fn add_end(
     alloc: Global,
-    draft: &mut Draft,
+    formula: &mut Formula,
     column: usize,
     edge: usize,
     mark: bool,
 ) -> Result<(), AllocError>
     requires column { column < 2 ^ 64 - 1 }
     requires edge { edge < 2 ^ 64 - 1 }
-    ensures { OnOk result (draft.new ≡ draft.old ++ families.end_clauses column edge mark) }
+    requires within { AreWithin formula.old.vars (families.end_clauses column edge mark) }
+    ensures { OnOk result (formula.new ≡ with_clauses formula.old (families.end_clauses column edge mark)) }
 {
     let most = not_below(alloc, column, edge)?;
-    draft.add_row(alloc, most)?;
+    add_row(formula, most)?;
     let least = not_below(alloc, edge, column)?;
     let has_mark = Claim::Mark { edge, backed: mark };
-    let claims = vec![in alloc; has_mark, Claim::Says(least)]?;
-    draft.add(claims)
+    add_two(formula, has_mark, Claim::Says(least))
 }
 
 /// The row that as much flows into a splitter as out of it.
@@ -67,15 +75,16 @@ fn add_conserve(
     alloc: Global,
     net: &Net,
     ports: &Ports,
-    draft: &mut Draft,
+    formula: &mut Formula,
     splitter: usize,
 ) -> Result<(), AllocError>
     requires ports { ArePorts net.now ports.now }
     requires splitter { splitter < net.now.splitters }
-    ensures { OnOk result (draft.new ≡ draft.old ++ families.clauses_at net.now Family.Conserve splitter) }
+    ensures { OnOk result (formula.new
+        ≡ with_clauses formula.old (families.clauses_at net.now Family.Conserve splitter)) }
 {
     let row = conserve_row(alloc, net, ports, splitter)?;
-    draft.add_row(alloc, row)
+    add_row(formula, row)
 }
 
 /// Adds that each in edge of a splitter isn't backed, or each out edge is backed or full.
@@ -83,16 +92,18 @@ fn add_backing_at(
     alloc: Global,
     net: &Net,
     ports: &Ports,
-    draft: &mut Draft,
+    formula: &mut Formula,
     splitter: usize,
 ) -> Result<(), AllocError>
     requires ports { ArePorts net.now ports.now }
     requires splitter { splitter < net.now.splitters }
-    ensures { OnOk result (draft.new ≡ draft.old ++ families.clauses_at net.now Family.Backing splitter) }
+    requires marks { length net.now.edges ≤ formula.old.vars }
+    ensures { OnOk result (formula.new
+        ≡ with_clauses formula.old (families.clauses_at net.now Family.Backing splitter)) }
 {
     let entering = numbers_of(alloc, ports.into[splitter])?;
     let leaving = numbers_of(alloc, ports.out_of[splitter])?;
-    add_backing(alloc, net, draft, &entering, &leaving)
+    add_backing(alloc, net, formula, &entering, &leaving)
 }
 
 /// Adds that the load of an input is from 0 to the cap of its edge.
@@ -100,16 +111,17 @@ fn add_load(
     alloc: Global,
     net: &Net,
     ports: &Ports,
-    draft: &mut Draft,
+    formula: &mut Formula,
     input: usize,
 ) -> Result<(), AllocError>
     requires ports { ArePorts net.now ports.now }
     requires input { input < net.now.inputs }
-    ensures { OnOk result (draft.new ≡ draft.old ++ families.clauses_at net.now Family.Loads input) }
+    ensures { OnOk result (formula.new
+        ≡ with_clauses formula.old (families.clauses_at net.now Family.Loads input)) }
 {
     let edge = input_edge(net, ports, input);
     let column = load_column(net, input);
-    add_range(alloc, draft, column, cap_at(net, edge))
+    add_range(alloc, formula, column, cap_at(net, edge))
 }
 
 /// Adds that the room of an output is from 0 to the cap of its edge.
@@ -117,16 +129,17 @@ fn add_room(
     alloc: Global,
     net: &Net,
     ports: &Ports,
-    draft: &mut Draft,
+    formula: &mut Formula,
     output: usize,
 ) -> Result<(), AllocError>
     requires ports { ArePorts net.now ports.now }
     requires output { output < net.now.outputs }
-    ensures { OnOk result (draft.new ≡ draft.old ++ families.clauses_at net.now Family.Rooms output) }
+    ensures { OnOk result (formula.new
+        ≡ with_clauses formula.old (families.clauses_at net.now Family.Rooms output)) }
 {
     let edge = output_edge(net, ports, output);
     let column = room_column(net, output);
-    add_range(alloc, draft, column, cap_at(net, edge))
+    add_range(alloc, formula, column, cap_at(net, edge))
 }
 
 /// Adds that an input takes in at most its load, and all of it where its edge is free.
@@ -134,16 +147,18 @@ fn add_input(
     alloc: Global,
     net: &Net,
     ports: &Ports,
-    draft: &mut Draft,
+    formula: &mut Formula,
     input: usize,
 ) -> Result<(), AllocError>
     requires ports { ArePorts net.now ports.now }
     requires input { input < net.now.inputs }
-    ensures { OnOk result (draft.new ≡ draft.old ++ families.clauses_at net.now Family.Inputs input) }
+    requires within { AreWithin formula.old.vars (families.clauses_at net.now Family.Inputs input) }
+    ensures { OnOk result (formula.new
+        ≡ with_clauses formula.old (families.clauses_at net.now Family.Inputs input)) }
 {
     let edge = input_edge(net, ports, input);
     let column = load_column(net, input);
-    add_end(alloc, draft, column, edge, true)
+    add_end(alloc, formula, column, edge, true)
 }
 
 /// Adds that an output lets out at most its room, and fills it where its edge is backed.
@@ -151,41 +166,46 @@ fn add_output(
     alloc: Global,
     net: &Net,
     ports: &Ports,
-    draft: &mut Draft,
+    formula: &mut Formula,
     output: usize,
 ) -> Result<(), AllocError>
     requires ports { ArePorts net.now ports.now }
     requires output { output < net.now.outputs }
-    ensures { OnOk result (draft.new ≡ draft.old ++ families.clauses_at net.now Family.Outputs output) }
+    requires within { AreWithin formula.old.vars (families.clauses_at net.now Family.Outputs output) }
+    ensures { OnOk result (formula.new
+        ≡ with_clauses formula.old (families.clauses_at net.now Family.Outputs output)) }
 {
     let edge = output_edge(net, ports, output);
     let column = room_column(net, output);
-    add_end(alloc, draft, column, edge, false)
+    add_end(alloc, formula, column, edge, false)
 }
 
-/// Adds the clauses of a family at a place.
+/// Adds the clauses of a family at a place to a formula whose first variables are the marks of edges.
 pub fn add_at(
     alloc: Global,
     net: &Net,
     ports: &Ports,
-    draft: &mut Draft,
+    formula: &mut Formula,
     family: Family,
     place: usize,
 ) -> Result<(), AllocError>
     requires ports { ArePorts net.now ports.now }
     requires place { place < families.places net.now family }
-    ensures { OnOk result (draft.new ≡ draft.old ++ families.clauses_at net.now family place) }
+    requires marks { length net.now.edges ≤ formula.old.vars }
+    requires within { AreWithin formula.old.vars (families.clauses_at net.now family place) }
+    ensures { OnOk result (formula.new
+        ≡ with_clauses formula.old (families.clauses_at net.now family place)) }
 {
     match family {
-        Family::Flows => add_range(alloc, draft, place, cap_at(net, place)),
-        Family::Loads => add_load(alloc, net, ports, draft, place),
-        Family::Rooms => add_room(alloc, net, ports, draft, place),
-        Family::Conserve => add_conserve(alloc, net, ports, draft, place),
-        Family::EvenOut => add_even(alloc, net, draft, true, ports.out_of[place]),
-        Family::EvenIn => add_even(alloc, net, draft, false, ports.into[place]),
-        Family::Backing => add_backing_at(alloc, net, ports, draft, place),
-        Family::Inputs => add_input(alloc, net, ports, draft, place),
-        Family::Outputs => add_output(alloc, net, ports, draft, place),
+        Family::Flows => add_range(alloc, formula, place, cap_at(net, place)),
+        Family::Loads => add_load(alloc, net, ports, formula, place),
+        Family::Rooms => add_room(alloc, net, ports, formula, place),
+        Family::Conserve => add_conserve(alloc, net, ports, formula, place),
+        Family::EvenOut => add_even(alloc, net, formula, true, ports.out_of[place]),
+        Family::EvenIn => add_even(alloc, net, formula, false, ports.into[place]),
+        Family::Backing => add_backing_at(alloc, net, ports, formula, place),
+        Family::Inputs => add_input(alloc, net, ports, formula, place),
+        Family::Outputs => add_output(alloc, net, ports, formula, place),
     }
 }
 

@@ -3,7 +3,6 @@
 #![tactic(auto)]
 
 mod claim;
-mod draft;
 mod encoding;
 mod ends;
 mod families;

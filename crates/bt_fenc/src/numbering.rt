@@ -1,13 +1,14 @@
 //! The numbering of claims: each mention of a row becomes a variable of its own.
-ghost use Rattle.std.specs.Prelude.{◌≡◌, ◌<◌, ◌++◌, ◌∷◌, [], OnOk};
+ghost use Rattle.std.specs.Prelude.{◌≡◌, ◌<◌, ◌∷◌, [], OnOk, IfOk};
 ghost use Rattle.std.specs.List.{AllByRecursion};
-ghost use Rattle.bt_fenc.specs.Within.{IsWithin, AreWithin};
+ghost use Rattle.bt_fenc.specs.declared.claim.Claim.TheVariants.{Says};
+ghost use Rattle.bt_fenc.specs.Within.{IsWithin};
 ghost use Rattle.bt_fenc.specs.inner.Adding.{IsAfter, with_clauses};
 
 use crate::claim::Claim;
-use crate::draft::Draft;
 use bt_cnf::{Formula, Lit, Var};
-use std::alloc::{AllocError, Global};
+use bt_frac::Row;
+use std::alloc::AllocError;
 
 /// The variable at a place below the number of variables.
 fn var_at(formula: &Formula, place: usize) -> Var
@@ -20,44 +21,54 @@ fn var_at(formula: &Formula, place: usize) -> Var
     }
 }
 
-/// Adds the literal of a claim. A row that it mentions becomes a variable of its own.
-fn add_claim(formula: &mut Formula, lits: &mut Vec<Lit>, claim: Claim) -> Result<(), AllocError>
+/// The literal of a claim. A row that it mentions becomes a variable of its own.
+pub fn literal_of(formula: &mut Formula, claim: Claim) -> Result<Lit, AllocError>
     requires { IsWithin formula.old.vars claim }
-    ensures { OnOk result (IsAfter formula.old lits.old.items (claim ∷ []) formula.new lits.new.items) }
+    ensures { IfOk result (λ lit. IsAfter formula.old (claim ∷ []) formula.new (lit ∷ [])) }
 {
     let (var, positive) = match claim {
         Claim::Mark { edge, backed } => (var_at(formula, edge), backed),
         Claim::Says(row) => (formula.add_atom(row)?, true),
     };
-    lits.push(Lit { var, positive })?;
+    Ok(Lit { var, positive })
+}
+
+/// Adds the clause that a row holds.
+pub fn add_row(formula: &mut Formula, row: Row) -> Result<(), AllocError>
+    ensures { OnOk result (formula.new ≡ with_clauses formula.old ((Says row ∷ []) ∷ [])) }
+{
+    let var = formula.add_atom(row)?;
+    formula.add_clause(&[Lit {
+        var,
+        positive: true,
+    }])?;
     Ok(())
 }
 
-/// Adds a clause of claims, by way of a list of literals that is used again and again.
-fn add_clause(
+/// Adds a clause of two claims.
+pub fn add_two(formula: &mut Formula, first: Claim, second: Claim) -> Result<(), AllocError>
+    requires { AllByRecursion (IsWithin formula.old.vars) (first ∷ second ∷ []) }
+    ensures { OnOk result (formula.new ≡ with_clauses formula.old ((first ∷ second ∷ []) ∷ [])) }
+{
+    let one = literal_of(formula, first)?;
+    let two = literal_of(formula, second)?;
+    formula.add_clause(&[one, two])?;
+    Ok(())
+}
+
+/// Adds a clause of three claims.
+pub fn add_three(
     formula: &mut Formula,
-    lits: &mut Vec<Lit>,
-    claims: Vec<Claim>,
+    first: Claim,
+    second: Claim,
+    third: Claim,
 ) -> Result<(), AllocError>
-    requires { AllByRecursion (IsWithin formula.old.vars) claims.items }
-    ensures { OnOk result (formula.new ≡ with_clauses formula.old (claims.items ∷ [])) }
+    requires { AllByRecursion (IsWithin formula.old.vars) (first ∷ second ∷ third ∷ []) }
+    ensures { OnOk result (formula.new ≡ with_clauses formula.old ((first ∷ second ∷ third ∷ []) ∷ [])) }
 {
-    lits.clear();
-    for claim in claims {
-        add_claim(formula, lits, claim)?;
-    }
-    formula.add_clause(lits)?;
-    Ok(())
-}
-
-/// Adds clauses of claims. The rows that they mention become variables in the order of mention.
-pub fn add_clauses(alloc: Global, formula: &mut Formula, draft: Draft) -> Result<(), AllocError>
-    requires { AreWithin formula.old.vars draft }
-    ensures { OnOk result (formula.new ≡ with_clauses formula.old draft) }
-{
-    let mut lits = Vec::new(alloc);
-    for claims in draft.into_clauses() {
-        add_clause(formula, &mut lits, claims)?;
-    }
+    let one = literal_of(formula, first)?;
+    let two = literal_of(formula, second)?;
+    let three = literal_of(formula, third)?;
+    formula.add_clause(&[one, two, three])?;
     Ok(())
 }

@@ -1,40 +1,52 @@
 //! The clauses that say that a state meets the condition of a property and fails its conclusion.
-ghost use Rattle.std.specs.Prelude.{◌≡◌, ◌++◌, ◌∷◌, [], ◌<◌, ◌≤◌, ◌+◌, ◌-◌, ◌^◌, All, OnOk, IfOk, length};
+ghost use Rattle.std.specs.Prelude.{◌≡◌, ◌∷◌, [], ◌<◌, ◌≤◌, ◌+◌, ◌-◌, ◌^◌, All, OnOk, IfOk, length};
 ghost use Rattle.bt_flow.specs.Ports.{ArePorts};
 ghost use Rattle.bt_fenc.specs.Columns as columns;
 ghost use Rattle.bt_fenc.specs.Properties as properties;
+ghost use Rattle.bt_fenc.specs.inner.Adding.{IsAfter, with_clauses};
 
 use crate::claim::Claim;
-use crate::draft::Draft;
 use crate::ends::{cap_at, input_edge, last_edges, load_column, output_edge, room_column};
+use crate::numbering::{add_row, literal_of};
 use crate::rows::{above, at_least, minus, plus, row_of};
+use bt_cnf::{Formula, Lit};
 use bt_flow::{Ports, Property};
 use bt_frac::{Frac, Relation, Row};
 use bt_net::Net;
 use std::alloc::{AllocError, Global};
 
 /// Adds that every load is at its cap.
-fn add_loaded(alloc: Global, net: &Net, ports: &Ports, draft: &mut Draft) -> Result<(), AllocError>
+fn add_loaded(
+    alloc: Global,
+    net: &Net,
+    ports: &Ports,
+    formula: &mut Formula,
+) -> Result<(), AllocError>
     requires { ArePorts net.now ports.now }
-    ensures { OnOk result (draft.new ≡ draft.old ++ properties.loaded_clauses net.now) }
+    ensures { OnOk result (formula.new ≡ with_clauses formula.old (properties.loaded_clauses net.now)) }
 {
     for input in 0..net.inputs() as usize {
         let cap = cap_at(net, input_edge(net, ports, input));
         let full = at_least(alloc, load_column(net, input), cap)?;
-        draft.add_row(alloc, full)?;
+        add_row(formula, full)?;
     }
     Ok(())
 }
 
 /// Adds that every room is at its cap.
-fn add_open(alloc: Global, net: &Net, ports: &Ports, draft: &mut Draft) -> Result<(), AllocError>
+fn add_open(
+    alloc: Global,
+    net: &Net,
+    ports: &Ports,
+    formula: &mut Formula,
+) -> Result<(), AllocError>
     requires { ArePorts net.now ports.now }
-    ensures { OnOk result (draft.new ≡ draft.old ++ properties.open_clauses net.now) }
+    ensures { OnOk result (formula.new ≡ with_clauses formula.old (properties.open_clauses net.now)) }
 {
     for output in 0..net.outputs() as usize {
         let cap = cap_at(net, output_edge(net, ports, output));
         let full = at_least(alloc, room_column(net, output), cap)?;
-        draft.add_row(alloc, full)?;
+        add_row(formula, full)?;
     }
     Ok(())
 }
@@ -65,21 +77,37 @@ fn output_edges(alloc: Global, net: &Net, ports: &Ports) -> Result<Vec<usize>, A
     Ok(edges)
 }
 
-/// The clause that the flow of the first edge differs from that of another.
-fn unequal_clause(alloc: Global, edges: &[usize]) -> Result<Vec<Claim>, AllocError>
+/// The literals that the flow of the first edge is above or below that of another. Their rows become variables.
+fn unequal_lits(
+    alloc: Global,
+    formula: &mut Formula,
+    edges: &[usize],
+) -> Result<Vec<Lit>, AllocError>
     requires { All (λ a. a < 2 ^ 64 - 1) edges.now }
-    ensures { IfOk result (λ claims. claims.items ≡ properties.unequal_clause edges.now) }
+    ensures { IfOk result (λ lits.
+        IsAfter formula.old (properties.unequal_clause edges.now) formula.new lits.items) }
 {
-    let mut claims = Vec::new(alloc);
+    let mut lits = Vec::new(alloc);
     if let [first, others @ ..] = edges {
         for other in others {
             let more = above(alloc, *first, *other)?;
-            claims.push(Claim::Says(more))?;
+            lits.push(literal_of(formula, Claim::Says(more))?)?;
             let less = above(alloc, *other, *first)?;
-            claims.push(Claim::Says(less))?;
+            lits.push(literal_of(formula, Claim::Says(less))?)?;
         }
     }
-    Ok(claims)
+    Ok(lits)
+}
+
+/// Adds the clause that the flow of the first edge differs from that of another.
+fn add_unequal(alloc: Global, formula: &mut Formula, edges: &[usize]) -> Result<(), AllocError>
+    requires { All (λ a. a < 2 ^ 64 - 1) edges.now }
+    ensures { OnOk result (formula.new
+        ≡ with_clauses formula.old (properties.unequal_clause edges.now ∷ [])) }
+{
+    let lits = unequal_lits(alloc, formula, edges)?;
+    formula.add_clause(&lits)?;
+    Ok(())
 }
 
 /// The row that so many columns from one on add up to more than the flows to outputs.
@@ -99,13 +127,13 @@ fn above_outputs(alloc: Global, net: &Net, first: usize, count: usize) -> Result
 }
 
 /// Adds that the sum of output flows is below that of loads, and below that of rooms.
-fn add_short(alloc: Global, net: &Net, draft: &mut Draft) -> Result<(), AllocError>
-    ensures { OnOk result (draft.new ≡ draft.old ++ properties.short_clauses net.now) }
+fn add_short(alloc: Global, net: &Net, formula: &mut Formula) -> Result<(), AllocError>
+    ensures { OnOk result (formula.new ≡ with_clauses formula.old (properties.short_clauses net.now)) }
 {
     let loads = above_outputs(alloc, net, load_column(net, 0), net.inputs() as usize)?;
-    draft.add_row(alloc, loads)?;
+    add_row(formula, loads)?;
     let rooms = above_outputs(alloc, net, room_column(net, 0), net.outputs() as usize)?;
-    draft.add_row(alloc, rooms)
+    add_row(formula, rooms)
 }
 
 /// Adds the clauses of a property.
@@ -113,28 +141,28 @@ pub fn add_property(
     alloc: Global,
     net: &Net,
     ports: &Ports,
-    draft: &mut Draft,
+    formula: &mut Formula,
     property: Property,
 ) -> Result<(), AllocError>
     requires { ArePorts net.now ports.now }
-    ensures { OnOk result (draft.new ≡ draft.old ++ properties.property_clauses net.now property) }
+    ensures { OnOk result (formula.new ≡ with_clauses formula.old (properties.property_clauses net.now property)) }
 {
     match property {
         Property::Balanced => {
-            add_open(alloc, net, ports, draft)?;
+            add_open(alloc, net, ports, formula)?;
             let edges = output_edges(alloc, net, ports)?;
-            draft.add(unequal_clause(alloc, &edges)?)
+            add_unequal(alloc, formula, &edges)
         }
         Property::DrawnEvenly => {
-            add_loaded(alloc, net, ports, draft)?;
+            add_loaded(alloc, net, ports, formula)?;
             let edges = input_edges(alloc, net, ports)?;
-            draft.add(unequal_clause(alloc, &edges)?)
+            add_unequal(alloc, formula, &edges)
         }
-        Property::Unlimited => add_short(alloc, net, draft),
+        Property::Unlimited => add_short(alloc, net, formula),
         Property::Full => {
-            add_loaded(alloc, net, ports, draft)?;
-            add_open(alloc, net, ports, draft)?;
-            add_short(alloc, net, draft)
+            add_loaded(alloc, net, ports, formula)?;
+            add_open(alloc, net, ports, formula)?;
+            add_short(alloc, net, formula)
         }
     }
 }

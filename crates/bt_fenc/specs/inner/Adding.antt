@@ -1,14 +1,14 @@
--- What numbering a claim or clauses adds to a formula.
+-- What numbering claims or clauses adds to a formula.
 use Rattle.std.specs.Prelude.{◌≡◌, ◌+◌, List, ◌++◌, length, flat_map}
 use Rattle.bt_cnf.specs.declared.literal.Lit.{Lit}
 use Rattle.bt_cnf.specs.Formulas.{FormulaParts}
 use Rattle.bt_fenc.specs.declared.claim.Claim.{Claim}
 use Rattle.bt_fenc.specs.Numbering.{mentioned, rows_in, literals_from, clauses_from, atoms_from}
 
--- after a formula and literals these claims were added, and the rows that they mention became variables
-pub record IsAfter (old : FormulaParts) (before : List Lit) (claims : List Claim) (new : FormulaParts) (lits : List Lit) : Type 0 where
+-- after a formula these claims have these literals, and the rows that they mention became variables
+pub record IsAfter (old : FormulaParts) (claims : List Claim) (new : FormulaParts) (lits : List Lit) : Type 0 where
   pub formula : new ≡ record old { vars = old.vars + length (flat_map mentioned claims); atoms = old.atoms ++ atoms_from old.vars (flat_map mentioned claims) }
-  pub literals : lits ≡ before ++ literals_from old.vars claims
+  pub literals : lits ≡ literals_from old.vars claims
 
 -- a formula with clauses of claims after its own; the rows that they mention are variables after its own
 abbrev pub with_clauses : FormulaParts → List (List Claim) → FormulaParts
