@@ -98,7 +98,7 @@ module _ (n : Network) (is : IsNetwork n) where
   pub has_edge : 0 < length n.edges
   has_edge = some_edge n.edges (is.wired.one_in 0 (let s = is.some_input in omega (arith, s)))
 
-  pub all_below : (p : Edge → Bool) → AllByRecursion (λ x. x < length n.edges) (numbers_where p 0 n.edges)
+  all_below : (p : Edge → Bool) → AllByRecursion (λ x. x < length n.edges) (numbers_where p 0 n.edges)
   all_below p = numbers_below p 0 (length n.edges) n.edges (omega arith)
 
   pub input_below : (i : ℕ) → input_edge n i < length n.edges

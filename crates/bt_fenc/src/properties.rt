@@ -77,7 +77,8 @@ fn output_edges(alloc: Global, net: &Net, ports: &Ports) -> Result<Vec<usize>, A
     Ok(edges)
 }
 
-/// The literals that the flow of the first edge is above or below that of another. Their rows become variables.
+/// The literals that the flow of the first edge is above or below that of another, whose rows become
+/// variables.
 fn unequal_lits(
     alloc: Global,
     formula: &mut Formula,
@@ -145,7 +146,8 @@ pub fn add_property(
     property: Property,
 ) -> Result<(), AllocError>
     requires { ArePorts net.now ports.now }
-    ensures { OnOk result (formula.new ≡ with_clauses formula.old (properties.property_clauses net.now property)) }
+    ensures { OnOk result (formula.new
+        ≡ with_clauses formula.old (properties.property_clauses net.now property)) }
 {
     match property {
         Property::Balanced => {

@@ -2,7 +2,7 @@ use Rattle.std.proofs.Common.{◌≡◌, ℕ, Bool, ◌<◌, ◌≤◌, List, le
 use Rattle.std.specs.List.{All, AllByRecursion}
 use Rattle.bt_net.specs.declared.network.Edge.{Edge}
 use Rattle.bt_net.specs.declared.network.TheConstants.{MOST_OF_EACH}
-use Rattle.bt_net.specs.Network.{Network, IsNetwork, enters, leaves}
+use Rattle.bt_net.specs.Network.{Network, enters, leaves}
 use Rattle.bt_flow.specs.Ports.{numbers_where}
 use Rattle.bt_fenc.proofs.Numbers.{all_from}
 use Rattle.bt_fenc.proofs.Withins.{small_numbers, numbers_below}

@@ -1,5 +1,4 @@
-use Rattle.std.proofs.Common.{◌≡◌, List, ◌∷◌, [], ◌++◌, OnOk, ap, ◌∙◌, sym, subst, refl}
-use Rattle.bt_cnf.specs.Formulas.{FormulaParts}
+use Rattle.std.proofs.Common.{◌≡◌, ◌∷◌, [], ◌++◌, OnOk, ap, ◌∙◌, sym, subst, refl}
 use Rattle.bt_fenc.specs.Properties.{property_clauses, loaded_clauses, open_clauses, short_clauses, unequal_clause}
 use Rattle.bt_fenc.proofs.Numbers.{added_more, then_more}
 use Rattle.bt_fenc.proofs.properties.add_property.Goals as goal
