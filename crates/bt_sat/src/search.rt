@@ -3,12 +3,12 @@ ghost use Rattle.std.specs.Prelude.{◌≡◌, ◌<◌, ◌≤◌, length, IfOk,
 ghost use Rattle.bt_sat.specs.inner.Keeping.{AreWatched, AreTrue, IsWatchable, kept_at};
 ghost use Rattle.bt_sat.specs.inner.AttendingIn.{AttendsIn};
 ghost use Rattle.bt_sat.specs.inner.Truths.{IsFalseIn};
-ghost use Rattle.bt_sat.specs.inner.Watchers.{watchers};
+ghost use Rattle.bt_sat.specs.inner.Watchers.{watches_of};
 ghost use Rattle.bt_sat.specs.inner.Propagating.{Advances, IsSettledTo, Keeps, Propagates, Settles};
 
 use crate::assignment::{Assignment, assign};
-use crate::kept::Watched;
-use crate::truth::{Values, negation};
+use crate::kept::{Watch, Watched};
+use crate::truth::{Values, is_true, negation};
 use crate::watched::{Visit, attend};
 use crate::watchers::Watchers;
 use bt_arena::{Id, Pool};
@@ -61,25 +61,33 @@ pub fn number_of(numbers: &[usize], id: Id<Watched>) -> Option<usize>
     numbers.get(id.place()).copied()
 }
 
-/// Visits the clause at a place of the list of a literal that is false.
+/// Visits the clause at a place of the list of a literal that is false. Where its blocking literal is true,
+/// the clause isn't looked at.
 pub fn attend_at(search: &mut Search, gone: &Lit, place: usize) -> Result<Attended, AllocError>
     requires watched { AreWatched (length search.old.assignment.values)
         search.old.clauses search.old.watchers }
     requires truths { AreTrue search.old.assignment.values search.old.assignment.trail.items }
     requires gone { IsFalseIn search.old.assignment.values gone.now }
     requires variable { gone.now.var < length search.old.assignment.values }
-    requires place { place < length (watchers search.old.watchers gone.now) }
+    requires place { place < length (watches_of search.old.watchers gone.now) }
     ensures { IfOk result (Advances gone.now place search.old search.new) }
 {
-    let id = search.watchers.at(gone, place);
+    let watch = search.watchers.at(gone, place);
+    if is_true(&search.assignment.values, &watch.blocker) {
+        return Ok(Attended::Stays);
+    }
+    let id = watch.id;
     match attend_in(&mut search.clauses, id, gone, &search.assignment.values) {
         Visit::Strays => {
             search.watchers.unwatch(gone, place);
             Ok(Attended::Leaves)
         }
-        Visit::Stays => Ok(Attended::Stays),
-        Visit::Moves(lit) => {
-            search.watchers.watch(&lit, id)?;
+        Visit::Stays(blocker) => {
+            search.watchers.set(gone, place, Watch { id, blocker });
+            Ok(Attended::Stays)
+        }
+        Visit::Moves(lit, blocker) => {
+            search.watchers.watch(&lit, Watch { id, blocker })?;
             search.watchers.unwatch(gone, place);
             Ok(Attended::Leaves)
         }
@@ -139,8 +147,14 @@ pub fn keep(search: &mut Search, lits: &[Lit], number: usize) -> Result<(), Allo
     ensures { OnOk result (Keeps lits.now number search.old search.new) }
 {
     let id = search.clauses.add_slice(lits)?;
-    search.watchers.watch(&lits[0], id)?;
-    search.watchers.watch(&lits[1], id)?;
+    let (first, second) = (lits[0], lits[1]);
+    let by_first = Watch {
+        id,
+        blocker: second,
+    };
+    let by_second = Watch { id, blocker: first };
+    search.watchers.watch(&first, by_first)?;
+    search.watchers.watch(&second, by_second)?;
     search.numbers.push(number)?;
     Ok(())
 }

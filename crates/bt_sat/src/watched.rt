@@ -14,10 +14,11 @@ use bt_cnf::Lit;
 pub enum Visit {
     /// It doesn't watch the literal.
     Strays,
-    /// Its other watched literal is true.
-    Stays,
-    /// It watches this literal from now on, which isn't false, in place of the false one.
-    Moves(Lit),
+    /// Its other watched literal, this one, is true.
+    Stays(Lit),
+    /// It watches the first literal from now on, which isn't false, in place of the false one. The second is
+    /// its other watched literal.
+    Moves(Lit, Lit),
     /// It is a unit, and makes this literal true.
     Forces(Lit),
     /// All its literals are false.
@@ -56,10 +57,10 @@ fn visit_second(lits: &mut [Lit], values: &Values) -> Visit
 {
     let other = lits[0];
     if is_true(values, &other) {
-        return Visit::Stays;
+        return Visit::Stays(other);
     }
     if let Some(lit) = replace_second(lits, &other, values) {
-        return Visit::Moves(lit);
+        return Visit::Moves(lit, other);
     }
     if is_false(values, &other) {
         return Visit::Fails;

@@ -1,11 +1,17 @@
-use Rattle.std.proofs.Common.{◌≡◌, arith, length, sym, subst, refl, ◌∙◌}
+use Rattle.std.proofs.Common.{◌≡◌, ℕ, arith, length, sym, subst, refl, ◌∙◌}
 use Rattle.std.proofs.lemmas.List.{get_or_default}
 use Rattle.bt_cnf.specs.declared.literal.Lit.{Lit}
 use Rattle.bt_sat.specs.inner.Attending.{no_lit, first, second}
 use Rattle.bt_sat.specs.inner.Keeping.{AreWatched}
 use Rattle.bt_sat.specs.inner.Watchers.{Watches}
+use Rattle.bt_sat.specs.inner.WatchersParts.{WatchersParts}
 use Rattle.bt_sat.proofs.Adding.{watched_more}
 use Rattle.bt_sat.proofs.search.keep.Goals as goal
+
+-- the same of equal literals
+watches_at : (w w' : WatchersParts) (l l' other other' : Lit) (id : ℕ) → l ≡ l' → other ≡ other' → Watches w w' l' (record { id = id; blocker = other' }) → Watches w w' l (record { id = id; blocker = other })
+watches_at w w' l l' other other' id same also one =
+    subst (λ m. Watches w w' m (record { id = id; blocker = other })) (sym same) (subst (λ m. Watches w w' l' (record { id = id; blocker = m })) (sym also) one)
 
 pub returns : goal.returns
 returns c =
@@ -15,8 +21,8 @@ returns c =
     let added = c.in_ok-id.ensures.added.right in
     let at_first : first lits ≡ c.index-lits-0.result = get_or_default lits 0 no_lit c.index-lits-0.result (omega (arith, c.requires.watchable.two)) ∙ sym c.index-lits-0.is in
     let at_second : second lits ≡ c.index-lits-1.result = get_or_default lits 1 no_lit c.index-lits-1.result (omega (arith, c.requires.watchable.two)) ∙ sym c.index-lits-1.is in
-    let one = subst (λ (l : Lit). Watches old.watchers c.watch.new.self l id) (sym at_first) c.in_ok-watch.ensures in
-    let two = subst (λ (l : Lit). Watches c.watch.new.self c.watch-2.new.self l id) (sym at_second) c.in_ok-watch-2.ensures in
+    let one = watches_at old.watchers c.watch.new.self (first lits) c.index-lits-0.result (second lits) c.index-lits-1.result id at_first at_second c.in_ok-watch.ensures in
+    let two = watches_at c.watch.new.self c.watch-2.new.self (second lits) c.index-lits-1.result (first lits) c.index-lits-0.result id at_second at_first c.in_ok-watch-2.ensures in
     record {
       assignment = refl;
       starts = refl;
