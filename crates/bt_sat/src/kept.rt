@@ -1,7 +1,7 @@
 //! The kind of the clauses that are kept for watching, and how a literal's list names one.
 
+use crate::packed::Packed;
 use bt_arena::Id;
-use bt_cnf::Lit;
 
 /// The kind of the clauses of two or more literals, whose first two are watched.
 pub struct Watched;
@@ -11,5 +11,5 @@ pub struct Watched;
 #[derive(Clone, Copy)]
 pub struct Watch {
     pub id: Id<Watched>,
-    pub blocker: Lit,
+    pub blocker: Packed,
 }
