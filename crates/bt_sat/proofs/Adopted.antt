@@ -24,7 +24,7 @@ use Rattle.bt_sat.proofs.Deriving.{lt_or}
 use Rattle.bt_sat.proofs.Keeping.{rest_grows, truths_more}
 use Rattle.bt_sat.proofs.Lists.{nat_or}
 use Rattle.bt_sat.proofs.Reasoning.{lt_or_eq, reasons_more}
-use Rattle.bt_sat.proofs.Visiting.{all_more}
+use Rattle.bt_sat.proofs.Visiting.{all_more, first_among}
 
 -- a clause keeps its number where one more comes behind
 pub clause_still : (all : List (List Lit)) (lits : List Lit) (n : ℕ) → n < length all → clause_at (all ++ lits ∷ []) n ≡ clause_at all n
@@ -343,7 +343,11 @@ module _ (all : List (List Lit)) (s : Search) (lits : List Lit) (is : IsAssertin
                 (all_more (IsAtRest settles.part T) (IsAtRest settles.part a.trail.items) s.clauses (λ c rest. rest_grows settles.part T a.trail.items c wider rest) settles.rest)
                 (record {
                   if_first = λ h. absurd (no_first settles.part (λ m among. All-contains (Contains T) settles.part m settles.part_in among) h);
-                  if_second = λ h. subst (λ ts. Contains ts (first lits)) (sym assigns_s.trail) (Contains-push T l);
+                  if_second = λ h. record {
+                    lit = first lits;
+                    among = first_among lits (omega (arith, many));
+                    holds = subst (λ ts. Contains ts (first lits)) (sym assigns_s.trail) (Contains-push T l);
+                  };
                 }));
           };
         }

@@ -1,5 +1,5 @@
 -- What one visit makes of the search.
-use Rattle.std.proofs.Common.{◌≡◌, ℕ, ◌<◌, ◌+◌, arith, List, [], ◌∷◌, ◌++◌, length, get_or, sym, subst, refl, ap, ◌∙◌, Some, None, length-set, length-append, get_or-set_same, append-nil, Bool, true, false, not, Option, zero, suc, append_assoc}
+use Rattle.std.proofs.Common.{◌≡◌, ℕ, ◌<◌, ◌+◌, arith, List, [], ◌∷◌, ◌++◌, length, get_or, map, sym, subst, refl, ap, ◌∙◌, Some, None, length-set, length-append, get_or-set_same, append-nil, Bool, true, false, not, Option, zero, suc, append_assoc}
 use Rattle.std.specs.Prelude.{Contains, IsPermutation, slice_get, slice_set}
 use Rattle.std.specs.List.{All}
 use Rattle.std.specs.Global.{Vec}
@@ -11,20 +11,22 @@ use Rattle.bt_cnf.specs.declared.literal.Lit.{Lit}
 use Rattle.bt_sat.specs.declared.assignment.Assignment.{Assignment}
 use Rattle.bt_sat.specs.declared.search.Search.{Search}
 use Rattle.bt_sat.specs.declared.search.Attended.TheVariants as attended
+use Rattle.bt_sat.specs.declared.kept.Watch.{Watch}
 use Rattle.bt_sat.specs.declared.watched.Visit.TheVariants as visit
 use Rattle.bt_sat.specs.inner.Assigning.{Assigns}
 use Rattle.bt_sat.specs.inner.Attending.{no_lit, first, second}
 use Rattle.bt_sat.specs.inner.AttendingIn.{AttendsIn}
 use Rattle.bt_log.specs.Validity.{clause_at}
-use Rattle.bt_sat.specs.inner.Keeping.{IsWatchable, kept_at, IsAtRest, IsVisiting, AreWatched, AreTrue}
+use Rattle.bt_sat.specs.inner.Keeping.{IsWatchable, kept_at, IsBlocked, IsAtRest, IsVisiting, AreWatched, AreTrue}
 use Rattle.bt_sat.specs.inner.Reasons.{AreSame, AreNumbered, AreReasons, IsReasoned}
 use Rattle.bt_sat.specs.inner.Propagating.{GoesOn, Visiting, Advances}
 use Rattle.bt_sat.specs.inner.Truths.{IsTrueIn, IsFalseIn, unset}
-use Rattle.bt_sat.specs.inner.Watchers.{watchers, Watches, Unwatches}
+use Rattle.bt_sat.specs.inner.Watchers.{watchers, watches_of, Resets, Watches, Unwatches}
 use Rattle.bt_sat.specs.inner.WatchersParts.{WatchersParts}
 use Rattle.bt_sat.proofs.Keeping.{rest_kept, rest_left, watchable_kept, watched_kept, kept_set}
 use Rattle.bt_sat.proofs.Reasoning.{got_none, reasons_more, unit_reason}
-use Rattle.bt_sat.proofs.Visiting.{all_more, done_none, done_true, goes_on, grows, keeps, moves, strays}
+use Rattle.bt_sat.proofs.Visiting.{all_more, done_none, done_true, first_among, goes_on, grows, keeps, moves, passes, resets, satisfied_first, strays}
+use Rattle.bt_sat.proofs.Watches.{number, no_watch, inside_list, number_at}
 
 -- each item of a list is among them
 pub all_here : {X : Type 0} (xs : List X) → All (Contains xs) xs
@@ -62,6 +64,14 @@ room_kept old now l reason assigns below not_true not_false =
     let fewer : unset now.values + 1 ≡ unset old.values = ap (λ vs. unset vs + 1) assigns.values ∙ less in
     omega (arith, longer, fewer)
 
+-- the clause at a place of a list
+pub numbered_at : (ws : List Watch) (place : ℕ) (watch : Watch) → place < length ws → watch ≡ get_or ws place watch → get_or (map number ws) place 0 ≡ watch.id
+numbered_at ws place watch inside is = number_at ws place inside ∙ ap number (get_or_default ws place no_watch watch inside ∙ sym is)
+
+pub blocked_at : (vars : ℕ) (clauses : List (List Lit)) (w : WatchersParts) (gone : Lit) (place : ℕ) (watch : Watch) → AreWatched vars clauses w → place < length (watches_of w gone)
+    → watch ≡ get_or (watches_of w gone) place watch → IsBlocked clauses watch
+blocked_at vars clauses w gone place watch are inside is = subst (IsBlocked clauses) (sym is) (are.blocked gone place watch inside)
+
 -- the clauses are the same but for the order of one
 goes : (old : Search) (assignment : Assignment) (w : WatchersParts) (clauses : List (List Lit)) (id : ℕ) (new more : List Lit) → id < length old.clauses → clauses ≡ slice_set old.clauses id new
     → IsPermutation (kept_at old.clauses id) new → assignment.trail.items ≡ old.assignment.trail.items ++ more → length assignment.values ≡ length old.assignment.values
@@ -86,18 +96,27 @@ goes old assignment w clauses id new more below one permuted trail variables roo
 
 module _ (old : Search) (gone : Lit) (place id : ℕ) (clauses : List (List Lit)) (below : id < length old.clauses) (is_old : IsWatchable (length old.assignment.values) (kept_at old.clauses id))
     (inside : place < length (watchers old.watchers gone)) (is : get_or (watchers old.watchers gone) place 0 ≡ id) where
-  pub stays : AttendsIn old.assignment.values gone id old.clauses clauses visit.Stays
-      → Advances gone place old (record { assignment = old.assignment; clauses = clauses; watchers = old.watchers; numbers = old.numbers; starts = old.starts }) attended.Stays
-  stays at =
-      let kept = at.attends.0 in (
-        goes old old.assignment old.watchers clauses id at.clause [] below at.one kept.permuted (sym (append-nil old.assignment.trail.items)) refl refl (λ all numbered are. are)
+  pub stays : (other : Lit) (w : WatchersParts) → AttendsIn old.assignment.values gone id old.clauses clauses (visit.Stays other) → Resets old.watchers w gone place (record { id = id; blocker = other })
+      → Advances gone place old (record { assignment = old.assignment; clauses = clauses; watchers = w; numbers = old.numbers; starts = old.starts }) attended.Stays
+  stays other w at one =
+      let kept = at.attends.0 in
+      let watch : Watch = record { id = id; blocker = other } in
+      let good = watchable_kept (length old.assignment.values) (kept_at old.clauses id) at.clause is_old kept in
+      let here : kept_at (slice_set old.clauses id at.clause) id ≡ at.clause = get_or-set_same old.clauses id at.clause [] below in
+      let blocks : IsBlocked (slice_set old.clauses id at.clause) watch = record {
+        below = subst (λ n. id < n) (sym (length-set old.clauses id at.clause)) below;
+        among = subst (λ c. Contains c other) (sym here) (subst (Contains at.clause) at.attends.2 (first_among at.clause good.two));
+      } in (
+        goes old old.assignment w clauses id at.clause [] below at.one kept.permuted (sym (append-nil old.assignment.trail.items)) refl refl (λ all numbered are. are)
             (λ front inside_front rest. rest_kept front front (kept_at old.clauses id) at.clause rest kept),
-        refl,
+        ap length one.reset ∙ length-set (watches_of old.watchers gone) place watch,
         λ part v.
-            subst (λ cs. IsVisiting part gone (place + 1) old.assignment.values old.assignment.trail.items cs old.watchers) (sym at.one)
+            subst (λ cs. IsVisiting part gone (place + 1) old.assignment.values old.assignment.trail.items cs w) (sym at.one)
+            (resets part gone place (place + 1) old.assignment.values old.assignment.trail.items (slice_set old.clauses id at.clause) old.watchers w watch
             (goes_on part gone place old.assignment.values old.assignment.trail.items old.clauses old.watchers id at.clause v inside is kept
-            (done_true old.assignment.values old.assignment.trail.items gone at.clause v.truths
-            (watchable_kept (length old.assignment.values) (kept_at old.clauses id) at.clause is_old kept).differ at.attends.1 at.attends.2)),
+            (done_true gone old.assignment.trail.items at.clause
+            (satisfied_first old.assignment.values old.assignment.trail.items at.clause v.truths good.two (subst (IsTrueIn old.assignment.values) (sym at.attends.2) at.attends.3))))
+            one (inside_list (watches_of old.watchers gone) place inside) is blocks),
       )
 
   pub forces : (l : Lit) (now : Assignment) (reason : Option ℕ) → AreTrue old.assignment.values old.assignment.trail.items → reason ≡ slice_get old.numbers.items id
@@ -124,22 +143,24 @@ module _ (old : Search) (gone : Lit) (place id : ℕ) (clauses : List (List Lit)
             (subst (λ ts. IsVisiting part gone (place + 1) after ts clauses old.watchers) (sym assigns.trail)
             (subst (λ cs. IsVisiting part gone (place + 1) after (old.assignment.trail.items ++ l ∷ []) cs old.watchers) (sym at.one)
             (goes_on part gone place after (old.assignment.trail.items ++ l ∷ []) old.clauses old.watchers id at.clause v' inside is kept
-            (done_true after (old.assignment.trail.items ++ l ∷ []) gone at.clause v'.truths good.differ at.attends.1 true_first)))),
+            (done_true gone (old.assignment.trail.items ++ l ∷ []) at.clause
+            (satisfied_first after (old.assignment.trail.items ++ l ∷ []) at.clause v'.truths good.two true_first))))),
       )
 
-  pub leaves : (l : Lit) (w₁ w₂ : WatchersParts) → AreTrue old.assignment.values old.assignment.trail.items → IsFalseIn old.assignment.values gone → AttendsIn old.assignment.values gone id old.clauses clauses (visit.Moves l) → Watches old.watchers w₁ l id
-      → Unwatches w₁ w₂ gone place → Advances gone place old (record { assignment = old.assignment; clauses = clauses; watchers = w₂; numbers = old.numbers; starts = old.starts }) attended.Leaves
-  leaves l w₁ w₂ truths false_gone at one un =
+  pub leaves : (l other : Lit) (w₁ w₂ : WatchersParts) → AreTrue old.assignment.values old.assignment.trail.items → AttendsIn old.assignment.values gone id old.clauses clauses (visit.Moves l other) → IsFalseIn old.assignment.values gone
+      → Watches old.watchers w₁ l (record { id = id; blocker = other }) → Unwatches w₁ w₂ gone place
+      → Advances gone place old (record { assignment = old.assignment; clauses = clauses; watchers = w₂; numbers = old.numbers; starts = old.starts }) attended.Leaves
+  leaves l other w₁ w₂ truths at false_gone one un =
       let left = at.attends.0 in
-      let now = at.attends.1 in
-      let same : watchers w₁ gone ≡ watchers old.watchers gone = one.one.others gone (λ e. now.not_false (subst (IsFalseIn old.assignment.values) e false_gone)) in (
+      let now = at.attends.2 in
+      let same : watches_of w₁ gone ≡ watches_of old.watchers gone = one.one.others gone (λ e. now.not_false (subst (IsFalseIn old.assignment.values) e false_gone)) in (
         goes old old.assignment w₂ clauses id at.clause [] below at.one left.permuted (sym (append-nil old.assignment.trail.items)) refl refl (λ all numbered are. are)
             (λ front inside_front rest. rest_left old.assignment.values front front gone (kept_at old.clauses id) at.clause l
-            (λ m h. truths.true_in m (All-contains (Contains old.assignment.trail.items) front m inside_front h)) (all_here front) false_gone rest left now),
+            (λ m h. truths.true_in m (All-contains (Contains old.assignment.trail.items) front m inside_front h)) (all_here front) rest left now),
         un.without.size ∙ ap length same,
         λ part v.
             subst (λ cs. IsVisiting part gone place old.assignment.values old.assignment.trail.items cs w₂) (sym at.one)
-            (moves part gone place old.assignment.values old.assignment.trail.items old.clauses old.watchers id at.clause v inside is w₁ w₂ l left now one un),
+            (moves part gone place old.assignment.values old.assignment.trail.items old.clauses old.watchers id at.clause v inside is w₁ w₂ l other left at.attends.1 now one un),
       )
 
   pub strayed : (w : WatchersParts) → AttendsIn old.assignment.values gone id old.clauses clauses visit.Strays → Unwatches old.watchers w gone place
@@ -207,6 +228,17 @@ goes_twice old mid new a b = record {
 -- nothing was visited
 pub goes_not : (s : Search) → GoesOn s s
 goes_not s = record { more = []; trail = sym (append-nil s.assignment.trail.items); variables = refl; count = refl; room = refl; numbers = refl; starts = refl; reasoned = λ all numbered are. are; rests = λ front inside rest. rest; clauses = λ id. IsPermutation-refl (kept_at s.clauses id) }
+
+-- a clause whose blocking literal is true isn't looked at
+pub passed : (old : Search) (gone : Lit) (place : ℕ) (watch : Watch) → AreWatched (length old.assignment.values) old.clauses old.watchers → place < length (watches_of old.watchers gone)
+    → watch ≡ get_or (watches_of old.watchers gone) place watch → IsTrueIn old.assignment.values watch.blocker → Advances gone place old old attended.Stays
+passed old gone place watch watched inside is true_blocker = (
+  goes_not old,
+  refl,
+  λ part v.
+      passes part gone place old.assignment.values old.assignment.trail.items old.clauses old.watchers watch v (numbered_at (watches_of old.watchers gone) place watch inside is)
+      (blocked_at (length old.assignment.values) old.clauses old.watchers gone place watch watched inside is) true_blocker,
+)
 
 -- nothing is unsettled by no part of the trail
 pub starts : (gone : Lit) (s : Search) → AreWatched (length s.assignment.values) s.clauses s.watchers → AreTrue s.assignment.values s.assignment.trail.items

@@ -9,7 +9,7 @@ use Rattle.bt_cnf.specs.declared.literal.Lit.{Lit}
 use Rattle.bt_sat.specs.declared.watched.Visit.{Visit}
 use Rattle.bt_sat.specs.declared.watched.Visit.TheVariants.{Strays, Stays, Moves, Forces, Fails}
 use Rattle.bt_sat.specs.inner.Attending.{no_lit, first, second, KeepsPair, LeavesOne, Attends}
-use Rattle.bt_sat.specs.inner.Truths.{IsTrueIn, IsFalseIn}
+use Rattle.bt_sat.specs.inner.Truths.{IsFalseIn}
 use Rattle.bt_sat.specs.inner.Visits.{BringsSecond, Visits}
 use Rattle.bt_sat.proofs.Lists.{lit_or}
 
@@ -60,18 +60,19 @@ left_one gone old mid new kept moved same is = record {
 pub attended : (values : List (Option Bool)) (gone : Lit) (old mid new : List Lit) (visit : Visit) → 2 ≤ length mid → Brought gone old mid → second mid ≡ gone → IsFalseIn values gone
     → Visits values mid new visit → Attends values gone old new visit
 attended values gone old mid new Strays two at is false_gone visits = absurd visits
-attended values gone old mid new Stays two at is false_gone visits =
-    (kept_same old mid new at.kept visits.0, ap second visits.0 ∙ is, subst (λ c. IsTrueIn values (first c)) (sym visits.0) (visits.1 no_lit))
-attended values gone old mid new (Moves l) two at is false_gone visits =
-    let moved = visits.2 in
+attended values gone old mid new (Stays other) two at is false_gone visits =
+    (kept_same old mid new at.kept visits.0, ap second visits.0 ∙ is, ap first visits.0 ∙ visits.1 no_lit, visits.2)
+attended values gone old mid new (Moves l other) two at is false_gone visits =
+    let moved = visits.1 in
     let by : Swapped (λ i. get_or mid i no_lit) (λ i. get_or new i no_lit) 1 moved.place =
     swapped_from_swap mid new 1 moved.place no_lit (omega arith) moved.within moved.swapped in
     let same : first new ≡ first mid = by.2 0 (λ e. absurd (omega arith)) (λ e. absurd (omega (arith, moved.behind))) in (
       left_one gone old mid new at.kept (IsPermutation-swap mid new 1 moved.place (omega arith) moved.within moved.swapped) same is,
+      same ∙ visits.0 no_lit,
       record {
         stands = by.0 ∙ moved.stood no_lit;
         not_false = moved.not_false;
-        differs = λ e. moved.differs (e ∙ same ∙ visits.1 no_lit);
+        differs = λ e. moved.differs (e ∙ same ∙ visits.0 no_lit);
       },
     )
 attended values gone old mid new (Forces l) two at is false_gone visits =

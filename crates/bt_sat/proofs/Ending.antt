@@ -11,10 +11,10 @@ use Rattle.bt_log.proofs.Sound.{twice}
 use Rattle.bt_sat.specs.Propagation.{IsFalseClause, IsSettled}
 use Rattle.bt_sat.specs.declared.search.Search.{Search}
 use Rattle.bt_sat.specs.inner.Attending.{no_lit, first, second}
-use Rattle.bt_sat.specs.inner.Keeping.{kept_at, IsAtRest, IsDone}
+use Rattle.bt_sat.specs.inner.Keeping.{kept_at, IsAtRest, IsDone, IsSatisfied}
 use Rattle.bt_sat.specs.inner.Propagating.{GoesOn, Visiting, Settles, IsSettledTo, IsKept, among_watched, alone, both_signs, falses_of, Propagates}
 use Rattle.bt_sat.specs.inner.Truths.{IsTrueIn, IsFalseIn}
-use Rattle.bt_sat.specs.inner.Watching.{IsWatched}
+use Rattle.bt_sat.specs.inner.Watching.{HasTrue, IsWatched}
 use Rattle.bt_sat.proofs.Keeping.{not_both}
 use Rattle.bt_sat.proofs.Lists.{contains_here, contains_there, first_or, none_in, nat_or}
 use Rattle.bt_sat.proofs.Settled.{all_of, watched_is_settled}
@@ -135,14 +135,15 @@ module _ (s : Search) (is : IsSettledTo (length s.assignment.trail.items) s) whe
       let good = is.whole.watched.watchable id d small in
       let rest = is.rest id d small in
       let trail = s.assignment.trail.items in
+      let true_in_falses : IsSatisfied trail clause → HasTrue (falses_of s) clause = λ has. record { lit = has.lit; among = has.among; holds = contains_opposite trail has.lit has.holds } in
       record {
         first = first clause;
         second = second clause;
         first_in = (0, omega (arith, good.two), get_or_default clause 0 (first clause) no_lit (omega (arith, good.two)));
         second_in = (1, omega (arith, good.two), get_or_default clause 1 (second clause) no_lit (omega (arith, good.two)));
         differ = good.differ;
-        if_first = λ h. contains_opposite trail (second clause) (rest.if_first (in_part (opposite (first clause)) (opposite_in trail (first clause) h)));
-        if_second = λ h. contains_opposite trail (first clause) (rest.if_second (in_part (opposite (second clause)) (opposite_in trail (second clause) h)));
+        if_first = λ h. true_in_falses (rest.if_first (in_part (opposite (first clause)) (opposite_in trail (first clause) h)));
+        if_second = λ h. true_in_falses (rest.if_second (in_part (opposite (second clause)) (opposite_in trail (second clause) h)));
       }
 
   settled : IsSettled s.clauses (falses_of s)

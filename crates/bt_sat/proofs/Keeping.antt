@@ -1,19 +1,20 @@
 -- What a visit of a clause keeps.
 use Rattle.std.proofs.Common.{◌≡◌, ◌≢◌, ℕ, ◌≤◌, ◌<◌, ◌+◌, ◌-◌, ◌⊎◌, inl, inr, arith, Bool, true, false, not, List, [], ◌∷◌, ◌++◌, length, get_or, sym, subst, refl, ap, ap₂, ◌∙◌, Option, None, Some, length-set, get_or-set_same, get_or-set_other}
-use Rattle.std.specs.Prelude.{Contains, slice_set}
+use Rattle.std.specs.Prelude.{Contains, IsPermutation, slice_set}
 use Rattle.std.specs.List.{All}
 use Rattle.std.proofs.lemmas.List.Elements.{All-set, All-contains, Contains-append_left, Contains-push, Contains-push_cases, All-push}
-use Rattle.std.proofs.lemmas.List.Sorted.{All-permutation, length_permutation}
+use Rattle.std.proofs.lemmas.List.Sorted.{All-permutation, Contains-permutation, length_permutation}
 use Rattle.bt_cnf.specs.Formulas.{LitsBelow}
 use Rattle.bt_cnf.specs.declared.literal.Lit.{Lit}
 use Rattle.bt_log.specs.Units.{opposite}
-use Rattle.bt_sat.specs.inner.Attending.{first, second, KeepsPair, LeavesOne, WatchesNow}
-use Rattle.bt_sat.specs.inner.Keeping.{IsWatchable, IsListed, kept_at, AreWatched, AreTrue, IsAtRest, IsDone}
+use Rattle.bt_sat.specs.declared.kept.Watch.{Watch}
+use Rattle.bt_sat.specs.inner.Attending.{KeepsPair, LeavesOne, WatchesNow}
+use Rattle.bt_sat.specs.inner.Keeping.{IsWatchable, IsListed, kept_at, IsBlocked, AreWatched, AreTrue, IsAtRest, IsDone, IsSatisfied}
 use Rattle.bt_sat.specs.inner.Sides.{IsWithout}
 use Rattle.bt_sat.specs.inner.Truths.{IsTrueIn, IsFalseIn}
-use Rattle.bt_sat.specs.inner.Watchers.{watchers, Watches}
+use Rattle.bt_sat.specs.inner.Watchers.{watchers, watches_of}
 use Rattle.bt_sat.specs.inner.WatchersParts.{WatchersParts}
-use Rattle.bt_sat.proofs.Lists.{lit_or, nat_or}
+use Rattle.bt_sat.proofs.Lists.{nat_or}
 
 -- a clause stays watchable where its pair is kept
 pub watchable_kept : (vars : ℕ) (old new : List Lit) → IsWatchable vars old → KeepsPair old new → IsWatchable vars new
@@ -47,27 +48,18 @@ listed_kept w id old new is kept = elim kept.pair [
   }
 ]
 
+pub satisfied_kept : (trail old new : List Lit) → IsPermutation old new → IsSatisfied trail old → IsSatisfied trail new
+satisfied_kept trail old new permuted is = record { lit = is.lit; among = Contains-permutation old new is.lit permuted is.among; holds = is.holds }
+
 pub rest_kept : (part trail old new : List Lit) → IsAtRest part trail old → KeepsPair old new → IsAtRest part trail new
 rest_kept part trail old new is kept = elim kept.pair [
   | inl pair ↦ record {
-    if_first = λ h. subst (Contains trail) (sym pair.1) (is.if_first (subst (λ l. Contains part (opposite l)) pair.0 h));
-    if_second = λ h. subst (Contains trail) (sym pair.0) (is.if_second (subst (λ l. Contains part (opposite l)) pair.1 h));
+    if_first = λ h. satisfied_kept trail old new kept.permuted (is.if_first (subst (λ l. Contains part (opposite l)) pair.0 h));
+    if_second = λ h. satisfied_kept trail old new kept.permuted (is.if_second (subst (λ l. Contains part (opposite l)) pair.1 h));
   }
   | inr pair ↦ record {
-    if_first = λ h. subst (Contains trail) (sym pair.1) (is.if_second (subst (λ l. Contains part (opposite l)) pair.0 h));
-    if_second = λ h. subst (Contains trail) (sym pair.0) (is.if_first (subst (λ l. Contains part (opposite l)) pair.1 h));
-  }
-]
-
-pub done_kept : (gone : Lit) (trail old new : List Lit) → IsDone gone trail old → KeepsPair old new → IsDone gone trail new
-done_kept gone trail old new is kept = elim kept.pair [
-  | inl pair ↦ record {
-    if_first = λ h. subst (Contains trail) (sym pair.1) (is.if_first (sym pair.0 ∙ h));
-    if_second = λ h. subst (Contains trail) (sym pair.0) (is.if_second (sym pair.1 ∙ h));
-  }
-  | inr pair ↦ record {
-    if_first = λ h. subst (Contains trail) (sym pair.1) (is.if_second (sym pair.0 ∙ h));
-    if_second = λ h. subst (Contains trail) (sym pair.0) (is.if_first (sym pair.1 ∙ h));
+    if_first = λ h. satisfied_kept trail old new kept.permuted (is.if_second (subst (λ l. Contains part (opposite l)) pair.0 h));
+    if_second = λ h. satisfied_kept trail old new kept.permuted (is.if_first (subst (λ l. Contains part (opposite l)) pair.1 h));
   }
 ]
 
@@ -79,6 +71,16 @@ kept_set P clauses id other new below at_new at_old =
       | inl same ↦ subst (λ n. P n (kept_at (slice_set clauses id new) n)) (sym same) (subst (P id) (sym (get_or-set_same clauses id new [] below)) at_new)
       | inr differs ↦ subst (P other) (sym (get_or-set_other clauses id other new [] differs)) (at_old differs)
     ]
+
+-- the blocking literal of a clause is one of it still where a clause has another order
+pub blocked_set : (clauses : List (List Lit)) (id : ℕ) (new : List Lit) (watch : Watch) → id < length clauses → IsPermutation (kept_at clauses id) new → IsBlocked clauses watch
+    → IsBlocked (slice_set clauses id new) watch
+blocked_set clauses id new watch below permuted is = record {
+  below = subst (λ n. watch.id < n) (sym (length-set clauses id new)) is.below;
+  among =
+      kept_set (λ n c. n ≡ watch.id → Contains c watch.blocker) clauses id watch.id new below
+      (λ e. Contains-permutation (kept_at clauses id) new watch.blocker permuted (subst (λ n. Contains (kept_at clauses n) watch.blocker) (sym e) is.among)) (λ _ _. is.among) refl;
+}
 
 -- all is kept where a clause keeps its pair
 pub watched_kept : (vars : ℕ) (clauses : List (List Lit)) (w : WatchersParts) (id : ℕ) (new : List Lit) → AreWatched vars clauses w → id < length clauses → KeepsPair (kept_at clauses id) new
@@ -92,7 +94,7 @@ watched_kept vars clauses w id new are below kept =
       watchable = All-set (IsWatchable vars) clauses id new (watchable_kept vars old new (are.watchable id [] below) kept) are.watchable;
       listed = λ other inside.
           kept_set (IsListed w) clauses id other new below (listed_kept w id old new (are.listed id below) kept) (λ differs. are.listed other (subst (λ n. other < n) size inside));
-      named = λ l. subst (λ n. All (λ m. m < n) (watchers w l)) (sym size) (are.named l);
+      blocked = λ l k d small. blocked_set clauses id new (get_or (watches_of w l) k d) below kept.permuted (are.blocked l k d small);
     }
 
 -- a literal isn't true and false
@@ -103,32 +105,33 @@ not_both values l true_l false_l = apart l.positive (sym true_l ∙ false_l)
     apart true e = cc
     apart false e = cc
 
--- nothing is unsettled by a clause that watches another literal now, since the one that it left was false
-pub rest_left : (values : List (Option Bool)) (part trail : List Lit) (gone : Lit) (old new : List Lit) (l : Lit) → ((m : Lit) → Contains trail m → IsTrueIn values m) → All (Contains trail) part → IsFalseIn values gone
+-- nothing is unsettled by a clause that watches another literal now, which isn't false
+pub rest_left : (values : List (Option Bool)) (part trail : List Lit) (gone : Lit) (old new : List Lit) (l : Lit) → ((m : Lit) → Contains trail m → IsTrueIn values m) → All (Contains trail) part
     → IsAtRest part trail old → LeavesOne gone old new → WatchesNow values new l → IsAtRest part trail new
-rest_left values part trail gone old new l true_in inside false_gone rest left now =
-    let never : Contains trail gone → ⊥ = λ h. not_both values gone (true_in gone h) false_gone in
-    record {
-      if_first = λ h. absurd (elim left.pair [
-        | inl pair ↦ never (subst (Contains trail) pair.1 (rest.if_first (subst (λ m. Contains part (opposite m)) pair.0 h)))
-        | inr pair ↦ never (subst (Contains trail) pair.1 (rest.if_second (subst (λ m. Contains part (opposite m)) pair.0 h)))
-      ]);
-      if_second = λ h.
-          let false_l : Contains part (opposite l) = subst (λ m. Contains part (opposite m)) now.stands h in
-          absurd (now.not_false (true_in (opposite l) (All-contains (Contains trail) part (opposite l) inside false_l)));
-    }
+rest_left values part trail gone old new l true_in inside rest left now = record {
+  if_first = λ h. satisfied_kept trail old new left.permuted (elim left.pair [
+    | inl pair ↦ rest.if_first (subst (λ m. Contains part (opposite m)) pair.0 h)
+    | inr pair ↦ rest.if_second (subst (λ m. Contains part (opposite m)) pair.0 h)
+  ]);
+  if_second = λ h.
+      let false_l : Contains part (opposite l) = subst (λ m. Contains part (opposite m)) now.stands h in
+      absurd (now.not_false (true_in (opposite l) (All-contains (Contains trail) part (opposite l) inside false_l)));
+}
 
 -- more of the trail
+pub satisfied_grows : (trail more clause : List Lit) → ((l : Lit) → Contains trail l → Contains more l) → IsSatisfied trail clause → IsSatisfied more clause
+satisfied_grows trail more clause grows is = record { lit = is.lit; among = is.among; holds = grows is.lit is.holds }
+
 pub rest_grows : (part trail more clause : List Lit) → ((l : Lit) → Contains trail l → Contains more l) → IsAtRest part trail clause → IsAtRest part more clause
 rest_grows part trail more clause grows rest = record {
-  if_first = λ h. grows (second clause) (rest.if_first h);
-  if_second = λ h. grows (first clause) (rest.if_second h);
+  if_first = λ h. satisfied_grows trail more clause grows (rest.if_first h);
+  if_second = λ h. satisfied_grows trail more clause grows (rest.if_second h);
 }
 
 pub done_grows : (gone : Lit) (trail more clause : List Lit) → ((l : Lit) → Contains trail l → Contains more l) → IsDone gone trail clause → IsDone gone more clause
 done_grows gone trail more clause grows done = record {
-  if_first = λ h. grows (second clause) (done.if_first h);
-  if_second = λ h. grows (first clause) (done.if_second h);
+  if_first = λ h. satisfied_grows trail more clause grows (done.if_first h);
+  if_second = λ h. satisfied_grows trail more clause grows (done.if_second h);
 }
 
 -- the trail with an unset literal more
@@ -177,16 +180,6 @@ truths_more values trail l truths inside not_true not_false =
         let make : ℕ → Bool → Lit = λ v p. record { var = v; positive = p } in
         ap₂ make var same
 
--- a clause on a list is on it still where one more watches a literal
-pub watch_grows : (w w' : WatchersParts) (l m : Lit) (id x : ℕ) → Watches w w' l id → Contains (watchers w m) x → Contains (watchers w' m) x
-watch_grows w w' l m id x one among =
-    elim (lit_or m l) [
-      | inl same ↦
-          subst (λ ids. Contains ids x) (sym (ap (watchers w') same ∙ one.added))
-          (Contains-append_left (watchers w l) (id ∷ []) x (subst (λ k. Contains (watchers w k) x) same among))
-      | inr differs ↦ subst (λ ids. Contains ids x) (sym (one.one.others m differs)) among
-    ]
-
 -- what is on a list without one of its items
 pub without_keeps : (place : ℕ) (old new : List ℕ) (x : ℕ) → IsWithout place old new → Contains old x → (get_or old place x ≢ x) → place < length old → Contains new x
 without_keeps place old new x without (k, below, is) differs inside =
@@ -202,7 +195,7 @@ without_keeps place old new x without (k, below, is) differs inside =
     lt_or : (m n : ℕ) → (m < n) ⊎ (n ≤ m)
     lt_or m n = grind arith
 
-pub without_all : (P : ℕ → Type 0) (place : ℕ) (old new : List ℕ) → IsWithout place old new → place < length old → All P old → All P new
+pub without_all : {X : Type 0} (P : X → Type 0) (place : ℕ) (old new : List X) → IsWithout place old new → place < length old → All P old → All P new
 without_all P place old new without inside all = λ k d below.
     elim (nat_or k place) [
       | inl same ↦

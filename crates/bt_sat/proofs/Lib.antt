@@ -30,3 +30,4 @@ pub mod Settled
 pub mod Sides
 pub mod Taken
 pub mod Visiting
+pub mod Watches

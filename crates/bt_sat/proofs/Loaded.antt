@@ -15,13 +15,13 @@ use Rattle.bt_sat.specs.declared.assignment.Assignment.{Assignment}
 use Rattle.bt_sat.specs.declared.search.Search.{Search}
 use Rattle.bt_sat.specs.inner.Assigning.{Assigns}
 use Rattle.bt_sat.specs.inner.Attending.{no_lit, first, second}
-use Rattle.bt_sat.specs.inner.Keeping.{kept_at, AreTrue, IsAtRest, IsWatchable}
+use Rattle.bt_sat.specs.inner.Keeping.{kept_at, IsBlocked, AreTrue, IsAtRest, IsWatchable}
 use Rattle.bt_sat.specs.inner.Levels.{start_of, front_of, AreLevels, IsHeld, among_watched, alone, IsReady, IsInConflict}
 use Rattle.bt_sat.specs.inner.Loads.{AreUnwatched, IsEmptySearch, IsOther, ArePaired, HasLoaded}
 use Rattle.bt_sat.specs.inner.Propagating.{IsWhole, Keeps}
 use Rattle.bt_sat.specs.inner.Reasons.{AreSame, lit_at, IsReason, AreReasons}
 use Rattle.bt_sat.specs.inner.Truths.{IsTrueIn, IsFalseIn}
-use Rattle.bt_sat.specs.inner.Watchers.{watchers}
+use Rattle.bt_sat.specs.inner.Watchers.{watches_of}
 use Rattle.bt_sat.specs.inner.WatchersParts.{WatchersParts}
 use Rattle.bt_sat.proofs.Adopted.{with_assignment, held_longer, held_more, numbered_kept, ordered_longer}
 use Rattle.bt_sat.proofs.Back.{take_all_of}
@@ -35,7 +35,7 @@ use Rattle.bt_sat.proofs.Settled.{all_of}
 at_same : {X : Type 0} (d : X) (xs : List X) (k : ℕ) → All (λ x. x ≡ d) xs → get_or xs k d ≡ d
 at_same d xs k same = elim (lt_or k (length xs)) [ inl small ↦ same k d small | inr none ↦ past xs k d none ]
 
-none_watch : (vars : ℕ) (w : WatchersParts) (l : Lit) → AreUnwatched vars w → watchers w l ≡ []
+none_watch : (vars : ℕ) (w : WatchersParts) (l : Lit) → AreUnwatched vars w → watches_of w l ≡ []
 none_watch vars w l are = by_sign l.positive
   where
     by_sign : (b : Bool) → cond b (get_or w.positives l.var []) (get_or w.negatives l.var []) ≡ []
@@ -68,7 +68,7 @@ empty_whole vars s is =
         negatives = is.watchers.negatives.size ∙ sym is.assignment.values.size;
         watchable = nothing (IsWatchable (length s.assignment.values)) s.clauses is.clauses;
         listed = λ id small. absurd (omega (arith, small, clauses));
-        named = λ l. nothing (λ id. id < length s.clauses) (watchers s.watchers l) (none_watch vars s.watchers l is.watchers);
+        blocked = λ l. nothing (IsBlocked s.clauses) (watches_of s.watchers l) (none_watch vars s.watchers l is.watchers);
       };
       truths = record {
         below = nothing (λ (l : Lit). l.var < length s.assignment.values) s.assignment.trail.items is.assignment.trail;

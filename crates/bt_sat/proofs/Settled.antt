@@ -8,29 +8,29 @@ use Rattle.bt_log.specs.Units.{opposite, HasNoBothSigns, IsUnit}
 use Rattle.bt_sat.specs.Propagation.{Reaches, begins, goes_on, IsFalseClause, IsSettled}
 use Rattle.bt_sat.specs.Freshness.{AreOthers}
 use Rattle.bt_sat.specs.Laws.{SettledIsOpen}
-use Rattle.bt_sat.specs.inner.Watching.{IsWatched}
+use Rattle.bt_sat.specs.inner.Watching.{HasTrue, IsWatched}
 use Rattle.bt_sat.proofs.Lists.{contains_or, contains_here, contains_there, first_or, none_in, lit_or}
 
 -- of a clause that is watched well, not all literals are false
 pub watched_not_false : (falses clause : List Lit) → HasNoBothSigns falses → IsWatched falses clause → IsFalseClause falses clause → ⊥
 watched_not_false falses clause signs w all =
-    let first = All-contains (Contains falses) clause w.first all w.first_in in
-    let second = All-contains (Contains falses) clause w.second all w.second_in in
-    signs w.second second (w.if_first first)
+    let is = w.if_first (All-contains (Contains falses) clause w.first all w.first_in) in
+    signs is.lit (All-contains (Contains falses) clause is.lit all is.among) is.holds
 
 -- nor is it a unit
 pub watched_not_unit : (falses clause : List Lit) → HasNoBothSigns falses → IsWatched falses clause → (l : Lit) → IsUnit falses clause l → ⊥
 watched_not_unit falses clause signs w l unit =
     let P : Lit → Type 0 = λ m. (m ≡ l) ⊎ Contains falses m in
+    let not_true : HasTrue falses clause → ⊥ = λ is. elim (All-contains P clause is.lit unit.others is.among) [
+      | inl same ↦ unit.not_true (subst (λ m. Contains falses (opposite m)) same is.holds)
+      | inr false_lit ↦ signs is.lit false_lit is.holds
+    ] in
     elim (All-contains P clause w.first unit.others w.first_in) [
       | inl same ↦ elim (All-contains P clause w.second unit.others w.second_in) [
         | inl also ↦ w.differ (same ∙ sym also)
-        | inr second ↦ unit.not_true (subst (λ m. Contains falses (opposite m)) same (w.if_second second))
+        | inr second ↦ not_true (w.if_second second)
       ]
-      | inr first ↦ elim (All-contains P clause w.second unit.others w.second_in) [
-        | inl same ↦ unit.not_true (subst (λ m. Contains falses (opposite m)) same (w.if_first first))
-        | inr second ↦ signs w.second second (w.if_first first)
-      ]
+      | inr first ↦ not_true (w.if_first first)
     ]
 
 -- what holds of each item, and what follows from it

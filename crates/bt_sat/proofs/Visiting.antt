@@ -2,21 +2,27 @@
 use Rattle.std.proofs.Common.{◌≡◌, ◌≢◌, ℕ, ◌≤◌, ◌<◌, ◌+◌, ◌⊎◌, inl, inr, arith, Bool, List, [], ◌∷◌, ◌++◌, length, get_or, sym, subst, refl, ap, ◌∙◌, Option, Some, length-set}
 use Rattle.std.specs.Prelude.{Contains, slice_set}
 use Rattle.std.specs.List.{All}
-use Rattle.std.proofs.lemmas.List.{get_or_default}
-use Rattle.std.proofs.lemmas.List.Elements.{All-set, All-push, Contains-append_left, Contains-push}
+use Rattle.std.proofs.lemmas.List.{get_or_default, get_or-set_same, length-map}
+use Rattle.std.proofs.lemmas.List.Elements.{All-set, Contains-append_left, Contains-push}
 use Rattle.bt_cnf.specs.declared.literal.Lit.{Lit}
 use Rattle.bt_log.specs.Units.{opposite}
-use Rattle.bt_sat.specs.inner.Attending.{first, second, KeepsPair, LeavesOne, WatchesNow}
-use Rattle.bt_sat.specs.inner.Keeping.{IsWatchable, IsListed, kept_at, AreWatched, AreTrue, IsAtRest, IsDone, IsVisiting}
+use Rattle.bt_sat.specs.declared.kept.Watch.{Watch}
+use Rattle.bt_sat.specs.inner.Attending.{no_lit, first, second, KeepsPair, LeavesOne, WatchesNow}
+use Rattle.bt_sat.specs.inner.Keeping.{IsWatchable, IsListed, kept_at, IsBlocked, AreWatched, AreTrue, IsAtRest, IsDone, IsSatisfied, IsVisiting}
 use Rattle.bt_sat.specs.inner.Truths.{IsTrueIn, IsFalseIn}
-use Rattle.bt_sat.specs.inner.Watchers.{watchers, Watches, Unwatches}
+use Rattle.bt_sat.specs.inner.Watchers.{watchers, watches_of, Resets, Watches, Unwatches}
 use Rattle.bt_sat.specs.inner.WatchersParts.{WatchersParts}
 use Rattle.bt_sat.proofs.Lists.{lit_or}
-use Rattle.bt_sat.proofs.Keeping.{watchable_left, rest_kept, rest_left, rest_grows, done_grows, watched_kept, kept_set, truths_more, watch_grows, without_keeps, without_all}
+use Rattle.bt_sat.proofs.Keeping.{blocked_set, watchable_left, rest_kept, rest_left, rest_grows, done_grows, watched_kept, kept_set, truths_more, without_keeps}
+use Rattle.bt_sat.proofs.Watches.{number, no_watch, inside_list, number_at, numbers_added, numbers_others, numbers_without, numbers_reset, watch_grows, all_less, all_more_watches, all_reset}
 
 -- what holds of each clause, and what follows from it
 pub all_more : {X : Type 0} (P Q : X → Type 0) (xs : List X) → ((x : X) → P x → Q x) → All P xs → All Q xs
 all_more P Q xs more all = λ k d below. more _ (all k d below)
+
+-- the first literal of a clause is one of it
+pub first_among : (clause : List Lit) → 2 ≤ length clause → Contains clause (first clause)
+first_among clause two = (0, omega (arith, two), get_or_default clause 0 (first clause) no_lit (omega (arith, two)))
 
 -- a clause is done that watches the literal no longer
 pub done_none : (gone : Lit) (trail clause : List Lit) → first clause ≢ gone → second clause ≢ gone → IsDone gone trail clause
@@ -36,40 +42,21 @@ unwatched w w' gone m place id x un inside is apart among =
     elim (lit_or m gone) [
       | inl same ↦
           subst (λ k. Contains (watchers w' k) x) (sym same)
-          (without_keeps place (watchers w gone) (watchers w' gone) x un.without (subst (λ k. Contains (watchers w k) x) same among)
+          (without_keeps place (watchers w gone) (watchers w' gone) x (numbers_without place (watches_of w gone) (watches_of w' gone) un.without) (subst (λ k. Contains (watchers w k) x) same among)
           (λ e. apart same (sym is ∙ get_or_default (watchers w gone) place 0 x inside ∙ e)) inside)
-      | inr differs ↦ subst (λ ids. Contains ids x) (sym (un.one.others m differs)) among
-    ]
-
-named_less : (count : ℕ) (w w' : WatchersParts) (gone : Lit) (place : ℕ) → Unwatches w w' gone place → place < length (watchers w gone)
-    → ((l : Lit) → All (λ id. id < count) (watchers w l)) → (l : Lit) → All (λ id. id < count) (watchers w' l)
-named_less count w w' gone place un inside all l =
-    elim (lit_or l gone) [
-      | inl same ↦
-          subst (λ k. All (λ id. id < count) (watchers w' k)) (sym same)
-          (without_all (λ id. id < count) place (watchers w gone) (watchers w' gone) un.without inside (all gone))
-      | inr differs ↦ subst (All (λ id. id < count)) (sym (un.one.others l differs)) (all l)
-    ]
-
-pub named_more : (count : ℕ) (w w' : WatchersParts) (l : Lit) (id : ℕ) → Watches w w' l id → id < count
-    → ((m : Lit) → All (λ n. n < count) (watchers w m)) → (m : Lit) → All (λ n. n < count) (watchers w' m)
-named_more count w w' l id one below all m =
-    elim (lit_or m l) [
-      | inl same ↦
-          subst (All (λ n. n < count)) (sym (ap (watchers w') same ∙ one.added))
-          (All-push (λ n. n < count) (watchers w l) id (all l) below)
-      | inr differs ↦ subst (All (λ n. n < count)) (sym (one.one.others m differs)) (all m)
+      | inr differs ↦ subst (λ ids. Contains ids x) (sym (numbers_others w w' gone m un.one differs)) among
     ]
 
 -- all is kept where the clause watches another literal now
-pub watched_moved : (vars : ℕ) (values : List (Option Bool)) (clauses : List (List Lit)) (w w₁ w₂ : WatchersParts) (id : ℕ) (new : List Lit) (l gone : Lit) (place : ℕ)
-    → AreWatched vars clauses w → id < length clauses → LeavesOne gone (kept_at clauses id) new → WatchesNow values new l → IsFalseIn values gone
-    → Watches w w₁ l id → Unwatches w₁ w₂ gone place → place < length (watchers w gone) → get_or (watchers w gone) place 0 ≡ id → AreWatched vars (slice_set clauses id new) w₂
-watched_moved vars values clauses w w₁ w₂ id new l gone place are below left now false_gone one un inside is =
+pub watched_moved : (vars : ℕ) (values : List (Option Bool)) (clauses : List (List Lit)) (w w₁ w₂ : WatchersParts) (id : ℕ) (new : List Lit) (l other gone : Lit) (place : ℕ)
+    → AreWatched vars clauses w → id < length clauses → LeavesOne gone (kept_at clauses id) new → first new ≡ other → WatchesNow values new l → IsFalseIn values gone
+    → Watches w w₁ l (record { id = id; blocker = other }) → Unwatches w₁ w₂ gone place → place < length (watchers w gone) → get_or (watchers w gone) place 0 ≡ id → AreWatched vars (slice_set clauses id new) w₂
+watched_moved vars values clauses w w₁ w₂ id new l other gone place are below left stays now false_gone one un inside is =
     let old = kept_at clauses id in
     let size : length (slice_set clauses id new) ≡ length clauses = length-set clauses id new in
     let apart : l ≢ gone = λ e. now.not_false (subst (IsFalseIn values) (sym e) false_gone) in
-    let same : watchers w₁ gone ≡ watchers w gone = one.one.others gone (λ e. apart (sym e)) in
+    let watch : Watch = record { id = id; blocker = other } in
+    let same : watchers w₁ gone ≡ watchers w gone = numbers_others w w₁ l gone one.one (λ e. apart (sym e)) in
     let inside₁ : place < length (watchers w₁ gone) = subst (λ ids. place < length ids) (sym same) inside in
     let is₁ : get_or (watchers w₁ gone) place 0 ≡ id = ap (λ ids. get_or ids place 0) same ∙ is in
     let old_is : IsWatchable vars old = are.watchable id [] below in
@@ -80,26 +67,33 @@ watched_moved vars values clauses w w₁ w₂ id new l gone place are below left
       | inr pair ↦ subst (λ m. Contains (watchers w m) id) (sym pair.0) old_listed.by_second
     ] in
     let new_listed : IsListed w₂ id new = record {
-      by_first = unwatched w₁ w₂ gone (first new) place id id un inside₁ is₁ (λ e. absurd (not_first e)) (watch_grows w w₁ l (first new) id id one first_was);
+      by_first = unwatched w₁ w₂ gone (first new) place id id un inside₁ is₁ (λ e. absurd (not_first e)) (watch_grows w w₁ l (first new) watch id one first_was);
       by_second =
           unwatched w₁ w₂ gone (second new) place id id un inside₁ is₁ (λ e. absurd (apart (sym now.stands ∙ e)))
-          (subst (λ ids. Contains ids id) (sym (ap (watchers w₁) now.stands ∙ one.added)) (Contains-push (watchers w l) id));
+          (subst (λ ids. Contains ids id) (sym (ap (watchers w₁) now.stands ∙ numbers_added w w₁ l watch one)) (Contains-push (watchers w l) id));
     } in
-    let others : (other : ℕ) → other < length clauses → other ≢ id → IsListed w₂ other (kept_at clauses other) = λ other small differs. record {
+    let others : (n : ℕ) → n < length clauses → n ≢ id → IsListed w₂ n (kept_at clauses n) = λ n small differs. record {
       by_first =
-          unwatched w₁ w₂ gone (first (kept_at clauses other)) place id other un inside₁ is₁ (λ _ e. differs (sym e))
-          (watch_grows w w₁ l (first (kept_at clauses other)) id other one (are.listed other small).by_first);
+          unwatched w₁ w₂ gone (first (kept_at clauses n)) place id n un inside₁ is₁ (λ _ e. differs (sym e))
+          (watch_grows w w₁ l (first (kept_at clauses n)) watch n one (are.listed n small).by_first);
       by_second =
-          unwatched w₁ w₂ gone (second (kept_at clauses other)) place id other un inside₁ is₁ (λ _ e. differs (sym e))
-          (watch_grows w w₁ l (second (kept_at clauses other)) id other one (are.listed other small).by_second);
+          unwatched w₁ w₂ gone (second (kept_at clauses n)) place id n un inside₁ is₁ (λ _ e. differs (sym e))
+          (watch_grows w w₁ l (second (kept_at clauses n)) watch n one (are.listed n small).by_second);
+    } in
+    let good = watchable_left vars values gone old new l old_is left now in
+    let blocks : IsBlocked (slice_set clauses id new) watch = record {
+      below = subst (λ n. id < n) (sym size) below;
+      among = subst (λ c. Contains c other) (sym (get_or-set_same clauses id new [] below)) (subst (Contains new) stays (first_among new good.two));
     } in
     record {
       positives = un.one.positives ∙ one.one.positives ∙ are.positives;
       negatives = un.one.negatives ∙ one.one.negatives ∙ are.negatives;
-      watchable = All-set (IsWatchable vars) clauses id new (watchable_left vars values gone old new l old_is left now) are.watchable;
-      listed = λ other small. kept_set (IsListed w₂) clauses id other new below new_listed (others other (subst (λ n. other < n) size small));
-      named = λ m. subst (λ n. All (λ k. k < n) (watchers w₂ m)) (sym size)
-          (named_less (length clauses) w₁ w₂ gone place un inside₁ (named_more (length clauses) w w₁ l id one below are.named) m);
+      watchable = All-set (IsWatchable vars) clauses id new good are.watchable;
+      listed = λ n small. kept_set (IsListed w₂) clauses id n new below new_listed (others n (subst (λ count. n < count) size small));
+      blocked =
+          all_less (IsBlocked (slice_set clauses id new)) w₁ w₂ gone place un (inside_list (watches_of w₁ gone) place inside₁)
+          (all_more_watches (IsBlocked (slice_set clauses id new)) w w₁ l watch one blocks
+          (λ m k d small. blocked_set clauses id new (get_or (watches_of w m) k d) below left.permuted (are.blocked m k d small)));
     }
 
 -- all is kept where a clause leaves a list that it watches no longer
@@ -116,7 +110,7 @@ watched_strayed vars clauses w w' gone place id are un inside is not_first not_s
         by_first = unwatched w w' gone (first (kept_at clauses other)) place id other un inside is (here other (first (kept_at clauses other)) refl) (are.listed other small).by_first;
         by_second = unwatched w w' gone (second (kept_at clauses other)) place id other un inside is (there other (second (kept_at clauses other)) refl) (are.listed other small).by_second;
       };
-      named = named_less (length clauses) w w' gone place un inside are.named;
+      blocked = all_less (IsBlocked clauses) w w' gone place un (inside_list (watches_of w gone) place inside) are.blocked;
     }
 
 lt_or : (m n : ℕ) → (m < n) ⊎ (n ≤ m)
@@ -125,7 +119,9 @@ lt_or m n = grind arith
 -- the lists name clauses
 pub named_below : (vars : ℕ) (clauses : List (List Lit)) (w : WatchersParts) (gone : Lit) (place id : ℕ) → AreWatched vars clauses w → place < length (watchers w gone)
     → get_or (watchers w gone) place 0 ≡ id → id < length clauses
-named_below vars clauses w gone place id are inside is = subst (λ n. n < length clauses) is (are.named gone place 0 inside)
+named_below vars clauses w gone place id are inside is =
+    let small : place < length (watches_of w gone) = inside_list (watches_of w gone) place inside in
+    subst (λ n. n < length clauses) (sym (number_at (watches_of w gone) place small) ∙ is) (are.blocked gone place no_watch small).below
 
 -- the clauses on a list so far are done still, where one of them was changed and is done
 done_set : (gone : Lit) (trail : List Lit) (clauses : List (List Lit)) (ids : List ℕ) (id place : ℕ) (new : List Lit) → id < length clauses → IsDone gone trail new
@@ -177,26 +173,27 @@ module _ (part : List Lit) (gone : Lit) (place : ℕ) (values : List (Option Boo
   }
 
   -- the clause watches another literal now
-  pub moves : (w₁ w₂ : WatchersParts) (l : Lit) → LeavesOne gone (kept_at clauses id) new → WatchesNow values new l → Watches w w₁ l id → Unwatches w₁ w₂ gone place
+  pub moves : (w₁ w₂ : WatchersParts) (l other : Lit) → LeavesOne gone (kept_at clauses id) new → first new ≡ other → WatchesNow values new l → Watches w w₁ l (record { id = id; blocker = other })
+      → Unwatches w₁ w₂ gone place
       → IsVisiting part gone place values trail (slice_set clauses id new) w₂
   unfolding below
-  moves w₁ w₂ l left now one un =
+  moves w₁ w₂ l other left stands now one un =
       let apart : l ≢ gone = λ e. now.not_false (subst (IsFalseIn values) (sym e) v.gone_false) in
-      let same : watchers w₁ gone ≡ watchers w gone = one.one.others gone (λ e. apart (sym e)) in
+      let same : watchers w₁ gone ≡ watchers w gone = numbers_others w w₁ l gone one.one (λ e. apart (sym e)) in
       let not_first : first new ≢ gone = first_left (length values) gone (kept_at clauses id) new (v.watched.watchable id [] below) left in
       let not_second : second new ≢ gone = λ e. apart (sym now.stands ∙ e) in
       record {
-        watched = watched_moved (length values) values clauses w w₁ w₂ id new l gone place v.watched below left now v.gone_false one un inside is;
+        watched = watched_moved (length values) values clauses w w₁ w₂ id new l other gone place v.watched below left stands now v.gone_false one un inside is;
         truths = v.truths;
         rest =
             All-set (IsAtRest part trail) clauses id new
-            (rest_left values part trail gone (kept_at clauses id) new l v.truths.true_in v.part_in v.gone_false (v.rest id [] below) left now) v.rest;
+            (rest_left values part trail gone (kept_at clauses id) new l v.truths.true_in v.part_in (v.rest id [] below) left now) v.rest;
         part_in = v.part_in;
         gone_false = v.gone_false;
         done = λ k before small.
             let early : k + 1 < length (watchers w₁ gone) = subst (λ ids. k + 1 < length ids) (sym same) (omega (arith, before, inside)) in
             let stays : get_or (watchers w₂ gone) k 0 ≡ get_or (watchers w gone) k 0 =
-            un.without.others k 0 (λ e. absurd (omega (arith, e, before))) early ∙ ap (λ ids. get_or ids k 0) same in
+            (numbers_without place (watches_of w₁ gone) (watches_of w₂ gone) un.without).others k 0 (λ e. absurd (omega (arith, e, before))) early ∙ ap (λ ids. get_or ids k 0) same in
             subst (λ n. IsDone gone trail (kept_at (slice_set clauses id new) n)) (sym stays)
             (done_set gone trail clauses (watchers w gone) id place new below (done_none gone trail new not_first not_second) v.done k before (omega (arith, before, inside)));
       }
@@ -213,7 +210,7 @@ strays part gone place values trail clauses w w' id v inside is not_first not_se
   gone_false = v.gone_false;
   done = λ k before small.
       let stays : get_or (watchers w' gone) k 0 ≡ get_or (watchers w gone) k 0 =
-      un.without.others k 0 (λ e. absurd (omega (arith, e, before))) (omega (arith, before, inside)) in
+      (numbers_without place (watches_of w gone) (watches_of w' gone) un.without).others k 0 (λ e. absurd (omega (arith, e, before))) (omega (arith, before, inside)) in
       subst (λ n. IsDone gone trail (kept_at clauses n)) (sym stays) (v.done k before (omega (arith, before, inside)));
 }
 
@@ -234,21 +231,71 @@ grows part gone place values trail clauses w l v inside not_true not_false =
       done = λ k before small. done_grows gone trail more (kept_at clauses (get_or (watchers w gone) k 0)) wider (v.done k before small);
     }
 
--- a clause is done whose other literal is true
-pub done_true : (values : List (Option Bool)) (trail : List Lit) (gone : Lit) (clause : List Lit) → AreTrue values trail → first clause ≢ second clause → second clause ≡ gone
-    → IsTrueIn values (first clause) → IsDone gone trail clause
-done_true values trail gone clause truths differ is true_first = record {
-  if_first = λ e. absurd (differ (e ∙ sym is));
-  if_second = λ e. truths.in_trail (first clause) true_first;
+-- a clause whose first literal is true
+pub satisfied_first : (values : List (Option Bool)) (trail clause : List Lit) → AreTrue values trail → 2 ≤ length clause → IsTrueIn values (first clause) → IsSatisfied trail clause
+satisfied_first values trail clause truths two true_first = record {
+  lit = first clause;
+  among = first_among clause two;
+  holds = truths.in_trail (first clause) true_first;
+}
+
+-- a clause is done that has a true literal
+pub done_true : (gone : Lit) (trail clause : List Lit) → IsSatisfied trail clause → IsDone gone trail clause
+done_true gone trail clause is = record { if_first = λ _. is; if_second = λ _. is }
+
+-- a clause that gets another blocking literal
+pub resets : (part : List Lit) (gone : Lit) (place at : ℕ) (values : List (Option Bool)) (trail : List Lit) (clauses : List (List Lit)) (w w' : WatchersParts) (watch : Watch)
+    → IsVisiting part gone at values trail clauses w → Resets w w' gone place watch → place < length (watches_of w gone) → get_or (watchers w gone) place 0 ≡ watch.id → IsBlocked clauses watch
+    → IsVisiting part gone at values trail clauses w'
+resets part gone place at values trail clauses w w' watch v one inside is blocks =
+    let same : (m : Lit) → watchers w' m ≡ watchers w m = λ m. numbers_reset w w' gone m place watch one inside is in
+    record {
+      watched = record {
+        positives = one.one.positives ∙ v.watched.positives;
+        negatives = one.one.negatives ∙ v.watched.negatives;
+        watchable = v.watched.watchable;
+        listed = λ id small.
+            let listed = v.watched.listed id small in
+            record {
+              by_first = subst (λ ids. Contains ids id) (sym (same (first (kept_at clauses id)))) listed.by_first;
+              by_second = subst (λ ids. Contains ids id) (sym (same (second (kept_at clauses id)))) listed.by_second;
+            };
+        blocked = all_reset (IsBlocked clauses) w w' gone place watch one blocks v.watched.blocked;
+      };
+      truths = v.truths;
+      rest = v.rest;
+      part_in = v.part_in;
+      gone_false = v.gone_false;
+      done = λ k before small.
+          subst (λ ids. IsDone gone trail (kept_at clauses (get_or ids k 0))) (sym (same gone)) (v.done k before (subst (λ ids. k < length ids) (same gone) small));
+    }
+
+-- a clause whose blocking literal is true
+pub passes : (part : List Lit) (gone : Lit) (place : ℕ) (values : List (Option Bool)) (trail : List Lit) (clauses : List (List Lit)) (w : WatchersParts) (watch : Watch)
+    → IsVisiting part gone place values trail clauses w → get_or (watchers w gone) place 0 ≡ watch.id → IsBlocked clauses watch → IsTrueIn values watch.blocker
+    → IsVisiting part gone (place + 1) values trail clauses w
+passes part gone place values trail clauses w watch v is blocks true_blocker = record {
+  watched = v.watched;
+  truths = v.truths;
+  rest = v.rest;
+  part_in = v.part_in;
+  gone_false = v.gone_false;
+  done = λ k before small. elim (lt_or k place) [
+    | inl earlier ↦ v.done k earlier small
+    | inr late ↦
+        let here : k ≡ place = omega (arith, before, late) in
+        subst (λ n. IsDone gone trail (kept_at clauses n)) (sym (ap (λ n. get_or (watchers w gone) n 0) here ∙ is))
+        (done_true gone trail (kept_at clauses watch.id) (record { lit = watch.blocker; among = blocks.among; holds = v.truths.in_trail watch.blocker true_blocker }))
+  ];
 }
 
 -- once all clauses of a literal's list were visited, nothing is unsettled by a longer part of the trail
 pub visited : (part : List Lit) (gone : Lit) (place : ℕ) (values : List (Option Bool)) (trail : List Lit) (clauses : List (List Lit)) (w : WatchersParts)
-    → IsVisiting part gone place values trail clauses w → length (watchers w gone) ≤ place → (id : ℕ) → id < length clauses → IsDone gone trail (kept_at clauses id)
+    → IsVisiting part gone place values trail clauses w → length (watches_of w gone) ≤ place → (id : ℕ) → id < length clauses → IsDone gone trail (kept_at clauses id)
 visited part gone place values trail clauses w v all id below =
     let listed = v.watched.listed id below in
     let on_list : Contains (watchers w gone) id → IsDone gone trail (kept_at clauses id) = λ (k, small, is).
-    subst (λ n. IsDone gone trail (kept_at clauses n)) (get_or_default (watchers w gone) k 0 id small ∙ is) (v.done k (omega (arith, all, small)) small) in
+    subst (λ n. IsDone gone trail (kept_at clauses n)) (get_or_default (watchers w gone) k 0 id small ∙ is) (v.done k (omega (arith, all, small, length-map (watches_of w gone) number)) small) in
     record {
       if_first = λ e. (on_list (subst (λ m. Contains (watchers w m) id) e listed.by_first)).if_first e;
       if_second = λ e. (on_list (subst (λ m. Contains (watchers w m) id) e listed.by_second)).if_second e;

@@ -16,6 +16,7 @@ mod learning;
 mod lemmas;
 mod levels;
 mod loading;
+mod packed;
 mod progress;
 mod search;
 mod serving;

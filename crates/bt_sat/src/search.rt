@@ -3,11 +3,12 @@ ghost use Rattle.std.specs.Prelude.{◌≡◌, ◌<◌, ◌≤◌, length, IfOk,
 ghost use Rattle.bt_sat.specs.inner.Keeping.{AreWatched, AreTrue, IsWatchable, kept_at};
 ghost use Rattle.bt_sat.specs.inner.AttendingIn.{AttendsIn};
 ghost use Rattle.bt_sat.specs.inner.Truths.{IsFalseIn};
-ghost use Rattle.bt_sat.specs.inner.Watchers.{watchers};
+ghost use Rattle.bt_sat.specs.inner.Watchers.{watches_of};
 ghost use Rattle.bt_sat.specs.inner.Propagating.{Advances, IsSettledTo, Keeps, Propagates, Settles};
 
 use crate::assignment::{Assignment, assign};
-use crate::kept::Watched;
+use crate::kept::{Watch, Watched};
+use crate::packed::{Packed, pack_all};
 use crate::truth::{Values, negation};
 use crate::watched::{Visit, attend};
 use crate::watchers::Watchers;
@@ -20,7 +21,7 @@ use std::alloc::AllocError;
 pub struct Search {
     pub assignment: Assignment,
     /// The clauses of two or more literals, whose first two are watched.
-    pub clauses: Pool<Lit, Watched>,
+    pub clauses: Pool<Packed, Watched>,
     pub watchers: Watchers,
     /// For each of these clauses, its number among those of the formula and of the log.
     pub numbers: Vec<usize>,
@@ -41,7 +42,7 @@ pub enum Attended {
 
 /// Visits a clause where a literal has become false.
 fn attend_in(
-    clauses: &mut Pool<Lit, Watched>,
+    clauses: &mut Pool<Packed, Watched>,
     id: Id<Watched>,
     gone: &Lit,
     values: &Values,
@@ -61,29 +62,39 @@ pub fn number_of(numbers: &[usize], id: Id<Watched>) -> Option<usize>
     numbers.get(id.place()).copied()
 }
 
-/// Visits the clause at a place of the list of a literal that is false.
+/// Visits the clause at a place of the list of a literal that is false. Where its blocking literal is true,
+/// the clause isn't looked at.
 pub fn attend_at(search: &mut Search, gone: &Lit, place: usize) -> Result<Attended, AllocError>
     requires watched { AreWatched (length search.old.assignment.values)
         search.old.clauses search.old.watchers }
     requires truths { AreTrue search.old.assignment.values search.old.assignment.trail.items }
     requires gone { IsFalseIn search.old.assignment.values gone.now }
     requires variable { gone.now.var < length search.old.assignment.values }
-    requires place { place < length (watchers search.old.watchers gone.now) }
+    requires place { place < length (watches_of search.old.watchers gone.now) }
     ensures { IfOk result (Advances gone.now place search.old search.new) }
 {
-    let id = search.watchers.at(gone, place);
+    let watch = search.watchers.at(gone, place);
+    if watch.blocker.is_true(&search.assignment.values) {
+        return Ok(Attended::Stays);
+    }
+    let id = watch.id;
     match attend_in(&mut search.clauses, id, gone, &search.assignment.values) {
         Visit::Strays => {
             search.watchers.unwatch(gone, place);
             Ok(Attended::Leaves)
         }
-        Visit::Stays => Ok(Attended::Stays),
-        Visit::Moves(lit) => {
-            search.watchers.watch(&lit, id)?;
+        Visit::Stays(blocker) => {
+            search.watchers.set(gone, place, Watch { id, blocker });
+            Ok(Attended::Stays)
+        }
+        Visit::Moves(lit, blocker) => {
+            let lit = lit.unpack(&search.assignment.values);
+            search.watchers.watch(&lit, Watch { id, blocker })?;
             search.watchers.unwatch(gone, place);
             Ok(Attended::Leaves)
         }
         Visit::Forces(lit) => {
+            let lit = lit.unpack(&search.assignment.values);
             let reason = number_of(&search.numbers, id);
             assign(&mut search.assignment, &lit, reason)?;
             Ok(Attended::Stays)
@@ -131,6 +142,34 @@ pub fn propagate(search: &mut Search, settled: usize) -> Result<Option<Id<Watche
     Ok(None)
 }
 
+/// Keeps the clause with a number, whose literals are packed too.
+fn keep_packed(
+    search: &mut Search,
+    lits: &[Lit],
+    packed: &[Packed],
+    number: usize,
+) -> Result<(), AllocError>
+    requires watched { AreWatched (length search.old.assignment.values)
+        search.old.clauses search.old.watchers }
+    requires watchable { IsWatchable (length search.old.assignment.values) lits.now }
+    requires same { packed.now ≡ lits.now }
+    ensures { OnOk result (Keeps lits.now number search.old search.new) }
+{
+    let id = search.clauses.add_slice(packed)?;
+    let by_first = Watch {
+        id,
+        blocker: packed[1],
+    };
+    let by_second = Watch {
+        id,
+        blocker: packed[0],
+    };
+    search.watchers.watch(&lits[0], by_first)?;
+    search.watchers.watch(&lits[1], by_second)?;
+    search.numbers.push(number)?;
+    Ok(())
+}
+
 /// Keeps the clause with a number, of two or more literals, the first two of which it watches.
 pub fn keep(search: &mut Search, lits: &[Lit], number: usize) -> Result<(), AllocError>
     requires watched { AreWatched (length search.old.assignment.values)
@@ -138,9 +177,6 @@ pub fn keep(search: &mut Search, lits: &[Lit], number: usize) -> Result<(), Allo
     requires watchable { IsWatchable (length search.old.assignment.values) lits.now }
     ensures { OnOk result (Keeps lits.now number search.old search.new) }
 {
-    let id = search.clauses.add_slice(lits)?;
-    search.watchers.watch(&lits[0], id)?;
-    search.watchers.watch(&lits[1], id)?;
-    search.numbers.push(number)?;
-    Ok(())
+    let packed = pack_all(search.numbers.allocator().clone()?, lits)?;
+    keep_packed(search, lits, &packed, number)
 }

@@ -1,15 +1,14 @@
 //! For each variable, the kept clauses that watch one of its two literals.
 ghost use Rattle.std.specs.Prelude.{◌≡◌, ◌<◌, length, IfOk, OnOk, slice_index_or, slice_get, Some, []};
 ghost use Rattle.bt_sat.specs.inner.Loads.{AreEmptyLists};
-ghost use Rattle.bt_sat.specs.inner.Sides.{lists_of, Gains, Loses};
+ghost use Rattle.bt_sat.specs.inner.Sides.{lists_of, Gains, Loses, Sets};
 
-use crate::kept::Watched;
-use bt_arena::Id;
+use crate::kept::Watch;
 use bt_cnf::Var;
 use std::alloc::{AllocError, Global};
 
 /// For each variable, the clauses that watch its positive literal, or those that watch its negative one.
-pub type Side = Vec<Vec<Id<Watched>>>;
+pub type Side = Vec<Vec<Watch>>;
 
 /// Empty lists for so many variables.
 pub fn empty_lists(alloc: Global, vars: usize) -> Result<Side, AllocError>
@@ -31,7 +30,7 @@ pub fn list_len(side: &Side, var: Var) -> usize
 }
 
 /// The clause at a place of a variable's list.
-pub fn list_at(side: &Side, var: Var, place: usize) -> Id<Watched>
+pub fn list_at(side: &Side, var: Var, place: usize) -> Watch
     requires var { var < length (lists_of side.now) }
     requires place { place < length (slice_index_or (lists_of side.now) var []) }
     ensures { result ≡ slice_index_or (slice_index_or (lists_of side.now) var []) place result }
@@ -40,12 +39,21 @@ pub fn list_at(side: &Side, var: Var, place: usize) -> Id<Watched>
 }
 
 /// Puts a clause on a variable's list.
-pub fn list_add(side: &mut Side, var: Var, id: Id<Watched>) -> Result<(), AllocError>
+pub fn list_add(side: &mut Side, var: Var, watch: Watch) -> Result<(), AllocError>
     requires { var < length (lists_of side.old) }
-    ensures { OnOk result (Gains (lists_of side.old) (lists_of side.new) var id) }
+    ensures { OnOk result (Gains (lists_of side.old) (lists_of side.new) var watch) }
 {
-    side[var.place()].push(id)?;
+    side[var.place()].push(watch)?;
     Ok(())
+}
+
+/// Puts a clause in the place of another on a variable's list.
+pub fn list_set(side: &mut Side, var: Var, place: usize, watch: Watch)
+    requires var { var < length (lists_of side.old) }
+    requires place { place < length (slice_index_or (lists_of side.old) var []) }
+    ensures { Sets (lists_of side.old) (lists_of side.new) var place watch }
+{
+    side[var.place()][place] = watch;
 }
 
 /// Takes the clause at a place off a variable's list.

@@ -1,11 +1,10 @@
 //! For each literal, the kept clauses that watch it.
 ghost use Rattle.std.specs.Prelude.{◌≡◌, ◌<◌, length, IfOk, OnOk, slice_index_or};
 ghost use Rattle.bt_sat.specs.inner.Loads.{AreUnwatched};
-ghost use Rattle.bt_sat.specs.inner.Watchers.{watchers, Watches, Unwatches};
+ghost use Rattle.bt_sat.specs.inner.Watchers.{watches_of, Resets, Watches, Unwatches};
 
-use crate::kept::Watched;
-use crate::side::{Side, empty_lists, list_add, list_at, list_len, list_remove};
-use bt_arena::Id;
+use crate::kept::Watch;
+use crate::side::{Side, empty_lists, list_add, list_at, list_len, list_remove, list_set};
 use bt_cnf::Lit;
 use std::alloc::{AllocError, Global};
 use std::marker::Model;
@@ -44,7 +43,7 @@ impl Watchers {
     pub fn len(&self, lit: &Lit) -> usize
         requires positives { lit.now.var < length self.now.positives }
         requires negatives { lit.now.var < length self.now.negatives }
-        ensures { result ≡ length (watchers self.now lit.now) }
+        ensures { result ≡ length (watches_of self.now lit.now) }
     {
         if lit.positive {
             list_len(&self.positives, lit.var)
@@ -54,11 +53,11 @@ impl Watchers {
     }
 
     /// A clause that watches a literal.
-    pub fn at(&self, lit: &Lit, place: usize) -> Id<Watched>
+    pub fn at(&self, lit: &Lit, place: usize) -> Watch
         requires positives { lit.now.var < length self.now.positives }
         requires negatives { lit.now.var < length self.now.negatives }
-        requires place { place < length (watchers self.now lit.now) }
-        ensures { result ≡ slice_index_or (watchers self.now lit.now) place result }
+        requires place { place < length (watches_of self.now lit.now) }
+        ensures { result ≡ slice_index_or (watches_of self.now lit.now) place result }
     {
         if lit.positive {
             list_at(&self.positives, lit.var, place)
@@ -68,15 +67,29 @@ impl Watchers {
     }
 
     /// Lets a clause watch a literal.
-    pub fn watch(&mut self, lit: &Lit, id: Id<Watched>) -> Result<(), AllocError>
+    pub fn watch(&mut self, lit: &Lit, watch: Watch) -> Result<(), AllocError>
         requires positives { lit.now.var < length self.old.positives }
         requires negatives { lit.now.var < length self.old.negatives }
-        ensures { OnOk result (Watches self.old self.new lit.now id) }
+        ensures { OnOk result (Watches self.old self.new lit.now watch) }
     {
         if lit.positive {
-            list_add(&mut self.positives, lit.var, id)
+            list_add(&mut self.positives, lit.var, watch)
         } else {
-            list_add(&mut self.negatives, lit.var, id)
+            list_add(&mut self.negatives, lit.var, watch)
+        }
+    }
+
+    /// Gives the clause at a place another blocking literal.
+    pub fn set(&mut self, lit: &Lit, place: usize, watch: Watch)
+        requires positives { lit.now.var < length self.old.positives }
+        requires negatives { lit.now.var < length self.old.negatives }
+        requires place { place < length (watches_of self.old lit.now) }
+        ensures { Resets self.old self.new lit.now place watch }
+    {
+        if lit.positive {
+            list_set(&mut self.positives, lit.var, place, watch);
+        } else {
+            list_set(&mut self.negatives, lit.var, place, watch);
         }
     }
 
@@ -84,7 +97,7 @@ impl Watchers {
     pub fn unwatch(&mut self, lit: &Lit, place: usize)
         requires positives { lit.now.var < length self.old.positives }
         requires negatives { lit.now.var < length self.old.negatives }
-        requires place { place < length (watchers self.old lit.now) }
+        requires place { place < length (watches_of self.old lit.now) }
         ensures { Unwatches self.old self.new lit.now place }
     {
         if lit.positive {

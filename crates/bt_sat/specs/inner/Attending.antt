@@ -43,7 +43,7 @@ pub record WatchesNow (values : List (Option Bool)) (clause : List Lit) (l : Lit
 -- what the clause does where this literal has become false
 abbrev pub Attends : List (Option Bool) → Lit → List Lit → List Lit → Visit → Type 0
 Attends values gone old new Strays = KeepsPair old new × (first new ≢ gone) × (second new ≢ gone)
-Attends values gone old new Stays = KeepsPair old new × (second new ≡ gone) × IsTrueIn values (first new)
-Attends values gone old new (Moves l) = LeavesOne gone old new × WatchesNow values new l
+Attends values gone old new (Stays other) = KeepsPair old new × (second new ≡ gone) × (first new ≡ other) × IsTrueIn values other
+Attends values gone old new (Moves l other) = LeavesOne gone old new × (first new ≡ other) × WatchesNow values new l
 Attends values gone old new (Forces l) = KeepsPair old new × (second new ≡ gone) × Leaves values new l
 Attends values gone old new Fails = KeepsPair old new × All (IsFalseIn values) new

@@ -4,9 +4,10 @@ use Rattle.std.specs.List.{All}
 use Rattle.bt_cnf.specs.Formulas.{LitsBelow}
 use Rattle.bt_cnf.specs.declared.literal.Lit.{Lit}
 use Rattle.bt_log.specs.Units.{opposite}
+use Rattle.bt_sat.specs.declared.kept.Watch.{Watch}
 use Rattle.bt_sat.specs.inner.Attending.{first, second}
 use Rattle.bt_sat.specs.inner.Truths.{IsTrueIn, IsFalseIn}
-use Rattle.bt_sat.specs.inner.Watchers.{watchers}
+use Rattle.bt_sat.specs.inner.Watchers.{watchers, watches_of}
 use Rattle.bt_sat.specs.inner.WatchersParts.{WatchersParts}
 
 -- a clause has two or more literals of variables, and the two that it watches differ
@@ -24,13 +25,18 @@ pub record IsListed (w : WatchersParts) (id : ℕ) (clause : List Lit) : Type 0 
 abbrev pub kept_at : List (List Lit) → ℕ → List Lit
 kept_at clauses id = slice_index_or clauses id []
 
--- each clause is watchable and on its two lists, and the lists name clauses
+-- there is such a clause, and the blocking literal is one of it
+pub record IsBlocked (clauses : List (List Lit)) (watch : Watch) : Type 0 where
+  pub below : watch.id < length clauses
+  pub among : Contains (kept_at clauses watch.id) watch.blocker
+
+-- each clause is watchable and on its two lists, and the lists name clauses, with a literal of each
 pub record AreWatched (vars : ℕ) (clauses : List (List Lit)) (w : WatchersParts) : Type 0 where
   pub positives : length w.positives ≡ vars
   pub negatives : length w.negatives ≡ vars
   pub watchable : All (IsWatchable vars) clauses
   pub listed : (id : ℕ) → id < length clauses → IsListed w id (kept_at clauses id)
-  pub named : (l : Lit) → All (λ id. id < length clauses) (watchers w l)
+  pub blocked : (l : Lit) → All (IsBlocked clauses) (watches_of w l)
 
 -- the trail has exactly the literals that are true
 pub record AreTrue (values : List (Option Bool)) (trail : List Lit) : Type 0 where
@@ -38,15 +44,21 @@ pub record AreTrue (values : List (Option Bool)) (trail : List Lit) : Type 0 whe
   pub true_in : (l : Lit) → Contains trail l → IsTrueIn values l
   pub in_trail : (l : Lit) → IsTrueIn values l → Contains trail l
 
--- where one of the two literals that a clause watches has its opposite in a part of the trail, the other is true
-pub record IsAtRest (part trail clause : List Lit) : Type 0 where
-  pub if_first : Contains part (opposite (first clause)) → Contains trail (second clause)
-  pub if_second : Contains part (opposite (second clause)) → Contains trail (first clause)
+-- a literal of the clause is true
+pub record IsSatisfied (trail clause : List Lit) : Type 0 where
+  pub lit : Lit
+  pub among : Contains clause lit
+  pub holds : Contains trail lit
 
--- where a clause watches this literal, the other one that it watches is true
+-- where one of the two literals that a clause watches has its opposite in a part of the trail, a literal of it is true
+pub record IsAtRest (part trail clause : List Lit) : Type 0 where
+  pub if_first : Contains part (opposite (first clause)) → IsSatisfied trail clause
+  pub if_second : Contains part (opposite (second clause)) → IsSatisfied trail clause
+
+-- where a clause watches this literal, a literal of it is true
 pub record IsDone (gone : Lit) (trail clause : List Lit) : Type 0 where
-  pub if_first : first clause ≡ gone → Contains trail (second clause)
-  pub if_second : second clause ≡ gone → Contains trail (first clause)
+  pub if_first : first clause ≡ gone → IsSatisfied trail clause
+  pub if_second : second clause ≡ gone → IsSatisfied trail clause
 
 -- the clauses that watch a false literal are being visited: all is kept, nothing is unsettled by a part of the trail, and
 -- the first so many of the literal's list are done

@@ -5,13 +5,14 @@ use Rattle.bt_cnf.specs.declared.literal.Lit.{Lit}
 use Rattle.bt_log.specs.Validity.{clause_at}
 use Rattle.bt_sat.specs.declared.assignment.Assignment.{Assignment}
 use Rattle.bt_sat.specs.declared.search.Search.{Search}
+use Rattle.bt_sat.specs.declared.kept.Watch.{Watch}
 use Rattle.bt_sat.specs.inner.Attending.{first, second}
 use Rattle.bt_sat.specs.inner.Levels.{IsOrdered, IsHeld, IsInConflict}
 use Rattle.bt_sat.specs.inner.Reasons.{lit_at}
 use Rattle.bt_sat.specs.inner.WatchersParts.{WatchersParts}
 
 -- the lists of so many variables, which are empty
-pub record AreEmptyLists (vars : ℕ) (lists : List (List ℕ)) : Type 0 where
+pub record AreEmptyLists (vars : ℕ) (lists : List (List Watch)) : Type 0 where
   pub size : length lists ≡ vars
   pub empty : All (λ list. list ≡ []) lists
 

@@ -10,7 +10,7 @@ use Rattle.bt_sat.specs.declared.search.Attended.TheVariants.{Stays, Leaves, Fai
 use Rattle.bt_sat.specs.inner.Keeping.{kept_at, AreWatched, AreTrue, IsAtRest, IsVisiting}
 use Rattle.bt_sat.specs.inner.Reasons.{AreSame, AreNumbered, IsReasoned}
 use Rattle.bt_sat.specs.inner.Truths.{IsFalseIn, unset}
-use Rattle.bt_sat.specs.inner.Watchers.{watchers}
+use Rattle.bt_sat.specs.inner.Watchers.{watches_of}
 
 -- unset literals were added to the trail, and each clause has its literals still, in some order
 pub record GoesOn (old new : Search) : Type 0 where
@@ -41,17 +41,17 @@ FailsAt s id = (id < length s.clauses) × All (IsFalseIn s.assignment.values) (k
 -- what a visit of the clause at a place makes of the search
 abbrev pub Advances : Lit → ℕ → Search → Search → Attended → Type 0
 Advances gone place old new Stays =
-    GoesOn old new × (length (watchers new.watchers gone) ≡ length (watchers old.watchers gone))
+    GoesOn old new × (length (watches_of new.watchers gone) ≡ length (watches_of old.watchers gone))
     × ((part : List Lit) → Visiting part gone place old → Visiting part gone (place + 1) new)
 Advances gone place old new Leaves =
-    GoesOn old new × (length (watchers new.watchers gone) + 1 ≡ length (watchers old.watchers gone))
+    GoesOn old new × (length (watches_of new.watchers gone) + 1 ≡ length (watches_of old.watchers gone))
     × ((part : List Lit) → Visiting part gone place old → Visiting part gone place new)
 Advances gone place old new (Fails id) = GoesOn old new × FailsAt new id × (IsWhole old → IsWhole new)
 
 -- all clauses on the literal's list were visited, or one was found whose literals are all false
 abbrev pub Settles : Lit → Search → Search → Option ℕ → Type 0
 Settles gone old new None = GoesOn old new
-    × ((part : List Lit) → Visiting part gone 0 old → (place : ℕ) × (length (watchers new.watchers gone) ≤ place) × Visiting part gone place new)
+    × ((part : List Lit) → Visiting part gone 0 old → (place : ℕ) × (length (watches_of new.watchers gone) ≤ place) × Visiting part gone place new)
 Settles gone old new (Some id) = GoesOn old new × FailsAt new id × (IsWhole old → IsWhole new)
 
 -- nothing is unsettled by the first so many literals of the trail

@@ -43,7 +43,7 @@ StandsFirst lits l = HoldsAt (λ m. m ≡ l) lits 0
 -- what the clause does where its second literal is false
 abbrev pub Visits : List (Option Bool) → List Lit → List Lit → Visit → Type 0
 Visits values old new Strays = ⊥
-Visits values old new Stays = (new ≡ old) × HoldsAt (IsTrueIn values) old 0
-Visits values old new (Moves l) = (first : Lit) × StandsFirst old first × MovesTo values first old new l
+Visits values old new (Stays other) = (new ≡ old) × StandsFirst old other × IsTrueIn values other
+Visits values old new (Moves l other) = StandsFirst old other × MovesTo values other old new l
 Visits values old new (Forces l) = StandsFirst old l × StandsStill values l old new × (IsTrueIn values l → ⊥) × (IsFalseIn values l → ⊥)
 Visits values old new Fails = (first : Lit) × StandsFirst old first × StandsStill values first old new × IsFalseIn values first

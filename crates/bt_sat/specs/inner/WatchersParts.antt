@@ -1,7 +1,8 @@
 -- For each variable, the clauses that watch its literals.
-use Rattle.std.specs.Prelude.{ℕ, List}
+use Rattle.std.specs.Prelude.{List}
+use Rattle.bt_sat.specs.declared.kept.Watch.{Watch}
 
 -- the lists of the positive literals, and of the negative ones
 pub record WatchersParts : Type 0 where
-  pub positives : List (List ℕ)
-  pub negatives : List (List ℕ)
+  pub positives : List (List Watch)
+  pub negatives : List (List Watch)

@@ -1,7 +1,7 @@
 use Rattle.std.proofs.Common.{◌-◌, List, length}
 use Rattle.bt_cnf.specs.declared.literal.Lit.{Lit}
 use Rattle.bt_sat.specs.inner.Propagating.{GoesOn, Visiting}
-use Rattle.bt_sat.specs.inner.Watchers.{watchers}
+use Rattle.bt_sat.specs.inner.Watchers.{watches_of}
 use Rattle.bt_sat.proofs.search.settle.Given as goal
 
 abbrev pub invariant-loop-place : goal.invariant-loop-place
@@ -11,4 +11,4 @@ invariant-loop-place l = record {
 }
 
 abbrev pub decreases-loop-place : goal.decreases-loop-place
-decreases-loop-place l = length (watchers l.search.watchers l.gone) - l.place
+decreases-loop-place l = length (watches_of l.search.watchers l.gone) - l.place

@@ -21,8 +21,8 @@ returns c =
     get_or_default c.bring_second.new.lits 1 no_lit c.index-lits-1.result (omega (arith, two)) ∙ sym c.index-lits-1.is ∙ same in
     attended c.args.values.now c.args.gone.now c.args.lits.now c.bring_second.new.lits c.visit_second.new.lits c.visit_second.result two at is c.requires.gone c.visit_second.ensures
 
-pub returns-then-ne : goal.returns-then-ne
-returns-then-ne c =
+pub returns-then-not-is : goal.returns-then-not-is
+returns-then-not-is c =
     let at : Brought c.args.gone.now c.args.lits.now c.bring_second.new.lits =
     brought c.args.gone.now c.args.lits.now c.bring_second.new.lits c.requires.two c.bring_second.auto.lits c.bring_second.ensures in
     let two : 2 ≤ length c.bring_second.new.lits = omega (arith, c.requires.two, c.bring_second.auto.lits) in
