@@ -15,3 +15,4 @@ pub mod NoneCertified
 pub mod Grids
 pub mod LaidOut
 pub mod Fronts
+pub mod Budgets

@@ -21,11 +21,9 @@ use Rattle.bt_top.specs.declared.answer.Answer.{Answer}
 use Rattle.bt_top.specs.declared.answer.Answer.TheVariants as answer
 use Rattle.bt_words.specs.declared.command.Command.{Command}
 use Rattle.bt_words.specs.declared.command.Command.TheVariants.{FlowCheck, Recover, Check, Decide, Make, Layout, CheckLayout}
-use Rattle.bt_top.specs.declared.fault.DesignFault.TheVariants as design
-use Rattle.bt_top.specs.declared.refusal.Refusal.{Refusal}
 use Rattle.bt_top.specs.Designs.{IsDesign}
 use Rattle.bt_top.specs.Certificates.{cert_told, SaysYes, IsYesChecked, IsTextChecked, IsCertificateChecked, IsCertified}
-use Rattle.bt_top.specs.Alone.{IsRefusedAt, IsEnded, IsLoneNet}
+use Rattle.bt_top.specs.Alone.{IsLoneNet}
 use Rattle.bt_top.specs.Answering.{IsRightTo, HasOneRight}
 use Rattle.bt_top.specs.NoneCertificates.{IsNoneChecked, IsNoneTextChecked, IsNoneCertificateChecked, IsLayoutChecked}
 use Rattle.bt_top.specs.Recovering.{IsRecoveredFrom}
@@ -37,6 +35,7 @@ use Rattle.bt_top.proofs.Blanks.{one_rest}
 use Rattle.bt_top.proofs.InTurns.{one_in_turn, one_in_turn_of}
 use Rattle.bt_top.proofs.OneDesign.{one_design, design_network}
 use Rattle.bt_top.proofs.OneRequest.{one_front_request, front_request}
+use Rattle.bt_top.proofs.StandingAlone.{one_alone}
 
 -- ---- flow-check
 
@@ -58,23 +57,9 @@ one_checked p bytes =
 
 -- ---- recover
 
-one_refused_at : (bytes : List ℕ) (at : ℕ) (r s : Refusal) → IsRefusedAt bytes at r → IsRefusedAt bytes at s → r ≡ s
-one_refused_at bytes at r s (inl h) (inl k) = h.1 ∙ sym k.1
-one_refused_at bytes at r s (inl h) (inr k) = absurd (k.0 h.0)
-one_refused_at bytes at r s (inr h) (inl k) = absurd (h.0 k.0)
-one_refused_at bytes at r s (inr h) (inr k) = h.1 ∙ sym k.1
-
-one_ended : {X : Type 0} (bytes : List ℕ) (found : X) (text : List ℕ) → HasOneAnswer (IsEnded bytes found text)
-one_ended bytes found text a b (inl h) (inl k) = h.1 ∙ sym k.1
-one_ended bytes found text a b (inl h) (inr k) = absurd (omega (arith, ap length h.0, k.0))
-one_ended bytes found text a b (inr h) (inl k) = absurd (omega (arith, ap length k.0, h.0))
-one_ended bytes found text a b (inr h) (inr k) =
-    h.3 ∙ ap (λ r. Err (design.Refused r)) (one_refused_at bytes _ h.1 k.1 h.2 k.2) ∙ sym k.3
-
-one_lone_net : (bytes : List ℕ) → HasOneAnswer (IsLoneNet bytes)
-one_lone_net bytes = one_in_turn (IsDesign bytes) Err _ (one_design bytes)
-    (λ found a b h k. one_ended bytes found.0 k.0 a b
-    (subst (λ text. IsEnded bytes found.0 text a) (one_rest (drop found.1 bytes) h.0 k.0 h.1 k.1) h.2) k.2)
+-- two right answers to the bytes of a design alone are equal
+pub one_lone_net : (bytes : List ℕ) → HasOneAnswer (IsLoneNet bytes)
+one_lone_net bytes = one_alone IsDesign bytes (one_design bytes)
 
 one_recovered : (bytes : List ℕ) → HasOneAnswer (IsRecoveredFrom bytes)
 one_recovered bytes = one_in_turn (IsLoneNet bytes) design_told _ (one_lone_net bytes) (λ n a b h k. h ∙ sym k)

@@ -9,12 +9,14 @@ use Rattle.bt_model.specs.Requests.{LayoutRequest, IsRequest, request_of}
 use Rattle.bt_model.specs.RequestFaults.{IsMade}
 use Rattle.bt_model.proofs.Requested.{one_made}
 use Rattle.bt_top.specs.declared.fault.DesignFault.{DesignFault}
+use Rattle.bt_top.specs.Alone.{IsAlone}
 use Rattle.bt_top.specs.Designs.{IsJsonDesign}
 use Rattle.bt_top.specs.Refusals.{net_told, request_told}
-use Rattle.bt_top.specs.Requested.{PinnedNet, IsPinnedText, IsPinnedJson, IsPinned, IsRequestFor, IsFrontRequest}
+use Rattle.bt_top.specs.Requested.{PinnedNet, IsPinnedText, IsPinnedJson, IsPinned, IsRequestFor, IsLoneRequest, IsFrontRequest}
 use Rattle.bt_top.specs.Steps.{stopped, went_on}
 use Rattle.bt_top.proofs.InTurns.{one_in_turn, same_value, not_both}
 use Rattle.bt_top.proofs.OneDesign.{one_json_design, seen_ok}
+use Rattle.bt_top.proofs.StandingAlone.{one_alone}
 
 one_pinned_text : (bytes : List ℕ) → HasOneAnswer (IsPinnedText bytes)
 one_pinned_text bytes = one_in_turn (IsNetRead bytes) _ _ (one_read bytes) (λ read a b h k. h ∙ sym k)
@@ -36,6 +38,10 @@ one_request_for rect tier n = one_in_turn (IsMade (request_of n.net rect tier n.
 pub one_front_request : (rect : Rect) (tier : Tier) (bytes : List ℕ) → HasOneAnswer (IsFrontRequest rect tier bytes)
 one_front_request rect tier bytes = one_in_turn (IsPinned bytes) Err _ (one_pinned bytes)
     (λ found a b h k. h.2 ∙ ap (seen (λ r. (r, found.1))) (one_request_for rect tier found.0 h.0 k.0 h.1 k.1) ∙ sym k.2)
+
+-- and of a request alone
+pub one_lone_request : (rect : Rect) (tier : Tier) (bytes : List ℕ) → HasOneAnswer (IsLoneRequest rect tier bytes)
+one_lone_request rect tier bytes = one_in_turn (IsAlone IsPinned bytes) Err (IsRequestFor rect tier) (one_alone IsPinned bytes (one_pinned bytes)) (one_request_for rect tier)
 
 -- ---- what is found is a request
 

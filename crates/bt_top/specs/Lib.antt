@@ -18,4 +18,5 @@ pub mod Endings
 pub mod Longer
 pub mod Rechecking
 pub mod RecheckingLayouts
+pub mod Budgets
 pub mod inner

@@ -1,8 +1,9 @@
 //! All that the program does, over words, a source of bytes and a sink of bytes.
 //!
-//! `program` reads the words and the source and writes the answer; `design`, `alone`, `flow_check`,
-//! `certificate`, `recover`, `decision`, `making`, `laying` and `none_certificate` find the answer; `text`
-//! and `printing` write it.
+//! `program` reads the words and the source and writes the answer; `design`, `alone`, `request`, `flow_check`,
+//! `certificate`, `recover`, `decision`, `making`, `laying` and `none_certificate` find the answer to an
+//! input that is read whole, and `blocks` that of `check` as the input is read; `text` and `printing` write
+//! it.
 #![tactic(auto)]
 
 mod alone;
@@ -27,7 +28,7 @@ mod text;
 
 pub use answer::Answer;
 pub use input::{MOST_CHECKED, MOST_OF_DESIGN};
-pub use law::{decided_is_checked, laid_out_is_checked, longer_is_read};
+pub use law::{ample_is_never_spent, decided_is_checked, laid_out_is_checked, longer_is_read};
 pub use making::Made;
 pub use none_certificate::none_is_accepted;
 pub use program::{NO_MEMORY, READ_FAULT, WRITE_FAULT, run};

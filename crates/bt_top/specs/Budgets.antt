@@ -1,0 +1,40 @@
+-- Budgets of steps that no search uses up.
+use Rattle.std.specs.Prelude.{◌≢◌, ◌≤◌, ◌^◌, ℕ, List, Ok}
+use Rattle.bt_io.specs.Passages.{Passage}
+use Rattle.bt_flow.specs.declared.property.Property.TheVariants.{Balanced}
+use Rattle.bt_net.specs.Network.{Network}
+use Rattle.bt_cnf.specs.Formulas.{FormulaParts}
+use Rattle.bt_fenc.specs.FlowFormula.{flow_formula}
+use Rattle.bt_model.specs.Requests.{LayoutRequest}
+use Rattle.bt_place.specs.PlaceFormula.{place_formula}
+use Rattle.bt_words.specs.declared.command.Command.{Command}
+use Rattle.bt_words.specs.declared.command.Command.TheVariants.{Decide, Make, Layout}
+use Rattle.bt_words.specs.Commands.{IsCommand}
+use Rattle.bt_top.specs.declared.answer.Answer.{Answer}
+use Rattle.bt_top.specs.Alone.{IsLoneNet}
+use Rattle.bt_top.specs.Answering.{IsRightTo}
+use Rattle.bt_top.specs.Answers.{status_of}
+use Rattle.bt_top.specs.Endings.{Ends}
+use Rattle.bt_top.specs.Inputs.{IsInput}
+use Rattle.bt_top.specs.Making.{net_of}
+use Rattle.bt_top.specs.Requested.{IsLoneRequest}
+
+-- so many steps may be logged in deciding the formula: 3 ^ v or more, where it has v variables
+abbrev pub IsAmple : FormulaParts → ℕ → Type 0
+IsAmple f learnt = 3 ^ f.vars ≤ learnt
+
+-- the command may log that many steps of the formula that it decides: the flow formula of the design's network or of the network that is made, or the placement formula of the request
+abbrev pub HasAmple : Command → List ℕ → Type 0
+HasAmple (Decide p limits) bytes = (n : Network) × IsLoneNet bytes (Ok n) × IsAmple (flow_formula n p) limits.learnt
+HasAmple (Make family order limits) bytes = IsAmple (flow_formula (net_of family order) Balanced) limits.learnt
+HasAmple (Layout rect tier learnt) bytes = (r : LayoutRequest) × IsLoneRequest rect tier bytes (Ok r) × IsAmple (place_formula r) learnt
+HasAmple other bytes = ⊥
+
+-- then no answer whose status says that the steps are used up is right
+abbrev pub AmpleIsNeverSpent : Type 0
+AmpleIsNeverSpent = (command : Command) (bytes : List ℕ) (a : Answer) → HasAmple command bytes → IsRightTo command bytes (Ok a) → status_of a ≢ 4
+
+-- and the program doesn't end with that status, where its source tells the command's input
+abbrev pub AmpleNeverEndsSpent : Type 0
+AmpleNeverEndsSpent = (words : List (List ℕ)) (source sink : Passage) (status : ℕ) (command : Command) (bytes : List ℕ) → Ends words source sink status
+    → IsCommand command words → IsInput command source bytes → HasAmple command bytes → status ≢ 4
