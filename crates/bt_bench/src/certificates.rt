@@ -58,7 +58,7 @@ fn all_true(alloc: Global, rows: Vec<Row>) -> Result<Formula, AllocError> {
 }
 
 /// Adds the clause of these literals, as far as they are of variables.
-fn add_clause(
+pub fn add_clause(
     alloc: Global,
     formula: &mut Formula,
     lits: &[(usize, bool)],

@@ -1,28 +1,33 @@
 //! Loops that time the crates, for the scripts of bench/. The first word names the loop, and the
 //! second is the number of rounds. The loops over JSON, over a blueprint, over a request and over checks of
-//! a tableau, whose rows are those of a network's flow formula, read their text from standard input. `check`
-//! checks the steps of a log on standard input against the formula that the second word names, or against
-//! the flow formula of the network whose text it is.
+//! a tableau, whose rows are those of a network's flow formula, read their text from standard input, and so
+//! do searches for models of a formula, of which `log` prints the steps. `check` checks the steps of a log
+//! on standard input against the formula that the second word names, or against the flow formula of the
+//! network whose text it is.
 #![tactic(auto)]
 
 mod certificates;
 mod fractions;
 mod pivots;
 mod places;
+mod searches;
+mod texts;
 
 use bt_cert::check_log;
 use bt_entities::parts_of;
 use bt_frac::Frac;
 use bt_grid::{Grid, pairs};
-use bt_io::{Source, StdSource, read_all};
+use bt_io::{Source, StdSink, StdSource, read_all};
 use bt_json::{Tree, read};
 use certificates::formula_named;
 use fractions::{repeated_sum, small_fractions, wide_fractions};
 use pivots::checks_met;
 use places::literals_written;
+use searches::{Found, found_often};
 use std::alloc::Global;
 use std::mem::forget;
 use std::{env, io};
+use texts::text_written;
 
 /// The most bytes of standard input.
 const INPUT_LIMIT: usize = 1 << 30;
@@ -32,6 +37,9 @@ enum Outcome {
     /// A fraction's numerator and denominator.
     Sum(i128, i128),
     Count(usize),
+    Search(Found),
+    Steps(Found),
+    Text(Vec<u8>),
 }
 
 /// The outcome that is this fraction.
@@ -101,6 +109,8 @@ fn checks_met_often(alloc: Global, text: &str, rounds: u64) -> Option<usize> {
 fn outcome_over(alloc: Global, name: &str, rounds: u64, text: &str) -> Option<Outcome> {
     match name {
         "pivots" => checks_met_often(alloc, text, rounds).map(Outcome::Count),
+        "search" => found_often(alloc, text, rounds).ok()?.map(Outcome::Search),
+        "log" => found_often(alloc, text, rounds).ok()?.map(Outcome::Steps),
         _ => None,
     }
 }
@@ -122,6 +132,7 @@ fn outcome_of<S: Source>(
                 "json-kept" => place_after(alloc, &text, rounds, true).map(Outcome::Count),
                 "grid" => parts_placed_often(alloc, &text, rounds).map(Outcome::Count),
                 "place" => literals_written(alloc, &text, rounds).map(Outcome::Count),
+                "text" => text_written(alloc, &text, rounds).map(Outcome::Text),
                 _ => outcome_over(alloc, name, rounds, std::str::from_utf8(&text).ok()?),
             }
         }
@@ -148,6 +159,15 @@ fn main(rt: HostRuntime) -> io::Result<()> {
     match outcome_of(rt.alloc(), name.as_str(), rounds, &mut source) {
         Some(Outcome::Sum(over, under)) => println!(rt; "{over}/{under}"),
         Some(Outcome::Count(count)) => println!(rt; "{count}"),
+        Some(Outcome::Search(found)) => println!(rt; "{} {}", found.answer, found.log.len()),
+        Some(Outcome::Steps(found)) => match found.log.print(&mut StdSink::new(rt.stdout())) {
+            Ok(()) => Ok(()),
+            Err(_) => println!(rt; "failed"),
+        },
+        Some(Outcome::Text(text)) => match str::from_utf8(&text) {
+            Ok(text) => print!(rt; "{text}"),
+            Err(_) => println!(rt; "failed"),
+        },
         None => println!(rt; "failed"),
     }
 }
