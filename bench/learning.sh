@@ -28,6 +28,12 @@ PIGEONS = 8
 PLACED = [("balancer-4-to-4", "5x5"), ("balancer-4-to-4", "5x8")]
 CHAIN = 1_000_000
 CLAUSES = 500_000
+# Runs a program, and prints the most memory that it took. A process of its own: one that is large hands its own peak on.
+PEAK = """
+import os, subprocess, sys
+child = subprocess.Popen(sys.argv[1:], stdout=subprocess.DEVNULL)
+print(1024 * os.wait4(child.pid, 0)[2].ru_maxrss)
+"""
 
 
 def dimacs(variables, clauses):
@@ -83,19 +89,19 @@ def write(name, text):
 
 
 def run(words, path):
-    """The processor seconds of one run, its greatest memory in bytes, and what it printed."""
+    """The processor seconds of one run, and what it printed."""
     with open(path, "rb") as file:
         process = subprocess.Popen(words, stdin=file, stdout=subprocess.PIPE, stderr=subprocess.DEVNULL)
         text = process.stdout.read()
         _, _, usage = os.wait4(process.pid, 0)
-    return usage.ru_utime + usage.ru_stime, 1024 * usage.ru_maxrss, text.decode()
+    return usage.ru_utime + usage.ru_stime, text.decode()
 
 
 def least(words, path):
     """The least processor seconds of at most nine runs, or fewer where they take long, and what was printed."""
     best, printed, spent = None, "", 0
     for _ in range(9):
-        seconds, _, printed = run(words, path)
+        seconds, printed = run(words, path)
         best = seconds if best is None else min(best, seconds)
         spent += seconds
         if spent > 4:
@@ -148,7 +154,8 @@ def compare(title, formulas):
 def memory(formula):
     """The bytes of memory that the search takes beside the text and the formula, where it ends at once."""
     path = write("formula", contradicted(formula))
-    return run(OURS, path)[1] - run([program, "search", "0"], path)[1]
+    peaks = [int(run([sys.executable, "-c", PEAK, program, "search", rounds], path)[1]) for rounds in "10"]
+    return peaks[0] - peaks[1]
 
 
 print("Time for each propagated literal: the goal is at most 3 times minisat's.")
@@ -168,11 +175,11 @@ for length in (CHAIN, 2 * CHAIN):
     times.append(seconds)
 print(f"a chain of {CHAIN} implications: {times[0]:.3f} s (at most 1), of twice as many {times[1]:.3f} s: {times[1] / times[0]:.2f} times")
 
-none, three, six = memory(wide(0, 0)), memory(wide(CLAUSES, 3)), memory(wide(CLAUSES, 6))
+three, twice, six = memory(wide(CLAUSES, 3)), memory(wide(2 * CLAUSES, 3)), memory(wide(CLAUSES, 6))
 literal = (six - three) / CLAUSES / 3
-clause = (three - none) / CLAUSES - 3 * literal
+clause = (twice - three) / CLAUSES - 3 * literal
 print(
-    f"memory of {CLAUSES} clauses of 3 and of 6 literals, peak less that of reading the formula alone: {literal:.1f} bytes a literal "
-    f"(at most 8), {clause:.1f} bytes a clause with its watches (at most 40)"
+    f"memory, peak less that of reading the formula alone: {literal:.1f} bytes a literal (at most 8), from {CLAUSES} clauses of 3 and of 6; "
+    f"{clause:.1f} bytes a clause with its watches (at most 40), from twice as many of 3"
 )
 PYTHON

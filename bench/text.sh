@@ -24,8 +24,7 @@ def entity(number):
     members = {"entity_number": number + 1, "name": TIERS[tier] + stem}
     across = kind == 3 and direction in (0, 4), kind == 3 and direction in (2, 6)
     members["position"] = {axis: at + 1 if wide else at + 0.5 for axis, at, wide in zip("xy", (x, y), across)}
-    if direction:
-        members["direction"] = direction
+    members["direction"] = direction
     if kind in (1, 2):
         members["type"] = ["input", "output"][kind - 1]
     return members
