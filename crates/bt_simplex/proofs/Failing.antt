@@ -14,7 +14,7 @@ use Rattle.bt_simplex.specs.Lines.{Terms}
 use Rattle.bt_simplex.specs.SolvedForms.{slot_at}
 use Rattle.bt_simplex.specs.Tableaus.{TableauParts}
 use Rattle.bt_simplex.specs.Points.{bound_row, bound_value, resting, standing, point_at}
-use Rattle.bt_simplex.specs.Turns.{Breaks, Fails, MovesTowards, MayMove, CanEnter, IsLeast}
+use Rattle.bt_simplex.specs.Turns.{InBasis, Breaks, Fails, MovesTowards, MayMove, CanEnter, IsLeast}
 use Rattle.bt_simplex.specs.inner.Bases.{IsSamePoint, MayEnter, Names}
 use Rattle.bt_simplex.proofs.Numbers.{Positive}
 
@@ -59,16 +59,15 @@ point_is t position terms point line same = subst (λ o. IsSamePoint point (stan
 pub row_is : (a b : RowParts) (o : Option RowParts) → o ≡ Some a → o ≡ Some b → a ≡ b
 row_is a b o p q = cc
 
--- what fails is told by its line and its row
-pub fails_told : (t : TableauParts) (position : ℕ) (terms : Terms) (row : RowParts) (point : Delta) → slot_at t.slots position ≡ Some terms → bound_row t position ≡ Some row
-    → IsSamePoint point (standing (resting t) 0 (Some terms)) → Breaks row point ↔ Fails t position
-fails_told t position terms row point line is_bound same =
-    let here = point_is t position terms point line same in (
-      λ breaks. record { basic = (terms, line); row = row; is_bound = is_bound; breaks = breaks_by row point (point_at t position) here breaks },
-      λ fails.
-          subst (λ r. Breaks r point) (row_is fails.row row (bound_row t position) fails.is_bound is_bound)
-          (breaks_by fails.row (point_at t position) point (same_back point (point_at t position) here) fails.breaks),
-    )
+-- what fails is told by its point and its row
+pub fails_told : (t : TableauParts) (position : ℕ) (row : RowParts) (point : Delta) → InBasis t.slots position → bound_row t position ≡ Some row → IsSamePoint point (point_at t position)
+    → Breaks row point ↔ Fails t position
+fails_told t position row point basic is_bound here = (
+  λ breaks. record { basic = basic; row = row; is_bound = is_bound; breaks = breaks_by row point (point_at t position) here breaks },
+  λ fails.
+      subst (λ r. Breaks r point) (row_is fails.row row (bound_row t position) fails.is_bound is_bound)
+      (breaks_by fails.row (point_at t position) point (same_back point (point_at t position) here) fails.breaks),
+)
 
 -- a position without a line, or without a bound row, doesn't fail
 pub no_line : (t : TableauParts) (position : ℕ) → slot_at t.slots position ≡ None → Fails t position → ⊥

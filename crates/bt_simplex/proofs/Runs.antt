@@ -86,27 +86,26 @@ turn_cause t turn slots' cause bland unfit = (
 )
 
 -- where a run ends
-module _ (pivots : ℕ) (t : TableauParts) (start : Slots) (turns : Vec Turn Global) (slots : Vec (Option Terms) Global) (few : length turns.items ≤ pivots) (at : IsAt (with_slots t start) turns.items slots.items) where
-  ended : (slots' : Vec (Option Terms) Global) (end : End) → basis_of slots'.items ≡ basis_of slots.items → IsEnd pivots t (with_slots t slots.items) turns.items slots'.items end
-      → IsRun pivots t start (record { turns = turns; slots = slots'; end = end })
-  ended slots' end basis ends = record { few = few; last = with_slots t slots.items; follows = at.follows; basis = basis; ends = ends }
+module _ (pivots : ℕ) (t : TableauParts) (start : Slots) (turns : Vec Turn Global) (slots : Slots) (few : length turns.items ≤ pivots) (at : IsAt (with_slots t start) turns.items slots) where
+  ended : (slots' : Slots) (end : End) → basis_of slots' ≡ basis_of slots → IsEnd pivots t (with_slots t slots) turns.items slots' end
+      → IsRun pivots t start (record { turns = turns; basis = slots'; end = end })
+  ended slots' end basis ends = record { few = few; last = with_slots t slots; follows = at.follows; basis = basis; ends = ends }
 
-  pub met_run : IsMet (with_slots t slots.items) → IsRun pivots t start (record { turns = turns; slots = slots; end = Met })
+  pub met_run : IsMet (with_slots t slots) → IsRun pivots t start (record { turns = turns; basis = slots; end = Met })
   met_run met = ended slots Met refl (refl, at.tableau, met)
 
-  pub stuck_run : (position : ℕ) → IsStuckAt (with_slots t slots.items) position → IsRun pivots t start (record { turns = turns; slots = slots; end = Stuck position })
+  pub stuck_run : (position : ℕ) → IsStuckAt (with_slots t slots) position → IsRun pivots t start (record { turns = turns; basis = slots; end = Stuck position })
   stuck_run position stuck = ended slots (Stuck position) refl (refl, at.tableau, stuck)
 
-  pub wide_run : (cause : Cause) → IsCause (with_slots t slots.items) cause → IsRun pivots t start (record { turns = turns; slots = slots; end = Wide cause })
+  pub wide_run : (cause : Cause) → IsCause (with_slots t slots) cause → IsRun pivots t start (record { turns = turns; basis = slots; end = Wide cause })
   wide_run cause told = ended slots (Wide cause) refl told
 
-  pub pivots_run : (turn : Turn) → pivots ≤ length turns.items → IsBlandTurn (with_slots t slots.items) turn → IsRun pivots t start (record { turns = turns; slots = slots; end = Pivots })
-  pivots_run turn many bland = ended slots Pivots refl (omega arith, bland_goes_on (with_slots t slots.items) turn bland)
+  pub pivots_run : (turn : Turn) → pivots ≤ length turns.items → IsBlandTurn (with_slots t slots) turn → IsRun pivots t start (record { turns = turns; basis = slots; end = Pivots })
+  pivots_run turn many bland = ended slots Pivots refl (omega arith, bland_goes_on (with_slots t slots) turn bland)
 
-  pub turn_run : (slots' : Vec (Option Terms) Global) (turn : Turn) (cause : Cause) → IsBlandTurn (with_slots t slots.items) turn → IsUnfitTurn slots.items turn.leaves turn.enters slots'.items cause
-      → IsRun pivots t start (record { turns = turns; slots = slots'; end = Wide cause })
-  turn_run slots' turn cause bland unfit =
-      ended slots' (Wide cause) unfit.same_basis (turn_cause (with_slots t slots.items) turn slots'.items cause bland unfit)
+  pub turn_run : (slots' : Slots) (turn : Turn) (cause : Cause) → IsBlandTurn (with_slots t slots) turn → IsUnfitTurn slots turn.leaves turn.enters slots' cause
+      → IsRun pivots t start (record { turns = turns; basis = slots'; end = Wide cause })
+  turn_run slots' turn cause bland unfit = ended slots' (Wide cause) unfit.same_basis (turn_cause (with_slots t slots) turn slots' cause bland unfit)
 
 pub more_turns : (turns : List Turn) (turn : Turn) (pivots : ℕ) → length turns + 1 ≤ pivots → length (turns ++ turn ∷ []) ≤ pivots
 more_turns turns turn pivots few = rw length-append few

@@ -12,7 +12,7 @@ use Rattle.bt_frac.specs.Values.{AreValues, nothing, plus, times}
 use Rattle.bt_lin.specs.WeightedRows.{coefficient_at}
 use Rattle.bt_simplex.specs.Lines.{one, Terms, HasNumber, IsLine, IsCombination, total}
 use Rattle.bt_simplex.specs.SolvedForms.{Slots, slot_at, basis_from, basis_of, at_position, IsOutside, IsSolvedForm}
-use Rattle.bt_simplex.specs.inner.TurnedSlots.{IsZeroLine, IsSubstituted, IsEntered, IsTurned}
+use Rattle.bt_simplex.specs.inner.TurnedSlots.{IsSubstituted, IsTurned}
 use Rattle.bt_simplex.proofs.Numbers.{Positive, zero_alike, Alike, alike, itself, back, next, both_plus, both_times, times_positive, differ_none, adds_none}
 use Rattle.bt_simplex.proofs.Standing.{stands_some}
 use Rattle.bt_simplex.proofs.Totals.{total_positive}
@@ -353,23 +353,3 @@ turn_solves rows columns slots leaves enters slots' apart are_rows turn form =
                 (form.holds found.0 found.1 leaves turn.terms turn.leaving) found.2 p o,
           );
     }
-
--- of an answer that tells that the turn is made
-pub entered_turned : (slots : Slots) (leaves enters : ℕ) (terms : Terms) (number : Ratio) (zero : Terms) (slots' : Slots) → leaves < length slots → leaves ≢ enters
-    → slot_at slots leaves ≡ Some terms → coefficient_at enters terms ≡ Some number → IsZeroLine leaves terms number zero → IsEntered enters zero (set slots leaves None) slots'
-    → IsTurned slots leaves enters slots'
-entered_turned slots leaves enters terms number zero slots' within apart leaving is is_zero entered = record {
-  same_length = entered.same_length ∙ length-set slots leaves None;
-  terms = terms;
-  leaving = leaving;
-  number = number;
-  is_number = is;
-  zero = zero;
-  is_zero = is_zero;
-  others = λ p stays other.
-      subst (λ old. IsSubstituted enters zero old (slot_at slots' p)) (get_or-set_other slots leaves p None None stays) (entered.others p other);
-  left = subst (λ old. IsSubstituted enters zero old (slot_at slots' leaves)) (get_or-set_same slots leaves None None within) (entered.others leaves apart);
-  entering = entered.entering;
-  entered = entered.entered;
-  is_entering = entered.is_entering;
-}

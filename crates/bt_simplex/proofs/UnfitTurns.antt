@@ -24,7 +24,7 @@ use Rattle.bt_simplex.specs.declared.causes.Cause.{Cause}
 use Rattle.std.specs.declared.alloc.AllocError.{AllocError}
 use Rattle.bt_simplex.specs.inner.Shares.{IsNegatedShare, AreNegatedShares}
 use Rattle.bt_simplex.specs.inner.Unfits.{IsUnfitStep, IsUnfit}
-use Rattle.bt_simplex.specs.inner.UnfitTurns.{AreAlike, HaveSameBasis, IsUnfitShare, IsUnfitTerm, IsUnfitZero, IsUnfitSlot, IsUnfitPart, IsUnfitTurn, seen_right, entry_cause}
+use Rattle.bt_simplex.specs.inner.UnfitTurns.{AreAlike, HaveSameBasis, IsUnfitShare, IsUnfitTerm, IsUnfitZero, IsUnfitSlot, IsUnfitLine, IsUnfitPart, IsUnfitTurn, seen_right, entry_cause}
 use Rattle.bt_simplex.specs.inner.TurnedSlots.{IsZeroLine, IsSubstituted}
 use Rattle.bt_simplex.proofs.Indicators.{decide, indicator, indicator_some, here_is, other_is, lacking_total, total_at, none_lacks, number_has, times_one}
 use Rattle.bt_simplex.proofs.Numbers.{Positive, nothing_some, Alike, alike, itself, back, next, both_plus, both_times, swap_plus, swap_times, group_times, drop_zero, times_positive, times_zero, negated_times, zero_alike}
@@ -345,45 +345,44 @@ partly_unfit enters zero slots slots' i terms number unfit cause partly line nam
       | inr past ↦ subst (λ o. AreAlike o (slot_at slots p)) (sym (partly.after p (omega arith))) (alike_itself (slot_at slots p))
     ]
 
--- put back in place, the leaving line makes the basis whole
-pub entered_unfit : (slots : Slots) (leaves enters : ℕ) (terms : Terms) (number : Ratio) (zero : Terms) (slots' : Slots) (cause : Cause) → leaves < length slots
-    → slot_at slots leaves ≡ Some terms → coefficient_at enters terms ≡ Some number → IsZeroLine leaves terms number zero → leaves ≢ enters → IsLine terms → coefficient_at leaves terms ≡ None
-    → IsUnfitSlot enters zero (set slots leaves None) slots' cause → IsUnfitTurn slots leaves enters (set slots' leaves (Some terms)) cause
-entered_unfit slots leaves enters terms number zero slots' cause within leaving is_number is_zero apart line lacks unfit =
-    let row_line : slot_at slots cause.row ≡ Some unfit.terms = sym (get_or-set_other slots leaves cause.row None None other) ∙ unfit.line in
-    let made =
-    slot_unfit slots leaves enters terms number zero cause.row unfit.terms unfit.number unfit.unfit leaving is_number is_zero apart line lacks other row_line unfit.named unfit.is_unfit in
-    record {
-      same_basis = basis_same 0 (set slots' leaves (Some terms)) slots (record { same_length = length_is; alike = λ p. alike_at p });
-      place = ap (λ c. c.place) unfit.cause_is;
-      none = subst (λ (c : Cause). IsNone c.operation c.left c.right) (sym unfit.cause_is) made.0;
-      step = subst (λ (c : Cause). IsEntryStep slots (record { leaves = leaves; enters = enters }) c.row c.column c.operation c.left c.right) (sym unfit.cause_is) made.1;
-    }
+-- put back in place, the line of the class makes the lines whole
+pub put_back : (enters : ℕ) (zero : Terms) (lines : Slots) (left : ℕ) (old : Option Terms) (lines' : Slots) (cause : Cause) → left < length lines → old ≡ slot_at lines left
+    → IsUnfitSlot enters zero (set lines left None) lines' cause → IsUnfitLine left enters zero lines (set lines' left old) cause
+put_back enters zero lines left old lines' cause within is unfit = record {
+  same_basis = record { same_length = length_is; alike = λ p. alike_at p };
+  apart = other;
+  terms = unfit.terms;
+  line = sym (get_or-set_other lines left cause.row None None other) ∙ unfit.line;
+  number = unfit.number;
+  named = unfit.named;
+  unfit = unfit.unfit;
+  is_unfit = unfit.is_unfit;
+  cause_is = unfit.cause_is;
+}
   where
-    other : cause.row ≢ leaves
+    other : cause.row ≢ left
     other same =
-        let none : slot_at (set slots leaves None) cause.row ≡ None = ap (λ n. slot_at (set slots leaves None) n) same ∙ get_or-set_same slots leaves None None within in
+        let none : slot_at (set lines left None) cause.row ≡ None = ap (λ n. slot_at (set lines left None) n) same ∙ get_or-set_same lines left None None within in
         let both : None ≡ Some unfit.terms = sym none ∙ unfit.line in
         cc
 
-    length_mid : length slots' ≡ length slots
-    length_mid = unfit.same_basis.same_length ∙ length-set slots leaves None
+    length_mid : length lines' ≡ length lines
+    length_mid = unfit.same_basis.same_length ∙ length-set lines left None
 
-    length_is : length (set slots' leaves (Some terms)) ≡ length slots
-    length_is = length-set slots' leaves (Some terms) ∙ length_mid
+    length_is : length (set lines' left old) ≡ length lines
+    length_is = length-set lines' left old ∙ length_mid
 
-    inside : leaves < length slots'
-    inside = subst (λ n. leaves < n) (sym length_mid) within
+    inside : left < length lines'
+    inside = subst (λ n. left < n) (sym length_mid) within
 
-    alike_at : (p : ℕ) → AreAlike (slot_at (set slots' leaves (Some terms)) p) (slot_at slots p)
-    alike_at p = elim (decide p leaves) [
+    alike_at : (p : ℕ) → AreAlike (slot_at (set lines' left old) p) (slot_at lines p)
+    alike_at p = elim (decide p left) [
       | inl same ↦
-          subst (λ n. AreAlike (slot_at (set slots' leaves (Some terms)) n) (slot_at slots n)) (sym same)
-          (subst (λ o. AreAlike o (slot_at slots leaves)) (sym (get_or-set_same slots' leaves (Some terms) None inside))
-          (subst (λ o. AreAlike (Some terms) o) (sym leaving) tt))
+          subst (λ n. AreAlike (slot_at (set lines' left old) n) (slot_at lines n)) (sym same)
+          (subst (λ o. AreAlike o (slot_at lines left)) (sym (get_or-set_same lines' left old None inside)) (subst (λ o. AreAlike o (slot_at lines left)) (sym is) (alike_itself (slot_at lines left))))
       | inr away ↦
-          subst (λ o. AreAlike o (slot_at slots p)) (sym (get_or-set_other slots' leaves p (Some terms) None away))
-          (subst (λ o. AreAlike (slot_at slots' p) o) (get_or-set_other slots leaves p None None away) (unfit.same_basis.alike p))
+          subst (λ o. AreAlike o (slot_at lines p)) (sym (get_or-set_other lines' left p old None away))
+          (subst (λ o. AreAlike (slot_at lines' p) o) (get_or-set_other lines left p None None away) (unfit.same_basis.alike p))
     ]
 
 -- the zero line as it is formed: the share of the position and those of its line

@@ -1,5 +1,6 @@
 pub mod Causes
 pub mod Checks
+pub mod Classes
 pub mod Laws
 pub mod Lines
 pub mod Points

@@ -2,6 +2,7 @@
 pub mod Bases
 pub mod Checking
 pub mod Lemmas
+pub mod Places
 pub mod Runs
 pub mod Settling
 pub mod Shares

@@ -1,16 +1,19 @@
 //! Bland's rule: of the positions that fail the least leaves the basis, and of those that can enter the
 //! least does.
-ghost use Rattle.std.specs.Prelude.{◌≡◌, ℕ, IfOk, IfErr, IsTrue, ◌↔◌};
+ghost use Rattle.std.specs.Prelude.{◌≡◌, ℕ, IfOk, IfErr, IsTrue, ◌↔◌, Some};
 ghost use Rattle.bt_simplex.specs.Causes.{IsCause};
 ghost use Rattle.bt_simplex.specs.Lines.{IsLine};
+ghost use Rattle.bt_simplex.specs.SolvedForms.{Slots, slot_at};
 ghost use Rattle.bt_simplex.specs.Turns.{Breaks, Fails, MovesTowards, CanEnter};
 ghost use Rattle.bt_simplex.specs.inner.Bases.{with_slots, MayEnter, Names, Finds, IsLeastOf, IsNext};
 
+use crate::basis::Basis;
 use crate::causes::Cause;
-use crate::line::{Line, Term};
-use crate::points::{bound_value, line_point, terms_at};
+use crate::line::Term;
+use crate::points::{bound_value, line_point, point};
 use crate::tableau::{Tableau, Turn};
 use bt_frac::{Delta, Frac, Relation, Row};
+use std::alloc::{AllocError, Global};
 use std::cmp::Ordering;
 
 /// The least position that has a property.
@@ -71,27 +74,27 @@ fn may_enter(tableau: &Tableau, row: &Row, point: &Delta, position: usize, numbe
 }
 
 /// Whether a position is a bound row of the basis that doesn't hold; or why its point doesn't fit.
-fn fails(tableau: &Tableau, slots: &[Option<Line>], position: usize) -> Result<bool, Cause>
-    ensures told { IfOk result (λ told. IsTrue told ↔ Fails (with_slots tableau.now slots.now) position) }
-    ensures unfit { IfErr result (IsCause (with_slots tableau.now slots.now)) }
+fn fails(tableau: &Tableau, basis: &Basis, position: usize) -> Result<bool, Cause>
+    ensures told { IfOk result (λ told. IsTrue told ↔ Fails (with_slots tableau.now basis.now) position) }
+    ensures unfit { IfErr result (IsCause (with_slots tableau.now basis.now)) }
 {
-    let Some(terms) = terms_at(slots, position) else {
-        return Ok(false);
-    };
     let Some(row) = tableau.bound_row(position) else {
         return Ok(false);
     };
-    let point = line_point(tableau, position, terms)?;
+    if !basis.has(position) {
+        return Ok(false);
+    }
+    let point = point(tableau, basis, position)?;
     Ok(breaks(row, &point))
 }
 
 /// The least position that fails.
-pub fn leaving(tableau: &Tableau, slots: &[Option<Line>]) -> Least
-    ensures { Finds (with_slots tableau.now slots.now)
-        (λ p. Fails (with_slots tableau.now slots.now) p) result }
+pub fn leaving(tableau: &Tableau, basis: &Basis) -> Least
+    ensures { Finds (with_slots tableau.now basis.now)
+        (λ p. Fails (with_slots tableau.now basis.now) p) result }
 {
-    for position in 0..slots.len() {
-        match fails(tableau, slots, position) {
+    for position in 0..basis.len() {
+        match fails(tableau, basis, position) {
             Ok(told) => {
                 if told {
                     return Least::At(position);
@@ -117,14 +120,30 @@ fn first_entering(tableau: &Tableau, row: &Row, point: &Delta, terms: &[Term]) -
 }
 
 /// The least position that can enter for one that fails.
-pub fn entering(tableau: &Tableau, slots: &[Option<Line>], leaves: usize) -> Least
-    requires { Fails (with_slots tableau.now slots.now) leaves }
-    ensures { Finds (with_slots tableau.now slots.now)
-        (λ e. CanEnter (with_slots tableau.now slots.now) leaves e) result }
+pub fn entering(
+    tableau: &Tableau,
+    alloc: Global,
+    basis: &Basis,
+    leaves: usize,
+) -> Result<Least, AllocError>
+    requires { Fails (with_slots tableau.now basis.now) leaves }
+    ensures { IfOk result (Finds (with_slots tableau.now basis.now)
+        (λ e. CanEnter (with_slots tableau.now basis.now) leaves e)) }
 {
-    let Some(terms) = terms_at(slots, leaves) else {
-        return Least::Nowhere;
+    let Some(line) = basis.line(alloc, leaves)? else {
+        return Ok(Least::Nowhere);
     };
+    Ok(entering_by(tableau, leaves, line.terms()))
+}
+
+/// The least position that can enter for one that fails and has this line.
+fn entering_by(tableau: &Tableau, leaves: usize, terms: &[Term]) -> Least
+    requires line { IsLine terms.now }
+    ensures { (slots : Slots) → slot_at slots leaves ≡ Some terms.now
+        → Fails (with_slots tableau.now slots) leaves
+        → Finds (with_slots tableau.now slots)
+        (λ e. CanEnter (with_slots tableau.now slots) leaves e) result }
+{
     let Some(row) = tableau.bound_row(leaves) else {
         return Least::Nowhere;
     };
@@ -138,16 +157,16 @@ pub fn entering(tableau: &Tableau, slots: &[Option<Line>], leaves: usize) -> Lea
 }
 
 /// Bland's turn of a basis, or how the basis is final.
-pub fn blands_next(tableau: &Tableau, slots: &[Option<Line>]) -> Next
-    ensures { IsNext (with_slots tableau.now slots.now) result }
+pub fn blands_next(tableau: &Tableau, alloc: Global, basis: &Basis) -> Result<Next, AllocError>
+    ensures { IfOk result (IsNext (with_slots tableau.now basis.now)) }
 {
-    match leaving(tableau, slots) {
-        Least::At(leaves) => match entering(tableau, slots, leaves) {
-            Least::At(enters) => Next::Turn(Turn { leaves, enters }),
-            Least::Nowhere => Next::Stuck(leaves),
-            Least::Wide(cause) => Next::Wide(cause),
+    match leaving(tableau, basis) {
+        Least::At(leaves) => match entering(tableau, alloc, basis, leaves)? {
+            Least::At(enters) => Ok(Next::Turn(Turn { leaves, enters })),
+            Least::Nowhere => Ok(Next::Stuck(leaves)),
+            Least::Wide(cause) => Ok(Next::Wide(cause)),
         },
-        Least::Nowhere => Next::Met,
-        Least::Wide(cause) => Next::Wide(cause),
+        Least::Nowhere => Ok(Next::Met),
+        Least::Wide(cause) => Ok(Next::Wide(cause)),
     }
 }

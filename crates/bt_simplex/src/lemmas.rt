@@ -14,10 +14,11 @@ ghost use Rattle.bt_simplex.specs.Turns.{IsStuckAt};
 ghost use Rattle.bt_simplex.specs.inner.Bases.{with_slots};
 ghost use Rattle.bt_simplex.specs.inner.Lemmas.{weight_of, AreLineWeights};
 
+use crate::basis::Basis;
 use crate::causes::Cause;
 use crate::line::{Line, Term};
 use crate::merging::combined;
-use crate::points::{bound_value, line_point, terms_at};
+use crate::points::{bound_value, line_point};
 use crate::sums::sum_cause;
 use crate::tableau::Tableau;
 use bt_frac::{Delta, Frac, Row};
@@ -75,18 +76,20 @@ fn weights_of(
 fn stuck_weights(
     tableau: &Tableau,
     alloc: Global,
-    slots: &[Option<Line>],
+    basis: &Basis,
     position: usize,
 ) -> Result<Result<Vec<(usize, Frac)>, Cause>, AllocError>
-    requires tableau { IsTableau (with_slots tableau.now slots.now) }
-    requires stuck { IsStuckAt (with_slots tableau.now slots.now) position }
+    requires tableau { IsTableau (with_slots tableau.now basis.now) }
+    requires stuck { IsStuckAt (with_slots tableau.now basis.now) position }
     ensures weights { IfOk result
-        (λ o. IfOk o (λ v. AreLineWeights (with_slots tableau.now slots.now) position v.items)) }
-    ensures unfit { IfOk result (λ o. IfErr o (IsCause (with_slots tableau.now slots.now))) }
+        (λ o. IfOk o (λ v. AreLineWeights (with_slots tableau.now basis.now) position v.items)) }
+    ensures unfit { IfOk result (λ o. IfErr o (IsCause (with_slots tableau.now basis.now))) }
 {
-    let Some(terms) = terms_at(slots, position) else {
+    let Some(found) = basis.line(alloc, position)? else {
         unreachable!()
     };
+    let terms = found.terms();
+    let _ = basis.len();
     let Some(row) = tableau.bound_row(position) else {
         unreachable!()
     };
@@ -123,16 +126,16 @@ fn parted(alloc: Global, weights: &[(usize, Frac)]) -> Result<(Vec<usize>, Vec<F
 pub fn lemma(
     tableau: &Tableau,
     alloc: Global,
-    slots: &[Option<Line>],
+    basis: &Basis,
     position: usize,
 ) -> Result<Result<Vec<(usize, Frac)>, Cause>, AllocError>
-    requires tableau { IsTableau (with_slots tableau.now slots.now) }
-    requires stuck { IsStuckAt (with_slots tableau.now slots.now) position }
+    requires tableau { IsTableau (with_slots tableau.now basis.now) }
+    requires stuck { IsStuckAt (with_slots tableau.now basis.now) position }
     ensures weights { IfOk result
-        (λ o. IfOk o (λ v. RefutesBoundRows (with_slots tableau.now slots.now) v.items)) }
-    ensures unfit { IfOk result (λ o. IfErr o (IsCause (with_slots tableau.now slots.now))) }
+        (λ o. IfOk o (λ v. RefutesBoundRows (with_slots tableau.now basis.now) v.items)) }
+    ensures unfit { IfOk result (λ o. IfErr o (IsCause (with_slots tableau.now basis.now))) }
 {
-    let weights = match stuck_weights(tableau, alloc, slots, position)? {
+    let weights = match stuck_weights(tableau, alloc, basis, position)? {
         Ok(weights) => weights,
         Err(cause) => return Ok(Err(cause)),
     };

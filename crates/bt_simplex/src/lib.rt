@@ -3,6 +3,7 @@
 #![tactic(auto)]
 
 mod answers;
+mod basis;
 mod bland;
 mod causes;
 mod law;

@@ -44,7 +44,7 @@ impl Line {
 }
 
 /// The number of a position in a line, where it has one.
-fn found(terms: &[Term], position: usize) -> Option<Frac>
+pub fn found(terms: &[Term], position: usize) -> Option<Frac>
     requires { IsLine terms.now }
     ensures { result ≡ coefficient_at position terms.now }
 {

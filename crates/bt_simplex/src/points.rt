@@ -1,17 +1,17 @@
 //! Where the positions of a tableau stand at a basis.
-ghost use Rattle.std.specs.Prelude.{◌≡◌, IfOk, IfErr, IfSome, MatchOption, Some, None};
+ghost use Rattle.std.specs.Prelude.{◌≡◌, IfOk, IfErr, Some};
 ghost use Rattle.bt_frac.specs.Ratio.{IsLowest};
 ghost use Rattle.bt_simplex.specs.Causes.{IsCause};
 ghost use Rattle.bt_simplex.specs.Lines.{IsLine};
 ghost use Rattle.bt_simplex.specs.Points.{bound_value, resting, standing, point_at};
-ghost use Rattle.bt_simplex.specs.SolvedForms.{slot_at};
-ghost use Rattle.bt_simplex.specs.inner.Bases.{with_slots, IsSamePoint};
+ghost use Rattle.bt_simplex.specs.inner.Bases.{with_slots, IsSamePoint, signed_point};
 ghost use Rattle.bt_simplex.specs.inner.Unfits.{IsUnfitHere};
 ghost use Rattle.bt_simplex.specs.inner.UnfitPoints.{AddsPart, AddsTerm, IsUnfitTerm, IsUnfitPoint, value_cause};
 
 use crate::answers::{Operation, WidePlace};
+use crate::basis::{Basis, Place};
 use crate::causes::{Cause, Unfit};
-use crate::line::{Line, Term};
+use crate::line::Term;
 use crate::merging::is_zero;
 use crate::tableau::Tableau;
 use bt_frac::{Delta, Frac, Relation, Row};
@@ -41,18 +41,6 @@ pub fn rest(tableau: &Tableau, position: usize) -> Delta
             value: Frac::whole(0),
             tiny: Frac::whole(0),
         },
-    }
-}
-
-/// The line of a position, where that is in the basis.
-pub fn terms_at(slots: &[Option<Line>], position: usize) -> Option<&[Term]>
-    ensures slot { MatchOption result (slot_at slots.now position ≡ None)
-        (λ terms. slot_at slots.now position ≡ Some terms.now) }
-    ensures known { IfSome result (λ terms. IsLine terms.now) }
-{
-    match slots.get(position) {
-        Some(Some(line)) => Some(line.terms()),
-        _ => None,
     }
 }
 
@@ -135,14 +123,36 @@ fn value_cause(row: usize, unfit: Unfit) -> Cause
     }
 }
 
+/// The point, with the other sign where this is told.
+fn signed_point(point: Delta, negated: bool) -> Delta
+    ensures { result ≡ signed_point negated point }
+{
+    if negated {
+        Delta {
+            value: point.value.negate(),
+            tiny: point.tiny.negate(),
+        }
+    } else {
+        point
+    }
+}
+
 /// Where a position stands; or why that doesn't fit.
-pub fn point(tableau: &Tableau, slots: &[Option<Line>], position: usize) -> Result<Delta, Cause>
-    ensures point { IfOk result (λ d. IsSamePoint d (point_at (with_slots tableau.now slots.now) position)) }
-    ensures unfit { IfErr result (IsCause (with_slots tableau.now slots.now)) }
+pub fn point(tableau: &Tableau, basis: &Basis, position: usize) -> Result<Delta, Cause>
+    ensures point { IfOk result (λ d. IsSamePoint d (point_at (with_slots tableau.now basis.now) position)) }
+    ensures unfit { IfErr result (IsCause (with_slots tableau.now basis.now)) }
 {
     tableau.all_known();
-    match terms_at(slots, position) {
-        Some(terms) => line_point(tableau, position, terms),
-        None => Ok(rest(tableau, position)),
+    match basis.place(position) {
+        Place::Line {
+            first,
+            terms,
+            negated,
+        } => match line_point(tableau, first, terms) {
+            Ok(point) => Ok(signed_point(point, negated)),
+            Err(cause) => Err(cause),
+        },
+        Place::Like { other, negated } => Ok(signed_point(rest(tableau, other), negated)),
+        Place::Outside => Ok(rest(tableau, position)),
     }
 }

@@ -6,9 +6,9 @@ ghost use Rattle.bt_simplex.specs.inner.Bases.{with_slots};
 ghost use Rattle.bt_simplex.specs.inner.Runs.{IsMade, IsRun};
 ghost use Rattle.bt_simplex.specs.inner.UnfitTurns.{IsUnfitTurn};
 
+use crate::basis::Basis;
 use crate::bland::{Next, blands_next};
 use crate::causes::Cause;
-use crate::line::Line;
 use crate::tableau::{Tableau, Turn};
 use crate::turning::turn;
 use std::alloc::{AllocError, Global};
@@ -31,9 +31,9 @@ pub enum End {
 pub struct Run {
     /// The turns made.
     pub turns: Vec<Turn>,
-    /// A slot for each position, with a line where it is in the basis that the turns lead to. It is that
-    /// of the solved form, but where the run ends in the midst of a turn.
-    pub slots: Vec<Option<Line>>,
+    /// The basis that the turns lead to. Its lines are those of the solved form, but where the run ends
+    /// in the midst of a turn.
+    pub basis: Basis,
     /// Where it ends.
     pub end: End,
 }
@@ -42,54 +42,54 @@ pub struct Run {
 fn make_turn(
     tableau: &Tableau,
     alloc: Global,
-    slots: &mut [Option<Line>],
+    basis: &mut Basis,
     made: Turn,
 ) -> Result<Result<(), Cause>, AllocError>
-    requires tableau { IsTableau (with_slots tableau.now slots.old) }
-    requires bland { IsBlandTurn (with_slots tableau.now slots.old) made }
-    ensures done { IfOk result (λ o. IfOk o (λ _. IsMade tableau.now made slots.old slots.new)) }
-    ensures unfit { IfOk result (λ o. IfErr o (IsUnfitTurn slots.old made.leaves made.enters slots.new)) }
+    requires tableau { IsTableau (with_slots tableau.now basis.old) }
+    requires bland { IsBlandTurn (with_slots tableau.now basis.old) made }
+    ensures done { IfOk result (λ o. IfOk o (λ _. IsMade tableau.now made basis.old basis.new)) }
+    ensures unfit { IfOk result (λ o. IfErr o (IsUnfitTurn basis.old made.leaves made.enters basis.new)) }
 {
     let _ = tableau;
-    turn(alloc, slots, made.leaves, made.enters)
+    turn(alloc, basis, made.leaves, made.enters)
 }
 
 /// Makes Bland's turns from a basis on, at most so many.
 pub fn turned_from(
     tableau: &Tableau,
     alloc: Global,
-    start: Vec<Option<Line>>,
+    start: Basis,
     pivots: u64,
 ) -> Result<Run, AllocError>
-    requires { IsTableau (with_slots tableau.now start.items) }
-    ensures { IfOk result (IsRun pivots tableau.now start.items) }
+    requires { IsTableau (with_slots tableau.now start) }
+    ensures { IfOk result (IsRun pivots tableau.now start) }
 {
-    let mut slots = start;
+    let mut basis = start;
     let mut turns = Vec::new(alloc);
     'turns: loop {
-        match blands_next(tableau, &slots) {
+        match blands_next(tableau, alloc, &basis)? {
             Next::Turn(turn) => {
                 if turns.len() as u64 >= pivots {
                     let end = End::Pivots;
-                    return Ok(Run { turns, slots, end });
+                    return Ok(Run { turns, basis, end });
                 }
-                if let Err(cause) = make_turn(tableau, alloc, &mut slots, turn)? {
+                if let Err(cause) = make_turn(tableau, alloc, &mut basis, turn)? {
                     let end = End::Wide(cause);
-                    return Ok(Run { turns, slots, end });
+                    return Ok(Run { turns, basis, end });
                 }
                 turns.push(turn)?;
             }
             Next::Met => {
                 let end = End::Met;
-                return Ok(Run { turns, slots, end });
+                return Ok(Run { turns, basis, end });
             }
             Next::Stuck(position) => {
                 let end = End::Stuck(position);
-                return Ok(Run { turns, slots, end });
+                return Ok(Run { turns, basis, end });
             }
             Next::Wide(cause) => {
                 let end = End::Wide(cause);
-                return Ok(Run { turns, slots, end });
+                return Ok(Run { turns, basis, end });
             }
         }
     }

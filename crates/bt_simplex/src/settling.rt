@@ -11,8 +11,8 @@ ghost use Rattle.bt_simplex.specs.inner.Bases.{with_slots};
 ghost use Rattle.bt_simplex.specs.inner.Settling.{IsLesser, IsFallingFrom, IsRoom, IsRoomAt, IsUnfitRoom, IsSettled};
 
 use crate::answers::{Operation, WidePlace};
+use crate::basis::Basis;
 use crate::causes::Cause;
-use crate::line::Line;
 use crate::points::point;
 use crate::tableau::Tableau;
 use bt_frac::{Delta, Frac, Row};
@@ -83,19 +83,15 @@ fn room(position: usize, row: &Row, point: &Delta) -> Result<Frac, Cause>
 
 /// Half of what the infinitesimal may be by a position, where that is a bound row that falls; or why
 /// that doesn't fit.
-fn room_at(
-    tableau: &Tableau,
-    slots: &[Option<Line>],
-    position: usize,
-) -> Result<Option<Frac>, Cause>
-    requires { IsMet (with_slots tableau.now slots.now) }
-    ensures room { IfOk result (IsRoomAt (with_slots tableau.now slots.now) position) }
-    ensures unfit { IfErr result (IsCause (with_slots tableau.now slots.now)) }
+fn room_at(tableau: &Tableau, basis: &Basis, position: usize) -> Result<Option<Frac>, Cause>
+    requires { IsMet (with_slots tableau.now basis.now) }
+    ensures room { IfOk result (IsRoomAt (with_slots tableau.now basis.now) position) }
+    ensures unfit { IfErr result (IsCause (with_slots tableau.now basis.now)) }
 {
     let Some(row) = tableau.bound_row(position) else {
         return Ok(None);
     };
-    let point = point(tableau, slots, position)?;
+    let point = point(tableau, basis, position)?;
     if !is_falling(row, &point) {
         return Ok(None);
     }
@@ -105,15 +101,15 @@ fn room_at(
 
 /// The number that takes the place of the infinitesimal: the least of 1 and of half of what each bound
 /// row lets it be. Or why such a number doesn't fit.
-fn epsilon(tableau: &Tableau, slots: &[Option<Line>]) -> Result<Frac, Cause>
-    requires tableau { IsTableau (with_slots tableau.now slots.now) }
-    requires met { IsMet (with_slots tableau.now slots.now) }
-    ensures epsilon { IfOk result (IsEpsilon (with_slots tableau.now slots.now)) }
-    ensures unfit { IfErr result (IsCause (with_slots tableau.now slots.now)) }
+fn epsilon(tableau: &Tableau, basis: &Basis) -> Result<Frac, Cause>
+    requires tableau { IsTableau (with_slots tableau.now basis.now) }
+    requires met { IsMet (with_slots tableau.now basis.now) }
+    ensures epsilon { IfOk result (IsEpsilon (with_slots tableau.now basis.now)) }
+    ensures unfit { IfErr result (IsCause (with_slots tableau.now basis.now)) }
 {
     let mut epsilon = Frac::whole(1);
-    for position in 0..slots.len() {
-        match room_at(tableau, slots, position)? {
+    for position in 0..basis.len() {
+        match room_at(tableau, basis, position)? {
             Some(room) => epsilon = lesser(epsilon, room),
             None => {}
         }
@@ -134,17 +130,17 @@ fn lesser(first: Frac, second: Frac) -> Frac
 /// The value of a column; or why it doesn't fit.
 fn column_value(
     tableau: &Tableau,
-    slots: &[Option<Line>],
+    basis: &Basis,
     epsilon: &Frac,
     column: usize,
 ) -> Result<Frac, Cause>
-    requires met { IsMet (with_slots tableau.now slots.now) }
-    requires epsilon { IsEpsilon (with_slots tableau.now slots.now) epsilon.now }
+    requires met { IsMet (with_slots tableau.now basis.now) }
+    requires epsilon { IsEpsilon (with_slots tableau.now basis.now) epsilon.now }
     requires column { column < tableau.now.columns }
-    ensures settled { IfOk result (IsSettled (with_slots tableau.now slots.now) epsilon.now column) }
-    ensures unfit { IfErr result (IsCause (with_slots tableau.now slots.now)) }
+    ensures settled { IfOk result (IsSettled (with_slots tableau.now basis.now) epsilon.now column) }
+    ensures unfit { IfErr result (IsCause (with_slots tableau.now basis.now)) }
 {
-    let point = point(tableau, slots, column)?;
+    let point = point(tableau, basis, column)?;
     let Some(product) = epsilon.mul(&point.tiny) else {
         return Err(settle_cause(column, Operation::Mul, *epsilon, point.tiny));
     };
@@ -159,21 +155,21 @@ fn column_value(
 pub fn settled(
     tableau: &Tableau,
     alloc: Global,
-    slots: &[Option<Line>],
+    basis: &Basis,
 ) -> Result<Result<Vec<Frac>, Cause>, AllocError>
-    requires tableau { IsTableau (with_slots tableau.now slots.now) }
-    requires met { IsMet (with_slots tableau.now slots.now) }
+    requires tableau { IsTableau (with_slots tableau.now basis.now) }
+    requires met { IsMet (with_slots tableau.now basis.now) }
     ensures meets { IfOk result
-        (λ o. IfOk o (λ v. MeetsBoundRows (with_slots tableau.now slots.now) v.items)) }
-    ensures unfit { IfOk result (λ o. IfErr o (IsCause (with_slots tableau.now slots.now))) }
+        (λ o. IfOk o (λ v. MeetsBoundRows (with_slots tableau.now basis.now) v.items)) }
+    ensures unfit { IfOk result (λ o. IfErr o (IsCause (with_slots tableau.now basis.now))) }
 {
-    let epsilon = match epsilon(tableau, slots) {
+    let epsilon = match epsilon(tableau, basis) {
         Ok(epsilon) => epsilon,
         Err(cause) => return Ok(Err(cause)),
     };
     let mut values = Vec::with_capacity(alloc, tableau.columns())?;
     for column in 0..tableau.columns() {
-        match column_value(tableau, slots, &epsilon, column) {
+        match column_value(tableau, basis, &epsilon, column) {
             Ok(value) => values.push(value)?,
             Err(cause) => return Ok(Err(cause)),
         }

@@ -1,10 +1,11 @@
 //! The first basis of a tableau: the rows, whose terms are their lines as they are given.
-ghost use Rattle.std.specs.Prelude.{◌≡◌, ◌<◌, IfOk, IsTrue, replicate, false};
+ghost use Rattle.std.specs.Prelude.{◌≡◌, ◌<◌, IfOk, IsTrue, replicate, None, false};
 ghost use Rattle.std.specs.List.{All};
 ghost use Rattle.bt_frac.specs.Rows.{IsRow};
 ghost use Rattle.bt_simplex.specs.Tableaus.{AreOverColumns};
 ghost use Rattle.bt_simplex.specs.inner.Starts.{kept, start_slots};
 
+use crate::basis::Basis;
 use crate::line::{Line, Term};
 use crate::merging::is_zero;
 use bt_frac::Row;
@@ -33,22 +34,50 @@ fn kept_terms(alloc: Global, terms: &[Term]) -> Result<Vec<Term>, AllocError>
 }
 
 /// An empty slot for each column, and for each row its line.
-pub fn first_slots(
-    alloc: Global,
-    rows: &[Row],
-    columns: usize,
-) -> Result<Vec<Option<Line>>, AllocError>
-    ensures { IfOk result (λ v. v.items ≡ start_slots rows.now columns) }
+pub fn first_basis(alloc: Global, rows: &[Row], columns: usize) -> Result<Basis, AllocError>
+    ensures { IfOk result (λ basis. basis ≡ start_slots rows.now columns) }
 {
-    let mut slots = Vec::new(alloc);
-    for _ in 0..columns {
-        slots.push(None)?;
-    }
+    let mut basis = column_slots(alloc, columns)?;
+    let mut classes = first_classes(alloc, columns)?;
     for row in rows {
         let line = row_line(alloc, row)?;
-        slots.push(Some(line))?;
+        let class = likely_class(&mut classes, basis.classes(), line.terms());
+        basis = basis.with_line(line, class)?;
     }
-    Ok(slots)
+    Ok(basis)
+}
+
+/// An empty slot for each column.
+fn column_slots(alloc: Global, columns: usize) -> Result<Basis, AllocError>
+    ensures { IfOk result (λ basis. basis ≡ replicate columns None) }
+{
+    let mut basis = Basis::empty(alloc);
+    for _ in 0..columns {
+        basis = basis.with_class(None)?;
+    }
+    Ok(basis)
+}
+
+/// The class of each column.
+fn first_classes(alloc: Global, columns: usize) -> Result<Vec<usize>, AllocError> {
+    let mut classes = Vec::new(alloc);
+    for column in 0..columns {
+        classes.push(column)?;
+    }
+    Ok(classes)
+}
+
+/// The class that a line may be in: of a single column that column's, and else the latest whose lines have
+/// the same first column. From now on that is the next class, where there is a line of more columns.
+fn likely_class(classes: &mut [usize], next: usize, terms: &[Term]) -> usize {
+    match terms {
+        [] => next,
+        [(column, _)] => *column,
+        [(column, _), ..] => match classes.get_mut(*column) {
+            Some(latest) => std::mem::replace(latest, next),
+            None => next,
+        },
+    }
 }
 
 /// Tells a proof that each row of a list is a row. It does nothing when it runs.

@@ -7,14 +7,15 @@ ghost use Rattle.bt_simplex.specs.Tableaus.{AreOverColumns, IsNew, IsBoundAs, Is
 ghost use Rattle.bt_simplex.specs.Turns.{CanTurn, IsTurnedBy};
 
 use crate::answers::{Check, Trail, Wide};
+use crate::basis::{Basis, Place};
 use crate::causes::Cause;
 use crate::lemmas::lemma;
-use crate::line::Line;
+use crate::line::found;
 use crate::running::{End, Run, turned_from};
 use crate::settling::settled;
-use crate::starting::{all_known, copied, first_slots, unbound};
-use crate::trails::{basis, bound_rows};
-use crate::turning::{copied_slots, turned_copy};
+use crate::starting::{all_known, copied, first_basis, unbound};
+use crate::trails::{bound_rows, positions};
+use crate::turning::turned_copy;
 use bt_frac::Row;
 use std::alloc::{AllocError, Global};
 use std::marker::Model;
@@ -36,7 +37,7 @@ pub struct Tableau {
     rows: Vec<Row>,
     columns: usize,
     bound: Vec<bool>,
-    slots: Vec<Option<Line>>,
+    basis: Basis,
 }
 
 impl Model for Tableau {
@@ -48,14 +49,14 @@ impl Model for Tableau {
       rows = t.rows.items;
       columns = t.columns;
       bound = t.bound.items;
-      slots = t.slots.items;
+      slots = t.basis;
     } };
 
     ghost invariant = { λ t. IsTableau (record {
       rows = t.rows.items;
       columns = t.columns;
       bound = t.bound.items;
-      slots = t.slots.items;
+      slots = t.basis;
     }) };
 }
 
@@ -67,12 +68,12 @@ impl Tableau {
     {
         all_known(rows);
         let bound = unbound(alloc, rows.len())?;
-        let slots = first_slots(alloc, rows, columns)?;
+        let basis = first_basis(alloc, rows, columns)?;
         Ok(Tableau {
             rows: copied(alloc, rows)?,
             columns,
             bound,
-            slots,
+            basis,
         })
     }
 
@@ -103,25 +104,25 @@ impl Tableau {
         ensures checked { IfOk result (IsCheck pivots self.old self.new) }
         ensures memory { OnErr result (self.new ≡ self.old) }
     {
-        let start = copied_slots(alloc, &self.slots)?;
-        let Run { turns, slots, end } = turned_from(self, alloc, start, pivots)?;
+        let start = self.basis.copied(alloc)?;
+        let Run { turns, basis, end } = turned_from(self, alloc, start, pivots)?;
         match end {
-            End::Met => match settled(self, alloc, &slots)? {
+            End::Met => match settled(self, alloc, &basis)? {
                 Ok(values) => {
-                    self.slots = slots;
+                    self.basis = basis;
                     Ok(Check::Sat(values))
                 }
-                Err(cause) => Ok(Check::Wide(self.wide(alloc, turns, &slots, cause)?)),
+                Err(cause) => Ok(Check::Wide(self.wide(alloc, turns, &basis, cause)?)),
             },
-            End::Stuck(position) => match lemma(self, alloc, &slots, position)? {
+            End::Stuck(position) => match lemma(self, alloc, &basis, position)? {
                 Ok(weights) => {
-                    self.slots = slots;
+                    self.basis = basis;
                     Ok(Check::Unsat(weights))
                 }
-                Err(cause) => Ok(Check::Wide(self.wide(alloc, turns, &slots, cause)?)),
+                Err(cause) => Ok(Check::Wide(self.wide(alloc, turns, &basis, cause)?)),
             },
             End::Pivots => Ok(Check::Pivots(self.trail(alloc, turns)?)),
-            End::Wide(cause) => Ok(Check::Wide(self.wide(alloc, turns, &slots, cause)?)),
+            End::Wide(cause) => Ok(Check::Wide(self.wide(alloc, turns, &basis, cause)?)),
         }
     }
 
@@ -130,26 +131,26 @@ impl Tableau {
         ensures { IfOk result (λ trail. StartsAt self.now trail × (trail.turns ≡ turns)) }
     {
         Ok(Trail {
-            start: basis(alloc, &self.slots)?,
+            start: positions(alloc, &self.basis)?,
             bound: bound_rows(alloc, &self.bound)?,
             turns,
         })
     }
 
-    /// The cause, after these turns, which lead to the basis of these slots.
+    /// The cause, after these turns, which lead to this basis.
     fn wide(
         &self,
         alloc: Global,
         turns: Vec<Turn>,
-        slots: &[Option<Line>],
+        basis: &Basis,
         cause: Cause,
     ) -> Result<Wide, AllocError>
-        ensures { IfOk result (IsWideFor self.now turns.items slots.now cause) }
+        ensures { IfOk result (IsWideFor self.now turns.items basis.now cause) }
     {
         Ok(Wide {
             trail: self.trail(alloc, turns)?,
             place: cause.place,
-            basis: basis(alloc, slots)?,
+            basis: positions(alloc, basis)?,
             row: cause.row,
             column: cause.column,
             operation: cause.operation,
@@ -198,9 +199,18 @@ impl Tableau {
     pub fn can_turn(&self, turn: Turn) -> bool
         ensures { IsTrue result → CanTurn self.now.slots turn }
     {
-        match self.slots.get(turn.leaves) {
-            Some(Some(line)) => line.number_at(turn.enters).is_some(),
-            _ => false,
+        match self.basis.place(turn.leaves) {
+            Place::Line { terms, .. } => match found(terms, turn.enters) {
+                Some(_) => true,
+                None => false,
+            },
+            Place::Like { other, .. } => {
+                if other == turn.enters {
+                    return true;
+                }
+                false
+            }
+            Place::Outside => false,
         }
     }
 
@@ -212,10 +222,10 @@ impl Tableau {
         ensures wide { IfOk result (λ done. done ≡ false → self.new ≡ self.old) }
         ensures memory { OnErr result (self.new ≡ self.old) }
     {
-        let Some(slots) = turned_copy(alloc, &self.slots, turn.leaves, turn.enters)? else {
+        let Some(basis) = turned_copy(alloc, &self.basis, turn.leaves, turn.enters)? else {
             return Ok(false);
         };
-        self.slots = slots;
+        self.basis = basis;
         Ok(true)
     }
 }

@@ -3,16 +3,16 @@ ghost use Rattle.std.specs.Prelude.{◌≡◌, IfOk};
 ghost use Rattle.bt_simplex.specs.SolvedForms.{basis_of};
 ghost use Rattle.bt_simplex.specs.Checks.{bound_from};
 
-use crate::line::Line;
+use crate::basis::Basis;
 use std::alloc::{AllocError, Global};
 
 /// The positions of the basis, in ascending order.
-pub fn basis(alloc: Global, slots: &[Option<Line>]) -> Result<Vec<usize>, AllocError>
-    ensures { IfOk result (λ v. v.items ≡ basis_of slots.now) }
+pub fn positions(alloc: Global, basis: &Basis) -> Result<Vec<usize>, AllocError>
+    ensures { IfOk result (λ v. v.items ≡ basis_of basis.now) }
 {
     let mut positions = Vec::new(alloc);
-    for (position, slot) in slots.iter().enumerate() {
-        if slot.is_some() {
+    for position in 0..basis.len() {
+        if basis.has(position) {
             positions.push(position)?;
         }
     }

@@ -1,14 +1,16 @@
 //! Turns of a basis: a position leaves it, and one that its line names enters.
-ghost use Rattle.std.specs.Prelude.{◌≡◌, ◌≢◌, ℕ, ◌<◌, ◌-◌, ◌^◌, pos, length, IfOk, IfErr, IfSome, Some, None};
+ghost use Rattle.std.specs.Prelude.{◌≡◌, ◌≢◌, ℕ, ◌<◌, ◌-◌, ◌^◌, pos, length, slice_set, IfOk, IfErr, IfSome, Some, None};
 ghost use Rattle.bt_frac.specs.Ratio.{IsLowest, negated};
 ghost use Rattle.bt_lin.specs.WeightedRows.{coefficient_at};
 ghost use Rattle.bt_simplex.specs.Lines.{one, Terms, IsLine, HasNumber};
+ghost use Rattle.bt_simplex.specs.Classes.{position_at};
 ghost use Rattle.bt_simplex.specs.SolvedForms.{Slots, slot_at};
-ghost use Rattle.bt_simplex.specs.inner.TurnedSlots.{IsZeroLine, IsChange, AreSubstituted, IsEntering, IsEntered, IsTurned};
+ghost use Rattle.bt_simplex.specs.inner.TurnedSlots.{IsZeroLine, AreLines, IsChange, AreSubstituted, with_line, IsEntering, IsTurned};
 ghost use Rattle.bt_simplex.specs.inner.Shares.{IsNegatedShare, AreNegatedShares};
-ghost use Rattle.bt_simplex.specs.inner.UnfitTurns.{IsUnfitShare, IsUnfitTerm, IsUnfitZero, IsUnfitSlot, CanPart, IsSlotZero, IsUnfitPart, IsUnfitTurn, entry_cause};
+ghost use Rattle.bt_simplex.specs.inner.UnfitTurns.{IsUnfitShare, IsUnfitTerm, IsUnfitZero, IsUnfitSlot, CanPart, IsSlotZero, IsUnfitPart, IsUnfitLine, IsUnfitTurn, entry_cause};
 
 use crate::answers::{Operation, WidePlace};
+use crate::basis::{Basis, Member, signed_line};
 use crate::causes::{Cause, Unfit};
 use crate::line::{Line, Term};
 use crate::merging::{combined, merged};
@@ -175,28 +177,6 @@ fn entering_line(alloc: Global, enters: usize, zero: &[Term]) -> Result<Line, Al
     }
 }
 
-/// Gives the entering position its line, and every other line what the position stands for in place of
-/// it; or tells a product or a sum that doesn't fit.
-fn enter(
-    alloc: Global,
-    slots: &mut [Option<Line>],
-    enters: usize,
-    zero: &[Term],
-) -> Result<Result<(), Cause>, AllocError>
-    requires enters { enters < length slots.old }
-    requires few { length slots.old < 2 ^ 64 }
-    requires line { IsLine zero.now }
-    requires number { coefficient_at enters zero.now ≡ Some (negated one) }
-    ensures done { IfOk result (λ o. IfOk o (λ _. IsEntered enters zero.now slots.old slots.new)) }
-    ensures unfit { IfOk result (λ o. IfErr o (IsUnfitSlot enters zero.now slots.old slots.new)) }
-{
-    if let Err(cause) = substitute(alloc, slots, enters, zero)? {
-        return Ok(Err(cause));
-    }
-    slots[enters] = Some(entering_line(alloc, enters, zero)?);
-    Ok(Ok(()))
-}
-
 /// The line that is 0 wherever a slot's line holds of its position; or a quotient that doesn't fit.
 fn slot_zero(
     alloc: Global,
@@ -216,77 +196,109 @@ fn slot_zero(
     zero_line(alloc, leaves, line.terms(), &number)
 }
 
-/// A turn of the basis: one position leaves it, and one that its line names enters. Or the operation
-/// whose result doesn't fit; the slots then have the same basis, but not its lines.
-pub fn turn(
+/// Takes a class's line, and puts what the entering position stands for in place of it in each other line;
+/// or tells a product or a sum that doesn't fit, and the same classes then have lines as before.
+fn substitute_others(
     alloc: Global,
-    slots: &mut [Option<Line>],
-    leaves: usize,
+    lines: &mut [Option<Line>],
+    left: usize,
     enters: usize,
+    zero: &[Term],
 ) -> Result<Result<(), Cause>, AllocError>
-    requires leaves { leaves < length slots.old }
-    requires enters { enters < length slots.old }
-    requires few { length slots.old < 2 ^ 64 }
-    requires apart { leaves ≢ enters }
-    requires can { CanPart (slot_at slots.old leaves) leaves enters }
-    ensures done { IfOk result (λ o. IfOk o (λ _. IsTurned slots.old leaves enters slots.new)) }
-    ensures unfit { IfOk result (λ o. IfErr o (IsUnfitTurn slots.old leaves enters slots.new)) }
+    requires left { left < length lines.old }
+    requires line { IsLine zero.now }
+    ensures done { IfOk result
+        (λ o. IfOk o (λ _. AreSubstituted enters zero.now (slice_set lines.old left None) lines.new)) }
+    ensures unfit { IfOk result (λ o. IfErr o (IsUnfitLine left enters zero.now lines.old lines.new)) }
 {
-    let zero = match slot_zero(alloc, &slots[leaves], leaves, enters)? {
-        Ok(zero) => zero,
-        Err(unfit) => return Ok(Err(entry_cause(leaves, unfit))),
-    };
-    let leaving = slots[leaves].take();
-    match enter(alloc, slots, enters, zero.terms())? {
+    let leaving = lines[left].take();
+    match substitute(alloc, lines, enters, zero)? {
         Ok(()) => Ok(Ok(())),
         Err(cause) => {
-            slots[leaves] = leaving;
+            lines[left] = leaving;
             Ok(Err(cause))
         }
     }
 }
 
-/// The slots after a turn of the basis. None where a quotient, a product or a sum doesn't fit.
-pub fn turned_copy(
+/// Gives a class its line, but where it is the one that is left.
+fn put_line(lines: &mut [Option<Line>], left: usize, class: usize, line: Line)
+    requires { class < length lines.old }
+    ensures { lines.new ≡ with_line left class line lines.old }
+{
+    if class != left {
+        lines[class] = Some(line);
+    }
+}
+
+/// The cause, of a class's first position in place of the class.
+fn at_first(firsts: &[usize], cause: Cause) -> Cause
+    requires { cause.row < length firsts.now }
+    ensures { result ≡ record cause { row = position_at firsts.now cause.row } }
+{
+    Cause {
+        place: cause.place,
+        row: firsts[cause.row],
+        column: cause.column,
+        operation: cause.operation,
+        left: cause.left,
+        right: cause.right,
+    }
+}
+
+/// A turn of the basis: one position leaves it, and one that its line names enters. Or the operation
+/// whose result doesn't fit; the same positions are then in the basis, but not with its lines.
+pub fn turn(
     alloc: Global,
-    slots: &[Option<Line>],
+    basis: &mut Basis,
     leaves: usize,
     enters: usize,
-) -> Result<Option<Vec<Option<Line>>>, AllocError>
-    requires leaves { leaves < length slots.now }
-    requires enters { enters < length slots.now }
-    requires few { length slots.now < 2 ^ 64 }
+) -> Result<Result<(), Cause>, AllocError>
+    requires leaves { leaves < length basis.old }
+    requires enters { enters < length basis.old }
     requires apart { leaves ≢ enters }
-    requires can { CanPart (slot_at slots.now leaves) leaves enters }
-    ensures { IfOk result (λ o. IfSome o (λ v. IsTurned slots.now leaves enters v.items)) }
+    requires can { CanPart (slot_at basis.old leaves) leaves enters }
+    requires outside { slot_at basis.old enters ≡ None }
+    requires lines { AreLines basis.old }
+    ensures done { IfOk result (λ o. IfOk o (λ _. IsTurned basis.old leaves enters basis.new)) }
+    ensures unfit { IfOk result (λ o. IfErr o (IsUnfitTurn basis.old leaves enters basis.new)) }
 {
-    let mut copies = copied_slots(alloc, slots)?;
-    match turn(alloc, &mut copies, leaves, enters)? {
-        Ok(()) => Ok(Some(copies)),
+    let slot = basis.line(alloc, leaves)?;
+    let zero = match slot_zero(alloc, &slot, leaves, enters)? {
+        Ok(zero) => zero,
+        Err(unfit) => return Ok(Err(entry_cause(leaves, unfit))),
+    };
+    let entering = entering_line(alloc, enters, zero.terms())?;
+    let Member { class, negated } = basis.members[enters];
+    let line = signed_line(alloc, entering.terms(), negated)?;
+    let left = basis.members[leaves].class;
+    match substitute_others(alloc, &mut basis.lines, left, enters, zero.terms())? {
+        Ok(()) => {}
+        Err(cause) => return Ok(Err(at_first(&basis.firsts, cause))),
+    }
+    put_line(&mut basis.lines, left, class, line);
+    basis.outside[left] = leaves;
+    Ok(Ok(()))
+}
+
+/// The basis after a turn. None where a quotient, a product or a sum doesn't fit.
+pub fn turned_copy(
+    alloc: Global,
+    basis: &Basis,
+    leaves: usize,
+    enters: usize,
+) -> Result<Option<Basis>, AllocError>
+    requires leaves { leaves < length basis.now }
+    requires enters { enters < length basis.now }
+    requires apart { leaves ≢ enters }
+    requires can { CanPart (slot_at basis.now leaves) leaves enters }
+    requires outside { slot_at basis.now enters ≡ None }
+    requires lines { AreLines basis.now }
+    ensures { IfOk result (λ o. IfSome o (λ b. IsTurned basis.now leaves enters b)) }
+{
+    let mut copy = basis.copied(alloc)?;
+    match turn(alloc, &mut copy, leaves, enters)? {
+        Ok(()) => Ok(Some(copy)),
         Err(_) => Ok(None),
-    }
-}
-
-/// The same lines.
-pub fn copied_slots(alloc: Global, slots: &[Option<Line>]) -> Result<Vec<Option<Line>>, AllocError>
-    ensures { IfOk result (λ v. v.items ≡ slots.now) }
-{
-    let mut copies = Vec::new(alloc);
-    for slot in slots {
-        let copy = copied_slot(alloc, slot)?;
-        copies.push(copy)?;
-    }
-    Ok(copies)
-}
-
-/// The same line.
-fn copied_slot(alloc: Global, slot: &Option<Line>) -> Result<Option<Line>, AllocError>
-    ensures { IfOk result (λ copy. copy ≡ slot.now) }
-{
-    match slot {
-        Some(line) => Ok(Some(Line {
-            terms: Vec::from_slice(alloc, line.terms())?,
-        })),
-        None => Ok(None),
     }
 }

@@ -1,6 +1,6 @@
 -- What Bland's rule says of a tableau at a basis.
-use Rattle.std.specs.Prelude.{◌≡◌, ◌≢◌, ◌⊎◌, ℕ, ◌<◌, Option, Some, None}
-use Rattle.bt_frac.specs.Ratio.{Ratio}
+use Rattle.std.specs.Prelude.{◌≡◌, ◌≢◌, ◌⊎◌, ℕ, ◌<◌, Bool, true, false, Option, Some, None}
+use Rattle.bt_frac.specs.Ratio.{Ratio, negated}
 use Rattle.bt_frac.specs.Rows.{RowParts}
 use Rattle.bt_frac.specs.Deltas.{SameDelta}
 use Rattle.bt_frac.specs.declared.delta.Delta.{Delta}
@@ -28,6 +28,11 @@ pub record IsSamePoint (a b : Delta) : Type 0 where
   pub right_value : 0 < b.value.under
   pub right_tiny : 0 < b.tiny.under
   pub same : SameDelta a b
+
+-- the point, with the other sign where this is told
+abbrev pub signed_point : Bool → Delta → Delta
+signed_point false point = point
+signed_point true point = record { value = negated point.value; tiny = negated point.tiny }
 
 -- the position may be moved: it is a column or a row that isn't bound, or a bound row that is no equation, and raising it moves the failing row towards its bound value
 abbrev pub MayEnter : TableauParts → RowParts → Delta → ℕ → Ratio → Type 0

@@ -32,5 +32,5 @@ pub record IsRun (pivots : ℕ) (t : TableauParts) (start : Slots) (run : Run) :
   pub few : length run.turns.items ≤ pivots
   pub last : TableauParts
   pub follows : Follows (with_slots t start) run.turns.items last
-  pub basis : basis_of run.slots.items ≡ basis_of last.slots
-  pub ends : IsEnd pivots t last run.turns.items run.slots.items run.end
+  pub basis : basis_of run.basis ≡ basis_of last.slots
+  pub ends : IsEnd pivots t last run.turns.items run.basis run.end

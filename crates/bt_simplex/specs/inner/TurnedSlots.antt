@@ -1,5 +1,5 @@
 -- A turn of a basis, slot by slot.
-use Rattle.std.specs.Prelude.{◌≡◌, ◌≢◌, ℕ, ◌⊎◌, [], ◌∷◌, length, Option, Some, None}
+use Rattle.std.specs.Prelude.{◌≡◌, ◌≢◌, ℕ, ◌⊎◌, [], ◌∷◌, length, Option, Some, None, slice_set, ◌==◌, if◌then◌else◌}
 use Rattle.bt_frac.specs.Ratio.{Ratio, IsLowest, negated}
 use Rattle.bt_frac.specs.Products.{IsDivision}
 use Rattle.bt_lin.specs.WeightedRows.{coefficient_at}
@@ -29,6 +29,14 @@ pub record AreSubstituted (position : ℕ) (zero : Terms) (slots slots' : Slots)
   pub same_length : length slots' ≡ length slots
   pub each : (other : ℕ) → IsSubstituted position zero (slot_at slots other) (slot_at slots' other)
 
+-- the lines with a class's one in place, but where the class is the one that is left
+abbrev pub with_line : ℕ → ℕ → Terms → Slots → Slots
+with_line left class line lines = if class == left then lines else slice_set lines class (Some line)
+
+-- each slot with terms has a line
+abbrev pub AreLines : Slots → Type 0
+AreLines slots = (position : ℕ) (terms : Terms) → slot_at slots position ≡ Some terms → IsLine terms
+
 -- what a turn makes of a slot
 abbrev pub IsChange : ℕ → Terms → Option Terms → Change → Type 0
 IsChange position zero slot (Stays room) = IsSubstituted position zero slot slot
@@ -39,14 +47,6 @@ IsChange position zero slot (Wide unfit) = (terms : Terms) × (slot ≡ Some ter
 pub record IsEntering (position : ℕ) (zero entering : Terms) : Type 0 where
   pub line : IsLine entering
   pub combination : IsCombination ((position, one) ∷ []) one zero entering
-
--- the position has its line, and every other slot is changed by the zero line
-pub record IsEntered (position : ℕ) (zero : Terms) (slots slots' : Slots) : Type 0 where
-  pub same_length : length slots' ≡ length slots
-  pub others : (other : ℕ) → other ≢ position → IsSubstituted position zero (slot_at slots other) (slot_at slots' other)
-  pub entering : Terms
-  pub entered : slot_at slots' position ≡ Some entering
-  pub is_entering : IsEntering position zero entering
 
 -- a position leaves the basis and another enters it
 pub record IsTurned (slots : Slots) (leaves enters : ℕ) (slots' : Slots) : Type 0 where

@@ -1,5 +1,5 @@
 -- Operations of a turn whose results leave 128 bits.
-use Rattle.std.specs.Prelude.{◌≡◌, ◌⊎◌, ℕ, length, Option, Some, None}
+use Rattle.std.specs.Prelude.{◌≡◌, ◌≢◌, ◌⊎◌, ℕ, length, Option, Some, None}
 use Rattle.bt_frac.specs.Ratio.{Ratio, negated}
 use Rattle.bt_lin.specs.WeightedRows.{coefficient_at}
 use Rattle.bt_simplex.specs.Lines.{one, Terms, IsLine}
@@ -53,6 +53,18 @@ pub record IsUnfitSlot (enters : ℕ) (zero : Terms) (slots slots' : Slots) (cau
   pub same_basis : HaveSameBasis slots' slots
   pub terms : Terms
   pub line : slot_at slots cause.row ≡ Some terms
+  pub number : Ratio
+  pub named : coefficient_at enters terms ≡ Some number
+  pub unfit : Unfit
+  pub is_unfit : IsUnfit terms number zero unfit
+  pub cause_is : cause ≡ entry_cause cause.row unfit
+
+-- in the line of a class other than this one a product or a sum doesn't fit, and the same classes still have lines
+pub record IsUnfitLine (left enters : ℕ) (zero : Terms) (lines lines' : Slots) (cause : Cause) : Type 0 where
+  pub same_basis : HaveSameBasis lines' lines
+  pub apart : cause.row ≢ left
+  pub terms : Terms
+  pub line : slot_at lines cause.row ≡ Some terms
   pub number : Ratio
   pub named : coefficient_at enters terms ≡ Some number
   pub unfit : Unfit

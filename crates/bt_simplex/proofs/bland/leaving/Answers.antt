@@ -7,13 +7,13 @@ use Rattle.bt_simplex.proofs.bland.leaving.Goals as goal
 
 pub returns-then-told : goal.returns-then-told
 returns-then-told c =
-    least_here (λ p. Fails (with_slots c.args.tableau.now c.args.slots.now) p) c.loop-position.position c.loop-position.invariant (c.in-Ok.ensures.told.0 c.if-told.true)
+    least_here (λ p. Fails (with_slots c.args.tableau.now c.args.basis.now) p) c.loop-position.position c.loop-position.invariant (c.in-Ok.ensures.told.0 c.if-told.true)
 
 pub loop-position-preserved : goal.loop-position-preserved
 loop-position-preserved c =
-    below_more (λ p. Fails (with_slots c.args.tableau.now c.args.slots.now) p → ⊥) c.loop-position.position c.loop-position.invariant (iff_false c.in-Ok.ensures.told c.if-told.false)
+    below_more (λ p. Fails (with_slots c.args.tableau.now c.args.basis.now) p → ⊥) c.loop-position.position c.loop-position.invariant (iff_false c.in-Ok.ensures.told c.if-told.false)
 
 pub returns : goal.returns
 returns c p fails =
-    let within : length c.args.slots.now ≤ p → ⊥ = λ past. no_slot (with_slots c.args.tableau.now c.args.slots.now) p past fails in
+    let within : length c.args.basis.now ≤ p → ⊥ = λ past. no_slot (with_slots c.args.tableau.now c.args.basis.now) p past fails in
     c.loop-position.invariant p (omega arith) fails

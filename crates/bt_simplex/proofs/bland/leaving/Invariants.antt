@@ -4,4 +4,4 @@ use Rattle.bt_simplex.specs.inner.Bases.{with_slots}
 use Rattle.bt_simplex.proofs.bland.leaving.Given as goal
 
 abbrev pub invariant-loop-position : goal.invariant-loop-position
-invariant-loop-position l = (p : ℕ) → p < l.position → Fails (with_slots l.tableau l.slots) p → ⊥
+invariant-loop-position l = (p : ℕ) → p < l.position → Fails (with_slots l.tableau l.basis) p → ⊥

@@ -1,24 +1,30 @@
-use Rattle.std.proofs.Common.{◌≤◌, ◌∙◌, ap, map, sym, subst}
+use Rattle.std.proofs.Common.{◌≤◌, Some, arith, ◌∙◌, ap, map, sym, subst}
 use Rattle.std.specs.List.{All}
 use Rattle.bt_simplex.specs.inner.Bases.{with_slots}
 use Rattle.bt_simplex.specs.inner.Lemmas.{weight_of}
-use Rattle.bt_simplex.proofs.Resting.{point_cause}
+use Rattle.bt_simplex.proofs.Resting.{point_cause, bound_within}
 use Rattle.bt_simplex.proofs.Refutations.{own_lacks, line_over, stands_told}
 use Rattle.bt_simplex.proofs.lemmas.stuck_weights.Goals as goal
 
 pub returns-in-Err-clause-unfit : goal.returns-in-Err-clause-unfit
-returns-in-Err-clause-unfit c = point_cause (with_slots c.args.tableau.now c.args.slots.now) c.args.position c.in-Some.terms.now c.in-Err.cause c.in-Some.ensures.slot c.in-Err.ensures.unfit
+returns-in-Err-clause-unfit c = point_cause (with_slots c.args.tableau.now c.args.basis.now) c.args.position c.terms-terms.result.now c.in-Err.cause (sym c.in_ok-found.ensures ∙ c.in-Some.is ∙ ap (λ l. Some l) (sym c.terms-terms.ensures.value)) c.in-Err.ensures.unfit
+
+pub difference-requires-clause-position : goal.difference-requires-clause-position
+difference-requires-clause-position c =
+    let within = bound_within (with_slots c.args.tableau.now c.args.basis.now) c.requires.tableau c.args.position c.in-Some-bound_row.row.now c.in-Some-bound_row.ensures in
+    let many = c.len.ensures in
+    omega arith
 
 pub difference-requires-clause-lacks : goal.difference-requires-clause-lacks
 difference-requires-clause-lacks c =
-    own_lacks (with_slots c.args.tableau.now c.args.slots.now) c.args.position c.in-Some.terms.now c.requires.tableau c.in-Some.ensures.slot
+    own_lacks (with_slots c.args.tableau.now c.args.basis.now) c.args.position c.terms-terms.result.now c.requires.tableau (sym c.in_ok-found.ensures ∙ c.in-Some.is ∙ ap (λ l. Some l) (sym c.terms-terms.ensures.value))
 
 pub returns-clause-weights : goal.returns-clause-weights
 returns-clause-weights c = record {
-  terms = c.in-Some.terms.now;
-  slot = c.in-Some.ensures.slot;
+  terms = c.terms-terms.result.now;
+  slot = (sym c.in_ok-found.ensures ∙ c.in-Some.is ∙ ap (λ l. Some l) (sym c.terms-terms.ensures.value));
   above = c.is_above.result;
-  is_above = (stands_told (with_slots c.args.tableau.now c.args.slots.now) c.args.position c.in-Some.terms.now c.in-Some-bound_row.row.now c.in-Ok.point c.is_above.result c.in-Some.ensures.slot c.in-Some-bound_row.ensures c.in-Ok.ensures.point c.is_above.ensures);
+  is_above = (stands_told (with_slots c.args.tableau.now c.args.basis.now) c.args.position c.terms-terms.result.now c.in-Some-bound_row.row.now c.in-Ok.point c.is_above.result (sym c.in_ok-found.ensures ∙ c.in-Some.is ∙ ap (λ l. Some l) (sym c.terms-terms.ensures.value)) c.in-Some-bound_row.ensures c.in-Ok.ensures.point c.is_above.ensures);
   line = c.in_ok-line.line;
   is_line = c.in_ok-line.ensures.line;
   combination = c.in_ok-line.ensures.sum;
@@ -31,5 +37,5 @@ pub weights_of-requires : goal.weights_of-requires
 weights_of-requires c =
     subst (λ n. All (λ u. n ≤ u.0) c.terms.result.now) (sym c.columns.ensures)
     (subst (λ l. All (λ u. c.args.tableau.now.columns ≤ u.0) l) (sym c.terms.ensures.value)
-    (line_over (with_slots c.args.tableau.now c.args.slots.now) c.args.position c.in-Some.terms.now c.in_ok-line.line c.is_above.result c.requires.tableau c.requires.stuck c.in-Some.ensures.slot c.in_ok-line.ensures.line
-    c.in_ok-line.ensures.sum (stands_told (with_slots c.args.tableau.now c.args.slots.now) c.args.position c.in-Some.terms.now c.in-Some-bound_row.row.now c.in-Ok.point c.is_above.result c.in-Some.ensures.slot c.in-Some-bound_row.ensures c.in-Ok.ensures.point c.is_above.ensures)))
+    (line_over (with_slots c.args.tableau.now c.args.basis.now) c.args.position c.terms-terms.result.now c.in_ok-line.line c.is_above.result c.requires.tableau c.requires.stuck (sym c.in_ok-found.ensures ∙ c.in-Some.is ∙ ap (λ l. Some l) (sym c.terms-terms.ensures.value)) c.in_ok-line.ensures.line
+    c.in_ok-line.ensures.sum (stands_told (with_slots c.args.tableau.now c.args.basis.now) c.args.position c.terms-terms.result.now c.in-Some-bound_row.row.now c.in-Ok.point c.is_above.result (sym c.in_ok-found.ensures ∙ c.in-Some.is ∙ ap (λ l. Some l) (sym c.terms-terms.ensures.value)) c.in-Some-bound_row.ensures c.in-Ok.ensures.point c.is_above.ensures)))

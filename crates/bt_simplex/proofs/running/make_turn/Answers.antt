@@ -4,22 +4,30 @@ use Rattle.bt_simplex.proofs.Runs.{bland_can, can_part, leaves_within, turn_made
 use Rattle.bt_simplex.proofs.running.make_turn.Goals as goal
 
 pub turn-requires-clause-leaves : goal.turn-requires-clause-leaves
-turn-requires-clause-leaves c = leaves_within c.args.slots.now c.args.made (bland_can (with_slots c.args.tableau.now c.args.slots.now) c.args.made c.requires.bland)
+turn-requires-clause-leaves c = leaves_within c.args.basis.now c.args.made (bland_can (with_slots c.args.tableau.now c.args.basis.now) c.args.made c.requires.bland)
 
 pub turn-requires-clause-enters : goal.turn-requires-clause-enters
 turn-requires-clause-enters c =
-    (enters_outside c.args.tableau.now.rows c.args.tableau.now.columns c.args.slots.now c.args.made c.requires.tableau.solved
-    (bland_can (with_slots c.args.tableau.now c.args.slots.now) c.args.made c.requires.bland)).within
+    (enters_outside c.args.tableau.now.rows c.args.tableau.now.columns c.args.basis.now c.args.made c.requires.tableau.solved
+    (bland_can (with_slots c.args.tableau.now c.args.basis.now) c.args.made c.requires.bland)).within
 
 pub turn-requires-clause-apart : goal.turn-requires-clause-apart
 turn-requires-clause-apart c =
-    leaves_apart c.args.tableau.now.rows c.args.tableau.now.columns c.args.slots.now c.args.made c.requires.tableau.solved
-    (bland_can (with_slots c.args.tableau.now c.args.slots.now) c.args.made c.requires.bland)
+    leaves_apart c.args.tableau.now.rows c.args.tableau.now.columns c.args.basis.now c.args.made c.requires.tableau.solved
+    (bland_can (with_slots c.args.tableau.now c.args.basis.now) c.args.made c.requires.bland)
 
 pub turn-requires-clause-can : goal.turn-requires-clause-can
 turn-requires-clause-can c =
-    can_part c.args.tableau.now.rows c.args.tableau.now.columns c.args.slots.now c.args.made c.requires.tableau.solved
-    (bland_can (with_slots c.args.tableau.now c.args.slots.now) c.args.made c.requires.bland)
+    can_part c.args.tableau.now.rows c.args.tableau.now.columns c.args.basis.now c.args.made c.requires.tableau.solved
+    (bland_can (with_slots c.args.tableau.now c.args.basis.now) c.args.made c.requires.bland)
+
+pub turn-requires-clause-outside : goal.turn-requires-clause-outside
+turn-requires-clause-outside c =
+    (enters_outside c.args.tableau.now.rows c.args.tableau.now.columns c.args.basis.now c.args.made c.requires.tableau.solved
+    (bland_can (with_slots c.args.tableau.now c.args.basis.now) c.args.made c.requires.bland)).outside
+
+pub turn-requires-clause-lines : goal.turn-requires-clause-lines
+turn-requires-clause-lines c position terms e = (c.requires.tableau.solved.lines position terms e).0
 
 pub returns-clause-done : goal.returns-clause-done
-returns-clause-done c = turn_made c.args.tableau.now c.args.slots.now c.args.made c.turn.new.slots c.requires.tableau c.requires.bland c.turn.result c.turn.ensures.done
+returns-clause-done c = turn_made c.args.tableau.now c.args.basis.now c.args.made c.turn.new.basis c.requires.tableau c.requires.bland c.turn.result c.turn.ensures.done

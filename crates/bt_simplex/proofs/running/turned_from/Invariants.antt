@@ -5,7 +5,7 @@ use Rattle.bt_simplex.proofs.running.turned_from.Given as goal
 
 abbrev pub invariant-turns : goal.invariant-turns
 invariant-turns l = record {
-  is_at : IsAt (with_slots l.tableau l.fn.start.items) l.turns.items l.slots.items;
+  is_at : IsAt (with_slots l.tableau l.fn.start) l.turns.items l.basis;
   few : length l.turns.items ≤ l.pivots;
 }
 

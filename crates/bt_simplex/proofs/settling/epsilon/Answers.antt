@@ -9,16 +9,16 @@ pub loop-position-preserved : goal.loop-position-preserved
 loop-position-preserved c =
     elim c.match-branch-2.branch [
       | in-Some w ↦
-          subst (λ e. IsLeastRoom (with_slots c.args.tableau.now c.args.slots.now) (c.loop-position.position + 1) e) (sym w.epsilon-is)
-          (least_more (with_slots c.args.tableau.now c.args.slots.now) c.loop-position.position c.loop-position.epsilon w.in-Some.room w.lesser-epsilon.result c.requires.tableau c.loop-position.invariant
-          (subst (λ o. IsRoomAt (with_slots c.args.tableau.now c.args.slots.now) c.loop-position.position o) w.in-Some.is c.in_ok-room.ensures.room) w.lesser-epsilon.ensures)
+          subst (λ e. IsLeastRoom (with_slots c.args.tableau.now c.args.basis.now) (c.loop-position.position + 1) e) (sym w.epsilon-is)
+          (least_more (with_slots c.args.tableau.now c.args.basis.now) c.loop-position.position c.loop-position.epsilon w.in-Some.room w.lesser-epsilon.result c.requires.tableau c.loop-position.invariant
+          (subst (λ o. IsRoomAt (with_slots c.args.tableau.now c.args.basis.now) c.loop-position.position o) w.in-Some.is c.in_ok-room.ensures.room) w.lesser-epsilon.ensures)
       | in-None w ↦
-          subst (λ e. IsLeastRoom (with_slots c.args.tableau.now c.args.slots.now) (c.loop-position.position + 1) e) (sym w.epsilon-is)
-          (least_stays (with_slots c.args.tableau.now c.args.slots.now) c.loop-position.position c.loop-position.epsilon c.loop-position.invariant
-          (subst (λ o. IsRoomAt (with_slots c.args.tableau.now c.args.slots.now) c.loop-position.position o) w.in-None.is c.in_ok-room.ensures.room))
+          subst (λ e. IsLeastRoom (with_slots c.args.tableau.now c.args.basis.now) (c.loop-position.position + 1) e) (sym w.epsilon-is)
+          (least_stays (with_slots c.args.tableau.now c.args.basis.now) c.loop-position.position c.loop-position.epsilon c.loop-position.invariant
+          (subst (λ o. IsRoomAt (with_slots c.args.tableau.now c.args.basis.now) c.loop-position.position o) w.in-None.is c.in_ok-room.ensures.room))
     ]
 
 pub returns-clause-epsilon : goal.returns-clause-epsilon
 returns-clause-epsilon c =
-    let past : length c.args.slots.now ≤ c.loop-position.position = omega arith in
-    least_ends (with_slots c.args.tableau.now c.args.slots.now) c.loop-position.position c.loop-position.epsilon c.requires.tableau past c.loop-position.invariant
+    let past : length c.args.basis.now ≤ c.loop-position.position = omega arith in
+    least_ends (with_slots c.args.tableau.now c.args.basis.now) c.loop-position.position c.loop-position.epsilon c.requires.tableau past c.loop-position.invariant

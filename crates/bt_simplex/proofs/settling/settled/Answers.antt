@@ -11,8 +11,8 @@ loop-column-preserved c =
     record {
       count = subst (λ v. length v ≡ c.loop-column.column + 1) items (length_push c.loop-column.values.items c.in-Ok-column_value.value ∙ ap (λ n. n + 1) c.loop-column.invariant.count);
       settled =
-          subst (λ v. (j : ℕ) → j < c.loop-column.column + 1 → IsSettled (with_slots c.args.tableau.now c.args.slots.now) c.in-Ok.epsilon j (value_in v j)) items
-          (settled_more (λ j value. IsSettled (with_slots c.args.tableau.now c.args.slots.now) c.in-Ok.epsilon j value) c.loop-column.values.items c.in-Ok-column_value.value c.loop-column.column c.loop-column.invariant.count
+          subst (λ v. (j : ℕ) → j < c.loop-column.column + 1 → IsSettled (with_slots c.args.tableau.now c.args.basis.now) c.in-Ok.epsilon j (value_in v j)) items
+          (settled_more (λ j value. IsSettled (with_slots c.args.tableau.now c.args.basis.now) c.in-Ok.epsilon j value) c.loop-column.values.items c.in-Ok-column_value.value c.loop-column.column c.loop-column.invariant.count
           c.loop-column.invariant.settled c.in-Ok-column_value.ensures.settled);
     }
   where
@@ -22,5 +22,5 @@ loop-column-preserved c =
 pub returns-clause-meets : goal.returns-clause-meets
 returns-clause-meets c =
     let all : c.loop-column.column ≡ c.args.tableau.now.columns = omega arith in
-    settled_meet (with_slots c.args.tableau.now c.args.slots.now) c.in-Ok.epsilon c.loop-column.values.items c.requires.tableau c.requires.met c.in-Ok.ensures.epsilon (c.loop-column.invariant.count ∙ all)
-    (subst (λ n. (j : ℕ) → j < n → IsSettled (with_slots c.args.tableau.now c.args.slots.now) c.in-Ok.epsilon j (value_in c.loop-column.values.items j)) all c.loop-column.invariant.settled)
+    settled_meet (with_slots c.args.tableau.now c.args.basis.now) c.in-Ok.epsilon c.loop-column.values.items c.requires.tableau c.requires.met c.in-Ok.ensures.epsilon (c.loop-column.invariant.count ∙ all)
+    (subst (λ n. (j : ℕ) → j < n → IsSettled (with_slots c.args.tableau.now c.args.basis.now) c.in-Ok.epsilon j (value_in c.loop-column.values.items j)) all c.loop-column.invariant.settled)

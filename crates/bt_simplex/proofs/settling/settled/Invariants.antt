@@ -7,5 +7,5 @@ use Rattle.bt_simplex.proofs.settling.settled.Given as goal
 abbrev pub invariant-loop-column : goal.invariant-loop-column
 invariant-loop-column l = record {
   count : length l.values.items ≡ l.column;
-  settled : (j : ℕ) → j < l.column → IsSettled (with_slots l.tableau l.slots) l.epsilon j (value_in l.values.items j);
+  settled : (j : ℕ) → j < l.column → IsSettled (with_slots l.tableau l.basis) l.epsilon j (value_in l.values.items j);
 }

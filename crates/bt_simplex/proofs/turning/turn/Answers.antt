@@ -1,40 +1,208 @@
-use Rattle.std.proofs.Common.{◌≡◌, Some, None, sym, ◌∙◌, subst, IfOk, IfErr, set}
-use Rattle.std.proofs.lemmas.List.{get_or_default}
-use Rattle.bt_lin.specs.WeightedRows.{coefficient_at}
+use Rattle.std.proofs.Common.{◌≡◌, ◌<◌, ◌-◌, ◌^◌, ℕ, arith, length, false, set, None, Some, IfOk, IfErr, ap, sym, ◌∙◌, subst}
+use Rattle.std.specs.Vec.{with_items}
+use Rattle.std.proofs.lemmas.List.{with_items_is}
 use Rattle.bt_frac.specs.Ratio.{negated}
+use Rattle.bt_lin.specs.WeightedRows.{coefficient_at}
 use Rattle.bt_simplex.specs.Lines.{one}
-use Rattle.bt_simplex.specs.inner.UnfitTurns.{IsSlotZero, IsUnfitPart, IsUnfitSlot, IsUnfitTurn}
+use Rattle.bt_simplex.specs.Classes.{signed_terms, member_at, position_at, slot_of, slots_of, AreClasses}
 use Rattle.bt_simplex.specs.SolvedForms.{slot_at}
-use Rattle.bt_simplex.proofs.UnfitTurns.{part_unfit, entered_unfit, zero_named}
+use Rattle.bt_simplex.specs.declared.basis.Member.{Member}
+use Rattle.bt_simplex.specs.declared.causes.Cause.{Cause}
+use Rattle.bt_simplex.specs.inner.TurnedSlots.{AreLines, AreSubstituted, with_line, IsEntering, IsTurned}
+use Rattle.bt_simplex.specs.inner.UnfitTurns.{IsSlotZero, IsUnfitLine, IsUnfitTurn}
+use Rattle.bt_simplex.proofs.Classes.{slots_length, read_is, class_in, classes_turned, classes_after, classes_unfit, lines_count}
+use Rattle.bt_simplex.proofs.UnfitTurns.{zero_named}
 use Rattle.bt_simplex.proofs.turning.turn.Goals as goal
 
-pub returns-in-Err-clause-unfit : goal.returns-in-Err-clause-unfit
-returns-in-Err-clause-unfit c =
-    let slot = sym (get_or_default c.args.slots.now c.args.leaves None c.index-slots-leaves.result c.requires.leaves) in
-    let told =
-    subst (λ o. IfErr o (IsUnfitPart (slot_at c.args.slots.now c.args.leaves) c.args.leaves c.args.enters)) c.in-Err.is
-    (subst (λ s. IfErr c.in_ok-zero.field-0 (IsUnfitPart s c.args.leaves c.args.enters)) slot c.in_ok-zero.ensures.unfit) in
-    subst (λ cause. IsUnfitTurn c.args.slots.now c.args.leaves c.args.enters c.args.slots.now cause) (sym c.entry_cause.ensures)
-    (part_unfit c.args.slots.now c.args.leaves c.args.enters c.in-Err.unfit told)
+pub slot_zero-requires-clause-position : goal.slot_zero-requires-clause-position
+slot_zero-requires-clause-position c =
+    let members = c.basis.inside.members.items in
+    let firsts = c.basis.inside.firsts.items in
+    let lines = c.basis.inside.lines.items in
+    let outside = c.basis.inside.outside.items in
+    let many : length c.args.basis.now ≡ length c.basis.inside.members.items = sym (ap length c.basis.view_is) ∙ slots_length (slot_of members lines outside) 0 members in
+    let leaves_in : c.args.leaves < length c.basis.inside.members.items = subst (λ n. c.args.leaves < n) many c.requires.leaves in
+    let enters_in : c.args.enters < length c.basis.inside.members.items = subst (λ n. c.args.enters < n) many c.requires.enters in
+    omega arith
 
-pub enter-requires-clause-number : goal.enter-requires-clause-number
-enter-requires-clause-number c =
-    let slot = sym (get_or_default c.args.slots.now c.args.leaves None c.index-slots-leaves.result c.requires.leaves) in
-    let zero = subst (λ o. IfOk o (IsSlotZero (slot_at c.args.slots.now c.args.leaves) c.args.leaves c.args.enters)) c.in-Ok.is
-    (subst (λ s. IfOk c.in_ok-zero.field-0 (IsSlotZero s c.args.leaves c.args.enters)) slot c.in_ok-zero.ensures.zero) in
+pub entering_line-requires-clause-position : goal.entering_line-requires-clause-position
+entering_line-requires-clause-position c =
+    let members = c.basis.inside.members.items in
+    let firsts = c.basis.inside.firsts.items in
+    let lines = c.basis.inside.lines.items in
+    let outside = c.basis.inside.outside.items in
+    let many : length c.args.basis.now ≡ length c.basis.inside.members.items = sym (ap length c.basis.view_is) ∙ slots_length (slot_of members lines outside) 0 members in
+    let leaves_in : c.args.leaves < length c.basis.inside.members.items = subst (λ n. c.args.leaves < n) many c.requires.leaves in
+    let enters_in : c.args.enters < length c.basis.inside.members.items = subst (λ n. c.args.enters < n) many c.requires.enters in
+    omega arith
+
+pub entering_line-requires-clause-number : goal.entering_line-requires-clause-number
+entering_line-requires-clause-number c =
+    let members = c.basis.inside.members.items in
+    let firsts = c.basis.inside.firsts.items in
+    let lines = c.basis.inside.lines.items in
+    let outside = c.basis.inside.outside.items in
+    let many : length c.args.basis.now ≡ length c.basis.inside.members.items = sym (ap length c.basis.view_is) ∙ slots_length (slot_of members lines outside) 0 members in
+    let leaves_in : c.args.leaves < length c.basis.inside.members.items = subst (λ n. c.args.leaves < n) many c.requires.leaves in
+    let enters_in : c.args.enters < length c.basis.inside.members.items = subst (λ n. c.args.enters < n) many c.requires.enters in
+    let told = subst (λ o. IfOk o (IsSlotZero c.in_ok-slot.slot c.args.leaves c.args.enters)) c.in-Ok.is c.in_ok-zero.ensures.zero in
     subst (λ l. coefficient_at c.args.enters l ≡ Some (negated one)) (sym c.terms.ensures.value)
-    (zero_named c.args.leaves c.args.enters zero.terms zero.number c.in-Ok.zero zero.is_zero c.requires.apart zero.is_line zero.named zero.lacks)
+    (zero_named c.args.leaves c.args.enters told.terms told.number c.in-Ok.zero told.is_zero c.requires.apart told.is_line told.named told.lacks)
 
-pub returns-clause-unfit : goal.returns-clause-unfit
-returns-clause-unfit c =
-    let slot = sym (get_or_default c.args.slots.now c.args.leaves None c.index-slots-leaves.result c.requires.leaves) in
-    let slot' = sym (get_or_default c.args.slots.now c.args.leaves None c.index-slots-leaves-2.result c.requires.leaves) in
-    let zero = subst (λ o. IfOk o (IsSlotZero (slot_at c.args.slots.now c.args.leaves) c.args.leaves c.args.enters)) c.in-Ok.is
-    (subst (λ s. IfOk c.in_ok-zero.field-0 (IsSlotZero s c.args.leaves c.args.enters)) slot c.in_ok-zero.ensures.zero) in
-    let told = subst (λ o. IfErr o (IsUnfitSlot c.args.enters c.terms.result.now (set c.args.slots.now c.args.leaves c.take-leaving.new.self) c.enter.new.slots)) c.in-Err-2.is c.in_ok-enter.ensures.unfit in
-    let told' = subst (λ z. IsUnfitSlot c.args.enters z (set c.args.slots.now c.args.leaves c.take-leaving.new.self) c.enter.new.slots c.in-Err-2.cause) c.terms.ensures.value told in
-    let told'' = subst (λ o. IsUnfitSlot c.args.enters c.in-Ok.zero (set c.args.slots.now c.args.leaves o) c.enter.new.slots c.in-Err-2.cause) c.take-leaving.ensures.after told' in
-    let leaving : c.take-leaving.result ≡ Some zero.terms = c.take-leaving.ensures.value ∙ slot' ∙ zero.slot_is in
-    subst (λ o. IsUnfitTurn c.args.slots.now c.args.leaves c.args.enters (set c.enter.new.slots c.args.leaves o) c.in-Err-2.cause) (sym leaving)
-    (entered_unfit c.args.slots.now c.args.leaves c.args.enters zero.terms zero.number c.in-Ok.zero c.enter.new.slots c.in-Err-2.cause c.requires.leaves zero.slot_is zero.named zero.is_zero c.requires.apart
-    zero.is_line zero.lacks told'')
+pub index-requires : goal.index-requires
+index-requires c =
+    let members = c.basis.inside.members.items in
+    let firsts = c.basis.inside.firsts.items in
+    let lines = c.basis.inside.lines.items in
+    let outside = c.basis.inside.outside.items in
+    let many : length c.args.basis.now ≡ length c.basis.inside.members.items = sym (ap length c.basis.view_is) ∙ slots_length (slot_of members lines outside) 0 members in
+    let leaves_in : c.args.leaves < length c.basis.inside.members.items = subst (λ n. c.args.leaves < n) many c.requires.leaves in
+    let enters_in : c.args.enters < length c.basis.inside.members.items = subst (λ n. c.args.enters < n) many c.requires.enters in
+    omega arith
+
+pub index-requires-2 : goal.index-requires-2
+index-requires-2 c =
+    let members = c.basis.inside.members.items in
+    let firsts = c.basis.inside.firsts.items in
+    let lines = c.basis.inside.lines.items in
+    let outside = c.basis.inside.outside.items in
+    let many : length c.args.basis.now ≡ length c.basis.inside.members.items = sym (ap length c.basis.view_is) ∙ slots_length (slot_of members lines outside) 0 members in
+    let leaves_in : c.args.leaves < length c.basis.inside.members.items = subst (λ n. c.args.leaves < n) many c.requires.leaves in
+    let enters_in : c.args.enters < length c.basis.inside.members.items = subst (λ n. c.args.enters < n) many c.requires.enters in
+    omega arith
+
+pub substitute_others-requires-clause-left : goal.substitute_others-requires-clause-left
+substitute_others-requires-clause-left c =
+    let members = c.basis.inside.members.items in
+    let firsts = c.basis.inside.firsts.items in
+    let lines = c.basis.inside.lines.items in
+    let outside = c.basis.inside.outside.items in
+    let many : length c.args.basis.now ≡ length c.basis.inside.members.items = sym (ap length c.basis.view_is) ∙ slots_length (slot_of members lines outside) 0 members in
+    let leaves_in : c.args.leaves < length c.basis.inside.members.items = subst (λ n. c.args.leaves < n) many c.requires.leaves in
+    let enters_in : c.args.enters < length c.basis.inside.members.items = subst (λ n. c.args.enters < n) many c.requires.enters in
+    let left : member_at members c.args.leaves ≡ c.index-2.result.now = read_is members c.args.leaves (record { class = 0; negated = false }) c.index-2.result.now leaves_in c.index-2.ensures in
+    let left_in = class_in members firsts lines outside c.basis.invariant c.args.leaves c.index-2.result.now leaves_in left in
+    subst (λ l. c.index-2.result.now.class < length l) (sym c.deref_mut.ensures.value) (subst (λ n. c.index-2.result.now.class < n) (sym c.basis.invariant.lines_many) left_in)
+
+pub returns-in-Err-2-clause-unfit : goal.returns-in-Err-2-clause-unfit
+returns-in-Err-2-clause-unfit c =
+    let members = c.basis.inside.members.items in
+    let firsts = c.basis.inside.firsts.items in
+    let lines = c.basis.inside.lines.items in
+    let outside = c.basis.inside.outside.items in
+    let many : length c.args.basis.now ≡ length c.basis.inside.members.items = sym (ap length c.basis.view_is) ∙ slots_length (slot_of members lines outside) 0 members in
+    let leaves_in : c.args.leaves < length c.basis.inside.members.items = subst (λ n. c.args.leaves < n) many c.requires.leaves in
+    let enters_in : c.args.enters < length c.basis.inside.members.items = subst (λ n. c.args.enters < n) many c.requires.enters in
+    let left : member_at members c.args.leaves ≡ c.index-2.result.now = read_is members c.args.leaves (record { class = 0; negated = false }) c.index-2.result.now leaves_in c.index-2.ensures in
+    let left_in = class_in members firsts lines outside c.basis.invariant c.args.leaves c.index-2.result.now leaves_in left in
+    let told = subst (λ o. IfOk o (IsSlotZero c.in_ok-slot.slot c.args.leaves c.args.enters)) c.in-Ok.is c.in_ok-zero.ensures.zero in
+    let zero = subst (λ s. IsSlotZero s c.args.leaves c.args.enters c.in-Ok.zero) (c.in_ok-slot.ensures ∙ ap (λ b. slot_at b c.args.leaves) (sym c.basis.view_is)) told in
+    let sub_items = with_items_is c.basis.inside.lines c.substitute_others.new.lines (c.substitute_others.auto.lines ∙ c.deref_mut.ensures.len) in
+    let unfit0 = subst (λ o. IfErr o (IsUnfitLine c.index-2.result.now.class c.args.enters c.terms-3.result.now c.deref_mut.result.now c.substitute_others.new.lines)) c.in-Err-2.is c.in_ok-substitute_others.ensures.unfit in
+    let unfit1 = subst (λ z. IsUnfitLine c.index-2.result.now.class c.args.enters z c.deref_mut.result.now c.substitute_others.new.lines c.in-Err-2.cause) c.terms-3.ensures.value unfit0 in
+    let unfit2 = subst (λ l. IsUnfitLine c.index-2.result.now.class c.args.enters c.in-Ok.zero l c.substitute_others.new.lines c.in-Err-2.cause) c.deref_mut.ensures.value unfit1 in
+    let unfit = subst (λ (m : Member). IsUnfitLine m.class c.args.enters c.in-Ok.zero lines c.substitute_others.new.lines c.in-Err-2.cause) (sym left) unfit2 in
+    let cause_is = c.at_first.ensures ∙ ap (λ f. at_row c.in-Err-2.cause (position_at f c.in-Err-2.cause.row)) c.deref.ensures.value in
+    subst (λ b. IsUnfitTurn b c.args.leaves c.args.enters (slots_of members (with_items c.basis.inside.lines c.substitute_others.new.lines).items outside) c.at_first.result) c.basis.view_is
+    (subst (λ l. IsUnfitTurn (slots_of members lines outside) c.args.leaves c.args.enters (slots_of members l outside) c.at_first.result) (sym sub_items)
+    (classes_unfit members firsts lines outside c.basis.invariant c.args.leaves c.args.enters c.in-Ok.zero c.substitute_others.new.lines c.in-Err-2.cause leaves_in c.requires.apart zero unfit c.at_first.result cause_is))
+  where
+    at_row : Cause → ℕ → Cause
+    at_row cause row = record cause { row = row }
+
+pub put_line-requires : goal.put_line-requires
+put_line-requires c =
+    let members = c.basis.inside.members.items in
+    let firsts = c.basis.inside.firsts.items in
+    let lines = c.basis.inside.lines.items in
+    let outside = c.basis.inside.outside.items in
+    let many : length c.args.basis.now ≡ length c.basis.inside.members.items = sym (ap length c.basis.view_is) ∙ slots_length (slot_of members lines outside) 0 members in
+    let leaves_in : c.args.leaves < length c.basis.inside.members.items = subst (λ n. c.args.leaves < n) many c.requires.leaves in
+    let enters_in : c.args.enters < length c.basis.inside.members.items = subst (λ n. c.args.enters < n) many c.requires.enters in
+    let into : member_at members c.args.enters ≡ c.index.result.now = read_is members c.args.enters (record { class = 0; negated = false }) c.index.result.now enters_in c.index.ensures in
+    let sub_items = with_items_is c.basis.inside.lines c.substitute_others.new.lines (c.substitute_others.auto.lines ∙ c.deref_mut.ensures.len) in
+    let into_in = class_in members firsts lines outside c.basis.invariant c.args.enters c.index.result.now enters_in into in
+    let count : length c.substitute_others.new.lines ≡ length c.basis.inside.firsts.items = c.substitute_others.auto.lines ∙ ap length c.deref_mut.ensures.value ∙ c.basis.invariant.lines_many in
+    subst (λ l. c.index.result.now.class < length l) (sym (c.deref_mut-2.ensures.value ∙ sub_items)) (subst (λ n. c.index.result.now.class < n) (sym count) into_in)
+
+pub index_mut-requires : goal.index_mut-requires
+index_mut-requires c =
+    let members = c.basis.inside.members.items in
+    let firsts = c.basis.inside.firsts.items in
+    let lines = c.basis.inside.lines.items in
+    let outside = c.basis.inside.outside.items in
+    let many : length c.args.basis.now ≡ length c.basis.inside.members.items = sym (ap length c.basis.view_is) ∙ slots_length (slot_of members lines outside) 0 members in
+    let leaves_in : c.args.leaves < length c.basis.inside.members.items = subst (λ n. c.args.leaves < n) many c.requires.leaves in
+    let enters_in : c.args.enters < length c.basis.inside.members.items = subst (λ n. c.args.enters < n) many c.requires.enters in
+    let left : member_at members c.args.leaves ≡ c.index-2.result.now = read_is members c.args.leaves (record { class = 0; negated = false }) c.index-2.result.now leaves_in c.index-2.ensures in
+    let left_in = class_in members firsts lines outside c.basis.invariant c.args.leaves c.index-2.result.now leaves_in left in
+    let count = c.basis.invariant.outside_many in
+    omega arith
+
+pub invariant_of-basis-2 : goal.invariant_of-basis-2
+invariant_of-basis-2 c =
+    let members = c.basis.inside.members.items in
+    let firsts = c.basis.inside.firsts.items in
+    let lines = c.basis.inside.lines.items in
+    let outside = c.basis.inside.outside.items in
+    let many : length c.args.basis.now ≡ length c.basis.inside.members.items = sym (ap length c.basis.view_is) ∙ slots_length (slot_of members lines outside) 0 members in
+    let leaves_in : c.args.leaves < length c.basis.inside.members.items = subst (λ n. c.args.leaves < n) many c.requires.leaves in
+    let enters_in : c.args.enters < length c.basis.inside.members.items = subst (λ n. c.args.enters < n) many c.requires.enters in
+    let left : member_at members c.args.leaves ≡ c.index-2.result.now = read_is members c.args.leaves (record { class = 0; negated = false }) c.index-2.result.now leaves_in c.index-2.ensures in
+    let left_in = class_in members firsts lines outside c.basis.invariant c.args.leaves c.index-2.result.now leaves_in left in
+    let into : member_at members c.args.enters ≡ c.index.result.now = read_is members c.args.enters (record { class = 0; negated = false }) c.index.result.now enters_in c.index.ensures in
+    let sub_items = with_items_is c.basis.inside.lines c.substitute_others.new.lines (c.substitute_others.auto.lines ∙ c.deref_mut.ensures.len) in
+    let put_items = with_items_is (with_items c.basis.inside.lines c.substitute_others.new.lines) c.put_line.new.lines (c.put_line.auto.lines ∙ c.deref_mut-2.ensures.len) in
+    let told = subst (λ o. IfOk o (IsSlotZero c.in_ok-slot.slot c.args.leaves c.args.enters)) c.in-Ok.is c.in_ok-zero.ensures.zero in
+    let zero = subst (λ s. IsSlotZero s c.args.leaves c.args.enters c.in-Ok.zero) (c.in_ok-slot.ensures ∙ ap (λ b. slot_at b c.args.leaves) (sym c.basis.view_is)) told in
+    let changed0 = subst (λ o. IfOk o (λ d. AreSubstituted c.args.enters c.terms-3.result.now (set c.deref_mut.result.now c.index-2.result.now.class None) c.substitute_others.new.lines)) c.in-Ok-2.is c.in_ok-substitute_others.ensures.done in
+    let changed1 = subst (λ z. AreSubstituted c.args.enters z (set c.deref_mut.result.now c.index-2.result.now.class None) c.substitute_others.new.lines) c.terms-3.ensures.value changed0 in
+    let changed2 = subst (λ l. AreSubstituted c.args.enters c.in-Ok.zero (set l c.index-2.result.now.class None) c.substitute_others.new.lines) c.deref_mut.ensures.value changed1 in
+    let changed = subst (λ (m : Member). AreSubstituted c.args.enters c.in-Ok.zero (set lines m.class None) c.substitute_others.new.lines) (sym left) changed2 in
+    let line_is = c.in_ok-line.ensures ∙ ap (λ l. signed_terms c.index.result.now.negated l) c.terms-2.ensures.value in
+    let entered =
+    c.put_line.ensures ∙ ap (λ l. with_line c.index-2.result.now.class c.index.result.now.class l c.deref_mut-2.result.now) line_is
+    ∙ ap (λ l. with_line c.index-2.result.now.class c.index.result.now.class (signed_terms c.index.result.now.negated c.in_ok-entering.entering) l) (c.deref_mut-2.ensures.value ∙ sub_items)
+    ∙ ap (λ (m : Member). with_line m.class c.index.result.now.class (signed_terms c.index.result.now.negated c.in_ok-entering.entering) c.substitute_others.new.lines) (sym left)
+    ∙ ap (λ (m : Member). with_line (member_at members c.args.leaves).class m.class (signed_terms m.negated c.in_ok-entering.entering) c.substitute_others.new.lines) (sym into) in
+    let fits : c.args.leaves < 2 ^ 64 - 1 = omega arith in
+    let count = lines_count members firsts lines outside c.basis.invariant c.args.leaves c.args.enters c.in-Ok.zero c.in_ok-entering.entering c.substitute_others.new.lines c.put_line.new.lines leaves_in enters_in c.requires.apart
+    (subst (λ b. AreLines b) (sym c.basis.view_is) c.requires.lines) (ap (λ b. slot_at b c.args.enters) c.basis.view_is ∙ c.requires.outside) fits zero
+    (subst (λ z. IsEntering c.args.enters z c.in_ok-entering.entering) c.terms.ensures.value c.in_ok-entering.ensures) changed entered in
+    let after = classes_after members firsts lines outside c.basis.invariant c.put_line.new.lines c.args.leaves count leaves_in in
+    let after' = subst (λ (m : Member). AreClasses members firsts c.put_line.new.lines (set outside m.class c.args.leaves)) left after in
+    subst (λ l. AreClasses members firsts l (set outside c.index-2.result.now.class c.args.leaves)) (sym put_items) after'
+
+pub returns-clause-done : goal.returns-clause-done
+returns-clause-done c =
+    let members = c.basis.inside.members.items in
+    let firsts = c.basis.inside.firsts.items in
+    let lines = c.basis.inside.lines.items in
+    let outside = c.basis.inside.outside.items in
+    let many : length c.args.basis.now ≡ length c.basis.inside.members.items = sym (ap length c.basis.view_is) ∙ slots_length (slot_of members lines outside) 0 members in
+    let leaves_in : c.args.leaves < length c.basis.inside.members.items = subst (λ n. c.args.leaves < n) many c.requires.leaves in
+    let enters_in : c.args.enters < length c.basis.inside.members.items = subst (λ n. c.args.enters < n) many c.requires.enters in
+    let left : member_at members c.args.leaves ≡ c.index-2.result.now = read_is members c.args.leaves (record { class = 0; negated = false }) c.index-2.result.now leaves_in c.index-2.ensures in
+    let left_in = class_in members firsts lines outside c.basis.invariant c.args.leaves c.index-2.result.now leaves_in left in
+    let into : member_at members c.args.enters ≡ c.index.result.now = read_is members c.args.enters (record { class = 0; negated = false }) c.index.result.now enters_in c.index.ensures in
+    let sub_items = with_items_is c.basis.inside.lines c.substitute_others.new.lines (c.substitute_others.auto.lines ∙ c.deref_mut.ensures.len) in
+    let put_items = with_items_is (with_items c.basis.inside.lines c.substitute_others.new.lines) c.put_line.new.lines (c.put_line.auto.lines ∙ c.deref_mut-2.ensures.len) in
+    let told = subst (λ o. IfOk o (IsSlotZero c.in_ok-slot.slot c.args.leaves c.args.enters)) c.in-Ok.is c.in_ok-zero.ensures.zero in
+    let zero = subst (λ s. IsSlotZero s c.args.leaves c.args.enters c.in-Ok.zero) (c.in_ok-slot.ensures ∙ ap (λ b. slot_at b c.args.leaves) (sym c.basis.view_is)) told in
+    let changed0 = subst (λ o. IfOk o (λ d. AreSubstituted c.args.enters c.terms-3.result.now (set c.deref_mut.result.now c.index-2.result.now.class None) c.substitute_others.new.lines)) c.in-Ok-2.is c.in_ok-substitute_others.ensures.done in
+    let changed1 = subst (λ z. AreSubstituted c.args.enters z (set c.deref_mut.result.now c.index-2.result.now.class None) c.substitute_others.new.lines) c.terms-3.ensures.value changed0 in
+    let changed2 = subst (λ l. AreSubstituted c.args.enters c.in-Ok.zero (set l c.index-2.result.now.class None) c.substitute_others.new.lines) c.deref_mut.ensures.value changed1 in
+    let changed = subst (λ (m : Member). AreSubstituted c.args.enters c.in-Ok.zero (set lines m.class None) c.substitute_others.new.lines) (sym left) changed2 in
+    let line_is = c.in_ok-line.ensures ∙ ap (λ l. signed_terms c.index.result.now.negated l) c.terms-2.ensures.value in
+    let entered =
+    c.put_line.ensures ∙ ap (λ l. with_line c.index-2.result.now.class c.index.result.now.class l c.deref_mut-2.result.now) line_is
+    ∙ ap (λ l. with_line c.index-2.result.now.class c.index.result.now.class (signed_terms c.index.result.now.negated c.in_ok-entering.entering) l) (c.deref_mut-2.ensures.value ∙ sub_items)
+    ∙ ap (λ (m : Member). with_line m.class c.index.result.now.class (signed_terms c.index.result.now.negated c.in_ok-entering.entering) c.substitute_others.new.lines) (sym left)
+    ∙ ap (λ (m : Member). with_line (member_at members c.args.leaves).class m.class (signed_terms m.negated c.in_ok-entering.entering) c.substitute_others.new.lines) (sym into) in
+    let fits : c.args.leaves < 2 ^ 64 - 1 = omega arith in
+    let turned = classes_turned members firsts lines outside c.basis.invariant c.args.leaves c.args.enters c.in-Ok.zero c.in_ok-entering.entering c.substitute_others.new.lines c.put_line.new.lines leaves_in enters_in c.requires.apart
+    (subst (λ b. AreLines b) (sym c.basis.view_is) c.requires.lines) (ap (λ b. slot_at b c.args.enters) c.basis.view_is ∙ c.requires.outside) fits zero
+    (subst (λ z. IsEntering c.args.enters z c.in_ok-entering.entering) c.terms.ensures.value c.in_ok-entering.ensures) changed entered in
+    let turned' = subst (λ (m : Member). IsTurned (slots_of members lines outside) c.args.leaves c.args.enters (slots_of members c.put_line.new.lines (set outside m.class c.args.leaves))) left turned in
+    let turned'' = subst (λ l. IsTurned (slots_of members lines outside) c.args.leaves c.args.enters (slots_of members l (set outside c.index-2.result.now.class c.args.leaves))) (sym put_items) turned' in
+    subst (λ b. IsTurned b c.args.leaves c.args.enters (slots_of members (with_items (with_items c.basis.inside.lines c.substitute_others.new.lines) c.put_line.new.lines).items (set outside c.index-2.result.now.class c.args.leaves))) c.basis.view_is turned''

@@ -9,30 +9,26 @@ use Rattle.bt_simplex.proofs.tableau.Tableau.check.Goals as goal
 
 pub settled-requires-clause-met : goal.settled-requires-clause-met
 settled-requires-clause-met c =
-    subst (λ s. IsMet (with_slots c.args.self.now s)) (sym c.deref-in-Met.ensures.value)
-    (met_met c.args.pivots c.args.self.now c.in_ok-start.start.items c.in_ok-turns.field-0 (c.in_ok-start.ensures ∙ c.deref.ensures.value ∙ ap (λ u. u.slots) c.self.view_is) c.in_ok-turns.ensures c.in-Met.is)
+    (met_met c.args.pivots c.args.self.now c.in_ok-start.start c.in_ok-turns.field-0 (c.in_ok-start.ensures ∙ ap (λ u. u.slots) c.self.view_is) c.in_ok-turns.ensures c.in-Met.is)
 
 pub settled-requires-clause-tableau : goal.settled-requires-clause-tableau
 settled-requires-clause-tableau c =
-    subst (λ s. IsTableau (with_slots c.args.self.now s)) (sym c.deref-in-Met.ensures.value)
-    (met_tableau c.args.pivots c.args.self.now c.in_ok-start.start.items c.in_ok-turns.field-0 (c.in_ok-start.ensures ∙ c.deref.ensures.value ∙ ap (λ u. u.slots) c.self.view_is) c.in_ok-turns.ensures c.in-Met.is)
+    (met_tableau c.args.pivots c.args.self.now c.in_ok-start.start c.in_ok-turns.field-0 (c.in_ok-start.ensures ∙ ap (λ u. u.slots) c.self.view_is) c.in_ok-turns.ensures c.in-Met.is)
 
 pub returns-in-Ok-clause-checked : goal.returns-in-Ok-clause-checked
 returns-in-Ok-clause-checked c =
-    let after = sym (ap (λ u. with_slots u c.in_ok-turns.field-0.slots.items) c.self.view_is) in
+    let after = sym (ap (λ u. with_slots u c.in_ok-turns.field-0.basis) c.self.view_is) in
     let told =
-    subst (λ o. IfOk o (λ v. MeetsBoundRows (with_slots c.args.self.now c.deref-in-Met.result.now) v.items)) c.in-Ok.is c.in_ok-values-in-Met.ensures.meets in (
-      subst (λ (u : TableauParts). LeadsTo c.args.pivots c.args.self.now u) after (met_leads c.args.pivots c.args.self.now c.in_ok-start.start.items c.in_ok-turns.field-0 (c.in_ok-start.ensures ∙ c.deref.ensures.value ∙ ap (λ u. u.slots) c.self.view_is) c.in_ok-turns.ensures c.in-Met.is),
-      subst (λ (u : TableauParts). IsMet u) after (met_met c.args.pivots c.args.self.now c.in_ok-start.start.items c.in_ok-turns.field-0 (c.in_ok-start.ensures ∙ c.deref.ensures.value ∙ ap (λ u. u.slots) c.self.view_is) c.in_ok-turns.ensures c.in-Met.is),
+    subst (λ o. IfOk o (λ v. MeetsBoundRows (with_slots c.args.self.now c.in_ok-turns.field-0.basis) v.items)) c.in-Ok.is c.in_ok-values-in-Met.ensures.meets in (
+      subst (λ (u : TableauParts). LeadsTo c.args.pivots c.args.self.now u) after (met_leads c.args.pivots c.args.self.now c.in_ok-start.start c.in_ok-turns.field-0 (c.in_ok-start.ensures ∙ ap (λ u. u.slots) c.self.view_is) c.in_ok-turns.ensures c.in-Met.is),
+      subst (λ (u : TableauParts). IsMet u) after (met_met c.args.pivots c.args.self.now c.in_ok-start.start c.in_ok-turns.field-0 (c.in_ok-start.ensures ∙ ap (λ u. u.slots) c.self.view_is) c.in_ok-turns.ensures c.in-Met.is),
       record { columns = told.columns; holds = told.holds },
     )
 
 pub lemma-requires-clause-tableau : goal.lemma-requires-clause-tableau
 lemma-requires-clause-tableau c =
-    subst (λ s. IsTableau (with_slots c.args.self.now s)) (sym c.deref-in-Stuck.ensures.value)
-    (stuck_tableau c.args.pivots c.args.self.now c.in_ok-start.start.items c.in_ok-turns.field-0 (c.in_ok-start.ensures ∙ c.deref.ensures.value ∙ ap (λ u. u.slots) c.self.view_is) c.in_ok-turns.ensures c.in-Stuck.position c.in-Stuck.is)
+    (stuck_tableau c.args.pivots c.args.self.now c.in_ok-start.start c.in_ok-turns.field-0 (c.in_ok-start.ensures ∙ ap (λ u. u.slots) c.self.view_is) c.in_ok-turns.ensures c.in-Stuck.position c.in-Stuck.is)
 
 pub lemma-requires-clause-stuck : goal.lemma-requires-clause-stuck
 lemma-requires-clause-stuck c =
-    subst (λ s. IsStuckAt (with_slots c.args.self.now s) c.in-Stuck.position) (sym c.deref-in-Stuck.ensures.value)
-    (stuck_stuck c.args.pivots c.args.self.now c.in_ok-start.start.items c.in_ok-turns.field-0 (c.in_ok-start.ensures ∙ c.deref.ensures.value ∙ ap (λ u. u.slots) c.self.view_is) c.in_ok-turns.ensures c.in-Stuck.position c.in-Stuck.is)
+    (stuck_stuck c.args.pivots c.args.self.now c.in_ok-start.start c.in_ok-turns.field-0 (c.in_ok-start.ensures ∙ ap (λ u. u.slots) c.self.view_is) c.in_ok-turns.ensures c.in-Stuck.position c.in-Stuck.is)
