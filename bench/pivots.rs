@@ -1,7 +1,9 @@
 // The turns of bench/pivots.sh in plain Rust: the rows of the flow formula of a network on standard input and `unlimited`,
 // some of which are bound or let go before each check, and Bland's turns from the basis on. Fractions of i128, with a
-// short path for parts of 63 bits. Prints how many checks find values, and the turns.
+// short path for parts of 63 bits, and one line for each class of positions whose terms are the same up to the sign. Prints
+// how many checks find values, and the turns.
 use std::cmp::Ordering;
+use std::collections::HashMap;
 use std::io::Read;
 
 const ALWAYS: usize = 108;
@@ -138,19 +140,45 @@ fn combined(line: &Line, number: Frac, other: &Line) -> Line {
     sum
 }
 
+/// What stands at a class of positions whose terms are the same up to the sign: one line, where all of them are in the
+/// basis, or else the one that isn't.
+enum Held {
+    Line(Line),
+    Outside(usize),
+}
+
 struct Tableau {
     rows: Vec<Row>,
     columns: usize,
     bound: Vec<bool>,
-    slots: Vec<Option<Line>>,
+    /// For each position its class, and whether its terms have the other sign there.
+    members: Vec<(usize, bool)>,
+    held: Vec<Held>,
     turns: u64,
+}
+
+fn signed(negated: bool, number: Frac) -> Frac {
+    if negated { number.negate() } else { number }
 }
 
 impl Tableau {
     fn new(rows: Vec<Row>, columns: usize) -> Tableau {
-        let lines = rows.iter().map(|row| Some(row.terms.clone()));
-        let slots = std::iter::repeat_with(|| None).take(columns).chain(lines).collect();
-        Tableau { columns, bound: vec![false; rows.len()], slots, turns: 0, rows }
+        let mut members: Vec<(usize, bool)> = (0..columns).map(|column| (column, false)).collect();
+        let mut held: Vec<Held> = (0..columns).map(Held::Outside).collect();
+        let mut classes = HashMap::new();
+        for row in &rows {
+            let negated = row.terms[0].1.over < 0;
+            let terms: Vec<(usize, i128)> = row.terms.iter().map(|(column, number)| (*column, signed(negated, *number).over)).collect();
+            let class = match terms[..] {
+                [(column, 1)] => column,
+                _ => *classes.entry(terms).or_insert_with(|| {
+                    held.push(Held::Line(row.terms.iter().map(|(column, number)| (*column, signed(negated, *number))).collect()));
+                    held.len() - 1
+                }),
+            };
+            members.push((class, negated));
+        }
+        Tableau { columns, bound: vec![false; rows.len()], members, held, turns: 0, rows }
     }
 
     fn bound_row(&self, position: usize) -> Option<&Row> {
@@ -169,12 +197,37 @@ impl Tableau {
         })
     }
 
+    fn rest(&self, position: usize) -> Delta {
+        self.bound_row(position).map_or((ZERO, ZERO), Row::rest)
+    }
+
+    /// Where a position stands.
+    fn stands(&self, position: usize) -> Delta {
+        let (class, negated) = self.members[position];
+        let (at, negated) = match &self.held[class] {
+            Held::Line(line) => (self.point(line), negated),
+            Held::Outside(other) => (self.rest(*other), negated != self.members[*other].1),
+        };
+        (signed(negated, at.0), signed(negated, at.1))
+    }
+
+    /// The line of a position of the basis.
+    fn line(&self, position: usize) -> Line {
+        let (class, negated) = self.members[position];
+        match &self.held[class] {
+            Held::Line(line) => line.iter().map(|(other, number)| (*other, signed(negated, *number))).collect(),
+            Held::Outside(other) => vec![(*other, signed(negated != self.members[*other].1, ONE))],
+        }
+    }
+
     /// The least position that fails, with its point.
     fn leaving(&self) -> Option<(usize, Delta)> {
-        (self.columns..self.slots.len()).find_map(|position| {
-            let line = self.slots[position].as_ref()?;
+        (self.columns..self.members.len()).find_map(|position| {
             let row = self.bound_row(position)?;
-            let point = self.point(line);
+            if matches!(self.held[self.members[position].0], Held::Outside(other) if other == position) {
+                return None;
+            }
+            let point = self.stands(position);
             let fails = match compare(point, row.rest()) {
                 Ordering::Less => true,
                 Ordering::Equal => false,
@@ -184,9 +237,8 @@ impl Tableau {
         })
     }
 
-    fn entering(&self, leaves: usize, point: Delta) -> Option<usize> {
+    fn entering(&self, leaves: usize, point: Delta, line: &Line) -> Option<usize> {
         let rises = compare(point, self.bound_row(leaves)?.rest()) == Ordering::Less;
-        let line = self.slots[leaves].as_ref()?;
         line.iter().find_map(|(position, number)| {
             let may = match self.bound_row(*position) {
                 Some(other) => other.relation != Relation::Equal && (number.over > 0) == rises,
@@ -196,50 +248,49 @@ impl Tableau {
         })
     }
 
-    fn turn(&mut self, leaves: usize, enters: usize) {
-        let line = self.slots[leaves].take().unwrap();
+    fn turn(&mut self, leaves: usize, enters: usize, line: &Line) {
         let number = line[line.binary_search_by_key(&enters, |term| term.0).unwrap()].1;
         let zero: Line = line.iter().map(|(position, other)| (*position, other.div(number).negate())).collect();
         let zero = combined(&vec![(leaves, ONE.div(number))], ONE, &zero);
-        for slot in self.slots.iter_mut().flatten() {
-            if let Ok(place) = slot.binary_search_by_key(&enters, |term| term.0) {
-                *slot = combined(slot, slot[place].1, &zero);
+        let ((left, _), (entered, negated)) = (self.members[leaves], self.members[enters]);
+        self.held[left] = Held::Outside(leaves);
+        for held in &mut self.held {
+            let Held::Line(line) = held else { continue };
+            if let Ok(place) = line.binary_search_by_key(&enters, |term| term.0) {
+                *line = combined(line, line[place].1, &zero);
             }
         }
-        self.slots[enters] = Some(combined(&vec![(enters, ONE)], ONE, &zero));
+        if left != entered {
+            let line = combined(&vec![(enters, ONE)], ONE, &zero);
+            self.held[entered] = Held::Line(line.into_iter().map(|(other, number)| (other, signed(negated, number))).collect());
+        }
         self.turns += 1;
     }
 
     /// The values of the columns, where nothing fails.
     fn values(&self) -> Vec<Frac> {
-        let point = |position: usize| match (&self.slots[position], self.bound_row(position)) {
-            (Some(line), _) => self.point(line),
-            (None, Some(row)) => row.rest(),
-            (None, None) => (ZERO, ZERO),
-        };
         let mut tiny = ONE;
-        for position in self.columns..self.slots.len() {
+        for position in self.columns..self.members.len() {
             if let Some(row) = self.bound_row(position) {
-                let at = point(position);
+                let at = self.stands(position);
                 if at.1.over < 0 && row.bound.compare(at.0) == Ordering::Less {
                     let room = at.0.add(row.bound.negate()).div(at.1.negate()).mul(HALF);
                     tiny = if room.compare(tiny) == Ordering::Less { room } else { tiny };
                 }
             }
         }
-        (0..self.columns).map(|column| point(column)).map(|at| at.0.add(tiny.mul(at.1))).collect()
+        (0..self.columns).map(|column| self.stands(column)).map(|at| at.0.add(tiny.mul(at.1))).collect()
     }
 
     /// Values that meet the bound rows, or the weights of rows that none meet.
     fn check(&mut self) -> Result<Vec<Frac>, Line> {
         while let Some((leaves, point)) = self.leaving() {
-            match self.entering(leaves, point) {
-                Some(enters) => self.turn(leaves, enters),
+            let line = self.line(leaves);
+            match self.entering(leaves, point, &line) {
+                Some(enters) => self.turn(leaves, enters, &line),
                 None => {
                     let rises = compare(point, self.bound_row(leaves).unwrap().rest()) == Ordering::Less;
-                    let line = self.slots[leaves].as_ref().unwrap();
-                    let sign = |number: Frac| if rises { number.negate() } else { number };
-                    return Err(line.iter().map(|(position, number)| (*position, sign(*number))).collect());
+                    return Err(line.iter().map(|(position, number)| (*position, signed(rises, *number))).collect());
                 }
             }
         }
