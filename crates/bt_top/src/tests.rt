@@ -9,6 +9,7 @@ mod designs;
 mod large;
 mod layouts;
 mod networks;
+mod own_requests;
 mod states;
 
 use crate::run;

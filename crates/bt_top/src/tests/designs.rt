@@ -7,7 +7,7 @@ pub const FOUR_TO_FOUR: [&str; 8] = [
     "^^.^^", "[].[]", "^^<^^", "^.uu^", "^>>>^", "^^UU.", "[][].", "^^^^.",
 ];
 
-const FOUR_TO_FOUR_NETWORK: &str =
+pub const FOUR_TO_FOUR_NETWORK: &str =
     "net 4 4 4\nedge i0 s2\nedge i1 s2\nedge i2 s3\nedge i3 s3\nedge s0 o0\nedge s0 o1\nedge s1 o2\nedge s1 o3\nedge s2 s0\nedge s2 s1\nedge s3 s0\nedge s3 s1\nend\n";
 
 const EIGHT_TO_EIGHT: [&str; 18] = [
@@ -40,13 +40,15 @@ fn entity_of(symbol: u8) -> Option<&'static str> {
         b'<' => Some("transport-belt\",\"direction\":6"),
         b'U' => Some("underground-belt\",\"type\":\"input\",\"direction\":0"),
         b'u' => Some("underground-belt\",\"type\":\"output\",\"direction\":0"),
+        b'E' => Some("underground-belt\",\"type\":\"input\",\"direction\":2"),
+        b'e' => Some("underground-belt\",\"type\":\"output\",\"direction\":2"),
         b'[' => Some("splitter\",\"direction\":0"),
         _ => None,
     }
 }
 
 /// The blueprint of a map: rows of cells from north to south, where `[` is the west half of a splitter
-/// that faces north, and `U` and `u` are an entrance and an exit to the north.
+/// that faces north, `U` and `u` are an entrance and an exit to the north, and `E` and `e` to the east.
 pub fn blueprint_of(alloc: Global, tier: &str, rows: &[&str]) -> Result<Vec<u8>, Fail> {
     let mut json = Vec::from_slice(alloc, b"{\"blueprint\":{\"entities\":[")?;
     let mut separator = "";
