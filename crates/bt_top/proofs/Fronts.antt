@@ -46,7 +46,7 @@ begins_same [] more some = absurd (omega arith)
 begins_same (b ∷ rest) more some = refl
 
 -- behind the blanks of a text stands what stood there, and more, where something stood there
-skips_on : (text rest more : List ℕ) → 0 < length rest → SkipsBlanks text rest → SkipsBlanks (text ++ more) (rest ++ more)
+pub skips_on : (text rest more : List ℕ) → 0 < length rest → SkipsBlanks text rest → SkipsBlanks (text ++ more) (rest ++ more)
 skips_on text rest more some s = record {
   blanks = s.blanks;
   are_blanks = s.are_blanks;
@@ -55,7 +55,7 @@ skips_on text rest more some s = record {
 }
 
 -- a text that a byte splits has a byte
-has_some : (byte : ℕ) (text front back : List ℕ) → SplitsAt byte text front back → 0 < length text
+pub has_some : (byte : ℕ) (text front back : List ℕ) → SplitsAt byte text front back → 0 < length text
 has_some byte text front back s = omega (arith, ap length s.text_is, length-append front (byte ∷ back))
 
 -- a design, blanks and a line that says yes are a front of a certificate

@@ -6,6 +6,7 @@ pub mod InputsTold
 pub mod Ended
 pub mod Certified
 pub mod LongerDesigns
+pub mod LongerRequests
 pub mod Followed
 pub mod Rechecked
 pub mod RecheckedLayouts
@@ -15,4 +16,5 @@ pub mod NoneCertified
 pub mod Grids
 pub mod LaidOut
 pub mod Fronts
+pub mod NoneFronts
 pub mod Budgets

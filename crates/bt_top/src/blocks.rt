@@ -147,7 +147,7 @@ fn steps_from<S: Source>(
 }
 
 /// The answer where the steps are no certificate, or why they could not be read.
-fn steps_told(fault: CertFault) -> Result<Answer, ReadAll>
+pub fn steps_told(fault: CertFault) -> Result<Answer, ReadAll>
     ensures { result ≡ steps_told fault }
 {
     match fault {

@@ -18,6 +18,7 @@ mod input;
 mod law;
 mod laying;
 mod making;
+mod none_blocks;
 mod none_certificate;
 mod printing;
 mod program;

@@ -19,6 +19,7 @@ use crate::flow_check::check;
 use crate::input::read_input;
 use crate::laying::laid_out;
 use crate::making::make;
+use crate::none_blocks::layout_checked_from;
 use crate::none_certificate::layout_checked;
 use crate::printing::{print_made, print_nowhere, print_proof, print_spent};
 use crate::recover::recovered;
@@ -94,6 +95,7 @@ fn answer_of<S: Source>(
 {
     match command {
         Command::Check(property) => certified_from(alloc, property, source),
+        Command::CheckLayout(rect, tier) => layout_checked_from(alloc, rect, tier, source),
         _ => whole_answer(alloc, command, source, choosers),
     }
 }
