@@ -1,7 +1,8 @@
 // The turns of bench/pivots.sh in plain Rust: the rows of the flow formula of a network on standard input and `unlimited`,
-// some of which are bound or let go before each check, and Bland's turns from the basis on. Fractions of i128, with a
-// short path for parts of 63 bits, and one line for each class of positions whose terms are the same up to the sign. Prints
-// how many checks find values, and the turns.
+// some of which are bound or let go before each check, and Bland's turns from the basis on. A line has whole numbers below
+// 2^31 over one denominator, and there is one for each class of positions whose terms are the same up to the sign.
+// Fractions of i128, with a short path for parts of 63 bits, are for the values alone. Prints how many checks find values,
+// and the turns.
 use std::cmp::Ordering;
 use std::collections::HashMap;
 use std::io::Read;
@@ -15,7 +16,6 @@ struct Frac {
     under: i128,
 }
 
-const ZERO: Frac = Frac { over: 0, under: 1 };
 const ONE: Frac = Frac { over: 1, under: 1 };
 const HALF: Frac = Frac { over: 1, under: 2 };
 
@@ -99,45 +99,71 @@ enum Relation {
     Equal,
 }
 
-type Line = Vec<(usize, Frac)>;
+type Terms = Vec<(usize, i64)>;
+
+/// Numbers at positions, over one denominator.
+#[derive(Clone)]
+struct Line {
+    terms: Terms,
+    under: i64,
+}
+
+impl Line {
+    /// The same numbers, without a common divisor of all of them and the denominator.
+    fn lowest(mut self) -> Line {
+        let common = self.terms.iter().fold(self.under, |common, term| gcd_short(term.1.unsigned_abs(), common as u64) as i64);
+        self.terms.iter_mut().for_each(|term| term.1 /= common);
+        self.under /= common;
+        self
+    }
+}
 
 struct Row {
-    terms: Line,
+    terms: Terms,
     relation: Relation,
-    bound: Frac,
+    bound: i64,
 }
 
-/// A value and a multiple of the infinitesimal.
-type Delta = (Frac, Frac);
-
-fn compare(a: Delta, b: Delta) -> Ordering {
-    a.0.compare(b.0).then_with(|| a.1.compare(b.1))
-}
+/// A value and a multiple of the infinitesimal, over a denominator that is told beside them.
+type Delta = (i64, i64);
 
 impl Row {
     fn rest(&self) -> Delta {
-        (self.bound, if self.relation == Relation::Above { ONE } else { ZERO })
+        (self.bound, i64::from(self.relation == Relation::Above))
     }
 }
 
-/// The sum of a line and a number of times another.
-fn combined(line: &Line, number: Frac, other: &Line) -> Line {
-    let (mut sum, mut left, mut right) = (Vec::with_capacity(line.len() + other.len()), 0, 0);
-    while left < line.len() || right < other.len() {
-        let at = |line: &Line, place: usize| line.get(place).map_or(usize::MAX, |term| term.0);
-        let (a, b) = (at(line, left), at(other, right));
-        let mut term = if a <= b { line[left] } else { (b, ZERO) };
+/// A number that a line may have.
+fn fitting(number: i64) -> i64 {
+    assert!(number.unsigned_abs() < 1 << 31, "a number leaves 2^31");
+    number
+}
+
+/// The line, with what a position stands for by the zero line in place of the position, which has this number there. The
+/// room is that of the new terms.
+fn merged(mut room: Terms, line: &Line, number: i64, zero: &Line) -> Line {
+    let common = gcd_short(number.unsigned_abs(), zero.under.unsigned_abs()) as i64;
+    let (times, other_times) = (zero.under / common, number / common);
+    room.clear();
+    room.reserve(line.terms.len() + zero.terms.len());
+    let (mut left, mut right) = (0, 0);
+    while left < line.terms.len() || right < zero.terms.len() {
+        let at = |line: &Line, place: usize| line.terms.get(place).map_or(usize::MAX, |term| term.0);
+        let (a, b) = (at(line, left), at(zero, right));
+        let mut sum = 0;
+        if a <= b {
+            sum += line.terms[left].1 * times;
+            left += 1;
+        }
         if b <= a {
-            let product = number.mul(other[right].1);
-            term.1 = if a == b { term.1.add(product) } else { product };
+            sum += zero.terms[right].1 * other_times;
             right += 1;
         }
-        left += usize::from(a <= b);
-        if term.1.over != 0 {
-            sum.push(term);
+        if sum != 0 {
+            room.push((a.min(b), fitting(sum)));
         }
     }
-    sum
+    Line { terms: room, under: fitting(line.under * times) }
 }
 
 /// What stands at a class of positions whose terms are the same up to the sign: one line, where all of them are in the
@@ -157,8 +183,13 @@ struct Tableau {
     turns: u64,
 }
 
-fn signed(negated: bool, number: Frac) -> Frac {
-    if negated { number.negate() } else { number }
+fn signed(negated: bool, number: i64) -> i64 {
+    if negated { -number } else { number }
+}
+
+/// The terms, with the other sign where this is told.
+fn signed_terms(negated: bool, terms: &[(usize, i64)]) -> Terms {
+    terms.iter().map(|(position, number)| (*position, signed(negated, *number))).collect()
 }
 
 impl Tableau {
@@ -167,12 +198,12 @@ impl Tableau {
         let mut held: Vec<Held> = (0..columns).map(Held::Outside).collect();
         let mut classes = HashMap::new();
         for row in &rows {
-            let negated = row.terms[0].1.over < 0;
-            let terms: Vec<(usize, i128)> = row.terms.iter().map(|(column, number)| (*column, signed(negated, *number).over)).collect();
+            let negated = row.terms[0].1 < 0;
+            let terms = signed_terms(negated, &row.terms);
             let class = match terms[..] {
                 [(column, 1)] => column,
-                _ => *classes.entry(terms).or_insert_with(|| {
-                    held.push(Held::Line(row.terms.iter().map(|(column, number)| (*column, signed(negated, *number))).collect()));
+                _ => *classes.entry(terms.clone()).or_insert_with(|| {
+                    held.push(Held::Line(Line { terms, under: 1 }));
                     held.len() - 1
                 }),
             };
@@ -186,62 +217,56 @@ impl Tableau {
         if self.bound[row] { Some(&self.rows[row]) } else { None }
     }
 
-    fn point(&self, line: &Line) -> Delta {
-        line.iter().fold((ZERO, ZERO), |sum, (position, number)| match self.bound_row(*position) {
-            Some(row) => {
-                let (value, tiny) = row.rest();
-                let value = if value.over == 0 { sum.0 } else { sum.0.add(number.mul(value)) };
-                (value, if tiny.over == 0 { sum.1 } else { sum.1.add(number.mul(tiny)) })
-            }
-            None => sum,
-        })
-    }
-
     fn rest(&self, position: usize) -> Delta {
-        self.bound_row(position).map_or((ZERO, ZERO), Row::rest)
+        self.bound_row(position).map_or((0, 0), Row::rest)
     }
 
-    /// Where a position stands.
-    fn stands(&self, position: usize) -> Delta {
+    /// Where a position stands, and over which denominator.
+    fn stands(&self, position: usize) -> (Delta, i64) {
         let (class, negated) = self.members[position];
-        let (at, negated) = match &self.held[class] {
-            Held::Line(line) => (self.point(line), negated),
-            Held::Outside(other) => (self.rest(*other), negated != self.members[*other].1),
-        };
-        (signed(negated, at.0), signed(negated, at.1))
+        match &self.held[class] {
+            Held::Line(line) => {
+                let (value, tiny) = line.terms.iter().fold((0, 0), |sum: Delta, (position, number)| {
+                    let rest = self.rest(*position);
+                    (sum.0 + number * rest.0, sum.1 + number * rest.1)
+                });
+                ((signed(negated, value), signed(negated, tiny)), line.under)
+            }
+            Held::Outside(other) => {
+                let (negated, rest) = (negated != self.members[*other].1, self.rest(*other));
+                ((signed(negated, rest.0), signed(negated, rest.1)), 1)
+            }
+        }
     }
 
     /// The line of a position of the basis.
     fn line(&self, position: usize) -> Line {
         let (class, negated) = self.members[position];
         match &self.held[class] {
-            Held::Line(line) => line.iter().map(|(other, number)| (*other, signed(negated, *number))).collect(),
-            Held::Outside(other) => vec![(*other, signed(negated != self.members[*other].1, ONE))],
+            Held::Line(line) => Line { terms: signed_terms(negated, &line.terms), under: line.under },
+            Held::Outside(other) => Line { terms: vec![(*other, signed(negated != self.members[*other].1, 1))], under: 1 },
         }
     }
 
-    /// The least position that fails, with its point.
-    fn leaving(&self) -> Option<(usize, Delta)> {
+    /// The least position that fails, and how it stands to where it should.
+    fn leaving(&self) -> Option<(usize, Ordering)> {
         (self.columns..self.members.len()).find_map(|position| {
             let row = self.bound_row(position)?;
             if matches!(self.held[self.members[position].0], Held::Outside(other) if other == position) {
                 return None;
             }
-            let point = self.stands(position);
-            let fails = match compare(point, row.rest()) {
-                Ordering::Less => true,
-                Ordering::Equal => false,
-                Ordering::Greater => row.relation == Relation::Equal,
-            };
-            fails.then_some((position, point))
+            let ((value, tiny), under) = self.stands(position);
+            let rest = row.rest();
+            let order = value.cmp(&(rest.0 * under)).then(tiny.cmp(&(rest.1 * under)));
+            let fails = order == Ordering::Less || (order == Ordering::Greater && row.relation == Relation::Equal);
+            fails.then_some((position, order))
         })
     }
 
-    fn entering(&self, leaves: usize, point: Delta, line: &Line) -> Option<usize> {
-        let rises = compare(point, self.bound_row(leaves)?.rest()) == Ordering::Less;
-        line.iter().find_map(|(position, number)| {
+    fn entering(&self, order: Ordering, line: &Line) -> Option<usize> {
+        line.terms.iter().find_map(|(position, number)| {
             let may = match self.bound_row(*position) {
-                Some(other) => other.relation != Relation::Equal && (number.over > 0) == rises,
+                Some(other) => other.relation != Relation::Equal && (*number > 0) == (order == Ordering::Less),
                 None => true,
             };
             may.then_some(*position)
@@ -249,22 +274,34 @@ impl Tableau {
     }
 
     fn turn(&mut self, leaves: usize, enters: usize, line: &Line) {
-        let number = line[line.binary_search_by_key(&enters, |term| term.0).unwrap()].1;
-        let zero: Line = line.iter().map(|(position, other)| (*position, other.div(number).negate())).collect();
-        let zero = combined(&vec![(leaves, ONE.div(number))], ONE, &zero);
+        let number = line.terms[line.terms.binary_search_by_key(&enters, |term| term.0).unwrap()].1;
+        // The line that is 0 wherever the leaving one holds has -1 at the entering position.
+        let mut terms = signed_terms(number > 0, &line.terms);
+        let place = terms.partition_point(|term| term.0 < leaves);
+        terms.insert(place, (leaves, signed(number < 0, line.under)));
+        let zero = Line { terms, under: number.abs() }.lowest();
         let ((left, _), (entered, negated)) = (self.members[leaves], self.members[enters]);
         self.held[left] = Held::Outside(leaves);
+        let mut room = vec![];
         for held in &mut self.held {
             let Held::Line(line) = held else { continue };
-            if let Ok(place) = line.binary_search_by_key(&enters, |term| term.0) {
-                *line = combined(line, line[place].1, &zero);
+            if let Ok(place) = line.terms.binary_search_by_key(&enters, |term| term.0) {
+                let merged = merged(room, line, line.terms[place].1, &zero);
+                room = std::mem::replace(line, merged).terms;
             }
         }
         if left != entered {
-            let line = combined(&vec![(enters, ONE)], ONE, &zero);
-            self.held[entered] = Held::Line(line.into_iter().map(|(other, number)| (other, signed(negated, number))).collect());
+            let mut terms = signed_terms(negated, &zero.terms);
+            terms.retain(|term| term.0 != enters);
+            self.held[entered] = Held::Line(Line { terms, under: zero.under });
         }
         self.turns += 1;
+    }
+
+    /// Where a position stands, in fractions.
+    fn stands_at(&self, position: usize) -> (Frac, Frac) {
+        let ((value, tiny), under) = self.stands(position);
+        (Frac::lowest(value.into(), under.into()), Frac::lowest(tiny.into(), under.into()))
     }
 
     /// The values of the columns, where nothing fails.
@@ -272,25 +309,25 @@ impl Tableau {
         let mut tiny = ONE;
         for position in self.columns..self.members.len() {
             if let Some(row) = self.bound_row(position) {
-                let at = self.stands(position);
-                if at.1.over < 0 && row.bound.compare(at.0) == Ordering::Less {
-                    let room = at.0.add(row.bound.negate()).div(at.1.negate()).mul(HALF);
+                let (at, bound) = (self.stands_at(position), Frac { over: row.bound.into(), under: 1 });
+                if at.1.over < 0 && bound.compare(at.0) == Ordering::Less {
+                    let room = at.0.add(bound.negate()).div(at.1.negate()).mul(HALF);
                     tiny = if room.compare(tiny) == Ordering::Less { room } else { tiny };
                 }
             }
         }
-        (0..self.columns).map(|column| self.stands(column)).map(|at| at.0.add(tiny.mul(at.1))).collect()
+        (0..self.columns).map(|column| self.stands_at(column)).map(|at| at.0.add(tiny.mul(at.1))).collect()
     }
 
     /// Values that meet the bound rows, or the weights of rows that none meet.
-    fn check(&mut self) -> Result<Vec<Frac>, Line> {
-        while let Some((leaves, point)) = self.leaving() {
+    fn check(&mut self) -> Result<Vec<Frac>, Vec<(usize, Frac)>> {
+        while let Some((leaves, order)) = self.leaving() {
             let line = self.line(leaves);
-            match self.entering(leaves, point, &line) {
+            match self.entering(order, &line) {
                 Some(enters) => self.turn(leaves, enters, &line),
                 None => {
-                    let rises = compare(point, self.bound_row(leaves).unwrap().rest()) == Ordering::Less;
-                    return Err(line.iter().map(|(position, number)| (*position, signed(rises, *number))).collect());
+                    let weight = |number: i64| Frac::lowest(signed(order == Ordering::Less, number).into(), line.under.into());
+                    return Err(line.terms.iter().map(|(position, number)| (*position, weight(*number))).collect());
                 }
             }
         }
@@ -313,10 +350,9 @@ fn rows_of(text: &str) -> (Vec<Row>, usize) {
     let from = |name: String| -> Vec<usize> { (0..edges.len()).filter(|edge| edges[*edge].0 == name).collect() };
     let into = |name: String| -> Vec<usize> { (0..edges.len()).filter(|edge| edges[*edge].1 == name).collect() };
     let mut rows = vec![];
-    let mut add = |terms: Vec<(usize, i128)>, relation: Relation, bound: i128| {
-        let mut terms: Line = terms.into_iter().map(|(column, number)| (column, Frac { over: number, under: 1 })).collect();
+    let mut add = |mut terms: Terms, relation: Relation, bound: i64| {
         terms.sort_by_key(|term| term.0);
-        rows.push(Row { terms, relation, bound: Frac { over: bound, under: 1 } });
+        rows.push(Row { terms, relation, bound });
     };
     for column in 0..edges.len() + inputs + outputs {
         add(vec![(column, 1)], Relation::AtLeast, 0);
@@ -345,7 +381,7 @@ fn rows_of(text: &str) -> (Vec<Row>, usize) {
         add(vec![(end, 1), (edge, -1)], Relation::AtLeast, 0);
         add(vec![(edge, 1), (end, -1)], Relation::AtLeast, 0);
     }
-    let carried: Vec<(usize, i128)> = (0..outputs).map(|o| (into(format!("o{o}"))[0], -1)).collect();
+    let carried: Terms = (0..outputs).map(|o| (into(format!("o{o}"))[0], -1)).collect();
     let loads = (0..inputs).map(|i| (load(i), 1)).chain(carried.iter().copied()).collect();
     add(loads, Relation::Above, 0);
     add((0..outputs).map(|o| (room(o), 1)).chain(carried.iter().copied()).collect(), Relation::Above, 0);

@@ -4,10 +4,10 @@
 use bt_cnf::Chooser;
 use bt_io::{StdSink, StdSource};
 use bt_sat::{Highest, Lowest, Recent};
-use bt_top::{NO_MEMORY, run};
+use bt_top::{NO_MEMORY, WRITE_FAULT, run};
 use std::alloc::AllocError;
 use std::env;
-use std::io::ErrorKind;
+use std::io::{BufWriter, ErrorKind};
 use std::process::ExitCode;
 
 /// The words after the program's name, or no words where they can't be had; `None` where there is no
@@ -27,7 +27,8 @@ fn words_of(rt: &HostRuntime) -> Option<Vec<String>> {
     Some(words)
 }
 
-/// Runs the program over the words, with three choosers in turn.
+/// Runs the program over the words, with three choosers in turn. What it writes is gathered into large
+/// writes, since a log has hundreds of thousands of words; so the last of it is passed on at the end.
 fn status(rt: &HostRuntime, words: &[String]) -> Result<u8, AllocError> {
     let alloc = rt.alloc();
     let lowest: Box<dyn Chooser> = Box::new(alloc, Lowest::new())?;
@@ -35,8 +36,15 @@ fn status(rt: &HostRuntime, words: &[String]) -> Result<u8, AllocError> {
     let highest: Box<dyn Chooser> = Box::new(alloc, Highest::new())?;
     let choosers = vec![in alloc; lowest, recent, highest]?;
     let mut source = StdSource::new(rt.stdin());
-    let mut sink = StdSink::new(rt.stdout());
-    Ok(run(alloc, words, &mut source, &mut sink, choosers))
+    let Ok(output) = BufWriter::new(alloc, rt.stdout()) else {
+        return Ok(NO_MEMORY);
+    };
+    let mut sink = StdSink::new(output);
+    let status = run(alloc, words, &mut source, &mut sink, choosers);
+    match sink.flush() {
+        Ok(()) => Ok(status),
+        Err(_) => Ok(WRITE_FAULT),
+    }
 }
 
 fn main(rt: HostRuntime) -> ExitCode {

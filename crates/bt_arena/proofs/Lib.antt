@@ -1,3 +1,4 @@
 pub mod Issued
 pub mod PoolPieces
 pub mod Overwriting
+pub mod Loops

@@ -48,7 +48,6 @@ impl<'a> Known<'a> {
         ensures value { result.now ≡ self.now.formula }
         ensures sound { IsSound self.now }
     {
-        let _ = &self.added;
         self.formula
     }
 

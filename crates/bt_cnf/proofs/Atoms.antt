@@ -5,7 +5,7 @@ use Rattle.std.proofs.lemmas.List.{get_or_append_left}
 use Rattle.std.proofs.lemmas.List.Elements.{All-push, All-cons, All-nil, All-head, All-tail}
 use Rattle.bt_frac.specs.Rows.{RowParts, IsRow, columns_of, columns_in, end_of}
 use Rattle.bt_cnf.specs.Formulas.{FormulaParts, LitsBelow, AscendBelow, IsFormula, IsNextAtom}
-use Rattle.bt_cnf.specs.Places.{IsPlaceOf, ArePlaces, parts_of, IsStored}
+use Rattle.bt_cnf.specs.Places.{IsPlaceOf, ArePlaces, atoms_from, atoms_in, parts_of, IsStored}
 use Rattle.bt_cnf.specs.declared.literal.Lit.{Lit}
 use Rattle.bt_cnf.proofs.Ends.{end_more}
 
@@ -175,6 +175,111 @@ stored_longer places clauses atoms rows columns row place end is is_row place_is
   end = ap (λ n. max n end) is.end ∙ ap (λ n. max (end_of (columns_in rows)) n) end_is ∙ sym (end_more rows row);
 }
 
+-- where all atoms are below a number, there is none from it on
+none_left : (m n : ℕ) (places : List (Option ℕ)) → n ≤ m → All (λ a. a < n) (atoms_from m places) → atoms_from m places ≡ []
+none_left m n [] from all = refl
+none_left m n (None ∷ places) from all = none_left (m + 1) n places (omega (arith, from)) all
+none_left m n (Some p ∷ places) from all =
+    let first : m < n = All-head (λ a. a < n) m (atoms_from (m + 1) places) all in
+    absurd (omega (arith, from, first))
+
+atoms_set_from : (n : ℕ) (places : List (Option ℕ)) (var place : ℕ) → var < length places → All (λ a. a < n + var) (atoms_from n places)
+    → atoms_from n (set places var (Some place)) ≡ atoms_from n places ++ (n + var) ∷ []
+atoms_set_from n [] var place below above = absurd (omega (arith, below))
+atoms_set_from n (None ∷ places) zero place below above =
+    let same : n + zero ≡ n = omega arith in
+    let none : atoms_from (n + 1) places ≡ [] = none_left (n + 1) (n + zero) places (omega arith) above in
+    ap (λ xs. n ∷ xs) none ∙ ap (λ k. k ∷ []) (sym same) ∙ ap (λ xs. xs ++ (n + zero) ∷ []) (sym none)
+atoms_set_from n (Some p ∷ places) zero place below above =
+    let first : n < n + zero = All-head (λ a. a < n + zero) n (atoms_from (n + 1) places) above in
+    absurd (omega (arith, first))
+atoms_set_from n (None ∷ places) (suc var) place below above =
+    let same : n + suc var ≡ n + 1 + var = omega arith in
+    atoms_set_from (n + 1) places var place (omega (arith, below)) (subst (λ k. All (λ a. a < k) (atoms_from (n + 1) places)) same above)
+    ∙ ap (λ k. atoms_from (n + 1) places ++ k ∷ []) (sym same)
+atoms_set_from n (Some p ∷ places) (suc var) place below above =
+    let same : n + suc var ≡ n + 1 + var = omega arith in
+    let rest = All-tail (λ a. a < n + suc var) n (atoms_from (n + 1) places) above in
+    ap (λ xs. n ∷ xs)
+    (atoms_set_from (n + 1) places var place (omega (arith, below)) (subst (λ k. All (λ a. a < k) (atoms_from (n + 1) places)) same rest)
+    ∙ ap (λ k. atoms_from (n + 1) places ++ k ∷ []) (sym same))
+
+-- a variable above all atoms has become one
+atoms_set : (places : List (Option ℕ)) (var place : ℕ) → var < length places → All (λ a. a < var) (atoms_in places)
+    → atoms_in (set places var (Some place)) ≡ atoms_in places ++ var ∷ []
+atoms_set places var place below above =
+    let same : 0 + var ≡ var = omega arith in
+    atoms_set_from 0 places var place below (subst (λ k. All (λ a. a < k) (atoms_in places)) (sym same) above)
+    ∙ ap (λ k. atoms_in places ++ k ∷ []) same
+
+atoms_push_from : (n : ℕ) (places : List (Option ℕ)) (place : ℕ) → atoms_from n (places ++ Some place ∷ []) ≡ atoms_from n places ++ (n + length places) ∷ []
+atoms_push_from n [] place =
+    let same : n ≡ n + length {A = Option ℕ} [] = omega arith in
+    ap (λ k. k ∷ []) same
+atoms_push_from n (None ∷ places) place =
+    let same : n + 1 + length places ≡ n + length (None ∷ places) = omega arith in
+    atoms_push_from (n + 1) places place ∙ ap (λ k. atoms_from (n + 1) places ++ k ∷ []) same
+atoms_push_from n (Some p ∷ places) place =
+    let same : n + 1 + length places ≡ n + length (Some p ∷ places) = omega arith in
+    ap (λ xs. n ∷ xs) (atoms_push_from (n + 1) places place ∙ ap (λ k. atoms_from (n + 1) places ++ k ∷ []) same)
+
+-- one more variable, which is an atom
+atoms_push : (places : List (Option ℕ)) (place : ℕ) → atoms_in (places ++ Some place ∷ []) ≡ atoms_in places ++ length places ∷ []
+atoms_push places place =
+    let same : 0 + length places ≡ length places = omega arith in
+    atoms_push_from 0 places place ∙ ap (λ k. atoms_in places ++ k ∷ []) same
+
+atoms_none : (n : ℕ) (places : List (Option ℕ)) → All (λ o. o ≡ None) places → atoms_from n places ≡ []
+atoms_none n [] none = refl
+atoms_none n (None ∷ places) none = atoms_none (n + 1) places (All-tail (λ o. o ≡ None) None places none)
+atoms_none n (Some p ∷ places) none = absurd (differs p (All-head (λ o. o ≡ None) (Some p) places none))
+  where
+    differs : (p : ℕ) → Some p ≡ None → ⊥
+    differs p e = cc
+
+-- the atoms of a formula are below the next
+next_above : (places : List (Option ℕ)) (clauses : List (List Lit)) (rows : List RowParts) (var : ℕ) → length (atoms_in places) ≡ length rows
+    → IsNextAtom (parts_of places clauses (atoms_in places) rows) var → All (λ a. a < var) (atoms_in places)
+next_above places clauses rows var paired next =
+    subst (All (λ a. a < var)) (firsts_zip (atoms_in places) rows paired) (All-firsts (λ n. n < var) (zip (atoms_in places) rows) next.above)
+
+-- a variable has been given the place of its row
+pub atoms_after : (places : List (Option ℕ)) (clauses : List (List Lit)) (rows : List RowParts) (columns var place : ℕ) → IsStored places clauses (atoms_in places) rows columns
+    → IsNextAtom (parts_of places clauses (atoms_in places) rows) var → atoms_in (set places var (Some place)) ≡ atoms_in places ++ var ∷ []
+atoms_after places clauses rows columns var place is next = atoms_set places var place next.below (next_above places clauses rows var is.paired next)
+
+pub set_stored : (places : List (Option ℕ)) (clauses : List (List Lit)) (rows : List RowParts) (columns var : ℕ) (row : RowParts) (place end : ℕ)
+    → IsStored places clauses (atoms_in places) rows columns → IsNextAtom (parts_of places clauses (atoms_in places) rows) var → IsRow row → place ≡ length rows
+    → end ≡ end_of (columns_of row.terms)
+    → IsStored (set places var (Some place)) clauses (atoms_in (set places var (Some place))) (rows ++ row ∷ []) (max columns end)
+set_stored places clauses rows columns var row place end is next is_row place_is end_is =
+    subst (λ vs. IsStored (set places var (Some place)) clauses vs (rows ++ row ∷ []) (max columns end)) (sym (atoms_after places clauses rows columns var place is next))
+    (stored_more places clauses (atoms_in places) rows columns var row place end is next is_row place_is end_is)
+
+pub set_parts : (places : List (Option ℕ)) (clauses : List (List Lit)) (rows : List RowParts) (columns var : ℕ) (row : RowParts) (place : ℕ)
+    → IsStored places clauses (atoms_in places) rows columns → IsNextAtom (parts_of places clauses (atoms_in places) rows) var
+    → record (parts_of places clauses (atoms_in places) rows) { atoms = zip (atoms_in places) rows ++ (var, row) ∷ [] }
+    ≡ parts_of (set places var (Some place)) clauses (atoms_in (set places var (Some place))) (rows ++ row ∷ [])
+set_parts places clauses rows columns var row place is next =
+    parts_more places clauses (atoms_in places) rows var row place is.paired
+    ∙ ap (λ vs. parts_of (set places var (Some place)) clauses vs (rows ++ row ∷ [])) (sym (atoms_after places clauses rows columns var place is next))
+
+-- a variable has been added that is an atom
+pub pushed_stored : (places : List (Option ℕ)) (clauses : List (List Lit)) (rows : List RowParts) (columns : ℕ) (row : RowParts) (place end : ℕ)
+    → IsStored places clauses (atoms_in places) rows columns → IsRow row → place ≡ length rows → end ≡ end_of (columns_of row.terms)
+    → IsStored (places ++ Some place ∷ []) clauses (atoms_in (places ++ Some place ∷ [])) (rows ++ row ∷ []) (max columns end)
+pushed_stored places clauses rows columns row place end is is_row place_is end_is =
+    subst (λ vs. IsStored (places ++ Some place ∷ []) clauses vs (rows ++ row ∷ []) (max columns end)) (sym (atoms_push places place))
+    (stored_longer places clauses (atoms_in places) rows columns row place end is is_row place_is end_is)
+
+pub pushed_parts : (places : List (Option ℕ)) (clauses : List (List Lit)) (rows : List RowParts) (columns : ℕ) (row : RowParts) (place : ℕ)
+    → IsStored places clauses (atoms_in places) rows columns
+    → record { vars = length places + 1; clauses = clauses; atoms = zip (atoms_in places) rows ++ (length places, row) ∷ [] }
+    ≡ parts_of (places ++ Some place ∷ []) clauses (atoms_in (places ++ Some place ∷ [])) (rows ++ row ∷ [])
+pushed_parts places clauses rows columns row place is =
+    parts_longer places clauses (atoms_in places) rows row place is.paired
+    ∙ ap (λ vs. parts_of (places ++ Some place ∷ []) clauses vs (rows ++ row ∷ [])) (sym (atoms_push places place))
+
 -- a vector after a push that didn't fail
 pub appended : {X U E : Type 0} (r : Result U E) (u : U) (old mid new : List X) (x : X) → r ≡ Ok u → mid ≡ old → new ≡ (if is_ok r then mid ++ x ∷ [] else mid) → new ≡ old ++ x ∷ []
 appended r u old mid new x ok same is = is ∙ ap (λ b. if b then mid ++ x ∷ [] else mid) (ap is_ok ok) ∙ ap (λ xs. xs ++ x ∷ []) same
@@ -188,15 +293,17 @@ stored_new places none = record {
   end = refl;
 }
 
-pub new_stored : (places held : List (Option ℕ)) (clauses : List (List Lit)) (atoms : List ℕ) (rows : List RowParts) → held ≡ places → clauses ≡ [] → atoms ≡ [] → rows ≡ []
-    → All (λ o. o ≡ None) places → IsStored held clauses atoms rows 0
-new_stored places held clauses atoms rows same no_clauses no_atoms no_rows none =
-    subst (λ cs. IsStored held cs atoms rows 0) (sym no_clauses)
-    (subst (λ vs. IsStored held [] vs rows 0) (sym no_atoms)
-    (subst (λ rs. IsStored held [] [] rs 0) (sym no_rows) (subst (λ ps. IsStored ps [] [] [] 0) (sym same) (stored_new places none))))
+pub new_stored : (places held : List (Option ℕ)) (clauses : List (List Lit)) (rows : List RowParts) → held ≡ places → clauses ≡ [] → rows ≡ []
+    → All (λ o. o ≡ None) places → IsStored held clauses (atoms_in held) rows 0
+new_stored places held clauses rows same no_clauses no_rows none =
+    subst (λ cs. IsStored held cs (atoms_in held) rows 0) (sym no_clauses)
+    (subst (λ rs. IsStored held [] (atoms_in held) rs 0) (sym no_rows)
+    (subst (λ ps. IsStored ps [] (atoms_in ps) [] 0) (sym same)
+    (subst (λ vs. IsStored places [] vs [] 0) (sym (atoms_none 0 places none)) (stored_new places none))))
 
-pub new_parts : (places held : List (Option ℕ)) (clauses : List (List Lit)) (atoms : List ℕ) (rows : List RowParts) (vars : ℕ) → held ≡ places → clauses ≡ [] → atoms ≡ [] → rows ≡ []
-    → length places ≡ vars → parts_of held clauses atoms rows ≡ record { vars = vars; clauses = []; atoms = [] }
-new_parts places held clauses atoms rows vars same no_clauses no_atoms no_rows size =
-    ap (λ cs. parts_of held cs atoms rows) no_clauses ∙ ap (λ vs. parts_of held [] vs rows) no_atoms
-    ∙ ap (λ n. record { vars = n; clauses = []; atoms = [] }) (ap length same ∙ size)
+pub new_parts : (places held : List (Option ℕ)) (clauses : List (List Lit)) (rows : List RowParts) (vars : ℕ) → held ≡ places → clauses ≡ [] → rows ≡ []
+    → All (λ o. o ≡ None) places → length places ≡ vars → parts_of held clauses (atoms_in held) rows ≡ record { vars = vars; clauses = []; atoms = [] }
+new_parts places held clauses rows vars same no_clauses no_rows none size =
+    ap (λ cs. parts_of held cs (atoms_in held) rows) no_clauses ∙ ap (λ rs. parts_of held [] (atoms_in held) rs) no_rows
+    ∙ ap (λ ps. parts_of ps [] (atoms_in ps) []) same ∙ ap (λ vs. parts_of places [] vs []) (atoms_none 0 places none)
+    ∙ ap (λ n. record { vars = n; clauses = []; atoms = [] }) size

@@ -3,3 +3,4 @@ pub mod Choosing
 pub mod Formulas
 pub mod Meeting
 pub mod Places
+pub mod inner

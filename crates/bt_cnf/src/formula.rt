@@ -5,6 +5,7 @@ ghost use Rattle.bt_cnf.specs.Formulas.{LitsBelow, IsFormula, IsNextAtom, AddsCl
 ghost use Rattle.bt_cnf.specs.Places.{IsPlaceOf};
 
 use crate::literal::{Clause, ClauseId, Lit, Var, Variable};
+use crate::row_place::RowPlace;
 use bt_arena::{Arena, Pool};
 use bt_frac::Row;
 use std::alloc::{AllocError, Global};
@@ -14,11 +15,9 @@ use std::marker::Model;
 #[derive(Drop)]
 pub struct Formula {
     /// For each variable, the place of its row, where it is an atom.
-    places: Arena<Option<usize>, Variable>,
+    places: Arena<RowPlace, Variable>,
     clauses: Pool<Lit, Clause>,
-    /// The variables of the atoms, in ascending order.
-    atoms: Vec<usize>,
-    /// Their rows, in this order.
+    /// The rows of the atoms, in the order of their variables.
     rows: Vec<Row>,
     /// One more than the greatest column of the rows, or 0.
     columns: usize,
@@ -26,13 +25,13 @@ pub struct Formula {
 
 impl Model for Formula {
     ghost use Rattle.bt_cnf.specs.Formulas.{FormulaParts};
-    ghost use Rattle.bt_cnf.specs.Places.{parts_of, IsStored};
+    ghost use Rattle.bt_cnf.specs.Places.{atoms_in, parts_of, IsStored};
 
     ghost Value = { FormulaParts };
 
-    ghost view = { λ f. parts_of f.places f.clauses f.atoms.items f.rows.items };
+    ghost view = { λ f. parts_of f.places f.clauses (atoms_in f.places) f.rows.items };
 
-    ghost invariant = { λ f. IsStored f.places f.clauses f.atoms.items f.rows.items f.columns };
+    ghost invariant = { λ f. IsStored f.places f.clauses (atoms_in f.places) f.rows.items f.columns };
 }
 
 impl Formula {
@@ -42,12 +41,11 @@ impl Formula {
     {
         let mut places = Arena::new(alloc)?;
         for _ in 0..vars {
-            places.add(None)?;
+            places.add(RowPlace::none())?;
         }
         Ok(Formula {
             places,
             clauses: Pool::new(alloc)?,
-            atoms: Vec::new(alloc),
             rows: Vec::new(alloc),
             columns: 0,
         })
@@ -67,13 +65,11 @@ impl Formula {
         ensures { AddsAtom self.old var row self.new result }
     {
         // The room is made first, so that a refusal leaves the formula as it was.
-        self.atoms.reserve(1)?;
         self.rows.reserve(1)?;
-        let place = self.rows.len();
+        let place = RowPlace::of(self.rows.len())?;
         self.columns = self.columns.max(end_column(&row));
-        self.atoms.push(var.place()).unwrap();
         self.rows.push(row).unwrap();
-        *self.places.get_mut(var) = Some(place);
+        *self.places.get_mut(var) = place;
         Ok(())
     }
 
@@ -82,11 +78,10 @@ impl Formula {
         ensures { AppendsAtom self.old row self.new result }
     {
         // The room is made first, so that a refusal leaves the formula as it was.
-        self.atoms.reserve(1)?;
         self.rows.reserve(1)?;
-        let var = self.places.add(Some(self.rows.len()))?;
+        let place = RowPlace::of(self.rows.len())?;
+        let var = self.places.add(place)?;
         self.columns = self.columns.max(end_column(&row));
-        self.atoms.push(var.place()).unwrap();
         self.rows.push(row).unwrap();
         Ok(var)
     }
@@ -144,7 +139,7 @@ impl Formula {
         ensures { IsPlaceOf (map (λ a. a.0) self.now.atoms) var result }
     {
         match self.places.id_at(var.place()) {
-            Some(place) => *self.places.get(place),
+            Some(id) => self.places.get(id).row(),
             None => None,
         }
     }

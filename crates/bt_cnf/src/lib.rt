@@ -4,6 +4,7 @@
 mod chooser;
 mod formula;
 mod literal;
+mod row_place;
 #[cfg(test)]
 mod tests;
 

@@ -21,14 +21,10 @@ pub fn decide<C: Chooser>(
 ) -> Result<Verdict, AllocError>
     ensures { IfOk result (IsVerdict net.now property limits) }
 {
-    // The edges tell a proof that the network is one.
-    let _ = net.edges();
     let formula = encode(alloc, net, property)?;
     match solve(alloc, formula, choosers, limits)? {
         Outcome::Sat { values, assignment } => {
             let state = state_of(alloc, net, &values, &assignment)?;
-            // The flows tell a proof that the fractions are in lowest terms.
-            let _ = state.flows();
             Ok(Verdict::No(state))
         }
         Outcome::Refuted(log) => Ok(Verdict::Yes(log)),

@@ -3,7 +3,7 @@
 //! Numbers go row by row, as those of the variables do.
 ghost use Rattle.std.specs.Prelude.{◌≡◌, ℕ, ◌<◌, ◌≤◌, ◌+◌, ◌*◌, true, MatchOption};
 ghost use Rattle.bt_parts.specs.Cells.{IsInside};
-ghost use Rattle.bt_model.specs.Requests.{IsGrid};
+ghost use Rattle.bt_model.specs.Requests.{IsGrid, IsRequest};
 ghost use Rattle.bt_cnf.specs.Assignments.{truth_in};
 ghost use Rattle.bt_place.specs.declared.fact.Fact.TheVariants.{Kind};
 ghost use Rattle.bt_place.specs.Contents.{holds};
@@ -12,7 +12,7 @@ ghost use Rattle.bt_decode.specs.Solutions.{IsSolution};
 ghost use Rattle.bt_decode.specs.inner.Spots.{spots_in, spot_in, cell_numbered, read_in};
 ghost use Rattle.bt_decode.specs.inner.Reaching.{IsReach, IsAheadOf};
 
-use crate::numbering::{distances_from, known, most_distance};
+use crate::numbering::{distances_from, most_distance};
 use bt_model::Request;
 use bt_parts::{Cell, Dir, Rect, inside};
 use bt_place::{Content, Half, Shape};
@@ -107,11 +107,11 @@ fn content_numbered(number: usize) -> Content
 
 /// What the cell with this number holds.
 pub(crate) fn content(request: &Request, assignment: &[bool], i: usize) -> Content
+    requires request { IsRequest request.now }
     requires solution { IsSolution request.now assignment.now }
     requires within { i < spots_in request.now.rect }
     ensures { read_in request.now assignment.now (Kind (cell_numbered request.now.rect i) result) ≡ true }
 {
-    known(request);
     for number in 0..21 {
         if truth(assignment, i * 21 + number) {
             return content_numbered(number);
@@ -123,6 +123,7 @@ pub(crate) fn content(request: &Request, assignment: &[bool], i: usize) -> Conte
 /// How far in front of this shape on the cell with this number is what it hands to: the exit of its pair
 /// for an entrance, and else the next cell.
 pub(crate) fn reach(request: &Request, assignment: &[bool], i: usize, shape: Shape, dir: Dir) -> u32
+    requires request { IsRequest request.now }
     requires solution { IsSolution request.now assignment.now }
     requires within { i < spots_in request.now.rect }
     requires stands { read_in request.now assignment.now
@@ -130,7 +131,6 @@ pub(crate) fn reach(request: &Request, assignment: &[bool], i: usize, shape: Sha
     ensures reach { IsReach request.now assignment.now (cell_numbered request.now.rect i) shape result }
     ensures near { result ≤ 11 }
 {
-    known(request);
     let Shape::Entrance = shape else {
         return 1;
     };

@@ -1,12 +1,13 @@
 //! The layout that an assignment describes.
 ghost use Rattle.std.specs.Prelude.{◌<◌, IfOk, AllPairs};
 ghost use Rattle.bt_model.specs.Laying.{Lays};
+ghost use Rattle.bt_model.specs.Requests.{IsRequest};
 ghost use Rattle.bt_decode.specs.Solutions.{IsSolution, ComesAbove};
 ghost use Rattle.bt_decode.specs.inner.Spots.{spots_in};
 ghost use Rattle.bt_decode.specs.inner.Reaching.{TellsKind, TellsPart};
 
 use crate::cells::{cell_of, content};
-use crate::numbering::{known, spots};
+use crate::numbering::spots;
 use crate::reaching::reached;
 use bt_model::Request;
 use bt_parts::{Kind, Part};
@@ -28,11 +29,11 @@ fn kind_of(shape: Shape) -> Option<Kind>
 
 /// The part of which the cell with this number is the own one.
 fn part_on(request: &Request, assignment: &[bool], i: usize) -> Option<Part>
+    requires request { IsRequest request.now }
     requires solution { IsSolution request.now assignment.now }
     requires within { i < spots_in request.now.rect }
     ensures { TellsPart request.now assignment.now i result }
 {
-    known(request);
     let Content::Turned(shape, dir) = content(request, assignment, i) else {
         return None;
     };
@@ -61,7 +62,6 @@ pub fn decode(
     ensures lays { IfOk result (λ parts. Lays parts.items request.now) }
     ensures in_order { IfOk result (λ parts. AllPairs ComesAbove parts.items) }
 {
-    known(request);
     let marks = reached(alloc, request, assignment)?;
     let mut parts = Vec::new(alloc);
     for i in 0..spots(request) {

@@ -7,13 +7,6 @@ ghost use Rattle.bt_decode.specs.inner.Spots.{spots_in};
 
 use bt_model::Request;
 
-/// What a request is by its type.
-pub(crate) fn known(request: &Request)
-    ensures { IsRequest request.now }
-{
-    let _net = request.net();
-}
-
 /// The product of two numbers that aren't large.
 fn times(a: usize, b: usize) -> usize
     requires a_small { a ≤ 2 ^ 20 }
@@ -28,8 +21,8 @@ fn times(a: usize, b: usize) -> usize
 pub(crate) fn spots(request: &Request) -> usize
     ensures spots { result ≡ spots_in request.now.rect }
     ensures few { result ≤ 256 }
+    ensures request { IsRequest request.now }
 {
-    known(request);
     let rect = request.rect();
     rect.width as usize * rect.height as usize
 }

@@ -3,13 +3,14 @@
 //!
 //! Each cell is marked once, so that this takes no more steps than there are cells.
 ghost use Rattle.std.specs.Prelude.{◌≡◌, ◌↔◌, ◌<◌, IsTrue, IfOk};
+ghost use Rattle.bt_model.specs.Requests.{IsRequest};
 ghost use Rattle.bt_decode.specs.inner.Kept.{IsKept};
 ghost use Rattle.bt_decode.specs.Solutions.{IsSolution};
 ghost use Rattle.bt_decode.specs.inner.Spots.{spots_in, cell_numbered, read_in};
 ghost use Rattle.bt_decode.specs.inner.Reaching.{IsStart, TellsNext, IsMarked, AreMarks, Keeps, HasStarts};
 
 use crate::cells::{ahead, content, reach, truth};
-use crate::numbering::{halves_from, known, spots};
+use crate::numbering::{halves_from, spots};
 use bt_model::Request;
 use bt_place::Content;
 use std::alloc::{AllocError, Global};
@@ -26,11 +27,11 @@ fn starts(request: &Request, assignment: &[bool], i: usize) -> bool
 
 /// The cell to which what comes to this one goes.
 fn next(request: &Request, assignment: &[bool], i: usize) -> Option<usize>
+    requires request { IsRequest request.now }
     requires solution { IsSolution request.now assignment.now }
     requires within { i < spots_in request.now.rect }
     ensures { TellsNext request.now assignment.now i result }
 {
-    known(request);
     let Content::Turned(shape, dir) = content(request, assignment, i) else {
         return None;
     };
@@ -46,6 +47,7 @@ fn next(request: &Request, assignment: &[bool], i: usize) -> Option<usize>
 
 /// Marks the cells to which what comes to this one goes, and this one.
 fn mark_from(request: &Request, assignment: &[bool], marks: &mut Vec<bool>, start: usize)
+    requires request { IsRequest request.now }
     requires solution { IsSolution request.now assignment.now }
     requires marks { AreMarks request.now assignment.now marks.old.items }
     requires within { start < spots_in request.now.rect }
@@ -55,7 +57,6 @@ fn mark_from(request: &Request, assignment: &[bool], marks: &mut Vec<bool>, star
     ensures keeps { Keeps marks.old.items marks.new.items }
     ensures start { IsMarked marks.new.items start }
 {
-    known(request);
     let mut i = start;
     while !marks[i] {
         marks[i] = true;
@@ -77,7 +78,6 @@ pub(crate) fn reached(
     ensures starts { IfOk result (λ marks.
         HasStarts request.now assignment.now marks.items (spots_in request.now.rect)) }
 {
-    known(request);
     let count = spots(request);
     let mut marks = vec![in alloc; false; count]?;
     for i in 0..count {

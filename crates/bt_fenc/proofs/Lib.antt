@@ -1,4 +1,3 @@
-pub mod Loops
 pub mod Merges
 pub mod Columns
 pub mod Numbers

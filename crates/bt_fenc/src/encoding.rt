@@ -1,5 +1,6 @@
 //! The flow formula of a network and a property.
 ghost use Rattle.std.specs.Prelude.{◌≡◌, ◌≤◌, length, OnOk, IfOk, flat_map};
+ghost use Rattle.bt_net.specs.Network.{IsNetwork};
 ghost use Rattle.bt_flow.specs.Ports.{ArePorts};
 ghost use Rattle.bt_fenc.specs.Families as families;
 ghost use Rattle.bt_fenc.specs.FlowFormula.{flow_formula};
@@ -53,7 +54,8 @@ fn write_families(
 /// an edge is backed, and then an atom for each mention of a row. The rows' columns are the flows of
 /// the edges, the loads of the inputs and the rooms of the outputs.
 pub fn encode(alloc: Global, net: &Net, property: Property) -> Result<Formula, AllocError>
-    ensures { IfOk result (λ formula. formula ≡ flow_formula net.now property) }
+    ensures formula { IfOk result (λ formula. formula ≡ flow_formula net.now property) }
+    ensures network { IsNetwork net.now }
 {
     let ports = Ports::of(net);
     let mut formula = Formula::new(alloc, net.edges().len())?;

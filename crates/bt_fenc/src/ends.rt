@@ -7,16 +7,19 @@ ghost use Rattle.bt_fenc.specs.inner.Listed.{first_of};
 
 use bt_flow::{Port, Ports};
 use bt_net::{Net, Target};
+use smallvec::SmallVec;
 use std::alloc::{AllocError, Global};
 
-/// The numbers of the edges of a port.
-pub fn numbers_of(alloc: Global, port: Port) -> Result<Vec<usize>, AllocError>
+/// The numbers of the edges of a port, which need no block of memory.
+pub fn numbers_of(alloc: Global, port: Port) -> Result<SmallVec<usize, 2>, AllocError>
     ensures { IfOk result (λ numbers. numbers.items ≡ numbers_of port) }
 {
     match port {
-        Port::Unused => Ok(Vec::new(alloc)),
-        Port::One(only) => Ok(vec![in alloc; only as usize]?),
-        Port::Two(first, second) => Ok(vec![in alloc; first as usize, second as usize]?),
+        Port::Unused => SmallVec::from_slice(alloc, &[]),
+        Port::One(only) => SmallVec::from_slice(alloc, &[only as usize]),
+        Port::Two(first, second) => {
+            SmallVec::from_slice(alloc, &[first as usize, second as usize])
+        }
     }
 }
 

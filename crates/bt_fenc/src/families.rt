@@ -12,7 +12,7 @@ use crate::claim::Claim;
 use crate::ends::{cap_at, input_edge, load_column, numbers_of, output_edge, room_column};
 use crate::family::Family;
 use crate::numbering::{add_row, add_two};
-use crate::rows::{at_least, at_most, not_below, row_of};
+use crate::rows::{at_least, at_most, not_below, row_of_vec};
 use crate::splitters::{add_backing, add_even, merge};
 use bt_cnf::Formula;
 use bt_flow::Ports;
@@ -67,7 +67,7 @@ fn conserve_row(alloc: Global, net: &Net, ports: &Ports, splitter: usize) -> Res
     let entering = numbers_of(alloc, ports.into[splitter])?;
     let leaving = numbers_of(alloc, ports.out_of[splitter])?;
     let terms = merge(alloc, &entering, &leaving)?;
-    row_of(alloc, &terms, Relation::Equal, Frac::whole(0))
+    Ok(row_of_vec(terms, Relation::Equal, Frac::whole(0)))
 }
 
 /// Adds that as much flows into a splitter as out of it.

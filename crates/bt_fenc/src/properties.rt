@@ -8,7 +8,7 @@ ghost use Rattle.bt_fenc.specs.inner.Adding.{IsAfter, with_clauses};
 use crate::claim::Claim;
 use crate::ends::{cap_at, input_edge, last_edges, load_column, output_edge, room_column};
 use crate::numbering::{add_row, literal_of};
-use crate::rows::{above, at_least, minus, plus, row_of};
+use crate::rows::{above, at_least, minus, plus, row_of_vec};
 use bt_cnf::{Formula, Lit};
 use bt_flow::{Ports, Property};
 use bt_frac::{Frac, Relation, Row};
@@ -117,14 +117,16 @@ fn above_outputs(alloc: Global, net: &Net, first: usize, count: usize) -> Result
     requires last { first + count < 2 ^ 64 }
     ensures { IfOk result (λ row. row ≡ columns.above_outputs net.now first count) }
 {
+    let edges = last_edges(alloc, net)?;
     let mut terms = Vec::new(alloc);
-    for edge in &last_edges(alloc, net)? {
+    terms.reserve(edges.len().saturating_add(count))?;
+    for edge in &edges {
         terms.push(minus(*edge))?;
     }
     for column in first..first + count {
         terms.push(plus(column))?;
     }
-    row_of(alloc, &terms, Relation::Above, Frac::whole(0))
+    Ok(row_of_vec(terms, Relation::Above, Frac::whole(0)))
 }
 
 /// Adds that the sum of output flows is below that of loads, and below that of rooms.

@@ -22,6 +22,17 @@ pub fn row_of(
     }
 }
 
+/// The row of the terms in a vector, whose columns ascend. The row keeps the vector.
+pub fn row_of_vec(terms: Vec<(usize, Frac)>, relation: Relation, bound: Frac) -> Row
+    requires { HaveColumns terms.items }
+    ensures { result ≡ record { terms = terms.items; relation = relation; bound = bound } }
+{
+    match Row::from_vec(terms, relation, bound) {
+        Some(row) => row,
+        None => unreachable!(),
+    }
+}
+
 /// A column, added.
 pub fn plus(column: usize) -> (usize, Frac)
     ensures { result ≡ columns.plus column }

@@ -4,6 +4,7 @@ ghost use Rattle.std.specs.List.{range_with_len};
 ghost use Rattle.bt_frac.specs.Values.{value_in};
 ghost use Rattle.bt_cnf.specs.Assignments.{truth_in};
 ghost use Rattle.bt_net.specs.Network.{IsNetwork};
+ghost use Rattle.bt_flow.specs.States.{AreLowest};
 ghost use Rattle.bt_fenc.specs.Solutions.{state_at, BreaksWhatIsMet};
 
 use crate::ends::{load_column, room_column};
@@ -73,6 +74,7 @@ pub fn state_of(
         ≡ state_at net.now (truth_in assignment.now) (value_in values.now)) }
     ensures breaks { IfOk result
         (BreaksWhatIsMet net.now (truth_in assignment.now) (value_in values.now)) }
+    ensures lowest { IfOk result AreLowest }
 {
     // A fraction is in lowest terms by its type, and a list of them by this call.
     Frac::all_known(values);

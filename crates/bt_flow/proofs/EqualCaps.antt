@@ -1,5 +1,5 @@
 -- Where all caps are equal, an edge that is full has a flow at least that of each other edge.
-use Rattle.std.proofs.Common.{◌≡◌, ℕ, ◌<◌, ◌*◌, ◌≤ℤ◌, ℤ, pos, ◌⊎◌, inl, inr, length, get_or, sym, subst, ap, ◌∙◌}
+use Rattle.std.proofs.Common.{◌≡◌, ℕ, ◌<◌, ◌*◌, ◌≤ℤ◌, pos, ◌⊎◌, inl, inr, length, get_or, sym, subst, ap, ◌∙◌}
 use Rattle.std.proofs.lemmas.Option.{slice_get_within, get_or_from_slice_get}
 use Rattle.std.proofs.lemmas.List.Elements.{All-get_or}
 use Rattle.bt_net.specs.declared.network.Edge.{Edge}

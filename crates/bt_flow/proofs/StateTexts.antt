@@ -1,11 +1,9 @@
 -- The text of a state: its lines, that every line of it is right, and that it has one state.
-use Rattle.std.proofs.Common.{◌≡◌, ◌≢◌, ℕ, ◌<◌, Bool, true, List, [], ◌∷◌, ◌++◌, length, map, refl, sym, ◌∙◌, ap, subst, inl, inr, arith, append_assoc, append-nil, codes, nat_lt, Ok, Err}
+use Rattle.std.proofs.Common.{◌≡◌, ◌≢◌, ℕ, ◌<◌, Bool, List, [], ◌∷◌, ◌++◌, length, map, refl, sym, ◌∙◌, ap, subst, inl, inr, arith, append_assoc, append-nil, codes, Ok, Err}
 use Rattle.std.specs.Bool.{⊤}
-use Rattle.std.specs.List.{All, list_all, slice_index_or}
+use Rattle.std.specs.List.{All, slice_index_or}
 use Rattle.std.proofs.lemmas.List.{append_cancel_left}
-use Rattle.std.proofs.lemmas.List.Sums.{AllPass-from_list_all}
-use Rattle.std.proofs.lemmas.List.Elements.{All-head, All-tail, All-cons, All-nil, All-weaker, All-append}
-use borrow.Author.Tests.{ltb-true}
+use Rattle.std.proofs.lemmas.List.Elements.{All-head, All-tail, All-cons, All-nil, All-append}
 use Rattle.bt_text.specs.Blanks.{IsBlank}
 use Rattle.bt_text.specs.Lines.{Lacks, line}
 use Rattle.bt_frac.specs.Ratio.{Ratio, IsLowest}
@@ -21,6 +19,7 @@ use Rattle.bt_flow.specs.StateLines.{SpellsFractions, SpellsMarks, Follows, just
 use Rattle.bt_answers.specs.Answers.{HasOneAnswer}
 use Rattle.bt_flow.specs.declared.fault.StateFault.TheVariants.{CertLine, Memory}
 use Rattle.bt_flow.specs.StateReading.{IsStateRead}
+use Rattle.bt_text.proofs.Lacking.{lacks}
 use Rattle.bt_text.proofs.Pieces.{piece_is}
 use Rattle.bt_flow.proofs.Words.{spaced_begins}
 use Rattle.bt_frac.proofs.Words.{frac_text_same}
@@ -46,17 +45,11 @@ unfolding lines_after
 first_line a rest lacks =
     cut_lines (a ++ 10 ∷ rest) a (10 ∷ rest) (record { lacks = lacks; text_is = refl; begins = inr (rest, refl) })
 
--- no line feed in bytes that are written out
-lacks_feed : (bytes : List ℕ) → list_all (λ b. nat_lt 10 b) bytes ≡ true → Lacks 10 bytes
-lacks_feed bytes e =
-    All-weaker (λ b. nat_lt 10 b ≡ true) (λ b. b ≢ 10) (λ b high. let above = ltb-true 10 b high in omega (arith, above)) bytes
-    (AllPass-from_list_all (λ b. nat_lt 10 b) bytes e)
-
 title_lacks : (p : Property) → Lacks 10 (codes "no " ++ property_name p)
-title_lacks Balanced = lacks_feed (codes "no balanced") refl
-title_lacks DrawnEvenly = lacks_feed (codes "no drawn-evenly") refl
-title_lacks Unlimited = lacks_feed (codes "no unlimited") refl
-title_lacks Full = lacks_feed (codes "no full") refl
+title_lacks Balanced = lacks 10 (codes "no balanced") refl
+title_lacks DrawnEvenly = lacks 10 (codes "no drawn-evenly") refl
+title_lacks Unlimited = lacks 10 (codes "no unlimited") refl
+title_lacks Full = lacks 10 (codes "no full") refl
 
 spaced_lacks : {A : Type 0} (P : A → Type 0) (word : A → List ℕ) → ((x : A) → P x → Lacks 10 (word x)) → (items : List A) → All P items
     → Lacks 10 (spaced (map word items))
@@ -115,7 +108,7 @@ all_marks backed = λ k d below. tt
 mark_line_lacks : (backed : List Bool) → Lacks 10 (mark_line backed)
 unfolding mark_line
 mark_line_lacks backed =
-    All-append (λ b. b ≢ 10) (codes "mark") (spaced (map mark_text backed)) (lacks_feed (codes "mark") refl)
+    All-append (λ b. b ≢ 10) (codes "mark") (spaced (map mark_text backed)) (lacks 10 (codes "mark") refl)
     (spaced_lacks (λ _. ⊤) mark_text mark_in_line backed (all_marks backed))
 
 -- the lines of a state's text
@@ -132,12 +125,12 @@ has_lines p t bytes h =
     elim h.text [
       | inl ends ↦ record {
         rest = [];
-        lines = ap lines_of (ends ∙ sym (append-nil (state_text p t))) ∙ six [] [] (cut_lines (codes "end" ++ []) (codes "end") [] (record { lacks = lacks_feed (codes "end") refl; text_is = refl; begins = inl refl }));
+        lines = ap lines_of (ends ∙ sym (append-nil (state_text p t))) ∙ six [] [] (cut_lines (codes "end" ++ []) (codes "end") [] (record { lacks = lacks 10 (codes "end") refl; text_is = refl; begins = inl refl }));
         blank = record { at = λ k. omega arith };
       }
       | inr more ↦ record {
         rest = lines_of more.0;
-        lines = ap lines_of more.2 ∙ six (10 ∷ more.0) (lines_of more.0) (first_line (codes "end") more.0 (lacks_feed (codes "end") refl));
+        lines = ap lines_of more.2 ∙ six (10 ∷ more.0) (lines_of more.0) (first_line (codes "end") more.0 (lacks 10 (codes "end") refl));
         blank = record { at = blank_right more.0 more.1 };
       }
     ]
@@ -149,9 +142,9 @@ has_lines p t bytes h =
     six rest tail last =
         six_lines (title p) (fraction_line (codes "load") t.loads) (fraction_line (codes "room") t.rooms)
         (fraction_line (codes "flow") t.flows) (mark_line t.backed) (codes "end") rest tail (title_lacks p)
-        (fraction_line_lacks (codes "load") t.loads (lacks_feed (codes "load") refl) h.lowest.loads)
-        (fraction_line_lacks (codes "room") t.rooms (lacks_feed (codes "room") refl) h.lowest.rooms)
-        (fraction_line_lacks (codes "flow") t.flows (lacks_feed (codes "flow") refl) h.lowest.flows)
+        (fraction_line_lacks (codes "load") t.loads (lacks 10 (codes "load") refl) h.lowest.loads)
+        (fraction_line_lacks (codes "room") t.rooms (lacks 10 (codes "room") refl) h.lowest.rooms)
+        (fraction_line_lacks (codes "flow") t.flows (lacks 10 (codes "flow") refl) h.lowest.flows)
         (mark_line_lacks t.backed) last
 
 -- every line of a state's text is right

@@ -39,12 +39,13 @@ impl Model for State {
 impl State {
     /// The state of these flows, marks, loads and rooms, each in the order of the numbers.
     pub fn new(flows: Vec<Frac>, backed: Vec<bool>, loads: Vec<Frac>, rooms: Vec<Frac>) -> State
-        ensures { result ≡ record {
+        ensures state { result ≡ record {
           flows = flows.items;
           backed = backed.items;
           loads = loads.items;
           rooms = rooms.items;
         } }
+        ensures lowest { AreLowest result }
     {
         // A fraction is in lowest terms by its type, and a list of them by this call.
         Frac::all_known(&flows);

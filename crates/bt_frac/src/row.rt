@@ -4,7 +4,7 @@ ghost use Rattle.std.specs.Prelude.{◌≡◌, IfOk};
 ghost use Rattle.bt_frac.specs.Rows.{RowParts, IsRow, IsRowOf};
 
 use crate::frac::{Frac, have_columns};
-use smallvec::SmallVec;
+use crate::kept::Kept;
 use std::alloc::{AllocError, Global};
 use std::marker::Model;
 
@@ -23,21 +23,18 @@ pub enum Relation {
 /// strictly and are below `usize::MAX`, so that there is a column after the last.
 #[derive(Drop)]
 pub struct Row {
-    /// Most rows have at most two terms, which need no block of memory.
-    terms: SmallVec<(usize, Frac), 2>,
-    relation: Relation,
-    bound: Frac,
+    kept: Kept,
 }
 
 impl Model for Row {
     ghost use Rattle.bt_frac.specs.Rows.{RowParts, IsRow};
+    ghost use Rattle.bt_frac.specs.inner.KeptRows.{parts_of};
 
     ghost Value = { RowParts };
 
-    ghost view = { λ r. record { terms = r.terms.items; relation = r.relation; bound = r.bound } };
+    ghost view = { λ r. parts_of r.kept };
 
-    ghost invariant = { λ r. IsRow
-        (record { terms = r.terms.items; relation = r.relation; bound = r.bound }) };
+    ghost invariant = { λ r. IsRow (parts_of r.kept) };
 }
 
 impl Row {
@@ -56,10 +53,25 @@ impl Row {
         }
         let _ = bound.denominator();
         Ok(Some(Row {
-            terms: SmallVec::from_slice(alloc, terms)?,
-            relation,
-            bound,
+            kept: Kept::copied(alloc, terms, relation, bound)?,
         }))
+    }
+
+    /// The same row, which keeps the vector of its terms and so takes no memory.
+    pub fn from_vec(terms: Vec<(usize, Frac)>, relation: Relation, bound: Frac) -> Option<Row>
+        ensures { IsRowOf (record { terms = terms.items; relation = relation; bound = bound }) result }
+    {
+        if !have_columns(&terms) {
+            return None;
+        }
+        let _ = bound.denominator();
+        Some(Row {
+            kept: Kept::Many {
+                relation,
+                terms,
+                bound,
+            },
+        })
     }
 
     /// The columns that have a coefficient, in ascending order, with it.
@@ -67,14 +79,14 @@ impl Row {
         ensures value { result.now ≡ self.now.terms }
         ensures known { IsRow self.now }
     {
-        &self.terms
+        self.kept.terms()
     }
 
     /// How the sum stands to the bound.
     pub fn relation(&self) -> Relation
         ensures { result ≡ self.now.relation }
     {
-        self.relation
+        self.kept.relation()
     }
 
     /// What the sum is compared with.
@@ -82,6 +94,6 @@ impl Row {
         ensures value { result ≡ self.now.bound }
         ensures known { IsRow self.now }
     {
-        self.bound
+        self.kept.bound()
     }
 }

@@ -99,6 +99,8 @@ fn rows(rt: HostRuntime) -> Result<(), Fail> {
         let terms = [(columns[0], one), (columns[1], one)];
         let row = Row::new(rt.alloc(), &terms, Relation::Above, one)?;
         assert!(rt; row.is_some() == is_row);
+        let row = Row::from_vec(Vec::from_slice(rt.alloc(), &terms)?, Relation::Above, one);
+        assert!(rt; row.is_some() == is_row);
     }
     Ok(())
 }

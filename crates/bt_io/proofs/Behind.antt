@@ -1,12 +1,11 @@
 -- Reading a source in two passages, one behind the other.
-use Rattle.std.proofs.Common.{◌≡◌, ℕ, ◌+◌, ◌-◌, ◌≤◌, List, ◌++◌, length, Result, Ok, Err, arith, length-append}
+use Rattle.std.proofs.Common.{◌≡◌, ℕ, ◌+◌, ◌≤◌, List, ◌++◌, length, Ok, Err, arith, length-append}
 use Rattle.std.specs.declared.option.Option.{Option}
-use Rattle.std.specs.Io.KnownBytes.{Consumes, IsAtEnd}
+use Rattle.std.specs.Io.KnownBytes.{Consumes}
 use Rattle.std.proofs.KnownBytes.{Consumes-trans}
-use Rattle.bt_io.specs.Bytes.{ReadsAll, Takes, TakesAtMost}
+use Rattle.bt_io.specs.Bytes.{ReadsAll, TakesAtMost}
 use Rattle.bt_io.specs.Causes.{Rose}
-use Rattle.bt_io.specs.Passages.{passage, HasFault}
-use Rattle.bt_io.specs.declared.fault.ReadAll.{ReadAll}
+use Rattle.bt_io.specs.Passages.{passage}
 use Rattle.bt_io.specs.declared.fault.ReadAll.TheVariants.{ReadFault, TooLong, Memory}
 
 -- a count that rose from a later value rose from an earlier one

@@ -1,4 +1,5 @@
 pub mod Behind
+pub mod Drained
 pub mod Held
 pub mod Pieces
 pub mod Told

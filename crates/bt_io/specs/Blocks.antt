@@ -1,6 +1,8 @@
 -- What reading on from a source does to the bytes that were read so far.
 use Rattle.std.specs.Prelude.{ℕ, ◌≡◌, ◌+◌, ◌<◌, ◌≤◌, Bool, true, false, List, [], ◌++◌, length, Result, Ok, Err}
 use Rattle.std.specs.Io.KnownBytes.{Consumes, IsAtEnd}
+use Rattle.bt_answers.specs.Answers.{seen}
+use Rattle.bt_io.specs.Bytes.{ReadsAll}
 use Rattle.bt_io.specs.Passages.{Passage, HasFault}
 use Rattle.bt_io.specs.declared.fault.ReadAll.{ReadAll}
 use Rattle.bt_io.specs.declared.fault.ReadAll.TheVariants.{ReadFault, TooLong, Memory}
@@ -28,3 +30,7 @@ IsReadOn limit source before after (Err Memory) = TakesNothing source
 pub record ReadsOn (limit : ℕ) (source : Passage) (before after : List ℕ) (result : Result Bool ReadAll) : Type 0 where
   pub read : IsReadOn limit source before after result
   pub count : source.faults ≤ source.faults_after
+
+-- a source was read within a limit, and what was read of it is not told
+abbrev pub Drains : ℕ → Passage → Result (Unit {0}) ReadAll → Type 0
+Drains limit source result = (bytes : List ℕ) × ReadsAll limit source (seen (λ done. bytes) result)

@@ -16,7 +16,7 @@ mod write;
 pub use fault::{Failed, ReadAll, WriteFault};
 pub use memory_sink::MemSink;
 pub use memory_source::MemSource;
-pub use read::{read_all, read_on};
+pub use read::{drain, read_all, read_on};
 pub use sink::Sink;
 pub use slice_source::SliceSource;
 pub use source::Source;

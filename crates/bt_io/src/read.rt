@@ -1,9 +1,10 @@
 //! Reading a source to its end, block by block.
-ghost use Rattle.std.specs.Prelude.{◌^◌, ◌<◌, ◌≤◌, length, vec_items};
+ghost use Rattle.std.specs.Prelude.{◌≢◌, ◌^◌, ◌<◌, ◌≤◌, IfErr, length, vec_items};
 ghost use Rattle.bt_answers.specs.Answers.{seen};
-ghost use Rattle.bt_io.specs.Blocks.{ReadsOn};
+ghost use Rattle.bt_io.specs.Blocks.{Drains, ReadsOn};
 ghost use Rattle.bt_io.specs.Bytes.{ReadsAll};
 ghost use Rattle.bt_io.specs.Passages.{passage};
+ghost use Rattle.bt_io.specs.declared.fault.ReadAll.TheVariants.{Memory};
 
 use crate::fault::ReadAll;
 use crate::source::Source;
@@ -61,6 +62,30 @@ pub fn read_all<S: Source>(alloc: Global, source: &mut S, limit: usize) -> Resul
     }
 }
 
+/// Reads a source to its end, of at most `limit` bytes, and keeps none of them.
+///
+/// `ReadFault` comes only where the source's count of faults rose, and `TooLong` exactly where one
+/// byte past the limit was taken. It takes no memory, and `Memory` never comes.
+pub fn drain<S: Source>(source: &mut S, limit: usize) -> Result<(), ReadAll>
+    requires { limit < 2 ^ 62 }
+    ensures read { Drains limit (passage S.left S.faults source.old source.new) result }
+    ensures no_memory { IfErr result (λ fault. fault ≢ Memory) }
+{
+    let mut block = [0u8; BLOCK];
+    let mut taken = 0;
+    while taken <= limit {
+        let room = (limit + 1 - taken).min(BLOCK);
+        let Ok(count) = source.read(&mut block[..room]) else {
+            return Err(ReadAll::ReadFault);
+        };
+        if count == 0 {
+            return Ok(());
+        }
+        taken += count;
+    }
+    Err(ReadAll::TooLong)
+}
+
 #[cfg(test)]
 mod tests {
     use super::*;
@@ -96,6 +121,24 @@ mod tests {
         ];
         for (limit, fails_at, fault) in rows {
             assert!(rt; answer(rt.alloc(), limit, fails_at)? == Err(fault));
+        }
+        Ok(())
+    }
+
+    // The same of what is drained.
+    #[test]
+    fn drains(rt: HostRuntime) -> Result<(), Fail> {
+        let rows = [
+            (5, 9, Ok(())),
+            (4, 9, Err(ReadAll::TooLong)),
+            (5, 4, Err(ReadAll::ReadFault)),
+            (4, 3, Err(ReadAll::ReadFault)),
+        ];
+        for (limit, fails_at, told) in rows {
+            let bytes = Vec::from_slice(rt.alloc(), b"hello")?;
+            let fails = vec![in rt.alloc(); fails_at]?;
+            let mut source = MemSource::new(bytes, fails, 2);
+            assert!(rt; drain(&mut source, limit) == told);
         }
         Ok(())
     }

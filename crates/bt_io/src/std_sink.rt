@@ -5,7 +5,7 @@ ghost use Rattle.bt_io.specs.Bytes.{TakesSome};
 ghost use Rattle.bt_io.specs.Causes.{HasCause, next_count};
 ghost use Rattle.bt_io.specs.Streams.{StreamAppends};
 
-use crate::fault::Failed;
+use crate::fault::{Failed, WriteFault};
 use crate::sink::Sink;
 use std::io::Write;
 use std::marker::Model;
@@ -34,6 +34,21 @@ impl<W: Write> StdSink<W> {
         ensures { result ≡ record { stream = output; faults = 0 } }
     {
         StdSink { output, faults: 0 }
+    }
+
+    /// Has the writer pass on what it keeps back, as one with a buffer does. The count rises where that
+    /// fails, and only there.
+    pub fn flush(&mut self) -> Result<(), WriteFault>
+        ensures counted { OnErr result (self.new.faults ≡ next_count self.old.faults) }
+        ensures uncounted { OnOk result (self.new.faults ≡ self.old.faults) }
+    {
+        match self.output.flush() {
+            Ok(()) => Ok(()),
+            Err(_) => {
+                self.faults = self.faults.saturating_add(1);
+                Err(WriteFault)
+            }
+        }
     }
 }
 
@@ -79,6 +94,30 @@ mod tests {
         fn flush(&mut self) -> io::Result<()> {
             Ok(())
         }
+    }
+
+    // A writer that keeps everything back and can't pass it on.
+    #[derive(Drop)]
+    struct Stopped;
+
+    impl Write for Stopped {
+        fn write(&mut self, piece: &[u8]) -> io::Result<usize> {
+            Ok(piece.len())
+        }
+
+        fn flush(&mut self) -> io::Result<()> {
+            Err(io::Error::from(io::ErrorKind::BrokenPipe))
+        }
+    }
+
+    #[test]
+    fn counts_a_failed_flush(rt: HostRuntime) {
+        let mut sink = StdSink::new(Stopped);
+        assert!(rt; sink.flush() == Err(WriteFault));
+        assert!(rt; sink.faults == 1);
+        let mut sink = StdSink::new(Narrow(2));
+        assert!(rt; sink.flush() == Ok(()));
+        assert!(rt; sink.faults == 0);
     }
 
     #[test]

@@ -22,8 +22,6 @@ pub fn layout<C: Chooser>(
 ) -> Result<Layout, AllocError>
     ensures { IfOk result (IsLayout request.now learnt) }
 {
-    // The network tells a proof that the request is one.
-    let _ = request.net();
     let formula = encode_place(alloc, request)?;
     let mut solver = Solver::new(alloc, formula, choosers, learnt)?;
     match solver.next_model()? {

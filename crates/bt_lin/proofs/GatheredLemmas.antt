@@ -1,5 +1,5 @@
 -- Sorted terms of rows: the run of a column, and what is left after it.
-use Rattle.std.proofs.Common.{◌≡◌, ◌≢◌, ℕ, ◌<◌, ◌≤◌, ◌+◌, ◌-◌, ◌^◌, ◌==◌, arith, List, [], ◌∷◌, ◌++◌, length, get_or, take, drop, zero, suc, Bool, true, false, cond, map, Some, ap, sym, ◌∙◌, refl, subst}
+use Rattle.std.proofs.Common.{◌≡◌, ◌≢◌, ℕ, ◌<◌, ◌≤◌, ◌+◌, ◌==◌, arith, List, [], ◌∷◌, ◌++◌, length, get_or, take, drop, zero, suc, Bool, true, false, cond, map, Some, ap, sym, ◌∙◌, refl, subst}
 use Rattle.std.specs.Prelude.{Contains}
 use Rattle.std.specs.List.{All}
 use Rattle.std.specs.List.Sorted.{IsNonDecreasingBy}

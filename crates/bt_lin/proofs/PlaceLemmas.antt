@@ -1,5 +1,5 @@
 -- Where a sum of weighted rows is wide.
-use Rattle.std.proofs.Common.{◌≡◌, ℕ, ◌<◌, ◌+◌, ◌==◌, arith, List, [], ◌∷◌, ◌++◌, length, get_or, take, drop, Option, None, Some, Bool, true, false, map, ap, sym, ◌∙◌, refl, subst, zero, suc, if◌then◌else◌, length-append, length-take, take-append-drop}
+use Rattle.std.proofs.Common.{◌≡◌, ℕ, ◌<◌, ◌+◌, ◌==◌, arith, List, [], ◌∷◌, ◌++◌, length, get_or, take, drop, Option, None, Some, Bool, true, false, map, ap, sym, ◌∙◌, refl, subst, zero, suc, if◌then◌else◌, length-append, take-append-drop}
 use Rattle.std.specs.Prelude.{Contains}
 use Rattle.std.proofs.lemmas.List.{length-take-le}
 use Rattle.std.proofs.lemmas.List.Elements.{Contains-append_left, Contains-append_right}

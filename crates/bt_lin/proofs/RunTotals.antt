@@ -1,15 +1,14 @@
 -- The sum of the run of a column, and the sum of the column over the rows.
-use Rattle.std.proofs.Common.{◌≡◌, ◌≢◌, ℕ, ◌<◌, ◌≤◌, ◌+◌, ◌==◌, arith, List, [], ◌∷◌, ◌++◌, length, get_or, take, drop, zero, suc, Bool, true, false, cond, if◌then◌else◌, map, Option, None, Some, Ok, Err, ap, sym, ◌∙◌, refl, subst, take-append-drop}
+use Rattle.std.proofs.Common.{◌≡◌, ℕ, ◌<◌, ◌≤◌, ◌+◌, ◌==◌, arith, List, [], ◌∷◌, ◌++◌, length, get_or, take, drop, zero, suc, Bool, true, false, if◌then◌else◌, map, Option, None, Some, Ok, Err, ap, sym, ◌∙◌, refl, subst, take-append-drop}
 use Rattle.std.specs.List.{All}
 use Rattle.std.specs.declared.result.Result.{Result}
 use Rattle.std.proofs.lemmas.List.{take_more, map_push, get_or_default}
-use Rattle.std.proofs.lemmas.List.Elements.{All-nil, All-cons, All-head, All-tail, All-more, All-append, filter-append}
+use Rattle.std.proofs.lemmas.List.Elements.{All-nil, All-cons, All-head, All-tail, All-more, filter-append}
 use Rattle.bt_frac.specs.Ratio.{Ratio}
 use Rattle.bt_frac.specs.Columns.{AreColumnsFrom}
 use Rattle.bt_frac.specs.Rows.{RowParts, HaveColumns, columns_of}
 use Rattle.bt_frac.specs.Values.{nothing}
 use Rattle.bt_frac.proofs.RowColumns.{left_from}
-use Rattle.bt_lin.specs.Farkas.{IsWidePlace}
 use Rattle.bt_lin.specs.RunningSums.{IsWideStep, RunsTo, AddsProduct}
 use Rattle.bt_lin.specs.WeightedRows.{coefficient_at, part_of, pairs_at}
 use Rattle.bt_lin.specs.inner.Gathering.{entries_of, entries_from, entries_at, HaveWeights, pair_of, RunsBelow, IsWideRun, IsRunTotal}

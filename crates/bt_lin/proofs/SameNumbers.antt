@@ -1,5 +1,5 @@
 -- Fractions that are the same number stand alike to others.
-use Rattle.std.proofs.Common.{◌≡◌, ◌<◌, ◌*◌, ℤ, pos, ◌*ℤ◌, ◌<ℤ◌, ◌≤ℤ◌, ◌↔◌, ap, sym, ◌∙◌, subst}
+use Rattle.std.proofs.Common.{◌≡◌, ◌<◌, pos, ◌*ℤ◌, ◌<ℤ◌, ◌≤ℤ◌, ◌↔◌, ap, sym, ◌∙◌, subst}
 use Rattle.std.proofs.Math.IntN.{zero-*ℤ}
 use Rattle.bt_frac.specs.Ratio.{Ratio, SameRatio, IsLess, IsAtMost}
 use Rattle.bt_frac.specs.Values.{Stands}

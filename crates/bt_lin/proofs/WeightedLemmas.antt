@@ -1,6 +1,5 @@
 -- Weighted rows, place by place.
 use Rattle.std.proofs.Common.{◌≡◌, ℕ, ◌<◌, ◌+◌, arith, List, [], ◌∷◌, ◌++◌, length, get_or, take, None, Some, map, ap, sym, ◌∙◌, refl, subst, zero, suc, append-nil, append_assoc, length-append}
-use Rattle.std.specs.List.{filter_map}
 use Rattle.std.specs.Option.{option_map}
 use Rattle.std.proofs.lemmas.List.{take_more, get_or_default}
 use Rattle.std.proofs.lemmas.List.Elements.{filter_map-append}

@@ -1,5 +1,5 @@
 -- Sums of rows that say that 0 is at least a number above 0, or that 0 is above 0.
-use Rattle.std.specs.Prelude.{◌≡◌, ◌⊎◌, ℕ, List, ℤ, pos, ◌<ℤ◌, ◌≤ℤ◌}
+use Rattle.std.specs.Prelude.{◌≡◌, ◌⊎◌, ℕ, List, pos, ◌<ℤ◌, ◌≤ℤ◌}
 use Rattle.std.specs.List.{All, Any}
 use Rattle.bt_frac.specs.Ratio.{Ratio}
 use Rattle.bt_frac.specs.Rows.{RowParts}

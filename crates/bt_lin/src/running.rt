@@ -1,6 +1,5 @@
 //! A running sum of products, whose steps fit or don't.
 ghost use Rattle.std.specs.Prelude.{IfSome, IfNone};
-ghost use Rattle.bt_frac.specs.Ratio.{IsLowest};
 ghost use Rattle.bt_lin.specs.RunningSums.{AddsProduct, IsWideStep};
 
 use bt_frac::Frac;
@@ -10,9 +9,7 @@ use bt_frac::Frac;
 pub fn add_product(sum: &Frac, left: &Frac, right: &Frac) -> Option<Frac>
     ensures some { IfSome result (AddsProduct sum.now (left.now, right.now)) }
     ensures none { IfNone result (IsWideStep sum.now (left.now, right.now)) }
-    ensures known { IsLowest sum.now × IsLowest left.now × IsLowest right.now }
 {
-    let _ = sum.denominator();
     let Some(product) = left.mul(right) else {
         return None;
     };

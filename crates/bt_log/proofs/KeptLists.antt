@@ -1,6 +1,5 @@
 -- Steps whose lists lie in pools that grow.
 use Rattle.std.proofs.Common.{◌≡◌, ℕ, ◌<◌, arith, List, [], ◌∷◌, ◌++◌, length, get_or, ap, sym, ◌∙◌, refl, subst, append-nil, length-append}
-use Rattle.std.specs.List.{All}
 use Rattle.std.proofs.lemmas.List.{get_or_append_left}
 use Rattle.std.proofs.lemmas.List.Elements.{All-nil, All-cons, All-head, All-tail, All-push}
 use Rattle.bt_frac.specs.Ratio.{Ratio}
@@ -9,7 +8,7 @@ use Rattle.bt_log.specs.Logs.{Step}
 use Rattle.bt_log.specs.Logs as step
 use Rattle.bt_log.specs.declared.kept.Kept.{Kept}
 use Rattle.bt_log.specs.declared.kept.Kept.TheVariants.{Lemma, Learnt}
-use Rattle.bt_log.specs.inner.Keeping.{kept_step, kept_steps, IsKept, AreKept, Grows, KeepsLemma, KeepsLearnt}
+use Rattle.bt_log.specs.inner.Keeping.{kept_step, kept_steps, IsKept, AreKept, Grows, IsAt}
 
 pub grows_not : {X : Type 0} (xs : List (List X)) → Grows xs xs
 grows_not xs = ([], sym (append-nil xs))
@@ -59,34 +58,11 @@ pub kept_added : (lits : List (List Lit)) (weights : List (List Ratio)) (hints :
     → AreKept lits weights hints steps → IsKept lits weights hints kept → AreKept lits weights hints later
 kept_added lits weights hints steps later kept is are here = subst (AreKept lits weights hints) (sym is) (All-push (IsKept lits weights hints) steps kept are here)
 
-at_end : {X : Type 0} (xs : List (List X)) (x : List X) → get_or (xs ++ x ∷ []) (length xs) [] ≡ x
-at_end [] x = refl
-at_end (y ∷ xs) x = at_end xs x
+-- the lists of a step are there, and are these
+pub keeps_lemma : (lits : List (List Lit)) (weights : List (List Ratio)) (hints : List (List ℕ)) (l : List Lit) (w : List Ratio) (i j : ℕ) → IsAt lits l i → IsAt weights w j
+    → IsKept lits weights hints (Lemma i j) × (kept_step lits weights hints (Lemma i j) ≡ step.Lemma l w)
+keeps_lemma lits weights hints l w i j a b = ((a.0, b.0), ap (λ xs. step.Lemma xs (get_or weights j [])) a.1 ∙ ap (λ xs. step.Lemma l xs) b.1)
 
--- the list that was added last
-pub last_list : {X : Type 0} (old new : List (List X)) (x : List X) (id : ℕ) → new ≡ old ++ x ∷ [] → id ≡ length old → (id < length new) × (get_or new id [] ≡ x)
-last_list old new x id is at = (
-  omega (arith, at, ap length is, length-append old (x ∷ [])),
-  ap (λ xs. get_or xs id []) is ∙ ap (λ n. get_or (old ++ x ∷ []) n []) at ∙ at_end old x,
-)
-
-pub keeps_lemma : (lits lits' : List (List Lit)) (weights weights' : List (List Ratio)) (l : List Lit) (w : List Ratio) (i j : ℕ) → lits' ≡ lits ++ l ∷ [] → weights' ≡ weights ++ w ∷ []
-    → i ≡ length lits → j ≡ length weights → KeepsLemma lits' weights' l w (Lemma i j)
-keeps_lemma lits lits' weights weights' l w i j more_lits more_weights at_lits at_weights hints =
-    let a = last_list lits lits' l i more_lits at_lits in
-    let b = last_list weights weights' w j more_weights at_weights in
-    ((a.0, b.0), ap (λ xs. step.Lemma xs (get_or weights' j [])) a.1 ∙ ap (λ xs. step.Lemma l xs) b.1)
-
-pub keeps_learnt : (lits lits' : List (List Lit)) (hints hints' : List (List ℕ)) (l : List Lit) (h : List ℕ) (i j : ℕ) → lits' ≡ lits ++ l ∷ [] → hints' ≡ hints ++ h ∷ []
-    → i ≡ length lits → j ≡ length hints → KeepsLearnt lits' hints' l h (Learnt i j)
-keeps_learnt lits lits' hints hints' l h i j more_lits more_hints at_lits at_hints weights =
-    let a = last_list lits lits' l i more_lits at_lits in
-    let b = last_list hints hints' h j more_hints at_hints in
-    ((a.0, b.0), ap (λ xs. step.Learnt xs (get_or hints' j [])) a.1 ∙ ap (λ xs. step.Learnt l xs) b.1)
-
--- a pool after an addition that may have failed
-pub grown : {X : Type 0} (old new : List (List X)) (x : List X) → new ≡ old ++ x ∷ [] → Grows old new
-grown old new x is = (x ∷ [], is)
-
-pub still : {X : Type 0} (old new : List (List X)) → new ≡ old → Grows old new
-still old new is = ([], is ∙ sym (append-nil old))
+pub keeps_learnt : (lits : List (List Lit)) (weights : List (List Ratio)) (hints : List (List ℕ)) (l : List Lit) (h : List ℕ) (i j : ℕ) → IsAt lits l i → IsAt hints h j
+    → IsKept lits weights hints (Learnt i j) × (kept_step lits weights hints (Learnt i j) ≡ step.Learnt l h)
+keeps_learnt lits weights hints l h i j a b = ((a.0, b.0), ap (λ xs. step.Learnt xs (get_or hints j [])) a.1 ∙ ap (λ xs. step.Learnt l xs) b.1)

@@ -5,12 +5,12 @@ ghost use Rattle.bt_io.specs.Passages.{passage};
 ghost use Rattle.bt_log.specs.LogText.{log_text};
 ghost use Rattle.bt_log.specs.Logs.{Lemma, Learnt, AddsStep};
 ghost use Rattle.bt_log.specs.Views.{step_of};
-ghost use Rattle.bt_log.specs.inner.Keeping.{Grows, KeepsLemma, KeepsLearnt};
+ghost use Rattle.bt_log.specs.inner.Keeping.{Grows, IsAt};
 
 use crate::kept::{Hints, Kept, Literals, Weights};
 use crate::printing::print_step;
 use crate::step::StepView;
-use bt_arena::Pool;
+use bt_arena::{Id, Pool};
 use bt_cnf::Lit;
 use bt_frac::Frac;
 use bt_io::{Sink, WriteFault, write_all_of};
@@ -60,8 +60,11 @@ impl Log {
     pub fn add_lemma(&mut self, lits: &[Lit], weights: &[Frac]) -> Result<(), AllocError>
         ensures { AddsStep self.old (Lemma lits.now weights.now) self.new result }
     {
-        let kept = keep_lemma(&mut self.lits, &mut self.weights, lits, weights)?;
-        self.steps.push(kept)?;
+        let ids = keep_both(&mut self.lits, &mut self.weights, lits, weights)?;
+        self.steps.push(Kept::Lemma {
+            lits: ids.0,
+            weights: ids.1,
+        })?;
         Ok(())
     }
 
@@ -69,8 +72,11 @@ impl Log {
     pub fn add_learnt(&mut self, lits: &[Lit], hints: &[usize]) -> Result<(), AllocError>
         ensures { AddsStep self.old (Learnt lits.now hints.now) self.new result }
     {
-        let kept = keep_learnt(&mut self.lits, &mut self.hints, lits, hints)?;
-        self.steps.push(kept)?;
+        let ids = keep_both(&mut self.lits, &mut self.hints, lits, hints)?;
+        self.steps.push(Kept::Learnt {
+            lits: ids.0,
+            hints: ids.1,
+        })?;
         Ok(())
     }
 
@@ -113,35 +119,19 @@ impl Log {
     }
 }
 
-/// Keeps the lists of a lemma. Where memory runs out, the pools may hold a list that no step names.
-fn keep_lemma(
+/// Keeps the lists of a step. Where memory runs out, the pools may hold a list that no step names.
+fn keep_both<T: Copy, K>(
     all_lits: &mut Pool<Lit, Literals>,
-    all_weights: &mut Pool<Frac, Weights>,
+    all_items: &mut Pool<T, K>,
     lits: &[Lit],
-    weights: &[Frac],
-) -> Result<Kept, AllocError>
+    items: &[T],
+) -> Result<(Id<Literals>, Id<K>), AllocError>
     ensures lits_grow { Grows all_lits.old all_lits.new }
-    ensures weights_grow { Grows all_weights.old all_weights.new }
-    ensures kept { IfOk result (KeepsLemma all_lits.new all_weights.new lits.now weights.now) }
+    ensures items_grow { Grows all_items.old all_items.new }
+    ensures kept { IfOk result
+        (λ ids. IsAt all_lits.new lits.now ids.0 × IsAt all_items.new items.now ids.1) }
 {
     let lits = all_lits.add_slice(lits)?;
-    let weights = all_weights.add_slice(weights)?;
-    Ok(Kept::Lemma { lits, weights })
-}
-
-/// Keeps the lists of a learnt clause. Where memory runs out, the pools may hold a list that no step
-/// names.
-fn keep_learnt(
-    all_lits: &mut Pool<Lit, Literals>,
-    all_hints: &mut Pool<usize, Hints>,
-    lits: &[Lit],
-    hints: &[usize],
-) -> Result<Kept, AllocError>
-    ensures lits_grow { Grows all_lits.old all_lits.new }
-    ensures hints_grow { Grows all_hints.old all_hints.new }
-    ensures kept { IfOk result (KeepsLearnt all_lits.new all_hints.new lits.now hints.now) }
-{
-    let lits = all_lits.add_slice(lits)?;
-    let hints = all_hints.add_slice(hints)?;
-    Ok(Kept::Learnt { lits, hints })
+    let items = all_items.add_slice(items)?;
+    Ok((lits, items))
 }

@@ -87,7 +87,8 @@ impl Request {
 
     /// The rectangle in which the parts are to lie.
     pub fn rect(&self) -> Rect
-        ensures { result ≡ self.now.rect }
+        ensures rect { result ≡ self.now.rect }
+        ensures request { IsRequest self.now }
     {
         self.rect
     }

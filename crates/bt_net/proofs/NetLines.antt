@@ -1,13 +1,14 @@
 -- A network's text, line by line.
-use Rattle.std.proofs.Common.{◌≡◌, ◌≢◌, ℕ, ◌-◌, ◌<◌, ◌≤◌, ◌⊎◌, Bool, true, not, cond, eqb, eq-eqb, List, [], ◌∷◌, ◌++◌, length, get_or, map, drop, refl, sym, ◌∙◌, ap, subst, inl, inr, ⊎_elim, arith, length-append}
+use Rattle.std.proofs.Common.{◌≡◌, ◌≢◌, ℕ, ◌-◌, ◌<◌, ◌≤◌, ◌⊎◌, Bool, cond, eq-eqb, List, [], ◌∷◌, ◌++◌, length, get_or, map, drop, refl, sym, ◌∙◌, ap, subst, inl, inr, ⊎_elim, arith, length-append}
 use Rattle.std.specs.Prelude.{codes, decimal}
-use Rattle.std.specs.List.{All, AllZip, count_by, flat_map, list_all}
+use Rattle.std.specs.List.{All, AllZip, count_by, flat_map}
 use Rattle.std.proofs.lemmas.Bool.{cases_eq, ne_eqb}
 use Rattle.std.proofs.lemmas.List.{append-nil, append_assoc, get_or_append_left, get_or_at}
 use Rattle.std.proofs.lemmas.List.Concat.{flat_map-append}
-use Rattle.std.proofs.lemmas.List.Elements.{All-nil, All-cons, All-head, All-tail, All-append, All-weaker}
-use Rattle.std.proofs.lemmas.List.Sums.{sum_by-append, AllPass-from_list_all}
+use Rattle.std.proofs.lemmas.List.Elements.{All-nil, All-cons, All-head, All-tail, All-append}
+use Rattle.std.proofs.lemmas.List.Sums.{sum_by-append}
 use Rattle.bt_text.specs.Lines.{Lacks, SplitsAt, line, IsFirstLine, BeginsWithLines}
+use Rattle.bt_text.proofs.Lacking.{lacks}
 use Rattle.bt_text.proofs.FirstLines.{fork, BeginsWithLines-tail, BeginsWithLines-nil, BeginsWithLines-cons, BeginsWithLines-push, BeginsWithLines-used}
 use Rattle.bt_frac.proofs.Numerals.{decimal-lacks, decimal_apart}
 use Rattle.bt_net.specs.declared.fault.NetFault.{NetFault}
@@ -58,10 +59,6 @@ printed_begins n rest = record {
   are_edges = printed_lines n.edges;
   begins = inl (ap (λ t. t ++ rest) (net_text_lines n));
 }
-
--- no byte of these is that byte
-pub lacks : (byte : ℕ) (xs : List ℕ) → list_all (λ x. not (eqb x byte)) xs ≡ true → Lacks byte xs
-lacks byte xs e = All-weaker (λ x. not (eqb x byte) ≡ true) (λ x. x ≢ byte) (λ x t same. cc (ap not (eq-eqb x byte same))) xs (AllPass-from_list_all (λ x. not (eqb x byte)) xs e)
 
 -- no line feed in an edge line
 pub edge-lacks : (bytes : List ℕ) (e : Edge) → EdgeFits e → IsEdgeLine bytes e → Lacks 10 bytes

@@ -22,7 +22,8 @@ use Rattle.bt_net.specs.PinRefusals.{MayNotFollow, LineRefusedAfter, BeginsWithI
 use Rattle.bt_net.specs.Readings.{Reading, BeginsWithAll, StandsAtFront, StandsPlain, IsNetRead, PrintedIsRead, whole_reading}
 use Rattle.bt_net.specs.Wiring.{HasSmallSizes}
 use Rattle.bt_net.specs.inner.Lines.{IsStarted, SameSizes, EdgesEnd, AreEdgesRead, ItemsEnd, IsEndRead}
-use Rattle.bt_net.proofs.NetLines.{lacks, header-same, HasSmallSizes-same, edges_fit, edges-lack, edge-ne_end, edge-some, header-lacks, header_stands, HasSmallSizes-network, SameSizes-header, partly_of_wired}
+use Rattle.bt_text.proofs.Lacking.{lacks}
+use Rattle.bt_net.proofs.NetLines.{header-same, HasSmallSizes-same, edges_fit, edges-lack, edge-ne_end, edge-some, header-lacks, header_stands, HasSmallSizes-network, SameSizes-header, partly_of_wired}
 use Rattle.bt_net.proofs.Refusing.{header_same, line_same}
 use Rattle.bt_net.proofs.OneNet.{same_used, printed_plain}
 use Rattle.bt_net.proofs.PinSpelling.{pin_apart, block_apart, pin-lacks, block-lacks}

@@ -21,7 +21,7 @@ use Rattle.bt_net.specs.PinText.{end_text, dir_text, way_text, pin_text, block_t
 use Rattle.bt_net.specs.Wiring.{HasSmallSizes}
 use Rattle.bt_net.specs.inner.Lines.{EndFits}
 use Rattle.bt_net.specs.inner.PinWords.{AreRowAndWay, AreCellAndWay}
-use Rattle.bt_net.proofs.NetLines.{lacks}
+use Rattle.bt_text.proofs.Lacking.{lacks}
 use Rattle.bt_net.proofs.Spelling.{edge_words}
 
 -- the ends that a small network has are small

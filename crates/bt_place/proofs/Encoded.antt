@@ -1,29 +1,25 @@
 -- What writes the clauses of a request's rules may rely on.
-use Rattle.std.proofs.Common.{◌≡◌, inl, inr, ℕ, zero, suc, ◌<◌, ◌≤◌, ◌+◌, ◌^◌, ℤ, pos, negsuc, List, [], ◌∷◌, ◌++◌, length, map, take, get_or, refl, sym, ◌∙◌, ap, subst, arith, append_assoc}
+use Rattle.std.proofs.Common.{◌≡◌, inl, inr, ℕ, zero, suc, ◌<◌, ◌≤◌, ◌+◌, ℤ, pos, negsuc, List, [], ◌∷◌, ◌++◌, length, take, get_or, refl, sym, ◌∙◌, ap, subst, arith, append_assoc}
 use Rattle.std.specs.List.{All, AllByRecursion, flat_map, range_with_len}
 use Rattle.std.specs.Prelude.{unsigned_abs, ◌<ℤ◌, ◌≤ℤ◌}
 use Rattle.std.proofs.lemmas.Int.{ints}
 use Rattle.bt_cnf.specs.Formulas.{FormulaParts}
 use Rattle.bt_parts.specs.declared.part.Cell.{Cell}
-use Rattle.bt_parts.specs.declared.part.Rect.{Rect}
 use Rattle.bt_parts.specs.Cells.{IsInside, IsInRange}
-use Rattle.bt_net.specs.declared.network.Block.{Block}
-use Rattle.bt_net.specs.declared.network.Pin.{Pin}
 use Rattle.bt_model.specs.Requests.{LayoutRequest, IsRequest, pinned, blocked}
-use Rattle.bt_place.specs.declared.fact.Fact.{Fact}
 use Rattle.bt_place.specs.Numbering.{Sizes, variables, variable_of}
 use Rattle.bt_place.specs.PlaceFormula.{sizes_of, splitter_order, rules_of, place_formula}
 use Rattle.bt_place.specs.Rules.{Rule}
 use Rattle.bt_place.specs.Spots.{cells_of}
 use Rattle.bt_place.specs.Within.{IsWithin, HasWithin}
 use Rattle.bt_place.specs.inner.Near.{IsNear, IsPinnedNear, IsBlockedNear}
-use Rattle.bt_place.specs.inner.Writing.{HasVariables, IsEncoding, with_rules}
+use Rattle.bt_place.specs.inner.Writing.{IsEncoding, with_rules}
 use Rattle.bt_place.proofs.Geometry.{from_cells}
 use Rattle.bt_place.proofs.Inverse.{fact_at}
 use Rattle.bt_place.proofs.Keeping.{In}
-use Rattle.bt_place.proofs.Loops.{taken_more, place_more, taken_all}
+use Rattle.bt_arena.proofs.Loops.{taken_more, place_more, taken_all}
 use Rattle.bt_place.proofs.Ranking.{ranked}
-use Rattle.bt_place.proofs.Written.{with_more, with_none, has_after}
+use Rattle.bt_place.proofs.Written.{with_more, has_after}
 
 -- an item at a place is in the list
 in_at : {X : Type 0} (xs : List X) (i : ℕ) (d : X) → i < length xs → In xs (get_or xs i d)

@@ -25,6 +25,5 @@ pub mod Encoded
 pub mod RulesWithin
 pub mod Laying
 pub mod DraftLemmas
-pub mod Loops
 pub mod OneOf
 pub mod PortsAdded

@@ -1,5 +1,5 @@
 -- The rules of the ports of a splitter, by the lists of its edges.
-use Rattle.std.proofs.Common.{◌≡◌, ℕ, List, [], ◌∷◌, ◌++◌, ◌∙◌, ap, append_assoc, append-nil}
+use Rattle.std.proofs.Common.{◌≡◌, ℕ, List, [], ◌++◌, ◌∙◌, ap, append_assoc, append-nil}
 use Rattle.std.specs.List.{flat_map, enumerate_from}
 use Rattle.bt_parts.specs.declared.part.Cell.{Cell}
 use Rattle.bt_parts.specs.declared.part.Rect.{Rect}
@@ -9,7 +9,7 @@ use Rattle.bt_place.specs.declared.fact.Fact.TheVariants.{Leaves, Enters}
 use Rattle.bt_place.specs.declared.fact.Half.TheVariants.{Lesser, Greater}
 use Rattle.bt_place.specs.Ports.{edges_from, edges_into, one_port_rules, apart_rules, port_rules}
 use Rattle.bt_place.specs.Rules.{Rule}
-use Rattle.bt_place.specs.Spots.{dirs, halves, cells_of}
+use Rattle.bt_place.specs.Spots.{dirs, cells_of}
 use Rattle.bt_place.specs.inner.Parts.{standing_ports}
 use Rattle.bt_place.specs.inner.Standing.{apart}
 

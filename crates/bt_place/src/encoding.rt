@@ -2,17 +2,22 @@
 ghost use Rattle.std.specs.Prelude.{◌≡◌, ◌<◌, ◌++◌, ◌∷◌, [], map, flat_map, IfOk, OnOk};
 ghost use Rattle.std.specs.List.{All, AllByRecursion, range_with_len};
 ghost use Rattle.bt_parts.specs.Cells.{IsInside};
+ghost use Rattle.bt_model.specs.Requests.{IsRequest};
 ghost use Rattle.bt_place.specs.Ends.{input_rules, output_rules};
 ghost use Rattle.bt_place.specs.Pinning.{pin_rules, block_rule};
 ghost use Rattle.bt_place.specs.PlaceFormula.{cell_rules, splitter_rules, rules_of, place_formula};
+ghost use Rattle.bt_place.specs.Rules.{some_of, at_most_one};
 ghost use Rattle.bt_place.specs.Spots as spots;
+ghost use Rattle.bt_place.specs.Within.{HasWithin};
 ghost use Rattle.bt_place.specs.inner.Near.{IsNear, IsPinnedNear, IsBlockedNear};
-ghost use Rattle.bt_place.specs.inner.Writing.{IsEncoding, with_rules, part_rules, chain_rules, inside_rules, both_ends};
+ghost use Rattle.bt_place.specs.inner.Writing.{HasVariables, IsEncoding, with_rules};
+ghost use Rattle.bt_place.specs.inner.Writing.{part_rules, chain_rules, inside_rules, both_ends};
 
 use crate::cells::{border_of, cells_of};
 use crate::contents::add_cell_contents;
 use crate::draft::Draft;
-use crate::ends::{add_ends, add_input, add_output};
+use crate::ends::{add_ends, add_one_of, firsts_on, lasts_on};
+use crate::fact::Fact;
 use crate::going::add_handing;
 use crate::labels::add_labelling;
 use crate::numbering::Numbers;
@@ -177,23 +182,20 @@ fn write_splitters(
     Ok(())
 }
 
-/// Adds the clauses of the rules of an input.
-fn write_input(
+/// Adds the clauses of the rules that exactly one of the facts holds.
+fn write_one_of(
     alloc: Global,
     formula: &mut Formula,
     numbers: &Numbers,
-    request: &Request,
-    border: &[Cell],
-    input: usize,
+    facts: &[Fact],
 ) -> Result<(), AllocError>
-    requires border { border.now ≡ spots.border_of request.now.rect }
-    requires there { input < request.now.net.inputs }
-    requires encoding { IsEncoding request.now numbers.now formula.old.vars }
+    requires within { AllByRecursion (HasWithin numbers.now) (some_of facts.now ∷ at_most_one facts.now) }
+    requires vars { HasVariables numbers.now formula.old.vars }
     ensures { OnOk result (formula.new ≡ with_rules numbers.now formula.old
-        (input_rules request.now.rect input)) }
+        (some_of facts.now ∷ at_most_one facts.now)) }
 {
     let mut draft = Draft::new(alloc)?;
-    add_input(alloc, &mut draft, border, input)?;
+    add_one_of(&mut draft, facts)?;
     write(alloc, formula, numbers, &draft)?;
     Ok(())
 }
@@ -213,29 +215,9 @@ fn write_inputs(
 {
     let inputs = request.net().inputs() as usize;
     for input in 0..inputs {
-        write_input(alloc, formula, numbers, request, border, input)?;
+        let facts = firsts_on(alloc, border, input)?;
+        write_one_of(alloc, formula, numbers, &facts)?;
     }
-    Ok(())
-}
-
-/// Adds the clauses of the rules of an output.
-fn write_output(
-    alloc: Global,
-    formula: &mut Formula,
-    numbers: &Numbers,
-    request: &Request,
-    border: &[Cell],
-    output: usize,
-) -> Result<(), AllocError>
-    requires border { border.now ≡ spots.border_of request.now.rect }
-    requires there { output < request.now.net.outputs }
-    requires encoding { IsEncoding request.now numbers.now formula.old.vars }
-    ensures { OnOk result (formula.new ≡ with_rules numbers.now formula.old
-        (output_rules request.now.rect output)) }
-{
-    let mut draft = Draft::new(alloc)?;
-    add_output(alloc, &mut draft, border, output)?;
-    write(alloc, formula, numbers, &draft)?;
     Ok(())
 }
 
@@ -254,7 +236,8 @@ fn write_outputs(
 {
     let outputs = request.net().outputs() as usize;
     for output in 0..outputs {
-        write_output(alloc, formula, numbers, request, border, output)?;
+        let facts = lasts_on(alloc, border, output)?;
+        write_one_of(alloc, formula, numbers, &facts)?;
     }
     Ok(())
 }
@@ -355,7 +338,8 @@ fn write_all(
 /// The placement formula of a request: for each rule one clause over what the cells hold, and no atoms.
 /// What meets it is read as a layout, and each layout that lays the request meets it.
 pub fn encode_place(alloc: Global, request: &Request) -> Result<Formula, AllocError>
-    ensures { IfOk result (λ formula. formula ≡ place_formula request.now) }
+    ensures formula { IfOk result (λ formula. formula ≡ place_formula request.now) }
+    ensures request { IsRequest request.now }
 {
     let numbers = Numbers::new(alloc, request)?;
     let mut formula = Formula::new(alloc, numbers.variables())?;

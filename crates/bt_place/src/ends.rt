@@ -131,7 +131,7 @@ pub fn add_ends(
 }
 
 /// That the input begins on any of these cells.
-fn firsts_on(alloc: Global, border: &[Cell], input: usize) -> Result<Vec<Fact>, AllocError>
+pub fn firsts_on(alloc: Global, border: &[Cell], input: usize) -> Result<Vec<Fact>, AllocError>
     ensures { IfOk result (λ facts. facts.items ≡ map (λ c. fact.First c input) border.now) }
 {
     border
@@ -141,7 +141,7 @@ fn firsts_on(alloc: Global, border: &[Cell], input: usize) -> Result<Vec<Fact>, 
 }
 
 /// That the output ends on any of these cells.
-fn lasts_on(alloc: Global, border: &[Cell], output: usize) -> Result<Vec<Fact>, AllocError>
+pub fn lasts_on(alloc: Global, border: &[Cell], output: usize) -> Result<Vec<Fact>, AllocError>
     ensures { IfOk result (λ facts. facts.items ≡ map (λ c. fact.Last c output) border.now) }
 {
     border
@@ -151,35 +151,9 @@ fn lasts_on(alloc: Global, border: &[Cell], output: usize) -> Result<Vec<Fact>, 
 }
 
 /// Adds that exactly one of the facts holds.
-fn add_one_of(draft: &mut Draft, facts: &[Fact]) -> Result<(), AllocError>
+pub fn add_one_of(draft: &mut Draft, facts: &[Fact]) -> Result<(), AllocError>
     ensures { OnOk result (draft.new ≡ draft.old ++ some_of facts.now ∷ at_most_one facts.now) }
 {
     draft.add(&[], facts)?;
     add_at_most_one(draft, facts)
-}
-
-/// Adds that the input begins on exactly one of these cells.
-pub fn add_input(
-    alloc: Global,
-    draft: &mut Draft,
-    border: &[Cell],
-    input: usize,
-) -> Result<(), AllocError>
-    ensures { OnOk result (draft.new ≡ draft.old ++ sided.input_rules_on border.now input) }
-{
-    let facts = firsts_on(alloc, border, input)?;
-    add_one_of(draft, &facts)
-}
-
-/// Adds that the output ends on exactly one of these cells.
-pub fn add_output(
-    alloc: Global,
-    draft: &mut Draft,
-    border: &[Cell],
-    output: usize,
-) -> Result<(), AllocError>
-    ensures { OnOk result (draft.new ≡ draft.old ++ sided.output_rules_on border.now output) }
-{
-    let facts = lasts_on(alloc, border, output)?;
-    add_one_of(draft, &facts)
 }

@@ -328,16 +328,14 @@ fn add_entering(
     draft: &mut Draft,
     rect: Rect,
     standing: Standing,
-    number: usize,
-    edge: Edge,
+    numbered: &(usize, Edge),
 ) -> Result<(), AllocError>
     requires { IsNear standing.cell }
     ensures { OnOk result (draft.new ≡ draft.old
         ++ ports.entering_rule rect standing.at standing.splitter standing.half standing.cell standing.dir
-        (number, edge) ∷ []) }
+        numbered.now ∷ []) }
 {
-    let _ = edge;
-    let port = Fact::Enters(standing.splitter, number, standing.half);
+    let port = Fact::Enters(standing.splitter, numbered.0, standing.half);
     let mut facts = vec![in alloc; standing.at, port]?;
     push_still_into(&mut facts, rect, standing.cell, standing.dir)?;
     draft.add(&facts, &[])
@@ -375,7 +373,7 @@ fn add_all_entering(
         standing.dir) into.now) }
 {
     for numbered in into {
-        add_entering(alloc, draft, rect, standing, numbered.0, numbered.1)?;
+        add_entering(alloc, draft, rect, standing, numbered)?;
     }
     Ok(())
 }

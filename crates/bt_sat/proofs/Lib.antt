@@ -17,9 +17,11 @@ pub mod Hunted
 pub mod Inferring
 pub mod Keeping
 pub mod Leveled
+pub mod Listing
 pub mod Lists
 pub mod Loaded
 pub mod Logging
+pub mod Marks
 pub mod Modelled
 pub mod Noting
 pub mod Picking

@@ -1,45 +1,49 @@
 //! Places of the trail that are to be dealt with, the greatest first.
-ghost use Rattle.std.specs.Prelude.{◌≡◌, [], OnOk, IsTrue, ◌↔◌};
+ghost use Rattle.std.specs.Prelude.{◌≡◌, [], true, false, slice_index_or, slice_set, IfOk, OnOk, IsTrue, ◌↔◌};
 ghost use Rattle.std.specs.BinaryHeap.{heap_items, IsHeap};
 ghost use Rattle.std.specs.Ordering.{nat_cmp};
-ghost use Rattle.bt_sat.specs.inner.Agendas.{Adds, IsGreatest, Takes, Reaches};
+ghost use Rattle.bt_sat.specs.inner.Agendas.{Adds, AreMarked, IsGreatest, NoneMarked, Reaches, Takes};
 
 use std::alloc::{AllocError, Global};
 use std::collections::BinaryHeap;
 use std::marker::Model;
 
-/// Places of the trail, some perhaps more than once.
+/// Places of the trail.
 #[derive(Drop)]
 pub struct Agenda {
     heap: BinaryHeap<usize>,
+    /// For each place, whether it is known to be on the heap, so that it isn't put there again.
+    marks: Vec<bool>,
 }
 
 impl Model for Agenda {
     ghost use Rattle.std.specs.Prelude.{ℕ, List};
-    ghost use Rattle.std.specs.BinaryHeap.{heap_items, IsHeap};
-    ghost use Rattle.std.specs.Ordering.{nat_cmp};
+    ghost use Rattle.std.specs.BinaryHeap.{heap_items};
+    ghost use Rattle.bt_sat.specs.inner.Agendas.{AreMarked};
 
     ghost Value = { List ℕ };
 
     ghost view = { λ a. heap_items a.heap };
 
-    ghost invariant = { λ a. IsHeap nat_cmp (heap_items a.heap) };
+    ghost invariant = { λ a. AreMarked (heap_items a.heap) a.marks.items };
 }
 
 impl Agenda {
-    /// An agenda without places.
-    pub fn new(alloc: Global) -> Agenda
-        ensures { result ≡ [] }
+    /// An agenda without places, for so many.
+    pub fn new(alloc: Global, size: usize) -> Result<Agenda, AllocError>
+        ensures { IfOk result (λ a. a ≡ []) }
     {
-        Agenda {
+        Ok(Agenda {
             heap: BinaryHeap::new(alloc),
-        }
+            marks: vec![in alloc; false; size]?,
+        })
     }
 
     /// Takes all places off the agenda.
     pub fn clear(&mut self)
         ensures { self.new ≡ [] }
     {
+        unmark_all(&mut self.marks);
         self.heap.clear();
     }
 
@@ -47,8 +51,7 @@ impl Agenda {
     pub fn add(&mut self, place: usize) -> Result<(), AllocError>
         ensures { OnOk result (Adds self.old place self.new) }
     {
-        self.heap.push(place)?;
-        Ok(())
+        add_new(&mut self.heap, &mut self.marks, place)
     }
 
     /// The greatest place, where there is one.
@@ -68,12 +71,64 @@ impl Agenda {
         }
     }
 
-    /// Takes the greatest place off the agenda, however often it is there.
+    /// Takes the greatest place off the agenda.
     pub fn take_greatest(&mut self) -> Option<usize>
         ensures { Takes self.old result self.new }
     {
-        take_all(&mut self.heap)
+        take_marked(&mut self.heap, &mut self.marks)
     }
+}
+
+/// Puts a number on a heap, where it isn't marked as one that is there.
+fn add_new(heap: &mut BinaryHeap<usize>, marks: &mut [bool], place: usize) -> Result<(), AllocError>
+    requires { AreMarked (heap_items heap.old) marks.old }
+    ensures adds { OnOk result (Adds (heap_items heap.old) place (heap_items heap.new)) }
+    ensures marked { AreMarked (heap_items heap.new) marks.new }
+{
+    if is_marked(marks, place) {
+        return Ok(());
+    }
+    heap.push(place)?;
+    set_mark(marks, place, true);
+    Ok(())
+}
+
+/// Takes the greatest number off a heap, which is marked no longer.
+fn take_marked(heap: &mut BinaryHeap<usize>, marks: &mut [bool]) -> Option<usize>
+    requires { AreMarked (heap_items heap.old) marks.old }
+    ensures takes { Takes (heap_items heap.old) result (heap_items heap.new) }
+    ensures marked { AreMarked (heap_items heap.new) marks.new }
+{
+    match take_all(heap) {
+        Some(greatest) => {
+            set_mark(marks, greatest, false);
+            Some(greatest)
+        }
+        None => None,
+    }
+}
+
+/// Whether a place is marked.
+fn is_marked(marks: &[bool], place: usize) -> bool
+    ensures { result ≡ slice_index_or marks.now place false }
+{
+    place < marks.len() && marks[place]
+}
+
+/// Marks a place, or takes its mark away.
+fn set_mark(marks: &mut [bool], place: usize, mark: bool)
+    ensures { marks.new ≡ slice_set marks.old place mark }
+{
+    if place < marks.len() {
+        marks[place] = mark;
+    }
+}
+
+/// Takes all marks away.
+fn unmark_all(marks: &mut [bool])
+    ensures { NoneMarked marks.new }
+{
+    marks.fill(false);
 }
 
 /// Takes the greatest number off a heap, however often it is there.

@@ -1,40 +1,14 @@
 //! Choosing what to set next.
 ghost use Rattle.std.specs.Prelude.{◌≡◌, ◌<◌, length, map, OnOk, IfOk, None, vec_len};
 ghost use Rattle.bt_cnf.specs.Choosing.{Ascends};
-ghost use Rattle.bt_sat.specs.inner.Choices.{AddsUnset, AreUnset, BeginsLevel, Decides};
+ghost use Rattle.bt_sat.specs.inner.Choices.{BeginsLevel, Decides, ListsUnset};
 ghost use Rattle.bt_sat.specs.inner.Progressing.{IsRunning, KeepsFormula};
 
 use crate::assignment::assign;
 use crate::progress::Progress;
 use crate::search::Search;
-use crate::truth::Values;
 use bt_cnf::{Chooser, Lit, Pick, Var};
 use std::alloc::AllocError;
-
-/// Lists the variables that have no value, in ascending order.
-fn list_unset(unset: &mut Vec<Var>, values: &Values) -> Result<(), AllocError>
-    ensures { OnOk result (AreUnset values.now (length values.now) unset.new.items) }
-{
-    unset.clear();
-    for place in 0..values.len() {
-        add_unset(unset, values, place)?;
-    }
-    Ok(())
-}
-
-/// Appends the variable at a place, where it has no value.
-fn add_unset(unset: &mut Vec<Var>, values: &Values, place: usize) -> Result<(), AllocError>
-    requires { place < length values.now }
-    ensures { OnOk result (AddsUnset values.now place unset.old.items unset.new.items) }
-{
-    if let Some(var) = values.id_at(place) {
-        if values.get(var).is_none() {
-            unset.push(var)?;
-            return Ok(());
-        }
-    }
-    Ok(())
-}
 
 /// Asks the chooser that serves. Where there is none, the lowest variable is set to false.
 fn ask<C: Chooser>(choosers: &mut Vec<C>, unset: &[Var]) -> Pick
@@ -71,12 +45,12 @@ pub fn decide<C: Chooser>(
     requires running { IsRunning progress.old }
     requires none { progress.old.conflict ≡ None }
     requires settled { progress.old.settled ≡ length progress.old.search.assignment.trail.items }
+    requires listed { ListsUnset progress.old }
     ensures decides { IfOk result (Decides progress.old progress.new) }
     ensures kept { KeepsFormula progress.old progress.new }
     ensures same { map C.told_lengths choosers.new.items ≡ map C.told_lengths choosers.old.items }
     ensures count { vec_len choosers.new ≡ vec_len choosers.old }
 {
-    list_unset(&mut progress.unset, &progress.search.assignment.values)?;
     if progress.unset.is_empty() {
         return Ok(false);
     }

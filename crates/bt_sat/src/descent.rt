@@ -1,12 +1,43 @@
 //! Going down from choice to choice.
-ghost use Rattle.std.specs.Prelude.{◌≡◌, map, IfOk, None, vec_len};
-ghost use Rattle.bt_sat.specs.inner.Choices.{Descends};
+ghost use Rattle.std.specs.Prelude.{◌≡◌, map, IfOk, OnOk, None, vec_len};
+ghost use Rattle.bt_sat.specs.inner.Choices.{CoversUnset, Descends, Follows};
 ghost use Rattle.bt_sat.specs.inner.Progressing.{IsRunning, KeepsFormula};
 
 use crate::choosing::decide;
 use crate::progress::{Progress, infer};
+use crate::unset::{drop_set, list_unset};
 use bt_cnf::Chooser;
 use std::alloc::AllocError;
+
+/// Lets follow what follows at first, and lists what has no value then.
+fn begin(progress: &mut Progress) -> Result<(), AllocError>
+    requires { IsRunning progress.old }
+    ensures follows { OnOk result (Follows progress.old progress.new) }
+    ensures kept { KeepsFormula progress.old progress.new }
+{
+    if progress.conflict.is_none() {
+        infer(progress)?;
+    }
+    if progress.conflict.is_none() {
+        list_unset(&mut progress.unset, &progress.search.assignment.values)?;
+    }
+    Ok(())
+}
+
+/// Lets follow what follows from a choice, and drops what has got a value off the list.
+fn follow(progress: &mut Progress) -> Result<(), AllocError>
+    requires running { IsRunning progress.old }
+    requires ready { progress.old.conflict ≡ None }
+    requires covers { CoversUnset progress.old }
+    ensures follows { OnOk result (Follows progress.old progress.new) }
+    ensures kept { KeepsFormula progress.old progress.new }
+{
+    infer(progress)?;
+    if progress.conflict.is_none() {
+        drop_set(&mut progress.unset, &progress.search.assignment.values);
+    }
+    Ok(())
+}
 
 /// Chooses and lets follow what follows, until all literals of a clause are false or all variables have a
 /// value. Tells such a clause.
@@ -20,14 +51,12 @@ pub fn descend<C: Chooser>(
     ensures same { map C.told_lengths choosers.new.items ≡ map C.told_lengths choosers.old.items }
     ensures count { vec_len choosers.new ≡ vec_len choosers.old }
 {
+    begin(progress)?;
     while progress.conflict.is_none() {
-        infer(progress)?;
-        if progress.conflict.is_some() {
-            break;
-        }
         if !decide(progress, choosers)? {
             return Ok(None);
         }
+        follow(progress)?;
     }
     Ok(progress.conflict)
 }

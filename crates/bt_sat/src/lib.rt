@@ -26,6 +26,7 @@ mod solver;
 mod tests;
 mod truth;
 mod turns;
+mod unset;
 mod watched;
 mod watchers;
 

@@ -15,7 +15,7 @@ use crate::learning::Lesson;
 use crate::progress::Progress;
 use crate::search::{Search, keep};
 use crate::truth::{Values, is_false, is_true};
-use crate::watchers::Watchers;
+use crate::watchers::{Counts, Watchers};
 use bt_arena::{Arena, Pool};
 use bt_cnf::{ClauseId, Formula, Lit};
 use bt_log::Log;
@@ -44,14 +44,35 @@ fn unassigned(alloc: Global, vars: usize) -> Result<Assignment, AllocError>
     })
 }
 
-/// A search over so many variables that keeps no clauses.
-fn empty_search(alloc: Global, vars: usize) -> Result<Search, AllocError>
-    ensures { IfOk result (λ s. IsEmptySearch vars s) }
+/// Counts a clause where its first two different literals are going to be watched.
+fn count_watches(counts: &mut Counts, lits: &[Lit]) {
+    if let Some(place) = other_place(lits) {
+        counts.add(&lits[0]);
+        counts.add(&lits[place]);
+    }
+}
+
+/// For each literal, how many clauses of a formula are going to watch it.
+fn watch_counts(alloc: Global, formula: &Formula) -> Result<Counts, AllocError> {
+    let mut counts = Counts::new(alloc, formula.vars())?;
+    for number in 0..formula.clauses() {
+        if let Some(id) = formula.clause_at(number) {
+            count_watches(&mut counts, formula.clause(id));
+        }
+    }
+    Ok(counts)
+}
+
+/// A search over the variables of a formula that keeps no clauses, with room for the watches of its own.
+fn empty_search(alloc: Global, formula: &Formula) -> Result<Search, AllocError>
+    ensures { IfOk result (λ s. IsEmptySearch formula.now.vars s) }
 {
+    let vars = formula.vars();
+    let counts = watch_counts(alloc, formula)?;
     Ok(Search {
         assignment: unassigned(alloc, vars)?,
         clauses: Pool::new(alloc)?,
-        watchers: Watchers::new(alloc, vars)?,
+        watchers: Watchers::new(alloc, vars, &counts)?,
         numbers: Vec::new(alloc),
         starts: Vec::new(alloc),
     })
@@ -152,29 +173,30 @@ fn load_clauses(
     Ok(None)
 }
 
-/// A lesson that is still to be learnt.
-fn no_lesson(alloc: Global) -> Lesson {
-    Lesson {
+/// A lesson over so many variables that is still to be learnt.
+fn no_lesson(alloc: Global, vars: usize) -> Result<Lesson, AllocError> {
+    Ok(Lesson {
         analysis: Analysis {
-            agenda: Agenda::new(alloc),
+            agenda: Agenda::new(alloc, vars)?,
             picked: Vec::new(alloc),
             hints: Vec::new(alloc),
         },
         lits: Vec::new(alloc),
-    }
+    })
 }
 
 /// The search of a formula that begins, with an empty log that may have a limited number of steps.
 pub fn load(alloc: Global, formula: Formula, limit: u64) -> Result<Progress, AllocError>
     ensures { IfOk result (IsLoaded formula limit) }
 {
-    let mut search = empty_search(alloc, formula.vars())?;
+    let mut search = empty_search(alloc, &formula)?;
     let conflict = load_clauses(&mut search, &formula, &mut Vec::new(alloc))?;
     let log = Log::new(alloc, formula.clauses())?;
+    let lesson = no_lesson(alloc, formula.vars())?;
     Ok(Progress {
         known: Known { formula, log },
         search,
-        lesson: no_lesson(alloc),
+        lesson,
         unset: Vec::new(alloc),
         limit,
         served: 0,

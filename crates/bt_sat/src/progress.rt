@@ -14,7 +14,7 @@ pub struct Progress {
     pub known: Known,
     pub search: Search,
     pub lesson: Lesson,
-    /// The variables that aren't set, while one of them is chosen.
+    /// The variables that have no value, in ascending order, while the search goes down.
     pub unset: Vec<Var>,
     /// The most steps that the log may have.
     pub limit: u64,

@@ -7,12 +7,11 @@ ghost use Rattle.bt_sat.specs.inner.Watchers.{watches_of};
 ghost use Rattle.bt_sat.specs.inner.Propagating.{Advances, IsSettledTo, Keeps, Propagates, Settles};
 
 use crate::assignment::{Assignment, assign};
-use crate::kept::{Watch, Watched};
+use crate::kept::{Kept, PackedId, Watch};
 use crate::packed::{Packed, pack_all};
 use crate::truth::{Values, negation};
 use crate::watched::{Visit, attend};
 use crate::watchers::Watchers;
-use bt_arena::{Id, Pool};
 use bt_cnf::Lit;
 use std::alloc::AllocError;
 
@@ -21,7 +20,7 @@ use std::alloc::AllocError;
 pub struct Search {
     pub assignment: Assignment,
     /// The clauses of two or more literals, whose first two are watched.
-    pub clauses: Pool<Packed, Watched>,
+    pub clauses: Kept,
     pub watchers: Watchers,
     /// For each of these clauses, its number among those of the formula and of the log.
     pub numbers: Vec<usize>,
@@ -37,26 +36,22 @@ pub enum Attended {
     /// It is on the list no longer.
     Leaves,
     /// All its literals are false.
-    Fails(Id<Watched>),
+    Fails(PackedId),
 }
 
 /// Visits a clause where a literal has become false.
-fn attend_in(
-    clauses: &mut Pool<Packed, Watched>,
-    id: Id<Watched>,
-    gone: &Lit,
-    values: &Values,
-) -> Visit
+fn attend_in(clauses: &mut Kept, id: PackedId, gone: &Lit, values: &Values) -> Visit
     requires id { id < length clauses.old }
     requires watchable { IsWatchable (length values.now) (kept_at clauses.old id) }
     requires gone { IsFalseIn values.now gone.now }
     ensures { AttendsIn values.now gone.now id clauses.old clauses.new result }
 {
+    let id = id.unpack(clauses);
     attend(clauses.slice_mut(id), gone, values)
 }
 
 /// The number of a kept clause.
-pub fn number_of(numbers: &[usize], id: Id<Watched>) -> Option<usize>
+pub fn number_of(numbers: &[usize], id: PackedId) -> Option<usize>
     ensures { result ≡ slice_get numbers.now id }
 {
     numbers.get(id.place()).copied()
@@ -105,7 +100,7 @@ pub fn attend_at(search: &mut Search, gone: &Lit, place: usize) -> Result<Attend
 
 /// Visits all clauses that watch a literal that is false. Tells the clause whose literals are all false,
 /// where there is one.
-pub fn settle(search: &mut Search, gone: &Lit) -> Result<Option<Id<Watched>>, AllocError>
+pub fn settle(search: &mut Search, gone: &Lit) -> Result<Option<PackedId>, AllocError>
     requires watched { AreWatched (length search.old.assignment.values)
         search.old.clauses search.old.watchers }
     requires truths { AreTrue search.old.assignment.values search.old.assignment.trail.items }
@@ -127,7 +122,7 @@ pub fn settle(search: &mut Search, gone: &Lit) -> Result<Option<Id<Watched>>, Al
 /// Lets follow what follows from the literals that are true, the first so many of which are settled. Where
 /// it ends without a clause whose literals are all false, none of the clauses that were given is false, and
 /// none is a unit. Else it tells such a clause.
-pub fn propagate(search: &mut Search, settled: usize) -> Result<Option<Id<Watched>>, AllocError>
+pub fn propagate(search: &mut Search, settled: usize) -> Result<Option<PackedId>, AllocError>
     requires { IsSettledTo settled search.old }
     ensures { IfOk result (Propagates search.old search.new) }
 {
@@ -155,7 +150,8 @@ fn keep_packed(
     requires same { packed.now ≡ lits.now }
     ensures { OnOk result (Keeps lits.now number search.old search.new) }
 {
-    let id = search.clauses.add_slice(packed)?;
+    let added = search.clauses.add_slice(packed)?;
+    let id = PackedId::pack(added)?;
     let by_first = Watch {
         id,
         blocker: packed[1],

@@ -10,13 +10,14 @@ use std::alloc::{AllocError, Global};
 /// For each variable, the clauses that watch its positive literal, or those that watch its negative one.
 pub type Side = Vec<Vec<Watch>>;
 
-/// Empty lists for so many variables.
-pub fn empty_lists(alloc: Global, vars: usize) -> Result<Side, AllocError>
+/// Empty lists for so many variables, each with room for as many clauses as are counted.
+pub fn empty_lists(alloc: Global, vars: usize, counts: &[usize]) -> Result<Side, AllocError>
     ensures { IfOk result (λ side. AreEmptyLists vars (lists_of side)) }
 {
     let mut side = Vec::new(alloc);
-    for _ in 0..vars {
-        side.push(Vec::new(alloc))?;
+    for var in 0..vars {
+        let room = counts.get(var).copied().unwrap_or(0);
+        side.push(Vec::with_capacity(alloc, room)?)?;
     }
     Ok(side)
 }

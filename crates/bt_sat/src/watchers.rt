@@ -5,9 +5,43 @@ ghost use Rattle.bt_sat.specs.inner.Watchers.{watches_of, Resets, Watches, Unwat
 
 use crate::kept::Watch;
 use crate::side::{Side, empty_lists, list_add, list_at, list_len, list_remove, list_set};
-use bt_cnf::Lit;
+use bt_cnf::{Lit, Var};
 use std::alloc::{AllocError, Global};
 use std::marker::Model;
+
+/// For each literal, how many clauses are going to watch it, so that its list gets its room at once.
+#[derive(Drop)]
+pub struct Counts {
+    positives: Vec<usize>,
+    negatives: Vec<usize>,
+}
+
+impl Counts {
+    /// Counts of the literals of so many variables, which are zero.
+    pub fn new(alloc: Global, vars: usize) -> Result<Counts, AllocError> {
+        Ok(Counts {
+            positives: vec![in alloc; 0; vars]?,
+            negatives: vec![in alloc; 0; vars]?,
+        })
+    }
+
+    /// Counts one more clause that is going to watch a literal.
+    pub fn add(&mut self, lit: &Lit) {
+        if lit.positive {
+            add_one(&mut self.positives, lit.var);
+        } else {
+            add_one(&mut self.negatives, lit.var);
+        }
+    }
+}
+
+/// Counts one more for a variable.
+fn add_one(counts: &mut [usize], var: Var) {
+    let place = var.place();
+    if place < counts.len() {
+        counts[place] = counts[place].saturating_add(1);
+    }
+}
 
 /// For each literal, the kept clauses that watch it, in no order.
 #[derive(Drop)]
@@ -29,13 +63,13 @@ impl Model for Watchers {
 }
 
 impl Watchers {
-    /// Lists for so many variables, whose literals no clause watches.
-    pub fn new(alloc: Global, vars: usize) -> Result<Watchers, AllocError>
+    /// Lists for so many variables, whose literals no clause watches yet.
+    pub fn new(alloc: Global, vars: usize, counts: &Counts) -> Result<Watchers, AllocError>
         ensures { IfOk result (λ w. AreUnwatched vars w) }
     {
         Ok(Watchers {
-            positives: empty_lists(alloc, vars)?,
-            negatives: empty_lists(alloc, vars)?,
+            positives: empty_lists(alloc, vars, &counts.positives)?,
+            negatives: empty_lists(alloc, vars, &counts.negatives)?,
         })
     }
 

@@ -10,6 +10,7 @@ pub mod GrowingClasses
 pub mod Indicators
 pub mod LineWeights
 pub mod Meeting
+pub mod Named
 pub mod Nothings
 pub mod Numbers
 pub mod OneForm
@@ -18,6 +19,10 @@ pub mod Refutations
 pub mod Resting
 pub mod Runs
 pub mod Shares
+pub mod ShortPoints
+pub mod ShortWalks
+pub mod ShortZeros
+pub mod Shorts
 pub mod SignedLines
 pub mod Signs
 pub mod Standing

@@ -74,7 +74,7 @@ total_push at some (t ∷ terms) all x has =
     (back (group_plus (times t.1 (at t.0)) (total at terms) (times x.1 (at x.0)) first (total_positive at some terms rest) last))
 
 -- a running sum with one more product
-part_more : (at : ℕ → Ratio) → AreValues at → (terms : Terms) → All HasNumber terms → (i : ℕ) (x : ℕ × Ratio) (sum product after : Ratio) → i < length terms → x ≡ get_or terms i x → Positive x.1
+pub part_more : (at : ℕ → Ratio) → AreValues at → (terms : Terms) → All HasNumber terms → (i : ℕ) (x : ℕ × Ratio) (sum product after : Ratio) → i < length terms → x ≡ get_or terms i x → Positive x.1
     → Alike sum (total at (take i terms)) → Positive product → IsProduct x.1 (at x.0) product → Positive after → IsSum sum product after → Alike after (total at (take (i + 1) terms))
 part_more at some terms all i x sum product after inside is has so_far product_some is_product after_some is_sum =
     let told = alike product (times x.1 (at x.0)) product_some (times_positive x.1 (at x.0) has (some x.0)) is_product in

@@ -54,7 +54,7 @@ step_left first rest factor right some after = record {
   shorter = omega arith;
 }
 
-product_some : (x y p : Ratio) → Positive p → IsProduct x y p → x.over ≢ pos 0 → y.over ≢ pos 0 → p.over ≢ pos 0
+pub product_some : (x y p : Ratio) → Positive p → IsProduct x y p → x.over ≢ pos 0 → y.over ≢ pos 0 → p.over ≢ pos 0
 product_some x y p some is x_some y_some e =
     let sizes : unsigned_abs p.over * (x.under * y.under) ≡ unsigned_abs x.over * unsigned_abs y.over * p.under =
     sym (unsigned_abs-mul p.over (pos (x.under * y.under))) ∙ ap unsigned_abs is ∙ unsigned_abs-mul (x.over *ℤ y.over) (pos p.under)

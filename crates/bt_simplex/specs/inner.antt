@@ -1,11 +1,15 @@
 -- What the contracts of private functions cite.
 pub mod Bases
 pub mod Checking
+pub mod Forms
 pub mod Lemmas
 pub mod Places
 pub mod Runs
 pub mod Settling
 pub mod Shares
+pub mod ShortSteps
+pub mod ShortPoints
+pub mod Shorts
 pub mod Starts
 pub mod Steps
 pub mod Sums

@@ -8,7 +8,7 @@ ghost use Rattle.bt_simplex.specs.SolvedForms.{slot_at};
 ghost use Rattle.bt_simplex.specs.Turns.{InBasis};
 ghost use Rattle.bt_simplex.specs.inner.Places.{IsPlace};
 
-use crate::line::{Line, Term};
+use crate::line::{Line, Term, signed_line};
 use bt_frac::Frac;
 use std::alloc::{AllocError, Global};
 use std::marker::Model;
@@ -28,7 +28,7 @@ pub enum Place<'a> {
     /// In the basis, with the line of its class's first position, or with the other sign.
     Line {
         first: usize,
-        terms: &'a [Term],
+        line: &'a Line,
         negated: bool,
     },
     /// In the basis, with another member of its class alone for a line, or with the other sign.
@@ -99,7 +99,7 @@ impl Basis {
         match &self.lines[class] {
             Some(line) => Place::Line {
                 first: self.firsts[class],
-                terms: line.terms(),
+                line,
                 negated,
             },
             None => {
@@ -130,7 +130,7 @@ impl Basis {
         ensures { IfOk result (λ slot. slot ≡ slot_at self.now position) }
     {
         match self.place(position) {
-            Place::Line { terms, negated, .. } => Ok(Some(signed_line(alloc, terms, negated)?)),
+            Place::Line { line, negated, .. } => Ok(Some(line.signed(alloc, negated)?)),
             Place::Like { other, negated } => Ok(Some(lone_line(alloc, other, negated)?)),
             Place::Outside => Ok(None),
         }
@@ -174,18 +174,18 @@ impl Basis {
         })
     }
 
-    /// One more position of this line, in this class, where the class's terms are the same up to the sign,
-    /// and else in a class of its own.
-    pub fn with_line(self, line: Line, class: usize) -> Result<Basis, AllocError>
-        ensures { IfOk result (λ more. more ≡ self ++ Some line ∷ []) }
+    /// One more position of the line of these terms, in this class, where the class's terms are the same up
+    /// to the sign, and else in a class of its own.
+    pub fn with_line(
+        self,
+        alloc: Global,
+        terms: Vec<Term>,
+        class: usize,
+    ) -> Result<Basis, AllocError>
+        requires { IsLine terms.items }
+        ensures { IfOk result (λ more. more ≡ self ++ Some terms.items ∷ []) }
     {
-        match sign_in(
-            &self.members,
-            &self.lines,
-            &self.outside,
-            class,
-            line.terms(),
-        ) {
+        match sign_in(&self.members, &self.lines, &self.outside, class, &terms) {
             Some(negated) => {
                 let Basis {
                     members,
@@ -201,7 +201,7 @@ impl Basis {
                     outside,
                 })
             }
-            None => self.with_class(Some(line)),
+            None => self.with_class(Some(Line::of(alloc, terms)?)),
         }
     }
 }
@@ -222,40 +222,6 @@ pub fn differ(first: bool, second: bool) -> bool
     if first { !second } else { second }
 }
 
-/// The line, with the other sign where this is told.
-pub fn signed_line(alloc: Global, terms: &[Term], negated: bool) -> Result<Line, AllocError>
-    requires { IsLine terms.now }
-    ensures { IfOk result (λ line. line ≡ signed_terms negated terms.now) }
-{
-    if negated {
-        negated_line(alloc, terms)
-    } else {
-        Ok(Line {
-            terms: Vec::from_slice(alloc, terms)?,
-        })
-    }
-}
-
-/// The line with the other sign.
-fn negated_line(alloc: Global, terms: &[Term]) -> Result<Line, AllocError>
-    requires { IsLine terms.now }
-    ensures { IfOk result (λ line. line ≡ signed_terms true terms.now) }
-{
-    let terms = negated_terms(alloc, terms)?;
-    Ok(Line { terms })
-}
-
-/// The terms with the other sign.
-fn negated_terms(alloc: Global, terms: &[Term]) -> Result<Vec<Term>, AllocError>
-    ensures { IfOk result (λ v. v.items ≡ signed_terms true terms.now) }
-{
-    let mut others = Vec::with_capacity(alloc, terms.len())?;
-    for (position, number) in terms {
-        others.push((*position, number.negate()))?;
-    }
-    Ok(others)
-}
-
 /// The line of one position with the number 1, or -1 where this is told.
 fn lone_line(alloc: Global, position: usize, negated: bool) -> Result<Line, AllocError>
     requires { position < 2 ^ 64 - 1 }
@@ -264,15 +230,15 @@ fn lone_line(alloc: Global, position: usize, negated: bool) -> Result<Line, Allo
     signed_line(alloc, &[(position, Frac::whole(1))], negated)
 }
 
-/// Whether two lists of terms are the same, or the same with the other sign where this is told.
-fn are_same(terms: &[Term], others: &[Term], negated: bool) -> bool
-    ensures { IsTrue result → signed_terms negated terms.now ≡ others.now }
+/// Whether a line has these terms, or these with the other sign where this is told.
+fn are_same(line: &Line, others: &[Term], negated: bool) -> bool
+    ensures { IsTrue result → signed_terms negated line.now ≡ others.now }
 {
-    if terms.len() != others.len() {
+    if line.len() != others.len() {
         return false;
     }
-    for i in 0..terms.len() {
-        if !is_same(&terms[i], &others[i], negated) {
+    for i in 0..line.len() {
+        if !is_same(&line.term_at(i), &others[i], negated) {
             return false;
         }
     }
@@ -287,13 +253,30 @@ fn is_same(term: &Term, other: &Term, negated: bool) -> bool
     term.0 == other.0 && number == other.1
 }
 
-/// The sign with which two lists of terms are the same.
-fn sign_of(terms: &[Term], others: &[Term]) -> Option<bool>
-    ensures { IfSome result (λ negated. signed_terms negated terms.now ≡ others.now) }
+/// The sign with which a line has these terms.
+fn sign_of(line: &Line, others: &[Term]) -> Option<bool>
+    ensures { IfSome result (λ negated. signed_terms negated line.now ≡ others.now) }
 {
-    if are_same(terms, others, false) {
+    if are_same(line, others, false) {
         Some(false)
-    } else if are_same(terms, others, true) {
+    } else if are_same(line, others, true) {
+        Some(true)
+    } else {
+        None
+    }
+}
+
+/// The sign with which a position alone has these terms.
+fn sign_alone(position: usize, terms: &[Term]) -> Option<bool>
+    ensures { IfSome result (λ negated. signed_terms negated ((position, one) ∷ []) ≡ terms.now) }
+{
+    let [term] = terms else {
+        return None;
+    };
+    let alone = (position, Frac::whole(1));
+    if is_same(&alone, term, false) {
+        Some(false)
+    } else if is_same(&alone, term, true) {
         Some(true)
     } else {
         None
@@ -313,11 +296,11 @@ fn sign_in(
         (position_at outside.now class) negated ≡ terms.now) }
 {
     match lines.get(class) {
-        Some(Some(line)) => sign_of(line.terms(), terms),
+        Some(Some(line)) => sign_of(line, terms),
         Some(None) => {
             let position = *outside.get(class)?;
             let member = members.get(position)?;
-            let negated = sign_of(&[(position, Frac::whole(1))], terms)?;
+            let negated = sign_alone(position, terms)?;
             Some(differ(negated, member.negated))
         }
         None => None,
@@ -341,9 +324,7 @@ fn copied_line(alloc: Global, line: &Option<Line>) -> Result<Option<Line>, Alloc
     ensures { IfOk result (λ copy. copy ≡ line.now) }
 {
     match line {
-        Some(line) => Ok(Some(Line {
-            terms: Vec::from_slice(alloc, line.terms())?,
-        })),
+        Some(line) => Ok(Some(line.signed(alloc, false)?)),
         None => Ok(None),
     }
 }

@@ -1,15 +1,15 @@
 //! Bland's rule: of the positions that fail the least leaves the basis, and of those that can enter the
 //! least does.
-ghost use Rattle.std.specs.Prelude.{◌≡◌, ℕ, IfOk, IfErr, IsTrue, ◌↔◌, Some};
+ghost use Rattle.std.specs.Prelude.{◌≡◌, ℕ, IfOk, IfErr, IfSome, IsTrue, ◌↔◌, Some};
 ghost use Rattle.bt_simplex.specs.Causes.{IsCause};
-ghost use Rattle.bt_simplex.specs.Lines.{IsLine};
+ghost use Rattle.bt_simplex.specs.Points.{bound_row};
 ghost use Rattle.bt_simplex.specs.SolvedForms.{Slots, slot_at};
 ghost use Rattle.bt_simplex.specs.Turns.{Breaks, Fails, MovesTowards, CanEnter};
 ghost use Rattle.bt_simplex.specs.inner.Bases.{with_slots, MayEnter, Names, Finds, IsLeastOf, IsNext};
 
-use crate::basis::Basis;
+use crate::basis::{Basis, Place};
 use crate::causes::Cause;
-use crate::line::Term;
+use crate::line::Line;
 use crate::points::{bound_value, line_point, point};
 use crate::tableau::{Tableau, Turn};
 use bt_frac::{Delta, Frac, Relation, Row};
@@ -73,6 +73,21 @@ fn may_enter(tableau: &Tableau, row: &Row, point: &Delta, position: usize, numbe
     }
 }
 
+/// Whether a bound row is in the basis and doesn't hold, where whole numbers tell it.
+fn fails_whole(tableau: &Tableau, basis: &Basis, row: &Row, position: usize) -> Option<bool>
+    requires { bound_row tableau.now position ≡ Some row.now }
+    ensures { IfSome result (λ told. IsTrue told ↔ Fails (with_slots tableau.now basis.now) position) }
+{
+    tableau.all_known();
+    let Place::Line { line, negated, .. } = basis.place(position) else {
+        return None;
+    };
+    line.known();
+    let short = line.short()?;
+    let told = short.breaks(tableau, row, negated)?;
+    Some(told)
+}
+
 /// Whether a position is a bound row of the basis that doesn't hold; or why its point doesn't fit.
 fn fails(tableau: &Tableau, basis: &Basis, position: usize) -> Result<bool, Cause>
     ensures told { IfOk result (λ told. IsTrue told ↔ Fails (with_slots tableau.now basis.now) position) }
@@ -81,6 +96,9 @@ fn fails(tableau: &Tableau, basis: &Basis, position: usize) -> Result<bool, Caus
     let Some(row) = tableau.bound_row(position) else {
         return Ok(false);
     };
+    if let Some(told) = fails_whole(tableau, basis, row, position) {
+        return Ok(told);
+    }
     if !basis.has(position) {
         return Ok(false);
     }
@@ -107,13 +125,14 @@ pub fn leaving(tableau: &Tableau, basis: &Basis) -> Least
 }
 
 /// The least position of the failing row's line that may be moved.
-fn first_entering(tableau: &Tableau, row: &Row, point: &Delta, terms: &[Term]) -> Option<usize>
-    requires { IsLine terms.now }
-    ensures { IsLeastOf (λ e. Names terms.now (MayEnter tableau.now row.now point.now) e) result }
+fn first_entering(tableau: &Tableau, row: &Row, point: &Delta, line: &Line) -> Option<usize>
+    ensures { IsLeastOf (λ e. Names line.now (MayEnter tableau.now row.now point.now) e) result }
 {
-    for (position, number) in terms {
-        if may_enter(tableau, row, point, *position, number) {
-            return Some(*position);
+    line.known();
+    for index in 0..line.len() {
+        let (position, number) = line.term_at(index);
+        if may_enter(tableau, row, point, position, &number) {
+            return Some(position);
         }
     }
     None
@@ -133,13 +152,12 @@ pub fn entering(
     let Some(line) = basis.line(alloc, leaves)? else {
         return Ok(Least::Nowhere);
     };
-    Ok(entering_by(tableau, leaves, line.terms()))
+    Ok(entering_by(tableau, leaves, &line))
 }
 
 /// The least position that can enter for one that fails and has this line.
-fn entering_by(tableau: &Tableau, leaves: usize, terms: &[Term]) -> Least
-    requires line { IsLine terms.now }
-    ensures { (slots : Slots) → slot_at slots leaves ≡ Some terms.now
+fn entering_by(tableau: &Tableau, leaves: usize, line: &Line) -> Least
+    ensures { (slots : Slots) → slot_at slots leaves ≡ Some line.now
         → Fails (with_slots tableau.now slots) leaves
         → Finds (with_slots tableau.now slots)
         (λ e. CanEnter (with_slots tableau.now slots) leaves e) result }
@@ -147,8 +165,8 @@ fn entering_by(tableau: &Tableau, leaves: usize, terms: &[Term]) -> Least
     let Some(row) = tableau.bound_row(leaves) else {
         return Least::Nowhere;
     };
-    match line_point(tableau, leaves, terms) {
-        Ok(point) => match first_entering(tableau, row, &point, terms) {
+    match line_point(tableau, leaves, line) {
+        Ok(point) => match first_entering(tableau, row, &point, line) {
             Some(enters) => Least::At(enters),
             None => Least::Nowhere,
         },

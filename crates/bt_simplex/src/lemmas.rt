@@ -16,8 +16,7 @@ ghost use Rattle.bt_simplex.specs.inner.Lemmas.{weight_of, AreLineWeights};
 
 use crate::basis::Basis;
 use crate::causes::Cause;
-use crate::line::{Line, Term};
-use crate::merging::combined;
+use crate::line::{Line, Term, combined};
 use crate::points::{bound_value, line_point};
 use crate::sums::sum_cause;
 use crate::tableau::Tableau;
@@ -88,22 +87,18 @@ fn stuck_weights(
     let Some(found) = basis.line(alloc, position)? else {
         unreachable!()
     };
-    let terms = found.terms();
+    let terms = found.terms(alloc)?;
     let _ = basis.len();
     let Some(row) = tableau.bound_row(position) else {
         unreachable!()
     };
-    let point = match line_point(tableau, position, terms) {
+    let point = match line_point(tableau, position, &found) {
         Ok(point) => point,
         Err(cause) => return Ok(Err(cause)),
     };
-    let line = difference(alloc, position, terms)?;
-    let weights = weights_of(
-        alloc,
-        tableau.columns(),
-        is_above(row, &point),
-        line.terms(),
-    )?;
+    let line = difference(alloc, position, &terms)?;
+    let others = line.terms(alloc)?;
+    let weights = weights_of(alloc, tableau.columns(), is_above(row, &point), &others)?;
     Ok(Ok(weights))
 }
 

@@ -13,6 +13,7 @@ mod merging;
 mod points;
 mod running;
 mod settling;
+mod short;
 mod starting;
 mod sums;
 mod tableau;
@@ -23,7 +24,6 @@ mod turning;
 
 pub use answers::{Check, Operation, Trail, Wide, WidePlace};
 pub use law::one_solved_form;
-pub use line::{Line, Term};
 pub use starting::are_over;
 pub use std::alloc::AllocError as Memory;
 pub use tableau::{Tableau, Turn};

@@ -1,18 +1,38 @@
 //! Lines of a solved form: the positions whose numbers aren't 0, in ascending order, with these numbers.
-ghost use Rattle.std.specs.Prelude.{◌≡◌, IfSome};
+ghost use Rattle.std.specs.Prelude.{◌≡◌, ◌≢◌, ◌<◌, ◌-◌, ◌^◌, pos, IfOk, IfErr, IfSome, Some, is_some, true, length, slice_index_or};
+ghost use Rattle.bt_frac.specs.Ratio.{Ratio, IsLowest};
 ghost use Rattle.bt_lin.specs.WeightedRows.{coefficient_at};
-ghost use Rattle.bt_simplex.specs.Lines.{IsLine, HasNumber};
+ghost use Rattle.bt_simplex.specs.Classes.{signed_terms};
+ghost use Rattle.bt_simplex.specs.Lines.{IsLine, HasNumber, IsCombination};
+ghost use Rattle.bt_simplex.specs.inner.TurnedSlots.{IsZeroLine, IsEntering};
+ghost use Rattle.bt_simplex.specs.inner.Unfits.{IsUnfit};
 
+use crate::causes::Unfit;
+use crate::merging::merged;
+use crate::short::{Short, entering_line, shortened, substituted, zero_line};
 use bt_frac::Frac;
+use std::alloc::{AllocError, Global};
 use std::marker::Model;
 
 /// A position with its number.
 pub type Term = (usize, Frac);
 
+/// A list whose terms are dropped, so that a line can be formed in its memory.
+pub type Room = Vec<(usize, i64)>;
+
+/// How a line holds its terms.
+#[derive(Drop)]
+enum Form {
+    /// As small whole numbers over one denominator.
+    Whole(Short),
+    /// As fractions in lowest terms.
+    Fractions(Vec<Term>),
+}
+
 /// A sum of numbers times what stands at positions. The positions ascend, and no number is 0.
 #[derive(Drop)]
 pub struct Line {
-    pub(crate) terms: Vec<Term>,
+    form: Form,
 }
 
 impl Model for Line {
@@ -20,31 +40,215 @@ impl Model for Line {
 
     ghost Value = { Terms };
 
-    ghost view = { λ l. l.terms.items };
+    ghost use Rattle.bt_simplex.specs.inner.Forms.{form_terms};
 
-    ghost invariant = { λ l. IsLine l.terms.items };
+    ghost view = { λ l. form_terms l.form };
+
+    ghost invariant = { λ l. IsLine (form_terms l.form) };
 }
 
 impl Line {
+    /// The line of these terms.
+    pub fn of(alloc: Global, terms: Vec<Term>) -> Result<Line, AllocError>
+        requires { IsLine terms.items }
+        ensures { IfOk result (λ line. line ≡ terms.items) }
+    {
+        match shortened(alloc, &terms)? {
+            Some(short) => Ok(Line::whole(short)),
+            None => Ok(Line {
+                form: Form::Fractions(terms),
+            }),
+        }
+    }
+
+    /// The line of small whole numbers over one denominator.
+    fn whole(short: Short) -> Line
+        ensures { result ≡ short }
+    {
+        short.known();
+        Line {
+            form: Form::Whole(short),
+        }
+    }
+
+    /// Tells a proof that the terms are a line. It does nothing when it runs.
+    pub fn known(&self)
+        ensures { IsLine self.now }
+    {
+        let _ = &self.form;
+    }
+
+    /// The small whole numbers over one denominator, where the line holds these.
+    pub fn short(&self) -> Option<&Short>
+        ensures { IfSome result (λ short. short.now ≡ self.now) }
+    {
+        match &self.form {
+            Form::Whole(short) => Some(short),
+            Form::Fractions(_) => None,
+        }
+    }
+
+    /// The number of terms.
+    pub fn len(&self) -> usize
+        ensures { result ≡ length self.now }
+    {
+        match &self.form {
+            Form::Whole(short) => short.len(),
+            Form::Fractions(terms) => terms.len(),
+        }
+    }
+
+    /// The term at a place of the line.
+    pub fn term_at(&self, index: usize) -> Term
+        requires { index < length self.now }
+        ensures { result ≡ slice_index_or self.now index result }
+    {
+        match &self.form {
+            Form::Whole(short) => short.term_at(index),
+            Form::Fractions(terms) => terms[index],
+        }
+    }
+
     /// The positions whose numbers aren't 0, in ascending order, with these numbers.
-    pub fn terms(&self) -> &[Term]
-        ensures value { result.now ≡ self.now }
+    pub fn terms(&self, alloc: Global) -> Result<Vec<Term>, AllocError>
+        ensures value { IfOk result (λ v. v.items ≡ self.now) }
         ensures known { IsLine self.now }
     {
-        &self.terms
+        match &self.form {
+            Form::Whole(short) => short.long_terms(alloc),
+            Form::Fractions(terms) => Vec::from_slice(alloc, terms),
+        }
     }
+
+    /// Whether a position's number isn't 0.
+    pub fn names(&self, position: usize) -> bool
+        ensures { result ≡ is_some (coefficient_at position self.now) }
+    {
+        match &self.form {
+            Form::Whole(short) => short.names(position),
+            Form::Fractions(terms) => found(terms, position).is_some(),
+        }
+    }
+
     /// The number of a position, where it isn't 0.
     pub fn number_at(&self, position: usize) -> Option<Frac>
         ensures number { result ≡ coefficient_at position self.now }
         ensures known { IfSome result (λ n. HasNumber (position, n)) }
         ensures line { IsLine self.now }
     {
-        found(self.terms(), position)
+        self.known();
+        match &self.form {
+            Form::Whole(short) => short.number_at(position),
+            Form::Fractions(terms) => found(terms, position),
+        }
+    }
+
+    /// The line, with the other sign where this is told.
+    pub fn signed(&self, alloc: Global, negated: bool) -> Result<Line, AllocError>
+        ensures { IfOk result (λ line. line ≡ signed_terms negated self.now) }
+    {
+        match &self.form {
+            Form::Whole(short) => Ok(Line::whole(short.signed(alloc, negated)?)),
+            Form::Fractions(terms) => signed_line(alloc, terms, negated),
+        }
+    }
+
+    /// The line, with what a position of it stands for put in place of it by a line that is 0, in the room
+    /// of a list whose terms are dropped; or the first product or sum that doesn't fit.
+    pub fn substituted(
+        &self,
+        alloc: Global,
+        room: Room,
+        enters: usize,
+        zero: &Line,
+    ) -> Result<Result<Line, Unfit>, AllocError>
+        requires { is_some (coefficient_at enters self.now) ≡ true }
+        ensures line { IfOk result (λ o. IfOk o IsLine) }
+        ensures sum { (number : Ratio) → coefficient_at enters self.now ≡ Some number
+            → IfOk result (λ o. IfOk o (IsCombination self.now number zero.now)) }
+        ensures unfit { (number : Ratio) → coefficient_at enters self.now ≡ Some number
+            → IfOk result (λ o. IfErr o (IsUnfit self.now number zero.now)) }
+    {
+        if let (Some(line), Some(other)) = (self.short(), zero.short()) {
+            if let Some(short) = substituted(room, line, enters, other)? {
+                return Ok(Ok(Line::whole(short)));
+            }
+        }
+        self.substituted_long(alloc, enters, zero)
+    }
+
+    /// The same by fractions.
+    fn substituted_long(
+        &self,
+        alloc: Global,
+        enters: usize,
+        zero: &Line,
+    ) -> Result<Result<Line, Unfit>, AllocError>
+        requires { is_some (coefficient_at enters self.now) ≡ true }
+        ensures line { IfOk result (λ o. IfOk o IsLine) }
+        ensures sum { (number : Ratio) → coefficient_at enters self.now ≡ Some number
+            → IfOk result (λ o. IfOk o (IsCombination self.now number zero.now)) }
+        ensures unfit { (number : Ratio) → coefficient_at enters self.now ≡ Some number
+            → IfOk result (λ o. IfErr o (IsUnfit self.now number zero.now)) }
+    {
+        let Some(number) = self.number_at(enters) else {
+            unreachable!()
+        };
+        let left = self.terms(alloc)?;
+        let right = zero.terms(alloc)?;
+        combined(alloc, &left, &number, &right)
+    }
+
+    /// The line that is 0 wherever this line holds of its position, where both are held as small whole
+    /// numbers.
+    pub fn whole_zero(
+        &self,
+        alloc: Global,
+        position: usize,
+        enters: usize,
+    ) -> Result<Option<Line>, AllocError>
+        requires { position < 2 ^ 64 - 1 }
+        ensures zero { (number : Ratio) → coefficient_at enters self.now ≡ Some number
+            → IfOk result (λ o. IfSome o (IsZeroLine position self.now number)) }
+        ensures known { IsLine self.now }
+    {
+        self.known();
+        let Some(line) = self.short() else {
+            return Ok(None);
+        };
+        match zero_line(alloc, position, line, enters)? {
+            Some(zero) => Ok(Some(Line::whole(zero))),
+            None => Ok(None),
+        }
+    }
+
+    /// The room of a line that is needed no more.
+    pub fn into_room(self, alloc: Global) -> Room {
+        let Line { form } = self;
+        match form {
+            Form::Whole(short) => short.into_room(),
+            Form::Fractions(_) => Vec::new(alloc),
+        }
+    }
+
+    /// The line of the position that enters, by this line, which is 0 and has its number -1 there, where both
+    /// are held as small whole numbers.
+    pub fn whole_entering(&self, alloc: Global, enters: usize) -> Result<Option<Line>, AllocError>
+        requires { enters < 2 ^ 64 - 1 }
+        ensures { IfOk result (λ o. IfSome o (IsEntering enters self.now)) }
+    {
+        let Some(zero) = self.short() else {
+            return Ok(None);
+        };
+        match entering_line(alloc, enters, zero)? {
+            Some(line) => Ok(Some(Line::whole(line))),
+            None => Ok(None),
+        }
     }
 }
 
 /// The number of a position in a line, where it has one.
-pub fn found(terms: &[Term], position: usize) -> Option<Frac>
+fn found(terms: &[Term], position: usize) -> Option<Frac>
     requires { IsLine terms.now }
     ensures { result ≡ coefficient_at position terms.now }
 {
@@ -57,4 +261,50 @@ pub fn found(terms: &[Term], position: usize) -> Option<Frac>
         }
     }
     None
+}
+
+/// The line of these terms, with the other sign where this is told.
+pub fn signed_line(alloc: Global, terms: &[Term], negated: bool) -> Result<Line, AllocError>
+    requires { IsLine terms.now }
+    ensures { IfOk result (λ line. line ≡ signed_terms negated terms.now) }
+{
+    if negated {
+        let others = negated_terms(alloc, terms)?;
+        Line::of(alloc, others)
+    } else {
+        Line::of(alloc, Vec::from_slice(alloc, terms)?)
+    }
+}
+
+/// The terms with the other sign.
+fn negated_terms(alloc: Global, terms: &[Term]) -> Result<Vec<Term>, AllocError>
+    ensures { IfOk result (λ v. v.items ≡ signed_terms true terms.now) }
+{
+    let mut others = Vec::with_capacity(alloc, terms.len())?;
+    for (position, number) in terms {
+        others.push((*position, number.negate()))?;
+    }
+    Ok(others)
+}
+
+/// The sum of a line and a number, other than 0, times another line, or the first product or sum that
+/// doesn't fit.
+pub fn combined(
+    alloc: Global,
+    left: &[Term],
+    factor: &Frac,
+    right: &[Term],
+) -> Result<Result<Line, Unfit>, AllocError>
+    requires factor { factor.now.over ≢ pos 0 }
+    requires lowest { IsLowest factor.now }
+    requires left { IsLine left.now }
+    requires right { IsLine right.now }
+    ensures line { IfOk result (λ o. IfOk o IsLine) }
+    ensures sum { IfOk result (λ o. IfOk o (IsCombination left.now factor.now right.now)) }
+    ensures unfit { IfOk result (λ o. IfErr o (IsUnfit left.now factor.now right.now)) }
+{
+    match merged(Vec::new(alloc), left, factor, right)? {
+        Ok(terms) => Ok(Ok(Line::of(alloc, terms)?)),
+        Err(unfit) => Ok(Err(unfit)),
+    }
 }

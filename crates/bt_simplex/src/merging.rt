@@ -8,43 +8,25 @@ ghost use Rattle.bt_simplex.specs.inner.Unfits.{IsUnfitHere, IsUnfit};
 
 use crate::answers::Operation;
 use crate::causes::Unfit;
-use crate::line::{Line, Term};
+use crate::line::Term;
 use bt_frac::Frac;
-use std::alloc::{AllocError, Global};
+use std::alloc::AllocError;
 use std::cmp::Ordering;
 
-/// The sum of a line and a number, other than 0, times another line, or the first product or sum that
-/// doesn't fit.
-pub fn combined(
-    alloc: Global,
-    left: &[Term],
-    factor: &Frac,
-    right: &[Term],
-) -> Result<Result<Line, Unfit>, AllocError>
-    requires factor { factor.now.over ≢ pos 0 }
-    requires lowest { IsLowest factor.now }
-    requires left { IsLine left.now }
-    requires right { IsLine right.now }
-    ensures line { IfOk result (λ o. IfOk o IsLine) }
-    ensures sum { IfOk result (λ o. IfOk o (IsCombination left.now factor.now right.now)) }
-    ensures unfit { IfOk result (λ o. IfErr o (IsUnfit left.now factor.now right.now)) }
-{
-    merged(Vec::new(alloc), left, factor, right)
-}
-
-/// The same, in the room of a list whose terms are dropped.
+/// The terms of the sum of a line and a number, other than 0, times another line, in the room of a list whose
+/// terms are dropped; or the first product or sum that doesn't fit.
 pub fn merged(
     room: Vec<Term>,
     left: &[Term],
     factor: &Frac,
     right: &[Term],
-) -> Result<Result<Line, Unfit>, AllocError>
+) -> Result<Result<Vec<Term>, Unfit>, AllocError>
     requires factor { factor.now.over ≢ pos 0 }
     requires lowest { IsLowest factor.now }
     requires left { IsLine left.now }
     requires right { IsLine right.now }
-    ensures line { IfOk result (λ o. IfOk o IsLine) }
-    ensures sum { IfOk result (λ o. IfOk o (IsCombination left.now factor.now right.now)) }
+    ensures line { IfOk result (λ o. IfOk o (λ v. IsLine v.items)) }
+    ensures sum { IfOk result (λ o. IfOk o (λ v. IsCombination left.now factor.now right.now v.items)) }
     ensures unfit { IfOk result (λ o. IfErr o (IsUnfit left.now factor.now right.now)) }
 {
     let mut terms = room;
@@ -64,7 +46,7 @@ pub fn merged(
             Err(unfit) => return Ok(Err(unfit)),
         }
     }
-    Ok(Ok(Line { terms }))
+    Ok(Ok(terms))
 }
 
 /// The first term of the sum of a line and a number times another, where it isn't 0, and what is left

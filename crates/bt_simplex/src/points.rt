@@ -11,7 +11,7 @@ ghost use Rattle.bt_simplex.specs.inner.UnfitPoints.{AddsPart, AddsTerm, IsUnfit
 use crate::answers::{Operation, WidePlace};
 use crate::basis::{Basis, Place};
 use crate::causes::{Cause, Unfit};
-use crate::line::Term;
+use crate::line::{Line, Term};
 use crate::merging::is_zero;
 use crate::tableau::Tableau;
 use bt_frac::{Delta, Frac, Relation, Row};
@@ -90,18 +90,34 @@ fn added_term(tableau: &Tableau, sum: &Delta, term: &Term) -> Result<Delta, Unfi
 }
 
 /// What the line of a position adds up to where its positions rest; or why that doesn't fit.
-pub fn line_point(tableau: &Tableau, position: usize, terms: &[Term]) -> Result<Delta, Cause>
-    requires { IsLine terms.now }
-    ensures point { IfOk result (λ d. IsSamePoint d (standing (resting tableau.now) 0 (Some terms.now))) }
-    ensures unfit { IfErr result (IsUnfitPoint (resting tableau.now) position terms.now) }
+pub fn line_point(tableau: &Tableau, position: usize, line: &Line) -> Result<Delta, Cause>
+    ensures known { IsLine line.now }
+    ensures point { IfOk result (λ d. IsSamePoint d (standing (resting tableau.now) 0 (Some line.now))) }
+    ensures unfit { IfErr result (IsUnfitPoint (resting tableau.now) position line.now) }
+{
+    line.known();
+    if let Some(short) = line.short() {
+        if let Some(point) = short.point(tableau) {
+            return Ok(point);
+        }
+    }
+    long_point(tableau, position, line)
+}
+
+/// The same by fractions, of which the first product or sum that doesn't fit is told.
+fn long_point(tableau: &Tableau, position: usize, line: &Line) -> Result<Delta, Cause>
+    ensures point { IfOk result (λ d. IsSamePoint d (standing (resting tableau.now) 0 (Some line.now))) }
+    ensures unfit { IfErr result (IsUnfitPoint (resting tableau.now) position line.now) }
 {
     tableau.all_known();
+    line.known();
     let mut sum = Delta {
         value: Frac::whole(0),
         tiny: Frac::whole(0),
     };
-    for term in terms {
-        match added_term(tableau, &sum, term) {
+    for index in 0..line.len() {
+        let term = line.term_at(index);
+        match added_term(tableau, &sum, &term) {
             Ok(next) => sum = next,
             Err(unfit) => return Err(value_cause(position, unfit)),
         }
@@ -146,9 +162,9 @@ pub fn point(tableau: &Tableau, basis: &Basis, position: usize) -> Result<Delta,
     match basis.place(position) {
         Place::Line {
             first,
-            terms,
+            line,
             negated,
-        } => match line_point(tableau, first, terms) {
+        } => match line_point(tableau, first, line) {
             Ok(point) => Ok(signed_point(point, negated)),
             Err(cause) => Err(cause),
         },

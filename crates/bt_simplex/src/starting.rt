@@ -2,22 +2,24 @@
 ghost use Rattle.std.specs.Prelude.{◌≡◌, ◌<◌, IfOk, IsTrue, replicate, None, false};
 ghost use Rattle.std.specs.List.{All};
 ghost use Rattle.bt_frac.specs.Rows.{IsRow};
+ghost use Rattle.bt_simplex.specs.Lines.{IsLine};
 ghost use Rattle.bt_simplex.specs.Tableaus.{AreOverColumns};
 ghost use Rattle.bt_simplex.specs.inner.Starts.{kept, start_slots};
 
 use crate::basis::Basis;
-use crate::line::{Line, Term};
+use crate::line::Term;
 use crate::merging::is_zero;
 use bt_frac::Row;
 use std::alloc::{AllocError, Global};
 
-/// The line of a row: its terms whose numbers aren't 0.
-pub fn row_line(alloc: Global, row: &Row) -> Result<Line, AllocError>
-    ensures line { IfOk result (λ line. line ≡ kept row.now.terms) }
+/// The terms of a row's line: those whose numbers aren't 0.
+pub fn row_line(alloc: Global, row: &Row) -> Result<Vec<Term>, AllocError>
+    ensures terms { IfOk result (λ v. v.items ≡ kept row.now.terms) }
+    ensures line { IfOk result (λ v. IsLine v.items) }
     ensures known { IsRow row.now }
 {
     let terms = kept_terms(alloc, row.terms())?;
-    Ok(Line { terms })
+    Ok(terms)
 }
 
 /// The terms whose numbers aren't 0.
@@ -40,9 +42,9 @@ pub fn first_basis(alloc: Global, rows: &[Row], columns: usize) -> Result<Basis,
     let mut basis = column_slots(alloc, columns)?;
     let mut classes = first_classes(alloc, columns)?;
     for row in rows {
-        let line = row_line(alloc, row)?;
-        let class = likely_class(&mut classes, basis.classes(), line.terms());
-        basis = basis.with_line(line, class)?;
+        let terms = row_line(alloc, row)?;
+        let class = likely_class(&mut classes, basis.classes(), &terms);
+        basis = basis.with_line(alloc, terms, class)?;
     }
     Ok(basis)
 }

@@ -10,7 +10,6 @@ use crate::answers::{Check, Trail, Wide};
 use crate::basis::{Basis, Place};
 use crate::causes::Cause;
 use crate::lemmas::lemma;
-use crate::line::found;
 use crate::running::{End, Run, turned_from};
 use crate::settling::settled;
 use crate::starting::{all_known, copied, first_basis, unbound};
@@ -200,7 +199,7 @@ impl Tableau {
         ensures { IsTrue result → CanTurn self.now.slots turn }
     {
         match self.basis.place(turn.leaves) {
-            Place::Line { terms, .. } => match found(terms, turn.enters) {
+            Place::Line { line, .. } => match line.number_at(turn.enters) {
                 Some(_) => true,
                 None => false,
             },

@@ -10,10 +10,9 @@ ghost use Rattle.bt_simplex.specs.inner.Shares.{IsNegatedShare, AreNegatedShares
 ghost use Rattle.bt_simplex.specs.inner.UnfitTurns.{IsUnfitShare, IsUnfitTerm, IsUnfitZero, IsUnfitSlot, CanPart, IsSlotZero, IsUnfitPart, IsUnfitLine, IsUnfitTurn, entry_cause};
 
 use crate::answers::{Operation, WidePlace};
-use crate::basis::{Basis, Member, signed_line};
+use crate::basis::{Basis, Member};
 use crate::causes::{Cause, Unfit};
-use crate::line::{Line, Term};
-use crate::merging::{combined, merged};
+use crate::line::{Line, Room, Term, combined};
 use bt_frac::Frac;
 use std::alloc::{AllocError, Global};
 
@@ -34,12 +33,12 @@ fn negated_share(position: usize, number: &Frac, by: &Frac) -> Result<Term, Unfi
     Ok((position, share.negate()))
 }
 
-/// The line of the negated quotients of all terms by a number; or a quotient that doesn't fit.
-fn divided(alloc: Global, terms: &[Term], by: &Frac) -> Result<Result<Line, Unfit>, AllocError>
+/// The negated quotients of all terms by a number; or a quotient that doesn't fit.
+fn divided(alloc: Global, terms: &[Term], by: &Frac) -> Result<Result<Vec<Term>, Unfit>, AllocError>
     requires line { IsLine terms.now }
     requires lowest { IsLowest by.now }
     requires some { by.now.over ≢ pos 0 }
-    ensures shares { IfOk result (λ o. IfOk o (AreNegatedShares by.now terms.now)) }
+    ensures shares { IfOk result (λ o. IfOk o (λ v. AreNegatedShares by.now terms.now v.items)) }
     ensures unfit { IfOk result (λ o. IfErr o (IsUnfitTerm terms.now by.now)) }
 {
     let mut shares = Vec::with_capacity(alloc, terms.len())?;
@@ -49,7 +48,7 @@ fn divided(alloc: Global, terms: &[Term], by: &Frac) -> Result<Result<Line, Unfi
             Err(unfit) => return Ok(Err(unfit)),
         }
     }
-    Ok(Ok(Line { terms: shares }))
+    Ok(Ok(shares))
 }
 
 /// The line that is 0 wherever the given line holds of its position; or a quotient that doesn't fit.
@@ -71,7 +70,7 @@ fn zero_line(
         Err(unfit) => return Ok(Err(unfit)),
     };
     match negated_share(position, &Frac::whole(-1), number) {
-        Ok(share) => combined(alloc, &[share], &Frac::whole(1), shares.terms()),
+        Ok(share) => combined(alloc, &[share], &Frac::whole(1), &shares),
         Err(unfit) => Ok(Err(unfit)),
     }
 }
@@ -80,7 +79,7 @@ fn zero_line(
 #[derive(Drop)]
 enum Change {
     /// The slot has no line, or one without the entering position. The room is not used.
-    Stays(Vec<Term>),
+    Stays(Room),
     /// The slot's line, with what the entering position stands for in place of it.
     Line(Line),
     /// A product or a sum doesn't fit.
@@ -89,21 +88,21 @@ enum Change {
 
 /// What a turn makes of a slot, by a line that is 0, in the room of a list whose terms are dropped.
 fn changed(
-    room: Vec<Term>,
+    alloc: Global,
+    room: Room,
     slot: &Option<Line>,
     enters: usize,
-    zero: &[Term],
+    zero: &Line,
 ) -> Result<Change, AllocError>
-    requires { IsLine zero.now }
     ensures { IfOk result (IsChange enters zero.now slot.now) }
 {
     let Some(line) = slot else {
         return Ok(Change::Stays(room));
     };
-    let Some(number) = line.number_at(enters) else {
+    if !line.names(enters) {
         return Ok(Change::Stays(room));
-    };
-    match merged(room, line.terms(), &number, zero)? {
+    }
+    match line.substituted(alloc, room, enters, zero)? {
         Ok(line) => Ok(Change::Line(line)),
         Err(unfit) => Ok(Change::Wide(unfit)),
     }
@@ -129,9 +128,9 @@ fn entry_cause(row: usize, unfit: Unfit) -> Cause
 }
 
 /// The room of a line that is needed no more.
-fn room_of(alloc: Global, line: Option<Line>) -> Vec<Term> {
+fn room_of(alloc: Global, line: Option<Line>) -> Room {
     match line {
-        Some(line) => line.terms,
+        Some(line) => line.into_room(alloc),
         None => Vec::new(alloc),
     }
 }
@@ -142,15 +141,14 @@ fn substitute(
     alloc: Global,
     slots: &mut [Option<Line>],
     enters: usize,
-    zero: &[Term],
+    zero: &Line,
 ) -> Result<Result<(), Cause>, AllocError>
-    requires { IsLine zero.now }
     ensures done { IfOk result (λ o. IfOk o (λ _. AreSubstituted enters zero.now slots.old slots.new)) }
     ensures unfit { IfOk result (λ o. IfErr o (IsUnfitSlot enters zero.now slots.old slots.new)) }
 {
     let mut room = Vec::new(alloc);
     for i in 0..slots.len() {
-        match changed(room, &slots[i], enters, zero)? {
+        match changed(alloc, room, &slots[i], enters, zero)? {
             Change::Stays(same) => room = same,
             Change::Line(line) => {
                 let old = std::mem::replace(&mut slots[i], Some(line));
@@ -164,14 +162,17 @@ fn substitute(
 
 /// The line of the entering position: the position itself and a line that is 0 and has its number -1
 /// there, so that each product and sum fits.
-fn entering_line(alloc: Global, enters: usize, zero: &[Term]) -> Result<Line, AllocError>
+fn entering_line(alloc: Global, enters: usize, zero: &Line) -> Result<Line, AllocError>
     requires position { enters < 2 ^ 64 - 1 }
-    requires line { IsLine zero.now }
     requires number { coefficient_at enters zero.now ≡ Some (negated one) }
     ensures { IfOk result (IsEntering enters zero.now) }
 {
+    if let Some(line) = zero.whole_entering(alloc, enters)? {
+        return Ok(line);
+    }
     let one = Frac::whole(1);
-    match combined(alloc, &[(enters, one)], &one, zero)? {
+    let terms = zero.terms(alloc)?;
+    match combined(alloc, &[(enters, one)], &one, &terms)? {
         Ok(line) => Ok(line),
         Err(_) => unreachable!(),
     }
@@ -190,10 +191,29 @@ fn slot_zero(
     ensures unfit { IfOk result (λ o. IfErr o (IsUnfitPart slot.now leaves enters)) }
 {
     let Some(line) = slot else { unreachable!() };
+    if let Some(zero) = line.whole_zero(alloc, leaves, enters)? {
+        return Ok(Ok(zero));
+    }
+    long_zero(alloc, line, leaves, enters)
+}
+
+/// The same of a line, by fractions.
+fn long_zero(
+    alloc: Global,
+    line: &Line,
+    leaves: usize,
+    enters: usize,
+) -> Result<Result<Line, Unfit>, AllocError>
+    requires position { leaves < 2 ^ 64 - 1 }
+    requires can { CanPart (Some line.now) leaves enters }
+    ensures zero { IfOk result (λ o. IfOk o (IsSlotZero (Some line.now) leaves enters)) }
+    ensures unfit { IfOk result (λ o. IfErr o (IsUnfitPart (Some line.now) leaves enters)) }
+{
     let Some(number) = line.number_at(enters) else {
         unreachable!()
     };
-    zero_line(alloc, leaves, line.terms(), &number)
+    let terms = line.terms(alloc)?;
+    zero_line(alloc, leaves, &terms, &number)
 }
 
 /// Takes a class's line, and puts what the entering position stands for in place of it in each other line;
@@ -203,10 +223,9 @@ fn substitute_others(
     lines: &mut [Option<Line>],
     left: usize,
     enters: usize,
-    zero: &[Term],
+    zero: &Line,
 ) -> Result<Result<(), Cause>, AllocError>
-    requires left { left < length lines.old }
-    requires line { IsLine zero.now }
+    requires { left < length lines.old }
     ensures done { IfOk result
         (λ o. IfOk o (λ _. AreSubstituted enters zero.now (slice_set lines.old left None) lines.new)) }
     ensures unfit { IfOk result (λ o. IfErr o (IsUnfitLine left enters zero.now lines.old lines.new)) }
@@ -268,11 +287,11 @@ pub fn turn(
         Ok(zero) => zero,
         Err(unfit) => return Ok(Err(entry_cause(leaves, unfit))),
     };
-    let entering = entering_line(alloc, enters, zero.terms())?;
+    let entering = entering_line(alloc, enters, &zero)?;
     let Member { class, negated } = basis.members[enters];
-    let line = signed_line(alloc, entering.terms(), negated)?;
+    let line = entering.signed(alloc, negated)?;
     let left = basis.members[leaves].class;
-    match substitute_others(alloc, &mut basis.lines, left, enters, zero.terms())? {
+    match substitute_others(alloc, &mut basis.lines, left, enters, &zero)? {
         Ok(()) => {}
         Err(cause) => return Ok(Err(at_first(&basis.firsts, cause))),
     }

@@ -1,3 +1,5 @@
 pub mod FirstLines
 pub mod Pieces
 pub mod Longer
+pub mod Lacking
+pub mod WholeLines

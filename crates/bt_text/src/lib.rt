@@ -4,7 +4,9 @@
 mod blank;
 mod line;
 mod piece;
+mod whole;
 
 pub use blank::skip_blanks;
 pub use line::{first_line, line_feeds, split_once};
 pub use piece::{after_word, cut, next_piece};
+pub use whole::whole_lines;

@@ -13,8 +13,6 @@ use std::alloc::{AllocError, Global};
 pub fn atoms_of(alloc: Global, formula: &Formula) -> Result<Vec<Var>, AllocError>
     ensures { IfOk result (λ atoms. atoms.items ≡ atom_vars formula.now) }
 {
-    // The rows tell a proof that the formula is one.
-    let _ = formula.rows();
     let mut atoms = Vec::new(alloc);
     for place in 0..formula.vars() {
         let Some(var) = formula.var_at(place) else {

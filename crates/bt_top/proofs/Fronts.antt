@@ -1,45 +1,44 @@
 -- Fronts of an input from which the rest is answered as it is read.
-use Rattle.std.proofs.Common.{◌≡◌, ℕ, ◌+◌, ◌-◌, ◌<◌, ◌≤◌, false, List, [], ◌∷◌, ◌++◌, drop, length, slice_index, length-append, codes, append-nil, Result, Ok, Err, IfOk, IfErr, inl, inr, refl, ap, sym, subst, ◌∙◌, append_assoc, arith}
+use Rattle.std.proofs.Common.{◌≡◌, ℕ, ◌+◌, ◌-◌, ◌<◌, ◌≤◌, false, List, [], ◌∷◌, ◌++◌, drop, length, slice_index, length-append, append-nil, Result, Ok, Err, IfOk, IfErr, IfSome, Some, None, inl, inr, refl, ap, sym, subst, ◌∙◌, append_assoc, arith}
 use Rattle.std.proofs.lemmas.List.{drop-append-le}
 use Rattle.std.specs.declared.option.Option.{Option}
+use Rattle.std.specs.declared.alloc.AllocError.{AllocError}
 use Rattle.std.specs.Io.KnownBytes.{Consumes}
 use Rattle.std.proofs.KnownBytes.{Consumes-trans}
+use Rattle.bt_answers.specs.Answers.{UnlessMemory}
 use Rattle.bt_text.specs.Blanks.{IsBlank, SkipsBlanks}
 use Rattle.bt_text.specs.Lines.{SplitsAt}
-use Rattle.bt_text.proofs.Longer.{split-longer}
-use Rattle.bt_io.specs.Blocks.{TakesPiece, ReadsOn}
+use Rattle.bt_io.specs.Blocks.{Drains, TakesPiece, ReadsOn}
 use Rattle.bt_io.specs.Bytes.{ReadsAll, IsAllOf}
 use Rattle.bt_io.specs.Passages.{Passage, passage}
 use Rattle.bt_io.specs.declared.fault.ReadAll.{ReadAll}
 use Rattle.bt_io.specs.declared.fault.ReadAll.TheVariants.{ReadFault, TooLong, Memory}
 use Rattle.bt_io.proofs.Behind.{all_behind, fault_behind, memory_behind, long_behind}
-use Rattle.bt_net.specs.Network.{Network, IsNetwork}
-use Rattle.bt_flow.specs.declared.property.Property.{Property}
-use Rattle.bt_flow.specs.Names.{property_name}
-use Rattle.bt_fenc.specs.FlowFormula.{flow_formula}
+use Rattle.bt_cert.specs.Certificates.{IsCertRead}
 use Rattle.bt_cert.specs.declared.fault.CertFault.{CertFault}
 use Rattle.bt_cert.specs.declared.fault.CertFault.TheVariants as cert
-use Rattle.bt_cert.specs.Readings.{AnswersWhole, ChecksLog, IsLogChecked}
+use Rattle.bt_cert.specs.Readings.{AnswersWhole, ChecksLog}
+use Rattle.bt_words.specs.declared.command.Command.TheVariants.{Check, CheckLayout}
+use Rattle.bt_parts.specs.declared.part.Rect.{Rect}
+use Rattle.bt_parts.specs.declared.part.Tier.{Tier}
+use Rattle.bt_flow.specs.declared.property.Property.{Property}
 use Rattle.bt_top.specs.declared.answer.Answer.{Answer}
-use Rattle.bt_top.specs.Certificates.{IsCertified, IsYesChecked, cert_told}
-use Rattle.bt_top.specs.Designs.{IsDesign}
-use Rattle.bt_top.specs.Replies.{Reply, design_told}
-use Rattle.bt_top.specs.Steps.{went_on}
 use Rattle.bt_top.specs.declared.answer.Answer.TheVariants as answer
-use Rattle.bt_words.specs.declared.command.Command.TheVariants.{Check}
+use Rattle.bt_top.specs.declared.claim.Claim.TheVariants as claim
+use Rattle.bt_top.specs.declared.fault.DesignFault.{DesignFault}
+use Rattle.bt_top.specs.declared.fault.DesignFault.TheVariants as design
+use Rattle.bt_top.specs.declared.refusal.Refusal.{Refusal}
+use Rattle.bt_top.specs.declared.front.Front.{Front}
+use Rattle.bt_top.specs.declared.front.Front.TheVariants as front
+use Rattle.bt_top.specs.declared.front.Steps.{Steps}
 use Rattle.bt_top.specs.declared.input.TheConstants.{MOST_CHECKED}
+use Rattle.bt_top.specs.Certificates.{cert_told}
+use Rattle.bt_top.specs.Replies.{Reply}
+use Rattle.bt_top.specs.inner.Claims.{IsClaimed}
+use Rattle.bt_top.specs.inner.Fronts.{AnswersLeft, GivesFront, IsFrontOf, IsStepsReply, RestsOnEnd, TellsRefusal, TellsSettled, steps_told}
 use Rattle.bt_top.specs.inner.Telling.{IsAnswered}
-use Rattle.bt_top.specs.inner.Fronts.{AnswersLeft, IsFront, steps_told}
-use Rattle.bt_top.proofs.Certified.{yes_told, fault_told}
-use Rattle.bt_top.proofs.LongerDesigns.{Stays, design_stays}
 
--- a design that ends before the bytes do is the design of the bytes and whatever follows
-design_goes_on : (bytes more : List ℕ) (found : Network × ℕ) → IsDesign bytes (Ok found) → found.1 < length bytes → IsDesign (bytes ++ more) (Ok found)
-design_goes_on bytes more found h few = by (design_stays bytes found.0 found.1 h)
-  where
-    by : Stays bytes found.0 found.1 → IsDesign (bytes ++ more) (Ok found)
-    by (inl stays) = stays more
-    by (inr (all, fed)) = absurd (omega (arith, all, few))
+-- ---- fronts of what follows blanks
 
 begins_same : (rest more : List ℕ) → 0 < length rest → slice_index (rest ++ more) 0 ≡ slice_index rest 0
 begins_same [] more some = absurd (omega arith)
@@ -58,15 +57,41 @@ skips_on text rest more some s = record {
 pub has_some : (byte : ℕ) (text front back : List ℕ) → SplitsAt byte text front back → 0 < length text
 has_some byte text front back s = omega (arith, ap length s.text_is, length-append front (byte ∷ back))
 
--- a design, blanks and a line that says yes are a front of a certificate
-pub yes_is_front : (p : Property) (bytes text lines : List ℕ) (n : Network) (used : ℕ) → IsDesign bytes (Ok (n, used)) → used < length bytes
-    → SkipsBlanks (drop used bytes) text → SplitsAt 10 text (codes "yes " ++ property_name p) lines
-    → IsFront (IsCertified p) (IsYesChecked n p) bytes lines
-yes_is_front p bytes text lines n used design few skips says more reply h =
-    let some : 0 < length text = has_some 10 text (codes "yes " ++ property_name p) lines says in
-    let at : drop used bytes ++ more ≡ drop used (bytes ++ more) = sym (drop-append-le used bytes more (omega arith)) in
-    went_on (n, used) (design_goes_on bytes more (n, used) design few)
-    (text ++ more, subst (λ rest. SkipsBlanks rest (text ++ more)) at (skips_on (drop used bytes) text more some skips), inl (lines ++ more, inl (split-longer 10 text (codes "yes " ++ property_name p) lines more says), h))
+-- what is told of a text behind blanks is told of the blanks and the text
+pub behind_blanks : (Right : List ℕ → Reply → Type 0) (rest text : List ℕ) → 0 < length text → SkipsBlanks rest text → (result : Result (Option Front) AllocError) → GivesFront Right text result
+    → GivesFront (λ all reply. (behind : List ℕ) × SkipsBlanks all behind × Right behind reply) rest result
+behind_blanks Right rest text some skips (Ok None) gives = gives
+behind_blanks Right rest text some skips (Ok (Some f)) gives = λ more reply h. (text ++ more, skips_on rest text more some skips, gives more reply h)
+behind_blanks Right rest text some skips (Err e) gives = gives
+
+-- what is told of what follows so many bytes is told of the bytes, where that is told of them whatever follows
+pub behind_used : (Whole Rest : List ℕ → Reply → Type 0) (bytes : List ℕ) (used : ℕ) → used ≤ length bytes → ((more : List ℕ) (reply : Reply) → Rest (drop used (bytes ++ more)) reply → Whole (bytes ++ more) reply)
+    → (result : Result (Option Front) AllocError) → GivesFront Rest (drop used bytes) result → GivesFront Whole bytes result
+behind_used Whole Rest bytes used within goes_on (Ok None) gives = gives
+behind_used Whole Rest bytes used within goes_on (Ok (Some f)) gives =
+    λ more reply h. goes_on more reply (subst (λ b. Rest b reply) (sym (drop-append-le used bytes more within)) (gives more reply h))
+behind_used Whole Rest bytes used within goes_on (Err e) gives = gives
+
+-- ---- fronts that tell a refusal
+
+module _ (Right : List ℕ → Reply → Type 0) (bytes : List ℕ) where
+  -- one that is known whatever follows
+  pub tells_refusal : (why : DesignFault) (result : Result (Option Front) AllocError) → IfOk result (λ o. IfSome o (λ f. TellsRefusal why f))
+      → ((r : Refusal) → why ≡ design.Refused r → IsFrontOf Right bytes (front.Known (answer.Refused r))) → GivesFront Right bytes result
+  tells_refusal why (Ok None) tells known = tells
+  tells_refusal (design.Refused r) (Ok (Some f)) tells known = subst (λ x. IsFrontOf Right bytes x) (sym tells) (known r refl)
+  tells_refusal design.Memory (Ok (Some f)) tells known = absurd tells
+  tells_refusal why (Err e) tells known = tells
+
+  -- or where it doesn't rest on the end of a part
+  pub tells_settled : (part : List ℕ) (why : DesignFault) (result : Result (Option Front) AllocError) → IfOk result (λ o. IfSome o (λ f. TellsSettled part why f))
+      → ((r : Refusal) → why ≡ design.Refused r → (RestsOnEnd part r → ⊥) → IsFrontOf Right bytes (front.Known (answer.Refused r))) → GivesFront Right bytes result
+  tells_settled part why (Ok None) tells known = tells
+  tells_settled part (design.Refused r) (Ok (Some f)) tells known = subst (λ x. IsFrontOf Right bytes x) (sym tells.0) (known r refl tells.1)
+  tells_settled part design.Memory (Ok (Some f)) tells known = absurd tells
+  tells_settled part why (Err e) tells known = tells
+
+-- ---- sources
 
 module _ {S : Type 0} (left : S → Option (List ℕ)) (faults : S → ℕ) (first second third : S) (bytes : List ℕ) (limit rest : ℕ)
     (taken : Consumes (left first) (left second) bytes) (full : length bytes + rest ≡ limit) (count : faults first ≤ faults second) where
@@ -130,31 +155,51 @@ left_weaker P Q limit source (Err ReadFault) more h = h
 left_weaker P Q limit source (Err TooLong) more h = h
 left_weaker P Q limit source (Err Memory) more h = h
 
-module _ (n : Network) (p : Property) (lines : List ℕ) (limit : ℕ) (source : Passage) (net : IsNetwork n) where
-  abbrev pub Rest : List ℕ → Reply → Type 0
-  Rest left reply = IsYesChecked n p (lines ++ left) reply
+-- ---- steps
 
+module _ (steps : Steps) (limit : ℕ) (source : Passage) where
   -- steps that are a certificate, to the end of the source
-  pub steps_right : ChecksLog (flow_formula n p) lines limit source (Ok tt) → AnswersLeft Rest limit source (Ok (answer.Yes p))
-  steps_right h = (h.checked.0, record { read = (h.checked.1, h.checked.2); count = h.count }, yes_told n p (lines ++ h.checked.0) net h.checked.3.right)
+  pub steps_right : ChecksLog steps.formula steps.lines.now limit source (Ok tt) → AnswersLeft (IsStepsReply steps) limit source (Ok steps.accepted)
+  steps_right h = (h.checked.0, record { read = (h.checked.1, h.checked.2); count = h.count }, (Ok tt, h.checked.3.right, refl))
 
-  fault_in : (fault : CertFault) (a : Answer) → steps_told fault ≡ Ok a → cert_told fault ≡ Ok a → source.faults ≤ source.faults_after
-      → AnswersWhole (flow_formula n p) lines limit source (Err fault) → AnswersLeft Rest limit source (Ok a)
-  fault_in fault a e i count h =
-      (h.0, record { read = (h.1, h.2); count = count }, fault_told n p (lines ++ h.0) fault (Ok a) h.3.right (sym i))
+  not_memory : (fault : CertFault) (lines : List ℕ) → (fault ≡ cert.Memory → ⊥) → UnlessMemory cert.Memory (IsCertRead steps.formula lines) (Err fault) → IsCertRead steps.formula lines (Err fault)
+  not_memory fault lines other (inl h) = h
+  not_memory fault lines other (inr e) = absurd (other e)
+
+  fault_in : (fault : CertFault) (a : Answer) → (fault ≡ cert.Memory → ⊥) → cert_told fault ≡ Ok a → source.faults ≤ source.faults_after
+      → AnswersWhole steps.formula steps.lines.now limit source (Err fault) → AnswersLeft (IsStepsReply steps) limit source (Ok a)
+  fault_in fault a other e count h =
+      (h.0, record { read = (h.1, h.2); count = count }, (Err fault, not_memory fault (steps.lines.now ++ h.0) other h.3.right, sym e))
 
   -- steps that are none, or that could not be read
-  pub steps_wrong : (fault : CertFault) → ChecksLog (flow_formula n p) lines limit source (Err fault) → AnswersLeft Rest limit source (steps_told fault)
-  steps_wrong (cert.CertLine k) h = fault_in (cert.CertLine k) (answer.CertLine k) refl refl h.count h.checked
-  steps_wrong (cert.BadStep k cause) h = fault_in (cert.BadStep k cause) (answer.BadStep k cause) refl refl h.count h.checked
-  steps_wrong cert.NoVerdict h = fault_in cert.NoVerdict answer.NoVerdict refl refl h.count h.checked
-  steps_wrong (cert.CertWide k row column) h = fault_in (cert.CertWide k row column) (answer.CertWide k row column) refl refl h.count h.checked
+  pub steps_wrong : (fault : CertFault) → ChecksLog steps.formula steps.lines.now limit source (Err fault) → AnswersLeft (IsStepsReply steps) limit source (steps_told fault)
+  steps_wrong (cert.CertLine k) h = fault_in (cert.CertLine k) (answer.CertLine k) (λ e. cc) refl h.count h.checked
+  steps_wrong (cert.BadStep k cause) h = fault_in (cert.BadStep k cause) (answer.BadStep k cause) (λ e. cc) refl h.count h.checked
+  steps_wrong cert.NoVerdict h = fault_in cert.NoVerdict answer.NoVerdict (λ e. cc) refl h.count h.checked
+  steps_wrong (cert.CertWide k row column) h = fault_in (cert.CertWide k row column) (answer.CertWide k row column) (λ e. cc) refl h.count h.checked
   steps_wrong cert.ReadFault h = record { read = h.checked; count = h.count }
   steps_wrong cert.TooLong h = record { read = h.checked; count = h.count }
   steps_wrong cert.Memory h = record { read = h.checked; count = h.count }
 
+-- ---- what is known
+
+-- an answer that is known is that to all that a source has left, where that is drained
+pub known_right : (a : Answer) (limit : ℕ) (source : Passage) → Drains limit source (Ok tt) → AnswersLeft (λ more reply. reply ≡ Ok a) limit source (Ok a)
+known_right a limit source (bytes, read) = (bytes, read, refl)
+
+pub known_unread : (a : Answer) (limit : ℕ) (source : Passage) (fault : ReadAll) → Drains limit source (Err fault) → AnswersLeft (λ more reply. reply ≡ Ok a) limit source (Err fault)
+known_unread a limit source fault (bytes, read) = read
+
+-- ---- commands
+
 -- what is right of all that a source has left is what `check` answers to the source
-pub check_answered : (p : Property) (source : Passage) (result : Result Answer ReadAll) → AnswersLeft (IsCertified p) MOST_CHECKED source result
+pub check_answered : (p : Property) (source : Passage) (result : Result Answer ReadAll) → AnswersLeft (IsClaimed (claim.Flow p)) MOST_CHECKED source result
     → IsAnswered (Check p) source result
 check_answered p source (Ok a) h = h
 check_answered p source (Err fault) h = h
+
+-- and what `check-layout` answers to it
+pub layout_answered : (rect : Rect) (tier : Tier) (source : Passage) (result : Result Answer ReadAll) → AnswersLeft (IsClaimed (claim.NoLayout rect tier)) MOST_CHECKED source result
+    → IsAnswered (CheckLayout rect tier) source result
+layout_answered rect tier source (Ok a) h = h
+layout_answered rect tier source (Err fault) h = h

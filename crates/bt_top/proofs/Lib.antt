@@ -15,6 +15,8 @@ pub mod OneRequest
 pub mod NoneCertified
 pub mod Grids
 pub mod LaidOut
+pub mod Lasting
 pub mod Fronts
-pub mod NoneFronts
+pub mod FlowFronts
+pub mod LayoutFronts
 pub mod Budgets

@@ -15,11 +15,12 @@ use Rattle.bt_json.specs.declared.fault.JsonFault.{JsonFault}
 use Rattle.bt_json.specs.declared.fault.JsonFault.TheVariants as json
 use Rattle.bt_json.proofs.FirstBytes.{value_begins}
 use Rattle.bt_json.proofs.Longer.{value_stays, fault_stays}
+use Rattle.bt_net.specs.declared.fault.NetFault.{NetFault}
 use Rattle.bt_net.specs.declared.fault.NetFault.TheVariants as net
 use Rattle.bt_net.specs.Network.{Network}
 use Rattle.bt_net.specs.NetText.{header}
-use Rattle.bt_net.specs.Readings.{IsPlainRead}
-use Rattle.bt_net.specs.Longer.{with_line_feed}
+use Rattle.bt_net.specs.Readings.{Reading, IsPlainRead}
+use Rattle.bt_net.specs.Longer.{with_line_feed, StaysRefused}
 use Rattle.bt_net.proofs.Longer.{plain_stays, plain_stays_refused}
 use Rattle.bt_top.specs.declared.fault.DesignFault.{DesignFault}
 use Rattle.bt_top.specs.declared.fault.DesignFault.TheVariants.{Refused}
@@ -28,7 +29,7 @@ use Rattle.bt_top.specs.declared.refusal.Refusal.TheVariants as refusal
 use Rattle.bt_top.specs.Designs.{IsJsonText, IsJsonDesign, IsTextDesign, IsDesign}
 use Rattle.bt_top.specs.Longer.{DesignStays, IsOtherText, IsSettled, RefusalStays}
 use Rattle.bt_top.specs.Refusals.{json_told, net_told}
-use Rattle.bt_top.specs.Steps.{stopped, went_on}
+use Rattle.bt_top.specs.Steps.{InTurn, stopped, went_on}
 use Rattle.bt_top.proofs.Blanks.{one_rest}
 use Rattle.bt_top.proofs.InTurns.{same_value, not_both}
 use Rattle.bt_top.proofs.OneDesign.{seen_ok}
@@ -175,30 +176,39 @@ module _ (bytes : List ℕ) (n : Network) (used : ℕ) where
 pub design_stays : DesignStays
 design_stays bytes n used h = design_stays_of bytes n used h
 
+-- equal faults of results
+pub same_fault_of : {A : Type 0} (f g : DesignFault) → ◌≡◌ {A = Result A DesignFault} (Err f) (Err g) → f ≡ g
+same_fault_of f g e = cc
+
+-- a refusal of network text that ends with a line feed, but where it is that of the line that is next
+pub read_refused : {A : Type 0} (IsRead : List ℕ → Result Reading NetFault → Type 0) → StaysRefused IsRead → (value : Reading → A) (bytes more lines : List ℕ) (fault : DesignFault) → bytes ≡ line lines
+    → fault ≢ Refused (NetLine (line_feeds bytes + 1)) → InTurn (IsRead bytes) (λ f. Err (net_told f)) (λ read answer. answer ≡ Ok (value read)) (Err fault)
+    → InTurn (IsRead (bytes ++ more)) (λ f. Err (net_told f)) (λ read answer. answer ≡ Ok (value read)) (Err fault)
+read_refused IsRead stays value bytes more lines fault is other (went_on read h e) = absurd (not_both (value read) fault (sym e))
+read_refused IsRead stays value bytes more lines fault is other (stopped why h e) =
+    stopped why (subst (λ b. IsRead (b ++ more) (Err why)) (sym is) (stays lines more why next (subst (λ b. IsRead b (Err why)) is h))) e
+  where
+    told : fault ≡ net_told why
+    told = same_fault_of fault (net_told why) e
+
+    next : why ≢ net.NetLine (line_feeds (line lines) + 1)
+    next same = other (told ∙ ap net_told same ∙ ap (λ b. Refused (NetLine (line_feeds b + 1))) (sym is))
+
+-- a refusal of JSON text that isn't that it ends there is none of its end below
+pub json_settled : {A : Type 0} (bytes : List ℕ) (fault : DesignFault) → fault ≢ Refused (refusal.Json (length bytes)) → (why : JsonFault) → ◌≡◌ {A = Result A DesignFault} (Err fault) (Err (json_told why)) → why ≢ json.Json (length bytes)
+json_settled bytes fault other why e same = other (same_fault_of fault (json_told why) e ∙ ap json_told same)
+
+-- other text is no JSON text
+pub not_json : (bytes : List ℕ) → IsOtherText bytes → IsJsonText bytes → ⊥
+not_json bytes (byte, rest, s, unlike) (after, t) = let same : byte ∷ rest ≡ 123 ∷ after = one_rest bytes (byte ∷ rest) (123 ∷ after) s t in unlike cc
+
 module _ (bytes more : List ℕ) (fault : DesignFault) where
-  text_refused : (lines : List ℕ) → bytes ≡ line lines → fault ≢ Refused (NetLine (line_feeds bytes + 1)) → IsTextDesign bytes (Err fault) → IsTextDesign (bytes ++ more) (Err fault)
-  text_refused lines is other (went_on read h e) = absurd (not_both (read.net, read.used) fault (sym e))
-  text_refused lines is other (stopped why h e) =
-      let told : fault ≡ net_told why = same_fault_of fault (net_told why) e in
-      stopped why (subst (λ b. IsPlainRead (b ++ more) (Err why)) (sym is) (plain_stays_refused lines more why (next told) (subst (λ b. IsPlainRead b (Err why)) is h))) e
-    where
-      same_fault_of : (f g : DesignFault) → ◌≡◌ {A = Result (Network × ℕ) DesignFault} (Err f) (Err g) → f ≡ g
-      same_fault_of f g e = cc
-
-      next : fault ≡ net_told why → why ≢ net.NetLine (line_feeds (line lines) + 1)
-      next told same = other (told ∙ ap net_told same ∙ ap (λ b. Refused (NetLine (line_feeds b + 1))) (sym is))
-
-  json_settled : fault ≢ Refused (refusal.Json (length bytes)) → (why : JsonFault) → ◌≡◌ {A = Result (Network × ℕ) DesignFault} (Err fault) (Err (json_told why)) → why ≢ json.Json (length bytes)
-  json_settled other why e same = let told : fault ≡ json_told why = cc in other (told ∙ ap json_told same)
-
   refusal_stays_of : IsSettled bytes fault → IsDesign bytes (Err fault) → IsDesign (bytes ++ more) (Err fault)
-  refusal_stays_of (inl (is, other)) (inl (json, h)) = inl (json_text_stays bytes more is, json_design_stays bytes more (Err fault) is (json_settled other) h)
+  refusal_stays_of (inl (is, other)) (inl (json, h)) = inl (json_text_stays bytes more is, json_design_stays bytes more (Err fault) is (json_settled bytes fault other) h)
   refusal_stays_of (inl (is, other)) (inr (none, h)) = absurd (none is)
-  refusal_stays_of (inr (text, (lines, e), other)) (inl (is, h)) = absurd (other_here text is)
-    where
-      other_here : IsOtherText bytes → IsJsonText bytes → ⊥
-      other_here (byte, rest, s, unlike) (after, t) = let same : byte ∷ rest ≡ 123 ∷ after = one_rest bytes (byte ∷ rest) (123 ∷ after) s t in unlike cc
-  refusal_stays_of (inr (text, (lines, e), other)) (inr (none, h)) = inr (other_text_stays bytes more text, text_refused lines e other h)
+  refusal_stays_of (inr (text, (lines, e), other)) (inl (is, h)) = absurd (not_json bytes text is)
+  refusal_stays_of (inr (text, (lines, e), other)) (inr (none, h)) =
+      inr (other_text_stays bytes more text, read_refused IsPlainRead plain_stays_refused (λ read. (read.net, read.used)) bytes more lines fault e other h)
 
 -- a settled refusal is that of all longer bytes
 pub refusal_stays : RefusalStays

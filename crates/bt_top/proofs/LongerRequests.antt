@@ -1,16 +1,19 @@
 -- A network with pins and blocks at the front of longer bytes.
-use Rattle.std.proofs.Common.{◌≡◌, ◌⊎◌, ℕ, ◌+◌, ◌<◌, ◌≤◌, List, [], ◌∷◌, ◌++◌, length, drop, Result, Ok, ◌∙◌, ap, inl, inr, arith}
+use Rattle.std.proofs.Common.{◌≡◌, ◌≢◌, ◌⊎◌, ℕ, ◌+◌, ◌<◌, ◌≤◌, List, [], ◌∷◌, ◌++◌, length, drop, Result, Ok, Err, ◌∙◌, ap, sym, subst, inl, inr, arith}
 use Rattle.std.specs.Prelude.{codes}
 use Rattle.bt_net.specs.Readings.{IsNetRead}
 use Rattle.bt_net.specs.Longer.{with_line_feed}
-use Rattle.bt_net.proofs.Longer.{reading_stays}
+use Rattle.bt_net.proofs.Longer.{reading_stays, stays_refused}
 use Rattle.bt_top.specs.declared.fault.DesignFault.{DesignFault}
+use Rattle.bt_top.specs.declared.fault.DesignFault.TheVariants.{Refused}
+use Rattle.bt_top.specs.declared.refusal.Refusal.TheVariants as refusal
 use Rattle.bt_top.specs.Designs.{IsJsonText}
+use Rattle.bt_top.specs.Longer.{IsSettled}
 use Rattle.bt_top.specs.Refusals.{net_told}
 use Rattle.bt_top.specs.Requested.{PinnedNet, pinned_net, IsPinnedText, IsPinnedJson, IsPinned}
 use Rattle.bt_top.specs.Steps.{stopped, went_on}
 use Rattle.bt_top.proofs.InTurns.{same_value, not_both}
-use Rattle.bt_top.proofs.LongerDesigns.{json_text_stays, other_text_stays, json_design_stays, net_first, json_within}
+use Rattle.bt_top.proofs.LongerDesigns.{json_text_stays, other_text_stays, json_design_stays, net_first, json_within, json_settled, not_json, read_refused, same_fault_of}
 
 place_of : (n m : PinnedNet) (used end : ℕ) → ◌≡◌ {A = Result (PinnedNet × ℕ) DesignFault} (Ok (n, used)) (Ok (m, end)) → used ≡ end
 place_of n m used end e = ap (λ (x : PinnedNet × ℕ). x.1) (same_value (n, used) (m, end) e)
@@ -67,3 +70,18 @@ pinned_goes_on bytes more found h few = by (pinned_stays bytes found.0 found.1 h
     by : PinnedStays bytes found.0 found.1 → IsPinned (bytes ++ more) (Ok found)
     by (inl stays) = stays more
     by (inr (all, fed)) = absurd (omega (arith, all, few))
+
+-- a settled refusal is that of all longer bytes
+module _ (bytes more : List ℕ) (fault : DesignFault) where
+  pinned_json_refused : IsJsonText bytes → fault ≢ Refused (refusal.Json (length bytes)) → IsPinnedJson bytes (Err fault) → IsPinnedJson (bytes ++ more) (Err fault)
+  pinned_json_refused is other (went_on found h e) = absurd (not_both (pinned_net found.0 [] [], found.1) fault (sym e))
+  pinned_json_refused is other (stopped why h e) =
+      let same : why ≡ fault = sym (same_fault_of {A = PinnedNet × ℕ} fault why e) in
+      stopped why (json_design_stays bytes more (Err why) is (json_settled bytes why (subst (λ f. f ≢ Refused (refusal.Json (length bytes))) (sym same) other)) h) e
+
+  pub pinned_refusal_stays : IsSettled bytes fault → IsPinned bytes (Err fault) → IsPinned (bytes ++ more) (Err fault)
+  pinned_refusal_stays (inl (is, other)) (inl (json, h)) = inl (json_text_stays bytes more is, pinned_json_refused is other h)
+  pinned_refusal_stays (inl (is, other)) (inr (none, h)) = absurd (none is)
+  pinned_refusal_stays (inr (text, (lines, e), other)) (inl (is, h)) = absurd (not_json bytes text is)
+  pinned_refusal_stays (inr (text, (lines, e), other)) (inr (none, h)) =
+      inr (other_text_stays bytes more text, read_refused IsNetRead stays_refused (λ read. (pinned_net read.net read.pins read.blocks, read.used)) bytes more lines fault e other h)

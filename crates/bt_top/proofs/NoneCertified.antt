@@ -3,7 +3,7 @@ use Rattle.std.proofs.Common.{◌≡◌, ℕ, List, [], ◌∷◌, ◌++◌, Ok,
 use Rattle.std.proofs.lemmas.List.{append_assoc}
 use Rattle.std.proofs.lemmas.List.Elements.{All-nil, All-cons}
 use Rattle.bt_text.specs.Blanks.{IsBlank, SkipsBlanks}
-use Rattle.bt_net.proofs.NetLines.{lacks}
+use Rattle.bt_text.proofs.Lacking.{lacks}
 use Rattle.bt_log.specs.Logs.{Step}
 use Rattle.bt_log.specs.LogText.{log_text}
 use Rattle.bt_answers.specs.Answers.{UnlessMemory}

@@ -5,7 +5,7 @@ use Rattle.std.proofs.lemmas.List.{append_assoc}
 use Rattle.bt_text.specs.Blanks.{IsBlank, SkipsBlanks}
 use Rattle.bt_text.specs.Lines.{Lacks}
 use Rattle.bt_net.specs.Network.{Network}
-use Rattle.bt_net.proofs.NetLines.{lacks}
+use Rattle.bt_text.proofs.Lacking.{lacks}
 use Rattle.bt_flow.specs.declared.property.Property.{Property}
 use Rattle.bt_flow.specs.declared.property.Property.TheVariants.{Balanced, DrawnEvenly, Unlimited, Full}
 use Rattle.bt_flow.specs.declared.judgement.Test.{Test}

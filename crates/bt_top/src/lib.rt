@@ -2,23 +2,26 @@
 //!
 //! `program` reads the words and the source and writes the answer; `design`, `alone`, `request`, `flow_check`,
 //! `certificate`, `recover`, `decision`, `making`, `laying` and `none_certificate` find the answer to an
-//! input that is read whole, and `blocks` that of `check` as the input is read; `text` and `printing` write
-//! it.
+//! input that is read whole, and `blocks` that of `check` and `check-layout` as the input is read, by what
+//! `flow_front` and `layout_front` tell of its front; `text` and `printing` write it.
 #![tactic(auto)]
 
 mod alone;
 mod answer;
 mod blocks;
 mod certificate;
+mod claim;
 mod decision;
 mod design;
 mod fault;
 mod flow_check;
+mod flow_front;
+mod front;
 mod input;
 mod law;
 mod laying;
+mod layout_front;
 mod making;
-mod none_blocks;
 mod none_certificate;
 mod printing;
 mod program;

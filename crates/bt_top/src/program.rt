@@ -12,14 +12,14 @@ ghost use Rattle.bt_top.specs.inner.Lines.{IsLine};
 ghost use Rattle.bt_top.specs.inner.Telling.{IsAnswered, IsAnsweredTo, IsPrinted, IsToldUnlessMemory, IsLineTold};
 
 use crate::answer::Answer;
-use crate::blocks::certified_from;
+use crate::blocks::checked_from;
 use crate::certificate::certified;
+use crate::claim::Claim;
 use crate::decision::decided;
 use crate::flow_check::check;
 use crate::input::read_input;
 use crate::laying::laid_out;
 use crate::making::make;
-use crate::none_blocks::layout_checked_from;
 use crate::none_certificate::layout_checked;
 use crate::printing::{print_made, print_nowhere, print_proof, print_spent};
 use crate::recover::recovered;
@@ -94,8 +94,10 @@ fn answer_of<S: Source>(
     ensures unread { ReadsNothing command → source.new ≡ source.old }
 {
     match command {
-        Command::Check(property) => certified_from(alloc, property, source),
-        Command::CheckLayout(rect, tier) => layout_checked_from(alloc, rect, tier, source),
+        Command::Check(property) => checked_from(alloc, Claim::Flow(property), source),
+        Command::CheckLayout(rect, tier) => {
+            checked_from(alloc, Claim::NoLayout(rect, tier), source)
+        }
         _ => whole_answer(alloc, command, source, choosers),
     }
 }

@@ -65,7 +65,7 @@ pub fn read_request(
 }
 
 /// The request for a design in the rectangle, of parts of the tier.
-fn request_for(rect: Rect, tier: Tier, design: PinnedDesign) -> Result<Request, DesignFault>
+pub fn request_for(rect: Rect, tier: Tier, design: PinnedDesign) -> Result<Request, DesignFault>
     requires { IsGrid rect }
     ensures { UnlessMemory DesignFault.Memory (IsRequestFor rect tier (pinned_of design)) result }
 {
@@ -95,7 +95,7 @@ fn read_lone_pinned(alloc: Global, bytes: &[u8]) -> Result<PinnedDesign, DesignF
 }
 
 /// The design at the front of the bytes, with its pins and its blocks.
-fn read_pinned(alloc: Global, bytes: &[u8]) -> Result<PinnedDesign, DesignFault>
+pub fn read_pinned(alloc: Global, bytes: &[u8]) -> Result<PinnedDesign, DesignFault>
     ensures design { UnlessMemory DesignFault.Memory (IsPinned bytes.now) (seen pinned_and_used result) }
     ensures within { IfOk result (λ design. design.used ≤ length bytes.now) }
 {

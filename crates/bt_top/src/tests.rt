@@ -2,8 +2,10 @@
 //! out by hand.
 ghost use Rattle.std.specs.Prelude.{◌≤◌};
 
+mod blocks;
 mod certificates;
 mod choosers;
+mod cut;
 mod decisions;
 mod designs;
 mod large;
@@ -27,8 +29,8 @@ const BELT_STATE: &str = "no unlimited\nload 1\nroom 1\nflow 1\nmark f\nend\n";
 
 const SPLITTER: &str = "net 2 2 1\nedge i0 s0\nedge i1 s0\nedge s0 o0\nedge s0 o1\nend\n";
 
-/// The most bytes that a sink holds: a certificate of a small network has fewer.
-const SINK_ROOM: usize = 1_000_000;
+/// The most bytes that a sink holds: the certificate of an eight to eight balancer has fewer.
+const SINK_ROOM: usize = 4_000_000;
 
 /// The words and the pieces of an input, and the status and the text with which they are answered.
 #[derive(Clone, Copy)]

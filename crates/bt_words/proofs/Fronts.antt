@@ -1,10 +1,8 @@
 -- The argument at the front of words.
-use Rattle.std.proofs.Common.{◌≡◌, ◌≢◌, ℕ, true, not, eqb, eq-eqb, ◌<◌, List, [], ◌∷◌, ◌++◌, length, refl, sym, ◌∙◌, ap, subst, inl, inr, arith}
+use Rattle.std.proofs.Common.{◌≡◌, ℕ, ◌<◌, List, [], ◌∷◌, ◌++◌, length, refl, sym, ◌∙◌, ap, subst, inl, inr, arith}
 use Rattle.std.specs.Prelude.{codes}
-use Rattle.std.specs.List.{list_all}
-use Rattle.std.proofs.lemmas.List.Elements.{All-weaker}
-use Rattle.std.proofs.lemmas.List.Sums.{AllPass-from_list_all}
 use Rattle.bt_text.specs.Lines.{Lacks, SplitsAt}
+use Rattle.bt_text.proofs.Lacking.{lacks}
 use Rattle.bt_text.proofs.FirstLines.{split_apart, SplitsAt-lacks}
 use Rattle.bt_words.specs.declared.argument.Argument.{Argument}
 use Rattle.bt_words.specs.declared.argument.Argument.TheVariants.{Named, Order, Chain, Learnt, Pivots, Grid, OfTier}
@@ -53,10 +51,6 @@ pub some_word : (words : List (List ℕ)) (a : Argument) (rest : List (List ℕ)
 some_word words a rest (front, inl (w, p, is), e) = omega (arith, ap (λ x. length x) (e ∙ ap (λ f. f ++ rest) is))
 some_word words a rest (front, inr (name, value, v, inl is), e) = omega (arith, ap (λ x. length x) (e ∙ ap (λ f. f ++ rest) is))
 some_word words a rest (front, inr (name, value, v, inr is), e) = omega (arith, ap (λ x. length x) (e ∙ ap (λ f. f ++ rest) is))
-
--- a byte that is none of a text's
-lacks : (byte : ℕ) (xs : List ℕ) → list_all (λ x. not (eqb x byte)) xs ≡ true → Lacks byte xs
-lacks byte xs e = All-weaker (λ x. not (eqb x byte) ≡ true) (λ x. x ≢ byte) (λ x t same. cc (ap not (eq-eqb x byte same))) xs (AllPass-from_list_all (λ x. not (eqb x byte)) xs e)
 
 -- no `=` stands in the name of an option
 pub name_lacks : (a : Argument) (name value : List ℕ) → IsValued a name value → Lacks 61 name

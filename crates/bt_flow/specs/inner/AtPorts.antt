@@ -1,5 +1,5 @@
 -- What is asked of a state at single edges, and at the edges of a port.
-use Rattle.std.specs.Prelude.{◌≡◌, ◌⊎◌, ◌↔◌, ◌<◌, ◌≤ℤ◌, ℕ, ℤ, pos, Bool, true, IsTrue, Result, Ok, Err, List}
+use Rattle.std.specs.Prelude.{◌≡◌, ◌⊎◌, ◌↔◌, ◌<◌, ◌≤ℤ◌, ℕ, ℤ, pos, Bool, IsTrue, Result, Ok, Err, List}
 use Rattle.std.specs.List.{AllByRecursion}
 use Rattle.bt_frac.specs.Ratio.{Ratio, IsOver}
 use Rattle.bt_net.specs.declared.network.Edge.{Edge}

@@ -30,12 +30,6 @@ AreKept lits weights hints steps = All (IsKept lits weights hints) steps
 abbrev pub Grows : {X : Type 0} → List (List X) → List (List X) → Type 0
 Grows {X} old new = (more : List (List X)) × (new ≡ old ++ more)
 
--- the lists of a lemma are there, and are these
-abbrev pub KeepsLemma : List (List Lit) → List (List Ratio) → List Lit → List Ratio → Kept → Type 0
-KeepsLemma all_lits all_weights lits weights kept =
-    (hints : List (List ℕ)) → IsKept all_lits all_weights hints kept × (kept_step all_lits all_weights hints kept ≡ step.Lemma lits weights)
-
--- the lists of a learnt clause are there, and are these
-abbrev pub KeepsLearnt : List (List Lit) → List (List ℕ) → List Lit → List ℕ → Kept → Type 0
-KeepsLearnt all_lits all_hints lits hints kept =
-    (weights : List (List Ratio)) → IsKept all_lits weights all_hints kept × (kept_step all_lits weights all_hints kept ≡ step.Learnt lits hints)
+-- the list at this place is this one
+abbrev pub IsAt : {X : Type 0} → List (List X) → List X → ℕ → Type 0
+IsAt all list place = (place < length all) × (slice_index_or all place [] ≡ list)

@@ -1,5 +1,5 @@
 -- Cells so near that the next one can be told.
-use Rattle.std.specs.Prelude.{ℕ, ◌<◌, ◌+◌, ◌^◌, ◌≤◌, unsigned_abs}
+use Rattle.std.specs.Prelude.{◌<◌, ◌+◌, ◌^◌, ◌≤◌, unsigned_abs}
 use Rattle.bt_parts.specs.declared.part.Cell.{Cell}
 use Rattle.bt_net.specs.declared.network.Block.{Block}
 use Rattle.bt_net.specs.declared.network.Pin.{Pin}

@@ -16,7 +16,7 @@ use Rattle.bt_place.specs.Going.{givers, takers, runners, still_into}
 use Rattle.bt_place.specs.Ends.{starters}
 use Rattle.bt_place.specs.Ports.{leaving_rules, entering_rule}
 use Rattle.bt_place.specs.Rules.{Rule, rule, some_of, not_all}
-use Rattle.bt_place.specs.Spots.{dirs, halves, half_at, sides_of, where_inside, where_outside}
+use Rattle.bt_place.specs.Spots.{halves, half_at, sides_of, where_inside, where_outside}
 use Rattle.bt_place.specs.Underground.{tunnel_into}
 
 -- to a cell inside the rectangle only a belt, an exit or a half hands on, and what is there takes

@@ -1,5 +1,5 @@
 -- What a cell may hold that is no half.
-use Rattle.std.specs.Prelude.{List, [], ◌∷◌, ◌++◌, map}
+use Rattle.std.specs.Prelude.{List, ◌++◌, map}
 use Rattle.bt_parts.specs.declared.part.Cell.{Cell}
 use Rattle.bt_place.specs.declared.fact.Fact.{Fact}
 use Rattle.bt_place.specs.declared.fact.Shape.TheVariants as shape

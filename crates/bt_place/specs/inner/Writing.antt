@@ -1,6 +1,6 @@
 -- Formulas to which the clauses of rules are added, and the rules of a request part by part.
 use Rattle.std.specs.List.{range_with_len, flat_map}
-use Rattle.std.specs.Prelude.{◌≡◌, ◌<◌, ℕ, length, Bool, true, false, List, [], ◌∷◌, ◌++◌, map, if◌then◌else◌}
+use Rattle.std.specs.Prelude.{◌≡◌, ◌<◌, ℕ, length, true, false, List, [], ◌∷◌, ◌++◌, map, if◌then◌else◌}
 use Rattle.bt_parts.specs.declared.part.Cell.{Cell}
 use Rattle.bt_cnf.specs.declared.literal.Lit.{Lit}
 use Rattle.bt_cnf.specs.Formulas.{FormulaParts}

@@ -1,5 +1,16 @@
 -- Places that are to be dealt with.
-use Rattle.std.specs.Prelude.{◌≡◌, ◌≢◌, ◌⊎◌, ◌↔◌, ◌≤◌, ℕ, List, Option, Some, None, Contains}
+use Rattle.std.specs.Prelude.{◌≡◌, ◌≢◌, ◌⊎◌, ◌↔◌, ◌≤◌, ℕ, Bool, true, false, List, Option, Some, None, Contains, slice_index_or}
+use Rattle.std.specs.BinaryHeap.{IsHeap}
+use Rattle.std.specs.Ordering.{nat_cmp}
+
+-- the numbers make a heap, and those that are marked are among them
+pub record AreMarked (places : List ℕ) (marks : List Bool) : Type 0 where
+  pub heap : IsHeap nat_cmp places
+  pub among : (k : ℕ) → slice_index_or marks k false ≡ true → Contains places k
+
+-- none is marked
+abbrev pub NoneMarked : List Bool → Type 0
+NoneMarked marks = (k : ℕ) → slice_index_or marks k false ≡ true → ⊥
 
 -- one place more
 abbrev pub Adds : List ℕ → ℕ → List ℕ → Type 0

@@ -1,5 +1,7 @@
 -- Choosing what to set next.
-use Rattle.std.specs.Prelude.{◌≡◌, ◌⊎◌, ◌<◌, ℕ, Bool, true, false, List, [], ◌∷◌, ◌++◌, Option, Some, None, length, slice_index_or, Contains}
+use Rattle.std.specs.Prelude.{◌≡◌, ◌⊎◌, ◌<◌, ◌≤◌, ℕ, Bool, true, false, List, [], ◌∷◌, ◌++◌, Option, Some, None, length, slice_index_or, Contains}
+use Rattle.std.specs.List.{All}
+use Rattle.std.specs.Option.{is_none}
 use Rattle.bt_cnf.specs.Choosing.{Ascends}
 use Rattle.bt_cnf.specs.declared.literal.Lit.{Lit}
 use Rattle.bt_sat.specs.declared.progress.Progress.{Progress}
@@ -16,6 +18,16 @@ IsUnset values var = slice_index_or values var None ≡ None
 pub record AreUnset (values : List (Option Bool)) (count : ℕ) (vars : List ℕ) : Type 0 where
   pub ascends : Ascends vars
   pub are : (v : ℕ) → Contains vars v → (v < count) × IsUnset values v
+  pub complete : (v : ℕ) → v < count → IsUnset values v → Contains vars v
+
+-- whether the variable has no value
+abbrev pub is_unset : List (Option Bool) → ℕ → Bool
+is_unset values var = is_none (slice_index_or values var None)
+
+-- these are variables below a number, in ascending order, and among them are all that have no value
+pub record Covers (values : List (Option Bool)) (count : ℕ) (vars : List ℕ) : Type 0 where
+  pub ascends : Ascends vars
+  pub below : All (λ v. v < count) vars
   pub complete : (v : ℕ) → v < count → IsUnset values v → Contains vars v
 
 -- the variable comes behind the others, where it has no value
@@ -43,10 +55,31 @@ pub record IsComplete (p : Progress) : Type 0 where
   pub settled : p.settled ≡ length p.search.assignment.trail.items
   pub set : (v : ℕ) → v < length p.search.assignment.values → IsUnset p.search.assignment.values v → ⊥
 
+-- the list of the search has exactly the variables that have no value
+abbrev pub ListsUnset : Progress → Type 0
+ListsUnset p = AreUnset p.search.assignment.values (length p.search.assignment.values) p.unset.items
+
+-- the list of the search has all variables that have no value, and perhaps some that have got one
+abbrev pub CoversUnset : Progress → Type 0
+CoversUnset p = Covers p.search.assignment.values (length p.search.assignment.values) p.unset.items
+
+-- where no clause is known to be false, nothing is unsettled, and the variables that have no value are listed
+pub record IsAtChoice (p : Progress) : Type 0 where
+  pub settled : p.conflict ≡ None → p.settled ≡ length p.search.assignment.trail.items
+  pub listed : p.conflict ≡ None → ListsUnset p
+
+-- what follows was found, and the search may choose where no clause is known to be false
+pub record Follows (old new : Progress) : Type 0 where
+  pub keeps : KeepsLog old new
+  pub running : IsRunning new
+  pub choice : IsAtChoice new
+  pub fewer : unset new.search.assignment.values ≤ unset old.search.assignment.values
+
 -- one more variable was set, or all are
 abbrev pub Decides : Progress → Progress → Bool → Type 0
 Decides old new true =
     KeepsLog old new × IsRunning new × (new.conflict ≡ None) × (unset new.search.assignment.values < unset old.search.assignment.values)
+    × CoversUnset new
 Decides old new false = KeepsLog old new × IsComplete new
 
 -- a clause was found whose literals are all false, or all variables have a value

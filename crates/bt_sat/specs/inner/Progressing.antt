@@ -63,6 +63,12 @@ Teaches old new Lacks =
     (new.known ≡ old.known) × (new.limit ≡ old.limit) × (new.served ≡ old.served) × (length old.known.log.steps ≡ old.limit)
     × ((step : Step) × IsNextStep old.known step)
 
+-- literals were added to the trail, and the list of variables stays
+pub record Grows (old new : Progress) : Type 0 where
+  pub more : List Lit
+  pub trail : new.search.assignment.trail.items ≡ old.search.assignment.trail.items ++ more
+  pub unset : new.unset ≡ old.unset
+
 -- what follows was found: nothing is unsettled by the whole trail, or a clause has only false literals
 pub record Infers (old new : Progress) : Type 0 where
   pub running : IsRunning new
@@ -71,6 +77,7 @@ pub record Infers (old new : Progress) : Type 0 where
   pub served : new.served ≡ old.served
   pub settled : new.conflict ≡ None → new.settled ≡ length new.search.assignment.trail.items
   pub fewer : unset new.search.assignment.values ≤ unset old.search.assignment.values
+  pub grows : Grows old new
 
 -- the log is of the same formula
 pub record KeepsFormula (old new : Progress) : Type 0 where

@@ -1,7 +1,7 @@
 //! Decisions of properties, with certificates that the checker accepts, and networks that are made.
 ghost use Rattle.std.specs.Prelude.{None};
 
-use super::designs::{FOUR_TO_FOUR, blueprint_of};
+use super::designs::{EIGHT_TO_EIGHT, FOUR_TO_FOUR, blueprint_of};
 use super::states::{BUTTERFLY, LOOP, TIERS};
 use super::{BELT, Case, SPLITTER, answer, answer_by, answers_all, joined};
 use bt_cnf::{Chooser, Lit, Pick, Var};
@@ -32,7 +32,13 @@ const DECISIONS: [(&str, &str, u8, &str); 10] = [
 ];
 
 /// Limits that are reached, what is made, and what is refused.
-const CASES: [Case; 13] = [
+const CASES: [Case; 14] = [
+    Case(
+        "make 3",
+        &[],
+        0,
+        "butterfly 3\nedges 32\noutputs 8\nyes balanced\n",
+    ),
     Case(
         "decide balanced --learnt 0",
         &[BUTTERFLY],
@@ -130,13 +136,17 @@ fn limits_and_orders(rt: HostRuntime) -> Result<(), Fail> {
 }
 
 #[test]
-fn decides_a_blueprint(rt: HostRuntime) -> Result<(), Fail> {
+fn decides_blueprints(rt: HostRuntime) -> Result<(), Fail> {
     let alloc = rt.alloc();
-    let design = blueprint_of(alloc, "", &FOUR_TO_FOUR)?;
-    let input = Vec::from_slice(alloc, &design)?;
-    let (status, text) = answer(alloc, "decide balanced", input, (0, 0), 1000)?;
-    assert!(rt; status == 0 && text.starts_with(b"yes balanced\n"));
-    assert!(rt; is_checked(alloc, "decide balanced", &design, &text, 0)?);
+    for design in [
+        blueprint_of(alloc, "", &FOUR_TO_FOUR)?,
+        blueprint_of(alloc, "express-", &EIGHT_TO_EIGHT)?,
+    ] {
+        let input = Vec::from_slice(alloc, &design)?;
+        let (status, text) = answer(alloc, "decide balanced", input, (0, 0), 1000)?;
+        assert!(rt; status == 0 && text.starts_with(b"yes balanced\n"));
+        assert!(rt; is_checked(alloc, "decide balanced", &design, &text, 0)?);
+    }
     Ok(())
 }
 

@@ -10,7 +10,7 @@ pub const FOUR_TO_FOUR: [&str; 8] = [
 pub const FOUR_TO_FOUR_NETWORK: &str =
     "net 4 4 4\nedge i0 s2\nedge i1 s2\nedge i2 s3\nedge i3 s3\nedge s0 o0\nedge s0 o1\nedge s1 o2\nedge s1 o3\nedge s2 s0\nedge s2 s1\nedge s3 s0\nedge s3 s1\nend\n";
 
-const EIGHT_TO_EIGHT: [&str; 18] = [
+pub const EIGHT_TO_EIGHT: [&str; 18] = [
     ".....^^^^^^^^",
     ".....[][][][]",
     ".....u^u^u^u^",

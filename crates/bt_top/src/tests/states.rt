@@ -5,7 +5,7 @@ use std::test::Fail;
 pub const LOOP: &str =
     "net 1 3 3\nedge i0 s0\nedge s0 s1\nedge s0 s2\nedge s1 o0\nedge s1 o1\nedge s2 o2\nedge s2 s0\nend\n";
 
-const LOOP_STATE: &str =
+pub const LOOP_STATE: &str =
     "no unlimited\nload 1\nroom 0 0 1\nflow 1/2 0 1 0 0 1/2 1/2\nmark b b f b b f f\nend\n";
 
 pub const BUTTERFLY: &str =

@@ -23,16 +23,16 @@ pub returns-in_ok-state-in-Sat : goal.returns-in_ok-state-in-Sat
 returns-in_ok-state-in-Sat g c =
     let n = c.args.net.now in
     let p = c.args.property in
-    let outcome = subst (λ f. IsOutcome f c.args.limits c.in_ok-values.field-0) c.in_ok-formula.ensures c.in_ok-values.ensures in (
+    let outcome = subst (λ f. IsOutcome f c.args.limits c.in_ok-values.field-0) c.in_ok-formula.ensures.formula c.in_ok-values.ensures in (
       breaks_met n p c.in_ok-state-in-Sat.state c.in-Sat.values.items c.deref.result.now c.in-Sat.assignment.items c.deref-in-Sat.result.now c.deref.ensures.value c.deref-in-Sat.ensures.value
           (subst (IsOutcome (flow_formula n p) c.args.limits) c.in-Sat.is outcome) c.in_ok-state-in-Sat.ensures.breaks,
-      c.flows.ensures.lowest,
+      c.in_ok-state-in-Sat.ensures.lowest,
     )
 
 pub returns-in-Refuted : goal.returns-in-Refuted
 returns-in-Refuted g c =
     let n = c.args.net.now in
     let p = c.args.property in
-    let outcome = subst (λ f. IsOutcome f c.args.limits c.in_ok-values.field-0) c.in_ok-formula.ensures c.in_ok-values.ensures in
+    let outcome = subst (λ f. IsOutcome f c.args.limits c.in_ok-values.field-0) c.in_ok-formula.ensures.formula c.in_ok-values.ensures in
     let refutes = subst (IsOutcome (flow_formula n p) c.args.limits) c.in-Refuted.is outcome in
-    (refuted_holds n p c.in-Refuted.log.steps c.edges.ensures.network refutes.0.refutes, refutes.0, refutes.1)
+    (refuted_holds n p c.in-Refuted.log.steps c.in_ok-formula.ensures.network refutes.0.refutes, refutes.0, refutes.1)

@@ -4,5 +4,5 @@ use Rattle.bt_decode.proofs.cells.content.Goals as goal
 
 pub unreachable-requires : goal.unreachable-requires
 unreachable-requires c =
-    some_content c.args.request.now c.args.assignment.now c.args.i c.known.ensures c.requires.solution c.requires.within
+    some_content c.args.request.now c.args.assignment.now c.args.i c.requires.request c.requires.solution c.requires.within
     (λ n lt. c.loop-number.invariant n (omega arith))

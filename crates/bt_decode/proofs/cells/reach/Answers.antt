@@ -13,7 +13,7 @@ unreachable-requires c =
     let first : c.distances_from.result + c.args.i * c.most_distance-most.result ≡ distances_from (sizes_of r) + c.args.i * most_distance r =
     ap (λ x. x + c.args.i * c.most_distance-most.result) c.distances_from.ensures.first
     ∙ ap (λ x. distances_from (sizes_of r) + c.args.i * x) c.most_distance-most.ensures.most in
-    some_distance r c.args.assignment.now c.args.i c.args.dir c.known.ensures c.requires.solution c.requires.within
+    some_distance r c.args.assignment.now c.args.i c.args.dir c.requires.request c.requires.solution c.requires.within
     (subst (λ s. read_in r c.args.assignment.now (holds (cell_numbered r.rect c.args.i) s c.args.dir) ≡ true) c.in-Entrance.is c.requires.stands)
     (λ n lt. subst (λ x. truth_in c.args.assignment.now (x + n) ≡ false) first
     (c.loop-distance.invariant n (let most = c.most_distance-most.ensures.most in omega arith)))

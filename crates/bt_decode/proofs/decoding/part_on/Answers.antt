@@ -3,9 +3,9 @@ use Rattle.bt_decode.proofs.decoding.part_on.Goals as goal
 
 pub returns-in_default : goal.returns-in_default
 returns-in_default c =
-    none_on_empty c.args.request.now c.args.assignment.now c.known.ensures c.requires.solution c.args.i c.requires.within c.in_default.ensures
+    none_on_empty c.args.request.now c.args.assignment.now c.requires.request c.requires.solution c.args.i c.requires.within c.in_default.ensures
 
 pub returns-in_default-kind_of : goal.returns-in_default-kind_of
 returns-in_default-kind_of c =
-    none_on_greater c.args.request.now c.args.assignment.now c.known.ensures c.requires.solution c.args.i c.in-Turned.shape c.in-Turned.dir
+    none_on_greater c.args.request.now c.args.assignment.now c.requires.request c.requires.solution c.args.i c.in-Turned.shape c.in-Turned.dir
     c.requires.within c.in-Turned.ensures c.in_default-kind_of.ensures

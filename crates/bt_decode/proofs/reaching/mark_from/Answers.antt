@@ -6,33 +6,33 @@ use Rattle.bt_decode.proofs.reaching.mark_from.Goals as goal
 
 pub loop-marks-init : goal.loop-marks-init
 loop-marks-init c =
-    marking_first c.args.request.now c.args.assignment.now c.known.ensures c.requires.solution c.args.marks.now.items c.args.start
+    marking_first c.args.request.now c.args.assignment.now c.requires.request c.requires.solution c.args.marks.now.items c.args.start
     c.requires.marks c.requires.within c.requires.kept
 
 pub returns-in_default-clause-marks : goal.returns-in_default-clause-marks
 returns-in_default-clause-marks c =
-    marking_stops c.args.request.now c.args.assignment.now c.known.ensures c.requires.solution c.args.marks.now.items c.loop-marks.marks.items c.args.start c.loop-marks.i
+    marking_stops c.args.request.now c.args.assignment.now c.requires.request c.requires.solution c.args.marks.now.items c.loop-marks.marks.items c.args.start c.loop-marks.i
     c.loop-marks.invariant c.in_default.ensures
 
 pub returns-in_default-clause-keeps : goal.returns-in_default-clause-keeps
 returns-in_default-clause-keeps c =
-    marking_stopped_keeps c.args.request.now c.args.assignment.now c.known.ensures c.requires.solution c.args.marks.now.items c.loop-marks.marks.items c.args.start c.loop-marks.i
+    marking_stopped_keeps c.args.request.now c.args.assignment.now c.requires.request c.requires.solution c.args.marks.now.items c.loop-marks.marks.items c.args.start c.loop-marks.i
     c.loop-marks.invariant
 
 pub returns-in_default-clause-start : goal.returns-in_default-clause-start
 returns-in_default-clause-start c =
-    marking_stopped_start c.args.request.now c.args.assignment.now c.known.ensures c.requires.solution c.args.marks.now.items c.loop-marks.marks.items c.args.start c.loop-marks.i
+    marking_stopped_start c.args.request.now c.args.assignment.now c.requires.request c.requires.solution c.args.marks.now.items c.loop-marks.marks.items c.args.start c.loop-marks.i
     c.loop-marks.invariant
 
 pub loop-marks-preserved : goal.loop-marks-preserved
 loop-marks-preserved c =
-    marking_more c.args.request.now c.args.assignment.now c.known.ensures c.requires.solution c.args.marks.now.items c.loop-marks.marks.items c.args.start c.loop-marks.i c.in-Some.j
+    marking_more c.args.request.now c.args.assignment.now c.requires.request c.requires.solution c.args.marks.now.items c.loop-marks.marks.items c.args.start c.loop-marks.i c.in-Some.j
     c.loop-marks.invariant c.in-Some.ensures
 
 pub returns-clause-marks : goal.returns-clause-marks
 returns-clause-marks c =
     let marked : IsMarked c.loop-marks.marks.items c.loop-marks.i = grind (arith, common_steps) in
-    marking_joins c.args.request.now c.args.assignment.now c.known.ensures c.requires.solution c.args.marks.now.items c.loop-marks.marks.items c.args.start c.loop-marks.i
+    marking_joins c.args.request.now c.args.assignment.now c.requires.request c.requires.solution c.args.marks.now.items c.loop-marks.marks.items c.args.start c.loop-marks.i
     c.loop-marks.invariant marked
 
 pub returns-clause-keeps : goal.returns-clause-keeps
@@ -41,5 +41,5 @@ returns-clause-keeps c = c.loop-marks.invariant.keeps
 pub returns-clause-start : goal.returns-clause-start
 returns-clause-start c =
     let marked : IsMarked c.loop-marks.marks.items c.loop-marks.i = grind (arith, common_steps) in
-    marking_joined_start c.args.request.now c.args.assignment.now c.known.ensures c.requires.solution c.args.marks.now.items c.loop-marks.marks.items c.args.start c.loop-marks.i
+    marking_joined_start c.args.request.now c.args.assignment.now c.requires.request c.requires.solution c.args.marks.now.items c.loop-marks.marks.items c.args.start c.loop-marks.i
     c.loop-marks.invariant marked

@@ -14,7 +14,7 @@ loop-i-init c = record {
 
 pub mark_from-requires-clause-kept : goal.mark_from-requires-clause-kept
 mark_from-requires-clause-kept c =
-    start_kept c.args.request.now c.args.assignment.now c.known.ensures c.requires c.loop-i.i
+    start_kept c.args.request.now c.args.assignment.now c.spots-count.ensures.request c.requires c.loop-i.i
     (subst (λ n. c.loop-i.i < n) c.spots-count.ensures.spots c.loop-i-test.true) (c.starts.ensures.0 c.if-starts.true)
 
 pub loop-i-preserved : goal.loop-i-preserved

@@ -8,8 +8,8 @@ use Rattle.bt_fenc.specs.inner.Adding.{with_clauses}
 use Rattle.bt_fenc.proofs.Numbers.{added_more}
 use Rattle.bt_fenc.proofs.encoding.encode.Goals as goal
 
-pub returns : goal.returns
-returns c =
+pub returns-clause-formula : goal.returns-clause-formula
+returns-clause-formula c =
     let n = c.args.net.now in
     added_more c.in_ok-formula.formula c.write_families.new.formula c.add_property.new.formula (flat_map (family_clauses n) families) (property_clauses n c.args.property)
     (flow_clauses n c.args.property) c.in_ok-write_families.ensures c.in_ok-add_property.ensures refl

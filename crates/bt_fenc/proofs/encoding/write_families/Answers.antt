@@ -3,7 +3,7 @@ use Rattle.std.specs.List.{flat_map}
 use Rattle.std.proofs.lemmas.List.{take_all}
 use Rattle.bt_fenc.specs.Families.{family_clauses, families}
 use Rattle.bt_fenc.specs.inner.Adding.{with_clauses}
-use Rattle.bt_fenc.proofs.Loops.{taken_more}
+use Rattle.bt_arena.proofs.Loops.{taken_more}
 use Rattle.bt_fenc.proofs.Numbers.{with_none, added_more, marks_stay}
 use Rattle.bt_fenc.proofs.encoding.write_families.Goals as goal
 

@@ -2,7 +2,7 @@ use Rattle.std.proofs.Common.{ℕ, List, [], length, refl}
 use Rattle.std.specs.List.{flat_map, range_with_len}
 use Rattle.bt_fenc.specs.declared.claim.Claim.{Claim}
 use Rattle.bt_fenc.specs.Families.{clauses_at}
-use Rattle.bt_fenc.proofs.Loops.{place_more}
+use Rattle.bt_arena.proofs.Loops.{place_more}
 use Rattle.bt_fenc.proofs.Numbers.{with_none, added_more, marks_stay, all_within_more}
 use Rattle.bt_fenc.proofs.Withins.{at_within}
 use Rattle.bt_fenc.proofs.encoding.write_family.Goals as goal

@@ -17,16 +17,16 @@ add_backing-requires-clause-small c =
     let k = c.args.splitter in
     let network = c.requires.ports.network in
     let few : k < MOST_OF_EACH = let a = network.few_splitters in let b = c.requires.splitter in omega (arith, a, b) in
-    small_numbers c.args.net.now network (leaves k) c.deref-2.result.now (c.deref-2.ensures.value ∙ c.in_ok-leaving.ensures ∙ c.requires.ports.out_of.at k few _)
+    small_numbers c.args.net.now network (leaves k) c.deref-2.result.now (c.deref-2.ensures ∙ c.in_ok-leaving.ensures ∙ c.requires.ports.out_of.at k few _)
 
 pub add_backing-requires-clause-entering : goal.add_backing-requires-clause-entering
 add_backing-requires-clause-entering c =
     let k = c.args.splitter in
     let few : k < MOST_OF_EACH = let a = c.requires.ports.network.few_splitters in let b = c.requires.splitter in omega (arith, a, b) in
-    below c.args.net.now c.args.formula.now.vars c.requires.marks (enters k) c.deref.result.now (c.deref.ensures.value ∙ c.in_ok-entering.ensures ∙ c.requires.ports.into.at k few _)
+    below c.args.net.now c.args.formula.now.vars c.requires.marks (enters k) c.deref.result.now (c.deref.ensures ∙ c.in_ok-entering.ensures ∙ c.requires.ports.into.at k few _)
 
 pub add_backing-requires-clause-leaving : goal.add_backing-requires-clause-leaving
 add_backing-requires-clause-leaving c =
     let k = c.args.splitter in
     let few : k < MOST_OF_EACH = let a = c.requires.ports.network.few_splitters in let b = c.requires.splitter in omega (arith, a, b) in
-    below c.args.net.now c.args.formula.now.vars c.requires.marks (leaves k) c.deref-2.result.now (c.deref-2.ensures.value ∙ c.in_ok-leaving.ensures ∙ c.requires.ports.out_of.at k few _)
+    below c.args.net.now c.args.formula.now.vars c.requires.marks (leaves k) c.deref-2.result.now (c.deref-2.ensures ∙ c.in_ok-leaving.ensures ∙ c.requires.ports.out_of.at k few _)

@@ -1,12 +1,12 @@
-use Rattle.std.proofs.Common.{◌≡◌, ◌≤◌, ◌+◌, ◌-◌, ◌∷◌, [], ◌++◌, ℕ, map, length, IfOk, ◌∙◌, ap, sym, subst, arith, append_assoc}
+use Rattle.std.proofs.Common.{◌≡◌, ◌≤◌, ◌+◌, ◌-◌, ◌∷◌, [], ◌++◌, ℕ, map, length, ◌∙◌, ap, sym, subst, arith, append_assoc}
 use Rattle.std.specs.List.{range_with_len}
 use Rattle.std.proofs.lemmas.List.{take_all, map_push}
 use Rattle.bt_frac.specs.Rows.{HaveColumns}
 use Rattle.bt_flow.specs.Ports.{numbers_where}
 use Rattle.bt_flow.specs.Properties.{is_last}
 use Rattle.bt_frac.specs.declared.row.Relation.TheVariants.{Above}
-use Rattle.bt_fenc.specs.Columns.{plus, minus, whole}
-use Rattle.bt_fenc.proofs.Loops.{mapped_more, range_more}
+use Rattle.bt_fenc.specs.Columns.{plus, minus}
+use Rattle.bt_arena.proofs.Loops.{mapped_more, range_more}
 use Rattle.bt_fenc.proofs.Columns.{output_columns}
 use Rattle.bt_fenc.proofs.properties.above_outputs.Goals as goal
 
@@ -28,16 +28,16 @@ loop-column-preserved c =
     ∙ append_assoc c.loop-edge.terms.items (map plus (range_with_len first (column - first))) (plus column ∷ [])
     ∙ ap (λ l. c.loop-edge.terms.items ++ l) (sym (ap (map plus) (one_column first column c.loop-column.auto.column) ∙ map_push plus (range_with_len first (column - first)) column))
 
-pub row_of-requires : goal.row_of-requires
-row_of-requires c =
+pub row_of_vec-requires : goal.row_of_vec-requires
+row_of_vec-requires c =
     let n = c.args.net.now in
     let first = c.args.first in
-    let numbers = c.deref-edge-items.ensures.value ∙ c.in_ok-last_edges.ensures in
+    let numbers = c.deref-edge-items.ensures.value ∙ c.in_ok-edges.ensures in
     let edges = c.loop-edge.invariant ∙ ap (map minus) (take_all c.loop-edge.edge-index c.deref-edge-items.result.now c.loop-edge-test.false ∙ numbers) in
     let past = c.loop-column-test.false in
     let ends = c.loop-column.auto.column-end in
     let count : c.loop-column.column - first ≡ c.args.count = omega (arith, past, ends) in
-    let terms = c.deref.ensures.value ∙ c.loop-column.invariant ∙ ap (λ l. l ++ map plus (range_with_len first (c.loop-column.column - first))) edges
+    let terms = c.loop-column.invariant ∙ ap (λ l. l ++ map plus (range_with_len first (c.loop-column.column - first))) edges
     ∙ ap (λ m. map minus (numbers_where is_last 0 n.edges) ++ map plus (range_with_len first m)) count in
     let start : 0 + length n.edges ≤ first = let a = c.requires.first in omega (arith, a) in
     subst HaveColumns (sym terms) (output_columns is_last 0 n.edges first c.args.count start c.requires.last)
@@ -46,12 +46,12 @@ pub returns : goal.returns
 returns c =
     let n = c.args.net.now in
     let first = c.args.first in
-    let numbers = c.deref-edge-items.ensures.value ∙ c.in_ok-last_edges.ensures in
+    let numbers = c.deref-edge-items.ensures.value ∙ c.in_ok-edges.ensures in
     let edges = c.loop-edge.invariant ∙ ap (map minus) (take_all c.loop-edge.edge-index c.deref-edge-items.result.now c.loop-edge-test.false ∙ numbers) in
     let past = c.loop-column-test.false in
     let ends = c.loop-column.auto.column-end in
     let count : c.loop-column.column - first ≡ c.args.count = omega (arith, past, ends) in
-    let terms = c.deref.ensures.value ∙ c.loop-column.invariant ∙ ap (λ l. l ++ map plus (range_with_len first (c.loop-column.column - first))) edges
+    let terms = c.loop-column.invariant ∙ ap (λ l. l ++ map plus (range_with_len first (c.loop-column.column - first))) edges
     ∙ ap (λ m. map minus (numbers_where is_last 0 n.edges) ++ map plus (range_with_len first m)) count in
-    subst (λ t. IfOk c.row_of.result (λ row. row ≡ record { terms = t; relation = Above; bound = whole 0 })) terms
-    (subst (λ b. IfOk c.row_of.result (λ row. row ≡ record { terms = c.deref.result.now; relation = Above; bound = b })) c.whole.ensures c.row_of.ensures)
+    c.row_of_vec.ensures ∙ ap (λ t. record { terms = t; relation = Above; bound = c.whole.result }) terms
+    ∙ ap (λ b. record { terms = map minus (numbers_where is_last 0 n.edges) ++ map plus (range_with_len first c.args.count); relation = Above; bound = b }) c.whole.ensures

@@ -6,7 +6,7 @@ use Rattle.bt_fenc.specs.declared.claim.Claim.{Claim}
 use Rattle.bt_fenc.specs.declared.claim.Claim.TheVariants.{Says}
 use Rattle.bt_fenc.specs.Columns.{at_least, room_column, cap_at, output_edge}
 use Rattle.bt_fenc.specs.inner.Adding.{with_clauses}
-use Rattle.bt_fenc.proofs.Loops.{item_more}
+use Rattle.bt_arena.proofs.Loops.{item_more}
 use Rattle.bt_fenc.proofs.Numbers.{with_none, added_more}
 use Rattle.bt_fenc.proofs.properties.add_open.Goals as goal
 

@@ -5,7 +5,7 @@ use Rattle.bt_fenc.specs.declared.claim.Claim.{Claim}
 use Rattle.bt_fenc.specs.declared.claim.Claim.TheVariants.{Says}
 use Rattle.bt_fenc.specs.Columns.{above}
 use Rattle.bt_fenc.specs.Properties.{differ}
-use Rattle.bt_fenc.proofs.Loops.{taken_more}
+use Rattle.bt_arena.proofs.Loops.{taken_more}
 use Rattle.bt_fenc.proofs.Numbers.{rows_added}
 use Rattle.bt_fenc.proofs.properties.unequal_lits.Goals as goal
 

@@ -2,7 +2,7 @@ use Rattle.std.proofs.Common.{ℕ, List, [], map, take, refl}
 use Rattle.std.specs.List.{flat_map}
 use Rattle.bt_fenc.specs.declared.claim.Claim.{Claim}
 use Rattle.bt_fenc.specs.Families.{backing_clause}
-use Rattle.bt_fenc.proofs.Loops.{taken_more}
+use Rattle.bt_arena.proofs.Loops.{taken_more}
 use Rattle.bt_fenc.proofs.Numbers.{added_more}
 use Rattle.bt_fenc.proofs.splitters.add_backing.Goals as goal
 

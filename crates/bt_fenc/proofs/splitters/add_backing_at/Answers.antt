@@ -1,6 +1,6 @@
 use Rattle.std.proofs.Common.{[], map, take, refl}
 use Rattle.bt_fenc.specs.Families.{backing_clause}
-use Rattle.bt_fenc.proofs.Loops.{mapped_more}
+use Rattle.bt_arena.proofs.Loops.{mapped_more}
 use Rattle.bt_fenc.proofs.Numbers.{added_more}
 use Rattle.bt_fenc.proofs.splitters.add_backing_at.Goals as goal
 

@@ -1,6 +1,6 @@
 use Rattle.std.proofs.Common.{◌++◌, ◌-◌, ◌∷◌, [], map, take, drop, length, ap, sym, ◌∙◌, append-nil, inl, inr}
 use Rattle.bt_fenc.specs.Columns.{plus, minus}
-use Rattle.bt_fenc.proofs.Loops.{mapped_more}
+use Rattle.bt_arena.proofs.Loops.{mapped_more}
 use Rattle.bt_fenc.proofs.Merges.{merge_end, rest_is}
 use Rattle.bt_fenc.proofs.splitters.merge.Goals as goal
 use Rattle.bt_fenc.proofs.splitters.merge.Goals.{then-loop-left-test+else-right-subtracted, else-loop-left-test}

@@ -34,6 +34,6 @@ pub returns : goal.returns
 returns c =
     let n = c.args.net.now in
     let p = c.args.property in
-    subst (λ t. Answers Memory (IsStateRead n p c.args.bytes.now) (Ok t)) (sym c.new.ensures)
+    subst (λ t. Answers Memory (IsStateRead n p c.args.bytes.now) (Ok t)) (sym c.new.ensures.state)
     (read_answer n p c.args.bytes.now c.in_ok-rest.rest.now c.in_ok-ends.ends.rest.now c.in_ok-edges.edges.rest.now _ c.in_ok-rest.ensures.ok c.in_ok-ends.ensures.ok c.in_ok-edges.ensures.ok
     c.in_ok-read_end.ensures.ok)

@@ -14,7 +14,7 @@ decode-requires g c =
     let left = map g.C.Chooser.told_lengths c.next_model.new.self.choosers.items in
     let gives = subst (GivesNext old waiting new left) c.in-Model.is c.in_ok-model.ensures.given in
     subst (IsSolution c.args.request.now) (sym c.deref.ensures.value)
-    (model_solves c.args.request.now c.args.learnt c.in_ok-formula.formula old new waiting left _ c.in_ok-formula.ensures c.in_ok-solver.ensures.kernel gives c.in-Model.model.items gives.says.1)
+    (model_solves c.args.request.now c.args.learnt c.in_ok-formula.formula old new waiting left _ c.in_ok-formula.ensures.formula c.in_ok-solver.ensures.kernel gives c.in-Model.model.items gives.says.1)
 
 pub returns-in-Refuted : goal.returns-in-Refuted
 returns-in-Refuted g c =
@@ -24,9 +24,9 @@ returns-in-Refuted g c =
     let waiting = map g.C.Chooser.told_lengths c.in_ok-solver.solver.choosers.items in
     let left = map g.C.Chooser.told_lengths c.next_model.new.self.choosers.items in
     let gives = subst (GivesNext old waiting new left) c.in-Refuted.is c.in_ok-model.ensures.given in
-    let refuted = refutes r c.args.learnt c.in_ok-formula.formula old new waiting left _ c.in_ok-formula.ensures c.in_ok-solver.ensures.kernel gives
+    let refuted = refutes r c.args.learnt c.in_ok-formula.formula old new waiting left _ c.in_ok-formula.ensures.formula c.in_ok-solver.ensures.kernel gives
     c.into_log.result.steps (ap (λ (l : LogParts). l.steps) c.into_log.ensures) gives.says.1 in
-    (refuted_has_no_layout r c.into_log.result.steps c.net.ensures.request refuted.0.refutes, refuted.0, refuted.1)
+    (refuted_has_no_layout r c.into_log.result.steps c.in_ok-formula.ensures.request refuted.0.refutes, refuted.0, refuted.1)
 
 pub returns-in-Spent : goal.returns-in-Spent
 returns-in-Spent g c =
@@ -35,5 +35,5 @@ returns-in-Spent g c =
     let waiting = map g.C.Chooser.told_lengths c.in_ok-solver.solver.choosers.items in
     let left = map g.C.Chooser.told_lengths c.next_model.new.self.choosers.items in
     let gives = subst (GivesNext old waiting new left) c.in-Spent.is c.in_ok-model.ensures.given in
-    spends c.args.request.now c.args.learnt c.in_ok-formula.formula old new waiting left _ c.in_ok-formula.ensures c.in_ok-solver.ensures.kernel gives
+    spends c.args.request.now c.args.learnt c.in_ok-formula.formula old new waiting left _ c.in_ok-formula.ensures.formula c.in_ok-solver.ensures.kernel gives
     c.into_log-in-Spent.result.steps (ap (λ (l : LogParts). l.steps) c.into_log-in-Spent.ensures) gives.says.1

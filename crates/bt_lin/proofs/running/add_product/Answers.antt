@@ -13,5 +13,5 @@ added s a b p (Some r) start left right low is lowest sum fits =
 pub returns-clause-some : goal.returns-clause-some
 returns-clause-some c =
     let low = c.mul.ensures.known in
-    added c.args.sum.now c.args.left.now c.args.right.now c.in-Some.product c.add.result c.denominator.ensures.known low.0 low.1 c.in-Some.ensures.lowest c.in-Some.ensures.some
+    added c.args.sum.now c.args.left.now c.args.right.now c.in-Some.product c.add.result c.add.ensures.known.0 low.0 low.1 c.in-Some.ensures.lowest c.in-Some.ensures.some
     c.add.ensures.lowest c.add.ensures.sum c.add.ensures.fits

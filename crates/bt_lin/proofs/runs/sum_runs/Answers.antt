@@ -1,11 +1,10 @@
-use Rattle.std.proofs.Common.{◌≡◌, ℕ, ◌<◌, ◌+◌, ◌-◌, ◌^◌, arith, List, [], ◌∷◌, length, get_or, take, drop, Option, None, Some, Ok, Err, map, sym, ◌∙◌, refl, subst}
+use Rattle.std.proofs.Common.{◌≡◌, ℕ, ◌<◌, ◌+◌, ◌-◌, ◌^◌, arith, List, [], ◌∷◌, length, get_or, None, Some, Ok, Err, map, sym, ◌∙◌, refl, subst}
 use Rattle.std.specs.Prelude.{slice_get}
 use Rattle.std.specs.List.{All}
 use Rattle.std.specs.declared.result.Result.{Result}
 use Rattle.std.proofs.lemmas.List.Elements.{All-drop}
 use Rattle.bt_frac.specs.Ratio.{Ratio}
 use Rattle.bt_frac.specs.Rows.{columns_in}
-use Rattle.bt_lin.specs.inner.Gathering.{IsRunTotal}
 use Rattle.bt_lin.specs.inner.Totals.{AreColumnsBelow, IsAfterColumn}
 use Rattle.bt_lin.specs.declared.columns.Columns.{Columns}
 use Rattle.bt_lin.specs.declared.gathering.Entry.{Entry}

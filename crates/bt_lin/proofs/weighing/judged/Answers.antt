@@ -1,14 +1,12 @@
-use Rattle.std.proofs.Common.{◌≡◌, ◌<◌, arith, Bool, true, false, IsTrue, ◌↔◌, Ok, Err, IfSome, IfNone, length, ap, subst, refl, inl, inr, ℕ}
+use Rattle.std.proofs.Common.{◌≡◌, ◌<◌, arith, Bool, true, IsTrue, ◌↔◌, IfSome, IfNone, length, ap, subst, inl, inr, ℕ}
 use Rattle.std.specs.List.{Any}
 use Rattle.std.proofs.lemmas.Bool.{false≢true}
-use Rattle.bt_answers.proofs.OneAnswer.{answers_always_of}
 use Rattle.bt_frac.specs.Ratio.{Ratio}
-use Rattle.bt_lin.specs.Farkas.{IsFarkas}
 use Rattle.bt_lin.specs.FalseSums.{IsStrict, IsFalseBound, Cancels}
 use Rattle.bt_frac.specs.Rows.{columns_in}
 use Rattle.bt_lin.specs.WeightedRows.{picked, weighted}
 use Rattle.bt_lin.specs.inner.Totals.{IsFirstColumn}
-use Rattle.bt_lin.proofs.FarkasLemmas.{one_farkas, bound_wide, column_wide, none_wide}
+use Rattle.bt_lin.proofs.FarkasLemmas.{bound_wide, column_wide, none_wide}
 use Rattle.bt_lin.proofs.WeightedLemmas.{length-weighted, rows_of_weighted}
 use Rattle.bt_lin.proofs.weighing.judged.Goals as goal
 

@@ -1,4 +1,4 @@
-use Rattle.std.proofs.Common.{◌≡◌, ◌++◌, length, ◌+◌, ◌-◌}
+use Rattle.std.proofs.Common.{◌≡◌, ◌++◌, length}
 use Rattle.bt_place.specs.Rules.{all_but_one}
 use Rattle.bt_place.proofs.adding.add_all_but_one.Given as goal
 

@@ -1,4 +1,4 @@
-use Rattle.std.proofs.Common.{◌≡◌, ◌++◌, length, ◌+◌, ◌-◌}
+use Rattle.std.proofs.Common.{◌≡◌, ◌++◌, length}
 use Rattle.bt_place.specs.Rules.{at_most_one}
 use Rattle.bt_place.proofs.adding.add_at_most_one.Given as goal
 

@@ -1,7 +1,6 @@
-use Rattle.std.proofs.Common.{◌∷◌, [], append-nil, sym, ◌-◌}
-use Rattle.bt_place.proofs.Loops.{mapped_all, mapped_more}
+use Rattle.std.proofs.Common.{◌∷◌, [], append-nil, sym}
+use Rattle.bt_arena.proofs.Loops.{mapped_all, mapped_more}
 use Rattle.bt_place.specs.Rules.{rule}
-use Rattle.bt_place.specs.declared.fact.Fact.TheVariants as fact
 use Rattle.bt_place.proofs.adding.add_implying.Goals as goal
 
 pub loop-fact-init : goal.loop-fact-init

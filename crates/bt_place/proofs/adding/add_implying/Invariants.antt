@@ -1,4 +1,4 @@
-use Rattle.std.proofs.Common.{◌≡◌, ◌++◌, ◌∷◌, [], take, map, ◌+◌, ◌-◌}
+use Rattle.std.proofs.Common.{◌≡◌, ◌++◌, ◌∷◌, [], take, map}
 use Rattle.bt_place.specs.Rules.{rule}
 use Rattle.bt_place.proofs.adding.add_implying.Given as goal
 

@@ -1,5 +1,5 @@
-use Rattle.std.proofs.Common.{cond, ◌∷◌, [], sym, ◌∙◌, ◌-◌}
-use Rattle.bt_place.proofs.Loops.{filter_flat, taken_all, taken_more}
+use Rattle.std.proofs.Common.{cond, ◌∷◌, [], sym, ◌∙◌}
+use Rattle.bt_arena.proofs.Loops.{filter_flat, taken_all, taken_more}
 use Rattle.bt_place.specs.Spots.{is_border}
 use Rattle.bt_place.proofs.cells.border_of.Goals as goal
 

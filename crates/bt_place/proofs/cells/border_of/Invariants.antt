@@ -1,4 +1,4 @@
-use Rattle.std.proofs.Common.{cond, ◌≡◌, ◌∷◌, [], take, ◌-◌}
+use Rattle.std.proofs.Common.{cond, ◌≡◌, ◌∷◌, [], take}
 use Rattle.bt_place.specs.Spots.{is_border}
 use Rattle.std.specs.List.{flat_map}
 use Rattle.bt_place.proofs.cells.border_of.Given as goal

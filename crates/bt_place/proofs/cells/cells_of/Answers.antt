@@ -1,5 +1,5 @@
-use Rattle.std.proofs.Common.{[], ◌-◌}
-use Rattle.bt_place.proofs.Loops.{place_more}
+use Rattle.std.proofs.Common.{[]}
+use Rattle.bt_arena.proofs.Loops.{place_more}
 use Rattle.bt_place.specs.Spots.{row_cells}
 use Rattle.bt_place.proofs.cells.cells_of.Goals as goal
 

@@ -1,4 +1,4 @@
-use Rattle.std.proofs.Common.{◌≡◌, ◌-◌}
+use Rattle.std.proofs.Common.{◌≡◌}
 use Rattle.bt_place.specs.Spots.{row_cells}
 use Rattle.std.specs.List.{flat_map, range_with_len}
 use Rattle.bt_place.proofs.cells.cells_of.Given as goal

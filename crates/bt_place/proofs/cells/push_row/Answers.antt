@@ -1,6 +1,6 @@
-use Rattle.std.proofs.Common.{◌++◌, ◌∷◌, [], append-nil, sym, ◌∙◌, ap, ◌+◌, ◌-◌}
+use Rattle.std.proofs.Common.{◌++◌, ◌∷◌, [], append-nil, sym, ◌∙◌, ap}
 use Rattle.bt_model.specs.Requests.{cell_at}
-use Rattle.bt_place.proofs.Loops.{item_more}
+use Rattle.bt_arena.proofs.Loops.{item_more}
 use Rattle.bt_place.proofs.cells.push_row.Goals as goal
 
 pub loop-column-init : goal.loop-column-init

@@ -1,4 +1,4 @@
-use Rattle.std.proofs.Common.{◌≡◌, ◌++◌, map, ◌+◌, ◌-◌}
+use Rattle.std.proofs.Common.{◌≡◌, ◌++◌, map}
 use Rattle.bt_model.specs.Requests.{cell_at}
 use Rattle.std.specs.List.{range_with_len}
 use Rattle.bt_place.proofs.cells.push_row.Given as goal

@@ -1,4 +1,4 @@
-use Rattle.std.proofs.Common.{map, ◌∙◌, ◌-◌}
+use Rattle.std.proofs.Common.{map, ◌∙◌}
 use Rattle.bt_place.proofs.OneOf.{exactly_one}
 use Rattle.bt_place.specs.Contents.{contents}
 use Rattle.bt_place.specs.declared.fact.Fact.TheVariants as fact

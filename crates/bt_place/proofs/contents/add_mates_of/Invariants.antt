@@ -1,4 +1,4 @@
-use Rattle.std.proofs.Common.{◌≡◌, ◌++◌, take, map, ◌+◌, ◌-◌}
+use Rattle.std.proofs.Common.{◌≡◌, ◌++◌, take, map}
 use Rattle.bt_place.specs.Contents.{mate_rule}
 use Rattle.bt_place.specs.Spots.{dirs}
 use Rattle.bt_place.proofs.contents.add_mates_of.Given as goal

@@ -1,5 +1,5 @@
-use Rattle.std.proofs.Common.{◌++◌, ◌∷◌, [], append-nil, sym, ◌∙◌, ap, ◌+◌, ◌-◌}
-use Rattle.bt_place.proofs.Loops.{mapped_all, mapped_more}
+use Rattle.std.proofs.Common.{◌++◌, ◌∷◌, [], append-nil, sym, ◌∙◌, ap}
+use Rattle.bt_arena.proofs.Loops.{mapped_all, mapped_more}
 use Rattle.bt_place.specs.Contents.{holds}
 use Rattle.bt_place.specs.Spots.{dirs}
 use Rattle.bt_place.proofs.contents.push_turned.Goals as goal

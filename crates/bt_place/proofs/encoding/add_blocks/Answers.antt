@@ -1,7 +1,7 @@
 use Rattle.std.proofs.Common.{append-nil, sym}
 use Rattle.bt_place.specs.Pinning.{block_rule}
 use Rattle.bt_place.specs.inner.Near.{IsBlockedNear}
-use Rattle.bt_place.proofs.Loops.{mapped_more, mapped_all}
+use Rattle.bt_arena.proofs.Loops.{mapped_more, mapped_all}
 use Rattle.bt_place.proofs.Written.{all_get}
 use Rattle.bt_place.proofs.encoding.add_blocks.Goals as goal
 

@@ -1,7 +1,7 @@
 use Rattle.std.proofs.Common.{append-nil, sym}
 use Rattle.bt_place.specs.Pinning.{pin_rules}
 use Rattle.bt_place.specs.inner.Near.{IsPinnedNear}
-use Rattle.bt_place.proofs.Loops.{taken_more, taken_all}
+use Rattle.bt_arena.proofs.Loops.{taken_more, taken_all}
 use Rattle.bt_place.proofs.Written.{all_get}
 use Rattle.bt_place.proofs.encoding.add_pins.Goals as goal
 

@@ -1,4 +1,4 @@
-use Rattle.std.proofs.Common.{◌≡◌, ◌++◌, map, refl}
+use Rattle.std.proofs.Common.{◌++◌, map, refl}
 use Rattle.std.specs.List.{flat_map, range_with_len}
 use Rattle.bt_place.specs.Ends.{input_rules, output_rules}
 use Rattle.bt_place.specs.Pinning.{pin_rules, block_rule}

@@ -1,4 +1,4 @@
-use Rattle.std.proofs.Common.{◌≡◌, refl, ap, ◌∙◌}
+use Rattle.std.proofs.Common.{refl, ap, ◌∙◌}
 use Rattle.std.specs.List.{flat_map, range_with_len}
 use Rattle.bt_place.specs.PlaceFormula.{cell_rules, splitter_rules}
 use Rattle.bt_place.specs.Spots.{cells_of}

@@ -1,4 +1,3 @@
-use Rattle.std.proofs.Common.{◌≡◌, ap, ◌∙◌}
 use Rattle.std.specs.List.{flat_map, range_with_len}
 use Rattle.bt_place.specs.PlaceFormula.{splitter_rules}
 use Rattle.bt_place.proofs.Encoded.{encoding_after, number_written}

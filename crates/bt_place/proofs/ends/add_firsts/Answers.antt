@@ -1,5 +1,5 @@
-use Rattle.std.proofs.Common.{◌∷◌, [], append-nil, sym, ◌-◌}
-use Rattle.bt_place.proofs.Loops.{item_more}
+use Rattle.std.proofs.Common.{◌∷◌, [], append-nil, sym}
+use Rattle.bt_arena.proofs.Loops.{item_more}
 use Rattle.bt_place.specs.Rules.{rule}
 use Rattle.bt_place.specs.declared.fact.Fact.TheVariants as fact
 use Rattle.bt_place.proofs.ends.add_firsts.Goals as goal

@@ -1,4 +1,4 @@
-use Rattle.std.proofs.Common.{◌≡◌, ◌++◌, ◌∷◌, [], map, ◌+◌, ◌-◌}
+use Rattle.std.proofs.Common.{◌≡◌, ◌++◌, ◌∷◌, [], map}
 use Rattle.bt_place.specs.Rules.{rule}
 use Rattle.std.specs.List.{range_with_len}
 use Rattle.bt_place.specs.declared.fact.Fact.TheVariants as fact

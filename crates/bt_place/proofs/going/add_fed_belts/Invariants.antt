@@ -1,4 +1,4 @@
-use Rattle.std.proofs.Common.{◌≡◌, ◌++◌, take, map, ◌+◌, ◌-◌}
+use Rattle.std.proofs.Common.{◌≡◌, ◌++◌, take, map}
 use Rattle.bt_place.specs.Going.{fed_belt}
 use Rattle.bt_place.specs.Spots.{dirs}
 use Rattle.bt_place.proofs.going.add_fed_belts.Given as goal

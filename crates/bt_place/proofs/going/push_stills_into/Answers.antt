@@ -1,5 +1,5 @@
-use Rattle.std.proofs.Common.{append-nil, sym, ◌-◌}
-use Rattle.bt_place.proofs.Loops.{taken_all, taken_more}
+use Rattle.std.proofs.Common.{append-nil, sym}
+use Rattle.bt_arena.proofs.Loops.{taken_all, taken_more}
 use Rattle.bt_place.specs.Going.{still_into}
 use Rattle.bt_place.proofs.going.push_stills_into.Goals as goal
 

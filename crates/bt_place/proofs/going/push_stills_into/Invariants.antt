@@ -1,4 +1,4 @@
-use Rattle.std.proofs.Common.{◌≡◌, ◌++◌, take, ◌+◌, ◌-◌}
+use Rattle.std.proofs.Common.{◌≡◌, ◌++◌, take}
 use Rattle.bt_place.specs.Going.{still_into}
 use Rattle.std.specs.List.{flat_map}
 use Rattle.bt_place.proofs.going.push_stills_into.Given as goal

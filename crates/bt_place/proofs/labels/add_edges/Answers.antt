@@ -1,5 +1,5 @@
-use Rattle.std.proofs.Common.{append-nil, sym, ◌-◌}
-use Rattle.bt_place.proofs.Loops.{numbered_all, numbered_more}
+use Rattle.std.proofs.Common.{append-nil, sym}
+use Rattle.bt_arena.proofs.Loops.{numbered_all, numbered_more}
 use Rattle.bt_place.specs.Labels.{edge_rules}
 use Rattle.bt_place.proofs.labels.add_edges.Goals as goal
 

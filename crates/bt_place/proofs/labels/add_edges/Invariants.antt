@@ -1,4 +1,4 @@
-use Rattle.std.proofs.Common.{◌≡◌, ◌++◌, take, ◌+◌, ◌-◌}
+use Rattle.std.proofs.Common.{◌≡◌, ◌++◌, take}
 use Rattle.bt_place.specs.Labels.{edge_rules}
 use Rattle.std.specs.List.{enumerate_from, flat_map}
 use Rattle.bt_place.proofs.labels.add_edges.Given as goal

@@ -1,6 +1,6 @@
 use Rattle.std.proofs.Common.{◌≡◌, ◌+◌, ◌++◌, ◌∷◌, [], sym, ◌∙◌, ap, arith}
 use Rattle.std.specs.List.{range_with_len}
-use Rattle.bt_place.proofs.Loops.{range_more}
+use Rattle.bt_arena.proofs.Loops.{range_more}
 use Rattle.bt_place.proofs.order.all_splitters.Goals as goal
 
 pub loop-splitter-preserved : goal.loop-splitter-preserved

@@ -1,4 +1,4 @@
-use Rattle.std.proofs.Common.{◌≡◌, map, length, ap, ◌∙◌, arith}
+use Rattle.std.proofs.Common.{◌≡◌, map, ap, ◌∙◌, arith}
 use Rattle.bt_place.specs.Numbering.{joining, first_most}
 use Rattle.bt_place.specs.inner.Order.{next_place}
 use Rattle.bt_place.proofs.Ordering.{next_within}

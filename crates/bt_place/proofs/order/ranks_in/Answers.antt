@@ -1,7 +1,7 @@
-use Rattle.std.proofs.Common.{◌≡◌, ◌++◌, ◌∷◌, [], ap, ◌∙◌}
+use Rattle.std.proofs.Common.{◌++◌, ◌∷◌, [], ap, ◌∙◌}
 use Rattle.std.specs.Prelude.{◌==◌}
 use Rattle.std.specs.List.{position_or_len}
-use Rattle.bt_place.proofs.Loops.{item_more}
+use Rattle.bt_arena.proofs.Loops.{item_more}
 use Rattle.bt_place.proofs.order.ranks_in.Goals as goal
 
 pub loop-splitter-preserved : goal.loop-splitter-preserved

@@ -1,5 +1,5 @@
-use Rattle.std.proofs.Common.{◌∷◌, [], append-nil, sym, ◌-◌}
-use Rattle.bt_place.proofs.Loops.{mapped_all, mapped_more}
+use Rattle.std.proofs.Common.{◌∷◌, [], append-nil, sym}
+use Rattle.bt_arena.proofs.Loops.{mapped_all, mapped_more}
 use Rattle.bt_place.specs.Contents.{holds}
 use Rattle.bt_place.specs.Rules.{not_all}
 use Rattle.bt_place.proofs.pinning.add_not_turned.Goals as goal

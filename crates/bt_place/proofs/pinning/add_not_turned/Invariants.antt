@@ -1,4 +1,4 @@
-use Rattle.std.proofs.Common.{◌≡◌, ◌++◌, ◌∷◌, [], take, map, ◌+◌, ◌-◌}
+use Rattle.std.proofs.Common.{◌≡◌, ◌++◌, ◌∷◌, [], take, map}
 use Rattle.bt_place.specs.Contents.{holds}
 use Rattle.bt_place.specs.Rules.{not_all}
 use Rattle.bt_place.proofs.pinning.add_not_turned.Given as goal

@@ -1,4 +1,4 @@
-use Rattle.std.proofs.Common.{◌≡◌, ◌++◌, take, map, ◌+◌, ◌-◌}
+use Rattle.std.proofs.Common.{◌≡◌, ◌++◌, take, map}
 use Rattle.bt_place.specs.Ports.{entering_rule}
 use Rattle.bt_place.proofs.ports.add_all_entering.Given as goal
 

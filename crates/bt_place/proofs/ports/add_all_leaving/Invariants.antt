@@ -1,4 +1,4 @@
-use Rattle.std.proofs.Common.{◌≡◌, ◌++◌, take, ◌+◌, ◌-◌}
+use Rattle.std.proofs.Common.{◌≡◌, ◌++◌, take}
 use Rattle.bt_place.specs.Ports.{leaving_rules}
 use Rattle.std.specs.List.{flat_map}
 use Rattle.bt_place.proofs.ports.add_all_leaving.Given as goal

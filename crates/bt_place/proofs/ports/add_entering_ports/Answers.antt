@@ -1,6 +1,6 @@
-use Rattle.std.proofs.Common.{append-nil, sym, ◌-◌}
+use Rattle.std.proofs.Common.{append-nil, sym}
 use Rattle.bt_net.specs.Network.{enters}
-use Rattle.bt_place.proofs.Loops.{numbered_all, numbered_more}
+use Rattle.bt_arena.proofs.Loops.{numbered_all, numbered_more}
 use Rattle.bt_place.specs.Ports.{one_port_rules}
 use Rattle.bt_place.specs.declared.fact.Fact.TheVariants as fact
 use Rattle.bt_place.proofs.ports.add_entering_ports.Goals as goal

@@ -1,4 +1,4 @@
-use Rattle.std.proofs.Common.{◌≡◌, ◌++◌, take, ◌+◌, ◌-◌}
+use Rattle.std.proofs.Common.{◌≡◌, ◌++◌, take}
 use Rattle.bt_net.specs.Network.{enters}
 use Rattle.bt_place.specs.Ports.{one_port_rules}
 use Rattle.std.specs.List.{enumerate_from, flat_map}

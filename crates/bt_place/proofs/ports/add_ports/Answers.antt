@@ -1,4 +1,4 @@
-use Rattle.std.proofs.Common.{◌∙◌, ◌-◌}
+use Rattle.std.proofs.Common.{◌∙◌}
 use Rattle.bt_place.proofs.PortsAdded.{ports_added}
 use Rattle.bt_place.proofs.ports.add_ports.Goals as goal
 

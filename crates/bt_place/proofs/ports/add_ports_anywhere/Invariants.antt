@@ -1,4 +1,4 @@
-use Rattle.std.proofs.Common.{◌≡◌, ◌++◌, take, ◌+◌, ◌-◌}
+use Rattle.std.proofs.Common.{◌≡◌, ◌++◌, take}
 use Rattle.bt_place.specs.Spots.{dirs}
 use Rattle.bt_place.specs.inner.Parts.{standing_ports}
 use Rattle.std.specs.List.{flat_map}

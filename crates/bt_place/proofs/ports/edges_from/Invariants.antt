@@ -1,4 +1,4 @@
-use Rattle.std.proofs.Common.{cond, ◌≡◌, ◌∷◌, [], take, ◌-◌}
+use Rattle.std.proofs.Common.{cond, ◌≡◌, ◌∷◌, [], take}
 use Rattle.bt_net.specs.Network.{leaves}
 use Rattle.std.specs.List.{enumerate_from, flat_map}
 use Rattle.bt_place.proofs.ports.edges_from.Given as goal

@@ -1,6 +1,6 @@
-use Rattle.std.proofs.Common.{cond, ◌∷◌, [], sym, ◌∙◌, ◌-◌}
+use Rattle.std.proofs.Common.{cond, ◌∷◌, [], sym, ◌∙◌}
 use Rattle.bt_net.specs.Network.{enters}
-use Rattle.bt_place.proofs.Loops.{filter_flat, numbered_all, numbered_more}
+use Rattle.bt_arena.proofs.Loops.{filter_flat, numbered_all, numbered_more}
 use Rattle.std.specs.List.{enumerate_from}
 use Rattle.bt_place.proofs.ports.edges_into.Goals as goal
 

@@ -1,4 +1,4 @@
-use Rattle.std.proofs.Common.{◌≡◌, ◌++◌, take, map, ◌+◌, ◌-◌}
+use Rattle.std.proofs.Common.{◌≡◌, ◌++◌, take, map}
 use Rattle.bt_place.specs.declared.fact.Fact.TheVariants as fact
 use Rattle.bt_place.proofs.ports.push_leaving.Given as goal
 

@@ -1,5 +1,5 @@
-use Rattle.std.proofs.Common.{append-nil, sym, ◌-◌}
-use Rattle.bt_place.proofs.Loops.{place_more}
+use Rattle.std.proofs.Common.{append-nil, sym}
+use Rattle.bt_arena.proofs.Loops.{place_more}
 use Rattle.bt_place.specs.Spots.{dirs}
 use Rattle.bt_place.specs.Standing.{at_rules}
 use Rattle.std.specs.List.{flat_map}

@@ -1,4 +1,4 @@
-use Rattle.std.proofs.Common.{◌≡◌, ◌++◌, ◌+◌, ◌-◌}
+use Rattle.std.proofs.Common.{◌≡◌, ◌++◌}
 use Rattle.bt_place.specs.Spots.{dirs}
 use Rattle.bt_place.specs.Standing.{at_rules}
 use Rattle.std.specs.List.{flat_map, range_with_len}

@@ -1,5 +1,5 @@
-use Rattle.std.proofs.Common.{append-nil, sym, ◌-◌}
-use Rattle.bt_place.proofs.Loops.{item_more}
+use Rattle.std.proofs.Common.{append-nil, sym}
+use Rattle.bt_arena.proofs.Loops.{item_more}
 use Rattle.bt_place.specs.Standing.{name_rule}
 use Rattle.bt_place.proofs.standing.add_names.Goals as goal
 

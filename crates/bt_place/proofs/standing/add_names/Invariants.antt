@@ -1,4 +1,4 @@
-use Rattle.std.proofs.Common.{◌≡◌, ◌++◌, map, ◌+◌, ◌-◌}
+use Rattle.std.proofs.Common.{◌≡◌, ◌++◌, map}
 use Rattle.bt_place.specs.Standing.{name_rule}
 use Rattle.std.specs.List.{range_with_len}
 use Rattle.bt_place.proofs.standing.add_names.Given as goal

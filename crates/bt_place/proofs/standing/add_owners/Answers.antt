@@ -1,5 +1,5 @@
-use Rattle.std.proofs.Common.{append-nil, sym, ◌-◌}
-use Rattle.bt_place.proofs.Loops.{mapped_all, mapped_more}
+use Rattle.std.proofs.Common.{append-nil, sym}
+use Rattle.bt_arena.proofs.Loops.{mapped_all, mapped_more}
 use Rattle.bt_place.specs.Spots.{dirs}
 use Rattle.bt_place.specs.Standing.{owner_rule}
 use Rattle.bt_place.proofs.standing.add_owners.Goals as goal

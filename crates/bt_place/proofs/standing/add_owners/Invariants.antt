@@ -1,4 +1,4 @@
-use Rattle.std.proofs.Common.{◌≡◌, ◌++◌, take, map, ◌+◌, ◌-◌}
+use Rattle.std.proofs.Common.{◌≡◌, ◌++◌, take, map}
 use Rattle.bt_place.specs.Spots.{dirs}
 use Rattle.bt_place.specs.Standing.{owner_rule}
 use Rattle.bt_place.proofs.standing.add_owners.Given as goal

@@ -1,5 +1,5 @@
-use Rattle.std.proofs.Common.{append-nil, sym, ◌-◌}
-use Rattle.bt_place.proofs.Loops.{mapped_all, mapped_more}
+use Rattle.std.proofs.Common.{append-nil, sym}
+use Rattle.bt_arena.proofs.Loops.{mapped_all, mapped_more}
 use Rattle.bt_place.specs.Spots.{dirs}
 use Rattle.bt_place.specs.declared.fact.Fact.TheVariants as fact
 use Rattle.bt_place.proofs.standing.push_ats.Goals as goal

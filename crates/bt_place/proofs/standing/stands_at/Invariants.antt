@@ -1,4 +1,4 @@
-use Rattle.std.proofs.Common.{◌≡◌, take, map, ◌-◌}
+use Rattle.std.proofs.Common.{◌≡◌, take, map}
 use Rattle.bt_place.specs.Spots.{dirs}
 use Rattle.std.specs.List.{flat_map}
 use Rattle.bt_place.specs.declared.fact.Fact.TheVariants as fact

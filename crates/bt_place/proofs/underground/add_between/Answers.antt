@@ -1,6 +1,6 @@
 use Rattle.std.proofs.Common.{◌∷◌, [], append-nil, sym, ◌-◌, arith}
 use Rattle.bt_parts.specs.Cells.{steps}
-use Rattle.bt_place.proofs.Loops.{one_from_all, one_from_more}
+use Rattle.bt_arena.proofs.Loops.{one_from_all, one_from_more}
 use Rattle.bt_place.specs.Contents.{holds}
 use Rattle.bt_place.specs.Rules.{rule}
 use Rattle.bt_place.specs.declared.fact.Fact.TheVariants as fact

@@ -1,4 +1,4 @@
-use Rattle.std.proofs.Common.{◌≡◌, ◌++◌, ◌∷◌, [], map, ◌+◌, ◌-◌}
+use Rattle.std.proofs.Common.{◌≡◌, ◌++◌, ◌∷◌, [], map, ◌-◌}
 use Rattle.bt_parts.specs.Cells.{steps}
 use Rattle.bt_place.specs.Contents.{holds}
 use Rattle.bt_place.specs.Rules.{rule}

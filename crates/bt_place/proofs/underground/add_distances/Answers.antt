@@ -1,5 +1,5 @@
-use Rattle.std.proofs.Common.{append-nil, sym, ◌-◌, arith}
-use Rattle.bt_place.proofs.Loops.{from_all, from_more}
+use Rattle.std.proofs.Common.{append-nil, sym, arith}
+use Rattle.bt_arena.proofs.Loops.{from_all, from_more}
 use Rattle.bt_place.specs.Underground.{distance_rules}
 use Rattle.bt_place.proofs.underground.add_distances.Goals as goal
 

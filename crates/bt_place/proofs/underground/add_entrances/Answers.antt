@@ -1,5 +1,5 @@
-use Rattle.std.proofs.Common.{append-nil, sym, ◌-◌}
-use Rattle.bt_place.proofs.Loops.{taken_all, taken_more}
+use Rattle.std.proofs.Common.{append-nil, sym}
+use Rattle.bt_arena.proofs.Loops.{taken_all, taken_more}
 use Rattle.bt_place.specs.Spots.{dirs}
 use Rattle.bt_place.specs.Underground.{entrance_rules}
 use Rattle.bt_place.proofs.underground.add_entrances.Goals as goal

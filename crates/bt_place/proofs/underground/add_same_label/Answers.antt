@@ -1,5 +1,5 @@
-use Rattle.std.proofs.Common.{append-nil, sym, ◌-◌}
-use Rattle.bt_place.proofs.Loops.{place_more}
+use Rattle.std.proofs.Common.{append-nil, sym}
+use Rattle.bt_arena.proofs.Loops.{place_more}
 use Rattle.bt_place.specs.Underground.{pair_label_rules}
 use Rattle.bt_place.proofs.underground.add_same_label.Goals as goal
 

@@ -1,5 +1,5 @@
-use Rattle.std.proofs.Common.{append-nil, sym, ◌-◌, arith}
-use Rattle.bt_place.proofs.Loops.{from_all, from_more}
+use Rattle.std.proofs.Common.{append-nil, sym, arith}
+use Rattle.bt_arena.proofs.Loops.{from_all, from_more}
 use Rattle.bt_place.specs.Underground.{pair_label_rules}
 use Rattle.std.specs.List.{flat_map, range_with_len}
 use Rattle.bt_place.proofs.underground.add_same_labels.Goals as goal

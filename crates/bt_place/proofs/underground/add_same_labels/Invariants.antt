@@ -1,4 +1,4 @@
-use Rattle.std.proofs.Common.{◌≡◌, ◌++◌, ◌+◌, ◌-◌}
+use Rattle.std.proofs.Common.{◌≡◌, ◌++◌, ◌-◌}
 use Rattle.bt_place.specs.Underground.{pair_label_rules}
 use Rattle.std.specs.List.{flat_map, range_with_len}
 use Rattle.bt_place.proofs.underground.add_same_labels.Given as goal

@@ -25,6 +25,7 @@ returns-in-Some-clause-infers c =
       served = refl;
       settled = λ none. absurd (Inferring.never_none all p.settled p.search s ready c.in-Some.id came (sym (c.number_of-progress.ensures ∙ ap (λ ns. slice_get ns c.in-Some.id) c.deref.ensures.value) ∙ none));
       fewer = Inferring.fewer p.search s came.0;
+      grows = record { more = came.0.more; trail = came.0.trail; unset = refl };
     }
 
 pub returns-in-None-clause-infers : goal.returns-in-None-clause-infers
@@ -46,4 +47,5 @@ returns-in-None-clause-infers c =
       served = refl;
       settled = λ none. sym size;
       fewer = Inferring.fewer p.search s came.0;
+      grows = record { more = came.0.more; trail = came.0.trail; unset = refl };
     }

@@ -18,7 +18,7 @@ returns c =
     let old = c.args.search.now in
     let lits = c.args.lits.now in
     let id = c.in_ok-id.id in
-    let added = c.in_ok-id.ensures.added.right in
+    let added = c.in_ok-added.ensures.added.right in
     let at_first : first lits ≡ c.index-lits-0.result = get_or_default lits 0 no_lit c.index-lits-0.result (omega (arith, c.requires.watchable.two)) ∙ sym c.index-lits-0.is in
     let packed_first : first lits ≡ c.index-packed-0.result =
     get_or_default lits 0 no_lit c.index-packed-0.result (omega (arith, c.requires.watchable.two)) ∙ ap (λ ls. get_or ls 0 c.index-packed-0.result) (sym c.requires.same) ∙ sym c.index-packed-0.is in
@@ -35,5 +35,5 @@ returns c =
       numbers = c.in_ok-push.ensures.items;
       watched =
           subst (λ cs. AreWatched (length old.assignment.values) cs c.watch-2.new.self) (sym grown)
-          (watched_more (length old.assignment.values) old.clauses old.watchers c.watch.new.self c.watch-2.new.self lits id c.requires.watched c.requires.watchable added.1 one two);
+          (watched_more (length old.assignment.values) old.clauses old.watchers c.watch.new.self c.watch-2.new.self lits id c.requires.watched c.requires.watchable (c.in_ok-id.ensures ∙ added.1) one two);
     }

@@ -3,4 +3,4 @@ use Rattle.bt_simplex.specs.Classes.{signed_terms}
 use Rattle.bt_simplex.proofs.basis.are_same.Given as goal
 
 abbrev pub invariant-loop-i : goal.invariant-loop-i
-invariant-loop-i l = signed_terms l.negated (take l.i l.terms) ≡ take l.i l.others
+invariant-loop-i l = signed_terms l.negated (take l.i l.line) ≡ take l.i l.others

@@ -9,11 +9,11 @@ pub returns-in-Ok-clause-point : goal.returns-in-Ok-clause-point
 returns-in-Ok-clause-point c =
     let t = with_slots c.args.tableau.now c.args.basis.now in
     subst (λ d. IsSamePoint d (point_at t c.args.position)) (sym c.signed_point.ensures)
-    (line_place t c.all_known.ensures.rows c.args.position c.in-Line.negated c.in-Line.terms.now c.in-Ok.point c.in-Line.ensures.0 c.in-Line.ensures.2 c.in-Ok.ensures.point)
+    (line_place t c.all_known.ensures.rows c.args.position c.in-Line.negated c.in-Line.line.now c.in-Ok.point c.in-Line.ensures.0 c.in-Ok.ensures.known c.in-Ok.ensures.point)
 
 pub returns-in-Err-clause-unfit : goal.returns-in-Err-clause-unfit
 returns-in-Err-clause-unfit c =
-    point_cause (with_slots c.args.tableau.now c.args.basis.now) c.in-Line.first c.in-Line.terms.now c.in-Err.cause c.in-Line.ensures.1 c.in-Err.ensures.unfit
+    point_cause (with_slots c.args.tableau.now c.args.basis.now) c.in-Line.first c.in-Line.line.now c.in-Err.cause c.in-Line.ensures.1 c.in-Err.ensures.unfit
 
 pub returns-in-Like-clause-point : goal.returns-in-Like-clause-point
 returns-in-Like-clause-point c =

@@ -4,8 +4,8 @@ use Rattle.bt_simplex.specs.inner.Starts.{kept}
 use Rattle.bt_simplex.proofs.FirstLines.{kept_line}
 use Rattle.bt_simplex.proofs.starting.row_line.Goals as goal
 
-pub invariant_of-result : goal.invariant_of-result
-invariant_of-result c =
+pub returns-clause-line : goal.returns-clause-line
+returns-clause-line c =
     let known = c.terms.ensures.known in
     let is : c.in_ok-terms.terms.items ≡ kept c.args.row.now.terms = c.in_ok-terms.ensures ∙ ap kept c.terms.ensures.value in
     subst (λ l. IsLineFrom 0 l) (sym is) (kept_line 0 c.args.row.now.terms known.columns known.coefficients)

@@ -19,12 +19,6 @@ loop-position-preserved c =
     (all_zip_more (IsNegatedShare c.args.by.now) c.args.terms.now c.loop-position.shares.items c.loop-position.position-index c.loop-position-item.result c.in-Ok.share c.loop-position-test.true
     c.loop-position-item.is c.loop-position.invariant c.in-Ok.ensures.share)
 
-pub invariant_of-result : goal.invariant_of-result
-invariant_of-result c =
-    let past : length c.args.terms.now ≤ c.loop-position.position-index = omega arith in
-    let each = subst (λ l. AllZip (IsNegatedShare c.args.by.now) l c.loop-position.shares.items) (take_all c.loop-position.position-index c.args.terms.now past) c.loop-position.invariant in
-    shares_line c.args.by.now 0 c.args.terms.now c.loop-position.shares.items c.requires.lowest.positive c.requires.line each
-
 pub returns-clause-shares : goal.returns-clause-shares
 returns-clause-shares c =
     let past : length c.args.terms.now ≤ c.loop-position.position-index = omega arith in

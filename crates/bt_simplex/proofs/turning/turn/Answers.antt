@@ -1,17 +1,14 @@
-use Rattle.std.proofs.Common.{◌≡◌, ◌<◌, ◌-◌, ◌^◌, ℕ, arith, length, false, set, None, Some, IfOk, IfErr, ap, sym, ◌∙◌, subst}
+use Rattle.std.proofs.Common.{◌≡◌, ◌<◌, ◌-◌, ◌^◌, ℕ, arith, length, false, set, None, IfOk, IfErr, ap, sym, ◌∙◌, subst}
 use Rattle.std.specs.Vec.{with_items}
 use Rattle.std.proofs.lemmas.List.{with_items_is}
-use Rattle.bt_frac.specs.Ratio.{negated}
-use Rattle.bt_lin.specs.WeightedRows.{coefficient_at}
-use Rattle.bt_simplex.specs.Lines.{one}
 use Rattle.bt_simplex.specs.Classes.{signed_terms, member_at, position_at, slot_of, slots_of, AreClasses}
 use Rattle.bt_simplex.specs.SolvedForms.{slot_at}
 use Rattle.bt_simplex.specs.declared.basis.Member.{Member}
 use Rattle.bt_simplex.specs.declared.causes.Cause.{Cause}
-use Rattle.bt_simplex.specs.inner.TurnedSlots.{AreLines, AreSubstituted, with_line, IsEntering, IsTurned}
-use Rattle.bt_simplex.specs.inner.UnfitTurns.{IsSlotZero, IsUnfitLine, IsUnfitTurn}
+use Rattle.bt_simplex.specs.inner.TurnedSlots.{AreLines, AreSubstituted, with_line, IsTurned}
+use Rattle.bt_simplex.specs.inner.UnfitTurns.{IsSlotZero, IsUnfitLine, IsUnfitPart, IsUnfitTurn}
 use Rattle.bt_simplex.proofs.Classes.{slots_length, read_is, class_in, classes_turned, classes_after, classes_unfit, lines_count}
-use Rattle.bt_simplex.proofs.UnfitTurns.{zero_named}
+use Rattle.bt_simplex.proofs.UnfitTurns.{part_unfit, zero_named}
 use Rattle.bt_simplex.proofs.turning.turn.Goals as goal
 
 pub slot_zero-requires-clause-position : goal.slot_zero-requires-clause-position
@@ -46,8 +43,7 @@ entering_line-requires-clause-number c =
     let leaves_in : c.args.leaves < length c.basis.inside.members.items = subst (λ n. c.args.leaves < n) many c.requires.leaves in
     let enters_in : c.args.enters < length c.basis.inside.members.items = subst (λ n. c.args.enters < n) many c.requires.enters in
     let told = subst (λ o. IfOk o (IsSlotZero c.in_ok-slot.slot c.args.leaves c.args.enters)) c.in-Ok.is c.in_ok-zero.ensures.zero in
-    subst (λ l. coefficient_at c.args.enters l ≡ Some (negated one)) (sym c.terms.ensures.value)
-    (zero_named c.args.leaves c.args.enters told.terms told.number c.in-Ok.zero told.is_zero c.requires.apart told.is_line told.named told.lacks)
+    zero_named c.args.leaves c.args.enters told.terms told.number c.in-Ok.zero told.is_zero c.requires.apart told.is_line told.named told.lacks
 
 pub index-requires : goal.index-requires
 index-requires c =
@@ -71,8 +67,8 @@ index-requires-2 c =
     let enters_in : c.args.enters < length c.basis.inside.members.items = subst (λ n. c.args.enters < n) many c.requires.enters in
     omega arith
 
-pub substitute_others-requires-clause-left : goal.substitute_others-requires-clause-left
-substitute_others-requires-clause-left c =
+pub substitute_others-requires : goal.substitute_others-requires
+substitute_others-requires c =
     let members = c.basis.inside.members.items in
     let firsts = c.basis.inside.firsts.items in
     let lines = c.basis.inside.lines.items in
@@ -83,6 +79,12 @@ substitute_others-requires-clause-left c =
     let left : member_at members c.args.leaves ≡ c.index-2.result.now = read_is members c.args.leaves (record { class = 0; negated = false }) c.index-2.result.now leaves_in c.index-2.ensures in
     let left_in = class_in members firsts lines outside c.basis.invariant c.args.leaves c.index-2.result.now leaves_in left in
     subst (λ l. c.index-2.result.now.class < length l) (sym c.deref_mut.ensures.value) (subst (λ n. c.index-2.result.now.class < n) (sym c.basis.invariant.lines_many) left_in)
+
+pub returns-in-Err-clause-unfit : goal.returns-in-Err-clause-unfit
+returns-in-Err-clause-unfit c =
+    let told = subst (λ o. IfErr o (IsUnfitPart c.in_ok-slot.slot c.args.leaves c.args.enters)) c.in-Err.is c.in_ok-zero.ensures.unfit in
+    let part = subst (λ s. IsUnfitPart s c.args.leaves c.args.enters c.in-Err.unfit) c.in_ok-slot.ensures told in
+    subst (λ w. IsUnfitTurn c.args.basis.now c.args.leaves c.args.enters c.args.basis.now w) (sym c.entry_cause.ensures) (part_unfit c.args.basis.now c.args.leaves c.args.enters c.in-Err.unfit part)
 
 pub returns-in-Err-2-clause-unfit : goal.returns-in-Err-2-clause-unfit
 returns-in-Err-2-clause-unfit c =
@@ -98,9 +100,8 @@ returns-in-Err-2-clause-unfit c =
     let told = subst (λ o. IfOk o (IsSlotZero c.in_ok-slot.slot c.args.leaves c.args.enters)) c.in-Ok.is c.in_ok-zero.ensures.zero in
     let zero = subst (λ s. IsSlotZero s c.args.leaves c.args.enters c.in-Ok.zero) (c.in_ok-slot.ensures ∙ ap (λ b. slot_at b c.args.leaves) (sym c.basis.view_is)) told in
     let sub_items = with_items_is c.basis.inside.lines c.substitute_others.new.lines (c.substitute_others.auto.lines ∙ c.deref_mut.ensures.len) in
-    let unfit0 = subst (λ o. IfErr o (IsUnfitLine c.index-2.result.now.class c.args.enters c.terms-3.result.now c.deref_mut.result.now c.substitute_others.new.lines)) c.in-Err-2.is c.in_ok-substitute_others.ensures.unfit in
-    let unfit1 = subst (λ z. IsUnfitLine c.index-2.result.now.class c.args.enters z c.deref_mut.result.now c.substitute_others.new.lines c.in-Err-2.cause) c.terms-3.ensures.value unfit0 in
-    let unfit2 = subst (λ l. IsUnfitLine c.index-2.result.now.class c.args.enters c.in-Ok.zero l c.substitute_others.new.lines c.in-Err-2.cause) c.deref_mut.ensures.value unfit1 in
+    let unfit0 = subst (λ o. IfErr o (IsUnfitLine c.index-2.result.now.class c.args.enters c.in-Ok.zero c.deref_mut.result.now c.substitute_others.new.lines)) c.in-Err-2.is c.in_ok-substitute_others.ensures.unfit in
+    let unfit2 = subst (λ l. IsUnfitLine c.index-2.result.now.class c.args.enters c.in-Ok.zero l c.substitute_others.new.lines c.in-Err-2.cause) c.deref_mut.ensures.value unfit0 in
     let unfit = subst (λ (m : Member). IsUnfitLine m.class c.args.enters c.in-Ok.zero lines c.substitute_others.new.lines c.in-Err-2.cause) (sym left) unfit2 in
     let cause_is = c.at_first.ensures ∙ ap (λ f. at_row c.in-Err-2.cause (position_at f c.in-Err-2.cause.row)) c.deref.ensures.value in
     subst (λ b. IsUnfitTurn b c.args.leaves c.args.enters (slots_of members (with_items c.basis.inside.lines c.substitute_others.new.lines).items outside) c.at_first.result) c.basis.view_is
@@ -155,11 +156,10 @@ invariant_of-basis-2 c =
     let put_items = with_items_is (with_items c.basis.inside.lines c.substitute_others.new.lines) c.put_line.new.lines (c.put_line.auto.lines ∙ c.deref_mut-2.ensures.len) in
     let told = subst (λ o. IfOk o (IsSlotZero c.in_ok-slot.slot c.args.leaves c.args.enters)) c.in-Ok.is c.in_ok-zero.ensures.zero in
     let zero = subst (λ s. IsSlotZero s c.args.leaves c.args.enters c.in-Ok.zero) (c.in_ok-slot.ensures ∙ ap (λ b. slot_at b c.args.leaves) (sym c.basis.view_is)) told in
-    let changed0 = subst (λ o. IfOk o (λ d. AreSubstituted c.args.enters c.terms-3.result.now (set c.deref_mut.result.now c.index-2.result.now.class None) c.substitute_others.new.lines)) c.in-Ok-2.is c.in_ok-substitute_others.ensures.done in
-    let changed1 = subst (λ z. AreSubstituted c.args.enters z (set c.deref_mut.result.now c.index-2.result.now.class None) c.substitute_others.new.lines) c.terms-3.ensures.value changed0 in
-    let changed2 = subst (λ l. AreSubstituted c.args.enters c.in-Ok.zero (set l c.index-2.result.now.class None) c.substitute_others.new.lines) c.deref_mut.ensures.value changed1 in
+    let changed0 = subst (λ o. IfOk o (λ d. AreSubstituted c.args.enters c.in-Ok.zero (set c.deref_mut.result.now c.index-2.result.now.class None) c.substitute_others.new.lines)) c.in-Ok-2.is c.in_ok-substitute_others.ensures.done in
+    let changed2 = subst (λ l. AreSubstituted c.args.enters c.in-Ok.zero (set l c.index-2.result.now.class None) c.substitute_others.new.lines) c.deref_mut.ensures.value changed0 in
     let changed = subst (λ (m : Member). AreSubstituted c.args.enters c.in-Ok.zero (set lines m.class None) c.substitute_others.new.lines) (sym left) changed2 in
-    let line_is = c.in_ok-line.ensures ∙ ap (λ l. signed_terms c.index.result.now.negated l) c.terms-2.ensures.value in
+    let line_is = c.in_ok-line.ensures in
     let entered =
     c.put_line.ensures ∙ ap (λ l. with_line c.index-2.result.now.class c.index.result.now.class l c.deref_mut-2.result.now) line_is
     ∙ ap (λ l. with_line c.index-2.result.now.class c.index.result.now.class (signed_terms c.index.result.now.negated c.in_ok-entering.entering) l) (c.deref_mut-2.ensures.value ∙ sub_items)
@@ -168,7 +168,7 @@ invariant_of-basis-2 c =
     let fits : c.args.leaves < 2 ^ 64 - 1 = omega arith in
     let count = lines_count members firsts lines outside c.basis.invariant c.args.leaves c.args.enters c.in-Ok.zero c.in_ok-entering.entering c.substitute_others.new.lines c.put_line.new.lines leaves_in enters_in c.requires.apart
     (subst (λ b. AreLines b) (sym c.basis.view_is) c.requires.lines) (ap (λ b. slot_at b c.args.enters) c.basis.view_is ∙ c.requires.outside) fits zero
-    (subst (λ z. IsEntering c.args.enters z c.in_ok-entering.entering) c.terms.ensures.value c.in_ok-entering.ensures) changed entered in
+    c.in_ok-entering.ensures changed entered in
     let after = classes_after members firsts lines outside c.basis.invariant c.put_line.new.lines c.args.leaves count leaves_in in
     let after' = subst (λ (m : Member). AreClasses members firsts c.put_line.new.lines (set outside m.class c.args.leaves)) left after in
     subst (λ l. AreClasses members firsts l (set outside c.index-2.result.now.class c.args.leaves)) (sym put_items) after'
@@ -189,11 +189,10 @@ returns-clause-done c =
     let put_items = with_items_is (with_items c.basis.inside.lines c.substitute_others.new.lines) c.put_line.new.lines (c.put_line.auto.lines ∙ c.deref_mut-2.ensures.len) in
     let told = subst (λ o. IfOk o (IsSlotZero c.in_ok-slot.slot c.args.leaves c.args.enters)) c.in-Ok.is c.in_ok-zero.ensures.zero in
     let zero = subst (λ s. IsSlotZero s c.args.leaves c.args.enters c.in-Ok.zero) (c.in_ok-slot.ensures ∙ ap (λ b. slot_at b c.args.leaves) (sym c.basis.view_is)) told in
-    let changed0 = subst (λ o. IfOk o (λ d. AreSubstituted c.args.enters c.terms-3.result.now (set c.deref_mut.result.now c.index-2.result.now.class None) c.substitute_others.new.lines)) c.in-Ok-2.is c.in_ok-substitute_others.ensures.done in
-    let changed1 = subst (λ z. AreSubstituted c.args.enters z (set c.deref_mut.result.now c.index-2.result.now.class None) c.substitute_others.new.lines) c.terms-3.ensures.value changed0 in
-    let changed2 = subst (λ l. AreSubstituted c.args.enters c.in-Ok.zero (set l c.index-2.result.now.class None) c.substitute_others.new.lines) c.deref_mut.ensures.value changed1 in
+    let changed0 = subst (λ o. IfOk o (λ d. AreSubstituted c.args.enters c.in-Ok.zero (set c.deref_mut.result.now c.index-2.result.now.class None) c.substitute_others.new.lines)) c.in-Ok-2.is c.in_ok-substitute_others.ensures.done in
+    let changed2 = subst (λ l. AreSubstituted c.args.enters c.in-Ok.zero (set l c.index-2.result.now.class None) c.substitute_others.new.lines) c.deref_mut.ensures.value changed0 in
     let changed = subst (λ (m : Member). AreSubstituted c.args.enters c.in-Ok.zero (set lines m.class None) c.substitute_others.new.lines) (sym left) changed2 in
-    let line_is = c.in_ok-line.ensures ∙ ap (λ l. signed_terms c.index.result.now.negated l) c.terms-2.ensures.value in
+    let line_is = c.in_ok-line.ensures in
     let entered =
     c.put_line.ensures ∙ ap (λ l. with_line c.index-2.result.now.class c.index.result.now.class l c.deref_mut-2.result.now) line_is
     ∙ ap (λ l. with_line c.index-2.result.now.class c.index.result.now.class (signed_terms c.index.result.now.negated c.in_ok-entering.entering) l) (c.deref_mut-2.ensures.value ∙ sub_items)
@@ -202,7 +201,7 @@ returns-clause-done c =
     let fits : c.args.leaves < 2 ^ 64 - 1 = omega arith in
     let turned = classes_turned members firsts lines outside c.basis.invariant c.args.leaves c.args.enters c.in-Ok.zero c.in_ok-entering.entering c.substitute_others.new.lines c.put_line.new.lines leaves_in enters_in c.requires.apart
     (subst (λ b. AreLines b) (sym c.basis.view_is) c.requires.lines) (ap (λ b. slot_at b c.args.enters) c.basis.view_is ∙ c.requires.outside) fits zero
-    (subst (λ z. IsEntering c.args.enters z c.in_ok-entering.entering) c.terms.ensures.value c.in_ok-entering.ensures) changed entered in
+    c.in_ok-entering.ensures changed entered in
     let turned' = subst (λ (m : Member). IsTurned (slots_of members lines outside) c.args.leaves c.args.enters (slots_of members c.put_line.new.lines (set outside m.class c.args.leaves))) left turned in
     let turned'' = subst (λ l. IsTurned (slots_of members lines outside) c.args.leaves c.args.enters (slots_of members l (set outside c.index-2.result.now.class c.args.leaves))) (sym put_items) turned' in
     subst (λ b. IsTurned b c.args.leaves c.args.enters (slots_of members (with_items (with_items c.basis.inside.lines c.substitute_others.new.lines) c.put_line.new.lines).items (set outside c.index-2.result.now.class c.args.leaves))) c.basis.view_is turned''

@@ -1,21 +1,11 @@
-use Rattle.std.proofs.Common.{Ok, Err, subst, sym}
+use Rattle.std.proofs.Common.{subst, sym}
 use Rattle.bt_io.specs.Passages.{passage}
-use Rattle.bt_cert.specs.Readings.{ChecksLog}
-use Rattle.bt_top.specs.inner.Fronts.{AnswersLeft}
-use Rattle.bt_top.proofs.Fronts.{Rest, steps_right, steps_wrong}
+use Rattle.bt_top.specs.inner.Fronts.{AnswersLeft, IsStepsReply}
+use Rattle.bt_top.proofs.Fronts.{steps_wrong}
 use Rattle.bt_top.proofs.blocks.steps_from.Goals as goal
 
-pub returns-in-Ok-check_log : goal.returns-in-Ok-check_log
-returns-in-Ok-check_log g c =
+pub returns-in-Err : goal.returns-in-Err
+returns-in-Err g c =
     let source = passage g.S.Source.left g.S.Source.faults c.args.source.now c.check_log.new.source in
-    let lines = c.args.front.now.lines.now in
-    steps_right c.args.front.now.net c.args.property lines c.args.limit source c.requires.network
-    (subst (λ f. ChecksLog f lines c.args.limit source (Ok tt)) c.in-Ok.ensures c.in-Ok-check_log.ensures)
-
-pub returns : goal.returns
-returns g c =
-    let source = passage g.S.Source.left g.S.Source.faults c.args.source.now c.check_log.new.source in
-    let lines = c.args.front.now.lines.now in
-    subst (λ told. AnswersLeft (Rest c.args.front.now.net c.args.property lines c.args.limit source c.requires.network) c.args.limit source told) (sym c.steps_told.ensures)
-    (steps_wrong c.args.front.now.net c.args.property lines c.args.limit source c.requires.network c.in-Err.fault
-    (subst (λ f. ChecksLog f lines c.args.limit source (Err c.in-Err.fault)) c.in-Ok.ensures c.in-Err.ensures))
+    subst (λ told. AnswersLeft (IsStepsReply c.args.steps) c.args.limit source told) (sym c.steps_told.ensures)
+    (steps_wrong c.args.steps c.args.limit source c.in-Err.fault c.in-Err.ensures)

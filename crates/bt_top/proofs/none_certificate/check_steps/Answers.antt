@@ -11,7 +11,7 @@ returns-in-Ok-check_log c =
     let told = log_told c.in-Ok.formula c.args.lines.now
     (record { before = Some c.new-source.result; after = Some c.check_log.new.source; faults = 0; faults_after = 0 }) (Ok tt) (ap Some c.new-source.ensures) refl refl c.in-Ok-check_log.ensures.checked in
     none_told c.args.request.now c.args.lines.now c.net.ensures.request
-    (subst (λ f. IsCertRead f c.args.lines.now (Ok tt)) c.in-Ok.ensures told)
+    (subst (λ f. IsCertRead f c.args.lines.now (Ok tt)) c.in-Ok.ensures.formula told)
 
 pub returns : goal.returns
 returns c =
@@ -19,4 +19,4 @@ returns c =
     (record { before = Some c.new-source.result; after = Some c.check_log.new.source; faults = 0; faults_after = 0 })
     (Err c.in-Err.fault) (ap Some c.new-source.ensures) refl refl c.in-Err.ensures.checked in
     none_fault_told c.args.request.now c.args.lines.now c.in-Err.fault c.uncertified.result
-    (subst (λ f. UnlessMemory Memory (IsCertRead f c.args.lines.now) (Err c.in-Err.fault)) c.in-Ok.ensures told) c.uncertified.ensures
+    (subst (λ f. UnlessMemory Memory (IsCertRead f c.args.lines.now) (Err c.in-Err.fault)) c.in-Ok.ensures.formula told) c.uncertified.ensures

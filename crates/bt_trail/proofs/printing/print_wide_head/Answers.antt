@@ -1,8 +1,7 @@
-use Rattle.std.proofs.Common.{◌++◌, [], ◌∷◌, ◌∙◌, ap, sym, subst}
+use Rattle.std.proofs.Common.{◌++◌, [], ◌∷◌, ◌∙◌, subst}
 use Rattle.std.specs.Prelude.{codes}
 use Rattle.bt_io.specs.Bytes.{WritesText}
 use Rattle.bt_io.specs.Passages.{passage}
-use Rattle.bt_trail.specs.TrailText.{wide_head}
 use Rattle.bt_trail.proofs.Texts.{three}
 use Rattle.bt_trail.proofs.printing.print_wide_head.Goals as goal
 

@@ -1,7 +1,7 @@
 use Rattle.std.proofs.Common.{get_or, refl}
 use Rattle.std.proofs.lemmas.List.{get_or_default}
 use Rattle.std.proofs.lemmas.Result.{err_from_is_err_and}
-use Rattle.bt_io.proofs.Pieces.{piece_written, last_failed, all_written}
+use Rattle.bt_io.proofs.Pieces.{last_failed}
 use Rattle.bt_trail.specs.TrailText.{number_text}
 use Rattle.bt_trail.proofs.printing.print_words.Goals as goal
 

@@ -1,4 +1,4 @@
-use Rattle.std.proofs.Common.{◌<◌, true, false, length, get_or, sym, subst, ◌∙◌}
+use Rattle.std.proofs.Common.{◌<◌, true, length, get_or, sym, subst}
 use Rattle.bt_flow.specs.declared.judgement.Test.TheVariants as test
 use Rattle.bt_flow.specs.declared.ports.Port.TheVariants.{Unused}
 use Rattle.bt_flow.specs.declared.ports.Role.TheVariants.{OutOf}

@@ -1,7 +1,6 @@
-use Rattle.std.proofs.Common.{◌≡◌, ◌<◌, ◌≤◌, ◌+◌, ◌-◌, ◌*◌, ℕ, length, get_or, sym, ◌∙◌, ap, subst, arith}
-use Rattle.std.specs.Prelude.{slice_index}
-use Rattle.bt_place.specs.Numbering.{Sizes, spots, along}
-use Rattle.bt_place.specs.inner.Blocks.{sizes_with, place_number}
+use Rattle.std.proofs.Common.{◌<◌, sym, subst, arith}
+use Rattle.bt_place.specs.Numbering.{Sizes}
+use Rattle.bt_place.specs.inner.Blocks.{sizes_with}
 use Rattle.bt_place.proofs.Numbers.{ranks_long, rank_within, rank_read, place_is}
 use Rattle.bt_place.proofs.numbering.Numbers.place.Goals as goal
 

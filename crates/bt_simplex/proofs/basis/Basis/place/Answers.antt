@@ -1,8 +1,7 @@
-use Rattle.std.proofs.Common.{◌≡◌, ◌≢◌, ◌<◌, ◌≤◌, ◌-◌, ◌^◌, ℕ, arith, length, false, Some, None, [], ◌∷◌, ap, sym, ◌∙◌, subst}
-use Rattle.bt_simplex.specs.Lines.{one, IsLineFrom}
-use Rattle.bt_simplex.specs.Classes.{signed_terms, differ, member_at, position_at, slots_of}
+use Rattle.std.proofs.Common.{◌≡◌, ◌<◌, ◌≤◌, arith, length, false, Some, None, [], ◌∷◌, ap, sym, ◌∙◌, subst}
+use Rattle.bt_simplex.specs.Lines.{one}
+use Rattle.bt_simplex.specs.Classes.{signed_terms, member_at, slots_of}
 use Rattle.bt_simplex.specs.SolvedForms.{slot_at}
-use Rattle.bt_simplex.specs.declared.basis.Member.{Member}
 use Rattle.bt_simplex.proofs.Classes.{slot_past, read_is, line_at, like_at, itself_at, first_slot, class_in}
 use Rattle.bt_simplex.proofs.basis.Basis.place.Goals as goal
 
@@ -31,14 +30,12 @@ returns-in-Some c =
     let m_is : member_at c.self.inside.members.items c.args.position ≡ c.index.result.now = read_is members c.args.position (record { class = 0; negated = false }) m within c.index.ensures in
     let low = class_in members c.self.inside.firsts.items c.self.inside.lines.items c.self.inside.outside.items c.self.invariant c.args.position m within m_is in
     let line = read_is c.self.inside.lines.items m.class None c.index-2.result.now (subst (λ n. m.class < n) (sym c.self.invariant.lines_many) low) c.index-2.ensures ∙ c.in-Some.is in
-    let line' = line ∙ ap (λ l. Some l) (sym c.terms.ensures.value) in
     let first = read_is c.self.inside.firsts.items m.class 0 c.index-in-Some.result.now low c.index-in-Some.ensures in (
-      subst (λ s. slot_at s c.args.position ≡ Some (signed_terms m.negated c.terms.result.now)) c.self.view_is
-          (line_at members c.self.inside.firsts.items c.self.inside.lines.items c.self.inside.outside.items c.self.invariant c.args.position m c.terms.result.now within m_is line'),
-      subst (λ s. slot_at s c.index-in-Some.result.now ≡ Some c.terms.result.now) c.self.view_is
-          (subst (λ q. slot_at (slots_of c.self.inside.members.items c.self.inside.lines.items c.self.inside.outside.items) q ≡ Some c.terms.result.now) first
-          (first_slot members c.self.inside.firsts.items c.self.inside.lines.items c.self.inside.outside.items c.self.invariant m.class c.terms.result.now line')),
-      subst (λ l. IsLineFrom 0 l) (sym c.terms.ensures.value) c.terms.ensures.known,
+      subst (λ s. slot_at s c.args.position ≡ Some (signed_terms m.negated c.in-Some.line)) c.self.view_is
+          (line_at members c.self.inside.firsts.items c.self.inside.lines.items c.self.inside.outside.items c.self.invariant c.args.position m c.in-Some.line within m_is line),
+      subst (λ s. slot_at s c.index-in-Some.result.now ≡ Some c.in-Some.line) c.self.view_is
+          (subst (λ q. slot_at (slots_of c.self.inside.members.items c.self.inside.lines.items c.self.inside.outside.items) q ≡ Some c.in-Some.line) first
+          (first_slot members c.self.inside.firsts.items c.self.inside.lines.items c.self.inside.outside.items c.self.invariant m.class c.in-Some.line line)),
     )
 
 pub returns-else-other-position : goal.returns-else-other-position

@@ -1,0 +1,58 @@
+//! The list of the variables that have no value, from which a chooser picks one.
+ghost use Rattle.std.specs.Prelude.{◌≡◌, ◌<◌, length, OnOk};
+ghost use Rattle.bt_sat.specs.inner.Choices.{is_unset, AddsUnset, AreUnset, Covers};
+
+use crate::truth::Values;
+use bt_cnf::Var;
+use std::alloc::AllocError;
+
+/// Lists the variables that have no value, in ascending order.
+pub fn list_unset(unset: &mut Vec<Var>, values: &Values) -> Result<(), AllocError>
+    ensures { OnOk result (AreUnset values.now (length values.now) unset.new.items) }
+{
+    unset.clear();
+    for place in 0..values.len() {
+        add_unset(unset, values, place)?;
+    }
+    Ok(())
+}
+
+/// Appends the variable at a place, where it has no value.
+fn add_unset(unset: &mut Vec<Var>, values: &Values, place: usize) -> Result<(), AllocError>
+    requires { place < length values.now }
+    ensures { OnOk result (AddsUnset values.now place unset.old.items unset.new.items) }
+{
+    if let Some(var) = values.id_at(place) {
+        if values.get(var).is_none() {
+            unset.push(var)?;
+            return Ok(());
+        }
+    }
+    Ok(())
+}
+
+/// Drops the variables that have a value by now.
+pub fn drop_set(unset: &mut Vec<Var>, values: &Values)
+    requires { Covers values.now (length values.now) unset.old.items }
+    ensures { AreUnset values.now (length values.now) unset.new.items }
+{
+    let mut kept = 0;
+    for place in 0..unset.len() {
+        let var = unset[place];
+        if lacks_value(values, var) {
+            unset[kept] = var;
+            kept += 1;
+        }
+    }
+    unset.truncate(kept);
+}
+
+/// Whether a variable has no value.
+fn lacks_value(values: &Values, var: Var) -> bool
+    ensures { result ≡ is_unset values.now var }
+{
+    match values.id_at(var.place()) {
+        Some(var) => values.get(var).is_none(),
+        None => true,
+    }
+}

@@ -1,0 +1,239 @@
+-- What short lines add up to where their positions rest.
+use Rattle.std.proofs.Common.{Bool, IsTrue, ◌↔◌, ◌<ℤ◌, inl, inr, ◌≡◌, ℕ, ◌+◌, ◌<◌, ◌≤◌, ◌^◌, zero, suc, arith, ℤ, pos, ◌+ℤ◌, ◌*ℤ◌, [], ◌∷◌, length, take, get_or, Some, None, ap, sym, ◌∙◌, refl, subst}
+use Rattle.std.specs.List.{All}
+use Rattle.std.proofs.lemmas.Int.{ints}
+use Rattle.std.proofs.lemmas.List.{take_all}
+use Rattle.std.proofs.Math.IntN.{pos-*ℤ-pos}
+use Rattle.bt_frac.specs.Ratio.{Ratio, SameRatio, IsSum, IsLess, FitsPart}
+use Rattle.bt_frac.specs.Products.{IsProduct}
+use Rattle.bt_frac.specs.Rows.{RowParts, IsRow}
+use Rattle.bt_frac.specs.Values.{AreValues, nothing}
+use Rattle.bt_frac.specs.declared.delta.Delta.{Delta}
+use Rattle.bt_frac.specs.declared.row.Relation.TheVariants.{Above, Equal}
+use Rattle.bt_frac.proofs.Ring.{products, sums}
+use Rattle.bt_simplex.specs.Lines.{Terms, HasNumber, IsLine, total}
+use Rattle.bt_simplex.specs.Points.{bound_row, value_or_zero, tiny_of, resting, standing}
+use Rattle.bt_simplex.specs.Tableaus.{TableauParts, IsTableau}
+use Rattle.bt_simplex.specs.declared.short.points.Sums.{Sums}
+use Rattle.bt_simplex.specs.Classes.{signed_terms}
+use Rattle.bt_simplex.specs.SolvedForms.{slot_at}
+use Rattle.bt_simplex.specs.Turns.{Breaks, Fails}
+use Rattle.bt_simplex.specs.inner.Bases.{IsSamePoint, signed_point}
+use Rattle.bt_simplex.specs.inner.Shorts.{Numbers, reduced, terms_over, IsShort}
+use Rattle.bt_simplex.specs.inner.ShortPoints.{AddsWhole, delta_of, BreaksTiny, IsBreak}
+use Rattle.bt_simplex.proofs.Failing.{fails_told}
+use Rattle.bt_simplex.proofs.Places.{line_place}
+use Rattle.bt_simplex.proofs.Numbers.{Positive, Alike, alike, next}
+use Rattle.bt_simplex.proofs.Resting.{part_more, rest_value, rest_tiny}
+use Rattle.bt_simplex.proofs.Shorts.{reduced_lowest, reduced_over}
+
+-- a whole number over a denominator
+abbrev pub over_of : ℤ → ℕ → Ratio
+over_of z under = record { over = z; under = under }
+
+-- both sums over a denominator
+abbrev pub delta_over : Sums → ℕ → Delta
+delta_over sums under = record { value = over_of sums.value under; tiny = over_of sums.tiny under }
+
+product_parts_ints : (z b o r u : ℤ) → o *ℤ u ≡ z *ℤ r → z *ℤ b *ℤ (r *ℤ pos 1) ≡ o *ℤ b *ℤ u
+product_parts_ints z b o r u e = opened z b r ∙ ap (λ t. t *ℤ b *ℤ pos 1) (sym e) ∙ closed o b u
+  where
+    opened : (z b r : ℤ) → z *ℤ b *ℤ (r *ℤ pos 1) ≡ z *ℤ r *ℤ b *ℤ pos 1
+    opened z b r = simp products
+
+    one : (z : ℤ) → z *ℤ pos 1 ≡ z
+    one z = omega (arith, ints)
+
+    turned : (o b u : ℤ) → o *ℤ u *ℤ b ≡ o *ℤ b *ℤ u
+    turned o b u = simp products
+
+    closed : (o b u : ℤ) → o *ℤ u *ℤ b *ℤ pos 1 ≡ o *ℤ b *ℤ u
+    closed o b u = one (o *ℤ u *ℤ b) ∙ turned o b u
+
+-- the product of a number over a denominator and a whole number
+product_over : (r : Ratio) (z b : ℤ) (under : ℕ) → r.over *ℤ pos under ≡ z *ℤ pos r.under → IsProduct r (over_of b 1) (over_of (z *ℤ b) under)
+product_over r z b under is = ap (λ t. z *ℤ b *ℤ t) (pos-*ℤ-pos r.under 1) ∙ product_parts_ints z b r.over (pos r.under) (pos under) is
+
+sum_parts_ints : (v w u : ℤ) → (v +ℤ w) *ℤ (u *ℤ u) ≡ (v *ℤ u +ℤ w *ℤ u) *ℤ u
+sum_parts_ints v w u = simp (products, sums)
+
+-- the sum of two whole numbers over one denominator
+sum_over : (v w : ℤ) (under : ℕ) → IsSum (over_of v under) (over_of w under) (over_of (v +ℤ w) under)
+sum_over v w under = simp pos-*ℤ-pos at (sum_parts_ints v w (pos under))
+
+length_over : (under : ℕ) (numbers : Numbers) → length (terms_over under numbers) ≡ length numbers
+length_over under [] = refl
+length_over under (t ∷ numbers) = ap suc (length_over under numbers)
+
+term_over : ℕ → ℕ × ℤ → ℕ × Ratio
+term_over under t = (t.0, reduced t.1 under)
+
+item_over : (under : ℕ) (numbers : Numbers) (i : ℕ) (x : ℕ × ℤ) → i < length numbers → x ≡ get_or numbers i x
+    → (x.0, reduced x.1 under) ≡ get_or (terms_over under numbers) i (x.0, reduced x.1 under)
+unfolding term_over
+item_over under numbers i x inside is = ap (term_over under) is ∙ here numbers i inside
+  where
+    here : (numbers : Numbers) (i : ℕ) → i < length numbers → term_over under (get_or numbers i x) ≡ get_or (terms_over under numbers) i (x.0, reduced x.1 under)
+    here [] i inside = absurd (omega arith)
+    here (t ∷ numbers) zero inside = refl
+    here (t ∷ numbers) (suc i) inside = here numbers i (omega arith)
+
+-- one of both sums with one more term
+whole_more : (at : ℕ → Ratio) → AreValues at → (under : ℕ) (numbers : Numbers) → 0 < under → All HasNumber (terms_over under numbers) → (i : ℕ) (x : ℕ × ℤ) (v b w : ℤ) → i < length numbers → x ≡ get_or numbers i x
+    → at x.0 ≡ over_of b 1 → w ≡ v +ℤ x.1 *ℤ b → Alike (over_of v under) (total at (take i (terms_over under numbers))) → Alike (over_of w under) (total at (take (i + 1) (terms_over under numbers)))
+whole_more at some under numbers has all i x v b w inside is rests sum so_far =
+    let item = item_over under numbers i x inside is in
+    let inside' : i < length (terms_over under numbers) = subst (λ n. i < n) (sym (length_over under numbers)) inside in
+    let low : HasNumber (x.0, reduced x.1 under) = subst (λ t. HasNumber t) (sym item) (all i (x.0, reduced x.1 under) inside') in
+    let product = subst (λ r. IsProduct (reduced x.1 under) r (over_of (x.1 *ℤ b) under)) (sym rests) (product_over (reduced x.1 under) x.1 b under (reduced_over x.1 under)) in
+    let added = subst (λ u. IsSum (over_of v under) (over_of (x.1 *ℤ b) under) (over_of u under)) (sym sum) (sum_over v (x.1 *ℤ b) under) in
+    part_more at some (terms_over under numbers) all i (x.0, reduced x.1 under) (over_of v under) (over_of (x.1 *ℤ b) under) (over_of w under) inside' item low.0.positive so_far has product has added
+
+-- the same of both
+pub short_more : (t : TableauParts) → IsTableau t → (under : ℕ) (numbers : Numbers) (now : Terms) → IsShort under numbers → terms_over under numbers ≡ now → (i : ℕ) (x : ℕ × ℤ) (sums after : Sums) → i < length numbers
+    → x ≡ get_or numbers i x → IsSamePoint (delta_over sums under) (standing (resting t) 0 (Some (take i now))) → AddsWhole (resting t x.0) sums x.1 after
+    → IsSamePoint (delta_over after under) (standing (resting t) 0 (Some (take (i + 1) now)))
+short_more t tableau under numbers now short now_is i x sums after inside is so_far adds =
+    let so_far' = subst (λ l. IsSamePoint (delta_over sums under) (standing (resting t) 0 (Some (take i l)))) (sym now_is) so_far in
+    let value =
+    whole_more (λ p. (resting t p).value) (rest_value t tableau.rows) under numbers short.some short.line.numbers i x sums.value adds.whole after.value inside is adds.value_rests adds.value_is
+    (alike (over_of sums.value under) (total (λ p. (resting t p).value) (take i (terms_over under numbers))) so_far'.left_value so_far'.right_value so_far'.same.0) in
+    let tiny =
+    whole_more (λ p. (resting t p).tiny) (rest_tiny t) under numbers short.some short.line.numbers i x sums.tiny adds.often after.tiny inside is adds.tiny_rests adds.tiny_is
+    (alike (over_of sums.tiny under) (total (λ p. (resting t p).tiny) (take i (terms_over under numbers))) so_far'.left_tiny so_far'.right_tiny so_far'.same.1) in
+    subst (λ l. IsSamePoint (delta_over after under) (standing (resting t) 0 (Some (take (i + 1) l)))) now_is
+    (record { left_value = value.left; left_tiny = tiny.left; right_value = value.right; right_tiny = tiny.right; same = (value.same, tiny.same) })
+
+-- no terms add up to nothing
+pub short_start : (t : TableauParts) (under : ℕ) (now : Terms) → 0 < under → IsSamePoint (delta_over (record { value = pos 0; tiny = pos 0; under = under }) under) (standing (resting t) 0 (Some (take 0 now)))
+short_start t under now some = record { left_value = some; left_tiny = some; right_value = omega arith; right_tiny = omega arith; same = (nothing_is under, nothing_is under) }
+  where
+    nothing_is : (n : ℕ) → pos 0 *ℤ pos 1 ≡ pos 0 *ℤ pos n
+    nothing_is n = omega (arith, ints)
+
+-- the sums as fractions
+pub short_point : (d : Delta) (a : Delta) (under : ℕ) (sums : Sums) → 0 < under → under < 2 ^ 31 → FitsPart sums.value → FitsPart sums.tiny → d.value ≡ reduced sums.value under → d.tiny ≡ reduced sums.tiny under
+    → IsSamePoint (delta_over sums under) a → IsSamePoint d a
+short_point d a under sums some fits first second value_is tiny_is same =
+    let value = part sums.value a.value first value_is same.left_value same.right_value same.same.0 in
+    let tiny = part sums.tiny a.tiny second tiny_is same.left_tiny same.right_tiny same.same.1 in
+    record { left_value = value.left; left_tiny = tiny.left; right_value = value.right; right_tiny = tiny.right; same = (value.same, tiny.same) }
+  where
+    part : {r : Ratio} (z : ℤ) (b : Ratio) → FitsPart z → r ≡ reduced z under → 0 < under → Positive b → SameRatio (over_of z under) b → Alike r b
+    part {r} z b small is left right same =
+        let low = reduced_lowest z under left (omega arith) small in
+        subst (λ q. Alike q b) (sym is) (next (alike (reduced z under) (over_of z under) low.positive left (reduced_over z under)) (alike (over_of z under) b left right same))
+
+-- a position that isn't a bound row adds nothing
+pub unbound_adds : (t : TableauParts) (q : ℕ) (over : ℤ) (sums : Sums) → bound_row t q ≡ None → AddsWhole (resting t q) sums over sums
+unbound_adds t q over sums none =
+    subst (λ o. AddsWhole (value_or_zero o) sums over sums) (sym none)
+    (record { whole = pos 0; value_rests = refl; value_is = more sums.value; often = pos 0; tiny_rests = refl; tiny_is = more sums.tiny; under_is = refl })
+  where
+    more : (z : ℤ) → z ≡ z +ℤ over *ℤ pos 0
+    more z = omega (arith, ints)
+
+-- a bound row adds its bound
+pub bound_adds : (t : TableauParts) (q : ℕ) (row : RowParts) (over bound : ℤ) (sums after : Sums) → bound_row t q ≡ Some row → row.bound ≡ over_of bound 1 → after.value ≡ sums.value +ℤ over *ℤ bound
+    → (often : ℤ) → tiny_of row.relation ≡ over_of often 1 → after.tiny ≡ sums.tiny +ℤ over *ℤ often → after.under ≡ sums.under → AddsWhole (resting t q) sums over after
+bound_adds t q row over bound sums after here whole value often tiny tiny_is under_is =
+    subst (λ o. AddsWhole (value_or_zero o) sums over after) (sym here)
+    (record { whole = bound; value_rests = whole; value_is = value; often = often; tiny_rests = tiny; tiny_is = tiny_is; under_is = under_is })
+
+one_times : (z : ℤ) → z *ℤ pos 1 ≡ z
+one_times z = omega (arith, ints)
+
+-- a strict row adds the infinitesimal too
+pub strict_adds : (t : TableauParts) (q : ℕ) (row : RowParts) (over bound : ℤ) (sums after : Sums) → bound_row t q ≡ Some row → row.bound ≡ over_of bound 1 → after.value ≡ sums.value +ℤ over *ℤ bound
+    → row.relation ≡ Above → after.tiny ≡ sums.tiny +ℤ over → after.under ≡ sums.under → AddsWhole (resting t q) sums over after
+strict_adds t q row over bound sums after here whole value strict tiny under_is =
+    bound_adds t q row over bound sums after here whole value (pos 1) (ap tiny_of strict) (tiny ∙ ap (λ z. sums.tiny +ℤ z) (sym (one_times over))) under_is
+
+-- another row doesn't
+pub plain_adds : (t : TableauParts) (q : ℕ) (row : RowParts) (over bound : ℤ) (sums after : Sums) → bound_row t q ≡ Some row → row.bound ≡ over_of bound 1 → after.value ≡ sums.value +ℤ over *ℤ bound
+    → tiny_of row.relation ≡ nothing → after.tiny ≡ sums.tiny → after.under ≡ sums.under → AddsWhole (resting t q) sums over after
+plain_adds t q row over bound sums after here whole value plain tiny under_is = bound_adds t q row over bound sums after here whole value (pos 0) plain (tiny ∙ more sums.tiny) under_is
+  where
+    more : (z : ℤ) → z ≡ z +ℤ over *ℤ pos 0
+    more z = omega (arith, ints)
+
+-- all terms
+pub short_all : (t : TableauParts) (d : Delta) (under : ℕ) (numbers : Numbers) (now : Terms) (i : ℕ) → terms_over under numbers ≡ now → length numbers ≤ i
+    → IsSamePoint d (standing (resting t) 0 (Some (take i now))) → IsSamePoint d (standing (resting t) 0 (Some now))
+short_all t d under numbers now i now_is past same =
+    let past' : length now ≤ i = subst (λ n. n ≤ i) (sym (length_over under numbers) ∙ ap length now_is) past in
+    subst (λ l. IsSamePoint d (standing (resting t) 0 (Some l))) (take_all i now past') same
+
+-- so many terms of a short line, and their sums over its denominator
+abbrev pub AreSums : TableauParts → ℕ → Terms → ℕ → Sums → Type 0
+AreSums t under now i sums = (sums.under ≡ under) × IsSamePoint (delta_over sums under) (standing (resting t) 0 (Some (take i now)))
+
+pub sums_more : (t : TableauParts) → IsTableau t → (under : ℕ) (numbers : Numbers) (now : Terms) → IsShort under numbers → terms_over under numbers ≡ now → (i : ℕ) (x : ℕ × ℤ) (sums after : Sums) → i < length numbers
+    → x ≡ get_or numbers i x → AreSums t under now i sums → AddsWhole (resting t x.0) sums x.1 after → AreSums t under now (i + 1) after
+sums_more t tableau under numbers now short now_is i x sums after inside is so_far adds =
+    (adds.under_is ∙ so_far.0, short_more t tableau under numbers now short now_is i x sums after inside is so_far.1 adds)
+
+pub sums_all : (t : TableauParts) (under : ℕ) (numbers : Numbers) (now : Terms) (i : ℕ) (sums : Sums) → terms_over under numbers ≡ now → length numbers ≤ i → AreSums t under now i sums
+    → IsSamePoint (delta_of sums) (standing (resting t) 0 (Some now))
+sums_all t under numbers now i sums now_is past so_far =
+    subst (λ u. IsSamePoint (delta_over sums u) (standing (resting t) 0 (Some now))) (sym so_far.0) (short_all t (delta_over sums under) under numbers now i now_is past so_far.1)
+
+times_one : (z : ℤ) → z *ℤ pos 1 ≡ z
+times_one z = omega (arith, ints)
+
+-- a row that stands below its bound doesn't hold
+pub below_breaks : (row : RowParts) (s : Sums) (bound level : ℤ) → row.bound ≡ over_of bound 1 → level ≡ bound *ℤ pos s.under → s.value <ℤ level → Breaks row (delta_of s)
+below_breaks row s bound level is level_is less =
+    inl (inl (subst (λ b. IsLess (over_of s.value s.under) b) (sym is) (subst (λ z. z <ℤ (bound *ℤ pos s.under)) (sym (times_one s.value)) (subst (λ z. s.value <ℤ z) level_is less))))
+
+less_not : (x y : ℤ) → x <ℤ y → y <ℤ x → ⊥
+less_not x y p q = omega (arith, ints)
+
+less_same : (x y : ℤ) → x <ℤ y → x ≡ y → ⊥
+less_same x y p q = omega (arith, ints)
+
+-- above it, where it is an equation
+pub above_breaks : (row : RowParts) (s : Sums) (bound level : ℤ) → row.bound ≡ over_of bound 1 → level ≡ bound *ℤ pos s.under → level <ℤ s.value → (row.relation ≡ Equal) ↔ Breaks row (delta_of s)
+above_breaks row s bound level is level_is more = (λ e. inr (e, inl above), λ breaks. told breaks)
+  where
+    here : (bound *ℤ pos s.under) <ℤ (s.value *ℤ pos 1)
+    here = subst (λ z. (bound *ℤ pos s.under) <ℤ z) (sym (times_one s.value)) (subst (λ z. z <ℤ s.value) level_is more)
+
+    above : IsLess row.bound (over_of s.value s.under)
+    above = subst (λ b. IsLess b (over_of s.value s.under)) (sym is) here
+
+    told : Breaks row (delta_of s) → row.relation ≡ Equal
+    told (inl (inl less)) = absurd (less_not (bound *ℤ pos s.under) (s.value *ℤ pos 1) here (subst (λ b. IsLess (over_of s.value s.under) b) is less))
+    told (inl (inr (same, less))) = absurd (less_same (bound *ℤ pos s.under) (s.value *ℤ pos 1) here (sym (subst (λ b. SameRatio (over_of s.value s.under) b) is same)))
+    told (inr (e, less)) = e
+
+-- at it, where the multiple of the infinitesimal tells it
+pub level_breaks : (row : RowParts) (s : Sums) (bound level : ℤ) → row.bound ≡ over_of bound 1 → level ≡ bound *ℤ pos s.under → s.value ≡ level
+    → BreaksTiny row.relation (over_of s.tiny s.under) ↔ Breaks row (delta_of s)
+level_breaks row s bound level is level_is even = (λ tiny. made tiny, λ breaks. told breaks)
+  where
+    here : s.value *ℤ pos 1 ≡ bound *ℤ pos s.under
+    here = times_one s.value ∙ even ∙ level_is
+
+    same : SameRatio (over_of s.value s.under) row.bound
+    same = subst (λ b. SameRatio (over_of s.value s.under) b) (sym is) here
+
+    back : SameRatio row.bound (over_of s.value s.under)
+    back = subst (λ b. SameRatio b (over_of s.value s.under)) (sym is) (sym here)
+
+    made : BreaksTiny row.relation (over_of s.tiny s.under) → Breaks row (delta_of s)
+    made (inl less) = inl (inr (same, less))
+    made (inr (e, more)) = inr (e, inr (back, more))
+
+    told : Breaks row (delta_of s) → BreaksTiny row.relation (over_of s.tiny s.under)
+    told (inl (inl less)) = absurd (less_same (s.value *ℤ pos 1) (bound *ℤ pos s.under) (subst (λ b. IsLess (over_of s.value s.under) b) is less) here)
+    told (inl (inr (even, less))) = inl less
+    told (inr (e, inl more)) = absurd (less_same (bound *ℤ pos s.under) (s.value *ℤ pos 1) (subst (λ b. IsLess b (over_of s.value s.under)) is more) (sym here))
+    told (inr (e, inr (even, more))) = inr (e, more)
+
+-- the position of a row breaks as its line does
+pub break_fails : (t : TableauParts) → All IsRow t.rows → (position : ℕ) (row : RowParts) (negated : Bool) (terms : Terms) (told : Bool) → bound_row t position ≡ Some row
+    → slot_at t.slots position ≡ Some (signed_terms negated terms) → IsLine terms → IsBreak row negated (standing (resting t) 0 (Some terms)) told → (IsTrue told ↔ Fails t position)
+break_fails t rows position row negated terms told here slot line (point, same, is) =
+    let both = fails_told t position row (signed_point negated point) (signed_terms negated terms, slot) here (line_place t rows position negated terms point slot line same) in
+    (λ h. both.0 (is.0 h), λ f. is.1 (both.1 f))

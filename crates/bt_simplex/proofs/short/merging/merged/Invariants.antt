@@ -1,0 +1,10 @@
+use Rattle.std.proofs.Common.{◌+◌, ◌-◌, ◌≤◌, length, drop, vec_len, vec_capacity}
+use Rattle.bt_simplex.proofs.ShortWalks.{IsShortMerge}
+use Rattle.bt_simplex.proofs.short.merging.merged.Given as goal
+
+abbrev pub invariant-loop-first : goal.invariant-loop-first
+invariant-loop-first l =
+    IsShortMerge l.left l.right l.scales.left l.scales.right l.scales.under l.terms.items (vec_len l.terms) (vec_capacity l.terms) l.first l.second
+
+abbrev pub decreases-loop-first : goal.decreases-loop-first
+decreases-loop-first l = (length l.left + length l.right) - (l.first + l.second)

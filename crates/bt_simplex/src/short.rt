@@ -1,0 +1,305 @@
+//! Lines whose numbers are small whole numbers over one small denominator. Sums of these need no
+//! fractions, and their products fit 64 bits.
+ghost use Rattle.std.specs.Prelude.{◌≡◌, ◌<◌, ◌≤◌, ◌^◌, ◌*ℤ◌, IfOk, IfSome, is_some, true, IsTrue, ◌↔◌, length, slice_index_or, unsigned_abs};
+ghost use Rattle.std.specs.Int.{IsGcd};
+ghost use Rattle.std.specs.List.{All};
+ghost use Rattle.bt_lin.specs.WeightedRows.{coefficient_at};
+ghost use Rattle.bt_simplex.specs.Lines.{IsLine, HasNumber};
+ghost use Rattle.bt_simplex.specs.Classes.{signed_terms};
+ghost use Rattle.bt_simplex.specs.inner.Shorts.{reduced, terms_over, IsSmall, IsShort, whole_at, signed_numbers, Divides};
+
+mod merging;
+mod points;
+mod zero;
+
+use crate::line::Term;
+use bt_frac::Frac;
+pub use merging::substituted;
+use std::alloc::{AllocError, Global};
+use std::marker::Model;
+pub use zero::{entering_line, zero_line};
+
+/// The least magnitude that no number of a short line has, 2^31.
+const SMALL_LIMIT: u64 = 1 << 31;
+
+/// A line of whole numbers over one denominator, which is positive. All are below 2^31. They may have
+/// common divisors.
+#[derive(Drop)]
+pub struct Short {
+    terms: Vec<(usize, i64)>,
+    under: u32,
+}
+
+impl Model for Short {
+    ghost use Rattle.bt_simplex.specs.Lines.{Terms};
+    ghost use Rattle.bt_simplex.specs.inner.Shorts.{terms_over, IsShort};
+
+    ghost Value = { Terms };
+
+    ghost view = { λ s. terms_over s.under s.terms.items };
+
+    ghost invariant = { λ s. IsShort s.under s.terms.items };
+}
+
+impl Short {
+    /// The number of terms.
+    pub fn len(&self) -> usize
+        ensures { result ≡ length self.now }
+    {
+        self.terms.len()
+    }
+
+    /// Tells a proof that the terms are a line. It does nothing when it runs.
+    pub fn known(&self)
+        ensures { IsLine self.now }
+    {
+        let _ = &self.terms;
+    }
+
+    /// A term of the line.
+    pub fn term_at(&self, index: usize) -> Term
+        requires { index < length self.now }
+        ensures { result ≡ slice_index_or self.now index result }
+    {
+        let (position, over) = self.terms[index];
+        (position, number(over, self.under))
+    }
+
+    /// The same terms as fractions.
+    pub fn long_terms(&self, alloc: Global) -> Result<Vec<Term>, AllocError>
+        ensures same { IfOk result (λ v. v.items ≡ self.now) }
+        ensures line { IfOk result (λ v. IsLine v.items) }
+    {
+        let terms = fractions(alloc, &self.terms, self.under)?;
+        Ok(terms)
+    }
+
+    /// The number of a position, where it isn't 0.
+    pub fn number_at(&self, position: usize) -> Option<Frac>
+        ensures number { result ≡ coefficient_at position self.now }
+        ensures known { IfSome result (λ n. HasNumber (position, n)) }
+        ensures line { IsLine self.now }
+    {
+        match whole_at(&self.terms, position) {
+            Some(over) => Some(number(over, self.under)),
+            None => None,
+        }
+    }
+
+    /// Whether the line names a position.
+    pub fn names(&self, position: usize) -> bool
+        ensures { result ≡ is_some (coefficient_at position self.now) }
+    {
+        whole_at(&self.terms, position).is_some()
+    }
+
+    /// The line, with the other sign where this is told.
+    pub fn signed(&self, alloc: Global, negated: bool) -> Result<Short, AllocError>
+        ensures { IfOk result (λ line. line ≡ signed_terms negated self.now) }
+    {
+        let terms = signed_numbers(alloc, &self.terms, negated)?;
+        Ok(Short {
+            terms,
+            under: self.under,
+        })
+    }
+
+    /// The room of the terms, for those of another line.
+    pub fn into_room(self) -> Vec<(usize, i64)> {
+        let Short { terms, .. } = self;
+        terms
+    }
+}
+
+/// The whole number over the denominator, in lowest terms.
+fn number(over: i64, under: u32) -> Frac
+    requires { 0 < under }
+    ensures { result ≡ reduced over under }
+{
+    match Frac::new(i128::from(over), i128::from(under)) {
+        Some(number) => number,
+        None => unreachable!(),
+    }
+}
+
+/// The numbers over a denominator, in lowest terms.
+fn fractions(alloc: Global, terms: &[(usize, i64)], under: u32) -> Result<Vec<Term>, AllocError>
+    requires { 0 < under }
+    ensures { IfOk result (λ v. v.items ≡ terms_over under terms.now) }
+{
+    let mut fractions = Vec::with_capacity(alloc, terms.len())?;
+    for (position, over) in terms {
+        fractions.push((*position, number(*over, under)))?;
+    }
+    Ok(fractions)
+}
+
+/// The number of a position, where the terms name it.
+fn whole_at(terms: &[(usize, i64)], position: usize) -> Option<i64>
+    ensures { result ≡ whole_at position terms.now }
+{
+    for (other, number) in terms {
+        if *other == position {
+            return Some(*number);
+        }
+    }
+    None
+}
+
+/// The numbers, with the other sign where this is told.
+fn signed_numbers(
+    alloc: Global,
+    terms: &[(usize, i64)],
+    negated: bool,
+) -> Result<Vec<(usize, i64)>, AllocError>
+    requires { All (λ t. IsSmall t.1) terms.now }
+    ensures { IfOk result (λ v. v.items ≡ signed_numbers negated terms.now) }
+{
+    if negated {
+        negated_numbers(alloc, terms)
+    } else {
+        Vec::from_slice(alloc, terms)
+    }
+}
+
+/// The numbers with the other sign.
+fn negated_numbers(alloc: Global, terms: &[(usize, i64)]) -> Result<Vec<(usize, i64)>, AllocError>
+    requires { All (λ t. IsSmall t.1) terms.now }
+    ensures { IfOk result (λ v. v.items ≡ signed_numbers true terms.now) }
+{
+    let mut others = Vec::with_capacity(alloc, terms.len())?;
+    for (position, number) in terms {
+        others.push((*position, -*number))?;
+    }
+    Ok(others)
+}
+
+/// The line of these terms, where their numbers are small over a small denominator.
+pub fn shortened(alloc: Global, terms: &[Term]) -> Result<Option<Short>, AllocError>
+    requires { IsLine terms.now }
+    ensures { IfOk result (λ o. IfSome o (λ line. line ≡ terms.now)) }
+{
+    match common_multiple_of(terms) {
+        Some(under) => short_over(alloc, terms, under),
+        None => Ok(None),
+    }
+}
+
+/// The line of these terms over a common multiple of their denominators, where their numbers are small.
+fn short_over(alloc: Global, terms: &[Term], under: u32) -> Result<Option<Short>, AllocError>
+    requires line { IsLine terms.now }
+    requires some { 0 < under }
+    requires fits { under < 2 ^ 31 }
+    requires divides { All (λ t. Divides t.1.under under) terms.now }
+    ensures { IfOk result (λ o. IfSome o (λ line. line ≡ terms.now)) }
+{
+    let mut numbers = Vec::with_capacity(alloc, terms.len())?;
+    for term in terms {
+        match number_over(&term.1, under) {
+            Some(over) => numbers.push((term.0, over))?,
+            None => return Ok(None),
+        }
+    }
+    Ok(Some(Short {
+        terms: numbers,
+        under,
+    }))
+}
+
+/// The whole number that a fraction is over a multiple of its denominator, where it's small.
+fn number_over(number: &Frac, under: u32) -> Option<i64>
+    requires some { 0 < under }
+    requires fits { under < 2 ^ 31 }
+    requires divides { Divides number.now.under under }
+    ensures number { IfSome result (λ z. reduced z under ≡ number.now) }
+    ensures small { IfSome result IsSmall }
+{
+    let over = small_part(number.numerator())?;
+    let part = small_under(number)?;
+    small_number(product(over, i64::from(under / part)))
+}
+
+/// The product of two small numbers, which fits 64 bits.
+fn product(first: i64, second: i64) -> i64
+    requires first { IsSmall first }
+    requires second { IsSmall second }
+    ensures { result ≡ first *ℤ second }
+{
+    first * second
+}
+
+/// A part of a fraction, where it's small.
+fn small_part(part: i128) -> Option<i64>
+    ensures part { IfSome result (λ z. z ≡ part) }
+    ensures small { IfSome result IsSmall }
+{
+    small_number(i64::try_from(part).ok()?)
+}
+
+/// The number, where it's small.
+fn small_number(number: i64) -> Option<i64>
+    ensures number { IfSome result (λ z. z ≡ number) }
+    ensures small { IfSome result IsSmall }
+{
+    if is_small(number) { Some(number) } else { None }
+}
+
+/// Whether the number is small.
+fn is_small(number: i64) -> bool
+    ensures { IsTrue result ↔ IsSmall number }
+{
+    number.unsigned_abs() < SMALL_LIMIT
+}
+
+/// A common multiple of the denominators, where it's small.
+fn common_multiple_of(terms: &[Term]) -> Option<u32>
+    ensures some { IfSome result (λ under. 0 < under) }
+    ensures fits { IfSome result (λ under. under < 2 ^ 31) }
+    ensures divides { IfSome result (λ under. All (λ t. Divides t.1.under under) terms.now) }
+{
+    let mut under = 1;
+    for term in terms {
+        under = common_multiple(under, small_under(&term.1)?)?;
+    }
+    Some(under)
+}
+
+/// The denominator, where it's small.
+fn small_under(number: &Frac) -> Option<u32>
+    ensures some { 0 < number.now.under }
+    ensures same { IfSome result (λ under. under ≡ number.now.under) }
+{
+    u32::try_from(number.denominator()).ok()
+}
+
+/// A common multiple of two numbers, where it's small.
+fn common_multiple(first: u32, second: u32) -> Option<u32>
+    requires first { 0 < first }
+    requires second { 0 < second }
+    ensures some { IfSome result (λ m. 0 < m) }
+    ensures fits { IfSome result (λ m. m < 2 ^ 31) }
+    ensures first { IfSome result (λ m. Divides first m) }
+    ensures second { IfSome result (λ m. Divides second m) }
+{
+    let common = common_divisor(first, second);
+    let multiple = u64::from(first) * u64::from(second / common);
+    if multiple < SMALL_LIMIT {
+        Some(multiple as u32)
+    } else {
+        None
+    }
+}
+
+/// The greatest common divisor.
+fn common_divisor(first: u32, second: u32) -> u32
+    ensures { IsGcd first second result }
+{
+    let mut greater = first;
+    let mut lesser = second;
+    while lesser > 1 {
+        let rest = greater % lesser;
+        greater = lesser;
+        lesser = rest;
+    }
+    if lesser == 1 { 1 } else { greater }
+}

@@ -1,0 +1,201 @@
+//! Sums of a short line and a number times another, formed by one walk over both.
+ghost use Rattle.std.specs.Prelude.{◌≡◌, ◌≢◌, ◌⊎◌, ◌<◌, ◌≤◌, ◌^◌, ◌+◌, ◌*ℤ◌, ◌+ℤ◌, pos, ◌-◌, ◌∷◌, [], IfOk, IfSome, Some, length, drop, vec_len, vec_capacity, unsigned_abs};
+ghost use Rattle.std.specs.List.{All};
+ghost use Prim.Native.Nat.{◌∣◌};
+ghost use Rattle.bt_frac.specs.Ratio.{Ratio};
+ghost use Rattle.bt_lin.specs.WeightedRows.{coefficient_at};
+ghost use Rattle.bt_simplex.specs.Lines.{IsCombination};
+ghost use Rattle.bt_simplex.specs.inner.Shorts.{IsSmall};
+ghost use Rattle.bt_simplex.specs.inner.ShortSteps.{AreScales, IsShortStep, IsShortSum, IsSmallTerm, AreNext};
+
+use super::{SMALL_LIMIT, Short, common_divisor, is_small, product, whole_at};
+use std::alloc::AllocError;
+
+/// By what the numbers of two lines are multiplied, so that they are over one denominator.
+#[derive(Clone, Copy)]
+pub(super) struct Scales {
+    pub(super) left: i64,
+    pub(super) right: i64,
+    pub(super) under: u32,
+}
+
+/// A term of a sum of two lines, and the places at which what is left of them begins.
+#[derive(Clone, Copy)]
+struct Step {
+    position: usize,
+    number: i64,
+    left: usize,
+    right: usize,
+}
+
+/// The line with what a position stands for put in place of it, in the room of a list whose terms are
+/// dropped: the line and its number at the position times the zero line. None where the line has no such
+/// position, or where a number isn't small.
+pub fn substituted(
+    room: Vec<(usize, i64)>,
+    line: &Short,
+    enters: usize,
+    zero: &Short,
+) -> Result<Option<Short>, AllocError>
+    ensures { (f : Ratio) → coefficient_at enters line.now ≡ Some f
+        → IfOk result (λ o. IfSome o (IsCombination line.now f zero.now)) }
+{
+    let Some(factor) = whole_at(&line.terms, enters) else {
+        return Ok(None);
+    };
+    let Some(scales) = scales_of(line.under, factor, zero.under) else {
+        return Ok(None);
+    };
+    let mut terms = room;
+    terms.clear();
+    terms.reserve(line.terms.len() + zero.terms.len())?;
+    match merged(terms, &line.terms, &zero.terms, &scales) {
+        Some(terms) => Ok(Some(Short {
+            terms,
+            under: scales.under,
+        })),
+        None => Ok(None),
+    }
+}
+
+/// The scales for the sum of a line and a number, itself over the line's denominator, times another line.
+/// None where one isn't small.
+pub(super) fn scales_of(left_under: u32, factor: i64, right_under: u32) -> Option<Scales>
+    requires left_some { 0 < left_under }
+    requires left_fits { left_under < 2 ^ 31 }
+    requires right_some { 0 < right_under }
+    requires right_fits { right_under < 2 ^ 31 }
+    requires factor_some { factor ≢ pos 0 }
+    requires factor_small { IsSmall factor }
+    ensures { IfSome result (λ s. AreScales left_under factor right_under s.left s.right s.under) }
+{
+    let common = common_divisor(factor.unsigned_abs() as u32, right_under);
+    let by = right_under / common;
+    let under = u64::from(by) * u64::from(left_under);
+    if under >= SMALL_LIMIT {
+        return None;
+    }
+    Some(Scales {
+        left: i64::from(by),
+        right: quotient(factor, common),
+        under: under as u32,
+    })
+}
+
+/// The quotient of a small number by a divisor of it.
+pub(super) fn quotient(number: i64, by: u32) -> i64
+    requires small { IsSmall number }
+    requires divides { by ∣ unsigned_abs number }
+    requires some { 0 < by }
+    ensures product { result *ℤ pos by ≡ number }
+    ensures small { IsSmall result }
+{
+    let size = i64::from(number.unsigned_abs() as u32 / by);
+    if number < 0 { -size } else { size }
+}
+
+/// The sum of a line and a number times another, by their scales, in a list with room for all their terms.
+/// None where a number isn't small.
+pub(super) fn merged(
+    room: Vec<(usize, i64)>,
+    left: &[(usize, i64)],
+    right: &[(usize, i64)],
+    scales: &Scales,
+) -> Option<Vec<(usize, i64)>>
+    requires empty { room.items ≡ [] }
+    requires room { vec_len room + length left.now + length right.now ≤ vec_capacity room }
+    requires left { All IsSmallTerm left.now }
+    requires right { All IsSmallTerm right.now }
+    requires left_by { IsSmall scales.now.left }
+    requires right_by { IsSmall scales.now.right }
+    ensures { IfSome result (λ v. IsShortSum left.now right.now scales.now.left scales.now.right
+        scales.now.under v.items) }
+{
+    let mut terms = room;
+    let mut first = 0;
+    let mut second = 0;
+    while first < left.len() || second < right.len() {
+        let step = first_step(left, first, right, second, scales);
+        first = step.left;
+        second = step.right;
+        if step.number != 0 {
+            if !is_small(step.number) {
+                return None;
+            }
+            terms.push_reserved((step.position, step.number));
+        }
+    }
+    Some(terms)
+}
+
+/// The first term of the sum of what is left of two lines, which may be 0, and what is left after it.
+fn first_step(
+    left: &[(usize, i64)],
+    first: usize,
+    right: &[(usize, i64)],
+    second: usize,
+    scales: &Scales,
+) -> Step
+    requires some { (first < length left.now) ⊎ (second < length right.now) }
+    requires left_within { first ≤ length left.now }
+    requires right_within { second ≤ length right.now }
+    requires left { All IsSmallTerm left.now }
+    requires right { All IsSmallTerm right.now }
+    requires left_by { IsSmall scales.now.left }
+    requires right_by { IsSmall scales.now.right }
+    ensures step { IsShortStep (drop first left.now) (drop second right.now) scales.now.left scales.now.right
+        scales.now.under result.position result.number
+        (drop result.left left.now) (drop result.right right.now) }
+    ensures moved { AreNext (length left.now) first (length right.now) second result.left result.right }
+{
+    let (position, number) = term_or_end(left, first);
+    let (other_position, other) = term_or_end(right, second);
+    if position < other_position {
+        Step {
+            position,
+            number: product(number, scales.left),
+            left: first + 1,
+            right: second,
+        }
+    } else if other_position < position {
+        Step {
+            position: other_position,
+            number: product(scales.right, other),
+            left: first,
+            right: second + 1,
+        }
+    } else {
+        Step {
+            position,
+            number: sum_of_products(number, scales.left, scales.right, other),
+            left: first + 1,
+            right: second + 1,
+        }
+    }
+}
+
+/// The term at a place, or past all positions where the list ends before it.
+fn term_or_end(terms: &[(usize, i64)], place: usize) -> (usize, i64)
+    requires { All IsSmallTerm terms.now }
+    ensures inside { place < length terms.now → drop place terms.now ≡ result ∷ drop (place + 1) terms.now }
+    ensures position { place < length terms.now → result.0 < 2 ^ 64 - 1 }
+    ensures small { IsSmall result.1 }
+    ensures past { length terms.now ≤ place → result.0 ≡ 2 ^ 64 - 1 }
+{
+    if place < terms.len() {
+        terms[place]
+    } else {
+        (usize::MAX, 0)
+    }
+}
+
+/// The sum of two products of small numbers, which fits 64 bits.
+fn sum_of_products(first: i64, by: i64, second: i64, times: i64) -> i64
+    requires first { IsSmall first }
+    requires by { IsSmall by }
+    requires second { IsSmall second }
+    requires times { IsSmall times }
+    ensures { result ≡ first *ℤ by +ℤ second *ℤ times }
+{
+    product(first, by) + product(second, times)
+}

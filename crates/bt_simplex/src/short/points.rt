@@ -1,0 +1,151 @@
+//! Where positions stand by their short lines, in whole numbers.
+ghost use Rattle.std.specs.Prelude.{◌≡◌, ◌<◌, ◌^◌, IfSome, IsTrue, ◌↔◌, Some, neg_ℤ};
+ghost use Rattle.bt_frac.specs.declared.row.Relation.TheVariants.{Equal as AnEquation};
+ghost use Rattle.bt_simplex.specs.Points.{resting, standing};
+ghost use Rattle.bt_simplex.specs.Turns.{Breaks};
+ghost use Rattle.bt_simplex.specs.inner.Bases.{IsSamePoint, signed_point};
+ghost use Rattle.bt_simplex.specs.inner.Shorts.{IsSmall};
+ghost use Rattle.bt_simplex.specs.inner.ShortPoints.{AddsWhole, delta_of, BreaksTiny, IsBreak};
+
+use crate::short::{Short, number, product, small_part};
+use crate::tableau::Tableau;
+use bt_frac::{Delta, Frac, Relation, Row};
+use std::cmp::Ordering;
+
+/// The sums of terms where their positions rest, over the denominator of their line.
+#[derive(Clone, Copy)]
+struct Sums {
+    value: i64,
+    /// How often the infinitesimal stands in it.
+    tiny: i64,
+    under: u32,
+}
+
+impl Short {
+    /// What the line adds up to where its positions rest. None where a bound isn't a small whole number or
+    /// a sum leaves 64 bits.
+    pub fn point(&self, tableau: &Tableau) -> Option<Delta>
+        ensures { IfSome result
+            (λ d. IsSamePoint d (standing (resting tableau.now) 0 (Some self.now))) }
+    {
+        let sums = self.sums(tableau)?;
+        Some(Delta {
+            value: number(sums.value, sums.under),
+            tiny: number(sums.tiny, sums.under),
+        })
+    }
+
+    /// Whether a row doesn't hold where the line adds up to it, or the line with the other sign where this is
+    /// told. None as above, and where the row's bound isn't a small whole number.
+    pub fn breaks(&self, tableau: &Tableau, row: &Row, negated: bool) -> Option<bool>
+        ensures { IfSome result
+            (IsBreak row.now negated (standing (resting tableau.now) 0 (Some self.now))) }
+    {
+        let sums = self.sums(tableau)?;
+        let others = signed_sums(sums, negated)?;
+        let told = sums_break(row, others)?;
+        Some(told)
+    }
+
+    /// The sums of the terms.
+    fn sums(&self, tableau: &Tableau) -> Option<Sums>
+        ensures same { IfSome result
+            (λ s. IsSamePoint (delta_of s) (standing (resting tableau.now) 0 (Some self.now))) }
+        ensures fits { IfSome result (λ s. s.under < 2 ^ 31) }
+    {
+        tableau.all_known();
+        let under = self.under;
+        let mut sums = Sums {
+            value: 0,
+            tiny: 0,
+            under,
+        };
+        for (position, over) in &self.terms {
+            sums = added(tableau, sums, *position, *over)?;
+        }
+        Some(sums)
+    }
+}
+
+/// The sums with one more term, where these are found.
+fn added(tableau: &Tableau, sums: Sums, position: usize, over: i64) -> Option<Sums>
+    requires { IsSmall over }
+    ensures { IfSome result (AddsWhole (resting tableau.now position) sums over) }
+{
+    let Some(row) = tableau.bound_row(position) else {
+        return Some(sums);
+    };
+    let bound = small_whole(&row.bound())?;
+    let value = sums.value.checked_add(product(over, bound))?;
+    let tiny = match row.relation() {
+        Relation::Above => sums.tiny.checked_add(over)?,
+        Relation::AtLeast => sums.tiny,
+        Relation::Equal => sums.tiny,
+    };
+    let under = sums.under;
+    Some(Sums { value, tiny, under })
+}
+
+/// The whole number that a fraction is, where it's small.
+fn small_whole(number: &Frac) -> Option<i64>
+    ensures whole { IfSome result (λ z. number.now ≡ record { over = z; under = 1 }) }
+    ensures small { IfSome result IsSmall }
+{
+    if number.denominator() != 1 {
+        return None;
+    }
+    small_part(number.numerator())
+}
+
+/// The sums, with the other sign where this is told, where they fit.
+fn signed_sums(sums: Sums, negated: bool) -> Option<Sums>
+    ensures same { IfSome result (λ s. delta_of s ≡ signed_point negated (delta_of sums)) }
+    ensures under { IfSome result (λ s. s.under ≡ sums.under) }
+{
+    if !negated {
+        return Some(sums);
+    }
+    let value = opposite(sums.value)?;
+    let tiny = opposite(sums.tiny)?;
+    let under = sums.under;
+    Some(Sums { value, tiny, under })
+}
+
+/// The number with the other sign, where it fits.
+fn opposite(number: i64) -> Option<i64>
+    ensures { IfSome result (λ z. z ≡ neg_ℤ number) }
+{
+    number.checked_neg()
+}
+
+/// Whether a row doesn't hold where it stands, where its bound is a small whole number.
+fn sums_break(row: &Row, sums: Sums) -> Option<bool>
+    requires { sums.under < 2 ^ 31 }
+    ensures { IfSome result (λ told. IsTrue told ↔ Breaks row.now (delta_of sums)) }
+{
+    let bound = small_whole(&row.bound())?;
+    let level = product(bound, i64::from(sums.under));
+    match sums.value.cmp(&level) {
+        Ordering::Less => Some(true),
+        Ordering::Equal => Some(breaks_tiny(row.relation(), sums.tiny, sums.under)),
+        Ordering::Greater => Some(is_equation(row)),
+    }
+}
+
+/// Whether the row asks for its bound itself.
+fn is_equation(row: &Row) -> bool
+    ensures { IsTrue result ↔ (row.now.relation ≡ AnEquation) }
+{
+    row.relation() == Relation::Equal
+}
+
+/// Whether a row that stands at its bound, but for a multiple of the infinitesimal, doesn't hold.
+fn breaks_tiny(relation: Relation, tiny: i64, under: u32) -> bool
+    ensures { IsTrue result ↔ BreaksTiny relation (record { over = tiny; under = under }) }
+{
+    match relation {
+        Relation::AtLeast => tiny < 0,
+        Relation::Above => tiny < i64::from(under),
+        Relation::Equal => tiny != 0,
+    }
+}

@@ -1,0 +1,151 @@
+//! The lines that a turn adds to the others and puts in for what enters, formed of short lines.
+ghost use Rattle.std.specs.Prelude.{◌≡◌, ◌≢◌, ◌<◌, ◌^◌, ◌-◌, ◌*◌, ◌/◌, ◌*ℤ◌, ◌∷◌, [], pos, IfOk, IfSome, Some, unsigned_abs};
+ghost use Rattle.std.specs.List.{All};
+ghost use Prim.Native.Nat.{◌∣◌};
+ghost use Rattle.bt_frac.specs.Ratio.{Ratio};
+ghost use Rattle.bt_lin.specs.WeightedRows.{coefficient_at};
+ghost use Rattle.bt_simplex.specs.Lines.{IsLine, IsCombination};
+ghost use Rattle.bt_simplex.specs.inner.Shorts.{reduced, terms_over, IsSmall, IsShort};
+ghost use Rattle.bt_simplex.specs.inner.TurnedSlots.{IsZeroLine, IsEntering};
+
+use super::merging::{merged, quotient, scales_of};
+use super::{Short, common_divisor, whole_at};
+use std::alloc::{AllocError, Global};
+
+/// The line that is 0 wherever a line holds of its position: 1 over the line's number at the position that
+/// enters, times the position less the line. None where the line has no such number.
+///
+/// Its numbers and its denominator are divided by what all of them have in common: without this they grow
+/// with each turn.
+pub fn zero_line(
+    alloc: Global,
+    position: usize,
+    line: &Short,
+    enters: usize,
+) -> Result<Option<Short>, AllocError>
+    requires { position < 2 ^ 64 - 1 }
+    ensures { (f : Ratio) → coefficient_at enters line.now ≡ Some f
+        → IfOk result (λ o. IfSome o (IsZeroLine position line.now f)) }
+{
+    let Some(number) = whole_at(&line.terms, enters) else {
+        return Ok(None);
+    };
+    let share = share_over(line.under, number);
+    match lone_sum(alloc, position, share, magnitude(number), -share, line)? {
+        Some(sum) => Ok(Some(lowered(alloc, &sum)?)),
+        None => Ok(None),
+    }
+}
+
+/// The line of the position that enters: the position itself and the zero line, which has its number -1
+/// there.
+pub fn entering_line(
+    alloc: Global,
+    enters: usize,
+    zero: &Short,
+) -> Result<Option<Short>, AllocError>
+    requires { enters < 2 ^ 64 - 1 }
+    ensures { IfOk result (λ o. IfSome o (IsEntering enters zero.now)) }
+{
+    lone_sum(alloc, enters, 1, 1, 1, zero)
+}
+
+/// The sum of a number times a position and a factor times a line, where both are over this denominator.
+/// None where a number of the sum isn't small.
+fn lone_sum(
+    alloc: Global,
+    position: usize,
+    number: i64,
+    under: u32,
+    factor: i64,
+    line: &Short,
+) -> Result<Option<Short>, AllocError>
+    requires position { position < 2 ^ 64 - 1 }
+    requires number_some { number ≢ pos 0 }
+    requires number_small { IsSmall number }
+    requires some { 0 < under }
+    requires fits { under < 2 ^ 31 }
+    requires factor_some { factor ≢ pos 0 }
+    requires factor_small { IsSmall factor }
+    ensures line { IfOk result (λ o. IfSome o IsLine) }
+    ensures sum { IfOk result (λ o. IfSome o
+        (IsCombination ((position, reduced number under) ∷ []) (reduced factor under) line.now)) }
+{
+    let Some(scales) = scales_of(under, factor, line.under) else {
+        return Ok(None);
+    };
+    let room = Vec::with_capacity(alloc, line.terms.len() + 1)?;
+    match merged(room, &[(position, number)], &line.terms, &scales) {
+        Some(terms) => Ok(Some(Short {
+            terms,
+            under: scales.under,
+        })),
+        None => Ok(None),
+    }
+}
+
+/// The denominator, with the sign of the number.
+fn share_over(under: u32, number: i64) -> i64
+    requires { under < 2 ^ 31 }
+    ensures size { unsigned_abs result ≡ under }
+    ensures product { result *ℤ number ≡ pos (unsigned_abs number * under) }
+{
+    let size = i64::from(under);
+    if number < 0 { -size } else { size }
+}
+
+/// The magnitude of a small number.
+fn magnitude(number: i64) -> u32
+    requires { IsSmall number }
+    ensures { result ≡ unsigned_abs number }
+{
+    number.unsigned_abs() as u32
+}
+
+/// The same line, with its numbers and its denominator divided by what all of them have in common.
+fn lowered(alloc: Global, line: &Short) -> Result<Short, AllocError>
+    ensures { IfOk result (λ s. s ≡ line.now) }
+{
+    let common = common_divisor_of(&line.terms, line.under);
+    let terms = divided(alloc, &line.terms, line.under, common)?;
+    Ok(Short {
+        terms,
+        under: line.under / common,
+    })
+}
+
+/// A common divisor of the numbers and a denominator: the greatest.
+fn common_divisor_of(terms: &[(usize, i64)], under: u32) -> u32
+    requires some { 0 < under }
+    requires small { All (λ t. IsSmall t.1) terms.now }
+    ensures some { 0 < result }
+    ensures under { result ∣ under }
+    ensures terms { All (λ t. result ∣ unsigned_abs t.1) terms.now }
+{
+    let mut common = under;
+    for term in terms {
+        common = common_divisor(magnitude(term.1), common);
+    }
+    common
+}
+
+/// The numbers, divided by a divisor of all of them and of their denominator.
+fn divided(
+    alloc: Global,
+    terms: &[(usize, i64)],
+    under: u32,
+    by: u32,
+) -> Result<Vec<(usize, i64)>, AllocError>
+    requires short { IsShort under terms.now }
+    requires some { 0 < by }
+    requires under { by ∣ under }
+    requires terms { All (λ t. by ∣ unsigned_abs t.1) terms.now }
+    ensures short { IfOk result (λ v. IsShort (under / by) v.items) }
+    ensures same { IfOk result (λ v. terms_over (under / by) v.items ≡ terms_over under terms.now) }
+{
+    let mut lesser = Vec::with_capacity(alloc, terms.len())?;
+    for term in terms {
+        lesser.push((term.0, quotient(term.1, by)))?;
+    }
+    Ok(lesser)
+}

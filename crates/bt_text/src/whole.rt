@@ -1,0 +1,32 @@
+//! The lines of a text that have their line feeds.
+ghost use Rattle.bt_text.specs.Whole.{EndsLines};
+
+use memchr::memrchr;
+
+/// The lines of a text that have their line feeds: its bytes up to the last line feed.
+pub fn whole_lines(text: &[u8]) -> &[u8]
+    ensures { EndsLines text.now result.now }
+{
+    match memrchr(b'\n', text) {
+        Some(at) => &text[..at + 1],
+        None => &text[..0],
+    }
+}
+
+#[cfg(test)]
+mod tests {
+    use super::*;
+
+    #[test]
+    fn wholes(rt: HostRuntime) {
+        for (text, lines) in [
+            ("a\nb\nc", "a\nb\n"),
+            ("a\n", "a\n"),
+            ("\n", "\n"),
+            ("a", ""),
+            ("", ""),
+        ] {
+            assert!(rt; whole_lines(text.as_bytes()) == lines.as_bytes());
+        }
+    }
+}

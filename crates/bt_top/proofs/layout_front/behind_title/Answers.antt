@@ -1,0 +1,15 @@
+use Rattle.std.proofs.Common.{◌≡◌, true, refl}
+use Rattle.bt_top.specs.declared.answer.Answer.TheVariants.{NoLayout}
+use Rattle.bt_top.specs.Answers.{none_word}
+use Rattle.bt_top.proofs.LayoutFronts.{none_is_front, other_is_front}
+use Rattle.bt_top.proofs.layout_front.behind_title.Goals as goal
+
+pub returns-then-says_none : goal.returns-then-says_none
+returns-then-says_none c = λ text split.
+    none_is_front c.args.request.now text c.args.title.now c.args.lines.now split c.requires (c.says_none.ensures.0 c.if-says_none.true)
+    (record { formula = c.in_ok-formula.formula; lines = c.args.lines; accepted = NoLayout }) c.in_ok-formula.ensures.formula refl refl
+
+pub returns : goal.returns
+returns c = λ text split.
+    other_is_front c.args.request.now text c.args.title.now c.args.lines.now split
+    (λ (e : c.args.title.now ≡ none_word). (let none : c.says_none.result ≡ true = c.says_none.ensures.1 e in cc (c.if-says_none.false)))
