@@ -6,6 +6,7 @@ pub mod Epsilons
 pub mod Failing
 pub mod FirstForms
 pub mod FirstLines
+pub mod FreeRests
 pub mod GrowingClasses
 pub mod Indicators
 pub mod LineWeights

@@ -1,5 +1,5 @@
 -- What short lines add up to where their positions rest.
-use Rattle.std.proofs.Common.{Bool, IsTrue, ◌↔◌, ◌<ℤ◌, inl, inr, ◌≡◌, ℕ, ◌+◌, ◌<◌, ◌≤◌, ◌^◌, zero, suc, arith, ℤ, pos, ◌+ℤ◌, ◌*ℤ◌, [], ◌∷◌, length, take, get_or, Some, None, ap, sym, ◌∙◌, refl, subst}
+use Rattle.std.proofs.Common.{Bool, IsTrue, ◌↔◌, ◌<ℤ◌, inl, inr, ◌≡◌, ℕ, ◌+◌, ◌<◌, ◌≤◌, ◌^◌, zero, suc, arith, ℤ, pos, ◌+ℤ◌, ◌*ℤ◌, [], ◌∷◌, length, take, get_or, Some, ap, sym, ◌∙◌, refl, subst}
 use Rattle.std.specs.List.{All}
 use Rattle.std.proofs.lemmas.Int.{ints}
 use Rattle.std.proofs.lemmas.List.{take_all}
@@ -7,12 +7,12 @@ use Rattle.std.proofs.Math.IntN.{pos-*ℤ-pos}
 use Rattle.bt_frac.specs.Ratio.{Ratio, SameRatio, IsSum, IsLess, FitsPart}
 use Rattle.bt_frac.specs.Products.{IsProduct}
 use Rattle.bt_frac.specs.Rows.{RowParts, IsRow}
-use Rattle.bt_frac.specs.Values.{AreValues, nothing}
+use Rattle.bt_frac.specs.Values.{AreValues}
 use Rattle.bt_frac.specs.declared.delta.Delta.{Delta}
-use Rattle.bt_frac.specs.declared.row.Relation.TheVariants.{Above, Equal}
+use Rattle.bt_frac.specs.declared.row.Relation.TheVariants.{Equal}
 use Rattle.bt_frac.proofs.Ring.{products, sums}
 use Rattle.bt_simplex.specs.Lines.{Terms, HasNumber, IsLine, total}
-use Rattle.bt_simplex.specs.Points.{bound_row, value_or_zero, tiny_of, resting, standing}
+use Rattle.bt_simplex.specs.Points.{bound_row, resting, standing}
 use Rattle.bt_simplex.specs.Tableaus.{TableauParts, IsTableau}
 use Rattle.bt_simplex.specs.declared.short.points.Sums.{Sums}
 use Rattle.bt_simplex.specs.Classes.{signed_terms}
@@ -123,39 +123,6 @@ short_point d a under sums some fits first second value_is tiny_is same =
     part {r} z b small is left right same =
         let low = reduced_lowest z under left (omega arith) small in
         subst (λ q. Alike q b) (sym is) (next (alike (reduced z under) (over_of z under) low.positive left (reduced_over z under)) (alike (over_of z under) b left right same))
-
--- a position that isn't a bound row adds nothing
-pub unbound_adds : (t : TableauParts) (q : ℕ) (over : ℤ) (sums : Sums) → bound_row t q ≡ None → AddsWhole (resting t q) sums over sums
-unbound_adds t q over sums none =
-    subst (λ o. AddsWhole (value_or_zero o) sums over sums) (sym none)
-    (record { whole = pos 0; value_rests = refl; value_is = more sums.value; often = pos 0; tiny_rests = refl; tiny_is = more sums.tiny; under_is = refl })
-  where
-    more : (z : ℤ) → z ≡ z +ℤ over *ℤ pos 0
-    more z = omega (arith, ints)
-
--- a bound row adds its bound
-pub bound_adds : (t : TableauParts) (q : ℕ) (row : RowParts) (over bound : ℤ) (sums after : Sums) → bound_row t q ≡ Some row → row.bound ≡ over_of bound 1 → after.value ≡ sums.value +ℤ over *ℤ bound
-    → (often : ℤ) → tiny_of row.relation ≡ over_of often 1 → after.tiny ≡ sums.tiny +ℤ over *ℤ often → after.under ≡ sums.under → AddsWhole (resting t q) sums over after
-bound_adds t q row over bound sums after here whole value often tiny tiny_is under_is =
-    subst (λ o. AddsWhole (value_or_zero o) sums over after) (sym here)
-    (record { whole = bound; value_rests = whole; value_is = value; often = often; tiny_rests = tiny; tiny_is = tiny_is; under_is = under_is })
-
-one_times : (z : ℤ) → z *ℤ pos 1 ≡ z
-one_times z = omega (arith, ints)
-
--- a strict row adds the infinitesimal too
-pub strict_adds : (t : TableauParts) (q : ℕ) (row : RowParts) (over bound : ℤ) (sums after : Sums) → bound_row t q ≡ Some row → row.bound ≡ over_of bound 1 → after.value ≡ sums.value +ℤ over *ℤ bound
-    → row.relation ≡ Above → after.tiny ≡ sums.tiny +ℤ over → after.under ≡ sums.under → AddsWhole (resting t q) sums over after
-strict_adds t q row over bound sums after here whole value strict tiny under_is =
-    bound_adds t q row over bound sums after here whole value (pos 1) (ap tiny_of strict) (tiny ∙ ap (λ z. sums.tiny +ℤ z) (sym (one_times over))) under_is
-
--- another row doesn't
-pub plain_adds : (t : TableauParts) (q : ℕ) (row : RowParts) (over bound : ℤ) (sums after : Sums) → bound_row t q ≡ Some row → row.bound ≡ over_of bound 1 → after.value ≡ sums.value +ℤ over *ℤ bound
-    → tiny_of row.relation ≡ nothing → after.tiny ≡ sums.tiny → after.under ≡ sums.under → AddsWhole (resting t q) sums over after
-plain_adds t q row over bound sums after here whole value plain tiny under_is = bound_adds t q row over bound sums after here whole value (pos 0) plain (tiny ∙ more sums.tiny) under_is
-  where
-    more : (z : ℤ) → z ≡ z +ℤ over *ℤ pos 0
-    more z = omega (arith, ints)
 
 -- all terms
 pub short_all : (t : TableauParts) (d : Delta) (under : ℕ) (numbers : Numbers) (now : Terms) (i : ℕ) → terms_over under numbers ≡ now → length numbers ≤ i

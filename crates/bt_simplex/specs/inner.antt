@@ -4,6 +4,7 @@ pub mod Checking
 pub mod Forms
 pub mod Lemmas
 pub mod Places
+pub mod Rests
 pub mod Runs
 pub mod Settling
 pub mod Shares

@@ -11,6 +11,7 @@ mod lemmas;
 mod line;
 mod merging;
 mod points;
+mod rests;
 mod running;
 mod settling;
 mod short;

@@ -1,8 +1,9 @@
 //! Tableaus: rows over columns, of which some are bound, and a basis with its solved form.
-ghost use Rattle.std.specs.Prelude.{◌≡◌, ◌<◌, IfOk, OnErr, MatchOption, Some, None, length, true, false, IsTrue, slice_index_or};
+ghost use Rattle.std.specs.Prelude.{◌≡◌, ◌<◌, IfOk, IfSome, OnErr, MatchOption, Some, None, length, true, false, IsTrue, slice_index_or};
 ghost use Rattle.bt_simplex.specs.Checks.{IsCheck, StartsAt};
 ghost use Rattle.bt_simplex.specs.inner.Checking.{IsWideFor};
-ghost use Rattle.bt_simplex.specs.Points.{bound_row};
+ghost use Rattle.bt_simplex.specs.inner.Rests.{rest_point};
+ghost use Rattle.bt_simplex.specs.Points.{bound_row, resting};
 ghost use Rattle.bt_simplex.specs.Tableaus.{AreOverColumns, IsNew, IsBoundAs, IsTableau};
 ghost use Rattle.bt_simplex.specs.Turns.{CanTurn, IsTurnedBy};
 
@@ -10,6 +11,7 @@ use crate::answers::{Check, Trail, Wide};
 use crate::basis::{Basis, Place};
 use crate::causes::Cause;
 use crate::lemmas::lemma;
+use crate::rests::{Rest, all_free};
 use crate::running::{End, Run, turned_from};
 use crate::settling::settled;
 use crate::starting::{all_known, copied, first_basis, unbound};
@@ -36,11 +38,14 @@ pub struct Tableau {
     rows: Vec<Row>,
     columns: usize,
     bound: Vec<bool>,
+    /// For each position where it rests; None where that isn't told by small whole numbers.
+    rests: Vec<Option<Rest>>,
     basis: Basis,
 }
 
 impl Model for Tableau {
     ghost use Rattle.bt_simplex.specs.Tableaus.{TableauParts, IsTableau};
+    ghost use Rattle.bt_simplex.specs.inner.Rests.{AreRests};
 
     ghost Value = { TableauParts };
 
@@ -56,7 +61,12 @@ impl Model for Tableau {
       columns = t.columns;
       bound = t.bound.items;
       slots = t.basis;
-    }) };
+    }) × AreRests (record {
+      rows = t.rows.items;
+      columns = t.columns;
+      bound = t.bound.items;
+      slots = t.basis;
+    }) t.rests.items };
 }
 
 impl Tableau {
@@ -68,10 +78,12 @@ impl Tableau {
         all_known(rows);
         let bound = unbound(alloc, rows.len())?;
         let basis = first_basis(alloc, rows, columns)?;
+        let rests = all_free(alloc, basis.len())?;
         Ok(Tableau {
             rows: copied(alloc, rows)?,
             columns,
             bound,
+            rests,
             basis,
         })
     }
@@ -82,6 +94,8 @@ impl Tableau {
         ensures { IsBoundAs true row self.old self.new }
     {
         self.bound[row] = true;
+        let rest = Rest::at_bound(&self.rows[row]);
+        self.rests[self.columns + row] = rest;
     }
 
     /// Requires the row no longer. The basis stays.
@@ -90,6 +104,7 @@ impl Tableau {
         ensures { IsBoundAs false row self.old self.new }
     {
         self.bound[row] = false;
+        self.rests[self.columns + row] = Some(Rest::free());
     }
 
     /// Makes Bland's turns from the basis on, at most `pivots`, to a final one, and answers with values
@@ -185,6 +200,17 @@ impl Tableau {
             return None;
         }
         self.rows.get(row)
+    }
+
+    /// Where a position rests, where that is told by small whole numbers.
+    pub fn whole_rest(&self, position: usize) -> Option<Rest>
+        ensures { IfSome result (λ rest. resting self.now position ≡ rest_point rest) }
+    {
+        if position < self.rests.len() {
+            self.rests[position]
+        } else {
+            None
+        }
     }
 
     /// Tells a proof that the tableau is one. It does nothing when it runs.

@@ -1,12 +1,14 @@
 //! Where positions stand by their short lines, in whole numbers.
-ghost use Rattle.std.specs.Prelude.{◌≡◌, ◌<◌, ◌^◌, IfSome, IsTrue, ◌↔◌, Some, neg_ℤ};
+ghost use Rattle.std.specs.Prelude.{◌≡◌, ◌<◌, ◌^◌, ◌*ℤ◌, IfSome, IsTrue, ◌↔◌, Some, neg_ℤ};
 ghost use Rattle.bt_frac.specs.declared.row.Relation.TheVariants.{Equal as AnEquation};
 ghost use Rattle.bt_simplex.specs.Points.{resting, standing};
 ghost use Rattle.bt_simplex.specs.Turns.{Breaks};
 ghost use Rattle.bt_simplex.specs.inner.Bases.{IsSamePoint, signed_point};
+ghost use Rattle.bt_simplex.specs.inner.Rests.{rest_point};
 ghost use Rattle.bt_simplex.specs.inner.Shorts.{IsSmall};
 ghost use Rattle.bt_simplex.specs.inner.ShortPoints.{AddsWhole, delta_of, BreaksTiny, IsBreak};
 
+use crate::rests::Rest;
 use crate::short::{Short, number, product, small_part};
 use crate::tableau::Tableau;
 use bt_frac::{Delta, Frac, Relation, Row};
@@ -61,29 +63,30 @@ impl Short {
             under,
         };
         for (position, over) in &self.terms {
-            sums = added(tableau, sums, *position, *over)?;
+            let rest = tableau.whole_rest(*position)?;
+            sums = added(sums, *over, rest)?;
         }
         Some(sums)
     }
 }
 
-/// The sums with one more term, where these are found.
-fn added(tableau: &Tableau, sums: Sums, position: usize, over: i64) -> Option<Sums>
+/// The sums with a number times where its position rests, where these fit.
+fn added(sums: Sums, over: i64, rest: Rest) -> Option<Sums>
     requires { IsSmall over }
-    ensures { IfSome result (AddsWhole (resting tableau.now position) sums over) }
+    ensures { IfSome result (AddsWhole (rest_point rest) sums over) }
 {
-    let Some(row) = tableau.bound_row(position) else {
-        return Some(sums);
-    };
-    let bound = small_whole(&row.bound())?;
-    let value = sums.value.checked_add(product(over, bound))?;
-    let tiny = match row.relation() {
-        Relation::Above => sums.tiny.checked_add(over)?,
-        Relation::AtLeast => sums.tiny,
-        Relation::Equal => sums.tiny,
-    };
+    let value = sums.value.checked_add(multiple(over, rest.value))?;
+    let tiny = sums.tiny.checked_add(multiple(over, rest.tiny))?;
     let under = sums.under;
     Some(Sums { value, tiny, under })
+}
+
+/// The product of two numbers, which fits 64 bits.
+fn multiple(over: i64, by: i32) -> i64
+    requires { IsSmall over }
+    ensures { result ≡ over *ℤ by }
+{
+    over * i64::from(by)
 }
 
 /// The whole number that a fraction is, where it's small.

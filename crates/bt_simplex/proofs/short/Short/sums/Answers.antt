@@ -1,6 +1,7 @@
 use Rattle.std.proofs.Common.{◌≡◌, ◌<◌, ◌≤◌, ◌∙◌, ◌^◌, ℕ, ℤ, pos, arith, refl, length, get_or, subst, sym, ap, FitsSigned, w64, rules}
 use Rattle.std.proofs.lemmas.Int.{to_z-of_z}
 use Rattle.std.proofs.lemmas.List.{get_or_default}
+use Rattle.bt_simplex.specs.inner.ShortPoints.{AddsWhole}
 use Rattle.bt_simplex.proofs.ShortPoints.{short_start, sums_more, sums_all}
 use Rattle.bt_simplex.proofs.short.Short.sums.Goals as goal
 
@@ -14,7 +15,7 @@ loop-position-preserved c =
     let x : ℕ × ℤ = get_or c.deref-position-items.result.now c.loop-position.position-index (0, pos 0) in
     let inside : c.loop-position.position-index < length c.self.inside.terms.items = subst (λ l. c.loop-position.position-index < length l) c.deref-position-items.ensures.value c.loop-position-test.true in
     let fits : FitsSigned w64 (get_or c.deref-position-items.result.now c.loop-position.position-index (0, pos 0)).1 = search rules in
-    let adds = simp to_z-of_z at c.in_ok-sums.ensures in
+    let adds = subst (λ r. AddsWhole r c.loop-position.sums (get_or c.deref-position-items.result.now i (0, pos 0)).1 c.in_ok-sums.sums) (sym c.in_ok-rest.ensures) (simp to_z-of_z at c.in_ok-sums.ensures) in
     let is : get_or c.deref-position-items.result.now i (0, pos 0) ≡ get_or items i (get_or c.deref-position-items.result.now i (0, pos 0)) =
     ap (λ l. get_or l i (0, pos 0)) c.deref-position-items.ensures.value ∙ get_or_default items i (0, pos 0) (get_or c.deref-position-items.result.now i (0, pos 0)) inside in
     sums_more c.args.tableau.now c.all_known.ensures c.self.inside.under items c.args.self.now c.self.invariant c.self.view_is i x c.loop-position.sums c.in_ok-sums.sums

@@ -1,0 +1,20 @@
+-- Where the positions of a tableau rest, as whole numbers.
+use Rattle.std.specs.Prelude.{◌≡◌, ℕ, ◌+◌, pos, List, length, Option, None, IfSome, slice_index_or}
+use Rattle.bt_frac.specs.declared.delta.Delta.{Delta}
+use Rattle.bt_simplex.specs.Points.{resting}
+use Rattle.bt_simplex.specs.Tableaus.{TableauParts}
+use Rattle.bt_simplex.specs.declared.rests.Rest.{Rest}
+
+-- the point of these whole numbers
+abbrev pub rest_point : Rest → Delta
+rest_point rest = record { value = record { over = rest.value; under = 1 }; tiny = record { over = rest.tiny; under = 1 } }
+
+-- where a position rests that is no bound row
+abbrev pub nowhere : Rest
+nowhere = record { value = pos 0; tiny = pos 0 }
+
+-- for each position the whole numbers where it rests, or none
+abbrev pub AreRests : TableauParts → List (Option Rest) → Type 0
+AreRests t rests =
+    (length rests ≡ t.columns + length t.rows)
+    × ((position : ℕ) → IfSome (slice_index_or rests position None) (λ rest. resting t position ≡ rest_point rest))
