@@ -203,7 +203,7 @@ impl Tableau {
     }
 
     /// Where a position rests, where that is told by small whole numbers.
-    pub fn whole_rest(&self, position: usize) -> Option<Rest>
+    pub(crate) fn whole_rest(&self, position: usize) -> Option<Rest>
         ensures { IfSome result (λ rest. resting self.now position ≡ rest_point rest) }
     {
         if position < self.rests.len() {

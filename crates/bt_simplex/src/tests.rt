@@ -1,3 +1,5 @@
+use crate::short::{Short, shortened, substituted};
+use crate::starting::row_line;
 use crate::{Check, Operation, Tableau, Turn, Wide, WidePlace, are_over};
 use bt_frac::{Frac, Relation, Row};
 use bt_lin::{eval, farkas};
@@ -9,6 +11,9 @@ const GREAT: i128 = 1 << 100;
 
 /// 3^40.
 const ODD: i128 = 12157665459056928801;
+
+/// The least number that no short line has, 2^31.
+const LIMIT: i128 = 1 << 31;
 
 /// A fraction.
 fn number(parts: (i128, i128)) -> Result<Frac, Fail> {
@@ -242,6 +247,77 @@ fn wide(rt: HostRuntime) -> Result<(), Fail> {
         let wide = wide_of(alloc, &rows)?;
         assert!(rt; wide.place == place && wide.operation == operation);
         assert!(rt; [wide.trail.turns.len(), wide.row] == [turns, at]);
+    }
+    Ok(())
+}
+
+/// The line of two positions, where its numbers are small.
+fn short_line(
+    alloc: Global,
+    first: (usize, (i128, i128)),
+    second: (usize, (i128, i128)),
+) -> Result<Option<Short>, Fail> {
+    let terms = [(first.0, number(first.1)?), (second.0, number(second.1)?)];
+    match Row::new(alloc, &terms, Relation::AtLeast, Frac::whole(0))? {
+        Some(row) => Ok(shortened(alloc, &row_line(alloc, &row)?)?),
+        None => Err("no row".into()),
+    }
+}
+
+/// What comes of the sum of two lines in whole numbers.
+#[derive(Clone, Copy, PartialEq, Eq)]
+enum Sum {
+    /// A line isn't short.
+    LongLine,
+    /// The sum isn't short.
+    LongSum,
+    /// The sum is short, with this number where the second line has its own.
+    Number(i128, i128),
+}
+
+/// The line of the first two numbers at positions 0 and 1, with the third number at position 2 in place of
+/// position 1.
+fn sum_of(alloc: Global, numbers: [(i128, i128); 3]) -> Result<Sum, Fail> {
+    let [first, second, third] = numbers;
+    let Some(line) = short_line(alloc, (0, first), (1, second))? else {
+        return Ok(Sum::LongLine);
+    };
+    let Some(zero) = short_line(alloc, (1, (-1, 1)), (2, third))? else {
+        return Ok(Sum::LongLine);
+    };
+    let Some(sum) = substituted(Vec::new(alloc), &line, 1, &zero)? else {
+        return Ok(Sum::LongSum);
+    };
+    match sum.number_at(2) {
+        Some(number) => Ok(Sum::Number(number.numerator(), number.denominator())),
+        None => Err("no number".into()),
+    }
+}
+
+#[test]
+fn short_sums(rt: HostRuntime) -> Result<(), Fail> {
+    let alloc = rt.alloc();
+    for (numbers, expected) in [
+        ([(1, 2), (2, 3), (3, 4)], Sum::Number(1, 2)),
+        ([(-3, 1), (5, 1), (-7, 1)], Sum::Number(-35, 1)),
+        ([(1, 1), (LIMIT - 1, 1), (1, 1)], Sum::Number(LIMIT - 1, 1)),
+        ([(1, 1), (1 - LIMIT, 1), (1, 1)], Sum::Number(1 - LIMIT, 1)),
+        ([(1, 1), (LIMIT, 1), (1, 1)], Sum::LongLine),
+        ([(1, 1), (-LIMIT, 1), (1, 1)], Sum::LongLine),
+        ([(1, 1), (1, 1), (LIMIT, 1)], Sum::LongLine),
+        ([(1, LIMIT - 1), (1, 1), (1, 1)], Sum::Number(1, 1)),
+        ([(1, LIMIT), (1, 1), (1, 1)], Sum::LongLine),
+        (
+            [(1, 1 << 16), (1, (1 << 15) - 1), (1, 1)],
+            Sum::Number(1, (1 << 15) - 1),
+        ),
+        ([(1, 1 << 16), (1, (1 << 15) + 1), (1, 1)], Sum::LongLine),
+        ([(LIMIT / 2 - 1, 1), (1, 2), (1, 1)], Sum::Number(1, 2)),
+        ([(LIMIT / 2, 1), (1, 2), (1, 1)], Sum::LongLine),
+        ([(1, 1), (LIMIT / 2, 1), (2, 1)], Sum::LongSum),
+        ([(1, 1), (1, 1 << 16), (1, 1 << 15)], Sum::LongSum),
+    ] {
+        assert!(rt; sum_of(alloc, numbers)? == expected);
     }
     Ok(())
 }
