@@ -84,7 +84,8 @@ fn fails_whole(tableau: &Tableau, basis: &Basis, row: &Row, position: usize) -> 
     };
     line.known();
     let short = line.short()?;
-    let told = short.breaks(tableau, row, negated)?;
+    let rest = tableau.whole_rest(position)?;
+    let told = short.breaks(tableau, row, rest, negated)?;
     Some(told)
 }
 

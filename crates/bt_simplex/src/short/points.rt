@@ -1,7 +1,7 @@
 //! Where positions stand by their short lines, in whole numbers.
 ghost use Rattle.std.specs.Prelude.{◌≡◌, ◌<◌, ◌^◌, ◌*ℤ◌, IfSome, IsTrue, ◌↔◌, Some, neg_ℤ};
 ghost use Rattle.bt_frac.specs.declared.row.Relation.TheVariants.{Equal as AnEquation};
-ghost use Rattle.bt_simplex.specs.Points.{resting, standing};
+ghost use Rattle.bt_simplex.specs.Points.{bound_value, resting, standing};
 ghost use Rattle.bt_simplex.specs.Turns.{Breaks};
 ghost use Rattle.bt_simplex.specs.inner.Bases.{IsSamePoint, signed_point};
 ghost use Rattle.bt_simplex.specs.inner.Rests.{rest_point};
@@ -9,9 +9,9 @@ ghost use Rattle.bt_simplex.specs.inner.Shorts.{IsSmall};
 ghost use Rattle.bt_simplex.specs.inner.ShortPoints.{AddsWhole, delta_of, BreaksTiny, IsBreak};
 
 use crate::rests::Rest;
-use crate::short::{Short, number, product, small_part};
+use crate::short::{Short, number};
 use crate::tableau::Tableau;
-use bt_frac::{Delta, Frac, Relation, Row};
+use bt_frac::{Delta, Relation, Row};
 use std::cmp::Ordering;
 
 /// The sums of terms where their positions rest, over the denominator of their line.
@@ -37,16 +37,16 @@ impl Short {
         })
     }
 
-    /// Whether a row doesn't hold where the line adds up to it, or the line with the other sign where this is
-    /// told. None as above, and where the row's bound isn't a small whole number.
-    pub fn breaks(&self, tableau: &Tableau, row: &Row, negated: bool) -> Option<bool>
+    /// Whether a row that rests here doesn't hold where the line adds up to it, or the line with the other sign
+    /// where this is told. None as above.
+    pub fn breaks(&self, tableau: &Tableau, row: &Row, rest: Rest, negated: bool) -> Option<bool>
+        requires { bound_value row.now ≡ rest_point rest }
         ensures { IfSome result
             (IsBreak row.now negated (standing (resting tableau.now) 0 (Some self.now))) }
     {
         let sums = self.sums(tableau)?;
         let others = signed_sums(sums, negated)?;
-        let told = sums_break(row, others)?;
-        Some(told)
+        Some(sums_break(row, rest, others))
     }
 
     /// The sums of the terms.
@@ -89,17 +89,6 @@ fn multiple(over: i64, by: i32) -> i64
     over * i64::from(by)
 }
 
-/// The whole number that a fraction is, where it's small.
-fn small_whole(number: &Frac) -> Option<i64>
-    ensures whole { IfSome result (λ z. number.now ≡ record { over = z; under = 1 }) }
-    ensures small { IfSome result IsSmall }
-{
-    if number.denominator() != 1 {
-        return None;
-    }
-    small_part(number.numerator())
-}
-
 /// The sums, with the other sign where this is told, where they fit.
 fn signed_sums(sums: Sums, negated: bool) -> Option<Sums>
     ensures same { IfSome result (λ s. delta_of s ≡ signed_point negated (delta_of sums)) }
@@ -121,17 +110,17 @@ fn opposite(number: i64) -> Option<i64>
     number.checked_neg()
 }
 
-/// Whether a row doesn't hold where it stands, where its bound is a small whole number.
-fn sums_break(row: &Row, sums: Sums) -> Option<bool>
-    requires { sums.under < 2 ^ 31 }
-    ensures { IfSome result (λ told. IsTrue told ↔ Breaks row.now (delta_of sums)) }
+/// Whether a row that rests here doesn't hold where it stands.
+fn sums_break(row: &Row, rest: Rest, sums: Sums) -> bool
+    requires rests { bound_value row.now ≡ rest_point rest }
+    requires fits { sums.under < 2 ^ 31 }
+    ensures { IsTrue result ↔ Breaks row.now (delta_of sums) }
 {
-    let bound = small_whole(&row.bound())?;
-    let level = product(bound, i64::from(sums.under));
+    let level = multiple(i64::from(sums.under), rest.value);
     match sums.value.cmp(&level) {
-        Ordering::Less => Some(true),
-        Ordering::Equal => Some(breaks_tiny(row.relation(), sums.tiny, sums.under)),
-        Ordering::Greater => Some(is_equation(row)),
+        Ordering::Less => true,
+        Ordering::Equal => breaks_tiny(row.relation(), sums.tiny, sums.under),
+        Ordering::Greater => is_equation(row),
     }
 }
 
