@@ -1,5 +1,5 @@
 -- What short lines add up to where their positions rest.
-use Rattle.std.proofs.Common.{Bool, IsTrue, ◌↔◌, ◌<ℤ◌, inl, inr, ◌≡◌, ℕ, ◌+◌, ◌<◌, ◌≤◌, ◌^◌, zero, suc, arith, ℤ, pos, ◌+ℤ◌, ◌*ℤ◌, [], ◌∷◌, length, take, get_or, Some, ap, sym, ◌∙◌, refl, subst}
+use Rattle.std.proofs.Common.{Bool, IsTrue, ◌↔◌, ◌<ℤ◌, inl, inr, ◌≡◌, ℕ, ◌+◌, ◌-◌, ◌<◌, ◌≤◌, ◌^◌, zero, suc, arith, ℤ, pos, ◌+ℤ◌, ◌*ℤ◌, [], ◌∷◌, length, take, get_or, Some, ap, sym, ◌∙◌, refl, subst}
 use Rattle.std.specs.List.{All}
 use Rattle.std.proofs.lemmas.Int.{ints}
 use Rattle.std.proofs.lemmas.List.{take_all}
@@ -11,7 +11,7 @@ use Rattle.bt_frac.specs.Values.{AreValues}
 use Rattle.bt_frac.specs.declared.delta.Delta.{Delta}
 use Rattle.bt_frac.specs.declared.row.Relation.TheVariants.{Equal}
 use Rattle.bt_frac.proofs.Ring.{products, sums}
-use Rattle.bt_simplex.specs.Lines.{Terms, HasNumber, IsLine, total}
+use Rattle.bt_simplex.specs.Lines.{one, Terms, HasNumber, IsLine, total}
 use Rattle.bt_simplex.specs.Points.{bound_row, resting, standing}
 use Rattle.bt_simplex.specs.Tableaus.{TableauParts, IsTableau}
 use Rattle.bt_simplex.specs.declared.short.points.Sums.{Sums}
@@ -22,7 +22,7 @@ use Rattle.bt_simplex.specs.inner.Bases.{IsSamePoint, signed_point}
 use Rattle.bt_simplex.specs.inner.Shorts.{Numbers, reduced, terms_over, IsShort}
 use Rattle.bt_simplex.specs.inner.ShortPoints.{AddsWhole, delta_of, BreaksTiny, IsBreak}
 use Rattle.bt_simplex.proofs.Failing.{fails_told}
-use Rattle.bt_simplex.proofs.Places.{line_place}
+use Rattle.bt_simplex.proofs.Places.{line_place, like_place}
 use Rattle.bt_simplex.proofs.Numbers.{Positive, Alike, alike, next}
 use Rattle.bt_simplex.proofs.Resting.{part_more, rest_value, rest_tiny}
 use Rattle.bt_simplex.proofs.Shorts.{reduced_lowest, reduced_over}
@@ -203,4 +203,11 @@ pub break_fails : (t : TableauParts) → All IsRow t.rows → (position : ℕ) (
     → slot_at t.slots position ≡ Some (signed_terms negated terms) → IsLine terms → IsBreak row negated (standing (resting t) 0 (Some terms)) told → (IsTrue told ↔ Fails t position)
 break_fails t rows position row negated terms told here slot line (point, same, is) =
     let both = fails_told t position row (signed_point negated point) (signed_terms negated terms, slot) here (line_place t rows position negated terms point slot line same) in
+    (λ h. both.0 (is.0 h), λ f. is.1 (both.1 f))
+
+-- the position of a row breaks as another position rests
+pub like_fails : (t : TableauParts) → All IsRow t.rows → (position : ℕ) (row : RowParts) (other : ℕ) (negated : Bool) (d : Delta) (told : Bool) → bound_row t position ≡ Some row
+    → slot_at t.slots position ≡ Some (signed_terms negated ((other, one) ∷ [])) → other < 2 ^ 64 - 1 → d ≡ resting t other → (IsTrue told ↔ Breaks row (signed_point negated d)) → (IsTrue told ↔ Fails t position)
+like_fails t rows position row other negated d told here slot within rests is =
+    let both = fails_told t position row (signed_point negated d) (signed_terms negated ((other, one) ∷ []), slot) here (like_place t rows position other negated d slot within rests) in
     (λ h. both.0 (is.0 h), λ f. is.1 (both.1 f))

@@ -11,6 +11,7 @@ use crate::basis::{Basis, Place};
 use crate::causes::Cause;
 use crate::line::Line;
 use crate::points::{bound_value, line_point, point};
+use crate::short::breaks_at;
 use crate::tableau::{Tableau, Turn};
 use bt_frac::{Delta, Frac, Relation, Row};
 use std::alloc::{AllocError, Global};
@@ -79,14 +80,21 @@ fn fails_whole(tableau: &Tableau, basis: &Basis, row: &Row, position: usize) -> 
     ensures { IfSome result (λ told. IsTrue told ↔ Fails (with_slots tableau.now basis.now) position) }
 {
     tableau.all_known();
-    let Place::Line { line, negated, .. } = basis.place(position) else {
-        return None;
-    };
-    line.known();
-    let short = line.short()?;
     let rest = tableau.whole_rest(position)?;
-    let told = short.breaks(tableau, row, rest, negated)?;
-    Some(told)
+    match basis.place(position) {
+        Place::Line { line, negated, .. } => {
+            line.known();
+            let short = line.short()?;
+            let told = short.breaks(tableau, row, rest, negated)?;
+            Some(told)
+        }
+        Place::Like { other, negated } => {
+            let other_rest = tableau.whole_rest(other)?;
+            let told = breaks_at(row, rest, other_rest, negated)?;
+            Some(told)
+        }
+        Place::Outside => Some(false),
+    }
 }
 
 /// Whether a position is a bound row of the basis that doesn't hold; or why its point doesn't fit.

@@ -70,6 +70,30 @@ impl Short {
     }
 }
 
+/// Whether a row that rests here doesn't hold where it stands as another position rests, or with the other
+/// sign where this is told. None where a number doesn't fit.
+pub fn breaks_at(row: &Row, rest: Rest, other: Rest, negated: bool) -> Option<bool>
+    requires { bound_value row.now ≡ rest_point rest }
+    ensures { IfSome result
+        (λ told. IsTrue told ↔ Breaks row.now (signed_point negated (rest_point other))) }
+{
+    let sums = rest_sums(other);
+    let others = signed_sums(sums, negated)?;
+    Some(sums_break(row, rest, others))
+}
+
+/// The sums of one position alone, with the number 1.
+fn rest_sums(rest: Rest) -> Sums
+    ensures same { delta_of result ≡ rest_point rest }
+    ensures under { result.under ≡ 1 }
+{
+    Sums {
+        value: i64::from(rest.value),
+        tiny: i64::from(rest.tiny),
+        under: 1,
+    }
+}
+
 /// The sums with a number times where its position rests, where these fit.
 fn added(sums: Sums, over: i64, rest: Rest) -> Option<Sums>
     requires { IsSmall over }
