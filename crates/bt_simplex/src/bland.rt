@@ -6,12 +6,13 @@ ghost use Rattle.bt_simplex.specs.Points.{bound_row};
 ghost use Rattle.bt_simplex.specs.SolvedForms.{Slots, slot_at};
 ghost use Rattle.bt_simplex.specs.Turns.{Breaks, Fails, MovesTowards, CanEnter};
 ghost use Rattle.bt_simplex.specs.inner.Bases.{with_slots, MayEnter, Names, Finds, IsLeastOf, IsNext};
+ghost use Rattle.bt_simplex.specs.inner.ShortPoints.{AreClassSums};
 
 use crate::basis::{Basis, Place};
 use crate::causes::Cause;
 use crate::line::Line;
 use crate::points::{bound_value, line_point, point};
-use crate::short::breaks_at;
+use crate::short::{ClassSums, breaks_at, breaks_by};
 use crate::tableau::{Tableau, Turn};
 use bt_frac::{Delta, Frac, Relation, Row};
 use std::alloc::{AllocError, Global};
@@ -74,18 +75,65 @@ fn may_enter(tableau: &Tableau, row: &Row, point: &Delta, position: usize, numbe
     }
 }
 
+/// The sums of the line of a bound row's class, which are at hand where the class was the last one too. None
+/// where whole numbers don't tell them.
+fn class_sums(
+    tableau: &Tableau,
+    basis: &Basis,
+    position: usize,
+    last: Option<ClassSums>,
+) -> Option<ClassSums>
+    requires { IfSome last (AreClassSums tableau.now basis.now) }
+    ensures { IfSome result (AreClassSums tableau.now basis.now) }
+{
+    let Some(_) = tableau.bound_row(position) else {
+        return last;
+    };
+    let Place::Line { first, line, .. } = basis.place(position) else {
+        return last;
+    };
+    if is_of(last, first) {
+        return last;
+    }
+    let short = line.short()?;
+    let sums = short.sums(tableau)?;
+    Some(ClassSums { first, sums })
+}
+
+/// Whether the sums are those of the class of this first position.
+fn is_of(sums: Option<ClassSums>, first: usize) -> bool {
+    match sums {
+        Some(sums) => sums.first == first,
+        None => false,
+    }
+}
+
 /// Whether a bound row is in the basis and doesn't hold, where whole numbers tell it.
-fn fails_whole(tableau: &Tableau, basis: &Basis, row: &Row, position: usize) -> Option<bool>
-    requires { bound_row tableau.now position ≡ Some row.now }
+fn fails_whole(
+    tableau: &Tableau,
+    basis: &Basis,
+    row: &Row,
+    position: usize,
+    sums: Option<ClassSums>,
+) -> Option<bool>
+    requires row { bound_row tableau.now position ≡ Some row.now }
+    requires sums { IfSome sums (AreClassSums tableau.now basis.now) }
     ensures { IfSome result (λ told. IsTrue told ↔ Fails (with_slots tableau.now basis.now) position) }
 {
     tableau.all_known();
     let rest = tableau.whole_rest(position)?;
     match basis.place(position) {
-        Place::Line { line, negated, .. } => {
+        Place::Line {
+            first,
+            line,
+            negated,
+        } => {
             line.known();
-            let short = line.short()?;
-            let told = short.breaks(tableau, row, rest, negated)?;
+            let class = sums?;
+            if class.first != first {
+                return None;
+            }
+            let told = breaks_by(row, rest, class.sums, negated)?;
             Some(told)
         }
         Place::Like { other, negated } => {
@@ -98,14 +146,20 @@ fn fails_whole(tableau: &Tableau, basis: &Basis, row: &Row, position: usize) -> 
 }
 
 /// Whether a position is a bound row of the basis that doesn't hold; or why its point doesn't fit.
-fn fails(tableau: &Tableau, basis: &Basis, position: usize) -> Result<bool, Cause>
+fn fails(
+    tableau: &Tableau,
+    basis: &Basis,
+    position: usize,
+    sums: Option<ClassSums>,
+) -> Result<bool, Cause>
+    requires { IfSome sums (AreClassSums tableau.now basis.now) }
     ensures told { IfOk result (λ told. IsTrue told ↔ Fails (with_slots tableau.now basis.now) position) }
     ensures unfit { IfErr result (IsCause (with_slots tableau.now basis.now)) }
 {
     let Some(row) = tableau.bound_row(position) else {
         return Ok(false);
     };
-    if let Some(told) = fails_whole(tableau, basis, row, position) {
+    if let Some(told) = fails_whole(tableau, basis, row, position, sums) {
         return Ok(told);
     }
     if !basis.has(position) {
@@ -120,8 +174,10 @@ pub fn leaving(tableau: &Tableau, basis: &Basis) -> Least
     ensures { Finds (with_slots tableau.now basis.now)
         (λ p. Fails (with_slots tableau.now basis.now) p) result }
 {
+    let mut sums = None;
     for position in 0..basis.len() {
-        match fails(tableau, basis, position) {
+        sums = class_sums(tableau, basis, position, sums);
+        match fails(tableau, basis, position, sums) {
             Ok(told) => {
                 if told {
                     return Least::At(position);

@@ -15,7 +15,7 @@ mod zero;
 use crate::line::Term;
 use bt_frac::Frac;
 pub use merging::substituted;
-pub use points::breaks_at;
+pub use points::{ClassSums, breaks_at, breaks_by};
 use std::alloc::{AllocError, Global};
 use std::marker::Model;
 pub use zero::{entering_line, zero_line};

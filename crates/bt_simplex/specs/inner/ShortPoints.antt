@@ -1,14 +1,18 @@
 -- Sums of terms of short lines, where their positions rest.
-use Rattle.std.specs.Prelude.{◌≡◌, ◌⊎◌, ◌↔◌, ℤ, ◌+ℤ◌, ◌*ℤ◌, Bool, IsTrue}
+use Rattle.std.specs.Prelude.{◌≡◌, ◌<◌, ◌^◌, ◌⊎◌, ◌↔◌, Some, ℤ, ◌+ℤ◌, ◌*ℤ◌, Bool, IsTrue}
 use Rattle.bt_frac.specs.Ratio.{Ratio, IsLess}
 use Rattle.bt_frac.specs.Rows.{RowParts}
 use Rattle.bt_frac.specs.declared.delta.Delta.{Delta}
 use Rattle.bt_frac.specs.declared.row.Relation.{Relation}
 use Rattle.bt_frac.specs.declared.row.Relation.TheVariants.{Equal}
-use Rattle.bt_simplex.specs.Points.{tiny_of}
+use Rattle.bt_simplex.specs.Points.{tiny_of, resting, standing}
+use Rattle.bt_simplex.specs.Lines.{Terms}
+use Rattle.bt_simplex.specs.SolvedForms.{Slots, slot_at}
+use Rattle.bt_simplex.specs.Tableaus.{TableauParts}
 use Rattle.bt_simplex.specs.Turns.{Breaks}
 use Rattle.bt_simplex.specs.inner.Bases.{IsSamePoint, signed_point}
 use Rattle.bt_simplex.specs.declared.short.points.Sums.{Sums}
+use Rattle.bt_simplex.specs.declared.short.points.ClassSums.{ClassSums}
 
 -- the sums over their denominator
 abbrev pub delta_of : Sums → Delta
@@ -31,3 +35,8 @@ BreaksTiny relation tiny = IsLess tiny (tiny_of relation) ⊎ ((relation ≡ Equ
 -- whether a row doesn't hold at a point that is this one, or at this one with the other sign where that is told
 abbrev pub IsBreak : RowParts → Bool → Delta → Bool → Type 0
 IsBreak row negated stands told = (point : Delta) × IsSamePoint point stands × (IsTrue told ↔ Breaks row (signed_point negated point))
+
+-- the sums of what the first position of a class has for a line
+pub record AreClassSums (t : TableauParts) (slots : Slots) (sums : ClassSums) : Type 0 where
+  pub fits : sums.sums.under < 2 ^ 31
+  pub same : (terms : Terms) → slot_at slots sums.first ≡ Some terms → IsSamePoint (delta_of sums.sums) (standing (resting t) 0 (Some terms))

@@ -6,7 +6,7 @@ ghost use Rattle.bt_simplex.specs.Turns.{Breaks};
 ghost use Rattle.bt_simplex.specs.inner.Bases.{IsSamePoint, signed_point};
 ghost use Rattle.bt_simplex.specs.inner.Rests.{rest_point};
 ghost use Rattle.bt_simplex.specs.inner.Shorts.{IsSmall};
-ghost use Rattle.bt_simplex.specs.inner.ShortPoints.{AddsWhole, delta_of, BreaksTiny, IsBreak};
+ghost use Rattle.bt_simplex.specs.inner.ShortPoints.{AddsWhole, delta_of, BreaksTiny};
 
 use crate::rests::Rest;
 use crate::short::{Short, number};
@@ -16,11 +16,18 @@ use std::cmp::Ordering;
 
 /// The sums of terms where their positions rest, over the denominator of their line.
 #[derive(Clone, Copy)]
-struct Sums {
+pub struct Sums {
     value: i64,
     /// How often the infinitesimal stands in it.
     tiny: i64,
     under: u32,
+}
+
+/// The sums of the line of a class's first position.
+#[derive(Clone, Copy)]
+pub struct ClassSums {
+    pub first: usize,
+    pub sums: Sums,
 }
 
 impl Short {
@@ -37,20 +44,8 @@ impl Short {
         })
     }
 
-    /// Whether a row that rests here doesn't hold where the line adds up to it, or the line with the other sign
-    /// where this is told. None as above.
-    pub fn breaks(&self, tableau: &Tableau, row: &Row, rest: Rest, negated: bool) -> Option<bool>
-        requires { bound_value row.now ≡ rest_point rest }
-        ensures { IfSome result
-            (IsBreak row.now negated (standing (resting tableau.now) 0 (Some self.now))) }
-    {
-        let sums = self.sums(tableau)?;
-        let others = signed_sums(sums, negated)?;
-        Some(sums_break(row, rest, others))
-    }
-
-    /// The sums of the terms.
-    fn sums(&self, tableau: &Tableau) -> Option<Sums>
+    /// The sums of the terms. None as above.
+    pub fn sums(&self, tableau: &Tableau) -> Option<Sums>
         ensures same { IfSome result
             (λ s. IsSamePoint (delta_of s) (standing (resting tableau.now) 0 (Some self.now))) }
         ensures fits { IfSome result (λ s. s.under < 2 ^ 31) }
@@ -68,6 +63,17 @@ impl Short {
         }
         Some(sums)
     }
+}
+
+/// Whether a row that rests here doesn't hold where these sums are, or with the other sign where this is told.
+/// None where a number doesn't fit.
+pub fn breaks_by(row: &Row, rest: Rest, sums: Sums, negated: bool) -> Option<bool>
+    requires rests { bound_value row.now ≡ rest_point rest }
+    requires fits { sums.under < 2 ^ 31 }
+    ensures { IfSome result (λ told. IsTrue told ↔ Breaks row.now (signed_point negated (delta_of sums))) }
+{
+    let others = signed_sums(sums, negated)?;
+    Some(sums_break(row, rest, others))
 }
 
 /// Whether a row that rests here doesn't hold where it stands as another position rests, or with the other

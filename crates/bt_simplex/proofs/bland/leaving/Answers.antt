@@ -7,13 +7,16 @@ use Rattle.bt_simplex.proofs.bland.leaving.Goals as goal
 
 pub returns-then-told : goal.returns-then-told
 returns-then-told c =
-    least_here (λ p. Fails (with_slots c.args.tableau.now c.args.basis.now) p) c.loop-position.position c.loop-position.invariant (c.in-Ok.ensures.told.0 c.if-told.true)
+    least_here (λ p. Fails (with_slots c.args.tableau.now c.args.basis.now) p) c.loop-position.position c.loop-position.invariant.none (c.in-Ok.ensures.told.0 c.if-told.true)
 
 pub loop-position-preserved : goal.loop-position-preserved
 loop-position-preserved c =
-    below_more (λ p. Fails (with_slots c.args.tableau.now c.args.basis.now) p → ⊥) c.loop-position.position c.loop-position.invariant (iff_false c.in-Ok.ensures.told c.if-told.false)
+    record {
+      none = below_more (λ p. Fails (with_slots c.args.tableau.now c.args.basis.now) p → ⊥) c.loop-position.position c.loop-position.invariant.none (iff_false c.in-Ok.ensures.told c.if-told.false);
+      sums = c.class_sums-sums.ensures;
+    }
 
 pub returns : goal.returns
 returns c p fails =
     let within : length c.args.basis.now ≤ p → ⊥ = λ past. no_slot (with_slots c.args.tableau.now c.args.basis.now) p past fails in
-    c.loop-position.invariant p (omega arith) fails
+    c.loop-position.invariant.none p (omega arith) fails
