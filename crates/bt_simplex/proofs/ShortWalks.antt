@@ -1,17 +1,18 @@
 -- Walks over two short lines.
 use Rattle.std.specs.Int.{w64}
-use Rattle.std.proofs.Common.{FitsSigned, ◌⊎◌, inl, inr, ◌≡◌, ◌≢◌, ℕ, ◌+◌, ◌*◌, ◌/◌, ◌^◌, ◌<◌, ◌≤◌, zero, suc, arith, ℤ, pos, neg_ℤ, ◌*ℤ◌, ◌+ℤ◌, ◌-ℤ◌, ◌<ℤ◌, ◌≤ℤ◌, Bool, true, false, if◌then◌else◌, ◌==◌, unsigned_abs, List, [], ◌∷◌, ◌++◌, length, drop, Option, Some, None, ap, sym, ◌∙◌, refl, subst}
+use Rattle.std.proofs.Common.{FitsSigned, ◌⊎◌, inl, inr, ◌≡◌, ◌≢◌, ℕ, ◌+◌, ◌*◌, ◌/◌, ◌^◌, ◌<◌, ◌≤◌, zero, suc, arith, ℤ, pos, neg_ℤ, ◌*ℤ◌, ◌+ℤ◌, ◌-ℤ◌, ◌<ℤ◌, ◌≤ℤ◌, Bool, true, false, if◌then◌else◌, ◌==◌, unsigned_abs, [], ◌∷◌, ◌++◌, length, drop, get_or, map, Option, Some, None, ap, sym, ◌∙◌, refl, subst}
 use Rattle.std.specs.List.{All}
 use Rattle.std.proofs.lemmas.Int.{ints, unsigned_abs-mul, fits_signed_from_abs}
 use Rattle.std.proofs.lemmas.List.Elements.{All-head, All-tail, All-cons, All-nil, All-append}
 use Rattle.std.proofs.lemmas.Nat.{mul-lt}
 use Rattle.std.proofs.Math.Nat.{div-mul_cancel}
-use Rattle.std.proofs.Math.IntN.{pos-*ℤ-pos, zero-*ℤ, *ℤ_comm}
+use Rattle.std.proofs.Math.IntN.{pos-*ℤ-pos, zero-*ℤ}
 use Rattle.bt_frac.specs.Ratio.{Ratio, SameRatio, IsLowest, IsOver, IsSum, FitsPart}
 use Rattle.bt_frac.specs.Products.{IsProduct}
 use Rattle.bt_frac.specs.Values.{plus, times}
 use Prim.Native.Nat.{◌∣◌}
 use Rattle.std.proofs.lemmas.Bool.{false≢true, cases_lt}
+use Rattle.std.proofs.lemmas.Bool.Decides.{nat_tests}
 use Rattle.std.proofs.lemmas.List.{drop_all}
 use Rattle.bt_frac.proofs.Gcds.{quotient_positive, quotient_product}
 use Rattle.bt_frac.proofs.Order.{mul_cancel}
@@ -20,12 +21,12 @@ use Rattle.bt_frac.proofs.Ring.{mul_assoc, products, sums, turn_last}
 use Rattle.bt_simplex.specs.Lines.{Terms, HasNumber, IsLine, IsCombination}
 use Rattle.bt_frac.specs.Columns.{AreColumnsFrom}
 use Rattle.bt_frac.specs.Rows.{columns_of}
-use Rattle.bt_lin.specs.WeightedRows.{coefficient_at}
 use Rattle.bt_simplex.proofs.SignedLines.{number_of_named}
-use Rattle.bt_simplex.specs.inner.Shorts.{Numbers, reduced, terms_over, IsSmall, IsShort, whole_at}
+use Rattle.bt_simplex.specs.inner.Shorts.{Numbers, reduced, terms_over, IsSmall, IsShort, Ascend, whole_at}
 use Rattle.bt_simplex.specs.inner.ShortSteps.{AreScales, IsTermOver, IsShortStep, IsShortSum, IsSmallTerm}
-use Rattle.bt_simplex.specs.inner.Steps.{IsStep, AddsTo, IsNumbered}
-use Rattle.bt_simplex.proofs.Numbers.{Positive, Alike, alike, itself, back, next, both_plus, both_times, plus_positive, times_positive}
+use Rattle.bt_simplex.specs.inner.TurnedSlots.{IsSubstituted}
+use Rattle.bt_simplex.specs.inner.Steps.{IsStep, IsNumbered}
+use Rattle.bt_simplex.proofs.Numbers.{Alike, alike, back, next, both_plus, both_times, plus_positive, times_positive}
 use Rattle.bt_simplex.proofs.Shorts.{reduced_lowest, reduced_over, reduced_only, reduced_zero, over_more, number_is}
 use Rattle.bt_simplex.proofs.Totals.{product_some, step_first, step_before, step_second, step_after, step_same}
 use Rattle.bt_simplex.proofs.Walks.{IsWalk, walk_begins, walk_stays, walk_grows, walk_line, walk_ends}
@@ -286,6 +287,29 @@ positions_fit least u (t ∷ numbers) ascends small =
 pub terms_small : (u : ℕ) (numbers : Numbers) → IsShort u numbers → All IsSmallTerm numbers
 terms_small u numbers short = positions_fit 0 u numbers short.line.ascends short.small
 
+-- their positions ascend
+columns_ascend : (least u : ℕ) (numbers : Numbers) → AreColumnsFrom least (columns_of (terms_over u numbers)) → AreColumnsFrom least (map (λ t. t.0) numbers)
+columns_ascend least u [] ascends = tt
+columns_ascend least u (t ∷ numbers) ascends = (ascends.0, ascends.1, columns_ascend (t.0 + 1) u numbers ascends.2)
+
+pub short_ascends : (u : ℕ) (numbers : Numbers) → IsShort u numbers → Ascend numbers
+short_ascends u numbers short = columns_ascend 0 u numbers short.line.ascends
+
+-- a number of another position isn't the first
+whole_later : (t : ℕ × ℤ) (rest : Numbers) (p : ℕ) → t.0 ≢ p → whole_at p (t ∷ rest) ≡ whole_at p rest
+whole_later t rest p apart = let test : (t.0 == p) ≡ false = grind (arith, nat_tests) in ap (λ b. if b then Some t.1 else whole_at p rest) test
+
+-- one that is before all positions isn't named
+whole_from : (least : ℕ) (numbers : Numbers) (p : ℕ) → p < least → AreColumnsFrom least (map (λ t. t.0) numbers) → whole_at p numbers ≡ None
+whole_from least [] p less ascends = refl
+whole_from least (t ∷ numbers) p less ascends = whole_later t numbers p (λ e. omega arith) ∙ whole_from (t.0 + 1) numbers p (omega arith) ascends.2
+
+-- nor is one that is before the first of those that are left
+pub whole_passed : (least : ℕ) (numbers : Numbers) (i : ℕ) (d : ℕ × ℤ) (p : ℕ) → AreColumnsFrom least (map (λ t. t.0) numbers) → i < length numbers → p < (get_or numbers i d).0 → whole_at p (drop i numbers) ≡ None
+whole_passed least [] i d p ascends inside before = absurd (omega arith)
+whole_passed least (u ∷ numbers) zero d p ascends inside before = whole_later u numbers p (λ e. omega arith) ∙ whole_from (u.0 + 1) numbers p (omega arith) ascends.2
+whole_passed least (u ∷ numbers) (suc i) d p ascends inside before = whole_passed (u.0 + 1) numbers i d p ascends.2 (omega arith) before
+
 -- the number of its position is small, and isn't 0
 pub whole_small : (p : ℕ) (numbers : Numbers) (z : ℤ) → All (λ t. IsSmall t.1) numbers → whole_at p numbers ≡ Some z → IsSmall z
 whole_small p [] z small named = absurd cc
@@ -300,10 +324,12 @@ pub whole_not : (p u : ℕ) (numbers : Numbers) (z : ℤ) → IsShort u numbers 
 whole_not p u numbers z short named none =
     (number_of_named p (terms_over u numbers) (reduced z u) short.line.numbers (sym (number_is p u numbers (terms_over u numbers) (Some z) refl (sym named)))).1 (zero_reduced z u short.some none)
 
--- what a walk over both numbers tells of the lines
-pub sum_told : (p lu ru : ℕ) (k : ℤ) (left right : Numbers) (now other written : Terms) (f : Ratio) → terms_over lu left ≡ now → terms_over ru right ≡ other → whole_at p left ≡ Some k
-    → coefficient_at p now ≡ Some f → IsCombination (terms_over lu left) (reduced k lu) (terms_over ru right) written → IsCombination now f other written
-sum_told p lu ru k left right now other written f is is' whole named sum =
-    let both : Some (reduced k lu) ≡ Some f = number_is p lu left now (Some k) is (sym whole) ∙ named in
-    let same : reduced k lu ≡ f = cc in
-    subst (λ l. IsCombination l f other written) is (subst (λ l. IsCombination (terms_over lu left) f l written) is' (subst (λ n. IsCombination (terms_over lu left) n (terms_over ru right) written) same sum))
+-- a walk over both numbers tells what becomes of the line
+pub sum_told : (p lu ru : ℕ) (k : ℤ) (left right : Numbers) (now other written : Terms) → terms_over lu left ≡ now → terms_over ru right ≡ other → whole_at p left ≡ Some k
+    → IsLine written → IsCombination (terms_over lu left) (reduced k lu) (terms_over ru right) written → IsSubstituted p other (Some now) (Some written)
+sum_told p lu ru k left right now other written is is' whole line sum =
+    inr (reduced k lu, sym (number_is p lu left now (Some k) is (sym whole)), (written, refl, line, subst (λ l. IsCombination l (reduced k lu) other written) is (subst (λ l. IsCombination (terms_over lu left) (reduced k lu) l written) is' sum)))
+
+-- a line that lacks the position stays
+pub lacks_told : (p lu : ℕ) (numbers : Numbers) (now other : Terms) → terms_over lu numbers ≡ now → whole_at p numbers ≡ None → IsSubstituted p other (Some now) (Some now)
+lacks_told p lu numbers now other is whole = inl (sym (number_is p lu numbers now None is (sym whole)), refl)

@@ -1,6 +1,6 @@
 -- The fractions in lowest terms that whole numbers over a denominator stand for.
 use Rattle.std.proofs.Common.{◌≡◌, ◌≢◌, ℕ, ◌+◌, ◌*◌, ◌/◌, ◌%◌, ◌^◌, ◌<◌, ◌≤◌, ◌==◌, zero, suc, arith, ℤ, pos, negsuc, neg_ℤ, ◌*ℤ◌, ◌+ℤ◌, ◌<ℤ◌, ◌↔◌, unsigned_abs, List, [], ◌∷◌, Bool, true, false, IsTrue, if◌then◌else◌, Option, Some, None, ap, sym, ◌∙◌, refl, subst, ◌++◌}
-use Rattle.std.proofs.Common.{length, get_or, take, IfSome, is_some}
+use Rattle.std.proofs.Common.{length, get_or, take, IfSome}
 use Rattle.std.specs.Option.{option_map}
 use Rattle.std.specs.Int.{IsGcd}
 use Rattle.std.specs.List.{All}
@@ -211,7 +211,3 @@ divide_more terms i x m n inside is so_far next here =
 -- the number of a position of a line
 pub number_is : (p under : ℕ) (numbers : Numbers) (now : Terms) (o : Option ℤ) → terms_over under numbers ≡ now → o ≡ whole_at p numbers → option_map (λ z. reduced z under) o ≡ coefficient_at p now
 number_is p under numbers now o is whole = ap (λ w. option_map (λ z. reduced z under) w) whole ∙ sym (number_over p under numbers) ∙ ap (λ l. coefficient_at p l) is
-
-pub is_some_map : (A B : Type 0) (f : A → B) (o : Option A) → is_some (option_map f o) ≡ is_some o
-is_some_map A B f None = refl
-is_some_map A B f (Some a) = refl

@@ -1,15 +1,15 @@
 //! Lines of a solved form: the positions whose numbers aren't 0, in ascending order, with these numbers.
-ghost use Rattle.std.specs.Prelude.{◌≡◌, ◌≢◌, ◌<◌, ◌-◌, ◌^◌, pos, IfOk, IfErr, IfSome, Some, is_some, true, length, slice_index_or};
+ghost use Rattle.std.specs.Prelude.{◌≡◌, ◌≢◌, ◌<◌, ◌-◌, ◌^◌, pos, IfOk, IfErr, IfSome, Some, true, length, slice_index_or};
 ghost use Rattle.bt_frac.specs.Ratio.{Ratio, IsLowest};
 ghost use Rattle.bt_lin.specs.WeightedRows.{coefficient_at};
 ghost use Rattle.bt_simplex.specs.Classes.{signed_terms};
 ghost use Rattle.bt_simplex.specs.Lines.{IsLine, HasNumber, IsCombination};
-ghost use Rattle.bt_simplex.specs.inner.TurnedSlots.{IsZeroLine, IsEntering};
+ghost use Rattle.bt_simplex.specs.inner.TurnedSlots.{IsZeroLine, IsEntering, IsChange};
 ghost use Rattle.bt_simplex.specs.inner.Unfits.{IsUnfit};
 
 use crate::causes::Unfit;
 use crate::merging::merged;
-use crate::short::{Short, entering_line, shortened, substituted, zero_line};
+use crate::short::{Short, Substitution, entering_line, shortened, substituted, zero_line};
 use bt_frac::Frac;
 use std::alloc::{AllocError, Global};
 use std::marker::Model;
@@ -45,6 +45,17 @@ impl Model for Line {
     ghost view = { λ l. form_terms l.form };
 
     ghost invariant = { λ l. IsLine (form_terms l.form) };
+}
+
+/// What a turn makes of a slot.
+#[derive(Drop)]
+pub enum Change {
+    /// The slot has no line, or one without the entering position. The room is not used.
+    Stays(Room),
+    /// The slot's line, with what the entering position stands for in place of it.
+    Line(Line),
+    /// A product or a sum doesn't fit.
+    Wide(Unfit),
 }
 
 impl Line {
@@ -120,16 +131,6 @@ impl Line {
         }
     }
 
-    /// Whether a position's number isn't 0.
-    pub fn names(&self, position: usize) -> bool
-        ensures { result ≡ is_some (coefficient_at position self.now) }
-    {
-        match &self.form {
-            Form::Whole(short) => short.names(position),
-            Form::Fractions(terms) => found(terms, position).is_some(),
-        }
-    }
-
     /// The number of a position, where it isn't 0.
     pub fn number_at(&self, position: usize) -> Option<Frac>
         ensures number { result ≡ coefficient_at position self.now }
@@ -153,50 +154,46 @@ impl Line {
         }
     }
 
-    /// The line, with what a position of it stands for put in place of it by a line that is 0, in the room
-    /// of a list whose terms are dropped; or the first product or sum that doesn't fit.
+    /// What becomes of the line where what a position stands for, by a line that is 0, is put in place of it,
+    /// in the room of a list whose terms are dropped.
     pub fn substituted(
         &self,
         alloc: Global,
         room: Room,
         enters: usize,
         zero: &Line,
-    ) -> Result<Result<Line, Unfit>, AllocError>
-        requires { is_some (coefficient_at enters self.now) ≡ true }
-        ensures line { IfOk result (λ o. IfOk o IsLine) }
-        ensures sum { (number : Ratio) → coefficient_at enters self.now ≡ Some number
-            → IfOk result (λ o. IfOk o (IsCombination self.now number zero.now)) }
-        ensures unfit { (number : Ratio) → coefficient_at enters self.now ≡ Some number
-            → IfOk result (λ o. IfErr o (IsUnfit self.now number zero.now)) }
+    ) -> Result<Change, AllocError>
+        ensures { IfOk result (IsChange enters zero.now (Some self.now)) }
     {
-        if let (Some(line), Some(other)) = (self.short(), zero.short()) {
-            if let Some(short) = substituted(room, line, enters, other)? {
-                return Ok(Ok(Line::whole(short)));
-            }
+        let (Some(line), Some(other)) = (self.short(), zero.short()) else {
+            return self.substituted_long(alloc, room, enters, zero);
+        };
+        match substituted(room, line, enters, other)? {
+            Substitution::Lacks(same) => Ok(Change::Stays(same)),
+            Substitution::Large => self.substituted_long(alloc, Vec::new(alloc), enters, zero),
+            Substitution::Sum(sum) => Ok(Change::Line(Line::whole(sum))),
         }
-        self.substituted_long(alloc, enters, zero)
     }
 
     /// The same by fractions.
     fn substituted_long(
         &self,
         alloc: Global,
+        room: Room,
         enters: usize,
         zero: &Line,
-    ) -> Result<Result<Line, Unfit>, AllocError>
-        requires { is_some (coefficient_at enters self.now) ≡ true }
-        ensures line { IfOk result (λ o. IfOk o IsLine) }
-        ensures sum { (number : Ratio) → coefficient_at enters self.now ≡ Some number
-            → IfOk result (λ o. IfOk o (IsCombination self.now number zero.now)) }
-        ensures unfit { (number : Ratio) → coefficient_at enters self.now ≡ Some number
-            → IfOk result (λ o. IfErr o (IsUnfit self.now number zero.now)) }
+    ) -> Result<Change, AllocError>
+        ensures { IfOk result (IsChange enters zero.now (Some self.now)) }
     {
         let Some(number) = self.number_at(enters) else {
-            unreachable!()
+            return Ok(Change::Stays(room));
         };
         let left = self.terms(alloc)?;
         let right = zero.terms(alloc)?;
-        combined(alloc, &left, &number, &right)
+        match combined(alloc, &left, &number, &right)? {
+            Ok(line) => Ok(Change::Line(line)),
+            Err(unfit) => Ok(Change::Wide(unfit)),
+        }
     }
 
     /// The line that is 0 wherever this line holds of its position, where both are held as small whole

@@ -1,12 +1,12 @@
 //! Lines whose numbers are small whole numbers over one small denominator. Sums of these need no
 //! fractions, and their products fit 64 bits.
-ghost use Rattle.std.specs.Prelude.{◌≡◌, ◌<◌, ◌≤◌, ◌^◌, ◌*ℤ◌, IfOk, IfSome, is_some, true, IsTrue, ◌↔◌, length, slice_index_or, unsigned_abs};
+ghost use Rattle.std.specs.Prelude.{◌≡◌, ◌<◌, ◌≤◌, ◌^◌, ◌*ℤ◌, IfOk, IfSome, true, IsTrue, ◌↔◌, length, slice_index_or, unsigned_abs};
 ghost use Rattle.std.specs.Int.{IsGcd};
 ghost use Rattle.std.specs.List.{All};
 ghost use Rattle.bt_lin.specs.WeightedRows.{coefficient_at};
 ghost use Rattle.bt_simplex.specs.Lines.{IsLine, HasNumber};
 ghost use Rattle.bt_simplex.specs.Classes.{signed_terms};
-ghost use Rattle.bt_simplex.specs.inner.Shorts.{reduced, terms_over, IsSmall, IsShort, whole_at, signed_numbers, Divides};
+ghost use Rattle.bt_simplex.specs.inner.Shorts.{reduced, terms_over, IsSmall, IsShort, Ascend, whole_at, signed_numbers, Divides};
 
 mod merging;
 mod points;
@@ -14,7 +14,7 @@ mod zero;
 
 use crate::line::Term;
 use bt_frac::Frac;
-pub use merging::substituted;
+pub use merging::{Substitution, substituted};
 pub use points::{ClassSums, breaks_at, breaks_by};
 use std::alloc::{AllocError, Global};
 use std::marker::Model;
@@ -87,13 +87,6 @@ impl Short {
         }
     }
 
-    /// Whether the line names a position.
-    pub fn names(&self, position: usize) -> bool
-        ensures { result ≡ is_some (coefficient_at position self.now) }
-    {
-        whole_at(&self.terms, position).is_some()
-    }
-
     /// The line, with the other sign where this is told.
     pub fn signed(&self, alloc: Global, negated: bool) -> Result<Short, AllocError>
         ensures { IfOk result (λ line. line ≡ signed_terms negated self.now) }
@@ -137,11 +130,15 @@ fn fractions(alloc: Global, terms: &[(usize, i64)], under: u32) -> Result<Vec<Te
 
 /// The number of a position, where the terms name it.
 fn whole_at(terms: &[(usize, i64)], position: usize) -> Option<i64>
+    requires { Ascend terms.now }
     ensures { result ≡ whole_at position terms.now }
 {
     for (other, number) in terms {
         if *other == position {
             return Some(*number);
+        }
+        if *other > position {
+            return None;
         }
     }
     None

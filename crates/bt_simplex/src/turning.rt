@@ -12,7 +12,7 @@ ghost use Rattle.bt_simplex.specs.inner.UnfitTurns.{IsUnfitShare, IsUnfitTerm, I
 use crate::answers::{Operation, WidePlace};
 use crate::basis::{Basis, Member};
 use crate::causes::{Cause, Unfit};
-use crate::line::{Line, Room, Term, combined};
+use crate::line::{Change, Line, Room, Term, combined};
 use bt_frac::Frac;
 use std::alloc::{AllocError, Global};
 
@@ -75,17 +75,6 @@ fn zero_line(
     }
 }
 
-/// What a turn makes of a slot.
-#[derive(Drop)]
-enum Change {
-    /// The slot has no line, or one without the entering position. The room is not used.
-    Stays(Room),
-    /// The slot's line, with what the entering position stands for in place of it.
-    Line(Line),
-    /// A product or a sum doesn't fit.
-    Wide(Unfit),
-}
-
 /// What a turn makes of a slot, by a line that is 0, in the room of a list whose terms are dropped.
 fn changed(
     alloc: Global,
@@ -96,15 +85,9 @@ fn changed(
 ) -> Result<Change, AllocError>
     ensures { IfOk result (IsChange enters zero.now slot.now) }
 {
-    let Some(line) = slot else {
-        return Ok(Change::Stays(room));
-    };
-    if !line.names(enters) {
-        return Ok(Change::Stays(room));
-    }
-    match line.substituted(alloc, room, enters, zero)? {
-        Ok(line) => Ok(Change::Line(line)),
-        Err(unfit) => Ok(Change::Wide(unfit)),
+    match slot {
+        Some(line) => line.substituted(alloc, room, enters, zero),
+        None => Ok(Change::Stays(room)),
     }
 }
 

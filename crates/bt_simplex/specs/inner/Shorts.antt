@@ -1,6 +1,7 @@
 -- Lines of whole numbers over one denominator, and the fractions in lowest terms that these stand for.
-use Rattle.std.specs.Prelude.{◌≡◌, ℕ, ◌*◌, ◌/◌, ◌%◌, ◌^◌, ◌<◌, ◌==◌, zero, suc, ℤ, pos, negsuc, ◌*ℤ◌, unsigned_abs, neg_ℤ, List, [], ◌∷◌, map, Bool, true, false, Option, Some, None, if◌then◌else◌}
+use Rattle.std.specs.Prelude.{◌≡◌, ℕ, ◌*◌, ◌/◌, ◌%◌, ◌^◌, ◌<◌, ◌==◌, zero, suc, ℤ, pos, negsuc, unsigned_abs, neg_ℤ, List, [], ◌∷◌, map, Bool, true, false, Option, Some, None, if◌then◌else◌}
 use Rattle.std.specs.List.{All}
+use Rattle.bt_frac.specs.Columns.{AreColumnsFrom}
 use Rattle.bt_frac.specs.Ratio.{Ratio, parts_ratio}
 use Rattle.bt_simplex.specs.Lines.{Terms, IsLine}
 
@@ -40,6 +41,10 @@ pub record IsShort (under : ℕ) (numbers : Numbers) : Type 0 where
   pub fits : under < 2 ^ 31
   pub small : All (λ t. IsSmall t.1) numbers
   pub line : IsLine (terms_over under numbers)
+
+-- the positions ascend
+abbrev pub Ascend : Numbers → Type 0
+Ascend numbers = AreColumnsFrom 0 (map (λ t. t.0) numbers)
 
 -- the number of a position, where the numbers name it
 abbrev pub whole_at : ℕ → Numbers → Option ℤ

@@ -4,8 +4,10 @@ use Rattle.bt_frac.specs.Ratio.{Ratio, IsLowest, negated}
 use Rattle.bt_frac.specs.Products.{IsDivision}
 use Rattle.bt_lin.specs.WeightedRows.{coefficient_at}
 use Rattle.bt_simplex.specs.Lines.{one, Terms, IsLine, IsCombination}
-use Rattle.bt_simplex.specs.declared.turning.Change.{Change}
-use Rattle.bt_simplex.specs.declared.turning.Change.TheVariants.{Stays, Line, Wide}
+use Rattle.bt_simplex.specs.declared.line.Change.{Change}
+use Rattle.bt_simplex.specs.declared.line.Change.TheVariants.{Stays, Line, Wide}
+use Rattle.bt_simplex.specs.declared.short.merging.Substitution.{Substitution}
+use Rattle.bt_simplex.specs.declared.short.merging.Substitution.TheVariants.{Lacks, Large, Sum}
 use Rattle.bt_simplex.specs.SolvedForms.{Slots, slot_at}
 use Rattle.bt_simplex.specs.inner.Unfits.{IsUnfit}
 
@@ -42,6 +44,12 @@ abbrev pub IsChange : ℕ → Terms → Option Terms → Change → Type 0
 IsChange position zero slot (Stays room) = IsSubstituted position zero slot slot
 IsChange position zero slot (Line line) = IsSubstituted position zero slot (Some line)
 IsChange position zero slot (Wide unfit) = (terms : Terms) × (slot ≡ Some terms) × ((number : Ratio) × (coefficient_at position terms ≡ Some number) × IsUnfit terms number zero unfit)
+
+-- what becomes of a short line, or nothing is told where a number is too large for one
+abbrev pub IsSubstitution : ℕ → Terms → Terms → Substitution → Type 0
+IsSubstitution position zero terms (Lacks room) = IsSubstituted position zero (Some terms) (Some terms)
+IsSubstitution position zero terms Large = Unit {0}
+IsSubstitution position zero terms (Sum line) = IsSubstituted position zero (Some terms) (Some line)
 
 -- the position and the zero line, which has its number -1 there
 pub record IsEntering (position : ℕ) (zero entering : Terms) : Type 0 where

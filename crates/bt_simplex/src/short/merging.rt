@@ -2,10 +2,8 @@
 ghost use Rattle.std.specs.Prelude.{◌≡◌, ◌≢◌, ◌⊎◌, ◌<◌, ◌≤◌, ◌^◌, ◌+◌, ◌*ℤ◌, ◌+ℤ◌, pos, ◌-◌, ◌∷◌, [], IfOk, IfSome, Some, length, drop, vec_len, vec_capacity, unsigned_abs};
 ghost use Rattle.std.specs.List.{All};
 ghost use Prim.Native.Nat.{◌∣◌};
-ghost use Rattle.bt_frac.specs.Ratio.{Ratio};
-ghost use Rattle.bt_lin.specs.WeightedRows.{coefficient_at};
-ghost use Rattle.bt_simplex.specs.Lines.{IsCombination};
 ghost use Rattle.bt_simplex.specs.inner.Shorts.{IsSmall};
+ghost use Rattle.bt_simplex.specs.inner.TurnedSlots.{IsSubstitution};
 ghost use Rattle.bt_simplex.specs.inner.ShortSteps.{AreScales, IsShortStep, IsShortSum, IsSmallTerm, AreNext};
 
 use super::{SMALL_LIMIT, Short, common_divisor, is_small, product, whole_at};
@@ -28,33 +26,42 @@ struct Step {
     right: usize,
 }
 
-/// The line with what a position stands for put in place of it, in the room of a list whose terms are
-/// dropped: the line and its number at the position times the zero line. None where the line has no such
-/// position, or where a number isn't small.
+/// What becomes of a line where what a position stands for is put in place of it.
+#[derive(Drop)]
+pub enum Substitution {
+    /// The line lacks the position, and stays. The room is not used.
+    Lacks(Vec<(usize, i64)>),
+    /// A number isn't small.
+    Large,
+    /// The line and its number at the position times the zero line.
+    Sum(Short),
+}
+
+/// What becomes of the line where what a position stands for, by a line that is 0, is put in place of it,
+/// in the room of a list whose terms are dropped.
 pub fn substituted(
     room: Vec<(usize, i64)>,
     line: &Short,
     enters: usize,
     zero: &Short,
-) -> Result<Option<Short>, AllocError>
-    ensures { (f : Ratio) → coefficient_at enters line.now ≡ Some f
-        → IfOk result (λ o. IfSome o (IsCombination line.now f zero.now)) }
+) -> Result<Substitution, AllocError>
+    ensures { IfOk result (IsSubstitution enters zero.now line.now) }
 {
     let Some(factor) = whole_at(&line.terms, enters) else {
-        return Ok(None);
+        return Ok(Substitution::Lacks(room));
     };
     let Some(scales) = scales_of(line.under, factor, zero.under) else {
-        return Ok(None);
+        return Ok(Substitution::Large);
     };
     let mut terms = room;
     terms.clear();
     terms.reserve(line.terms.len() + zero.terms.len())?;
     match merged(terms, &line.terms, &zero.terms, &scales) {
-        Some(terms) => Ok(Some(Short {
+        Some(terms) => Ok(Substitution::Sum(Short {
             terms,
             under: scales.under,
         })),
-        None => Ok(None),
+        None => Ok(Substitution::Large),
     }
 }
 

@@ -2,10 +2,14 @@ use Rattle.std.specs.Int.{w64}
 use Rattle.std.proofs.lemmas.Int.{to_z-of_z}
 use Rattle.std.proofs.Common.{FitsSigned, rules, Some, None, ap, sym, ◌∙◌, subst}
 use Rattle.bt_simplex.specs.Lines.{IsLine}
-use Rattle.bt_simplex.specs.inner.Shorts.{whole_at}
+use Rattle.bt_simplex.specs.inner.Shorts.{Ascend, whole_at}
+use Rattle.bt_simplex.proofs.ShortWalks.{short_ascends}
 use Rattle.bt_simplex.proofs.Indicators.{number_has}
 use Rattle.bt_simplex.proofs.Shorts.{number_is}
 use Rattle.bt_simplex.proofs.short.Short.number_at.Goals as goal
+
+pub whole_at-requires : goal.whole_at-requires
+whole_at-requires c = subst (λ l. Ascend l) (sym c.deref.ensures.value) (short_ascends c.self.inside.under c.self.inside.terms.items c.self.invariant)
 
 pub returns-in-Some-clause-number : goal.returns-in-Some-clause-number
 returns-in-Some-clause-number c =

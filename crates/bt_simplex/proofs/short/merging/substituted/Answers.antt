@@ -1,11 +1,14 @@
-use Rattle.std.proofs.Common.{FitsSigned, rules, Some, sym, ap, ◌∙◌, ◌≡◌, subst}
+use Rattle.std.proofs.Common.{FitsSigned, rules, sym, ap, ◌∙◌, subst}
 use Rattle.std.specs.Int.{w64}
 use Rattle.std.specs.List.{All}
 use Rattle.std.proofs.lemmas.Int.{to_z-of_z}
-use Rattle.bt_simplex.specs.inner.Shorts.{whole_at}
+use Rattle.bt_simplex.specs.inner.Shorts.{Ascend, whole_at}
 use Rattle.bt_simplex.specs.inner.ShortSteps.{IsSmallTerm}
-use Rattle.bt_simplex.proofs.ShortWalks.{terms_small, whole_small, whole_not, sum_told}
+use Rattle.bt_simplex.proofs.ShortWalks.{short_ascends, terms_small, whole_small, whole_not, sum_told, lacks_told}
 use Rattle.bt_simplex.proofs.short.merging.substituted.Goals as goal
+
+pub whole_at-requires : goal.whole_at-requires
+whole_at-requires c = subst (λ l. Ascend l) (sym c.deref.ensures.value) (short_ascends c.line.inside.under c.line.inside.terms.items c.line.invariant)
 
 pub scales_of-requires-clause-factor_some : goal.scales_of-requires-clause-factor_some
 scales_of-requires-clause-factor_some c =
@@ -25,11 +28,16 @@ merged-requires-clause-left c = subst (λ l. All IsSmallTerm l) (sym c.deref-2.e
 pub merged-requires-clause-right : goal.merged-requires-clause-right
 merged-requires-clause-right c = subst (λ l. All IsSmallTerm l) (sym c.deref-3.ensures.value) (terms_small c.zero.inside.under c.zero.inside.terms.items c.zero.invariant)
 
+pub returns-in_default : goal.returns-in_default
+returns-in_default c =
+    lacks_told c.args.enters c.line.inside.under c.line.inside.terms.items c.args.line.now c.args.zero.now c.line.view_is
+    (ap (λ l. whole_at c.args.enters l) (sym c.deref.ensures.value) ∙ sym c.whole_at.ensures ∙ c.in_default.is)
+
 pub returns-in-Some-merged : goal.returns-in-Some-merged
-returns-in-Some-merged c f named =
+returns-in-Some-merged c =
     let factor_fits : FitsSigned w64 c.in-Some.factor = search rules in
     let scales = simp to_z-of_z at c.in-Some-scales_of.ensures in
     let sum = rw (c.deref-2.ensures.value, c.deref-3.ensures.value) at c.in-Some-merged.ensures in
-    sum_told c.args.enters c.line.inside.under c.zero.inside.under c.in-Some.factor c.line.inside.terms.items c.zero.inside.terms.items c.args.line.now c.args.zero.now _ f c.line.view_is c.zero.view_is
-    (ap (λ l. whole_at c.args.enters l) (sym c.deref.ensures.value) ∙ sym c.whole_at.ensures ∙ c.in-Some.is) named
-    (sum c.line.inside.under c.in-Some.factor c.zero.inside.under scales c.line.invariant.line c.zero.invariant.line).1
+    let told = sum c.line.inside.under c.in-Some.factor c.zero.inside.under scales c.line.invariant.line c.zero.invariant.line in
+    sum_told c.args.enters c.line.inside.under c.zero.inside.under c.in-Some.factor c.line.inside.terms.items c.zero.inside.terms.items c.args.line.now c.args.zero.now _ c.line.view_is c.zero.view_is
+    (ap (λ l. whole_at c.args.enters l) (sym c.deref.ensures.value) ∙ sym c.whole_at.ensures ∙ c.in-Some.is) told.0.line told.1

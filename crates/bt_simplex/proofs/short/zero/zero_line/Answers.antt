@@ -3,11 +3,14 @@ use Rattle.std.specs.Int.{w64}
 use Rattle.std.proofs.lemmas.Int.{to_z-of_z}
 use Rattle.bt_frac.proofs.Quotients.{nonzero_size}
 use Rattle.bt_simplex.specs.Lines.{IsLine, IsCombination}
-use Rattle.bt_simplex.specs.inner.Shorts.{reduced, whole_at}
+use Rattle.bt_simplex.specs.inner.Shorts.{Ascend, reduced, whole_at}
 use Rattle.bt_simplex.specs.inner.TurnedSlots.{IsZeroLine}
-use Rattle.bt_simplex.proofs.ShortWalks.{whole_small, whole_not}
+use Rattle.bt_simplex.proofs.ShortWalks.{short_ascends, whole_small, whole_not}
 use Rattle.bt_simplex.proofs.ShortZeros.{zero_is, opposite_small, opposite_is, held}
 use Rattle.bt_simplex.proofs.short.zero.zero_line.Goals as goal
+
+pub whole_at-requires : goal.whole_at-requires
+whole_at-requires c = subst (λ l. Ascend l) (sym c.deref.ensures.value) (short_ascends c.line.inside.under c.line.inside.terms.items c.line.invariant)
 
 pub magnitude-requires : goal.magnitude-requires
 magnitude-requires c =
