@@ -197,6 +197,17 @@ begins_at numbers i x h = elim (cases_lt i (length numbers)) [
   | inr past ↦ inl (drop_all i numbers past)
 ]
 
+-- what is left of one line, once the other has ended
+pub rest_left : (left right : Numbers) (m r : ℤ) (u i j : ℕ) (t : ℕ × ℤ) (number : ℤ) → drop i left ≡ t ∷ drop (i + 1) left → IsSmall t.1 → length right ≤ j → number ≡ t.1 *ℤ m
+    → IsShortStep (drop i left) (drop j right) m r u t.0 number (drop (i + 1) left) (drop j right)
+rest_left left right m r u i j t number e small past is =
+    left_step (drop i left) (drop j right) m r u t (drop (i + 1) left) (t.0 + 1) number e small (begins_at right j (t.0 + 1, pos 0) (λ h. absurd (omega arith))) (omega arith) is
+
+pub rest_right : (left right : Numbers) (m r : ℤ) (u i j : ℕ) (t : ℕ × ℤ) (number : ℤ) → drop j right ≡ t ∷ drop (j + 1) right → IsSmall t.1 → length left ≤ i → number ≡ r *ℤ t.1
+    → IsShortStep (drop i left) (drop j right) m r u t.0 number (drop i left) (drop (j + 1) right)
+rest_right left right m r u i j t number e small past is =
+    right_step (drop i left) (drop j right) m r u t (drop (j + 1) right) (t.0 + 1) number e small (begins_at left i (t.0 + 1, pos 0) (λ h. absurd (omega arith))) (omega arith) is
+
 -- what is written of a sum of two short lines so far, and what is left of both
 pub record IsShortWalk (left right : Numbers) (m r : ℤ) (u : ℕ) (written first second : Numbers) : Type 0 where
   pub small : All (λ t. IsSmall t.1) written

@@ -1,5 +1,5 @@
 //! Sums of a short line and a number times another, formed by one walk over both.
-ghost use Rattle.std.specs.Prelude.{◌≡◌, ◌≢◌, ◌⊎◌, ◌<◌, ◌≤◌, ◌^◌, ◌+◌, ◌*ℤ◌, ◌+ℤ◌, pos, ◌-◌, ◌∷◌, [], IfOk, IfSome, Some, length, drop, vec_len, vec_capacity, unsigned_abs};
+ghost use Rattle.std.specs.Prelude.{◌≡◌, ◌≢◌, ◌<◌, ◌≤◌, ◌^◌, ◌+◌, ◌*ℤ◌, ◌+ℤ◌, pos, ◌-◌, ◌∷◌, [], IfOk, IfSome, Some, length, drop, vec_len, vec_capacity, unsigned_abs};
 ghost use Rattle.std.specs.List.{All};
 ghost use Prim.Native.Nat.{◌∣◌};
 ghost use Rattle.bt_simplex.specs.inner.Shorts.{IsSmall};
@@ -121,7 +121,7 @@ pub(super) fn merged(
     let mut terms = room;
     let mut first = 0;
     let mut second = 0;
-    while first < left.len() || second < right.len() {
+    while first < left.len() && second < right.len() {
         let step = first_step(left, first, right, second, scales);
         first = step.left;
         second = step.right;
@@ -130,6 +130,28 @@ pub(super) fn merged(
                 return None;
             }
             terms.push_reserved((step.position, step.number));
+        }
+    }
+    while first < left.len() {
+        let (position, number) = term_at(left, first);
+        let scaled = product(number, scales.left);
+        first += 1;
+        if scaled != 0 {
+            if !is_small(scaled) {
+                return None;
+            }
+            terms.push_reserved((position, scaled));
+        }
+    }
+    while second < right.len() {
+        let (other_position, other) = term_at(right, second);
+        let other_scaled = product(scales.right, other);
+        second += 1;
+        if other_scaled != 0 {
+            if !is_small(other_scaled) {
+                return None;
+            }
+            terms.push_reserved((other_position, other_scaled));
         }
     }
     Some(terms)
@@ -143,9 +165,8 @@ fn first_step(
     second: usize,
     scales: &Scales,
 ) -> Step
-    requires some { (first < length left.now) ⊎ (second < length right.now) }
-    requires left_within { first ≤ length left.now }
-    requires right_within { second ≤ length right.now }
+    requires left_within { first < length left.now }
+    requires right_within { second < length right.now }
     requires left { All IsSmallTerm left.now }
     requires right { All IsSmallTerm right.now }
     requires left_by { IsSmall scales.now.left }
@@ -155,8 +176,8 @@ fn first_step(
         (drop result.left left.now) (drop result.right right.now) }
     ensures moved { AreNext (length left.now) first (length right.now) second result.left result.right }
 {
-    let (position, number) = term_or_end(left, first);
-    let (other_position, other) = term_or_end(right, second);
+    let (position, number) = term_at(left, first);
+    let (other_position, other) = term_at(right, second);
     if position < other_position {
         Step {
             position,
@@ -181,19 +202,14 @@ fn first_step(
     }
 }
 
-/// The term at a place, or past all positions where the list ends before it.
-fn term_or_end(terms: &[(usize, i64)], place: usize) -> (usize, i64)
-    requires { All IsSmallTerm terms.now }
-    ensures inside { place < length terms.now → drop place terms.now ≡ result ∷ drop (place + 1) terms.now }
-    ensures position { place < length terms.now → result.0 < 2 ^ 64 - 1 }
+/// The term at a place.
+fn term_at(terms: &[(usize, i64)], place: usize) -> (usize, i64)
+    requires inside { place < length terms.now }
+    requires small { All IsSmallTerm terms.now }
+    ensures rest { drop place terms.now ≡ result ∷ drop (place + 1) terms.now }
     ensures small { IsSmall result.1 }
-    ensures past { length terms.now ≤ place → result.0 ≡ 2 ^ 64 - 1 }
 {
-    if place < terms.len() {
-        terms[place]
-    } else {
-        (usize::MAX, 0)
-    }
+    terms[place]
 }
 
 /// The sum of two products of small numbers, which fits 64 bits.
