@@ -1,5 +1,5 @@
 -- Pieces and the cells that they have.
-use Rattle.std.proofs.Common.{◌≡◌, ◌≢◌, ℕ, ◌<◌, ◌≤◌, ℤ, List, length, get_or, Option, Some, None, refl, ap, ◌∙◌, sym, subst, arith, inl, inr}
+use Rattle.std.proofs.Common.{◌≡◌, ◌≢◌, ℕ, ◌<◌, ◌≤◌, ℤ, List, length, get_or, Option, Some, None, refl, ap, ◌∙◌, subst, arith, inl, inr}
 use Rattle.std.specs.Prelude.{codes}
 use Rattle.bt_json.specs.Json.{Json, Number}
 use Rattle.bt_parts.specs.declared.part.Cell.{Cell}
@@ -25,7 +25,7 @@ use Rattle.bt_entities.specs.Places.{width_of, height_of, IsMiddle}
 use Rattle.bt_entities.specs.Entities.{HasFamily, HasTier, HasKind, IsHalves, IsPlaced, SetsShift, IsInCell, IsEven, IsSided, IsPlain, IsEntity}
 use Rattle.bt_entities.specs.Refusals.{IsFault, IsWrong, IsSpecial, IsOffGrid, IsFirstSpecial, IsLowest, number_of_fault}
 use Rattle.bt_entities.specs.inner.Pieces.{AreHalves, IsPriority, IsPiece, IsOn, HasShift, IsFirstShift}
-use Rattle.bt_entities.proofs.Unique.{object_of, same_text, same_kind, same_dir, same_tier, same_family, same_position, same_times, lacks_or_has}
+use Rattle.bt_entities.proofs.Unique.{object_of, same_text, same_kind, same_dir, same_family, same_position, same_times, lacks_or_has}
 use Rattle.bt_entities.proofs.Middles.{same_middle, middle_near}
 use Rattle.bt_entities.proofs.Lowest.{IsNamed, named, IsRight, none_below, lowest_off, lowest_special}
 

@@ -4,7 +4,7 @@ use Rattle.std.proofs.lemmas.List.{append-nil}
 use Rattle.bt_json.specs.Json.{Json}
 use Rattle.bt_json.specs.Grammar.{Texts, Joined, Byte, Blanks, IsText, IsValue}
 use Rattle.bt_json.specs.Places as places
-use Rattle.bt_json.specs.Places.{Frame, in_list, in_object, OnlyName, Named, Begun, Due, NameDue}
+use Rattle.bt_json.specs.Places.{Frame, in_list, in_object, Named, Due, NameDue}
 use Rattle.bt_json.specs.Answers.{EndsBefore}
 use Rattle.bt_json.specs.inner.Running.{SkipsBlanks}
 use Rattle.bt_json.specs.inner.Reading.{State, Step, go, step, as_name, between, due, opened_list, behind, opened_object, name_due, colon_due, in_text, deliver, step_due, step_opened_list}

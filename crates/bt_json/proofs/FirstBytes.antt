@@ -1,9 +1,9 @@
 -- The first byte of a value.
-use Rattle.std.proofs.Common.{◌≡◌, ◌≢◌, ℕ, ◌+◌, ◌<◌, Bool, true, false, List, [], ◌∷◌, ◌++◌, map, refl, sym, ◌∙◌, ap, arith, ◌==◌}
-use Rattle.std.specs.Prelude.{codes, ◌||◌}
+use Rattle.std.proofs.Common.{◌≡◌, ℕ, ◌+◌, ◌<◌, Bool, true, false, List, [], ◌∷◌, ◌++◌, map, refl, ◌∙◌, ap, arith}
+use Rattle.std.specs.Prelude.{codes}
 use Rattle.std.proofs.lemmas.Bool.Decides.{nat_tests}
-use Rattle.bt_json.specs.Json.{Number, Json, null, boolean, number, text, list, object, Items, no_items, item, Members, no_members, member}
-use Rattle.bt_json.specs.Grammar.{Texts, Joined, ◌▸◌, Byte, Sign, Whole, Fraction, Exponent, Digits, IsNumber, IsText, IsValue, is_blank}
+use Rattle.bt_json.specs.Json.{Json, null, boolean, number, text, list, object, no_items, item, no_members, member}
+use Rattle.bt_json.specs.Grammar.{Texts, ◌▸◌, Byte, Sign, Whole, Fraction, Exponent, IsValue, is_blank}
 use Rattle.bt_json.specs.Longer.{EndsAnyhow}
 
 -- the first byte of a value's text: it is no blank, and where it is a brace the value ends whatever follows

@@ -1,11 +1,8 @@
 -- Reading a longer text.
-use Rattle.std.proofs.Common.{◌≡◌, ◌≢◌, ℕ, ◌+◌, ◌≤◌, Bool, true, false, List, [], ◌∷◌, ◌++◌, length, take, drop, refl, ap, ◌∙◌, sym, subst, arith}
-use Rattle.std.specs.Prelude.{Ok, Err}
+use Rattle.std.proofs.Common.{◌≡◌, ◌≢◌, ℕ, ◌+◌, Bool, true, false, List, [], ◌∷◌, ◌++◌, length, drop, refl, ap, ◌∙◌, sym, subst, arith}
 use Rattle.std.proofs.lemmas.List.{length-append, take-append-le}
-use Rattle.bt_json.specs.Json.{Json}
 use Rattle.bt_json.specs.Grammar.{◌▸◌, Blanks, IsValue}
-use Rattle.bt_json.specs.Answers.{IsFront, IsRead}
-use Rattle.bt_json.specs.Longer.{EndsAnyhow, ValueStays, FaultStays}
+use Rattle.bt_json.specs.Longer.{ValueStays, FaultStays}
 use Rattle.bt_json.specs.inner.Reading.{State, Step, go, stop, Stop, found, bad, deep, twice, step, run, after_step, finish, finish_number, may_end, Frame, Numeral, due, in_number, reading}
 use Rattle.bt_json.specs.declared.fault.JsonFault.{JsonFault}
 use Rattle.bt_json.specs.declared.fault.JsonFault.TheVariants as faults
