@@ -1,7 +1,7 @@
 //! `layout`: a layout of a request, or the evidence that there is none.
 ghost use Rattle.std.specs.Prelude.{◌≡◌, alloc_error};
 ghost use Rattle.bt_answers.specs.Answers.{UnlessMemory};
-ghost use Rattle.bt_model.specs.Requests.{IsGrid};
+ghost use Rattle.bt_model.specs.Requests.{IsGrid, IsRequest};
 ghost use Rattle.bt_top.specs.LayingOut.{IsLaidOut, IsLaidOutFrom, layout_told};
 
 use crate::answer::{Answer, refused};
@@ -37,10 +37,9 @@ fn laid_out_of(
     request: &Request,
     choosers: Vec<Box<dyn Chooser>>,
 ) -> Result<Answer, AllocError>
+    requires { IsRequest request.now }
     ensures { UnlessMemory alloc_error (IsLaidOut learnt request.now) result }
 {
-    // The network tells a proof that the request is one.
-    let _ = request.net();
     match layout(alloc, request, learnt, choosers) {
         Ok(found) => Ok(layout_told(found)),
         Err(_) => Err(AllocError),

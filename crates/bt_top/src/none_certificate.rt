@@ -1,7 +1,7 @@
 //! `check-layout`: whether the certificate behind a request shows that no layout lays it.
 ghost use Rattle.std.specs.Prelude.{◌≡◌, ◌≤◌, ℕ, List, IfSome, MatchOption, alloc_error, length};
 ghost use Rattle.bt_answers.specs.Answers.{UnlessMemory};
-ghost use Rattle.bt_model.specs.Requests.{IsGrid};
+ghost use Rattle.bt_model.specs.Requests.{IsGrid, IsRequest};
 ghost use Rattle.bt_top.specs.declared.input.TheConstants.{MOST_CHECKED};
 ghost use Rattle.bt_top.specs.NoneCertificates.{IsLayoutChecked, IsNoneCertificateChecked, IsNoneChecked};
 ghost use Rattle.bt_top.specs.NoneCertificates.{NoneIsAccepted, SaysNone};
@@ -39,7 +39,8 @@ pub fn layout_checked(
 
 /// The answer to what follows a request.
 fn check_certificate(alloc: Global, request: &Request, rest: &[u8]) -> Result<Answer, AllocError>
-    requires { length rest.now ≤ MOST_CHECKED }
+    requires request { IsRequest request.now }
+    requires short { length rest.now ≤ MOST_CHECKED }
     ensures { UnlessMemory alloc_error (IsNoneCertificateChecked request.now rest.now) result }
 {
     let text = skip_blanks(rest);
@@ -71,11 +72,10 @@ fn after_none(text: &[u8]) -> Option<&[u8]>
 
 /// The answer to the lines of a certificate's steps.
 fn check_steps(alloc: Global, request: &Request, lines: &[u8]) -> Result<Answer, AllocError>
-    requires { length lines.now ≤ MOST_CHECKED }
+    requires request { IsRequest request.now }
+    requires short { length lines.now ≤ MOST_CHECKED }
     ensures { UnlessMemory alloc_error (IsNoneChecked request.now lines.now) result }
 {
-    // The network tells a proof that the request is one.
-    let _ = request.net();
     let Ok(formula) = encode_place(alloc, request) else {
         return Err(AllocError);
     };

@@ -10,7 +10,7 @@ pub returns-in-Ok-check_log : goal.returns-in-Ok-check_log
 returns-in-Ok-check_log c =
     let told = log_told c.in-Ok.formula c.args.lines.now
     (record { before = Some c.new-source.result; after = Some c.check_log.new.source; faults = 0; faults_after = 0 }) (Ok tt) (ap Some c.new-source.ensures) refl refl c.in-Ok-check_log.ensures.checked in
-    none_told c.args.request.now c.args.lines.now c.net.ensures.request
+    none_told c.args.request.now c.args.lines.now c.requires.request
     (subst (λ f. IsCertRead f c.args.lines.now (Ok tt)) c.in-Ok.ensures.formula told)
 
 pub returns : goal.returns
