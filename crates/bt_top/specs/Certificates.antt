@@ -1,5 +1,5 @@
 -- What `check` answers: a design, blanks, and a certificate for the property or a written state in which it fails.
-use Rattle.std.specs.Prelude.{◌≡◌, ℕ, List, ◌++◌, ◌⊎◌, Result, Ok, Err, alloc_error, drop, codes}
+use Rattle.std.specs.Prelude.{◌≡◌, ℕ, List, ◌++◌, ◌⊎◌, Ok, Err, alloc_error, drop, codes}
 use Rattle.bt_text.specs.Blanks.{SkipsBlanks}
 use Rattle.bt_text.specs.Lines.{IsFirstLine}
 use Rattle.bt_net.specs.Network.{Network}

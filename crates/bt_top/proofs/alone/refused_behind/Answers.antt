@@ -1,4 +1,4 @@
-use Rattle.std.proofs.Common.{◌≡◌, ◌<◌, ℕ, List, length, drop, subst, arith}
+use Rattle.std.proofs.Common.{◌≡◌, ◌<◌, length, drop, subst, arith}
 use Rattle.bt_text.specs.Blanks.{SkipsBlanks}
 use Rattle.bt_top.proofs.Blanks.{nil_of}
 use Rattle.bt_top.proofs.alone.refused_behind.Goals as goal

@@ -1,4 +1,4 @@
-use Rattle.std.proofs.Common.{◌≡◌, refl, inl, Ok, Err, ap}
+use Rattle.std.proofs.Common.{refl, inl, Err, ap}
 use Rattle.bt_top.specs.Steps.{stopped, went_on}
 use Rattle.bt_top.proofs.request.request_for.Goals as goal
 
