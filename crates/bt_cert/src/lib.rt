@@ -4,8 +4,6 @@
 mod assumptions;
 mod check;
 mod checker;
-#[cfg(test)]
-mod checker_tests;
 mod fault;
 mod item;
 mod items;
@@ -17,8 +15,6 @@ mod line;
 mod reading;
 mod stage;
 mod step_line;
-#[cfg(test)]
-mod tests;
 mod units;
 mod written;
 

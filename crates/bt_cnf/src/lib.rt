@@ -5,8 +5,6 @@ mod chooser;
 mod formula;
 mod literal;
 mod row_place;
-#[cfg(test)]
-mod tests;
 
 pub use chooser::{Chooser, Pick};
 pub use formula::Formula;

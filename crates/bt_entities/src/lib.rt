@@ -12,5 +12,3 @@ pub use blueprint::{MOST_ENTITIES, parts_of};
 pub use fault::{EntityFault, EntityName, Member};
 pub use std::alloc::AllocError as Memory;
 
-#[cfg(test)]
-mod tests;

@@ -13,8 +13,6 @@ mod properties;
 mod rows;
 mod solution;
 mod splitters;
-#[cfg(test)]
-mod tests;
 
 pub use encoding::encode;
 pub use law::{

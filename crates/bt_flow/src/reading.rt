@@ -2,8 +2,6 @@
 mod item;
 mod line;
 mod list;
-#[cfg(test)]
-mod tests;
 
 ghost use Rattle.std.specs.Prelude.{◌≡◌, ℕ, List, IfOk, IfErr};
 ghost use Rattle.bt_answers.specs.Answers.{Answers};

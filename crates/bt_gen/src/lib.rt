@@ -5,8 +5,6 @@ mod butterflies;
 mod chains;
 mod fault;
 mod order;
-#[cfg(test)]
-mod tests;
 
 pub use butterflies::{MOST_STAGES, butterfly, one_splitter_has_a_line};
 pub use chains::{MOST_IN_CHAIN, chain};

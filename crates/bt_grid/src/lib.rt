@@ -10,5 +10,3 @@ pub use pairing::{PairFault, pairs};
 pub use partners::Pairs;
 pub use std::alloc::AllocError as Memory;
 
-#[cfg(test)]
-mod tests;

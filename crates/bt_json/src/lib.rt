@@ -22,5 +22,3 @@ pub use reader::read;
 pub use std::alloc::AllocError as Memory;
 pub use tree::Tree;
 
-#[cfg(test)]
-mod tests;

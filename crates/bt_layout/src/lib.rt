@@ -4,8 +4,6 @@
 mod law;
 mod outcome;
 mod searching;
-#[cfg(test)]
-mod tests;
 
 pub use law::{laid_is_read_back, nowhere_is_certificate, refuted_has_no_layout};
 pub use outcome::Layout;

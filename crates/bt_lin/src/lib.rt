@@ -9,8 +9,6 @@ mod places;
 mod running;
 mod runs;
 mod signs;
-#[cfg(test)]
-mod tests;
 mod values;
 mod weigher;
 mod weighing;

@@ -6,8 +6,6 @@ mod law;
 mod log;
 mod printing;
 mod step;
-#[cfg(test)]
-mod tests;
 mod word;
 
 pub use law::refuted_is_unmet;

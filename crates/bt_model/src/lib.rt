@@ -17,5 +17,3 @@ pub use plain::is_kind;
 pub use request::{MOST_ACROSS, MOST_REQUESTED, Request};
 pub use ringing::ring;
 
-#[cfg(test)]
-mod tests;

@@ -12,5 +12,3 @@ pub use part::{
 };
 pub use piece::{Layout, is_underground, other_end};
 
-#[cfg(test)]
-mod tests;

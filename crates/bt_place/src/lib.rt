@@ -19,8 +19,6 @@ mod pinning;
 mod ports;
 mod spots;
 mod standing;
-#[cfg(test)]
-mod tests;
 mod underground;
 mod writing;
 

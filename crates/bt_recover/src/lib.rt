@@ -19,5 +19,3 @@ pub use fault::RecoverFault;
 pub use recovery::{Traced, recover};
 pub use std::alloc::AllocError as Memory;
 
-#[cfg(test)]
-mod tests;

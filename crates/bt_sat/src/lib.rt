@@ -22,8 +22,6 @@ mod search;
 mod serving;
 mod side;
 mod solver;
-#[cfg(test)]
-mod tests;
 mod truth;
 mod turns;
 mod unset;

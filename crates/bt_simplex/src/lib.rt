@@ -18,8 +18,6 @@ mod short;
 mod starting;
 mod sums;
 mod tableau;
-#[cfg(test)]
-mod tests;
 mod trails;
 mod turning;
 

@@ -19,20 +19,3 @@ fn is_blank(byte: u8) -> bool
 {
     byte == b' ' || byte == b'\t' || byte == b'\n' || byte == b'\r'
 }
-
-#[cfg(test)]
-mod tests {
-    use super::*;
-
-    #[test]
-    fn blanks(rt: HostRuntime) {
-        for (text, rest) in [
-            (" \t\r\n yes P\n", "yes P\n"),
-            ("\x0b", "\x0b"),
-            (" \n\n", ""),
-            ("", ""),
-        ] {
-            assert!(rt; skip_blanks(text.as_bytes()) == rest.as_bytes());
-        }
-    }
-}

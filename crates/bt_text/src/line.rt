@@ -31,21 +31,3 @@ pub fn line_feeds(text: &[u8]) -> usize
 {
     text.iter().filter(|byte| **byte == b'\n').count()
 }
-
-#[cfg(test)]
-mod tests {
-    use super::*;
-
-    #[test]
-    fn lines(rt: HostRuntime) {
-        for (text, line, rest) in [
-            ("net 1 1 0\nend", "net 1 1 0", "end"),
-            ("end", "end", ""),
-            ("\n", "", ""),
-            ("", "", ""),
-        ] {
-            let read = first_line(text.as_bytes());
-            assert!(rt; read == (line.as_bytes(), rest.as_bytes()));
-        }
-    }
-}

@@ -34,21 +34,3 @@ pub fn after_word<'a>(text: &'a [u8], word: &[u8]) -> Option<&'a [u8]>
 {
     text.strip_prefix(word)
 }
-
-#[cfg(test)]
-mod tests {
-    use super::*;
-
-    #[test]
-    fn pieces(rt: HostRuntime) {
-        for (text, piece) in [
-            (" 1/2 3", Some((b"1/2".as_slice(), b" 3".as_slice()))),
-            (" 3", Some((b"3".as_slice(), b"".as_slice()))),
-            (" ", Some((b"".as_slice(), b"".as_slice()))),
-            ("3", None),
-            ("", None),
-        ] {
-            assert!(rt; next_piece(text.as_bytes(), b' ') == piece);
-        }
-    }
-}

@@ -12,21 +12,3 @@ pub fn whole_lines(text: &[u8]) -> &[u8]
         None => &text[..0],
     }
 }
-
-#[cfg(test)]
-mod tests {
-    use super::*;
-
-    #[test]
-    fn wholes(rt: HostRuntime) {
-        for (text, lines) in [
-            ("a\nb\nc", "a\nb\n"),
-            ("a\n", "a\n"),
-            ("\n", "\n"),
-            ("a", ""),
-            ("", ""),
-        ] {
-            assert!(rt; whole_lines(text.as_bytes()) == lines.as_bytes());
-        }
-    }
-}

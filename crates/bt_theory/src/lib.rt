@@ -8,8 +8,6 @@ mod lemma;
 mod outcome;
 mod round;
 mod solving;
-#[cfg(test)]
-mod tests;
 
 pub use outcome::{Limits, Outcome};
 pub use solving::solve;

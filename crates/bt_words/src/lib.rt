@@ -9,8 +9,6 @@ mod command;
 mod given;
 mod grid;
 mod number;
-#[cfg(test)]
-mod tests;
 mod verb;
 
 pub use argument::{MOST_LEARNT, MOST_ORDER, MOST_PIVOTS};

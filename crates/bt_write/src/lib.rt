@@ -5,8 +5,6 @@ mod blueprint;
 mod entity;
 mod laws;
 mod number;
-#[cfg(test)]
-mod tests;
 
 pub use blueprint::text_of;
 pub use laws::written_is_read;

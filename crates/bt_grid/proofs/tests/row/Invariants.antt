@@ -1,5 +1,0 @@
-use Rattle.bt_parts.specs.Layouts.{AreInRange}
-use Rattle.bt_grid.proofs.tests.row.Given as goal
-
-abbrev pub invariant-loop-kind : goal.invariant-loop-kind
-invariant-loop-kind l = AreInRange l.parts.items
