@@ -13,7 +13,7 @@ use Rattle.bt_top.specs.Answers.{text_of}
 use Rattle.bt_top.specs.Inputs.{IsUntouched, ReadsInput}
 use Rattle.bt_top.specs.inner.Lines.{IsLine}
 use Rattle.bt_top.specs.Answering.{IsRightTo}
-use Rattle.bt_top.specs.Endings.{IsRight, IsTold, status_after}
+use Rattle.bt_top.specs.Endings.{IsRight, IsTold}
 
 -- a command's right answer to all bytes of the source, or why it has none: the source failed, is too long, or memory ran out
 abbrev pub IsAnswered : Command → Passage → Result Answer ReadAll → Type 0

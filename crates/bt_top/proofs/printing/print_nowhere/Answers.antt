@@ -1,4 +1,3 @@
-use Rattle.std.proofs.Common.{◌++◌}
 use Rattle.std.proofs.lemmas.Result.{err_from_is_err_and}
 use Rattle.bt_text.specs.Lines.{line}
 use Rattle.bt_io.specs.Passages.{passage}

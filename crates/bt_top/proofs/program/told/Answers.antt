@@ -1,4 +1,4 @@
-use Rattle.std.proofs.Common.{◌≡◌, inl, subst, ap, ◌∙◌}
+use Rattle.std.proofs.Common.{inl, subst, ap, ◌∙◌}
 use Rattle.bt_io.specs.Passages.{passage}
 use Rattle.bt_top.specs.Endings.{status_after}
 use Rattle.bt_top.specs.inner.Telling.{IsLineTold}
