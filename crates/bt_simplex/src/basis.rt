@@ -311,7 +311,7 @@ fn sign_in(
 fn copied_lines(alloc: Global, lines: &[Option<Line>]) -> Result<Vec<Option<Line>>, AllocError>
     ensures { IfOk result (λ v. v.items ≡ lines.now) }
 {
-    let mut copies = Vec::new(alloc);
+    let mut copies = Vec::with_capacity(alloc, lines.len())?;
     for line in lines {
         let copy = copied_line(alloc, line)?;
         copies.push(copy)?;
