@@ -1,23 +1,21 @@
 -- The slots of classes' members, and how a turn changes them.
-use Rattle.std.proofs.Common.{◌≡◌, ◌≢◌, ℕ, zero, suc, ◌+◌, ◌-◌, ◌^◌, ◌<◌, ◌≤◌, arith, Bool, true, false, if◌then◌else◌, ◌==◌, List, [], ◌∷◌, ◌++◌, length, set, length-set, length-append, get_or, Option, Some, None, ap, sym, ◌∙◌, refl, subst, ◌⊎◌, inl, inr}
-use Rattle.std.specs.List.{All}
+use Rattle.std.proofs.Common.{◌≡◌, ◌≢◌, ℕ, zero, suc, ◌+◌, ◌-◌, ◌^◌, ◌<◌, ◌≤◌, arith, Bool, true, false, if◌then◌else◌, ◌==◌, List, [], ◌∷◌, ◌++◌, length, set, length-set, get_or, Option, Some, None, ap, sym, ◌∙◌, refl, subst, inl, inr}
 use Rattle.std.proofs.lemmas.Bool.{cases_lt}
 use Rattle.std.proofs.lemmas.Bool.Decides.{nat_tests}
 use Rattle.std.proofs.lemmas.List.{get_or_default, get_or_past, get_or-set_same, get_or-set_other}
 use Rattle.std.proofs.lemmas.List.Elements.{All-cons, All-nil}
 use Rattle.bt_frac.specs.Ratio.{Ratio, negated}
 use Rattle.bt_lin.specs.WeightedRows.{coefficient_at}
-use Rattle.bt_simplex.specs.Lines.{one, Terms, HasNumber, IsLine, IsCombination}
-use Rattle.bt_simplex.specs.Classes.{signed_terms, differ, member_at, position_at, class_terms, is_outside, slot_by, slot_of, slots_from, slots_of, AreClasses}
-use Rattle.bt_simplex.specs.SolvedForms.{Slots, slot_at, basis_of}
+use Rattle.bt_simplex.specs.Lines.{one, Terms, HasNumber}
+use Rattle.bt_simplex.specs.Classes.{signed_terms, differ, member_at, position_at, class_terms, slot_by, slot_of, slots_from, slots_of, AreClasses}
+use Rattle.bt_simplex.specs.SolvedForms.{Slots, slot_at}
 use Rattle.bt_simplex.specs.declared.basis.Member.{Member}
 use Rattle.bt_simplex.specs.declared.causes.Cause.{Cause}
-use Rattle.bt_simplex.specs.inner.TurnedSlots.{AreLines, IsZeroLine, IsSubstituted, AreSubstituted, with_line, IsEntering, IsTurned}
-use Rattle.bt_simplex.specs.inner.UnfitTurns.{AreAlike, HaveSameBasis, IsSlotZero, IsUnfitLine, IsUnfitTurn, entry_cause}
-use Rattle.bt_simplex.specs.Causes.{IsNone, IsEntryStep}
+use Rattle.bt_simplex.specs.inner.TurnedSlots.{AreLines, IsSubstituted, AreSubstituted, with_line, IsEntering, IsTurned}
+use Rattle.bt_simplex.specs.inner.UnfitTurns.{AreAlike, IsSlotZero, IsUnfitLine, IsUnfitTurn, entry_cause}
 use Rattle.bt_simplex.proofs.Entering.{number_later}
 use Rattle.bt_simplex.proofs.Indicators.{decide}
-use Rattle.bt_simplex.proofs.SignedLines.{negated_none, signed_signed, substituted_signed, leaving_substituted, entering_substituted, substituted_entering, alone_line}
+use Rattle.bt_simplex.proofs.SignedLines.{signed_signed, substituted_signed, leaving_substituted, entering_substituted, substituted_entering}
 use Rattle.bt_simplex.proofs.UnfitTurns.{basis_same, slot_unfit}
 use Rattle.bt_simplex.proofs.Zeros.{one_number}
 

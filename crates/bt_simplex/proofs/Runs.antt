@@ -14,7 +14,6 @@ use Rattle.bt_simplex.specs.Causes.{IsStepAt, IsCause}
 use Rattle.bt_simplex.specs.declared.causes.Cause.{Cause}
 use Rattle.bt_simplex.specs.inner.UnfitTurns.{CanPart, IsUnfitTurn}
 use Rattle.bt_simplex.proofs.Zeros.{named_has}
-use Rattle.bt_simplex.specs.Lines.{Terms}
 use Rattle.bt_simplex.specs.inner.Runs.{IsAt, IsMade, IsEnd, IsRun}
 use Rattle.bt_simplex.specs.declared.running.End.{End}
 use Rattle.bt_simplex.specs.declared.running.End.TheVariants.{Met, Stuck, Pivots, Wide}

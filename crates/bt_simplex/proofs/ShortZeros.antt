@@ -1,5 +1,5 @@
 -- The lines that a turn forms of short lines.
-use Rattle.std.proofs.Common.{FitsSigned, lit<, ◌≡◌, ◌≢◌, ℕ, ◌+◌, ◌-◌, ◌*◌, ◌/◌, ◌^◌, ◌<◌, ◌≤◌, arith, ℤ, pos, negsuc, neg_ℤ, ◌*ℤ◌, ◌+ℤ◌, ◌-ℤ◌, ◌<ℤ◌, unsigned_abs, List, [], ◌∷◌, ◌++◌, length, take, get_or, Option, Some, None, Result, Ok, Err, IfOk, IfSome, ap, sym, ◌∙◌, refl, subst}
+use Rattle.std.proofs.Common.{FitsSigned, lit<, ◌≡◌, ◌≢◌, ℕ, ◌+◌, ◌-◌, ◌*◌, ◌/◌, ◌^◌, ◌<◌, arith, ℤ, pos, neg_ℤ, ◌*ℤ◌, ◌-ℤ◌, unsigned_abs, [], ◌∷◌, ◌++◌, length, take, get_or, Option, Some, None, Result, Ok, Err, IfOk, IfSome, ap, sym, ◌∙◌, refl, subst}
 use Rattle.std.specs.List.{All}
 use Rattle.std.proofs.lemmas.Int.{ints, fits_signed_from_abs}
 use Rattle.std.proofs.lemmas.List.{length-map, get_or-map}
@@ -8,7 +8,7 @@ use Rattle.std.proofs.lemmas.Nat.Gcd.{dvd_trans}
 use Rattle.std.specs.Int.{w64, IsGcd}
 use Rattle.std.proofs.Math.Nat.{div-mul_cancel, mul_comm}
 use Prim.Native.Nat.{◌∣◌}
-use Rattle.bt_frac.specs.Ratio.{Ratio, SameRatio, IsLowest, IsOver, FitsPart, negated}
+use Rattle.bt_frac.specs.Ratio.{Ratio, SameRatio, IsOver, FitsPart, negated}
 use Rattle.bt_frac.specs.Products.{IsDivision}
 use Rattle.bt_frac.specs.Values.{times}
 use Rattle.bt_frac.proofs.Gcds.{quotient_positive}
@@ -18,9 +18,9 @@ use Rattle.bt_simplex.specs.Lines.{one, Terms, HasNumber, IsLine, IsCombination}
 use Rattle.bt_simplex.specs.inner.Shorts.{Numbers, reduced, terms_over, IsSmall, IsShort, whole_at}
 use Rattle.bt_simplex.specs.inner.ShortSteps.{AreScales, IsShortSum}
 use Rattle.bt_simplex.specs.inner.TurnedSlots.{IsZeroLine, IsEntering}
-use Rattle.bt_simplex.proofs.Numbers.{Positive, Alike, alike, back, next, both_times, times_positive}
+use Rattle.bt_simplex.proofs.Numbers.{alike, back, next, both_times, times_positive}
 use Rattle.bt_simplex.proofs.Shorts.{reduced_lowest, reduced_over, reduced_only, reduced_number, reduced_negated, number_is, common_positive, AreOver, are_over_more}
-use Rattle.bt_simplex.proofs.ShortWalks.{whole_over, reduced_alike, zero_reduced}
+use Rattle.bt_simplex.proofs.ShortWalks.{whole_over, reduced_alike}
 use Rattle.bt_simplex.proofs.Zeros.{one_some, one_lowest}
 
 -- the greatest common divisor with one more number

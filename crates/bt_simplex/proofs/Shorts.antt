@@ -1,5 +1,5 @@
 -- The fractions in lowest terms that whole numbers over a denominator stand for.
-use Rattle.std.proofs.Common.{◌≡◌, ◌≢◌, ℕ, ◌+◌, ◌*◌, ◌/◌, ◌%◌, ◌^◌, ◌<◌, ◌≤◌, ◌==◌, zero, suc, arith, ℤ, pos, negsuc, neg_ℤ, ◌*ℤ◌, ◌+ℤ◌, ◌<ℤ◌, ◌↔◌, unsigned_abs, List, [], ◌∷◌, Bool, true, false, IsTrue, if◌then◌else◌, Option, Some, None, ap, sym, ◌∙◌, refl, subst, ◌++◌}
+use Rattle.std.proofs.Common.{◌≡◌, ◌≢◌, ℕ, ◌+◌, ◌*◌, ◌/◌, ◌%◌, ◌^◌, ◌<◌, ◌≤◌, ◌==◌, zero, suc, arith, ℤ, pos, negsuc, neg_ℤ, ◌*ℤ◌, ◌<ℤ◌, ◌↔◌, unsigned_abs, [], ◌∷◌, Bool, true, false, IsTrue, if◌then◌else◌, Option, Some, None, ap, sym, ◌∙◌, refl, subst, ◌++◌}
 use Rattle.std.proofs.Common.{length, get_or, take, IfSome}
 use Rattle.std.specs.Option.{option_map}
 use Rattle.std.specs.Int.{IsGcd}
@@ -14,7 +14,7 @@ use Rattle.std.proofs.Math.IntN.{zero-*ℤ}
 use Rattle.std.proofs.lemmas.Nat.{mul-lt}
 use Rattle.std.proofs.Math.Nat.{div-mul_cancel, dvd-mul_right, mul_assoc}
 use Prim.Native.Nat.{◌∣◌}
-use Rattle.bt_frac.specs.Ratio.{Ratio, SameRatio, IsLowest, IsOver, IsQuotient, FitsPart, negated}
+use Rattle.bt_frac.specs.Ratio.{Ratio, IsLowest, IsOver, IsQuotient, FitsPart, negated}
 use Rattle.bt_frac.proofs.Euclid.{over_unique}
 use Rattle.bt_frac.proofs.Gcds.{gcd_positive, lowest, quotient_positive, quotient_product, quotient_size}
 use Rattle.bt_frac.proofs.Order.{mul_cancel}

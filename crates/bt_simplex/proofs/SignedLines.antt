@@ -1,9 +1,9 @@
 -- Lines with the other sign.
-use Rattle.std.proofs.Common.{◌≡◌, ◌≢◌, ℕ, ◌+◌, ◌-◌, ◌^◌, ◌<◌, arith, pos, ℤ, neg_ℤ, Bool, true, false, if◌then◌else◌, ◌==◌, [], ◌∷◌, Option, Some, None, ap, sym, ◌∙◌, refl, subst, inl, inr}
+use Rattle.std.proofs.Common.{◌≡◌, ◌≢◌, ℕ, ◌+◌, ◌-◌, ◌^◌, ◌<◌, arith, pos, ℤ, neg_ℤ, Bool, true, false, [], ◌∷◌, Some, None, ap, sym, ◌∙◌, refl, subst, inl, inr}
 use Rattle.std.specs.List.{All}
 use Rattle.std.proofs.lemmas.Int.{ints}
 use Rattle.std.proofs.lemmas.List.Elements.{All-head, All-tail, All-cons, All-nil}
-use Rattle.bt_frac.specs.Ratio.{Ratio, SameRatio, IsLowest, negated}
+use Rattle.bt_frac.specs.Ratio.{Ratio, negated}
 use Rattle.bt_frac.specs.Values.{AreValues, nothing, plus, times}
 use Rattle.bt_lin.specs.WeightedRows.{coefficient_at}
 use Rattle.bt_simplex.specs.Lines.{one, Terms, HasNumber, IsLineFrom, IsLine, IsCombination, total}
@@ -12,7 +12,7 @@ use Rattle.bt_simplex.specs.inner.TurnedSlots.{IsZeroLine, IsSubstituted, IsEnte
 use Rattle.bt_simplex.proofs.Entering.{number_here, number_later}
 use Rattle.bt_simplex.proofs.Indicators.{decide, number_has}
 use Rattle.bt_simplex.proofs.Meeting.{negated_plus}
-use Rattle.bt_simplex.proofs.Numbers.{Positive, nothing_some, Alike, alike, itself, back, next, both_plus, both_times, swap_plus, swap_times, group_times, spread, drop_zero, turn_plus, plus_positive, times_positive, differ_none, negated_times}
+use Rattle.bt_simplex.proofs.Numbers.{Positive, nothing_some, Alike, itself, back, next, both_plus, both_times, swap_plus, swap_times, group_times, spread, drop_zero, turn_plus, plus_positive, times_positive, differ_none, negated_times}
 use Rattle.bt_simplex.proofs.Shares.{negated_twice, negated_low}
 use Rattle.bt_simplex.proofs.Totals.{total_positive, rest_line}
 use Rattle.bt_simplex.proofs.Zeros.{one_some, one_term, one_times, one_number, share_is, share_some, negated_alike, combined_alike}

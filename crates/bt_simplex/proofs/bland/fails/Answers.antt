@@ -1,4 +1,3 @@
-use Rattle.std.proofs.lemmas.Result.{err_from_is_err_and}
 use Rattle.bt_simplex.specs.inner.Bases.{with_slots}
 use Rattle.bt_simplex.proofs.Failing.{fails_told}
 use Rattle.bt_simplex.proofs.bland.fails.Goals as goal

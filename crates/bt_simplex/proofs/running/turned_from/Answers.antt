@@ -1,4 +1,4 @@
-use Rattle.std.proofs.Common.{◌+◌, ◌≤◌, ◌∙◌, IfOk, IfErr, arith, length, subst, sym}
+use Rattle.std.proofs.Common.{◌+◌, ◌≤◌, IfOk, IfErr, arith, length, subst, sym}
 use Rattle.bt_simplex.specs.Turns.{Follows}
 use Rattle.bt_simplex.specs.inner.Bases.{with_slots, IsNext}
 use Rattle.bt_simplex.specs.inner.Runs.{IsMade}

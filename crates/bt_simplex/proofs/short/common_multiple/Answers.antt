@@ -1,5 +1,3 @@
-use Rattle.std.proofs.Common.{◌≡◌, ◌<◌, ◌*◌, ◌/◌, ap, sym, ◌∙◌, subst}
-use Rattle.bt_simplex.specs.inner.Shorts.{Divides}
 use Rattle.bt_simplex.proofs.Shorts.{common_positive, multiple_positive, multiple_second}
 use Rattle.bt_simplex.proofs.short.common_multiple.Goals as goal
 

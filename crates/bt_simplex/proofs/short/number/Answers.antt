@@ -1,7 +1,6 @@
-use Rattle.std.proofs.Common.{FitsSigned, rules, arith, unsigned_abs, ◌<◌, ◌^◌}
+use Rattle.std.proofs.Common.{FitsSigned, rules, arith}
 use Rattle.std.specs.Int.{w128}
 use Rattle.std.proofs.lemmas.Int.{to_z-of_z, ints}
-use Rattle.bt_frac.specs.Ratio.{FitsPart}
 use Rattle.bt_simplex.proofs.Shorts.{found_is, is_found}
 use Rattle.bt_simplex.proofs.short.number.Goals as goal
 

@@ -1,4 +1,4 @@
-use Rattle.std.proofs.Common.{FitsSigned, rules, ◌≡◌, ◌*ℤ◌, ◌/◌, pos, ap, sym, ◌∙◌, subst}
+use Rattle.std.proofs.Common.{FitsSigned, rules, ◌≡◌, ◌*ℤ◌, ◌/◌, pos, ap, ◌∙◌, subst}
 use Rattle.std.specs.Int.{w64, w128}
 use Rattle.std.proofs.lemmas.Int.{to_z-of_z}
 use Rattle.bt_simplex.specs.inner.Shorts.{reduced, IsSmall}

@@ -1,4 +1,4 @@
-use Rattle.std.proofs.Common.{FitsSigned, rules, arith, ◌≡◌, ◌<◌, ◌+◌, ◌*ℤ◌, ◌+ℤ◌, length, drop}
+use Rattle.std.proofs.Common.{FitsSigned, rules, arith, ◌≡◌, ◌<◌, ◌+◌, drop}
 use Rattle.std.specs.Int.{w64}
 use Rattle.std.proofs.lemmas.Int.{to_z-of_z}
 use Rattle.bt_simplex.proofs.ShortWalks.{left_step, right_step, both_step, begins_at}

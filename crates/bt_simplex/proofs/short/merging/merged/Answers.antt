@@ -1,4 +1,4 @@
-use Rattle.std.proofs.Common.{FitsSigned, rules, arith, ◌≡◌, ◌≢◌, ◌≤◌, pos, [], length, drop, ◌+◌, sym, ap, ◌∙◌, subst, true, false}
+use Rattle.std.proofs.Common.{FitsSigned, rules, arith, ◌≡◌, ◌≢◌, ◌≤◌, pos, length, drop, ◌+◌, sym, subst}
 use Rattle.std.specs.Int.{w64}
 use Rattle.std.proofs.lemmas.Int.{to_z-of_z, ints}
 use Rattle.std.proofs.lemmas.List.{drop_all}

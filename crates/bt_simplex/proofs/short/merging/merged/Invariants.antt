@@ -1,4 +1,4 @@
-use Rattle.std.proofs.Common.{◌+◌, ◌-◌, ◌<◌, ◌≤◌, length, drop, vec_len, vec_capacity}
+use Rattle.std.proofs.Common.{◌+◌, ◌-◌, ◌<◌, ◌≤◌, length, vec_len, vec_capacity}
 use Rattle.bt_simplex.proofs.ShortWalks.{IsShortMerge}
 use Rattle.bt_simplex.proofs.short.merging.merged.Given as goal
 

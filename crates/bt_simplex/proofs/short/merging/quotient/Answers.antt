@@ -1,4 +1,4 @@
-use Rattle.std.proofs.Common.{FitsSigned, rules, arith, ◌≡◌, ◌<◌, ◌^◌, ◌/◌, ◌-ℤ◌, ◌<ℤ◌, ◌≤ℤ◌, pos, ap, ◌∙◌, unsigned_abs}
+use Rattle.std.proofs.Common.{FitsSigned, rules, arith, ◌≡◌, ◌<◌, ◌^◌, ◌/◌, ◌<ℤ◌, ◌≤ℤ◌, pos, ap, ◌∙◌, unsigned_abs}
 use Rattle.std.specs.Int.{w64}
 use Rattle.std.proofs.lemmas.Int.{to_z-of_z, ints}
 use Rattle.bt_simplex.proofs.ShortWalks.{quotient_below, quotient_above, opposite_fits}

@@ -1,6 +1,6 @@
-use Rattle.std.proofs.Common.{FitsSigned, rules, arith, ◌≡◌, ◌*◌, ◌/◌, pos, ap, sym, ◌∙◌, subst, unsigned_abs}
-use Rattle.std.specs.Int.{w64, IsGcd}
-use Rattle.std.proofs.lemmas.Int.{to_z-of_z, ints}
+use Rattle.std.proofs.Common.{FitsSigned, rules, arith, ◌≡◌, ◌*◌, ◌/◌, ap, ◌∙◌}
+use Rattle.std.specs.Int.{w64}
+use Rattle.std.proofs.lemmas.Int.{to_z-of_z}
 use Rattle.bt_simplex.proofs.Shorts.{common_positive}
 use Rattle.bt_simplex.proofs.ShortWalks.{scales_are}
 use Rattle.bt_simplex.proofs.short.merging.scales_of.Goals as goal

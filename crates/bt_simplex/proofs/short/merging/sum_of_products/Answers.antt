@@ -1,4 +1,4 @@
-use Rattle.std.proofs.Common.{FitsSigned, rules, unsigned_abs, ◌<◌, ◌≡◌, ◌+ℤ◌, ◌*ℤ◌, ◌^◌, ℤ, arith, ap, ◌∙◌}
+use Rattle.std.proofs.Common.{FitsSigned, rules, unsigned_abs, ◌<◌, ◌+ℤ◌, ◌*ℤ◌, ◌^◌, ℤ, arith, ap, ◌∙◌}
 use Rattle.std.specs.Int.{w64}
 use Rattle.std.proofs.lemmas.Int.{to_z-of_z, ints, fits_signed_from_abs}
 use Rattle.bt_simplex.proofs.ShortWalks.{product_below}

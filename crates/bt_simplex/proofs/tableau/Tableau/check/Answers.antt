@@ -1,6 +1,6 @@
 use Rattle.std.proofs.Common.{sym, subst, ◌∙◌, ap, IfOk}
-use Rattle.bt_simplex.specs.Turns.{IsMet, IsStuckAt}
-use Rattle.bt_simplex.specs.Tableaus.{TableauParts, IsTableau}
+use Rattle.bt_simplex.specs.Turns.{IsMet}
+use Rattle.bt_simplex.specs.Tableaus.{TableauParts}
 use Rattle.bt_simplex.specs.Runs.{LeadsTo}
 use Rattle.bt_simplex.specs.Checks.{MeetsBoundRows}
 use Rattle.bt_simplex.specs.inner.Bases.{with_slots}
