@@ -11,4 +11,3 @@ mod shift;
 pub use blueprint::{MOST_ENTITIES, parts_of};
 pub use fault::{EntityFault, EntityName, Member};
 pub use std::alloc::AllocError as Memory;
-

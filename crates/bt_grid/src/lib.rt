@@ -9,4 +9,3 @@ pub use grid::{Grid, GridFault};
 pub use pairing::{PairFault, pairs};
 pub use partners::Pairs;
 pub use std::alloc::AllocError as Memory;
-

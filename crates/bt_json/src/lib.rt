@@ -21,4 +21,3 @@ pub use limits::{MOST_EXPONENT, MOST_HALVES, MOST_LEVELS};
 pub use reader::read;
 pub use std::alloc::AllocError as Memory;
 pub use tree::Tree;
-

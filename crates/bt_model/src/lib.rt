@@ -16,4 +16,3 @@ pub use laws::{numbered_shows, one_network};
 pub use plain::is_kind;
 pub use request::{MOST_ACROSS, MOST_REQUESTED, Request};
 pub use ringing::ring;
-

@@ -11,4 +11,3 @@ pub use part::{
     Cell, Dir, Kind, MOST_COORDINATE, Part, Rect, Side, Tier, back, cells_of, front, inside,
 };
 pub use piece::{Layout, is_underground, other_end};
-

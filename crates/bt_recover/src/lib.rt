@@ -18,4 +18,3 @@ mod speeds;
 pub use fault::RecoverFault;
 pub use recovery::{Traced, recover};
 pub use std::alloc::AllocError as Memory;
-
