@@ -73,6 +73,14 @@ impl<T, K> Arena<T, K> {
             None
         }
     }
+
+    /// The id of the item at a place.
+    pub fn id_of(&self, place: usize) -> Id<K>
+        requires { place < length self.now }
+        ensures { result ≡ place }
+    {
+        Id::new(place)
+    }
 }
 
 impl<T: Drop, K> Arena<T, K> {

@@ -106,6 +106,14 @@ impl<T: Copy, K> Pool<T, K> {
         }
     }
 
+    /// The id of the list at a place.
+    pub fn id_of(&self, place: usize) -> Id<K>
+        requires { place < length self.now }
+        ensures { result ≡ place }
+    {
+        Id::new(place)
+    }
+
     /// Appends a list, and gives its id.
     pub fn add_slice(&mut self, items: &[T]) -> Result<Id<K>, AllocError>
         ensures added { Answers alloc_error (IsAdded self.old items.now) (seen (with_id self.new) result) }
