@@ -10,7 +10,7 @@ use Rattle.bt_log.specs.Validity.{clause_at}
 use Rattle.bt_sat.specs.declared.analysis.Cut.{Cut}
 use Rattle.bt_sat.specs.declared.search.Search.{Search}
 use Rattle.bt_sat.specs.inner.Agendas.{IsGreatest}
-use Rattle.bt_sat.specs.inner.Analysing.{false_at, falses_at, IsNoted, Notes, IsUnderway, IsDerived, IsLevelled, IsGrounded, IsTracing, IsTaken, IsTraced, IsLearnable}
+use Rattle.bt_sat.specs.inner.Analysing.{false_at, falses_at, IsNoted, Notes, IsUnderway, IsDerived, IsLevelled, IsGrounded, IsTracing, IsTaken, IsTraced, MayTrace, IsLearnable}
 use Rattle.bt_sat.specs.inner.Attending.{no_lit}
 use Rattle.bt_sat.specs.inner.Levels.{start_of, IsOrdered}
 use Rattle.bt_sat.specs.inner.Reasons.{lit_at, IsReason}
@@ -206,7 +206,7 @@ module _ (all : List (List Lit)) (s : Search) (ordered : IsOrdered all s) where
         descend = taken.tracing.derived.descend;
       }
 
-      pub resolved_cuts : IsTraced cut agenda place → IsGrounded s now picked ⊎ IsLevelled s cut now picked
+      pub resolved_cuts : MayTrace cut agenda place → IsGrounded s now picked ⊎ IsLevelled s cut now picked
       resolved_cuts traced = elim taken.tracing.cuts [
         | inl ground ↦ inl (record {
           none = ground.none;
@@ -217,14 +217,18 @@ module _ (all : List (List Lit)) (s : Search) (ordered : IsOrdered all s) where
           within = is.within;
           current = is.current;
           under = λ k among. omega (arith, now_before k among, is.under place taken.takes.0.0);
-          none = λ e. elim traced [
-            | inl low ↦
-                let (k, among, high) = is.none e in
-                let top = taken.takes.0.1 k among in
-                let order = root_below cut is.level is.within taken.tracing.root is.current in
-                absurd (omega (arith, low, high, top, order))
-            | inr (high, (k, among, reached)) ↦ (k, (notes k).1 (inl among), reached)
-          ];
+          none = λ e.
+              let (k, among, high) = is.none e in
+              let top = taken.takes.0.1 k among in
+              elim traced [
+                | inl has ↦ elim has [
+                  | inl low ↦
+                      let order = root_below cut is.level is.within taken.tracing.root is.current in
+                      absurd (omega (arith, low, high, top, order))
+                  | inr (above, (i, waits, reached)) ↦ (i, (notes i).1 (inl waits), reached)
+                ]
+                | inr low ↦ absurd (omega (arith, low, high, top))
+              ];
           first = is.first;
           rest = is.rest;
           left = λ some k among. omega (arith, now_before k among, is.left some place taken.takes.0.0);

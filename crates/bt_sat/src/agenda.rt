@@ -1,5 +1,5 @@
 //! Places of the trail that are to be dealt with, the greatest first.
-ghost use Rattle.std.specs.Prelude.{◌≡◌, [], true, false, slice_index_or, slice_set, IfOk, OnOk, IsTrue, ◌↔◌};
+ghost use Rattle.std.specs.Prelude.{◌≡◌, [], true, false, slice_index_or, slice_set, IfOk, OnOk, IsTrue, Contains, ◌↔◌};
 ghost use Rattle.std.specs.BinaryHeap.{heap_items, IsHeap};
 ghost use Rattle.std.specs.Ordering.{nat_cmp};
 ghost use Rattle.bt_sat.specs.inner.Agendas.{Adds, AreMarked, IsGreatest, NoneMarked, Reaches, Takes};
@@ -52,6 +52,13 @@ impl Agenda {
         ensures { OnOk result (Adds self.old place self.new) }
     {
         add_new(&mut self.heap, &mut self.marks, place)
+    }
+
+    /// Whether a place is known to be on the agenda.
+    pub fn has(&self, place: usize) -> bool
+        ensures { IsTrue result → Contains self.now place }
+    {
+        is_marked(&self.marks, place)
     }
 
     /// The greatest place, where there is one.

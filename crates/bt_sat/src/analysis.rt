@@ -1,7 +1,7 @@
 //! Tracing a conflict back to the clause that is learnt from it.
-ghost use Rattle.std.specs.Prelude.{◌≡◌, ◌<◌, ℕ, length, Contains, IfOk, OnOk};
+ghost use Rattle.std.specs.Prelude.{◌≡◌, ◌<◌, ◌↔◌, ℕ, length, Contains, IfOk, OnOk, IsTrue};
 ghost use Rattle.std.specs.List.{All};
-ghost use Rattle.bt_sat.specs.inner.Analysing.{IsCut, IsLearnable, IsReasonFor, IsTaken, IsTopLevel, IsTracing, Notes};
+ghost use Rattle.bt_sat.specs.inner.Analysing.{IsCut, IsLearnable, IsReasonFor, IsTaken, IsTopLevel, IsTraced, IsTracing, Notes};
 ghost use Rattle.bt_sat.specs.inner.Known.{clauses_in};
 ghost use Rattle.bt_sat.specs.inner.Levels.{AreLevels, IsInConflict, IsOrdered};
 
@@ -48,16 +48,52 @@ pub fn note(
     Ok(())
 }
 
-/// The reason of the literal at a place, where it is to be traced back.
-fn reason_for(search: &Search, agenda: &Agenda, cut: Cut, place: usize) -> Option<usize>
-    requires { place < length search.now.assignment.reasons.items }
+/// Whether the literal at a place has to be traced back: it was true before the first choice, or another of
+/// the level at which the conflict is cut waits.
+fn is_traced(agenda: &Agenda, cut: Cut, place: usize) -> bool
+    ensures { IsTrue result ↔ IsTraced cut agenda.now place }
+{
+    place < cut.root || (cut.current <= place && agenda.reaches(cut.current))
+}
+
+/// Whether each literal of a clause but the one at this place waits already, or is traced back anyway, so
+/// that by this clause the one at this place can be left out of the clause that is learnt.
+fn adds_none(agenda: &Agenda, places: &[usize], clause: &[Lit], cut: Cut, place: usize) -> bool
+    requires { All (λ l. l.var < length places.now) clause.now }
+{
+    for lit in clause {
+        let other = places[lit.var.place()];
+        if other != place && cut.root <= other && !agenda.has(other) {
+            return false;
+        }
+    }
+    true
+}
+
+/// The reason of the literal at a place, where it is traced back: because it has to be, or because the
+/// clause that is learnt gets shorter.
+fn reason_for(
+    known: &Known,
+    search: &Search,
+    agenda: &Agenda,
+    cut: Cut,
+    place: usize,
+) -> Option<usize>
+    requires ordered { IsOrdered (clauses_in known.now) search.now }
+    requires inside { place < length search.now.assignment.trail.items }
     ensures { IsReasonFor search.now cut agenda.now place result }
 {
-    if place < cut.root || (cut.current <= place && agenda.reaches(cut.current)) {
-        search.assignment.reasons[place]
-    } else {
-        None
+    let Some(number) = search.assignment.reasons[place] else {
+        return None;
+    };
+    if is_traced(agenda, cut, place) {
+        return Some(number);
     }
+    let places = &search.assignment.places;
+    if place < cut.current && adds_none(agenda, places, known.clause(number), cut, place) {
+        return Some(number);
+    }
+    None
 }
 
 /// Traces the literal at a place back, or picks it.
@@ -74,7 +110,7 @@ fn deal(
     ensures { OnOk result (IsTracing (clauses_in known.now) search.now cut
         analysis.new.agenda analysis.new.picked.items place analysis.new.hints.items) }
 {
-    match reason_for(search, &analysis.agenda, cut, place) {
+    match reason_for(known, search, &analysis.agenda, cut, place) {
         Some(number) => {
             analysis.hints.push(number)?;
             note(

@@ -77,10 +77,14 @@ pub record IsTaken (all : List (List Lit)) (s : Search) (cut : Cut) (place : ℕ
 abbrev pub IsTraced : Cut → List ℕ → ℕ → Type 0
 IsTraced cut agenda place = (place < cut.root) ⊎ ((cut.current ≤ place) × Reaches agenda cut.current)
 
--- the reason of the literal at a place, where it is traced back
+-- the literal at a place may be traced back: it has to be, or it was true before the level at which the conflict is cut
+abbrev pub MayTrace : Cut → List ℕ → ℕ → Type 0
+MayTrace cut agenda place = IsTraced cut agenda place ⊎ (place < cut.current)
+
+-- the reason of the literal at a place, where it is traced back; one that has to be is, but where it was chosen
 abbrev pub IsReasonFor : Search → Cut → List ℕ → ℕ → Option ℕ → Type 0
-IsReasonFor s cut agenda place (Some n) = IsTraced cut agenda place × (slice_index_or s.assignment.reasons.items place None ≡ Some n)
-IsReasonFor s cut agenda place None = (IsTraced cut agenda place → ⊥) ⊎ (IsTraced cut agenda place × (slice_index_or s.assignment.reasons.items place None ≡ None))
+IsReasonFor s cut agenda place (Some n) = MayTrace cut agenda place × (slice_index_or s.assignment.reasons.items place None ≡ Some n)
+IsReasonFor s cut agenda place None = (IsTraced cut agenda place → ⊥) ⊎ (slice_index_or s.assignment.reasons.items place None ≡ None)
 
 -- where the literals at the picked places are false, the hints lead to a false clause; the first place is the only one
 -- from where a level begins on

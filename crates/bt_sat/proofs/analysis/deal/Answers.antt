@@ -7,11 +7,8 @@ use Rattle.bt_sat.specs.inner.Known.{clauses_in}
 use Rattle.bt_sat.proofs.Deriving
 use Rattle.bt_sat.proofs.analysis.deal.Goals as goal
 
-pub reason_for-requires : goal.reason_for-requires
-reason_for-requires c =
-    let all = clauses_in c.args.known.now in
-    let inside = Deriving.place_inside all c.args.search.now c.requires.ordered c.args.cut c.args.place c.args.analysis.now.agenda c.args.analysis.now.picked.items c.args.analysis.now.hints.items c.requires.taken in
-    omega (arith, inside, c.requires.ordered.reasoned.counted)
+pub reason_for-requires-clause-inside : goal.reason_for-requires-clause-inside
+reason_for-requires-clause-inside c = Deriving.place_inside (clauses_in c.args.known.now) c.args.search.now c.requires.ordered c.args.cut c.args.place c.args.analysis.now.agenda c.args.analysis.now.picked.items c.args.analysis.now.hints.items c.requires.taken
 
 pub clause-requires : goal.clause-requires
 clause-requires c =
@@ -52,7 +49,7 @@ returns-in_ok-push-in-None c =
     let old = c.args.analysis.now in
     let not_traced : IsTraced c.args.cut old.agenda c.args.place → ⊥ = elim c.in-None.ensures [
       | inl never ↦ never
-      | inr chosen ↦ λ traced. Deriving.not_chosen all s c.requires.ordered c.args.cut c.args.place old.agenda old.picked.items old.hints.items c.requires.taken traced chosen.1
+      | inr chosen ↦ λ traced. Deriving.not_chosen all s c.requires.ordered c.args.cut c.args.place old.agenda old.picked.items old.hints.items c.requires.taken traced chosen
     ] in
     subst (λ ps. IsTracing all s c.args.cut old.agenda ps c.args.place old.hints.items) (sym c.in_ok-push-in-None.ensures.items)
     (record {
