@@ -71,29 +71,35 @@ fn adds_none(agenda: &Agenda, places: &[usize], clause: &[Lit], cut: Cut, place:
 }
 
 /// The reason of the literal at a place, where it is traced back: because it has to be, or because the
-/// clause that is learnt gets shorter.
+/// clause that is learnt gets shorter. The second literal of that clause is kept, since it tells how far the
+/// search goes back.
 fn reason_for(
     known: &Known,
     search: &Search,
-    agenda: &Agenda,
+    analysis: &Analysis,
     cut: Cut,
     place: usize,
 ) -> Option<usize>
     requires ordered { IsOrdered (clauses_in known.now) search.now }
     requires inside { place < length search.now.assignment.trail.items }
-    ensures { IsReasonFor search.now cut agenda.now place result }
+    ensures { IsReasonFor search.now cut analysis.now.agenda place result }
 {
+    let agenda = &analysis.agenda;
     let Some(number) = search.assignment.reasons[place] else {
         return None;
     };
     if is_traced(agenda, cut, place) {
         return Some(number);
     }
-    let places = &search.assignment.places;
-    if place < cut.current && adds_none(agenda, places, known.clause(number), cut, place) {
-        return Some(number);
+    if place >= cut.current || analysis.picked.len() < 2 {
+        return None;
     }
-    None
+    let places = &search.assignment.places;
+    if adds_none(agenda, places, known.clause(number), cut, place) {
+        Some(number)
+    } else {
+        None
+    }
 }
 
 /// Traces the literal at a place back, or picks it.
@@ -110,7 +116,7 @@ fn deal(
     ensures { OnOk result (IsTracing (clauses_in known.now) search.now cut
         analysis.new.agenda analysis.new.picked.items place analysis.new.hints.items) }
 {
-    match reason_for(known, search, &analysis.agenda, cut, place) {
+    match reason_for(known, search, analysis, cut, place) {
         Some(number) => {
             analysis.hints.push(number)?;
             note(
