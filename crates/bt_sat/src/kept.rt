@@ -44,7 +44,7 @@ impl PackedId {
         requires { self < length clauses.now }
         ensures { result ≡ self }
     {
-        clauses.id_at(self.place as usize).unwrap()
+        clauses.id_of(self.place as usize)
     }
 
     /// Its number: so many clauses were kept before this one.

@@ -44,7 +44,7 @@ impl Packed {
         ensures { result ≡ self.now }
     {
         Lit {
-            var: values.id_at(self.place as usize).unwrap(),
+            var: values.id_of(self.place as usize),
             positive: self.positive,
         }
     }

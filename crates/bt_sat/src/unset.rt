@@ -22,11 +22,9 @@ fn add_unset(unset: &mut Vec<Var>, values: &Values, place: usize) -> Result<(), 
     requires { place < length values.now }
     ensures { OnOk result (AddsUnset values.now place unset.old.items unset.new.items) }
 {
-    if let Some(var) = values.id_at(place) {
-        if values.get(var).is_none() {
-            unset.push(var)?;
-            return Ok(());
-        }
+    let var = values.id_of(place);
+    if values.get(var).is_none() {
+        unset.push(var)?;
     }
     Ok(())
 }
