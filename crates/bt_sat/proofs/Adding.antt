@@ -7,7 +7,7 @@ use Rattle.std.proofs.lemmas.List.Elements.{All-push, Contains-push}
 use Rattle.bt_cnf.specs.declared.literal.Lit.{Lit}
 use Rattle.bt_sat.specs.declared.kept.Watch.{Watch}
 use Rattle.bt_sat.specs.inner.Attending.{no_lit, first, second}
-use Rattle.bt_sat.specs.inner.Keeping.{IsWatchable, IsListed, kept_at, IsBlocked, AreWatched}
+use Rattle.bt_sat.specs.inner.Keeping.{IsWatchable, IsListed, IsFollowed, kept_at, IsBlocked, AreWatched}
 use Rattle.bt_sat.specs.inner.Watchers.{watchers, watches_of, Watches}
 use Rattle.bt_sat.specs.inner.WatchersParts.{WatchersParts}
 use Rattle.bt_sat.proofs.Lists.{nat_or}
@@ -19,9 +19,9 @@ second_among : (clause : List Lit) → 2 ≤ length clause → Contains clause (
 second_among clause two = (1, omega (arith, two), get_or_default clause 1 (second clause) no_lit (omega (arith, two)))
 
 -- the clauses are watched still, with one more
-pub watched_more : (vars : ℕ) (clauses : List (List Lit)) (w w₁ w₂ : WatchersParts) (lits : List Lit) (id : ℕ) → AreWatched vars clauses w → IsWatchable vars lits → id ≡ length clauses
-    → Watches w w₁ (first lits) (record { id = id; blocker = second lits }) → Watches w₁ w₂ (second lits) (record { id = id; blocker = first lits }) → AreWatched vars (clauses ++ lits ∷ []) w₂
-watched_more vars clauses w w₁ w₂ lits id are good is one two =
+pub watched_more : (base : List Lit) (vars : ℕ) (clauses : List (List Lit)) (w w₁ w₂ : WatchersParts) (lits : List Lit) (id : ℕ) → AreWatched base vars clauses w → IsWatchable vars lits → id ≡ length clauses
+    → Watches w w₁ (first lits) (record { id = id; blocker = second lits }) → Watches w₁ w₂ (second lits) (record { id = id; blocker = first lits }) → AreWatched base vars (clauses ++ lits ∷ []) w₂
+watched_more base vars clauses w w₁ w₂ lits id are good is one two =
     let more = clauses ++ lits ∷ [] in
     let size : length more ≡ length clauses + 1 = length-append clauses (lits ∷ []) in
     let new : id < length more = omega (arith, size, is) in
@@ -49,15 +49,17 @@ watched_more vars clauses w w₁ w₂ lits id are good is one two =
       listed = λ n below. elim (nat_or n id) [
         | inl same ↦
             let at : lits ≡ kept_at more n = sym (get_or_push clauses lits [] n (sym is ∙ sym same)) in
-            subst (IsListed w₂ n) at (subst (λ k. IsListed w₂ k lits) (sym same) here)
+            inl (subst (IsListed w₂ n) at (subst (λ k. IsListed w₂ k lits) (sym same) here))
         | inr differs ↦
             let small : n < length clauses = omega (arith, below, size, is, differs) in
             let at : kept_at clauses n ≡ kept_at more n = sym (get_or_append_left clauses (lits ∷ []) [] n small) in
-            let before = are.listed n small in
-            subst (IsListed w₂ n) at (record {
-              by_first = grows (first (kept_at clauses n)) n before.by_first;
-              by_second = grows (second (kept_at clauses n)) n before.by_second;
-            })
+            subst (IsFollowed base w₂ n) at (elim (are.listed n small) [
+              | inl before ↦ inl (record {
+                by_first = grows (first (kept_at clauses n)) n before.by_first;
+                by_second = grows (second (kept_at clauses n)) n before.by_second;
+              })
+              | inr satisfied ↦ inr satisfied
+            ])
       ];
       blocked = all_more_watches (IsBlocked more) w₁ w₂ (second lits) by_second two second_blocked (all_more_watches (IsBlocked more) w w₁ (first lits) by_first one first_blocked wider);
     }

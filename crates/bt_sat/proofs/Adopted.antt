@@ -15,13 +15,13 @@ use Rattle.bt_sat.specs.inner.Assigning.{Assigns}
 use Rattle.bt_sat.specs.inner.Attending.{no_lit, first}
 use Rattle.bt_sat.specs.inner.Keeping.{kept_at, AreTrue, AreWatched, IsAtRest, IsWatchable}
 use Rattle.bt_sat.specs.inner.Levels.{start_of, front_of, AreLevels, IsOrdered, IsHeld, among_watched, alone, IsReady}
-use Rattle.bt_sat.specs.inner.Propagating.{IsSettledTo, IsWhole, Keeps}
+use Rattle.bt_sat.specs.inner.Propagating.{IsSettledTo, IsWhole, Keeps, root_of}
 use Rattle.bt_sat.specs.inner.Reasons.{AreSame, lit_at, IsReason, AreNumbered, AreReasons}
 use Rattle.bt_sat.specs.inner.Truths.{IsTrueIn, IsFalseIn}
+use Rattle.bt_sat.proofs.Advancing.{root_more}
 use Rattle.bt_sat.proofs.Back.{take_all_of, take_in}
 use Rattle.bt_sat.proofs.Cutting.{past}
-use Rattle.bt_sat.proofs.Deriving.{lt_or}
-use Rattle.bt_sat.proofs.Keeping.{rest_grows, truths_more}
+use Rattle.bt_sat.proofs.Keeping.{rest_grows, truths_more, watched_grows}
 use Rattle.bt_sat.proofs.Lists.{nat_or}
 use Rattle.bt_sat.proofs.Reasoning.{lt_or_eq, reasons_more}
 use Rattle.bt_sat.proofs.Visiting.{all_more, first_among}
@@ -85,13 +85,7 @@ module _ (old new : Search) (l : Lit) (reason : Option ℕ) (assigns : Assigns o
   }
 
   pub root_longer : (m : Lit) → Contains (front_of old 0) m → Contains (front_of new 0) m
-  root_longer m among = elim (lt_or 0 (length old.starts.items)) [
-    | inl some ↦ subst (λ front. Contains front m) (sym (front_longer 0 some)) among
-    | inr none ↦
-        let all_new : front_of new 0 ≡ new.assignment.trail.items =
-        take_all_of (start_of new 0) new.assignment.trail.items (omega (arith, past new.starts.items 0 (length new.assignment.trail.items) (omega (arith, none, count)))) in
-        subst (λ front. Contains front m) (sym (all_new ∙ assigns.trail)) (Contains-append_left old.assignment.trail.items (l ∷ []) m (take_in (start_of old 0) old.assignment.trail.items m among))
-  ]
+  root_longer = root_more old new (l ∷ []) starts assigns.trail
 
   pub held_longer : (clause : List Lit) → IsHeld old clause → IsHeld new clause
   held_longer clause (among_watched id small same) =
@@ -174,7 +168,9 @@ ordered_longer all s a l reason ordered assigns below not_true not_false by chos
     let new = with_assignment s a in
     record {
       whole = record {
-        watched = subst (λ n. AreWatched n s.clauses s.watchers) (sym (variables_same s new l reason assigns refl refl ordered.levels)) ordered.whole.watched;
+        watched =
+            subst (λ n. AreWatched (root_of new) n s.clauses s.watchers) (sym (variables_same s new l reason assigns refl refl ordered.levels))
+            (watched_grows (root_of s) (root_of new) (length s.assignment.values) s.clauses s.watchers (root_longer s new l reason assigns refl refl ordered.levels) ordered.whole.watched);
         truths = truths_longer s new l reason assigns refl refl ordered.levels ordered.whole.truths below not_true not_false;
       };
       numbered = record { count = ordered.numbered.count; below = ordered.numbered.below; same = ordered.numbered.same };

@@ -1,6 +1,6 @@
 -- What one visit makes of the search.
 use Rattle.std.proofs.Common.{◌≡◌, ℕ, ◌<◌, ◌+◌, arith, List, [], ◌∷◌, ◌++◌, length, get_or, map, sym, subst, refl, ap, ◌∙◌, Some, None, length-set, length-append, get_or-set_same, append-nil, Bool, true, false, not, Option, zero, suc, append_assoc}
-use Rattle.std.specs.Prelude.{Contains, IsPermutation, slice_get, slice_set}
+use Rattle.std.specs.Prelude.{◌≤◌, Contains, IsPermutation, slice_get, slice_set, take}
 use Rattle.std.specs.List.{All}
 use Rattle.std.specs.Global.{Vec}
 use Rattle.std.proofs.lemmas.List.{get_or_default}
@@ -10,6 +10,7 @@ use Rattle.std.proofs.lemmas.List.Sorted.{Contains-permutation, IsPermutation-re
 use Rattle.bt_cnf.specs.declared.literal.Lit.{Lit}
 use Rattle.bt_sat.specs.declared.assignment.Assignment.{Assignment}
 use Rattle.bt_sat.specs.declared.search.Search.{Search}
+use Rattle.bt_sat.specs.declared.search.Attended.{Attended}
 use Rattle.bt_sat.specs.declared.search.Attended.TheVariants as attended
 use Rattle.bt_sat.specs.declared.kept.Watch.{Watch}
 use Rattle.bt_sat.specs.declared.watched.Visit.TheVariants as visit
@@ -19,14 +20,15 @@ use Rattle.bt_sat.specs.inner.AttendingIn.{AttendsIn}
 use Rattle.bt_log.specs.Validity.{clause_at}
 use Rattle.bt_sat.specs.inner.Keeping.{IsWatchable, kept_at, IsBlocked, IsAtRest, IsVisiting, AreWatched, AreTrue}
 use Rattle.bt_sat.specs.inner.Reasons.{AreSame, AreNumbered, AreReasons, IsReasoned}
-use Rattle.bt_sat.specs.inner.Propagating.{GoesOn, Visiting, Advances}
+use Rattle.bt_sat.specs.inner.Propagating.{GoesOn, Visiting, Advances, Passes, root_of, with_watchers}
 use Rattle.bt_sat.specs.inner.Truths.{IsTrueIn, IsFalseIn, unset}
 use Rattle.bt_sat.specs.inner.Watchers.{watchers, watches_of, Resets, Watches, Unwatches}
 use Rattle.bt_sat.specs.inner.WatchersParts.{WatchersParts}
+use Rattle.bt_sat.proofs.Back.{take_in, take_wider}
 use Rattle.bt_sat.proofs.Keeping.{rest_kept, rest_left, watchable_kept, watched_kept, kept_set}
 use Rattle.bt_sat.proofs.Reasoning.{got_none, reasons_more, unit_reason}
-use Rattle.bt_sat.proofs.Visiting.{all_more, done_none, done_true, first_among, goes_on, grows, keeps, moves, passes, resets, satisfied_first, strays}
-use Rattle.bt_sat.proofs.Watches.{number, no_watch, inside_list, number_at}
+use Rattle.bt_sat.proofs.Visiting.{all_more, done_none, done_true, drops, first_among, goes_on, grows, keeps, moves, passes, resets, roots, satisfied_first, strays}
+use Rattle.bt_sat.proofs.Watches.{number, no_watch, inside_list, inside_numbers, number_at}
 
 -- each item of a list is among them
 pub all_here : {X : Type 0} (xs : List X) → All (Contains xs) xs
@@ -64,13 +66,31 @@ room_kept old now l reason assigns below not_true not_false =
     let fewer : unset now.values + 1 ≡ unset old.values = ap (λ vs. unset vs + 1) assigns.values ∙ less in
     omega (arith, longer, fewer)
 
+-- what was true before the first choice is on the trail
+pub root_in : (s : Search) → All (Contains s.assignment.trail.items) (root_of s)
+root_in s k d small = take_in (get_or s.starts.items 0 (length s.assignment.trail.items)) s.assignment.trail.items (get_or (root_of s) k d) (k, small, get_or_default (root_of s) k (get_or (root_of s) k d) d small)
+
+first_rises : (xs : List ℕ) (a b : ℕ) → a ≤ b → get_or xs 0 a ≤ get_or xs 0 b
+first_rises [] a b order = order
+first_rises (x ∷ xs) a b order = omega arith
+
+-- with more literals on the trail no fewer were true before the first choice
+pub root_more : (old new : Search) (more : List Lit) → new.starts ≡ old.starts → new.assignment.trail.items ≡ old.assignment.trail.items ++ more → (m : Lit) → Contains (root_of old) m → Contains (root_of new) m
+root_more old new more starts trail m among =
+    let before = old.assignment.trail.items in
+    let longer : length before ≤ length new.assignment.trail.items = omega (arith, ap length trail, length-append before more) in
+    let rises = first_rises old.starts.items (length before) (length new.assignment.trail.items) longer in
+    subst (λ (v : Vec ℕ). Contains (take (get_or v.items 0 (length new.assignment.trail.items)) new.assignment.trail.items) m) (sym starts)
+    (subst (λ ts. Contains (take (get_or old.starts.items 0 (length new.assignment.trail.items)) ts) m) (sym trail)
+    (take_wider (get_or old.starts.items 0 (length before)) (get_or old.starts.items 0 (length new.assignment.trail.items)) before more m rises among))
+
 -- the clause at a place of a list
 pub numbered_at : (ws : List Watch) (place : ℕ) (watch : Watch) → place < length ws → watch ≡ get_or ws place watch → get_or (map number ws) place 0 ≡ watch.id
 numbered_at ws place watch inside is = number_at ws place inside ∙ ap number (get_or_default ws place no_watch watch inside ∙ sym is)
 
-pub blocked_at : (vars : ℕ) (clauses : List (List Lit)) (w : WatchersParts) (gone : Lit) (place : ℕ) (watch : Watch) → AreWatched vars clauses w → place < length (watches_of w gone)
+pub blocked_at : (base : List Lit) (vars : ℕ) (clauses : List (List Lit)) (w : WatchersParts) (gone : Lit) (place : ℕ) (watch : Watch) → AreWatched base vars clauses w → place < length (watches_of w gone)
     → watch ≡ get_or (watches_of w gone) place watch → IsBlocked clauses watch
-blocked_at vars clauses w gone place watch are inside is = subst (IsBlocked clauses) (sym is) (are.blocked gone place watch inside)
+blocked_at base vars clauses w gone place watch are inside is = subst (IsBlocked clauses) (sym is) (are.blocked gone place watch inside)
 
 -- the clauses are the same but for the order of one
 goes : (old : Search) (assignment : Assignment) (w : WatchersParts) (clauses : List (List Lit)) (id : ℕ) (new more : List Lit) → id < length old.clauses → clauses ≡ slice_set old.clauses id new
@@ -111,9 +131,9 @@ module _ (old : Search) (gone : Lit) (place id : ℕ) (clauses : List (List Lit)
             (λ front inside_front rest. rest_kept front front (kept_at old.clauses id) at.clause rest kept),
         ap length one.reset ∙ length-set (watches_of old.watchers gone) place watch,
         λ part v.
-            subst (λ cs. IsVisiting part gone (place + 1) old.assignment.values old.assignment.trail.items cs w) (sym at.one)
-            (resets part gone place (place + 1) old.assignment.values old.assignment.trail.items (slice_set old.clauses id at.clause) old.watchers w watch
-            (goes_on part gone place old.assignment.values old.assignment.trail.items old.clauses old.watchers id at.clause v inside is kept
+            subst (λ cs. IsVisiting part gone (place + 1) (root_of old) old.assignment.values old.assignment.trail.items cs w) (sym at.one)
+            (resets part gone place (place + 1) (root_of old) old.assignment.values old.assignment.trail.items (slice_set old.clauses id at.clause) old.watchers w watch
+            (goes_on part gone place (root_of old) old.assignment.values old.assignment.trail.items old.clauses old.watchers id at.clause v inside is kept
             (done_true gone old.assignment.trail.items at.clause
             (satisfied_first old.assignment.values old.assignment.trail.items at.clause v.truths good.two (subst (IsTrueIn old.assignment.values) (sym at.attends.2) at.attends.3))))
             one (inside_list (watches_of old.watchers gone) place inside) is blocks),
@@ -127,7 +147,8 @@ module _ (old : Search) (gone : Lit) (place id : ℕ) (clauses : List (List Lit)
       let leaves = at.attends.2 in
       let good = watchable_kept (length old.assignment.values) (kept_at old.clauses id) at.clause is_old kept in
       let inside_l : l.var < length old.assignment.values = subst (λ (m : Lit). m.var < length old.assignment.values) leaves.stands (good.below 0 no_lit (omega (arith, good.two))) in
-      let after = slice_set old.assignment.values l.var (Some l.positive) in (
+      let after = slice_set old.assignment.values l.var (Some l.positive) in
+      let new : Search = record { assignment = now; clauses = clauses; watchers = old.watchers; numbers = old.numbers; starts = old.starts } in (
         goes old now old.watchers clauses id at.clause (l ∷ []) below at.one kept.permuted assigns.trail (ap length assigns.values ∙ length-set old.assignment.values l.var (Some l.positive))
             (room_kept old.assignment now l reason assigns inside_l leaves.not_true leaves.not_false)
             (λ all numbered are. reasons_more all old.starts.items old.assignment now l reason assigns truths inside_l leaves.not_true leaves.not_false
@@ -136,15 +157,17 @@ module _ (old : Search) (gone : Lit) (place id : ℕ) (clauses : List (List Lit)
             (λ front inside_front rest. rest_kept front front (kept_at old.clauses id) at.clause rest kept),
         refl,
         λ part v.
-            let v' = grows part gone place old.assignment.values old.assignment.trail.items old.clauses old.watchers l v inside_l leaves.not_true leaves.not_false in
+            let v' = grows part gone place (root_of old) old.assignment.values old.assignment.trail.items old.clauses old.watchers l v inside_l leaves.not_true leaves.not_false in
             let true_first : IsTrueIn after (first at.clause) =
             subst (IsTrueIn after) (sym leaves.stands) (get_or-set_same old.assignment.values l.var (Some l.positive) None inside_l) in
-            subst (λ vs. IsVisiting part gone (place + 1) vs now.trail.items clauses old.watchers) (sym assigns.values)
-            (subst (λ ts. IsVisiting part gone (place + 1) after ts clauses old.watchers) (sym assigns.trail)
-            (subst (λ cs. IsVisiting part gone (place + 1) after (old.assignment.trail.items ++ l ∷ []) cs old.watchers) (sym at.one)
-            (goes_on part gone place after (old.assignment.trail.items ++ l ∷ []) old.clauses old.watchers id at.clause v' inside is kept
+            subst (λ vs. IsVisiting part gone (place + 1) (root_of new) vs now.trail.items clauses old.watchers) (sym assigns.values)
+            (roots part gone (place + 1) (root_of old) (root_of new) after now.trail.items clauses old.watchers
+            (subst (λ ts. IsVisiting part gone (place + 1) (root_of old) after ts clauses old.watchers) (sym assigns.trail)
+            (subst (λ cs. IsVisiting part gone (place + 1) (root_of old) after (old.assignment.trail.items ++ l ∷ []) cs old.watchers) (sym at.one)
+            (goes_on part gone place (root_of old) after (old.assignment.trail.items ++ l ∷ []) old.clauses old.watchers id at.clause v' inside is kept
             (done_true gone (old.assignment.trail.items ++ l ∷ []) at.clause
-            (satisfied_first after (old.assignment.trail.items ++ l ∷ []) at.clause v'.truths good.two true_first))))),
+            (satisfied_first after (old.assignment.trail.items ++ l ∷ []) at.clause v'.truths good.two true_first)))))
+            (root_more old new (l ∷ []) refl assigns.trail) (root_in new)),
       )
 
   pub leaves : (l other : Lit) (w₁ w₂ : WatchersParts) → AreTrue old.assignment.values old.assignment.trail.items → AttendsIn old.assignment.values gone id old.clauses clauses (visit.Moves l other) → IsFalseIn old.assignment.values gone
@@ -159,8 +182,8 @@ module _ (old : Search) (gone : Lit) (place id : ℕ) (clauses : List (List Lit)
             (λ m h. truths.true_in m (All-contains (Contains old.assignment.trail.items) front m inside_front h)) (all_here front) rest left now),
         un.without.size ∙ ap length same,
         λ part v.
-            subst (λ cs. IsVisiting part gone place old.assignment.values old.assignment.trail.items cs w₂) (sym at.one)
-            (moves part gone place old.assignment.values old.assignment.trail.items old.clauses old.watchers id at.clause v inside is w₁ w₂ l other left at.attends.1 now one un),
+            subst (λ cs. IsVisiting part gone place (root_of old) old.assignment.values old.assignment.trail.items cs w₂) (sym at.one)
+            (moves part gone place (root_of old) old.assignment.values old.assignment.trail.items old.clauses old.watchers id at.clause v inside is w₁ w₂ l other left at.attends.1 now one un),
       )
 
   pub strayed : (w : WatchersParts) → AttendsIn old.assignment.values gone id old.clauses clauses visit.Strays → Unwatches old.watchers w gone place
@@ -172,9 +195,9 @@ module _ (old : Search) (gone : Lit) (place id : ℕ) (clauses : List (List Lit)
             (λ front inside_front rest. rest_kept front front (kept_at old.clauses id) at.clause rest kept),
         un.without.size,
         λ part v.
-            subst (λ cs. IsVisiting part gone place old.assignment.values old.assignment.trail.items cs w) (sym at.one)
-            (strays part gone place old.assignment.values old.assignment.trail.items (slice_set old.clauses id at.clause) old.watchers w id
-            (keeps part gone place old.assignment.values old.assignment.trail.items old.clauses old.watchers id at.clause v inside is kept
+            subst (λ cs. IsVisiting part gone place (root_of old) old.assignment.values old.assignment.trail.items cs w) (sym at.one)
+            (strays part gone place (root_of old) old.assignment.values old.assignment.trail.items (slice_set old.clauses id at.clause) old.watchers w id
+            (keeps part gone place (root_of old) old.assignment.values old.assignment.trail.items old.clauses old.watchers id at.clause v inside is kept
             (done_none gone old.assignment.trail.items at.clause at.attends.1 at.attends.2)) inside is
             (λ e. at.attends.1 (sym (ap first here) ∙ e)) (λ e. at.attends.2 (sym (ap second here) ∙ e)) un),
       )
@@ -191,8 +214,8 @@ module _ (old : Search) (gone : Lit) (place id : ℕ) (clauses : List (List Lit)
         ),
         λ whole. record {
           watched =
-              subst (λ cs. AreWatched (length old.assignment.values) cs old.watchers) (sym at.one)
-              (watched_kept (length old.assignment.values) old.clauses old.watchers id at.clause whole.watched below at.attends.0);
+              subst (λ cs. AreWatched (root_of old) (length old.assignment.values) cs old.watchers) (sym at.one)
+              (watched_kept (root_of old) (length old.assignment.values) old.clauses old.watchers id at.clause whole.watched below at.attends.0);
           truths = whole.truths;
         },
       )
@@ -229,22 +252,48 @@ goes_twice old mid new a b = record {
 pub goes_not : (s : Search) → GoesOn s s
 goes_not s = record { more = []; trail = sym (append-nil s.assignment.trail.items); variables = refl; count = refl; room = refl; numbers = refl; starts = refl; reasoned = λ all numbered are. are; rests = λ front inside rest. rest; clauses = λ id. IsPermutation-refl (kept_at s.clauses id) }
 
+goes_relisted : (s : Search) (w : WatchersParts) → GoesOn s (with_watchers s w)
+goes_relisted s w = record { more = []; trail = sym (append-nil s.assignment.trail.items); variables = refl; count = refl; room = refl; numbers = refl; starts = refl; reasoned = λ all numbered are. are; rests = λ front inside rest. rest; clauses = λ id. IsPermutation-refl (kept_at s.clauses id) }
+
 -- a clause whose blocking literal is true isn't looked at
-pub passed : (old : Search) (gone : Lit) (place : ℕ) (watch : Watch) → AreWatched (length old.assignment.values) old.clauses old.watchers → place < length (watches_of old.watchers gone)
+pub passed : (old : Search) (gone : Lit) (place : ℕ) (watch : Watch) → AreWatched (root_of old) (length old.assignment.values) old.clauses old.watchers → place < length (watches_of old.watchers gone)
     → watch ≡ get_or (watches_of old.watchers gone) place watch → IsTrueIn old.assignment.values watch.blocker → Advances gone place old old attended.Stays
 passed old gone place watch watched inside is true_blocker = (
   goes_not old,
   refl,
   λ part v.
-      passes part gone place old.assignment.values old.assignment.trail.items old.clauses old.watchers watch v (numbered_at (watches_of old.watchers gone) place watch inside is)
-      (blocked_at (length old.assignment.values) old.clauses old.watchers gone place watch watched inside is) true_blocker,
+      passes part gone place (root_of old) old.assignment.values old.assignment.trail.items old.clauses old.watchers watch v (numbered_at (watches_of old.watchers gone) place watch inside is)
+      (blocked_at (root_of old) (length old.assignment.values) old.clauses old.watchers gone place watch watched inside is) true_blocker,
 )
 
+-- a clause leaves the list, whose blocking literal is true for good
+pub dropped : (old : Search) (gone : Lit) (place : ℕ) (watch : Watch) (w : WatchersParts) → AreWatched (root_of old) (length old.assignment.values) old.clauses old.watchers
+    → place < length (watches_of old.watchers gone) → watch ≡ get_or (watches_of old.watchers gone) place watch → Contains (root_of old) watch.blocker → Unwatches old.watchers w gone place
+    → Advances gone place old (with_watchers old w) attended.Leaves
+dropped old gone place watch w watched inside is good un =
+    let blocks = blocked_at (root_of old) (length old.assignment.values) old.clauses old.watchers gone place watch watched inside is in (
+      goes_relisted old w,
+      un.without.size,
+      λ part v.
+          drops part gone place (root_of old) old.assignment.values old.assignment.trail.items old.clauses old.watchers w watch.id v (inside_numbers (watches_of old.watchers gone) place inside)
+          (numbered_at (watches_of old.watchers gone) place watch inside is) (record { lit = watch.blocker; among = blocks.among; holds = good }) un,
+    )
+
+-- a clause whose blocking literal is true is passed
+pub passes_on : (old new : Search) (gone : Lit) (place : ℕ) (watch : Watch) (attended : Attended) → AreWatched (root_of old) (length old.assignment.values) old.clauses old.watchers
+    → place < length (watches_of old.watchers gone) → watch ≡ get_or (watches_of old.watchers gone) place watch → IsTrueIn old.assignment.values watch.blocker
+    → Passes gone place watch.blocker old new attended → Advances gone place old new attended
+passes_on old new gone place watch attended.Stays watched inside is true_blocker same = subst (λ s. Advances gone place old s attended.Stays) (sym same) (passed old gone place watch watched inside is true_blocker)
+passes_on old new gone place watch attended.Leaves watched inside is true_blocker (good, (w, un, same)) =
+    subst (λ s. Advances gone place old s attended.Leaves) (sym same) (dropped old gone place watch w watched inside is good un)
+passes_on old new gone place watch (attended.Fails id) watched inside is true_blocker never = absurd never
+
 -- nothing is unsettled by no part of the trail
-pub starts : (gone : Lit) (s : Search) → AreWatched (length s.assignment.values) s.clauses s.watchers → AreTrue s.assignment.values s.assignment.trail.items
+pub starts : (gone : Lit) (s : Search) → AreWatched (root_of s) (length s.assignment.values) s.clauses s.watchers → AreTrue s.assignment.values s.assignment.trail.items
     → IsFalseIn s.assignment.values gone → Visiting [] gone 0 s
 starts gone s watched truths false_gone = record {
   watched = watched;
+  base_in = root_in s;
   truths = truths;
   rest = λ k d below. record { if_first = λ h. absurd (none_in _ h); if_second = λ h. absurd (none_in _ h) };
   part_in = All-nil (Contains s.assignment.trail.items);

@@ -1,8 +1,8 @@
 -- Going back to what was true before a level began.
-use Rattle.std.proofs.Common.{◌≡◌, ◌≢◌, ℕ, ◌≤◌, ◌<◌, inl, inr, arith, Bool, List, [], ◌∷◌, ◌++◌, length, get_or, zero, suc, min, sym, subst, refl, ap, ◌∙◌, Option, None, Some, length-set, get_or-set_same, get_or-set_other}
+use Rattle.std.proofs.Common.{◌≡◌, ◌≢◌, ℕ, ◌≤◌, ◌<◌, inl, inr, arith, Bool, List, [], ◌∷◌, ◌++◌, length, get_or, zero, suc, min, sym, subst, refl, ap, ◌∙◌, Option, None, Some, length-append, length-set, get_or-set_same, get_or-set_other}
 use Rattle.std.specs.Prelude.{Contains, slice_set, take}
 use Rattle.std.specs.Global.{Vec}
-use Rattle.std.proofs.lemmas.List.{get_or_default, get_or-take, length-take}
+use Rattle.std.proofs.lemmas.List.{get_or_default, get_or_append_left, get_or-take, length-take}
 use Rattle.std.proofs.lemmas.List.Elements.{All-contains, Contains-append_left, Contains-push, Contains-push_cases}
 use Rattle.bt_cnf.specs.declared.literal.Lit.{Lit}
 use Rattle.bt_sat.specs.declared.assignment.Assignment.{Assignment}
@@ -36,6 +36,14 @@ take_in (suc n) (y ∷ xs) x (suc k, below, is) =
 pub place_in_take : {X : Type 0} (n : ℕ) (xs : List X) (k : ℕ) (d : X) → k < n → k < length xs → Contains (take n xs) (get_or xs k d)
 place_in_take n xs k d below small =
     (k, omega (arith, below, small, length-take n xs), get_or-take n xs k (get_or xs k d) below ∙ get_or_default xs k (get_or xs k d) d small)
+
+-- a longer front of a longer list
+pub take_wider : {X : Type 0} (m n : ℕ) (xs ys : List X) (x : X) → m ≤ n → Contains (take m xs) x → Contains (take n (xs ++ ys)) x
+take_wider m n xs ys x order (k, small, is) =
+    let below : k < m = omega (arith, small, length-take m xs) in
+    let inside : k < length xs = omega (arith, small, length-take m xs) in
+    let at : get_or (xs ++ ys) k x ≡ x = get_or_append_left xs ys x k inside ∙ sym (get_or-take m xs k x below) ∙ is in
+    subst (Contains (take n (xs ++ ys))) at (place_in_take n (xs ++ ys) k x (omega (arith, below, order)) (omega (arith, inside, length-append xs ys)))
 
 no_value : (b : Bool) → None ≡ Some b → ⊥
 no_value b e = cc

@@ -13,13 +13,13 @@ use Rattle.bt_sat.specs.inner.Attending.{first, second}
 use Rattle.bt_sat.specs.inner.Choices.{IsUnset, AddsUnset, AreUnset, BeginsLevel}
 use Rattle.bt_sat.specs.inner.Keeping.{kept_at, AreTrue, AreWatched, IsAtRest}
 use Rattle.bt_sat.specs.inner.Levels.{start_of, front_of, AreLevels, IsOrdered, IsHeld, among_watched, alone, IsReady}
-use Rattle.bt_sat.specs.inner.Propagating.{IsWhole}
+use Rattle.bt_sat.specs.inner.Propagating.{IsWhole, root_of}
 use Rattle.bt_sat.specs.inner.Reasons.{AreReasons, AreSame}
 use Rattle.bt_sat.specs.inner.Truths.{IsTrueIn, IsFalseIn, unset}
 use Rattle.bt_sat.proofs.Advancing.{room_kept}
 use Rattle.bt_sat.proofs.Back.{take_all_of, take_in}
 use Rattle.bt_sat.proofs.Deriving.{lt_or}
-use Rattle.bt_sat.proofs.Keeping.{rest_grows, truths_more}
+use Rattle.bt_sat.proofs.Keeping.{rest_grows, truths_more, watched_grows}
 use Rattle.bt_sat.proofs.Reasoning.{lt_or_eq, reasons_more}
 use Rattle.bt_sat.proofs.Visiting.{all_more}
 
@@ -156,10 +156,13 @@ module _ (all : List (List Lit)) (old new : Search) (l : Lit) (begins : BeginsLe
 
   whole : IsWhole new
   whole =
-      let watched : AreWatched (length new.assignment.values) old.clauses old.watchers =
-      subst (λ n. AreWatched n old.clauses old.watchers) (sym (ap length begins.assigns.values ∙ length-set old.assignment.values l.var (Some l.positive))) ready.ordered.whole.watched in
+      let watched : AreWatched (root_of new) (length new.assignment.values) old.clauses old.watchers =
+      subst (λ n. AreWatched (root_of new) n old.clauses old.watchers) (sym (ap length begins.assigns.values ∙ length-set old.assignment.values l.var (Some l.positive)))
+      (watched_grows (root_of old) (root_of new) (length old.assignment.values) old.clauses old.watchers root ready.ordered.whole.watched) in
       record {
-        watched = subst (λ cs. AreWatched (length new.assignment.values) cs new.watchers) (sym begins.clauses) (subst (AreWatched (length new.assignment.values) old.clauses) (sym begins.watchers) watched);
+        watched =
+            subst (λ cs. AreWatched (root_of new) (length new.assignment.values) cs new.watchers) (sym begins.clauses)
+            (subst (AreWatched (root_of new) (length new.assignment.values) old.clauses) (sym begins.watchers) watched);
         truths =
             subst (λ vs. AreTrue vs new.assignment.trail.items) (sym begins.assigns.values)
             (subst (AreTrue (slice_set old.assignment.values l.var (Some l.positive))) (sym begins.assigns.trail)

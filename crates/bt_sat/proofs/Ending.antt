@@ -12,9 +12,10 @@ use Rattle.bt_sat.specs.Propagation.{IsFalseClause, IsSettled}
 use Rattle.bt_sat.specs.declared.search.Search.{Search}
 use Rattle.bt_sat.specs.inner.Attending.{no_lit, first, second}
 use Rattle.bt_sat.specs.inner.Keeping.{kept_at, IsAtRest, IsDone, IsSatisfied}
-use Rattle.bt_sat.specs.inner.Propagating.{GoesOn, Visiting, Settles, IsSettledTo, IsKept, among_watched, alone, both_signs, falses_of, Propagates}
+use Rattle.bt_sat.specs.inner.Propagating.{GoesOn, Visiting, Settles, IsSettledTo, IsKept, among_watched, alone, both_signs, falses_of, Propagates, root_of}
 use Rattle.bt_sat.specs.inner.Truths.{IsTrueIn, IsFalseIn}
 use Rattle.bt_sat.specs.inner.Watching.{HasTrue, IsWatched}
+use Rattle.bt_sat.proofs.Advancing.{root_in}
 use Rattle.bt_sat.proofs.Keeping.{not_both}
 use Rattle.bt_sat.proofs.Lists.{contains_here, contains_there, first_or, none_in, nat_or}
 use Rattle.bt_sat.proofs.Settled.{all_of, watched_is_settled}
@@ -80,6 +81,7 @@ settled_next old new head x s settles below is =
     let true_x : IsTrueIn old.assignment.values x = s.whole.truths.true_in x (head, below, is x) in
     let begun : Visiting s.part (opposite x) 0 old = record {
       watched = s.whole.watched;
+      base_in = root_in old;
       truths = s.whole.truths;
       rest = s.rest;
       part_in = s.part_in;
@@ -107,7 +109,7 @@ settled_next old new head x s settles below is =
       rest = λ id d small.
           rest_next s.part new.assignment.trail.items (get_or new.clauses id d) x (v.rest id d small)
           (subst (IsDone (opposite x) new.assignment.trail.items) (get_or_default new.clauses id [] d small)
-          (visited s.part (opposite x) end.0 new.assignment.values new.assignment.trail.items new.clauses new.watchers v end.1 id small));
+          (visited s.part (opposite x) end.0 (root_of new) new.assignment.values new.assignment.trail.items new.clauses new.watchers v end.1 id small));
     }
 
 -- all is settled by the whole trail

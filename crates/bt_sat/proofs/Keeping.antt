@@ -9,7 +9,7 @@ use Rattle.bt_cnf.specs.declared.literal.Lit.{Lit}
 use Rattle.bt_log.specs.Units.{opposite}
 use Rattle.bt_sat.specs.declared.kept.Watch.{Watch}
 use Rattle.bt_sat.specs.inner.Attending.{KeepsPair, LeavesOne, WatchesNow}
-use Rattle.bt_sat.specs.inner.Keeping.{IsWatchable, IsListed, kept_at, IsBlocked, AreWatched, AreTrue, IsAtRest, IsDone, IsSatisfied}
+use Rattle.bt_sat.specs.inner.Keeping.{IsWatchable, IsListed, IsFollowed, kept_at, IsBlocked, AreWatched, AreTrue, IsAtRest, IsDone, IsSatisfied}
 use Rattle.bt_sat.specs.inner.Sides.{IsWithout}
 use Rattle.bt_sat.specs.inner.Truths.{IsTrueIn, IsFalseIn}
 use Rattle.bt_sat.specs.inner.Watchers.{watchers, watches_of}
@@ -51,6 +51,12 @@ listed_kept w id old new is kept = elim kept.pair [
 pub satisfied_kept : (trail old new : List Lit) → IsPermutation old new → IsSatisfied trail old → IsSatisfied trail new
 satisfied_kept trail old new permuted is = record { lit = is.lit; among = Contains-permutation old new is.lit permuted is.among; holds = is.holds }
 
+pub followed_kept : (base : List Lit) (w : WatchersParts) (id : ℕ) (old new : List Lit) → IsFollowed base w id old → KeepsPair old new → IsFollowed base w id new
+followed_kept base w id old new is kept = elim is [
+  | inl listed ↦ inl (listed_kept w id old new listed kept)
+  | inr satisfied ↦ inr (satisfied_kept base old new kept.permuted satisfied)
+]
+
 pub rest_kept : (part trail old new : List Lit) → IsAtRest part trail old → KeepsPair old new → IsAtRest part trail new
 rest_kept part trail old new is kept = elim kept.pair [
   | inl pair ↦ record {
@@ -83,9 +89,9 @@ blocked_set clauses id new watch below permuted is = record {
 }
 
 -- all is kept where a clause keeps its pair
-pub watched_kept : (vars : ℕ) (clauses : List (List Lit)) (w : WatchersParts) (id : ℕ) (new : List Lit) → AreWatched vars clauses w → id < length clauses → KeepsPair (kept_at clauses id) new
-    → AreWatched vars (slice_set clauses id new) w
-watched_kept vars clauses w id new are below kept =
+pub watched_kept : (base : List Lit) (vars : ℕ) (clauses : List (List Lit)) (w : WatchersParts) (id : ℕ) (new : List Lit) → AreWatched base vars clauses w → id < length clauses
+    → KeepsPair (kept_at clauses id) new → AreWatched base vars (slice_set clauses id new) w
+watched_kept base vars clauses w id new are below kept =
     let old = kept_at clauses id in
     let size : length (slice_set clauses id new) ≡ length clauses = length-set clauses id new in
     record {
@@ -93,7 +99,7 @@ watched_kept vars clauses w id new are below kept =
       negatives = are.negatives;
       watchable = All-set (IsWatchable vars) clauses id new (watchable_kept vars old new (are.watchable id [] below) kept) are.watchable;
       listed = λ other inside.
-          kept_set (IsListed w) clauses id other new below (listed_kept w id old new (are.listed id below) kept) (λ differs. are.listed other (subst (λ n. other < n) size inside));
+          kept_set (IsFollowed base w) clauses id other new below (followed_kept base w id old new (are.listed id below) kept) (λ differs. are.listed other (subst (λ n. other < n) size inside));
       blocked = λ l k d small. blocked_set clauses id new (get_or (watches_of w l) k d) below kept.permuted (are.blocked l k d small);
     }
 
@@ -121,6 +127,20 @@ rest_left values part trail gone old new l true_in inside rest left now = record
 -- more of the trail
 pub satisfied_grows : (trail more clause : List Lit) → ((l : Lit) → Contains trail l → Contains more l) → IsSatisfied trail clause → IsSatisfied more clause
 satisfied_grows trail more clause grows is = record { lit = is.lit; among = is.among; holds = grows is.lit is.holds }
+
+-- more that is true for good
+pub watched_grows : (base more : List Lit) (vars : ℕ) (clauses : List (List Lit)) (w : WatchersParts) → ((l : Lit) → Contains base l → Contains more l) → AreWatched base vars clauses w
+    → AreWatched more vars clauses w
+watched_grows base more vars clauses w grows are = record {
+  positives = are.positives;
+  negatives = are.negatives;
+  watchable = are.watchable;
+  listed = λ id small. elim (are.listed id small) [
+    | inl listed ↦ inl listed
+    | inr satisfied ↦ inr (satisfied_grows base more (kept_at clauses id) grows satisfied)
+  ];
+  blocked = are.blocked;
+}
 
 pub rest_grows : (part trail more clause : List Lit) → ((l : Lit) → Contains trail l → Contains more l) → IsAtRest part trail clause → IsAtRest part more clause
 rest_grows part trail more clause grows rest = record {

@@ -4,19 +4,19 @@ use Rattle.std.specs.Prelude.{Contains, take}
 use Rattle.std.specs.List.{All}
 use Rattle.std.specs.Global.{Vec}
 use Rattle.std.proofs.lemmas.List.{get_or_default, get_or-take, length-take, length-take-le, take-append-le}
-use Rattle.std.proofs.lemmas.List.Elements.{Contains-append_left}
 use Rattle.bt_cnf.specs.declared.literal.Lit.{Lit}
 use Rattle.bt_sat.specs.declared.search.Search.{Search}
 use Rattle.bt_sat.specs.inner.Attending.{no_lit}
 use Rattle.bt_sat.specs.inner.Keeping.{kept_at, AreWatched, IsAtRest}
 use Rattle.bt_sat.specs.inner.Levels.{start_of, front_of, AreLevels, IsOrdered, IsHeld, among_watched, alone, GoesBack}
 use Rattle.bt_sat.specs.inner.Propagating as kept
-use Rattle.bt_sat.specs.inner.Propagating.{GoesOn, IsKept, IsSettledTo, IsWhole}
+use Rattle.bt_sat.specs.inner.Propagating.{GoesOn, IsKept, IsSettledTo, IsWhole, root_of}
 use Rattle.bt_sat.specs.inner.Reasons.{AreSame, lit_at, IsReason, AreNumbered, IsReasoned}
-use Rattle.bt_sat.proofs.Advancing.{all_here, numbered_goes, same_permuted}
+use Rattle.bt_sat.proofs.Advancing.{all_here, numbered_goes, root_more, same_permuted}
 use Rattle.bt_sat.proofs.Back.{take_take, take_all_of, take_in, place_in_take}
 use Rattle.bt_sat.proofs.Cutting.{past}
 use Rattle.bt_sat.proofs.Deriving.{lt_or}
+use Rattle.bt_sat.proofs.Keeping.{watched_grows}
 use Rattle.bt_sat.proofs.Reasoning.{lt_or_eq}
 
 -- levels begin within the trail
@@ -74,12 +74,25 @@ module _ (all : List (List Lit)) (old new : Search) (level : ℕ) (ordered : IsO
       ap (λ n. take n new.assignment.trail.items) (start_same j small) ∙ ap (take (start_of old j)) back.forgets.trail
       ∙ take_take (start_of old j) (start_of old level) old.assignment.trail.items (omega (arith, below_level j small))
 
+  root_back : (l : Lit) → Contains (front_of old 0) l → Contains (front_of new 0) l
+  root_back l among = elim (lt_or 0 (length new.starts.items)) [
+    | inl some ↦ subst (λ front. Contains front l) (sym (front_same 0 some)) among
+    | inr none ↦
+        let whole : front_of new 0 ≡ take (start_of old level) old.assignment.trail.items =
+        take_all_of (start_of new 0) new.assignment.trail.items (omega (arith, past new.starts.items 0 (length new.assignment.trail.items) none)) ∙ back.forgets.trail in
+        let rises : start_of old 0 ≤ start_of old level = start_rises old ordered.levels 0 level (omega arith) in
+        subst (λ front. Contains front l) (sym whole)
+        (take_in (start_of old 0) (take (start_of old level) old.assignment.trail.items) l
+        (subst (λ front. Contains front l) (sym (take_take (start_of old 0) (start_of old level) old.assignment.trail.items rises)) among))
+  ]
+
   pub back_whole : IsWhole new
   back_whole = record {
     watched =
-        subst (λ w. AreWatched (length new.assignment.values) new.clauses w) (sym back.watchers)
-        (subst (λ cs. AreWatched (length new.assignment.values) cs old.watchers) (sym back.clauses)
-        (subst (λ n. AreWatched n old.clauses old.watchers) (sym back.forgets.variables) ordered.whole.watched));
+        subst (λ w. AreWatched (root_of new) (length new.assignment.values) new.clauses w) (sym back.watchers)
+        (subst (λ cs. AreWatched (root_of new) (length new.assignment.values) cs old.watchers) (sym back.clauses)
+        (subst (λ n. AreWatched (root_of new) n old.clauses old.watchers) (sym back.forgets.variables)
+        (watched_grows (root_of old) (root_of new) (length old.assignment.values) old.clauses old.watchers root_back ordered.whole.watched)));
     truths = back.forgets.truths;
   }
 
@@ -140,18 +153,6 @@ module _ (all : List (List Lit)) (old new : Search) (level : ℕ) (ordered : IsO
   back_ordered = record { whole = back_whole; numbered = back_numbered; reasoned = back_reasoned; levels = back_levels }
 
   -- what was true before the first choice still is
-  root_back : (l : Lit) → Contains (front_of old 0) l → Contains (front_of new 0) l
-  root_back l among = elim (lt_or 0 (length new.starts.items)) [
-    | inl some ↦ subst (λ front. Contains front l) (sym (front_same 0 some)) among
-    | inr none ↦
-        let whole : front_of new 0 ≡ take (start_of old level) old.assignment.trail.items =
-        take_all_of (start_of new 0) new.assignment.trail.items (omega (arith, past new.starts.items 0 (length new.assignment.trail.items) none)) ∙ back.forgets.trail in
-        let rises : start_of old 0 ≤ start_of old level = start_rises old ordered.levels 0 level (omega arith) in
-        subst (λ front. Contains front l) (sym whole)
-        (take_in (start_of old 0) (take (start_of old level) old.assignment.trail.items) l
-        (subst (λ front. Contains front l) (sym (take_take (start_of old 0) (start_of old level) old.assignment.trail.items rises)) among))
-  ]
-
   pub back_held : (clause : List Lit) → IsHeld old clause → IsHeld new clause
   back_held clause (among_watched id small same) =
       among_watched id (subst (λ cs. id < length cs) (sym back.clauses) small) (subst (λ cs. AreSame clause (kept_at cs id)) (sym back.clauses) same)
@@ -213,16 +214,7 @@ module _ (all : List (List Lit)) (old new : Search) (ordered : IsOrdered all old
     levels = goes_levels;
   }
 
-  root_goes : (l : Lit) → Contains (front_of old 0) l → Contains (front_of new 0) l
-  root_goes l among = elim (lt_or 0 (length old.starts.items)) [
-    | inl some ↦ subst (λ front. Contains front l) (sym (goes_front 0 some)) among
-    | inr none ↦
-        let all_new : front_of new 0 ≡ new.assignment.trail.items =
-        take_all_of (start_of new 0) new.assignment.trail.items (omega (arith, past new.starts.items 0 (length new.assignment.trail.items) (omega (arith, none, starts_count)))) in
-        subst (λ front. Contains front l) (sym (all_new ∙ goes.trail)) (Contains-append_left old.assignment.trail.items goes.more l (take_in (start_of old 0) old.assignment.trail.items l among))
-  ]
-
   pub goes_held : (clause : List Lit) → IsHeld old clause → IsHeld new clause
   goes_held clause (among_watched id small same) =
       among_watched id (subst (λ n. id < n) (sym goes.count) small) (same_permuted clause (kept_at old.clauses id) (kept_at new.clauses id) same (goes.clauses id))
-  goes_held clause (alone l among only true_l) = alone l among only (root_goes l true_l)
+  goes_held clause (alone l among only true_l) = alone l among only (root_more old new goes.more goes.starts goes.trail l true_l)

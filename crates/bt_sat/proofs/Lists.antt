@@ -57,6 +57,12 @@ contains_or (m ∷ lits) l =
       ]
     ]
 
+-- what is found at a place is within the list
+pub got_within : {X : Type 0} (xs : List X) (i : ℕ) (x : X) → slice_get xs i ≡ Some x → i < length xs
+got_within [] i x is = cc
+got_within (y ∷ xs) zero x is = omega arith
+got_within (y ∷ xs) (suc i) x is = omega (arith, got_within xs i x is)
+
 pub got_at : {X : Type 0} (xs : List X) (i : ℕ) (d x : X) → slice_get xs i ≡ Some x → get_or xs i d ≡ x
 got_at [] i d x is = cc
 got_at (y ∷ xs) zero d x is = cc

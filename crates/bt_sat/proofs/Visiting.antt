@@ -3,17 +3,17 @@ use Rattle.std.proofs.Common.{◌≡◌, ◌≢◌, ℕ, ◌≤◌, ◌<◌, ◌
 use Rattle.std.specs.Prelude.{Contains, slice_set}
 use Rattle.std.specs.List.{All}
 use Rattle.std.proofs.lemmas.List.{get_or_default, get_or-set_same, length-map}
-use Rattle.std.proofs.lemmas.List.Elements.{All-set, Contains-append_left, Contains-push}
+use Rattle.std.proofs.lemmas.List.Elements.{All-contains, All-set, Contains-append_left, Contains-push}
 use Rattle.bt_cnf.specs.declared.literal.Lit.{Lit}
 use Rattle.bt_log.specs.Units.{opposite}
 use Rattle.bt_sat.specs.declared.kept.Watch.{Watch}
 use Rattle.bt_sat.specs.inner.Attending.{no_lit, first, second, KeepsPair, LeavesOne, WatchesNow}
-use Rattle.bt_sat.specs.inner.Keeping.{IsWatchable, IsListed, kept_at, IsBlocked, AreWatched, AreTrue, IsAtRest, IsDone, IsSatisfied, IsVisiting}
+use Rattle.bt_sat.specs.inner.Keeping.{IsWatchable, IsListed, IsFollowed, kept_at, IsBlocked, AreWatched, AreTrue, IsAtRest, IsDone, IsSatisfied, IsVisiting}
 use Rattle.bt_sat.specs.inner.Truths.{IsTrueIn, IsFalseIn}
 use Rattle.bt_sat.specs.inner.Watchers.{watchers, watches_of, Resets, Watches, Unwatches}
 use Rattle.bt_sat.specs.inner.WatchersParts.{WatchersParts}
-use Rattle.bt_sat.proofs.Lists.{lit_or}
-use Rattle.bt_sat.proofs.Keeping.{blocked_set, watchable_left, rest_kept, rest_left, rest_grows, done_grows, watched_kept, kept_set, truths_more, without_keeps}
+use Rattle.bt_sat.proofs.Lists.{lit_or, nat_or}
+use Rattle.bt_sat.proofs.Keeping.{blocked_set, watchable_left, satisfied_kept, satisfied_grows, watched_grows, rest_kept, rest_left, rest_grows, done_grows, watched_kept, kept_set, truths_more, without_keeps}
 use Rattle.bt_sat.proofs.Watches.{number, no_watch, inside_list, number_at, numbers_added, numbers_others, numbers_without, numbers_reset, watch_grows, all_less, all_more_watches, all_reset}
 
 -- what holds of each clause, and what follows from it
@@ -48,10 +48,11 @@ unwatched w w' gone m place id x un inside is apart among =
     ]
 
 -- all is kept where the clause watches another literal now
-pub watched_moved : (vars : ℕ) (values : List (Option Bool)) (clauses : List (List Lit)) (w w₁ w₂ : WatchersParts) (id : ℕ) (new : List Lit) (l other gone : Lit) (place : ℕ)
-    → AreWatched vars clauses w → id < length clauses → LeavesOne gone (kept_at clauses id) new → first new ≡ other → WatchesNow values new l → IsFalseIn values gone
-    → Watches w w₁ l (record { id = id; blocker = other }) → Unwatches w₁ w₂ gone place → place < length (watchers w gone) → get_or (watchers w gone) place 0 ≡ id → AreWatched vars (slice_set clauses id new) w₂
-watched_moved vars values clauses w w₁ w₂ id new l other gone place are below left stays now false_gone one un inside is =
+pub watched_moved : (base : List Lit) (vars : ℕ) (values : List (Option Bool)) (clauses : List (List Lit)) (w w₁ w₂ : WatchersParts) (id : ℕ) (new : List Lit) (l other gone : Lit) (place : ℕ)
+    → AreWatched base vars clauses w → id < length clauses → LeavesOne gone (kept_at clauses id) new → first new ≡ other → WatchesNow values new l → IsFalseIn values gone
+    → Watches w w₁ l (record { id = id; blocker = other }) → Unwatches w₁ w₂ gone place → place < length (watchers w gone) → get_or (watchers w gone) place 0 ≡ id
+    → AreWatched base vars (slice_set clauses id new) w₂
+watched_moved base vars values clauses w w₁ w₂ id new l other gone place are below left stays now false_gone one un inside is =
     let old = kept_at clauses id in
     let size : length (slice_set clauses id new) ≡ length clauses = length-set clauses id new in
     let apart : l ≢ gone = λ e. now.not_false (subst (IsFalseIn values) (sym e) false_gone) in
@@ -61,25 +62,31 @@ watched_moved vars values clauses w w₁ w₂ id new l other gone place are belo
     let is₁ : get_or (watchers w₁ gone) place 0 ≡ id = ap (λ ids. get_or ids place 0) same ∙ is in
     let old_is : IsWatchable vars old = are.watchable id [] below in
     let not_first : first new ≢ gone = first_left vars gone old new old_is left in
-    let old_listed : IsListed w id old = are.listed id below in
-    let first_was : Contains (watchers w (first new)) id = elim left.pair [
-      | inl pair ↦ subst (λ m. Contains (watchers w m) id) (sym pair.0) old_listed.by_first
-      | inr pair ↦ subst (λ m. Contains (watchers w m) id) (sym pair.0) old_listed.by_second
+    let first_was : IsListed w id old → Contains (watchers w (first new)) id = λ listed. elim left.pair [
+      | inl pair ↦ subst (λ m. Contains (watchers w m) id) (sym pair.0) listed.by_first
+      | inr pair ↦ subst (λ m. Contains (watchers w m) id) (sym pair.0) listed.by_second
     ] in
-    let new_listed : IsListed w₂ id new = record {
-      by_first = unwatched w₁ w₂ gone (first new) place id id un inside₁ is₁ (λ e. absurd (not_first e)) (watch_grows w w₁ l (first new) watch id one first_was);
+    let new_listed : IsListed w id old → IsListed w₂ id new = λ listed. record {
+      by_first = unwatched w₁ w₂ gone (first new) place id id un inside₁ is₁ (λ e. absurd (not_first e)) (watch_grows w w₁ l (first new) watch id one (first_was listed));
       by_second =
           unwatched w₁ w₂ gone (second new) place id id un inside₁ is₁ (λ e. absurd (apart (sym now.stands ∙ e)))
           (subst (λ ids. Contains ids id) (sym (ap (watchers w₁) now.stands ∙ numbers_added w w₁ l watch one)) (Contains-push (watchers w l) id));
     } in
-    let others : (n : ℕ) → n < length clauses → n ≢ id → IsListed w₂ n (kept_at clauses n) = λ n small differs. record {
-      by_first =
-          unwatched w₁ w₂ gone (first (kept_at clauses n)) place id n un inside₁ is₁ (λ _ e. differs (sym e))
-          (watch_grows w w₁ l (first (kept_at clauses n)) watch n one (are.listed n small).by_first);
-      by_second =
-          unwatched w₁ w₂ gone (second (kept_at clauses n)) place id n un inside₁ is₁ (λ _ e. differs (sym e))
-          (watch_grows w w₁ l (second (kept_at clauses n)) watch n one (are.listed n small).by_second);
-    } in
+    let here : IsFollowed base w₂ id new = elim (are.listed id below) [
+      | inl listed ↦ inl (new_listed listed)
+      | inr satisfied ↦ inr (satisfied_kept base old new left.permuted satisfied)
+    ] in
+    let others : (n : ℕ) → n < length clauses → n ≢ id → IsFollowed base w₂ n (kept_at clauses n) = λ n small differs. elim (are.listed n small) [
+      | inl listed ↦ inl (record {
+        by_first =
+            unwatched w₁ w₂ gone (first (kept_at clauses n)) place id n un inside₁ is₁ (λ _ e. differs (sym e))
+            (watch_grows w w₁ l (first (kept_at clauses n)) watch n one listed.by_first);
+        by_second =
+            unwatched w₁ w₂ gone (second (kept_at clauses n)) place id n un inside₁ is₁ (λ _ e. differs (sym e))
+            (watch_grows w w₁ l (second (kept_at clauses n)) watch n one listed.by_second);
+      })
+      | inr satisfied ↦ inr satisfied
+    ] in
     let good = watchable_left vars values gone old new l old_is left now in
     let blocks : IsBlocked (slice_set clauses id new) watch = record {
       below = subst (λ n. id < n) (sym size) below;
@@ -89,7 +96,7 @@ watched_moved vars values clauses w w₁ w₂ id new l other gone place are belo
       positives = un.one.positives ∙ one.one.positives ∙ are.positives;
       negatives = un.one.negatives ∙ one.one.negatives ∙ are.negatives;
       watchable = All-set (IsWatchable vars) clauses id new good are.watchable;
-      listed = λ n small. kept_set (IsListed w₂) clauses id n new below new_listed (others n (subst (λ count. n < count) size small));
+      listed = λ n small. kept_set (IsFollowed base w₂) clauses id n new below here (others n (subst (λ count. n < count) size small));
       blocked =
           all_less (IsBlocked (slice_set clauses id new)) w₁ w₂ gone place un (inside_list (watches_of w₁ gone) place inside₁)
           (all_more_watches (IsBlocked (slice_set clauses id new)) w w₁ l watch one blocks
@@ -97,29 +104,52 @@ watched_moved vars values clauses w w₁ w₂ id new l other gone place are belo
     }
 
 -- all is kept where a clause leaves a list that it watches no longer
-pub watched_strayed : (vars : ℕ) (clauses : List (List Lit)) (w w' : WatchersParts) (gone : Lit) (place id : ℕ) → AreWatched vars clauses w → Unwatches w w' gone place
-    → place < length (watchers w gone) → get_or (watchers w gone) place 0 ≡ id → first (kept_at clauses id) ≢ gone → second (kept_at clauses id) ≢ gone → AreWatched vars clauses w'
-watched_strayed vars clauses w w' gone place id are un inside is not_first not_second =
+pub watched_strayed : (base : List Lit) (vars : ℕ) (clauses : List (List Lit)) (w w' : WatchersParts) (gone : Lit) (place id : ℕ) → AreWatched base vars clauses w → Unwatches w w' gone place
+    → place < length (watchers w gone) → get_or (watchers w gone) place 0 ≡ id → first (kept_at clauses id) ≢ gone → second (kept_at clauses id) ≢ gone → AreWatched base vars clauses w'
+watched_strayed base vars clauses w w' gone place id are un inside is not_first not_second =
     let here : (other : ℕ) (m : Lit) → m ≡ first (kept_at clauses other) → m ≡ gone → id ≢ other = λ other m e at same. not_first (ap (λ n. first (kept_at clauses n)) same ∙ sym e ∙ at) in
     let there : (other : ℕ) (m : Lit) → m ≡ second (kept_at clauses other) → m ≡ gone → id ≢ other = λ other m e at same. not_second (ap (λ n. second (kept_at clauses n)) same ∙ sym e ∙ at) in
     record {
       positives = un.one.positives ∙ are.positives;
       negatives = un.one.negatives ∙ are.negatives;
       watchable = are.watchable;
-      listed = λ other small. record {
-        by_first = unwatched w w' gone (first (kept_at clauses other)) place id other un inside is (here other (first (kept_at clauses other)) refl) (are.listed other small).by_first;
-        by_second = unwatched w w' gone (second (kept_at clauses other)) place id other un inside is (there other (second (kept_at clauses other)) refl) (are.listed other small).by_second;
-      };
+      listed = λ other small. elim (are.listed other small) [
+        | inl listed ↦ inl (record {
+          by_first = unwatched w w' gone (first (kept_at clauses other)) place id other un inside is (here other (first (kept_at clauses other)) refl) listed.by_first;
+          by_second = unwatched w w' gone (second (kept_at clauses other)) place id other un inside is (there other (second (kept_at clauses other)) refl) listed.by_second;
+        })
+        | inr satisfied ↦ inr satisfied
+      ];
       blocked = all_less (IsBlocked clauses) w w' gone place un (inside_list (watches_of w gone) place inside) are.blocked;
     }
+
+-- all is kept where a clause leaves a list, of which a literal is true for good
+watched_dropped : (base : List Lit) (vars : ℕ) (clauses : List (List Lit)) (w w' : WatchersParts) (gone : Lit) (place id : ℕ) → AreWatched base vars clauses w → Unwatches w w' gone place
+    → place < length (watchers w gone) → get_or (watchers w gone) place 0 ≡ id → IsSatisfied base (kept_at clauses id) → AreWatched base vars clauses w'
+watched_dropped base vars clauses w w' gone place id are un inside is satisfied = record {
+  positives = un.one.positives ∙ are.positives;
+  negatives = un.one.negatives ∙ are.negatives;
+  watchable = are.watchable;
+  listed = λ other small. elim (nat_or other id) [
+    | inl same ↦ inr (subst (λ n. IsSatisfied base (kept_at clauses n)) (sym same) satisfied)
+    | inr differs ↦ elim (are.listed other small) [
+      | inl listed ↦ inl (record {
+        by_first = unwatched w w' gone (first (kept_at clauses other)) place id other un inside is (λ _ e. differs (sym e)) listed.by_first;
+        by_second = unwatched w w' gone (second (kept_at clauses other)) place id other un inside is (λ _ e. differs (sym e)) listed.by_second;
+      })
+      | inr good ↦ inr good
+    ]
+  ];
+  blocked = all_less (IsBlocked clauses) w w' gone place un (inside_list (watches_of w gone) place inside) are.blocked;
+}
 
 lt_or : (m n : ℕ) → (m < n) ⊎ (n ≤ m)
 lt_or m n = grind arith
 
 -- the lists name clauses
-pub named_below : (vars : ℕ) (clauses : List (List Lit)) (w : WatchersParts) (gone : Lit) (place id : ℕ) → AreWatched vars clauses w → place < length (watchers w gone)
+pub named_below : (base : List Lit) (vars : ℕ) (clauses : List (List Lit)) (w : WatchersParts) (gone : Lit) (place id : ℕ) → AreWatched base vars clauses w → place < length (watchers w gone)
     → get_or (watchers w gone) place 0 ≡ id → id < length clauses
-named_below vars clauses w gone place id are inside is =
+named_below base vars clauses w gone place id are inside is =
     let small : place < length (watches_of w gone) = inside_list (watches_of w gone) place inside in
     subst (λ n. n < length clauses) (sym (number_at (watches_of w gone) place small) ∙ is) (are.blocked gone place no_watch small).below
 
@@ -143,16 +173,17 @@ done_next gone trail clauses ids id place new below new_done is done k before in
           absurd (differs (ap (λ n. get_or ids n 0) here ∙ is))
     ])
 
-module _ (part : List Lit) (gone : Lit) (place : ℕ) (values : List (Option Bool)) (trail : List Lit) (clauses : List (List Lit)) (w : WatchersParts) (id : ℕ) (new : List Lit)
-    (v : IsVisiting part gone place values trail clauses w) (inside : place < length (watchers w gone)) (is : get_or (watchers w gone) place 0 ≡ id) where
+module _ (part : List Lit) (gone : Lit) (place : ℕ) (base : List Lit) (values : List (Option Bool)) (trail : List Lit) (clauses : List (List Lit)) (w : WatchersParts) (id : ℕ) (new : List Lit)
+    (v : IsVisiting part gone place base values trail clauses w) (inside : place < length (watchers w gone)) (is : get_or (watchers w gone) place 0 ≡ id) where
   below : id < length clauses
-  below = named_below (length values) clauses w gone place id v.watched inside is
+  below = named_below base (length values) clauses w gone place id v.watched inside is
 
   -- the clause keeps its pair, and nothing is said of it
-  pub keeps : KeepsPair (kept_at clauses id) new → IsDone gone trail new → IsVisiting part gone place values trail (slice_set clauses id new) w
+  pub keeps : KeepsPair (kept_at clauses id) new → IsDone gone trail new → IsVisiting part gone place base values trail (slice_set clauses id new) w
   unfolding below
   keeps kept done = record {
-    watched = watched_kept (length values) clauses w id new v.watched below kept;
+    watched = watched_kept base (length values) clauses w id new v.watched below kept;
+    base_in = v.base_in;
     truths = v.truths;
     rest = All-set (IsAtRest part trail) clauses id new (rest_kept part trail (kept_at clauses id) new (v.rest id [] below) kept) v.rest;
     part_in = v.part_in;
@@ -161,10 +192,11 @@ module _ (part : List Lit) (gone : Lit) (place : ℕ) (values : List (Option Boo
   }
 
   -- the clause keeps its pair, and is done
-  pub goes_on : KeepsPair (kept_at clauses id) new → IsDone gone trail new → IsVisiting part gone (place + 1) values trail (slice_set clauses id new) w
+  pub goes_on : KeepsPair (kept_at clauses id) new → IsDone gone trail new → IsVisiting part gone (place + 1) base values trail (slice_set clauses id new) w
   unfolding below
   goes_on kept done = record {
-    watched = watched_kept (length values) clauses w id new v.watched below kept;
+    watched = watched_kept base (length values) clauses w id new v.watched below kept;
+    base_in = v.base_in;
     truths = v.truths;
     rest = All-set (IsAtRest part trail) clauses id new (rest_kept part trail (kept_at clauses id) new (v.rest id [] below) kept) v.rest;
     part_in = v.part_in;
@@ -175,7 +207,7 @@ module _ (part : List Lit) (gone : Lit) (place : ℕ) (values : List (Option Boo
   -- the clause watches another literal now
   pub moves : (w₁ w₂ : WatchersParts) (l other : Lit) → LeavesOne gone (kept_at clauses id) new → first new ≡ other → WatchesNow values new l → Watches w w₁ l (record { id = id; blocker = other })
       → Unwatches w₁ w₂ gone place
-      → IsVisiting part gone place values trail (slice_set clauses id new) w₂
+      → IsVisiting part gone place base values trail (slice_set clauses id new) w₂
   unfolding below
   moves w₁ w₂ l other left stands now one un =
       let apart : l ≢ gone = λ e. now.not_false (subst (IsFalseIn values) (sym e) v.gone_false) in
@@ -183,7 +215,8 @@ module _ (part : List Lit) (gone : Lit) (place : ℕ) (values : List (Option Boo
       let not_first : first new ≢ gone = first_left (length values) gone (kept_at clauses id) new (v.watched.watchable id [] below) left in
       let not_second : second new ≢ gone = λ e. apart (sym now.stands ∙ e) in
       record {
-        watched = watched_moved (length values) values clauses w w₁ w₂ id new l other gone place v.watched below left stands now v.gone_false one un inside is;
+        watched = watched_moved base (length values) values clauses w w₁ w₂ id new l other gone place v.watched below left stands now v.gone_false one un inside is;
+        base_in = v.base_in;
         truths = v.truths;
         rest =
             All-set (IsAtRest part trail) clauses id new
@@ -199,11 +232,12 @@ module _ (part : List Lit) (gone : Lit) (place : ℕ) (values : List (Option Boo
       }
 
 -- a clause leaves a list that it watches no longer
-pub strays : (part : List Lit) (gone : Lit) (place : ℕ) (values : List (Option Bool)) (trail : List Lit) (clauses : List (List Lit)) (w w' : WatchersParts) (id : ℕ)
-    → IsVisiting part gone place values trail clauses w → place < length (watchers w gone) → get_or (watchers w gone) place 0 ≡ id
-    → first (kept_at clauses id) ≢ gone → second (kept_at clauses id) ≢ gone → Unwatches w w' gone place → IsVisiting part gone place values trail clauses w'
-strays part gone place values trail clauses w w' id v inside is not_first not_second un = record {
-  watched = watched_strayed (length values) clauses w w' gone place id v.watched un inside is not_first not_second;
+pub strays : (part : List Lit) (gone : Lit) (place : ℕ) (base : List Lit) (values : List (Option Bool)) (trail : List Lit) (clauses : List (List Lit)) (w w' : WatchersParts) (id : ℕ)
+    → IsVisiting part gone place base values trail clauses w → place < length (watchers w gone) → get_or (watchers w gone) place 0 ≡ id
+    → first (kept_at clauses id) ≢ gone → second (kept_at clauses id) ≢ gone → Unwatches w w' gone place → IsVisiting part gone place base values trail clauses w'
+strays part gone place base values trail clauses w w' id v inside is not_first not_second un = record {
+  watched = watched_strayed base (length values) clauses w w' gone place id v.watched un inside is not_first not_second;
+  base_in = v.base_in;
   truths = v.truths;
   rest = v.rest;
   part_in = v.part_in;
@@ -215,15 +249,16 @@ strays part gone place values trail clauses w w' id v inside is not_first not_se
 }
 
 -- a literal that was unset is true
-pub grows : (part : List Lit) (gone : Lit) (place : ℕ) (values : List (Option Bool)) (trail : List Lit) (clauses : List (List Lit)) (w : WatchersParts) (l : Lit)
-    → IsVisiting part gone place values trail clauses w → l.var < length values → (IsTrueIn values l → ⊥) → (IsFalseIn values l → ⊥)
-    → IsVisiting part gone place (slice_set values l.var (Some l.positive)) (trail ++ l ∷ []) clauses w
-grows part gone place values trail clauses w l v inside not_true not_false =
+pub grows : (part : List Lit) (gone : Lit) (place : ℕ) (base : List Lit) (values : List (Option Bool)) (trail : List Lit) (clauses : List (List Lit)) (w : WatchersParts) (l : Lit)
+    → IsVisiting part gone place base values trail clauses w → l.var < length values → (IsTrueIn values l → ⊥) → (IsFalseIn values l → ⊥)
+    → IsVisiting part gone place base (slice_set values l.var (Some l.positive)) (trail ++ l ∷ []) clauses w
+grows part gone place base values trail clauses w l v inside not_true not_false =
     let more = trail ++ l ∷ [] in
     let truths = truths_more values trail l v.truths inside not_true not_false in
     let wider : (m : Lit) → Contains trail m → Contains more m = λ m among. Contains-append_left trail (l ∷ []) m among in
     record {
-      watched = subst (λ n. AreWatched n clauses w) (sym (length-set values l.var (Some l.positive))) v.watched;
+      watched = subst (λ n. AreWatched base n clauses w) (sym (length-set values l.var (Some l.positive))) v.watched;
+      base_in = all_more (Contains trail) (Contains more) base wider v.base_in;
       truths = truths;
       rest = all_more (IsAtRest part trail) (IsAtRest part more) clauses (λ c rest. rest_grows part trail more c wider rest) v.rest;
       part_in = all_more (Contains trail) (Contains more) part wider v.part_in;
@@ -244,10 +279,10 @@ pub done_true : (gone : Lit) (trail clause : List Lit) → IsSatisfied trail cla
 done_true gone trail clause is = record { if_first = λ _. is; if_second = λ _. is }
 
 -- a clause that gets another blocking literal
-pub resets : (part : List Lit) (gone : Lit) (place at : ℕ) (values : List (Option Bool)) (trail : List Lit) (clauses : List (List Lit)) (w w' : WatchersParts) (watch : Watch)
-    → IsVisiting part gone at values trail clauses w → Resets w w' gone place watch → place < length (watches_of w gone) → get_or (watchers w gone) place 0 ≡ watch.id → IsBlocked clauses watch
-    → IsVisiting part gone at values trail clauses w'
-resets part gone place at values trail clauses w w' watch v one inside is blocks =
+pub resets : (part : List Lit) (gone : Lit) (place at : ℕ) (base : List Lit) (values : List (Option Bool)) (trail : List Lit) (clauses : List (List Lit)) (w w' : WatchersParts) (watch : Watch)
+    → IsVisiting part gone at base values trail clauses w → Resets w w' gone place watch → place < length (watches_of w gone) → get_or (watchers w gone) place 0 ≡ watch.id → IsBlocked clauses watch
+    → IsVisiting part gone at base values trail clauses w'
+resets part gone place at base values trail clauses w w' watch v one inside is blocks =
     let same : (m : Lit) → watchers w' m ≡ watchers w m = λ m. numbers_reset w w' gone m place watch one inside is in
     record {
       watched = record {
@@ -255,13 +290,16 @@ resets part gone place at values trail clauses w w' watch v one inside is blocks
         negatives = one.one.negatives ∙ v.watched.negatives;
         watchable = v.watched.watchable;
         listed = λ id small.
-            let listed = v.watched.listed id small in
-            record {
-              by_first = subst (λ ids. Contains ids id) (sym (same (first (kept_at clauses id)))) listed.by_first;
-              by_second = subst (λ ids. Contains ids id) (sym (same (second (kept_at clauses id)))) listed.by_second;
-            };
+            elim (v.watched.listed id small) [
+              | inl listed ↦ inl (record {
+                by_first = subst (λ ids. Contains ids id) (sym (same (first (kept_at clauses id)))) listed.by_first;
+                by_second = subst (λ ids. Contains ids id) (sym (same (second (kept_at clauses id)))) listed.by_second;
+              })
+              | inr satisfied ↦ inr satisfied
+            ];
         blocked = all_reset (IsBlocked clauses) w w' gone place watch one blocks v.watched.blocked;
       };
+      base_in = v.base_in;
       truths = v.truths;
       rest = v.rest;
       part_in = v.part_in;
@@ -271,11 +309,12 @@ resets part gone place at values trail clauses w w' watch v one inside is blocks
     }
 
 -- a clause whose blocking literal is true
-pub passes : (part : List Lit) (gone : Lit) (place : ℕ) (values : List (Option Bool)) (trail : List Lit) (clauses : List (List Lit)) (w : WatchersParts) (watch : Watch)
-    → IsVisiting part gone place values trail clauses w → get_or (watchers w gone) place 0 ≡ watch.id → IsBlocked clauses watch → IsTrueIn values watch.blocker
-    → IsVisiting part gone (place + 1) values trail clauses w
-passes part gone place values trail clauses w watch v is blocks true_blocker = record {
+pub passes : (part : List Lit) (gone : Lit) (place : ℕ) (base : List Lit) (values : List (Option Bool)) (trail : List Lit) (clauses : List (List Lit)) (w : WatchersParts) (watch : Watch)
+    → IsVisiting part gone place base values trail clauses w → get_or (watchers w gone) place 0 ≡ watch.id → IsBlocked clauses watch → IsTrueIn values watch.blocker
+    → IsVisiting part gone (place + 1) base values trail clauses w
+passes part gone place base values trail clauses w watch v is blocks true_blocker = record {
   watched = v.watched;
+  base_in = v.base_in;
   truths = v.truths;
   rest = v.rest;
   part_in = v.part_in;
@@ -290,13 +329,47 @@ passes part gone place values trail clauses w watch v is blocks true_blocker = r
 }
 
 -- once all clauses of a literal's list were visited, nothing is unsettled by a longer part of the trail
-pub visited : (part : List Lit) (gone : Lit) (place : ℕ) (values : List (Option Bool)) (trail : List Lit) (clauses : List (List Lit)) (w : WatchersParts)
-    → IsVisiting part gone place values trail clauses w → length (watches_of w gone) ≤ place → (id : ℕ) → id < length clauses → IsDone gone trail (kept_at clauses id)
-visited part gone place values trail clauses w v all id below =
-    let listed = v.watched.listed id below in
+pub visited : (part : List Lit) (gone : Lit) (place : ℕ) (base : List Lit) (values : List (Option Bool)) (trail : List Lit) (clauses : List (List Lit)) (w : WatchersParts)
+    → IsVisiting part gone place base values trail clauses w → length (watches_of w gone) ≤ place → (id : ℕ) → id < length clauses → IsDone gone trail (kept_at clauses id)
+visited part gone place base values trail clauses w v all id below =
     let on_list : Contains (watchers w gone) id → IsDone gone trail (kept_at clauses id) = λ (k, small, is).
     subst (λ n. IsDone gone trail (kept_at clauses n)) (get_or_default (watchers w gone) k 0 id small ∙ is) (v.done k (omega (arith, all, small, length-map (watches_of w gone) number)) small) in
-    record {
-      if_first = λ e. (on_list (subst (λ m. Contains (watchers w m) id) e listed.by_first)).if_first e;
-      if_second = λ e. (on_list (subst (λ m. Contains (watchers w m) id) e listed.by_second)).if_second e;
-    }
+    elim (v.watched.listed id below) [
+      | inl listed ↦ record {
+        if_first = λ e. (on_list (subst (λ m. Contains (watchers w m) id) e listed.by_first)).if_first e;
+        if_second = λ e. (on_list (subst (λ m. Contains (watchers w m) id) e listed.by_second)).if_second e;
+      }
+      | inr satisfied ↦
+          done_true gone trail (kept_at clauses id)
+          (satisfied_grows base trail (kept_at clauses id) (λ l among. All-contains (Contains trail) base l v.base_in among) satisfied)
+    ]
+
+-- a clause leaves a list, of which a literal is true for good
+pub drops : (part : List Lit) (gone : Lit) (place : ℕ) (base : List Lit) (values : List (Option Bool)) (trail : List Lit) (clauses : List (List Lit)) (w w' : WatchersParts) (id : ℕ)
+    → IsVisiting part gone place base values trail clauses w → place < length (watchers w gone) → get_or (watchers w gone) place 0 ≡ id → IsSatisfied base (kept_at clauses id) → Unwatches w w' gone place
+    → IsVisiting part gone place base values trail clauses w'
+drops part gone place base values trail clauses w w' id v inside is satisfied un = record {
+  watched = watched_dropped base (length values) clauses w w' gone place id v.watched un inside is satisfied;
+  base_in = v.base_in;
+  truths = v.truths;
+  rest = v.rest;
+  part_in = v.part_in;
+  gone_false = v.gone_false;
+  done = λ k before small.
+      let stays : get_or (watchers w' gone) k 0 ≡ get_or (watchers w gone) k 0 =
+      (numbers_without place (watches_of w gone) (watches_of w' gone) un.without).others k 0 (λ e. absurd (omega (arith, e, before))) (omega (arith, before, inside)) in
+      subst (λ n. IsDone gone trail (kept_at clauses n)) (sym stays) (v.done k before (omega (arith, before, inside)));
+}
+
+-- more is true for good
+pub roots : (part : List Lit) (gone : Lit) (place : ℕ) (base more : List Lit) (values : List (Option Bool)) (trail : List Lit) (clauses : List (List Lit)) (w : WatchersParts)
+    → IsVisiting part gone place base values trail clauses w → ((l : Lit) → Contains base l → Contains more l) → All (Contains trail) more → IsVisiting part gone place more values trail clauses w
+roots part gone place base more values trail clauses w v grows inside = record {
+  watched = watched_grows base more (length values) clauses w grows v.watched;
+  base_in = inside;
+  truths = v.truths;
+  rest = v.rest;
+  part_in = v.part_in;
+  gone_false = v.gone_false;
+  done = v.done;
+}

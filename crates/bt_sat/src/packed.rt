@@ -49,6 +49,13 @@ impl Packed {
         }
     }
 
+    /// The number of its variable.
+    pub fn place(&self) -> usize
+        ensures { result ≡ self.now.var }
+    {
+        self.place as usize
+    }
+
     /// Whether it is this literal.
     pub fn is(&self, lit: &Lit) -> bool
         ensures { IsTrue result ↔ (self.now ≡ lit.now) }

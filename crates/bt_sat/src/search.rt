@@ -1,13 +1,14 @@
 //! Propagation over watched clauses.
-ghost use Rattle.std.specs.Prelude.{◌≡◌, ◌<◌, ◌≤◌, length, IfOk, OnOk, slice_get};
+ghost use Rattle.std.specs.Prelude.{◌≡◌, ◌<◌, ◌≤◌, length, IfOk, OnOk, IsTrue, Some, slice_get, Contains};
 ghost use Rattle.bt_sat.specs.inner.Keeping.{AreWatched, AreTrue, IsWatchable, kept_at};
 ghost use Rattle.bt_sat.specs.inner.AttendingIn.{AttendsIn};
 ghost use Rattle.bt_sat.specs.inner.Truths.{IsFalseIn};
 ghost use Rattle.bt_sat.specs.inner.Watchers.{watches_of};
-ghost use Rattle.bt_sat.specs.inner.Propagating.{Advances, IsSettledTo, Keeps, Propagates, Settles};
+ghost use Rattle.bt_sat.specs.inner.Propagating.{Advances, IsSettledTo, Keeps, Passes, Propagates, Settles, root_of};
 
 use crate::assignment::{Assignment, assign};
 use crate::kept::{Kept, PackedId, Watch};
+use crate::levels::start;
 use crate::packed::{Packed, pack_all};
 use crate::truth::{Values, negation};
 use crate::watched::{Visit, attend};
@@ -57,10 +58,46 @@ pub fn number_of(numbers: &[usize], id: PackedId) -> Option<usize>
     numbers.get(id.place()).copied()
 }
 
+/// Whether a literal is known to have been true before the first choice, or while nothing was chosen.
+fn is_rooted(search: &Search, lit: &Packed) -> bool
+    ensures { IsTrue result → Contains (root_of search.now) lit.now }
+{
+    match search.assignment.places.get(lit.place()) {
+        Some(place) => *place < start(search, 0) && is_at(&search.assignment.trail, *place, lit),
+        None => false,
+    }
+}
+
+/// Whether a literal stands at a place of the trail.
+fn is_at(trail: &[Lit], place: usize, lit: &Packed) -> bool
+    ensures { IsTrue result → slice_get trail.now place ≡ Some lit.now }
+{
+    match trail.get(place) {
+        Some(other) => lit.is(other),
+        None => false,
+    }
+}
+
+/// Passes the clause at a place of the list of a literal that is false, whose blocking literal is true. Where
+/// that one is true for good, the clause leaves the list.
+fn pass(search: &mut Search, gone: &Lit, place: usize, blocker: &Packed) -> Attended
+    requires positives { gone.now.var < length search.old.watchers.positives }
+    requires negatives { gone.now.var < length search.old.watchers.negatives }
+    requires place { place < length (watches_of search.old.watchers gone.now) }
+    ensures { Passes gone.now place blocker.now search.old search.new result }
+{
+    if is_rooted(search, blocker) {
+        search.watchers.unwatch(gone, place);
+        Attended::Leaves
+    } else {
+        Attended::Stays
+    }
+}
+
 /// Visits the clause at a place of the list of a literal that is false. Where its blocking literal is true,
 /// the clause isn't looked at.
 pub fn attend_at(search: &mut Search, gone: &Lit, place: usize) -> Result<Attended, AllocError>
-    requires watched { AreWatched (length search.old.assignment.values)
+    requires watched { AreWatched (root_of search.old) (length search.old.assignment.values)
         search.old.clauses search.old.watchers }
     requires truths { AreTrue search.old.assignment.values search.old.assignment.trail.items }
     requires gone { IsFalseIn search.old.assignment.values gone.now }
@@ -70,7 +107,7 @@ pub fn attend_at(search: &mut Search, gone: &Lit, place: usize) -> Result<Attend
 {
     let watch = search.watchers.at(gone, place);
     if watch.blocker.is_true(&search.assignment.values) {
-        return Ok(Attended::Stays);
+        return Ok(pass(search, gone, place, &watch.blocker));
     }
     let id = watch.id;
     match attend_in(&mut search.clauses, id, gone, &search.assignment.values) {
@@ -101,7 +138,7 @@ pub fn attend_at(search: &mut Search, gone: &Lit, place: usize) -> Result<Attend
 /// Visits all clauses that watch a literal that is false. Tells the clause whose literals are all false,
 /// where there is one.
 pub fn settle(search: &mut Search, gone: &Lit) -> Result<Option<PackedId>, AllocError>
-    requires watched { AreWatched (length search.old.assignment.values)
+    requires watched { AreWatched (root_of search.old) (length search.old.assignment.values)
         search.old.clauses search.old.watchers }
     requires truths { AreTrue search.old.assignment.values search.old.assignment.trail.items }
     requires gone { IsFalseIn search.old.assignment.values gone.now }
@@ -144,7 +181,7 @@ fn keep_packed(
     packed: &[Packed],
     number: usize,
 ) -> Result<(), AllocError>
-    requires watched { AreWatched (length search.old.assignment.values)
+    requires watched { AreWatched (root_of search.old) (length search.old.assignment.values)
         search.old.clauses search.old.watchers }
     requires watchable { IsWatchable (length search.old.assignment.values) lits.now }
     requires same { packed.now ≡ lits.now }
@@ -168,7 +205,7 @@ fn keep_packed(
 
 /// Keeps the clause with a number, of two or more literals, the first two of which it watches.
 pub fn keep(search: &mut Search, lits: &[Lit], number: usize) -> Result<(), AllocError>
-    requires watched { AreWatched (length search.old.assignment.values)
+    requires watched { AreWatched (root_of search.old) (length search.old.assignment.values)
         search.old.clauses search.old.watchers }
     requires watchable { IsWatchable (length search.old.assignment.values) lits.now }
     ensures { OnOk result (Keeps lits.now number search.old search.new) }

@@ -1,5 +1,5 @@
 -- What the search keeps true of its clauses, of the lists of those that watch a literal, and of the trail.
-use Rattle.std.specs.Prelude.{◌≡◌, ◌≢◌, ◌≤◌, ◌<◌, ℕ, Bool, List, [], Option, length, slice_index_or, Contains}
+use Rattle.std.specs.Prelude.{◌≡◌, ◌≢◌, ◌⊎◌, ◌≤◌, ◌<◌, ℕ, Bool, List, [], Option, length, slice_index_or, Contains}
 use Rattle.std.specs.List.{All}
 use Rattle.bt_cnf.specs.Formulas.{LitsBelow}
 use Rattle.bt_cnf.specs.declared.literal.Lit.{Lit}
@@ -21,6 +21,16 @@ pub record IsListed (w : WatchersParts) (id : ℕ) (clause : List Lit) : Type 0 
   pub by_first : Contains (watchers w (first clause)) id
   pub by_second : Contains (watchers w (second clause)) id
 
+-- a literal of the clause is true
+pub record IsSatisfied (trail clause : List Lit) : Type 0 where
+  pub lit : Lit
+  pub among : Contains clause lit
+  pub holds : Contains trail lit
+
+-- a clause is on both its lists; or one of its literals is true for good, so that it needs none
+abbrev pub IsFollowed : List Lit → WatchersParts → ℕ → List Lit → Type 0
+IsFollowed base w id clause = IsListed w id clause ⊎ IsSatisfied base clause
+
 -- the clause with this number
 abbrev pub kept_at : List (List Lit) → ℕ → List Lit
 kept_at clauses id = slice_index_or clauses id []
@@ -30,12 +40,13 @@ pub record IsBlocked (clauses : List (List Lit)) (watch : Watch) : Type 0 where
   pub below : watch.id < length clauses
   pub among : Contains (kept_at clauses watch.id) watch.blocker
 
--- each clause is watchable and on its two lists, and the lists name clauses, with a literal of each
-pub record AreWatched (vars : ℕ) (clauses : List (List Lit)) (w : WatchersParts) : Type 0 where
+-- each clause is watchable, and on its two lists where none of its literals is among those that are true for good; the
+-- lists name clauses, with a literal of each
+pub record AreWatched (base : List Lit) (vars : ℕ) (clauses : List (List Lit)) (w : WatchersParts) : Type 0 where
   pub positives : length w.positives ≡ vars
   pub negatives : length w.negatives ≡ vars
   pub watchable : All (IsWatchable vars) clauses
-  pub listed : (id : ℕ) → id < length clauses → IsListed w id (kept_at clauses id)
+  pub listed : (id : ℕ) → id < length clauses → IsFollowed base w id (kept_at clauses id)
   pub blocked : (l : Lit) → All (IsBlocked clauses) (watches_of w l)
 
 -- the trail has exactly the literals that are true
@@ -43,12 +54,6 @@ pub record AreTrue (values : List (Option Bool)) (trail : List Lit) : Type 0 whe
   pub below : LitsBelow (length values) trail
   pub true_in : (l : Lit) → Contains trail l → IsTrueIn values l
   pub in_trail : (l : Lit) → IsTrueIn values l → Contains trail l
-
--- a literal of the clause is true
-pub record IsSatisfied (trail clause : List Lit) : Type 0 where
-  pub lit : Lit
-  pub among : Contains clause lit
-  pub holds : Contains trail lit
 
 -- where one of the two literals that a clause watches has its opposite in a part of the trail, a literal of it is true
 pub record IsAtRest (part trail clause : List Lit) : Type 0 where
@@ -62,9 +67,10 @@ pub record IsDone (gone : Lit) (trail clause : List Lit) : Type 0 where
 
 -- the clauses that watch a false literal are being visited: all is kept, nothing is unsettled by a part of the trail, and
 -- the first so many of the literal's list are done
-pub record IsVisiting (part : List Lit) (gone : Lit) (place : ℕ) (values : List (Option Bool)) (trail : List Lit)
+pub record IsVisiting (part : List Lit) (gone : Lit) (place : ℕ) (base : List Lit) (values : List (Option Bool)) (trail : List Lit)
     (clauses : List (List Lit)) (w : WatchersParts) : Type 0 where
-  pub watched : AreWatched (length values) clauses w
+  pub watched : AreWatched base (length values) clauses w
+  pub base_in : All (Contains trail) base
   pub truths : AreTrue values trail
   pub rest : All (IsAtRest part trail) clauses
   pub part_in : All (Contains trail) part

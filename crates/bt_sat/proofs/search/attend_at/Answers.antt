@@ -4,6 +4,7 @@ use Rattle.std.proofs.lemmas.List.Elements.{All-contains}
 use Rattle.bt_cnf.specs.declared.literal.Lit.{Lit}
 use Rattle.bt_sat.specs.inner.Attending.{no_lit}
 use Rattle.bt_sat.specs.inner.Keeping.{kept_at, IsWatchable}
+use Rattle.bt_sat.specs.inner.Propagating.{root_of}
 use Rattle.bt_sat.specs.inner.Assigning.{Assigns}
 use Rattle.bt_sat.specs.inner.Truths.{IsFalseIn}
 use Rattle.bt_sat.specs.inner.Watchers.{watches_of, Watches}
@@ -25,12 +26,12 @@ pub is_true-requires : goal.is_true-requires
 is_true-requires c =
     let old = c.args.search.now in
     let watch = c.at-watch.result in
-    let blocks = blocked_at (length old.assignment.values) old.clauses old.watchers c.args.gone.now c.args.place watch c.requires.watched c.requires.place c.at-watch.ensures in
+    let blocks = blocked_at (root_of old) (length old.assignment.values) old.clauses old.watchers c.args.gone.now c.args.place watch c.requires.watched c.requires.place c.at-watch.ensures in
     All-contains (λ (l : Lit). l.var < length old.assignment.values) (kept_at old.clauses watch.id) watch.blocker (c.requires.watched.watchable watch.id [] blocks.below).below blocks.among
 
 pub returns-then-is_true : goal.returns-then-is_true
 returns-then-is_true c =
-    Advancing.passed c.args.search.now c.args.gone.now c.args.place c.at-watch.result c.requires.watched c.requires.place c.at-watch.ensures (c.if-is_true.ensures.0 refl)
+    Advancing.passes_on c.args.search.now c.pass.new.search c.args.gone.now c.args.place c.at-watch.result c.pass.result c.requires.watched c.requires.place c.at-watch.ensures (c.if-is_true.ensures.0 refl) c.pass.ensures
 
 pub unpack-lit-requires : goal.unpack-lit-requires
 unpack-lit-requires c =
@@ -38,7 +39,7 @@ unpack-lit-requires c =
     let vars = length old.assignment.values in
     let id = c.at-watch.result.id in
     let at = c.in-Moves.ensures in
-    let below = named_below vars old.clauses old.watchers c.args.gone.now c.args.place id c.requires.watched (inside_numbers (watches_of old.watchers c.args.gone.now) c.args.place c.requires.place)
+    let below = named_below (root_of old) vars old.clauses old.watchers c.args.gone.now c.args.place id c.requires.watched (inside_numbers (watches_of old.watchers c.args.gone.now) c.args.place c.requires.place)
     (numbered_at (watches_of old.watchers c.args.gone.now) c.args.place c.at-watch.result c.requires.place c.at-watch.ensures) in
     let good = watchable_left vars old.assignment.values c.args.gone.now (kept_at old.clauses id) at.clause c.in-Moves.lit (c.requires.watched.watchable id [] below) at.attends.0 at.attends.2 in
     second_below vars vars at.clause c.in-Moves.lit good at.attends.2.stands refl
@@ -55,7 +56,7 @@ watch-requires-clause-positives c =
     let vars = length old.assignment.values in
     let id = c.at-watch.result.id in
     let at = c.in-Moves.ensures in
-    let below = named_below vars old.clauses old.watchers c.args.gone.now c.args.place id c.requires.watched (inside_numbers (watches_of old.watchers c.args.gone.now) c.args.place c.requires.place)
+    let below = named_below (root_of old) vars old.clauses old.watchers c.args.gone.now c.args.place id c.requires.watched (inside_numbers (watches_of old.watchers c.args.gone.now) c.args.place c.requires.place)
     (numbered_at (watches_of old.watchers c.args.gone.now) c.args.place c.at-watch.result c.requires.place c.at-watch.ensures) in
     let good = watchable_left vars old.assignment.values c.args.gone.now (kept_at old.clauses id) at.clause c.in-Moves.lit (c.requires.watched.watchable id [] below) at.attends.0 at.attends.2 in
     subst (λ (m : Lit). m.var < length old.watchers.positives) (sym c.unpack-lit.ensures)
@@ -67,7 +68,7 @@ watch-requires-clause-negatives c =
     let vars = length old.assignment.values in
     let id = c.at-watch.result.id in
     let at = c.in-Moves.ensures in
-    let below = named_below vars old.clauses old.watchers c.args.gone.now c.args.place id c.requires.watched (inside_numbers (watches_of old.watchers c.args.gone.now) c.args.place c.requires.place)
+    let below = named_below (root_of old) vars old.clauses old.watchers c.args.gone.now c.args.place id c.requires.watched (inside_numbers (watches_of old.watchers c.args.gone.now) c.args.place c.requires.place)
     (numbered_at (watches_of old.watchers c.args.gone.now) c.args.place c.at-watch.result c.requires.place c.at-watch.ensures) in
     let good = watchable_left vars old.assignment.values c.args.gone.now (kept_at old.clauses id) at.clause c.in-Moves.lit (c.requires.watched.watchable id [] below) at.attends.0 at.attends.2 in
     subst (λ (m : Lit). m.var < length old.watchers.negatives) (sym c.unpack-lit.ensures)
@@ -79,7 +80,7 @@ returns-in-Strays c =
     let id = c.at-watch.result.id in
     let inside = inside_numbers (watches_of old.watchers c.args.gone.now) c.args.place c.requires.place in
     let is = numbered_at (watches_of old.watchers c.args.gone.now) c.args.place c.at-watch.result c.requires.place c.at-watch.ensures in
-    let below = named_below (length old.assignment.values) old.clauses old.watchers c.args.gone.now c.args.place id c.requires.watched inside is in
+    let below = named_below (root_of old) (length old.assignment.values) old.clauses old.watchers c.args.gone.now c.args.place id c.requires.watched inside is in
     Advancing.strayed old c.args.gone.now c.args.place id c.attend_in.new.clauses below (c.requires.watched.watchable id [] below) inside is c.unwatch.new.self c.in-Strays.ensures c.unwatch.ensures
 
 pub returns-in-Stays : goal.returns-in-Stays
@@ -88,7 +89,7 @@ returns-in-Stays c =
     let id = c.at-watch.result.id in
     let inside = inside_numbers (watches_of old.watchers c.args.gone.now) c.args.place c.requires.place in
     let is = numbered_at (watches_of old.watchers c.args.gone.now) c.args.place c.at-watch.result c.requires.place c.at-watch.ensures in
-    let below = named_below (length old.assignment.values) old.clauses old.watchers c.args.gone.now c.args.place id c.requires.watched inside is in
+    let below = named_below (root_of old) (length old.assignment.values) old.clauses old.watchers c.args.gone.now c.args.place id c.requires.watched inside is in
     Advancing.stays old c.args.gone.now c.args.place id c.attend_in.new.clauses below (c.requires.watched.watchable id [] below) inside is
     c.in-Stays.blocker c.set.new.self c.in-Stays.ensures c.set.ensures
 
@@ -98,7 +99,7 @@ returns-in_ok-watch-in-Moves c =
     let id = c.at-watch.result.id in
     let inside = inside_numbers (watches_of old.watchers c.args.gone.now) c.args.place c.requires.place in
     let is = numbered_at (watches_of old.watchers c.args.gone.now) c.args.place c.at-watch.result c.requires.place c.at-watch.ensures in
-    let below = named_below (length old.assignment.values) old.clauses old.watchers c.args.gone.now c.args.place id c.requires.watched inside is in
+    let below = named_below (root_of old) (length old.assignment.values) old.clauses old.watchers c.args.gone.now c.args.place id c.requires.watched inside is in
     Advancing.leaves old c.args.gone.now c.args.place id c.attend_in.new.clauses below (c.requires.watched.watchable id [] below) inside is
     c.in-Moves.lit c.in-Moves.blocker c.watch.new.self c.unwatch-in-Moves.new.self c.requires.truths c.in-Moves.ensures c.requires.gone
     (subst (λ m. Watches old.watchers c.watch.new.self m (record { id = id; blocker = c.in-Moves.blocker })) c.unpack-lit.ensures c.in_ok-watch-in-Moves.ensures) c.unwatch-in-Moves.ensures
@@ -109,7 +110,7 @@ assign-requires c =
     let vars = length old.assignment.values in
     let id = c.at-watch.result.id in
     let at = c.in-Forces.ensures in
-    let below = named_below vars old.clauses old.watchers c.args.gone.now c.args.place id c.requires.watched (inside_numbers (watches_of old.watchers c.args.gone.now) c.args.place c.requires.place)
+    let below = named_below (root_of old) vars old.clauses old.watchers c.args.gone.now c.args.place id c.requires.watched (inside_numbers (watches_of old.watchers c.args.gone.now) c.args.place c.requires.place)
     (numbered_at (watches_of old.watchers c.args.gone.now) c.args.place c.at-watch.result c.requires.place c.at-watch.ensures) in
     subst (λ (m : Lit). m.var < vars) (sym c.unpack-lit-in-Forces.ensures)
     (first_below vars at.clause c.in-Forces.lit (watchable_kept vars (kept_at old.clauses id) at.clause (c.requires.watched.watchable id [] below) at.attends.0) at.attends.2.stands)
@@ -120,7 +121,7 @@ returns-in_ok-assign-in-Forces c =
     let id = c.at-watch.result.id in
     let inside = inside_numbers (watches_of old.watchers c.args.gone.now) c.args.place c.requires.place in
     let is = numbered_at (watches_of old.watchers c.args.gone.now) c.args.place c.at-watch.result c.requires.place c.at-watch.ensures in
-    let below = named_below (length old.assignment.values) old.clauses old.watchers c.args.gone.now c.args.place id c.requires.watched inside is in
+    let below = named_below (root_of old) (length old.assignment.values) old.clauses old.watchers c.args.gone.now c.args.place id c.requires.watched inside is in
     Advancing.forces old c.args.gone.now c.args.place id c.attend_in.new.clauses below (c.requires.watched.watchable id [] below) inside is
     c.in-Forces.lit c.assign.new.assignment c.number_of-reason.result c.requires.truths (c.number_of-reason.ensures ∙ ap (λ ns. slice_get ns id) c.deref.ensures.value) c.in-Forces.ensures
     (subst (λ m. Assigns old.assignment c.assign.new.assignment m c.number_of-reason.result) c.unpack-lit-in-Forces.ensures c.in_ok-assign-in-Forces.ensures)
@@ -131,5 +132,5 @@ returns-in-Fails c =
     let id = c.at-watch.result.id in
     let inside = inside_numbers (watches_of old.watchers c.args.gone.now) c.args.place c.requires.place in
     let is = numbered_at (watches_of old.watchers c.args.gone.now) c.args.place c.at-watch.result c.requires.place c.at-watch.ensures in
-    let below = named_below (length old.assignment.values) old.clauses old.watchers c.args.gone.now c.args.place id c.requires.watched inside is in
+    let below = named_below (root_of old) (length old.assignment.values) old.clauses old.watchers c.args.gone.now c.args.place id c.requires.watched inside is in
     Advancing.fails old c.args.gone.now c.args.place id c.attend_in.new.clauses below (c.requires.watched.watchable id [] below) inside is c.in-Fails.ensures

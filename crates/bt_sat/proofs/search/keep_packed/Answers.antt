@@ -3,6 +3,7 @@ use Rattle.std.proofs.lemmas.List.{get_or_default}
 use Rattle.bt_cnf.specs.declared.literal.Lit.{Lit}
 use Rattle.bt_sat.specs.inner.Attending.{no_lit, first, second}
 use Rattle.bt_sat.specs.inner.Keeping.{AreWatched}
+use Rattle.bt_sat.specs.inner.Propagating.{root_of}
 use Rattle.bt_sat.specs.inner.Watchers.{Watches}
 use Rattle.bt_sat.specs.inner.WatchersParts.{WatchersParts}
 use Rattle.bt_sat.proofs.Adding.{watched_more}
@@ -34,6 +35,6 @@ returns c =
       clauses = grown;
       numbers = c.in_ok-push.ensures.items;
       watched =
-          subst (λ cs. AreWatched (length old.assignment.values) cs c.watch-2.new.self) (sym grown)
-          (watched_more (length old.assignment.values) old.clauses old.watchers c.watch.new.self c.watch-2.new.self lits id c.requires.watched c.requires.watchable (c.in_ok-id.ensures ∙ added.1) one two);
+          subst (λ cs. AreWatched (root_of old) (length old.assignment.values) cs c.watch-2.new.self) (sym grown)
+          (watched_more (root_of old) (length old.assignment.values) old.clauses old.watchers c.watch.new.self c.watch-2.new.self lits id c.requires.watched c.requires.watchable (c.in_ok-id.ensures ∙ added.1) one two);
     }
