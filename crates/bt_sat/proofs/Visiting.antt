@@ -86,8 +86,7 @@ watched_moved vars values clauses w w₁ w₂ id new l other gone place are belo
       among = subst (λ c. Contains c other) (sym (get_or-set_same clauses id new [] below)) (subst (Contains new) stays (first_among new good.two));
     } in
     record {
-      positives = un.one.positives ∙ one.one.positives ∙ are.positives;
-      negatives = un.one.negatives ∙ one.one.negatives ∙ are.negatives;
+      lists = un.one.size ∙ one.one.size ∙ are.lists;
       watchable = All-set (IsWatchable vars) clauses id new good are.watchable;
       listed = λ n small. kept_set (IsListed w₂) clauses id n new below new_listed (others n (subst (λ count. n < count) size small));
       blocked =
@@ -103,8 +102,7 @@ watched_strayed vars clauses w w' gone place id are un inside is not_first not_s
     let here : (other : ℕ) (m : Lit) → m ≡ first (kept_at clauses other) → m ≡ gone → id ≢ other = λ other m e at same. not_first (ap (λ n. first (kept_at clauses n)) same ∙ sym e ∙ at) in
     let there : (other : ℕ) (m : Lit) → m ≡ second (kept_at clauses other) → m ≡ gone → id ≢ other = λ other m e at same. not_second (ap (λ n. second (kept_at clauses n)) same ∙ sym e ∙ at) in
     record {
-      positives = un.one.positives ∙ are.positives;
-      negatives = un.one.negatives ∙ are.negatives;
+      lists = un.one.size ∙ are.lists;
       watchable = are.watchable;
       listed = λ other small. record {
         by_first = unwatched w w' gone (first (kept_at clauses other)) place id other un inside is (here other (first (kept_at clauses other)) refl) (are.listed other small).by_first;
@@ -251,8 +249,7 @@ resets part gone place at values trail clauses w w' watch v one inside is blocks
     let same : (m : Lit) → watchers w' m ≡ watchers w m = λ m. numbers_reset w w' gone m place watch one inside is in
     record {
       watched = record {
-        positives = one.one.positives ∙ v.watched.positives;
-        negatives = one.one.negatives ∙ v.watched.negatives;
+        lists = one.one.size ∙ v.watched.lists;
         watchable = v.watched.watchable;
         listed = λ id small.
             let listed = v.watched.listed id small in

@@ -4,13 +4,14 @@ use Rattle.std.specs.List.{All}
 use Rattle.bt_cnf.specs.declared.literal.Lit.{Lit}
 use Rattle.bt_log.specs.Units.{opposite}
 use Rattle.bt_sat.specs.Propagation.{IsSettled}
+use Rattle.bt_sat.specs.declared.kept.Watch.{Watch}
 use Rattle.bt_sat.specs.declared.search.Search.{Search}
 use Rattle.bt_sat.specs.declared.search.Attended.{Attended}
 use Rattle.bt_sat.specs.declared.search.Attended.TheVariants.{Stays, Leaves, Fails}
 use Rattle.bt_sat.specs.inner.Keeping.{kept_at, AreWatched, AreTrue, IsAtRest, IsVisiting}
 use Rattle.bt_sat.specs.inner.Reasons.{AreSame, AreNumbered, IsReasoned}
 use Rattle.bt_sat.specs.inner.Truths.{IsFalseIn, unset}
-use Rattle.bt_sat.specs.inner.Watchers.{watches_of}
+use Rattle.bt_sat.specs.inner.Watchers.{watches_of, with_list}
 
 -- unset literals were added to the trail, and each clause has its literals still, in some order
 pub record GoesOn (old new : Search) : Type 0 where
@@ -29,6 +30,10 @@ pub record GoesOn (old new : Search) : Type 0 where
 pub record IsWhole (s : Search) : Type 0 where
   pub watched : AreWatched (length s.assignment.values) s.clauses s.watchers
   pub truths : AreTrue s.assignment.values s.assignment.trail.items
+
+-- the search, where the literal has this list
+abbrev pub with_watches : Search → Lit → List Watch → Search
+with_watches s l list = record { assignment = s.assignment; clauses = s.clauses; watchers = with_list s.watchers l list; numbers = s.numbers; starts = s.starts }
 
 -- the search visits the list of a false literal, and came to this place
 abbrev pub Visiting : List Lit → Lit → ℕ → Search → Type 0
