@@ -43,8 +43,7 @@ watched_more base vars clauses w w₁ w₂ lits id are good is one two =
     let grows : (m : Lit) (x : ℕ) → Contains (watchers w m) x → Contains (watchers w₂ m) x =
     λ m x among. watch_grows w₁ w₂ (second lits) m by_second x two (watch_grows w w₁ (first lits) m by_first x one among) in
     record {
-      positives = two.one.positives ∙ one.one.positives ∙ are.positives;
-      negatives = two.one.negatives ∙ one.one.negatives ∙ are.negatives;
+      lists = two.one.size ∙ one.one.size ∙ are.lists;
       watchable = All-push (IsWatchable vars) clauses lits are.watchable good;
       listed = λ n below. elim (nat_or n id) [
         | inl same ↦

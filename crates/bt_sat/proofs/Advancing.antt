@@ -10,7 +10,6 @@ use Rattle.std.proofs.lemmas.List.Sorted.{Contains-permutation, IsPermutation-re
 use Rattle.bt_cnf.specs.declared.literal.Lit.{Lit}
 use Rattle.bt_sat.specs.declared.assignment.Assignment.{Assignment}
 use Rattle.bt_sat.specs.declared.search.Search.{Search}
-use Rattle.bt_sat.specs.declared.search.Attended.{Attended}
 use Rattle.bt_sat.specs.declared.search.Attended.TheVariants as attended
 use Rattle.bt_sat.specs.declared.kept.Watch.{Watch}
 use Rattle.bt_sat.specs.declared.watched.Visit.TheVariants as visit
@@ -20,7 +19,7 @@ use Rattle.bt_sat.specs.inner.AttendingIn.{AttendsIn}
 use Rattle.bt_log.specs.Validity.{clause_at}
 use Rattle.bt_sat.specs.inner.Keeping.{IsWatchable, kept_at, IsBlocked, IsAtRest, IsVisiting, AreWatched, AreTrue}
 use Rattle.bt_sat.specs.inner.Reasons.{AreSame, AreNumbered, AreReasons, IsReasoned}
-use Rattle.bt_sat.specs.inner.Propagating.{GoesOn, Visiting, Advances, Passes, root_of, with_watchers}
+use Rattle.bt_sat.specs.inner.Propagating.{GoesOn, Visiting, Advances, root_of}
 use Rattle.bt_sat.specs.inner.Truths.{IsTrueIn, IsFalseIn, unset}
 use Rattle.bt_sat.specs.inner.Watchers.{watchers, watches_of, Resets, Watches, Unwatches}
 use Rattle.bt_sat.specs.inner.WatchersParts.{WatchersParts}
@@ -252,7 +251,7 @@ goes_twice old mid new a b = record {
 pub goes_not : (s : Search) → GoesOn s s
 goes_not s = record { more = []; trail = sym (append-nil s.assignment.trail.items); variables = refl; count = refl; room = refl; numbers = refl; starts = refl; reasoned = λ all numbered are. are; rests = λ front inside rest. rest; clauses = λ id. IsPermutation-refl (kept_at s.clauses id) }
 
-goes_relisted : (s : Search) (w : WatchersParts) → GoesOn s (with_watchers s w)
+goes_relisted : (s : Search) (w : WatchersParts) → GoesOn s (record { assignment = s.assignment; clauses = s.clauses; watchers = w; numbers = s.numbers; starts = s.starts })
 goes_relisted s w = record { more = []; trail = sym (append-nil s.assignment.trail.items); variables = refl; count = refl; room = refl; numbers = refl; starts = refl; reasoned = λ all numbered are. are; rests = λ front inside rest. rest; clauses = λ id. IsPermutation-refl (kept_at s.clauses id) }
 
 -- a clause whose blocking literal is true isn't looked at
@@ -269,7 +268,7 @@ passed old gone place watch watched inside is true_blocker = (
 -- a clause leaves the list, whose blocking literal is true for good
 pub dropped : (old : Search) (gone : Lit) (place : ℕ) (watch : Watch) (w : WatchersParts) → AreWatched (root_of old) (length old.assignment.values) old.clauses old.watchers
     → place < length (watches_of old.watchers gone) → watch ≡ get_or (watches_of old.watchers gone) place watch → Contains (root_of old) watch.blocker → Unwatches old.watchers w gone place
-    → Advances gone place old (with_watchers old w) attended.Leaves
+    → Advances gone place old (record { assignment = old.assignment; clauses = old.clauses; watchers = w; numbers = old.numbers; starts = old.starts }) attended.Leaves
 dropped old gone place watch w watched inside is good un =
     let blocks = blocked_at (root_of old) (length old.assignment.values) old.clauses old.watchers gone place watch watched inside is in (
       goes_relisted old w,
@@ -278,15 +277,6 @@ dropped old gone place watch w watched inside is good un =
           drops part gone place (root_of old) old.assignment.values old.assignment.trail.items old.clauses old.watchers w watch.id v (inside_numbers (watches_of old.watchers gone) place inside)
           (numbered_at (watches_of old.watchers gone) place watch inside is) (record { lit = watch.blocker; among = blocks.among; holds = good }) un,
     )
-
--- a clause whose blocking literal is true is passed
-pub passes_on : (old new : Search) (gone : Lit) (place : ℕ) (watch : Watch) (attended : Attended) → AreWatched (root_of old) (length old.assignment.values) old.clauses old.watchers
-    → place < length (watches_of old.watchers gone) → watch ≡ get_or (watches_of old.watchers gone) place watch → IsTrueIn old.assignment.values watch.blocker
-    → Passes gone place watch.blocker old new attended → Advances gone place old new attended
-passes_on old new gone place watch attended.Stays watched inside is true_blocker same = subst (λ s. Advances gone place old s attended.Stays) (sym same) (passed old gone place watch watched inside is true_blocker)
-passes_on old new gone place watch attended.Leaves watched inside is true_blocker (good, (w, un, same)) =
-    subst (λ s. Advances gone place old s attended.Leaves) (sym same) (dropped old gone place watch w watched inside is good un)
-passes_on old new gone place watch (attended.Fails id) watched inside is true_blocker never = absurd never
 
 -- nothing is unsettled by no part of the trail
 pub starts : (gone : Lit) (s : Search) → AreWatched (root_of s) (length s.assignment.values) s.clauses s.watchers → AreTrue s.assignment.values s.assignment.trail.items

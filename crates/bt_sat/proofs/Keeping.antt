@@ -10,9 +10,8 @@ use Rattle.bt_log.specs.Units.{opposite}
 use Rattle.bt_sat.specs.declared.kept.Watch.{Watch}
 use Rattle.bt_sat.specs.inner.Attending.{KeepsPair, LeavesOne, WatchesNow}
 use Rattle.bt_sat.specs.inner.Keeping.{IsWatchable, IsListed, IsFollowed, kept_at, IsBlocked, AreWatched, AreTrue, IsAtRest, IsDone, IsSatisfied}
-use Rattle.bt_sat.specs.inner.Sides.{IsWithout}
 use Rattle.bt_sat.specs.inner.Truths.{IsTrueIn, IsFalseIn}
-use Rattle.bt_sat.specs.inner.Watchers.{watchers, watches_of}
+use Rattle.bt_sat.specs.inner.Watchers.{watchers, watches_of, IsWithout}
 use Rattle.bt_sat.specs.inner.WatchersParts.{WatchersParts}
 use Rattle.bt_sat.proofs.Lists.{nat_or}
 
@@ -95,8 +94,7 @@ watched_kept base vars clauses w id new are below kept =
     let old = kept_at clauses id in
     let size : length (slice_set clauses id new) ≡ length clauses = length-set clauses id new in
     record {
-      positives = are.positives;
-      negatives = are.negatives;
+      lists = are.lists;
       watchable = All-set (IsWatchable vars) clauses id new (watchable_kept vars old new (are.watchable id [] below) kept) are.watchable;
       listed = λ other inside.
           kept_set (IsFollowed base w) clauses id other new below (followed_kept base w id old new (are.listed id below) kept) (λ differs. are.listed other (subst (λ n. other < n) size inside));
@@ -132,8 +130,7 @@ satisfied_grows trail more clause grows is = record { lit = is.lit; among = is.a
 pub watched_grows : (base more : List Lit) (vars : ℕ) (clauses : List (List Lit)) (w : WatchersParts) → ((l : Lit) → Contains base l → Contains more l) → AreWatched base vars clauses w
     → AreWatched more vars clauses w
 watched_grows base more vars clauses w grows are = record {
-  positives = are.positives;
-  negatives = are.negatives;
+  lists = are.lists;
   watchable = are.watchable;
   listed = λ id small. elim (are.listed id small) [
     | inl listed ↦ inl listed

@@ -16,6 +16,7 @@ pub mod Heaps
 pub mod Hunted
 pub mod Inferring
 pub mod Keeping
+pub mod Lent
 pub mod Leveled
 pub mod Listing
 pub mod Lists
@@ -29,7 +30,6 @@ pub mod Reasoning
 pub mod Retreated
 pub mod Served
 pub mod Settled
-pub mod Sides
 pub mod Taken
 pub mod Visiting
 pub mod Watches

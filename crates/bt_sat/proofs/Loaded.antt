@@ -1,6 +1,6 @@
 -- Loading the clauses of a formula.
-use Rattle.std.proofs.Common.{◌≡◌, ℕ, ◌≤◌, ◌<◌, ◌+◌, ◌⊎◌, inl, inr, arith, Bool, true, false, List, [], ◌∷◌, length, get_or, sym, subst, refl, ap, ◌∙◌, None, Some, length-append}
-use Rattle.std.specs.Prelude.{Contains, cond}
+use Rattle.std.proofs.Common.{◌≡◌, ℕ, ◌≤◌, ◌<◌, ◌+◌, ◌*◌, ◌⊎◌, inl, inr, arith, Bool, List, [], ◌∷◌, length, get_or, sym, subst, refl, ap, ◌∙◌, None, Some, length-append}
+use Rattle.std.specs.Prelude.{Contains}
 use Rattle.std.specs.List.{All, swap}
 use Rattle.std.specs.Global.{Vec}
 use Rattle.std.proofs.lemmas.List.{get_or_default, get_or_push}
@@ -21,7 +21,7 @@ use Rattle.bt_sat.specs.inner.Loads.{AreUnwatched, IsEmptySearch, IsOther, ArePa
 use Rattle.bt_sat.specs.inner.Propagating.{IsWhole, Keeps}
 use Rattle.bt_sat.specs.inner.Reasons.{AreSame, lit_at, IsReason, AreReasons}
 use Rattle.bt_sat.specs.inner.Truths.{IsTrueIn, IsFalseIn}
-use Rattle.bt_sat.specs.inner.Watchers.{watches_of}
+use Rattle.bt_sat.specs.inner.Watchers.{place_of, watches_of}
 use Rattle.bt_sat.specs.inner.WatchersParts.{WatchersParts}
 use Rattle.bt_sat.proofs.Adopted.{with_assignment, held_longer, held_more, numbered_kept, ordered_longer}
 use Rattle.bt_sat.proofs.Back.{take_all_of}
@@ -36,11 +36,7 @@ at_same : {X : Type 0} (d : X) (xs : List X) (k : ℕ) → All (λ x. x ≡ d) x
 at_same d xs k same = elim (lt_or k (length xs)) [ inl small ↦ same k d small | inr none ↦ past xs k d none ]
 
 none_watch : (vars : ℕ) (w : WatchersParts) (l : Lit) → AreUnwatched vars w → watches_of w l ≡ []
-none_watch vars w l are = by_sign l.positive
-  where
-    by_sign : (b : Bool) → cond b (get_or w.positives l.var []) (get_or w.negatives l.var []) ≡ []
-    by_sign true = at_same [] w.positives l.var are.positives.empty
-    by_sign false = at_same [] w.negatives l.var are.negatives.empty
+none_watch vars w l are = at_same [] w.lists (place_of l) are.empty
 
 nothing : {X : Type 0} (P : X → Type 0) (xs : List X) → xs ≡ [] → All P xs
 nothing P xs none k d small = absurd (omega (arith, small, ap length none))
@@ -64,8 +60,7 @@ empty_whole vars s is =
     let clauses : length s.clauses ≡ 0 = ap length is.clauses in
     record {
       watched = record {
-        positives = is.watchers.positives.size ∙ sym is.assignment.values.size;
-        negatives = is.watchers.negatives.size ∙ sym is.assignment.values.size;
+        lists = is.watchers.size ∙ ap (λ n. 2 * n) (sym is.assignment.values.size);
         watchable = nothing (IsWatchable (length s.assignment.values)) s.clauses is.clauses;
         listed = λ id small. absurd (omega (arith, small, clauses));
         blocked = λ l. nothing (IsBlocked s.clauses) (watches_of s.watchers l) (none_watch vars s.watchers l is.watchers);

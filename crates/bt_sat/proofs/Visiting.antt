@@ -93,8 +93,7 @@ watched_moved base vars values clauses w w₁ w₂ id new l other gone place are
       among = subst (λ c. Contains c other) (sym (get_or-set_same clauses id new [] below)) (subst (Contains new) stays (first_among new good.two));
     } in
     record {
-      positives = un.one.positives ∙ one.one.positives ∙ are.positives;
-      negatives = un.one.negatives ∙ one.one.negatives ∙ are.negatives;
+      lists = un.one.size ∙ one.one.size ∙ are.lists;
       watchable = All-set (IsWatchable vars) clauses id new good are.watchable;
       listed = λ n small. kept_set (IsFollowed base w₂) clauses id n new below here (others n (subst (λ count. n < count) size small));
       blocked =
@@ -110,8 +109,7 @@ watched_strayed base vars clauses w w' gone place id are un inside is not_first 
     let here : (other : ℕ) (m : Lit) → m ≡ first (kept_at clauses other) → m ≡ gone → id ≢ other = λ other m e at same. not_first (ap (λ n. first (kept_at clauses n)) same ∙ sym e ∙ at) in
     let there : (other : ℕ) (m : Lit) → m ≡ second (kept_at clauses other) → m ≡ gone → id ≢ other = λ other m e at same. not_second (ap (λ n. second (kept_at clauses n)) same ∙ sym e ∙ at) in
     record {
-      positives = un.one.positives ∙ are.positives;
-      negatives = un.one.negatives ∙ are.negatives;
+      lists = un.one.size ∙ are.lists;
       watchable = are.watchable;
       listed = λ other small. elim (are.listed other small) [
         | inl listed ↦ inl (record {
@@ -127,8 +125,7 @@ watched_strayed base vars clauses w w' gone place id are un inside is not_first 
 watched_dropped : (base : List Lit) (vars : ℕ) (clauses : List (List Lit)) (w w' : WatchersParts) (gone : Lit) (place id : ℕ) → AreWatched base vars clauses w → Unwatches w w' gone place
     → place < length (watchers w gone) → get_or (watchers w gone) place 0 ≡ id → IsSatisfied base (kept_at clauses id) → AreWatched base vars clauses w'
 watched_dropped base vars clauses w w' gone place id are un inside is satisfied = record {
-  positives = un.one.positives ∙ are.positives;
-  negatives = un.one.negatives ∙ are.negatives;
+  lists = un.one.size ∙ are.lists;
   watchable = are.watchable;
   listed = λ other small. elim (nat_or other id) [
     | inl same ↦ inr (subst (λ n. IsSatisfied base (kept_at clauses n)) (sym same) satisfied)
@@ -286,8 +283,7 @@ resets part gone place at base values trail clauses w w' watch v one inside is b
     let same : (m : Lit) → watchers w' m ≡ watchers w m = λ m. numbers_reset w w' gone m place watch one inside is in
     record {
       watched = record {
-        positives = one.one.positives ∙ v.watched.positives;
-        negatives = one.one.negatives ∙ v.watched.negatives;
+        lists = one.one.size ∙ v.watched.lists;
         watchable = v.watched.watchable;
         listed = λ id small.
             elim (v.watched.listed id small) [

@@ -8,8 +8,7 @@ use Rattle.std.proofs.lemmas.List.Elements.{All-push, All-set, Contains-append_l
 use Rattle.bt_cnf.specs.declared.literal.Lit.{Lit}
 use Rattle.bt_sat.specs.declared.kept.Watch.{Watch}
 use Rattle.bt_sat.specs.inner.Attending.{no_lit}
-use Rattle.bt_sat.specs.inner.Sides.{IsWithout}
-use Rattle.bt_sat.specs.inner.Watchers.{watchers, watches_of, ChangesOne, Resets, Unwatches, Watches}
+use Rattle.bt_sat.specs.inner.Watchers.{watchers, watches_of, ChangesOne, IsWithout, Resets, Unwatches, Watches}
 use Rattle.bt_sat.specs.inner.WatchersParts.{WatchersParts}
 use Rattle.bt_sat.proofs.Keeping.{without_all}
 use Rattle.bt_sat.proofs.Lists.{lit_or}

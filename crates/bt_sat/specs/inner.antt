@@ -17,7 +17,6 @@ pub mod Loads
 pub mod Progressing
 pub mod Propagating
 pub mod Reasons
-pub mod Sides
 pub mod Telling
 pub mod Truths
 pub mod Visits

@@ -20,7 +20,6 @@ mod packed;
 mod progress;
 mod search;
 mod serving;
-mod side;
 mod solver;
 mod truth;
 mod turns;

@@ -1,10 +1,10 @@
 //! Propagation over watched clauses.
-ghost use Rattle.std.specs.Prelude.{◌≡◌, ◌<◌, ◌≤◌, length, IfOk, OnOk, IsTrue, Some, slice_get, Contains};
+ghost use Rattle.std.specs.Prelude.{◌≡◌, ◌<◌, ◌≤◌, length, IfOk, OnOk, IsTrue, Some, slice_get, vec_len, Contains};
 ghost use Rattle.bt_sat.specs.inner.Keeping.{AreWatched, AreTrue, IsWatchable, kept_at};
 ghost use Rattle.bt_sat.specs.inner.AttendingIn.{AttendsIn};
 ghost use Rattle.bt_sat.specs.inner.Truths.{IsFalseIn};
-ghost use Rattle.bt_sat.specs.inner.Watchers.{watches_of};
-ghost use Rattle.bt_sat.specs.inner.Propagating.{Advances, IsSettledTo, Keeps, Passes, Propagates, Settles, root_of};
+ghost use Rattle.bt_sat.specs.inner.Watchers.{with_list};
+ghost use Rattle.bt_sat.specs.inner.Propagating.{Advances, IsSettledTo, Keeps, Passes, Propagates, Settles, root_of, with_watches};
 
 use crate::assignment::{Assignment, assign};
 use crate::kept::{Kept, PackedId, Watch};
@@ -78,51 +78,55 @@ fn is_at(trail: &[Lit], place: usize, lit: &Packed) -> bool
     }
 }
 
-/// Passes the clause at a place of the list of a literal that is false, whose blocking literal is true. Where
-/// that one is true for good, the clause leaves the list.
-fn pass(search: &mut Search, gone: &Lit, place: usize, blocker: &Packed) -> Attended
-    requires positives { gone.now.var < length search.old.watchers.positives }
-    requires negatives { gone.now.var < length search.old.watchers.negatives }
-    requires place { place < length (watches_of search.old.watchers gone.now) }
-    ensures { Passes gone.now place blocker.now search.old search.new result }
+/// Passes the clause at a place of a literal's list, whose blocking literal is true. Where that one is true for
+/// good, the clause leaves the list.
+fn pass(search: &Search, list: &mut Vec<Watch>, place: usize, blocker: &Packed) -> Attended
+    requires { place < vec_len list.old }
+    ensures { Passes place blocker.now (root_of search.now) list.old.items list.new.items result }
 {
     if is_rooted(search, blocker) {
-        search.watchers.unwatch(gone, place);
+        let _ = list.swap_remove(place);
         Attended::Leaves
     } else {
         Attended::Stays
     }
 }
 
-/// Visits the clause at a place of the list of a literal that is false. Where its blocking literal is true,
-/// the clause isn't looked at.
-pub fn attend_at(search: &mut Search, gone: &Lit, place: usize) -> Result<Attended, AllocError>
+/// Visits the clause at a place of the list of a literal that is false, which was taken out of the lists.
+/// Where its blocking literal is true, the clause isn't looked at.
+pub fn attend_at(
+    search: &mut Search,
+    gone: &Lit,
+    list: &mut Vec<Watch>,
+    place: usize,
+) -> Result<Attended, AllocError>
     requires watched { AreWatched (root_of search.old) (length search.old.assignment.values)
-        search.old.clauses search.old.watchers }
+        search.old.clauses (with_list search.old.watchers gone.now list.old.items) }
     requires truths { AreTrue search.old.assignment.values search.old.assignment.trail.items }
     requires gone { IsFalseIn search.old.assignment.values gone.now }
     requires variable { gone.now.var < length search.old.assignment.values }
-    requires place { place < length (watches_of search.old.watchers gone.now) }
-    ensures { IfOk result (Advances gone.now place search.old search.new) }
+    requires place { place < vec_len list.old }
+    ensures { IfOk result (Advances gone.now place (with_watches search.old gone.now list.old.items)
+        (with_watches search.new gone.now list.new.items)) }
 {
-    let watch = search.watchers.at(gone, place);
+    let watch = list[place];
     if watch.blocker.is_true(&search.assignment.values) {
-        return Ok(pass(search, gone, place, &watch.blocker));
+        return Ok(pass(search, list, place, &watch.blocker));
     }
     let id = watch.id;
     match attend_in(&mut search.clauses, id, gone, &search.assignment.values) {
         Visit::Strays => {
-            search.watchers.unwatch(gone, place);
+            let _ = list.swap_remove(place);
             Ok(Attended::Leaves)
         }
         Visit::Stays(blocker) => {
-            search.watchers.set(gone, place, Watch { id, blocker });
+            list[place] = Watch { id, blocker };
             Ok(Attended::Stays)
         }
         Visit::Moves(lit, blocker) => {
             let lit = lit.unpack(&search.assignment.values);
             search.watchers.watch(&lit, Watch { id, blocker })?;
-            search.watchers.unwatch(gone, place);
+            let _ = list.swap_remove(place);
             Ok(Attended::Leaves)
         }
         Visit::Forces(lit) => {
@@ -135,8 +139,35 @@ pub fn attend_at(search: &mut Search, gone: &Lit, place: usize) -> Result<Attend
     }
 }
 
+/// Visits all clauses on the list of a literal that is false, which was taken out of the lists. Tells the
+/// clause whose literals are all false, where there is one.
+fn settle_list(
+    search: &mut Search,
+    gone: &Lit,
+    list: &mut Vec<Watch>,
+) -> Result<Option<PackedId>, AllocError>
+    requires watched { AreWatched (root_of search.old) (length search.old.assignment.values)
+        search.old.clauses (with_list search.old.watchers gone.now list.old.items) }
+    requires truths { AreTrue search.old.assignment.values search.old.assignment.trail.items }
+    requires gone { IsFalseIn search.old.assignment.values gone.now }
+    requires variable { gone.now.var < length search.old.assignment.values }
+    ensures { IfOk result (Settles gone.now (with_watches search.old gone.now list.old.items)
+        (with_watches search.new gone.now list.new.items)) }
+{
+    let mut place = 0;
+    while place < list.len() {
+        match attend_at(search, gone, list, place)? {
+            Attended::Stays => place += 1,
+            Attended::Leaves => {}
+            Attended::Fails(id) => return Ok(Some(id)),
+        }
+    }
+    Ok(None)
+}
+
 /// Visits all clauses that watch a literal that is false. Tells the clause whose literals are all false,
-/// where there is one.
+/// where there is one. The literal's list is taken out meanwhile, since no clause comes to watch a literal
+/// that is false; so it is walked without a look at the others.
 pub fn settle(search: &mut Search, gone: &Lit) -> Result<Option<PackedId>, AllocError>
     requires watched { AreWatched (root_of search.old) (length search.old.assignment.values)
         search.old.clauses search.old.watchers }
@@ -145,15 +176,11 @@ pub fn settle(search: &mut Search, gone: &Lit) -> Result<Option<PackedId>, Alloc
     requires variable { gone.now.var < length search.old.assignment.values }
     ensures { IfOk result (Settles gone.now search.old search.new) }
 {
-    let mut place = 0;
-    while place < search.watchers.len(gone) {
-        match attend_at(search, gone, place)? {
-            Attended::Stays => place += 1,
-            Attended::Leaves => {}
-            Attended::Fails(id) => return Ok(Some(id)),
-        }
-    }
-    Ok(None)
+    let alloc = search.numbers.allocator().clone()?;
+    let mut list = search.watchers.replace(gone, Vec::new(alloc));
+    let failed = settle_list(search, gone, &mut list)?;
+    let _ = search.watchers.replace(gone, list);
+    Ok(failed)
 }
 
 /// Lets follow what follows from the literals that are true, the first so many of which are settled. Where

@@ -1,13 +1,13 @@
 //! For each literal, the kept clauses that watch it.
-ghost use Rattle.std.specs.Prelude.{◌≡◌, ◌<◌, length, IfOk, OnOk, slice_index_or};
-ghost use Rattle.bt_sat.specs.inner.Loads.{AreUnwatched};
-ghost use Rattle.bt_sat.specs.inner.Watchers.{watches_of, Resets, Watches, Unwatches};
+ghost use Rattle.std.specs.Prelude.{◌≡◌, ◌<◌, ◌*◌, length, IfOk, OnOk};
+ghost use Rattle.bt_sat.specs.inner.Loads.{AreEmptyLists, AreUnwatched};
+ghost use Rattle.bt_sat.specs.inner.Watchers.{lists_of, place_of, watches_of, with_list, Watches};
 
 use crate::kept::Watch;
-use crate::side::{Side, empty_lists, list_add, list_at, list_len, list_remove, list_set};
 use bt_cnf::{Lit, Var};
 use std::alloc::{AllocError, Global};
 use std::marker::Model;
+use std::mem::replace;
 
 /// For each literal, how many clauses are going to watch it, so that its list gets its room at once.
 #[derive(Drop)]
@@ -46,20 +46,47 @@ fn add_one(counts: &mut [usize], var: Var) {
 /// For each literal, the kept clauses that watch it, in no order.
 #[derive(Drop)]
 pub struct Watchers {
-    positives: Side,
-    negatives: Side,
+    /// The lists of a variable's positive and of its negative literal stand side by side, since propagation
+    /// comes to variables in no order.
+    lists: Vec<Vec<Watch>>,
 }
 
 impl Model for Watchers {
+    ghost use Rattle.bt_sat.specs.inner.Watchers.{lists_of};
     ghost use Rattle.bt_sat.specs.inner.WatchersParts.{WatchersParts};
-    ghost use Rattle.bt_sat.specs.inner.Sides.{lists_of};
 
     ghost Value = { WatchersParts };
 
-    ghost view = { λ w. record {
-      positives = lists_of w.positives;
-      negatives = lists_of w.negatives;
-    } };
+    ghost view = { λ w. record { lists = lists_of w.lists } };
+}
+
+/// Empty lists for the literals of so many variables, each with room for as many clauses as are counted.
+fn empty_lists(alloc: Global, vars: usize, counts: &Counts) -> Result<Vec<Vec<Watch>>, AllocError>
+    ensures { IfOk result (λ lists. AreEmptyLists (2 * vars) (lists_of lists)) }
+{
+    let mut lists = Vec::new(alloc);
+    for var in 0..vars {
+        lists.push(Vec::with_capacity(alloc, count_at(&counts.positives, var))?)?;
+        lists.push(Vec::with_capacity(alloc, count_at(&counts.negatives, var))?)?;
+    }
+    Ok(lists)
+}
+
+/// The count at a place.
+fn count_at(counts: &[usize], place: usize) -> usize {
+    counts.get(place).copied().unwrap_or(0)
+}
+
+/// Where a literal's list stands.
+fn place_in(lists: &[Vec<Watch>], lit: &Lit) -> usize
+    requires { place_of lit.now < length lists.now }
+    ensures { result ≡ place_of lit.now }
+{
+    if lit.positive {
+        2 * lit.var.place()
+    } else {
+        2 * lit.var.place() + 1
+    }
 }
 
 impl Watchers {
@@ -68,76 +95,27 @@ impl Watchers {
         ensures { IfOk result (λ w. AreUnwatched vars w) }
     {
         Ok(Watchers {
-            positives: empty_lists(alloc, vars, &counts.positives)?,
-            negatives: empty_lists(alloc, vars, &counts.negatives)?,
+            lists: empty_lists(alloc, vars, counts)?,
         })
-    }
-
-    /// The number of clauses that watch a literal.
-    pub fn len(&self, lit: &Lit) -> usize
-        requires positives { lit.now.var < length self.now.positives }
-        requires negatives { lit.now.var < length self.now.negatives }
-        ensures { result ≡ length (watches_of self.now lit.now) }
-    {
-        if lit.positive {
-            list_len(&self.positives, lit.var)
-        } else {
-            list_len(&self.negatives, lit.var)
-        }
-    }
-
-    /// A clause that watches a literal.
-    pub fn at(&self, lit: &Lit, place: usize) -> Watch
-        requires positives { lit.now.var < length self.now.positives }
-        requires negatives { lit.now.var < length self.now.negatives }
-        requires place { place < length (watches_of self.now lit.now) }
-        ensures { result ≡ slice_index_or (watches_of self.now lit.now) place result }
-    {
-        if lit.positive {
-            list_at(&self.positives, lit.var, place)
-        } else {
-            list_at(&self.negatives, lit.var, place)
-        }
     }
 
     /// Lets a clause watch a literal.
     pub fn watch(&mut self, lit: &Lit, watch: Watch) -> Result<(), AllocError>
-        requires positives { lit.now.var < length self.old.positives }
-        requires negatives { lit.now.var < length self.old.negatives }
+        requires { place_of lit.now < length self.old.lists }
         ensures { OnOk result (Watches self.old self.new lit.now watch) }
     {
-        if lit.positive {
-            list_add(&mut self.positives, lit.var, watch)
-        } else {
-            list_add(&mut self.negatives, lit.var, watch)
-        }
+        let place = place_in(&self.lists, lit);
+        self.lists[place].push(watch)?;
+        Ok(())
     }
 
-    /// Gives the clause at a place another blocking literal.
-    pub fn set(&mut self, lit: &Lit, place: usize, watch: Watch)
-        requires positives { lit.now.var < length self.old.positives }
-        requires negatives { lit.now.var < length self.old.negatives }
-        requires place { place < length (watches_of self.old lit.now) }
-        ensures { Resets self.old self.new lit.now place watch }
+    /// Puts a list in the place of a literal's list, and gives that one.
+    pub fn replace(&mut self, lit: &Lit, list: Vec<Watch>) -> Vec<Watch>
+        requires { place_of lit.now < length self.old.lists }
+        ensures taken { result.items ≡ watches_of self.old lit.now }
+        ensures put { self.new ≡ with_list self.old lit.now list.items }
     {
-        if lit.positive {
-            list_set(&mut self.positives, lit.var, place, watch);
-        } else {
-            list_set(&mut self.negatives, lit.var, place, watch);
-        }
-    }
-
-    /// Lets the clause at a place watch a literal no longer.
-    pub fn unwatch(&mut self, lit: &Lit, place: usize)
-        requires positives { lit.now.var < length self.old.positives }
-        requires negatives { lit.now.var < length self.old.negatives }
-        requires place { place < length (watches_of self.old lit.now) }
-        ensures { Unwatches self.old self.new lit.now place }
-    {
-        if lit.positive {
-            list_remove(&mut self.positives, lit.var, place);
-        } else {
-            list_remove(&mut self.negatives, lit.var, place);
-        }
+        let place = place_in(&self.lists, lit);
+        replace(&mut self.lists[place], list)
     }
 }

@@ -1,5 +1,5 @@
 -- What the search keeps true of its clauses, of the lists of those that watch a literal, and of the trail.
-use Rattle.std.specs.Prelude.{◌≡◌, ◌≢◌, ◌⊎◌, ◌≤◌, ◌<◌, ℕ, Bool, List, [], Option, length, slice_index_or, Contains}
+use Rattle.std.specs.Prelude.{◌≡◌, ◌≢◌, ◌⊎◌, ◌*◌, ◌≤◌, ◌<◌, ℕ, Bool, List, [], Option, length, slice_index_or, Contains}
 use Rattle.std.specs.List.{All}
 use Rattle.bt_cnf.specs.Formulas.{LitsBelow}
 use Rattle.bt_cnf.specs.declared.literal.Lit.{Lit}
@@ -43,8 +43,7 @@ pub record IsBlocked (clauses : List (List Lit)) (watch : Watch) : Type 0 where
 -- each clause is watchable, and on its two lists where none of its literals is among those that are true for good; the
 -- lists name clauses, with a literal of each
 pub record AreWatched (base : List Lit) (vars : ℕ) (clauses : List (List Lit)) (w : WatchersParts) : Type 0 where
-  pub positives : length w.positives ≡ vars
-  pub negatives : length w.negatives ≡ vars
+  pub lists : length w.lists ≡ 2 * vars
   pub watchable : All (IsWatchable vars) clauses
   pub listed : (id : ℕ) → id < length clauses → IsFollowed base w id (kept_at clauses id)
   pub blocked : (l : Lit) → All (IsBlocked clauses) (watches_of w l)

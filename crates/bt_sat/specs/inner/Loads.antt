@@ -1,5 +1,5 @@
 -- Loading the clauses of a formula, one by one.
-use Rattle.std.specs.Prelude.{◌≡◌, ◌≢◌, ◌≤◌, ◌<◌, ◌+◌, ℕ, Bool, true, false, List, [], Option, Some, None, length, IsPermutation}
+use Rattle.std.specs.Prelude.{◌≡◌, ◌≢◌, ◌≤◌, ◌<◌, ◌+◌, ◌*◌, ℕ, Bool, true, false, List, [], Option, Some, None, length, IsPermutation}
 use Rattle.std.specs.List.{All}
 use Rattle.bt_cnf.specs.declared.literal.Lit.{Lit}
 use Rattle.bt_log.specs.Validity.{clause_at}
@@ -11,15 +11,14 @@ use Rattle.bt_sat.specs.inner.Levels.{IsOrdered, IsHeld, IsInConflict}
 use Rattle.bt_sat.specs.inner.Reasons.{lit_at}
 use Rattle.bt_sat.specs.inner.WatchersParts.{WatchersParts}
 
--- the lists of so many variables, which are empty
-pub record AreEmptyLists (vars : ℕ) (lists : List (List Watch)) : Type 0 where
-  pub size : length lists ≡ vars
+-- so many lists, which are empty
+pub record AreEmptyLists (count : ℕ) (lists : List (List Watch)) : Type 0 where
+  pub size : length lists ≡ count
   pub empty : All (λ list. list ≡ []) lists
 
 -- nothing watches a literal of so many variables
-pub record AreUnwatched (vars : ℕ) (w : WatchersParts) : Type 0 where
-  pub positives : AreEmptyLists vars w.positives
-  pub negatives : AreEmptyLists vars w.negatives
+abbrev pub AreUnwatched : ℕ → WatchersParts → Type 0
+AreUnwatched vars w = AreEmptyLists (2 * vars) w.lists
 
 -- so many variables, of which none is set
 pub record AreUnsetAll (vars : ℕ) (values : List (Option Bool)) : Type 0 where

@@ -4,14 +4,14 @@ use Rattle.std.specs.List.{All}
 use Rattle.bt_cnf.specs.declared.literal.Lit.{Lit}
 use Rattle.bt_log.specs.Units.{opposite}
 use Rattle.bt_sat.specs.Propagation.{IsSettled}
+use Rattle.bt_sat.specs.declared.kept.Watch.{Watch}
 use Rattle.bt_sat.specs.declared.search.Search.{Search}
 use Rattle.bt_sat.specs.declared.search.Attended.{Attended}
 use Rattle.bt_sat.specs.declared.search.Attended.TheVariants.{Stays, Leaves, Fails}
 use Rattle.bt_sat.specs.inner.Keeping.{kept_at, AreWatched, AreTrue, IsAtRest, IsVisiting}
 use Rattle.bt_sat.specs.inner.Reasons.{AreSame, AreNumbered, IsReasoned}
 use Rattle.bt_sat.specs.inner.Truths.{IsFalseIn, unset}
-use Rattle.bt_sat.specs.inner.Watchers.{watches_of, Unwatches}
-use Rattle.bt_sat.specs.inner.WatchersParts.{WatchersParts}
+use Rattle.bt_sat.specs.inner.Watchers.{watches_of, with_list, IsWithout}
 
 -- unset literals were added to the trail, and each clause has its literals still, in some order
 pub record GoesOn (old new : Search) : Type 0 where
@@ -26,10 +26,6 @@ pub record GoesOn (old new : Search) : Type 0 where
   pub reasoned : (all : List (List Lit)) → AreNumbered all old → IsReasoned all old → IsReasoned all new
   pub rests : (front : List Lit) → All (Contains old.assignment.trail.items) front → All (IsAtRest front front) old.clauses → All (IsAtRest front front) new.clauses
 
--- the search with these lists
-abbrev pub with_watchers : Search → WatchersParts → Search
-with_watchers s w = record { assignment = s.assignment; clauses = s.clauses; watchers = w; numbers = s.numbers; starts = s.starts }
-
 -- what was true before the first choice, or all that is true where nothing was chosen
 abbrev pub root_of : Search → List Lit
 root_of s = take (slice_index_or s.starts.items 0 (length s.assignment.trail.items)) s.assignment.trail.items
@@ -39,17 +35,20 @@ pub record IsWhole (s : Search) : Type 0 where
   pub watched : AreWatched (root_of s) (length s.assignment.values) s.clauses s.watchers
   pub truths : AreTrue s.assignment.values s.assignment.trail.items
 
+-- the search, where the literal has this list
+abbrev pub with_watches : Search → Lit → List Watch → Search
+with_watches s l list = record { assignment = s.assignment; clauses = s.clauses; watchers = with_list s.watchers l list; numbers = s.numbers; starts = s.starts }
+
 -- the search visits the list of a false literal, and came to this place
 abbrev pub Visiting : List Lit → Lit → ℕ → Search → Type 0
 Visiting part gone place s = IsVisiting part gone place (root_of s) s.assignment.values s.assignment.trail.items s.clauses s.watchers
 
--- the clause at a place of a literal's list, whose blocking literal is true, stays there; or it leaves the list, as that
--- literal is true for good
-abbrev pub Passes : Lit → ℕ → Lit → Search → Search → Attended → Type 0
-Passes gone place blocker old new Stays = new ≡ old
-Passes gone place blocker old new Leaves =
-    Contains (root_of old) blocker × ((w : WatchersParts) × Unwatches old.watchers w gone place × (new ≡ with_watchers old w))
-Passes gone place blocker old new (Fails id) = ⊥
+-- the clause at a place of a list, whose blocking literal is true, stays there; or it leaves the list, as that literal is
+-- true for good
+abbrev pub Passes : ℕ → Lit → List Lit → List Watch → List Watch → Attended → Type 0
+Passes place blocker root old new Stays = new ≡ old
+Passes place blocker root old new Leaves = Contains root blocker × IsWithout place old new
+Passes place blocker root old new (Fails id) = ⊥
 
 -- all literals of the clause with this number are false
 abbrev pub FailsAt : Search → ℕ → Type 0

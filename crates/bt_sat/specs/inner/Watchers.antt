@@ -1,22 +1,39 @@
 -- For each literal, the clauses that watch it.
-use Rattle.std.specs.Prelude.{◌≡◌, ◌≢◌, ℕ, ◌++◌, ◌∷◌, [], List, length, cond, map, slice_index_or, slice_set}
+use Rattle.std.specs.Prelude.{◌≡◌, ◌≢◌, ◌+◌, ◌-◌, ◌*◌, ◌<◌, ℕ, ◌++◌, ◌∷◌, [], List, length, cond, map, slice_index_or, slice_set}
+use Rattle.std.specs.Global.{Vec}
 use Rattle.bt_cnf.specs.declared.literal.Lit.{Lit}
 use Rattle.bt_sat.specs.declared.kept.Watch.{Watch}
-use Rattle.bt_sat.specs.inner.Sides.{IsWithout}
 use Rattle.bt_sat.specs.inner.WatchersParts.{WatchersParts}
+
+-- the lists of clauses that vectors have
+abbrev pub lists_of : Vec (Vec Watch) → List (List Watch)
+lists_of vectors = map (λ (v : Vec Watch). v.items) vectors.items
+
+-- where a literal's list stands
+abbrev pub place_of : Lit → ℕ
+place_of l = cond l.positive (2 * l.var) (2 * l.var + 1)
 
 -- the list of a literal
 abbrev pub watches_of : WatchersParts → Lit → List Watch
-watches_of w l = cond l.positive (slice_index_or w.positives l.var []) (slice_index_or w.negatives l.var [])
+watches_of w l = slice_index_or w.lists (place_of l) []
 
 -- the clauses that watch a literal
 abbrev pub watchers : WatchersParts → Lit → List ℕ
 watchers w l = map (λ (watch : Watch). watch.id) (watches_of w l)
 
+-- the literal has this list, and the other lists stay
+abbrev pub with_list : WatchersParts → Lit → List Watch → WatchersParts
+with_list w l list = record { lists = slice_set w.lists (place_of l) list }
+
+-- a list lost what stood at a place, where the last item stands now
+pub record IsWithout {X : Type 0} (place : ℕ) (old new : List X) : Type 0 where
+  pub size : length new + 1 ≡ length old
+  pub last : (d : X) → place + 1 < length old → slice_index_or new place d ≡ slice_index_or old (length old - 1) d
+  pub others : (k : ℕ) (d : X) → k ≢ place → k + 1 < length old → slice_index_or new k d ≡ slice_index_or old k d
+
 -- there are as many lists as before, and those of other literals stay
 pub record ChangesOne (old new : WatchersParts) (l : Lit) : Type 0 where
-  pub positives : length new.positives ≡ length old.positives
-  pub negatives : length new.negatives ≡ length old.negatives
+  pub size : length new.lists ≡ length old.lists
   pub others : (m : Lit) → m ≢ l → watches_of new m ≡ watches_of old m
 
 -- one more clause watches the literal

@@ -1,8 +1,7 @@
--- For each variable, the clauses that watch its literals.
+-- For each literal, the clauses that watch it.
 use Rattle.std.specs.Prelude.{List}
 use Rattle.bt_sat.specs.declared.kept.Watch.{Watch}
 
--- the lists of the positive literals, and of the negative ones
+-- the lists, of which those of a variable's positive and of its negative literal stand side by side
 pub record WatchersParts : Type 0 where
-  pub positives : List (List Watch)
-  pub negatives : List (List Watch)
+  pub lists : List (List Watch)

@@ -1,12 +1,13 @@
-use Rattle.std.proofs.Common.{◌≡◌, ℕ, arith, [], ◌∷◌, ◌++◌, length, get_or, ap, sym, subst, refl, ◌∙◌}
+use Rattle.std.proofs.Common.{◌≡◌, ℕ, ◌<◌, arith, [], ◌∷◌, ◌++◌, length, get_or, ap, sym, subst, refl, ◌∙◌}
 use Rattle.std.proofs.lemmas.List.{get_or_default}
 use Rattle.bt_cnf.specs.declared.literal.Lit.{Lit}
 use Rattle.bt_sat.specs.inner.Attending.{no_lit, first, second}
 use Rattle.bt_sat.specs.inner.Keeping.{AreWatched}
 use Rattle.bt_sat.specs.inner.Propagating.{root_of}
-use Rattle.bt_sat.specs.inner.Watchers.{Watches}
+use Rattle.bt_sat.specs.inner.Watchers.{place_of, Watches}
 use Rattle.bt_sat.specs.inner.WatchersParts.{WatchersParts}
 use Rattle.bt_sat.proofs.Adding.{watched_more}
+use Rattle.bt_sat.proofs.Lent.{place_below}
 use Rattle.bt_sat.proofs.search.keep_packed.Goals as goal
 
 -- the same of equal literals
@@ -38,3 +39,20 @@ returns c =
           subst (λ cs. AreWatched (root_of old) (length old.assignment.values) cs c.watch-2.new.self) (sym grown)
           (watched_more (root_of old) (length old.assignment.values) old.clauses old.watchers c.watch.new.self c.watch-2.new.self lits id c.requires.watched c.requires.watchable (c.in_ok-id.ensures ∙ added.1) one two);
     }
+
+pub watch-requires : goal.watch-requires
+watch-requires c =
+    let old = c.args.search.now in
+    let lits = c.args.lits.now in
+    let at : first lits ≡ c.index-lits-0.result = get_or_default lits 0 no_lit c.index-lits-0.result (omega (arith, c.requires.watchable.two)) ∙ sym c.index-lits-0.is in
+    subst (λ l. place_of l < length old.watchers.lists) at
+    (place_below (first lits) (length old.assignment.values) (length old.watchers.lists) (c.requires.watchable.below 0 no_lit (omega (arith, c.requires.watchable.two))) c.requires.watched.lists)
+
+pub watch-requires-2 : goal.watch-requires-2
+watch-requires-2 c =
+    let old = c.args.search.now in
+    let lits = c.args.lits.now in
+    let at : second lits ≡ c.index-lits-1.result = get_or_default lits 1 no_lit c.index-lits-1.result (omega (arith, c.requires.watchable.two)) ∙ sym c.index-lits-1.is in
+    subst (λ l. place_of l < length c.watch.new.self.lists) at
+    (place_below (second lits) (length old.assignment.values) (length c.watch.new.self.lists) (c.requires.watchable.below 1 no_lit (omega (arith, c.requires.watchable.two)))
+    (c.in_ok-watch.ensures.one.size ∙ c.requires.watched.lists))

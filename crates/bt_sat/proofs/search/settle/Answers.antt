@@ -1,56 +1,27 @@
-use Rattle.std.proofs.Common.{◌<◌, arith, [], sym, subst, ◌∙◌}
-use Rattle.bt_sat.specs.inner.Propagating.{Advances}
-use Rattle.bt_sat.proofs.Advancing.{goes_twice, starts}
+use Rattle.std.proofs.Common.{length, ap, subst, sym}
+use Rattle.bt_sat.specs.declared.search.Search.{Search}
+use Rattle.bt_sat.specs.inner.Keeping.{AreWatched}
+use Rattle.bt_sat.specs.inner.Propagating.{root_of, with_watches, Settles}
+use Rattle.bt_sat.specs.inner.WatchersParts.{WatchersParts}
+use Rattle.bt_sat.proofs.Lent.{standing_after, with_taken}
 use Rattle.bt_sat.proofs.search.settle.Goals as goal
 
-pub len-requires-clause-positives : goal.len-requires-clause-positives
-len-requires-clause-positives c =
-    let old = c.args.search.now in
-    let v = c.loop-place.invariant.visiting [] (starts c.args.gone.now old c.requires.watched c.requires.truths c.requires.gone) in
-    subst (λ n. c.args.gone.now.var < n) (sym (v.watched.positives ∙ c.loop-place.invariant.goes.variables)) c.requires.variable
+pub settle_list-requires-clause-watched : goal.settle_list-requires-clause-watched
+settle_list-requires-clause-watched c =
+    let old = with_taken c.args.search.now c.args.gone.now c.replace-list.new.self c.new.result.items c.replace-list.result.items c.replace-list.ensures.put c.replace-list.ensures.taken in
+    subst (AreWatched (root_of c.args.search.now) (length c.args.search.now.assignment.values) c.args.search.now.clauses) (sym (ap (λ (s : Search). s.watchers) old)) c.requires.watched
 
-pub len-requires-clause-negatives : goal.len-requires-clause-negatives
-len-requires-clause-negatives c =
-    let old = c.args.search.now in
-    let v = c.loop-place.invariant.visiting [] (starts c.args.gone.now old c.requires.watched c.requires.truths c.requires.gone) in
-    subst (λ n. c.args.gone.now.var < n) (sym (v.watched.negatives ∙ c.loop-place.invariant.goes.variables)) c.requires.variable
-
-pub attend_at-requires-clause-watched : goal.attend_at-requires-clause-watched
-attend_at-requires-clause-watched c =
-    (c.loop-place.invariant.visiting [] (starts c.args.gone.now c.args.search.now c.requires.watched c.requires.truths c.requires.gone)).watched
-
-pub attend_at-requires-clause-truths : goal.attend_at-requires-clause-truths
-attend_at-requires-clause-truths c =
-    (c.loop-place.invariant.visiting [] (starts c.args.gone.now c.args.search.now c.requires.watched c.requires.truths c.requires.gone)).truths
-
-pub attend_at-requires-clause-gone : goal.attend_at-requires-clause-gone
-attend_at-requires-clause-gone c =
-    (c.loop-place.invariant.visiting [] (starts c.args.gone.now c.args.search.now c.requires.watched c.requires.truths c.requires.gone)).gone_false
-
-pub loop-place-preserved-in-Stays : goal.loop-place-preserved-in-Stays
-loop-place-preserved-in-Stays c =
-    let now = subst (Advances c.args.gone.now c.loop-place.place c.loop-place.search c.attend_at.new.search) c.in-Stays.is c.in_ok-attend_at.ensures in
-    record {
-      goes = goes_twice c.args.search.now c.loop-place.search c.attend_at.new.search c.loop-place.invariant.goes now.0;
-      visiting = λ part v. now.2 part (c.loop-place.invariant.visiting part v);
-    }
-
-pub loop-place-preserved : goal.loop-place-preserved
-loop-place-preserved c =
-    let now = subst (Advances c.args.gone.now c.loop-place.place c.loop-place.search c.attend_at.new.search) c.in-Leaves.is c.in_ok-attend_at.ensures in
-    record {
-      goes = goes_twice c.args.search.now c.loop-place.search c.attend_at.new.search c.loop-place.invariant.goes now.0;
-      visiting = λ part v. now.2 part (c.loop-place.invariant.visiting part v);
-    }
-
-pub returns-in-Fails : goal.returns-in-Fails
-returns-in-Fails c =
-    let now = subst (Advances c.args.gone.now c.loop-place.place c.loop-place.search c.attend_at.new.search) c.in-Fails.is c.in_ok-attend_at.ensures in
-    let v = c.loop-place.invariant.visiting [] (starts c.args.gone.now c.args.search.now c.requires.watched c.requires.truths c.requires.gone) in
-    (goes_twice c.args.search.now c.loop-place.search c.attend_at.new.search c.loop-place.invariant.goes now.0, now.1, (λ whole. now.2 (record { watched = v.watched; truths = v.truths })))
+pub replace-requires : goal.replace-requires
+replace-requires c =
+    let old = with_taken c.args.search.now c.args.gone.now c.replace-list.new.self c.new.result.items c.replace-list.result.items c.replace-list.ensures.put c.replace-list.ensures.taken in
+    let now = subst (λ s. Settles c.args.gone.now s (with_watches c.settle_list.new.search c.args.gone.now c.settle_list.new.list.items) c.in_ok-failed.failed) old c.in_ok-failed.ensures in
+    standing_after c.args.search.now c.settle_list.new.search c.args.gone.now c.settle_list.new.list.items c.in_ok-failed.failed c.requires.watched c.requires.truths c.requires.gone
+    c.requires.variable now
 
 pub returns : goal.returns
-returns c = (
-  c.loop-place.invariant.goes,
-  (λ part v. (c.loop-place.place, omega (arith, c.loop-place-test.false, c.len.ensures), c.loop-place.invariant.visiting part v)),
-)
+returns c =
+    let old = with_taken c.args.search.now c.args.gone.now c.replace-list.new.self c.new.result.items c.replace-list.result.items c.replace-list.ensures.put c.replace-list.ensures.taken in
+    let now = subst (λ s. Settles c.args.gone.now s (with_watches c.settle_list.new.search c.args.gone.now c.settle_list.new.list.items) c.in_ok-failed.failed) old c.in_ok-failed.ensures in
+    let new = c.settle_list.new.search in
+    let make : WatchersParts → Search = λ w. record { assignment = new.assignment; clauses = new.clauses; watchers = w; numbers = new.numbers; starts = new.starts } in
+    subst (λ w. Settles c.args.gone.now c.args.search.now (make w) c.in_ok-failed.failed) (sym c.replace.ensures.put) now
