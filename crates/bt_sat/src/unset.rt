@@ -47,10 +47,8 @@ pub fn drop_set(unset: &mut Vec<Var>, values: &Values)
 
 /// Whether a variable has no value.
 fn lacks_value(values: &Values, var: Var) -> bool
+    requires { var < length values.now }
     ensures { result ≡ is_unset values.now var }
 {
-    match values.id_at(var.place()) {
-        Some(var) => values.get(var).is_none(),
-        None => true,
-    }
+    values.get(var).is_none()
 }
