@@ -27,6 +27,7 @@ pub struct Member {
 pub enum Place<'a> {
     /// In the basis, with the line of its class's first position, or with the other sign.
     Line {
+        class: usize,
         first: usize,
         line: &'a Line,
         negated: bool,
@@ -98,6 +99,7 @@ impl Basis {
         let Member { class, negated } = self.members[position];
         match &self.lines[class] {
             Some(line) => Place::Line {
+                class,
                 first: self.firsts[class],
                 line,
                 negated,

@@ -6,6 +6,7 @@ mod answers;
 mod basis;
 mod bland;
 mod causes;
+mod kept;
 mod law;
 mod lemmas;
 mod line;
