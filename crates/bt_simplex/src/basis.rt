@@ -138,19 +138,6 @@ impl Basis {
         }
     }
 
-    /// The same slots.
-    pub fn copied(&self, alloc: Global) -> Result<Basis, AllocError>
-        ensures { IfOk result (λ copy. copy ≡ self.now) }
-    {
-        let lines = copied_lines(alloc, &self.lines)?;
-        Ok(Basis {
-            members: Vec::from_slice(alloc, &self.members)?,
-            firsts: Vec::from_slice(alloc, &self.firsts)?,
-            lines,
-            outside: Vec::from_slice(alloc, &self.outside)?,
-        })
-    }
-
     /// One more position of this slot, in a class of its own.
     pub fn with_class(self, slot: Option<Line>) -> Result<Basis, AllocError>
         ensures { IfOk result (λ more. more ≡ self ++ slot ∷ []) }
@@ -306,27 +293,5 @@ fn sign_in(
             Some(differ(negated, member.negated))
         }
         None => None,
-    }
-}
-
-/// The same lines.
-fn copied_lines(alloc: Global, lines: &[Option<Line>]) -> Result<Vec<Option<Line>>, AllocError>
-    ensures { IfOk result (λ v. v.items ≡ lines.now) }
-{
-    let mut copies = Vec::with_capacity(alloc, lines.len())?;
-    for line in lines {
-        let copy = copied_line(alloc, line)?;
-        copies.push(copy)?;
-    }
-    Ok(copies)
-}
-
-/// The same line.
-fn copied_line(alloc: Global, line: &Option<Line>) -> Result<Option<Line>, AllocError>
-    ensures { IfOk result (λ copy. copy ≡ line.now) }
-{
-    match line {
-        Some(line) => Ok(Some(line.signed(alloc, false)?)),
-        None => Ok(None),
     }
 }

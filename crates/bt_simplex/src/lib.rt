@@ -21,6 +21,7 @@ mod sums;
 mod tableau;
 mod trails;
 mod turning;
+mod workspace;
 
 pub use answers::{Check, Operation, Trail, Wide, WidePlace};
 pub use law::one_solved_form;

@@ -154,6 +154,16 @@ impl Line {
         }
     }
 
+    /// The same line, in the room of a list whose terms are dropped.
+    pub fn copied_in(&self, alloc: Global, room: Room) -> Result<Line, AllocError>
+        ensures { IfOk result (λ line. line ≡ self.now) }
+    {
+        match &self.form {
+            Form::Whole(short) => Ok(Line::whole(short.copied_in(room)?)),
+            Form::Fractions(terms) => signed_line(alloc, terms, false),
+        }
+    }
+
     /// What becomes of the line where what a position stands for, by a line that is 0, is put in place of it,
     /// in the room of a list whose terms are dropped.
     pub fn substituted(

@@ -8,6 +8,7 @@ ghost use Rattle.bt_simplex.specs.Lines.{IsLine, HasNumber};
 ghost use Rattle.bt_simplex.specs.Classes.{signed_terms};
 ghost use Rattle.bt_simplex.specs.inner.Shorts.{reduced, terms_over, IsSmall, IsShort, Ascend, whole_at, signed_numbers, Divides};
 
+mod copying;
 mod merging;
 mod points;
 mod zero;

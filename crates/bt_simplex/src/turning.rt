@@ -15,6 +15,7 @@ use crate::basis::{Basis, Member};
 use crate::causes::{Cause, Unfit};
 use crate::kept::Kept;
 use crate::line::{Change, Line, Room, Term, combined};
+use crate::workspace::Workspace;
 use bt_frac::Frac;
 use std::alloc::{AllocError, Global};
 
@@ -314,7 +315,7 @@ pub fn turned_copy(
     requires lines { AreLines basis.now }
     ensures { IfOk result (λ o. IfSome o (λ b. IsTurned basis.now leaves enters b)) }
 {
-    let mut copy = basis.copied(alloc)?;
+    let mut copy = Workspace::none(alloc).copy_of(alloc, basis)?.basis;
     let mut kept = Kept::none(alloc, 0)?;
     match turn(alloc, &mut copy, &mut kept, leaves, enters)? {
         Ok(()) => Ok(Some(copy)),
