@@ -9,7 +9,7 @@ ghost use Rattle.bt_simplex.specs.inner.Unfits.{IsUnfit};
 
 use crate::causes::Unfit;
 use crate::merging::merged;
-use crate::short::{Short, Substitution, entering_line, shortened, substituted, zero_line};
+use crate::short::{Entry, Short, Substitution, entering_line, shortened, substituted, zero_line};
 use bt_frac::Frac;
 use std::alloc::{AllocError, Global};
 use std::marker::Model;
@@ -18,7 +18,7 @@ use std::marker::Model;
 pub type Term = (usize, Frac);
 
 /// A list whose terms are dropped, so that a line can be formed in its memory.
-pub type Room = Vec<(usize, i64)>;
+pub type Room = Vec<Entry>;
 
 /// How a line holds its terms.
 #[derive(Drop)]
