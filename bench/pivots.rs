@@ -1,8 +1,8 @@
 // The turns of bench/pivots.sh in plain Rust: the rows of the flow formula of a network on standard input and `unlimited`,
 // some of which are bound or let go before each check, and Bland's turns from the basis on. A line has whole numbers below
-// 2^31 over one denominator, and there is one for each class of positions whose terms are the same up to the sign.
-// Fractions of i128, with a short path for parts of 63 bits, are for the values alone. Prints how many checks find values,
-// and the turns.
+// 2^31 over one denominator, each in eight bytes with its position, and there is one for each class of positions whose terms
+// are the same up to the sign. Fractions of i128, with a short path for parts of 63 bits, are for the values alone. Prints
+// how many checks find values, and the turns.
 use std::cmp::Ordering;
 use std::collections::HashMap;
 use std::io::Read;
@@ -101,18 +101,41 @@ enum Relation {
 
 type Terms = Vec<(usize, i64)>;
 
+/// A position with its number.
+#[derive(Clone, Copy)]
+struct Entry {
+    position: u32,
+    number: i32,
+}
+
+impl Entry {
+    fn of(position: usize, number: i64) -> Entry {
+        Entry { position: position as u32, number: number as i32 }
+    }
+
+    fn position(self) -> usize {
+        self.position as usize
+    }
+
+    fn number(self) -> i64 {
+        self.number.into()
+    }
+}
+
+type Entries = Vec<Entry>;
+
 /// Numbers at positions, over one denominator.
 #[derive(Clone)]
 struct Line {
-    terms: Terms,
+    terms: Entries,
     under: i64,
 }
 
 impl Line {
     /// The same numbers, without a common divisor of all of them and the denominator.
     fn lowest(mut self) -> Line {
-        let common = self.terms.iter().fold(self.under, |common, term| gcd_short(term.1.unsigned_abs(), common as u64) as i64);
-        self.terms.iter_mut().for_each(|term| term.1 /= common);
+        let common = self.terms.iter().fold(self.under, |common, term| gcd_short(term.number().unsigned_abs(), common as u64) as i64);
+        self.terms.iter_mut().for_each(|term| *term = Entry::of(term.position(), term.number() / common));
         self.under /= common;
         self
     }
@@ -141,26 +164,26 @@ fn fitting(number: i64) -> i64 {
 
 /// The line, with what a position stands for by the zero line in place of the position, which has this number there. The
 /// room is that of the new terms.
-fn merged(mut room: Terms, line: &Line, number: i64, zero: &Line) -> Line {
+fn merged(mut room: Entries, line: &Line, number: i64, zero: &Line) -> Line {
     let common = gcd_short(number.unsigned_abs(), zero.under.unsigned_abs()) as i64;
     let (times, other_times) = (zero.under / common, number / common);
     room.clear();
     room.reserve(line.terms.len() + zero.terms.len());
     let (mut left, mut right) = (0, 0);
     while left < line.terms.len() || right < zero.terms.len() {
-        let at = |line: &Line, place: usize| line.terms.get(place).map_or(usize::MAX, |term| term.0);
+        let at = |line: &Line, place: usize| line.terms.get(place).map_or(usize::MAX, |term| term.position());
         let (a, b) = (at(line, left), at(zero, right));
         let mut sum = 0;
         if a <= b {
-            sum += line.terms[left].1 * times;
+            sum += line.terms[left].number() * times;
             left += 1;
         }
         if b <= a {
-            sum += zero.terms[right].1 * other_times;
+            sum += zero.terms[right].number() * other_times;
             right += 1;
         }
         if sum != 0 {
-            room.push((a.min(b), fitting(sum)));
+            room.push(Entry::of(a.min(b), fitting(sum)));
         }
     }
     Line { terms: room, under: fitting(line.under * times) }
@@ -192,6 +215,11 @@ fn signed_terms(negated: bool, terms: &[(usize, i64)]) -> Terms {
     terms.iter().map(|(position, number)| (*position, signed(negated, *number))).collect()
 }
 
+/// The same of a line's entries.
+fn signed_entries(negated: bool, terms: &[Entry]) -> Entries {
+    terms.iter().map(|term| Entry::of(term.position(), signed(negated, term.number()))).collect()
+}
+
 impl Tableau {
     fn new(rows: Vec<Row>, columns: usize) -> Tableau {
         let mut members: Vec<(usize, bool)> = (0..columns).map(|column| (column, false)).collect();
@@ -203,6 +231,7 @@ impl Tableau {
             let class = match terms[..] {
                 [(column, 1)] => column,
                 _ => *classes.entry(terms.clone()).or_insert_with(|| {
+                    let terms = terms.iter().map(|term| Entry::of(term.0, term.1)).collect();
                     held.push(Held::Line(Line { terms, under: 1 }));
                     held.len() - 1
                 }),
@@ -226,8 +255,8 @@ impl Tableau {
         let (class, negated) = self.members[position];
         match &self.held[class] {
             Held::Line(line) => {
-                let (value, tiny) = line.terms.iter().fold((0, 0), |sum: Delta, (position, number)| {
-                    let rest = self.rest(*position);
+                let (value, tiny) = line.terms.iter().fold((0, 0), |sum: Delta, term| {
+                    let (rest, number) = (self.rest(term.position()), term.number());
                     (sum.0 + number * rest.0, sum.1 + number * rest.1)
                 });
                 ((signed(negated, value), signed(negated, tiny)), line.under)
@@ -243,8 +272,8 @@ impl Tableau {
     fn line(&self, position: usize) -> Line {
         let (class, negated) = self.members[position];
         match &self.held[class] {
-            Held::Line(line) => Line { terms: signed_terms(negated, &line.terms), under: line.under },
-            Held::Outside(other) => Line { terms: vec![(*other, signed(negated != self.members[*other].1, 1))], under: 1 },
+            Held::Line(line) => Line { terms: signed_entries(negated, &line.terms), under: line.under },
+            Held::Outside(other) => Line { terms: vec![Entry::of(*other, signed(negated != self.members[*other].1, 1))], under: 1 },
         }
     }
 
@@ -264,35 +293,35 @@ impl Tableau {
     }
 
     fn entering(&self, order: Ordering, line: &Line) -> Option<usize> {
-        line.terms.iter().find_map(|(position, number)| {
-            let may = match self.bound_row(*position) {
-                Some(other) => other.relation != Relation::Equal && (*number > 0) == (order == Ordering::Less),
+        line.terms.iter().find_map(|term| {
+            let may = match self.bound_row(term.position()) {
+                Some(other) => other.relation != Relation::Equal && (term.number() > 0) == (order == Ordering::Less),
                 None => true,
             };
-            may.then_some(*position)
+            may.then_some(term.position())
         })
     }
 
     fn turn(&mut self, leaves: usize, enters: usize, line: &Line) {
-        let number = line.terms[line.terms.binary_search_by_key(&enters, |term| term.0).unwrap()].1;
+        let number = line.terms[line.terms.binary_search_by_key(&enters, |term| term.position()).unwrap()].number();
         // The line that is 0 wherever the leaving one holds has -1 at the entering position.
-        let mut terms = signed_terms(number > 0, &line.terms);
-        let place = terms.partition_point(|term| term.0 < leaves);
-        terms.insert(place, (leaves, signed(number < 0, line.under)));
+        let mut terms = signed_entries(number > 0, &line.terms);
+        let place = terms.partition_point(|term| term.position() < leaves);
+        terms.insert(place, Entry::of(leaves, signed(number < 0, line.under)));
         let zero = Line { terms, under: number.abs() }.lowest();
         let ((left, _), (entered, negated)) = (self.members[leaves], self.members[enters]);
         self.held[left] = Held::Outside(leaves);
         let mut room = vec![];
         for held in &mut self.held {
             let Held::Line(line) = held else { continue };
-            if let Ok(place) = line.terms.binary_search_by_key(&enters, |term| term.0) {
-                let merged = merged(room, line, line.terms[place].1, &zero);
+            if let Ok(place) = line.terms.binary_search_by_key(&enters, |term| term.position()) {
+                let merged = merged(room, line, line.terms[place].number(), &zero);
                 room = std::mem::replace(line, merged).terms;
             }
         }
         if left != entered {
-            let mut terms = signed_terms(negated, &zero.terms);
-            terms.retain(|term| term.0 != enters);
+            let mut terms = signed_entries(negated, &zero.terms);
+            terms.retain(|term| term.position() != enters);
             self.held[entered] = Held::Line(Line { terms, under: zero.under });
         }
         self.turns += 1;
@@ -327,7 +356,7 @@ impl Tableau {
                 Some(enters) => self.turn(leaves, enters, &line),
                 None => {
                     let weight = |number: i64| Frac::lowest(signed(order == Ordering::Less, number).into(), line.under.into());
-                    return Err(line.terms.iter().map(|(position, number)| (*position, weight(*number))).collect());
+                    return Err(line.terms.iter().map(|term| (term.position(), weight(term.number()))).collect());
                 }
             }
         }

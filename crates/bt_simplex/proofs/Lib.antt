@@ -9,6 +9,7 @@ pub mod FirstLines
 pub mod FreeRests
 pub mod GrowingClasses
 pub mod Indicators
+pub mod KeptSums
 pub mod LineWeights
 pub mod Meeting
 pub mod Named

@@ -2,6 +2,7 @@
 pub mod Bases
 pub mod Checking
 pub mod Forms
+pub mod Kept
 pub mod Lemmas
 pub mod Places
 pub mod Rests

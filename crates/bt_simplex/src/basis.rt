@@ -27,6 +27,7 @@ pub struct Member {
 pub enum Place<'a> {
     /// In the basis, with the line of its class's first position, or with the other sign.
     Line {
+        class: usize,
         first: usize,
         line: &'a Line,
         negated: bool,
@@ -98,6 +99,7 @@ impl Basis {
         let Member { class, negated } = self.members[position];
         match &self.lines[class] {
             Some(line) => Place::Line {
+                class,
                 first: self.firsts[class],
                 line,
                 negated,
@@ -134,19 +136,6 @@ impl Basis {
             Place::Like { other, negated } => Ok(Some(lone_line(alloc, other, negated)?)),
             Place::Outside => Ok(None),
         }
-    }
-
-    /// The same slots.
-    pub fn copied(&self, alloc: Global) -> Result<Basis, AllocError>
-        ensures { IfOk result (λ copy. copy ≡ self.now) }
-    {
-        let lines = copied_lines(alloc, &self.lines)?;
-        Ok(Basis {
-            members: Vec::from_slice(alloc, &self.members)?,
-            firsts: Vec::from_slice(alloc, &self.firsts)?,
-            lines,
-            outside: Vec::from_slice(alloc, &self.outside)?,
-        })
     }
 
     /// One more position of this slot, in a class of its own.
@@ -304,27 +293,5 @@ fn sign_in(
             Some(differ(negated, member.negated))
         }
         None => None,
-    }
-}
-
-/// The same lines.
-fn copied_lines(alloc: Global, lines: &[Option<Line>]) -> Result<Vec<Option<Line>>, AllocError>
-    ensures { IfOk result (λ v. v.items ≡ lines.now) }
-{
-    let mut copies = Vec::with_capacity(alloc, lines.len())?;
-    for line in lines {
-        let copy = copied_line(alloc, line)?;
-        copies.push(copy)?;
-    }
-    Ok(copies)
-}
-
-/// The same line.
-fn copied_line(alloc: Global, line: &Option<Line>) -> Result<Option<Line>, AllocError>
-    ensures { IfOk result (λ copy. copy ≡ line.now) }
-{
-    match line {
-        Some(line) => Ok(Some(line.signed(alloc, false)?)),
-        None => Ok(None),
     }
 }

@@ -6,13 +6,14 @@ ghost use Rattle.bt_simplex.specs.Points.{bound_row};
 ghost use Rattle.bt_simplex.specs.SolvedForms.{Slots, slot_at};
 ghost use Rattle.bt_simplex.specs.Turns.{Breaks, Fails, MovesTowards, CanEnter};
 ghost use Rattle.bt_simplex.specs.inner.Bases.{with_slots, MayEnter, Names, Finds, IsLeastOf, IsNext};
-ghost use Rattle.bt_simplex.specs.inner.ShortPoints.{AreClassSums};
+ghost use Rattle.bt_simplex.specs.inner.Kept.{AreKept};
 
 use crate::basis::{Basis, Place};
 use crate::causes::Cause;
+use crate::kept::{Kept, class_sums};
 use crate::line::Line;
 use crate::points::{bound_value, line_point, point};
-use crate::short::{ClassSums, breaks_at, breaks_by};
+use crate::short::{breaks_at, breaks_by};
 use crate::tableau::{Tableau, Turn};
 use bt_frac::{Delta, Frac, Relation, Row};
 use std::alloc::{AllocError, Global};
@@ -75,65 +76,32 @@ fn may_enter(tableau: &Tableau, row: &Row, point: &Delta, position: usize, numbe
     }
 }
 
-/// The sums of the line of a bound row's class, which are at hand where the class was the last one too. None
-/// where whole numbers don't tell them.
-fn class_sums(
-    tableau: &Tableau,
-    basis: &Basis,
-    position: usize,
-    last: Option<ClassSums>,
-) -> Option<ClassSums>
-    requires { IfSome last (AreClassSums tableau.now basis.now) }
-    ensures { IfSome result (AreClassSums tableau.now basis.now) }
-{
-    let Some(_) = tableau.bound_row(position) else {
-        return last;
-    };
-    let Place::Line { first, line, .. } = basis.place(position) else {
-        return last;
-    };
-    if is_of(last, first) {
-        return last;
-    }
-    let short = line.short()?;
-    let sums = short.sums(tableau)?;
-    Some(ClassSums { first, sums })
-}
-
-/// Whether the sums are those of the class of this first position.
-fn is_of(sums: Option<ClassSums>, first: usize) -> bool {
-    match sums {
-        Some(sums) => sums.first == first,
-        None => false,
-    }
-}
-
 /// Whether a bound row is in the basis and doesn't hold, where whole numbers tell it.
 fn fails_whole(
     tableau: &Tableau,
     basis: &Basis,
     row: &Row,
     position: usize,
-    sums: Option<ClassSums>,
+    kept: &mut Kept,
 ) -> Option<bool>
     requires row { bound_row tableau.now position ≡ Some row.now }
-    requires sums { IfSome sums (AreClassSums tableau.now basis.now) }
-    ensures { IfSome result (λ told. IsTrue told ↔ Fails (with_slots tableau.now basis.now) position) }
+    requires kept { AreKept tableau.now basis.now kept.old.sums.items }
+    ensures told { IfSome result
+        (λ told. IsTrue told ↔ Fails (with_slots tableau.now basis.now) position) }
+    ensures kept { AreKept tableau.now basis.now kept.new.sums.items }
 {
     tableau.all_known();
     let rest = tableau.whole_rest(position)?;
     match basis.place(position) {
         Place::Line {
+            class,
             first,
             line,
             negated,
         } => {
             line.known();
-            let class = sums?;
-            if class.first != first {
-                return None;
-            }
-            let told = breaks_by(row, rest, class.sums, negated)?;
+            let of_class = class_sums(tableau, kept, class, first, line)?;
+            let told = breaks_by(row, rest, of_class.sums, negated)?;
             Some(told)
         }
         Place::Like { other, negated } => {
@@ -146,20 +114,16 @@ fn fails_whole(
 }
 
 /// Whether a position is a bound row of the basis that doesn't hold; or why its point doesn't fit.
-fn fails(
-    tableau: &Tableau,
-    basis: &Basis,
-    position: usize,
-    sums: Option<ClassSums>,
-) -> Result<bool, Cause>
-    requires { IfSome sums (AreClassSums tableau.now basis.now) }
+fn fails(tableau: &Tableau, basis: &Basis, position: usize, kept: &mut Kept) -> Result<bool, Cause>
+    requires { AreKept tableau.now basis.now kept.old.sums.items }
     ensures told { IfOk result (λ told. IsTrue told ↔ Fails (with_slots tableau.now basis.now) position) }
     ensures unfit { IfErr result (IsCause (with_slots tableau.now basis.now)) }
+    ensures kept { AreKept tableau.now basis.now kept.new.sums.items }
 {
     let Some(row) = tableau.bound_row(position) else {
         return Ok(false);
     };
-    if let Some(told) = fails_whole(tableau, basis, row, position, sums) {
+    if let Some(told) = fails_whole(tableau, basis, row, position, kept) {
         return Ok(told);
     }
     if !basis.has(position) {
@@ -170,14 +134,14 @@ fn fails(
 }
 
 /// The least position that fails.
-pub fn leaving(tableau: &Tableau, basis: &Basis) -> Least
-    ensures { Finds (with_slots tableau.now basis.now)
+pub fn leaving(tableau: &Tableau, basis: &Basis, kept: &mut Kept) -> Least
+    requires { AreKept tableau.now basis.now kept.old.sums.items }
+    ensures least { Finds (with_slots tableau.now basis.now)
         (λ p. Fails (with_slots tableau.now basis.now) p) result }
+    ensures kept { AreKept tableau.now basis.now kept.new.sums.items }
 {
-    let mut sums = None;
     for position in 0..basis.len() {
-        sums = class_sums(tableau, basis, position, sums);
-        match fails(tableau, basis, position, sums) {
+        match fails(tableau, basis, position, kept) {
             Ok(told) => {
                 if told {
                     return Least::At(position);
@@ -240,10 +204,17 @@ fn entering_by(tableau: &Tableau, leaves: usize, line: &Line) -> Least
 }
 
 /// Bland's turn of a basis, or how the basis is final.
-pub fn blands_next(tableau: &Tableau, alloc: Global, basis: &Basis) -> Result<Next, AllocError>
-    ensures { IfOk result (IsNext (with_slots tableau.now basis.now)) }
+pub fn blands_next(
+    tableau: &Tableau,
+    alloc: Global,
+    basis: &Basis,
+    kept: &mut Kept,
+) -> Result<Next, AllocError>
+    requires { AreKept tableau.now basis.now kept.old.sums.items }
+    ensures next { IfOk result (IsNext (with_slots tableau.now basis.now)) }
+    ensures kept { AreKept tableau.now basis.now kept.new.sums.items }
 {
-    match leaving(tableau, basis) {
+    match leaving(tableau, basis, kept) {
         Least::At(leaves) => match entering(tableau, alloc, basis, leaves)? {
             Least::At(enters) => Ok(Next::Turn(Turn { leaves, enters })),
             Least::Nowhere => Ok(Next::Stuck(leaves)),

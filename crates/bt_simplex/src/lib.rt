@@ -6,6 +6,7 @@ mod answers;
 mod basis;
 mod bland;
 mod causes;
+mod kept;
 mod law;
 mod lemmas;
 mod line;
@@ -20,6 +21,7 @@ mod sums;
 mod tableau;
 mod trails;
 mod turning;
+mod workspace;
 
 pub use answers::{Check, Operation, Trail, Wide, WidePlace};
 pub use law::one_solved_form;

@@ -9,7 +9,7 @@ ghost use Rattle.bt_simplex.specs.inner.Unfits.{IsUnfit};
 
 use crate::causes::Unfit;
 use crate::merging::merged;
-use crate::short::{Short, Substitution, entering_line, shortened, substituted, zero_line};
+use crate::short::{Entry, Short, Substitution, entering_line, shortened, substituted, zero_line};
 use bt_frac::Frac;
 use std::alloc::{AllocError, Global};
 use std::marker::Model;
@@ -18,7 +18,7 @@ use std::marker::Model;
 pub type Term = (usize, Frac);
 
 /// A list whose terms are dropped, so that a line can be formed in its memory.
-pub type Room = Vec<(usize, i64)>;
+pub type Room = Vec<Entry>;
 
 /// How a line holds its terms.
 #[derive(Drop)]
@@ -151,6 +151,16 @@ impl Line {
         match &self.form {
             Form::Whole(short) => Ok(Line::whole(short.signed(alloc, negated)?)),
             Form::Fractions(terms) => signed_line(alloc, terms, negated),
+        }
+    }
+
+    /// The same line, in the room of a list whose terms are dropped.
+    pub fn copied_in(&self, alloc: Global, room: Room) -> Result<Line, AllocError>
+        ensures { IfOk result (λ line. line ≡ self.now) }
+    {
+        match &self.form {
+            Form::Whole(short) => Ok(Line::whole(short.copied_in(room)?)),
+            Form::Fractions(terms) => signed_line(alloc, terms, false),
         }
     }
 

@@ -164,6 +164,7 @@ pub fn point(tableau: &Tableau, basis: &Basis, position: usize) -> Result<Delta,
             first,
             line,
             negated,
+            ..
         } => match line_point(tableau, first, line) {
             Ok(point) => Ok(signed_point(point, negated)),
             Err(cause) => Err(cause),

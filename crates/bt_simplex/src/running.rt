@@ -3,12 +3,14 @@ ghost use Rattle.std.specs.Prelude.{IfOk, IfErr};
 ghost use Rattle.bt_simplex.specs.Tableaus.{IsTableau};
 ghost use Rattle.bt_simplex.specs.Turns.{IsBlandTurn};
 ghost use Rattle.bt_simplex.specs.inner.Bases.{with_slots};
+ghost use Rattle.bt_simplex.specs.inner.Kept.{AreKept};
 ghost use Rattle.bt_simplex.specs.inner.Runs.{IsMade, IsRun};
 ghost use Rattle.bt_simplex.specs.inner.UnfitTurns.{IsUnfitTurn};
 
 use crate::basis::Basis;
 use crate::bland::{Next, blands_next};
 use crate::causes::Cause;
+use crate::kept::Kept;
 use crate::tableau::{Tableau, Turn};
 use crate::turning::turn;
 use std::alloc::{AllocError, Global};
@@ -43,15 +45,19 @@ fn make_turn(
     tableau: &Tableau,
     alloc: Global,
     basis: &mut Basis,
+    kept: &mut Kept,
     made: Turn,
 ) -> Result<Result<(), Cause>, AllocError>
     requires tableau { IsTableau (with_slots tableau.now basis.old) }
     requires bland { IsBlandTurn (with_slots tableau.now basis.old) made }
+    requires kept { AreKept tableau.now basis.old kept.old.sums.items }
     ensures done { IfOk result (λ o. IfOk o (λ _. IsMade tableau.now made basis.old basis.new)) }
     ensures unfit { IfOk result (λ o. IfErr o (IsUnfitTurn basis.old made.leaves made.enters basis.new)) }
+    ensures kept { IfOk result
+        (λ o. IfOk o (λ _. AreKept tableau.now basis.new kept.new.sums.items)) }
 {
     let _ = tableau;
-    turn(alloc, basis, made.leaves, made.enters)
+    turn(alloc, basis, kept, made.leaves, made.enters)
 }
 
 /// Makes Bland's turns from a basis on, at most so many.
@@ -65,15 +71,16 @@ pub fn turned_from(
     ensures { IfOk result (IsRun pivots tableau.now start) }
 {
     let mut basis = start;
+    let mut kept = Kept::none(alloc, basis.classes())?;
     let mut turns = Vec::new(alloc);
     'turns: loop {
-        match blands_next(tableau, alloc, &basis)? {
+        match blands_next(tableau, alloc, &basis, &mut kept)? {
             Next::Turn(turn) => {
                 if turns.len() as u64 >= pivots {
                     let end = End::Pivots;
                     return Ok(Run { turns, basis, end });
                 }
-                if let Err(cause) = make_turn(tableau, alloc, &mut basis, turn)? {
+                if let Err(cause) = make_turn(tableau, alloc, &mut basis, &mut kept, turn)? {
                     let end = End::Wide(cause);
                     return Ok(Run { turns, basis, end });
                 }

@@ -8,12 +8,15 @@ ghost use Rattle.bt_simplex.specs.Lines.{IsLine, HasNumber};
 ghost use Rattle.bt_simplex.specs.Classes.{signed_terms};
 ghost use Rattle.bt_simplex.specs.inner.Shorts.{reduced, terms_over, IsSmall, IsShort, Ascend, whole_at, signed_numbers, Divides};
 
+mod copying;
+mod entry;
 mod merging;
 mod points;
 mod zero;
 
 use crate::line::Term;
 use bt_frac::Frac;
+pub use entry::Entry;
 pub use merging::{Substitution, substituted};
 pub use points::{ClassSums, breaks_at, breaks_by};
 use std::alloc::{AllocError, Global};
@@ -23,11 +26,11 @@ pub use zero::{entering_line, zero_line};
 /// The least magnitude that no number of a short line has, 2^31.
 const SMALL_LIMIT: u64 = 1 << 31;
 
-/// A line of whole numbers over one denominator, which is positive. All are below 2^31. They may have
-/// common divisors.
+/// A line of whole numbers over one denominator, which is positive. All are below 2^31, and positions fit
+/// 32 bits. They may have common divisors.
 #[derive(Drop)]
 pub struct Short {
-    terms: Vec<(usize, i64)>,
+    terms: Vec<Entry>,
     under: u32,
 }
 
@@ -62,8 +65,7 @@ impl Short {
         requires { index < length self.now }
         ensures { result ≡ slice_index_or self.now index result }
     {
-        let (position, over) = self.terms[index];
-        (position, number(over, self.under))
+        fraction(self.terms[index], self.under)
     }
 
     /// The same terms as fractions.
@@ -99,7 +101,7 @@ impl Short {
     }
 
     /// The room of the terms, for those of another line.
-    pub fn into_room(self) -> Vec<(usize, i64)> {
+    pub fn into_room(self) -> Vec<Entry> {
         let Short { terms, .. } = self;
         terms
     }
@@ -116,28 +118,37 @@ fn number(over: i64, under: u32) -> Frac
     }
 }
 
+/// The term of an entry over a denominator.
+fn fraction(entry: Entry, under: u32) -> Term
+    requires { 0 < under }
+    ensures { result ≡ (entry.0, reduced entry.1 under) }
+{
+    (entry.position() as usize, number(entry.number(), under))
+}
+
 /// The numbers over a denominator, in lowest terms.
-fn fractions(alloc: Global, terms: &[(usize, i64)], under: u32) -> Result<Vec<Term>, AllocError>
+fn fractions(alloc: Global, terms: &[Entry], under: u32) -> Result<Vec<Term>, AllocError>
     requires { 0 < under }
     ensures { IfOk result (λ v. v.items ≡ terms_over under terms.now) }
 {
     let mut fractions = Vec::with_capacity(alloc, terms.len())?;
-    for (position, over) in terms {
-        fractions.push((*position, number(*over, under)))?;
+    for entry in terms {
+        fractions.push(fraction(*entry, under))?;
     }
     Ok(fractions)
 }
 
 /// The number of a position, where the terms name it.
-fn whole_at(terms: &[(usize, i64)], position: usize) -> Option<i64>
+fn whole_at(terms: &[Entry], position: usize) -> Option<i64>
     requires { Ascend terms.now }
     ensures { result ≡ whole_at position terms.now }
 {
-    for (other, number) in terms {
-        if *other == position {
-            return Some(*number);
+    for entry in terms {
+        let other = entry.position() as usize;
+        if other == position {
+            return Some(entry.number());
         }
-        if *other > position {
+        if other > position {
             return None;
         }
     }
@@ -145,11 +156,7 @@ fn whole_at(terms: &[(usize, i64)], position: usize) -> Option<i64>
 }
 
 /// The numbers, with the other sign where this is told.
-fn signed_numbers(
-    alloc: Global,
-    terms: &[(usize, i64)],
-    negated: bool,
-) -> Result<Vec<(usize, i64)>, AllocError>
+fn signed_numbers(alloc: Global, terms: &[Entry], negated: bool) -> Result<Vec<Entry>, AllocError>
     requires { All (λ t. IsSmall t.1) terms.now }
     ensures { IfOk result (λ v. v.items ≡ signed_numbers negated terms.now) }
 {
@@ -161,18 +168,18 @@ fn signed_numbers(
 }
 
 /// The numbers with the other sign.
-fn negated_numbers(alloc: Global, terms: &[(usize, i64)]) -> Result<Vec<(usize, i64)>, AllocError>
+fn negated_numbers(alloc: Global, terms: &[Entry]) -> Result<Vec<Entry>, AllocError>
     requires { All (λ t. IsSmall t.1) terms.now }
     ensures { IfOk result (λ v. v.items ≡ signed_numbers true terms.now) }
 {
     let mut others = Vec::with_capacity(alloc, terms.len())?;
-    for (position, number) in terms {
-        others.push((*position, -*number))?;
+    for entry in terms {
+        others.push(Entry::of(entry.position(), -entry.number()))?;
     }
     Ok(others)
 }
 
-/// The line of these terms, where their numbers are small over a small denominator.
+/// The line of these terms, where their numbers are small over a small denominator and their positions fit.
 pub fn shortened(alloc: Global, terms: &[Term]) -> Result<Option<Short>, AllocError>
     requires { IsLine terms.now }
     ensures { IfOk result (λ o. IfSome o (λ line. line ≡ terms.now)) }
@@ -183,7 +190,8 @@ pub fn shortened(alloc: Global, terms: &[Term]) -> Result<Option<Short>, AllocEr
     }
 }
 
-/// The line of these terms over a common multiple of their denominators, where their numbers are small.
+/// The line of these terms over a common multiple of their denominators, where their numbers are small and
+/// their positions fit.
 fn short_over(alloc: Global, terms: &[Term], under: u32) -> Result<Option<Short>, AllocError>
     requires line { IsLine terms.now }
     requires some { 0 < under }
@@ -193,8 +201,8 @@ fn short_over(alloc: Global, terms: &[Term], under: u32) -> Result<Option<Short>
 {
     let mut numbers = Vec::with_capacity(alloc, terms.len())?;
     for term in terms {
-        match number_over(&term.1, under) {
-            Some(over) => numbers.push((term.0, over))?,
+        match entry_over(term, under) {
+            Some(entry) => numbers.push(entry)?,
             None => return Ok(None),
         }
     }
@@ -202,6 +210,20 @@ fn short_over(alloc: Global, terms: &[Term], under: u32) -> Result<Option<Short>
         terms: numbers,
         under,
     }))
+}
+
+/// The entry of a term over a multiple of its denominator, where the number is small and the position fits.
+fn entry_over(term: &Term, under: u32) -> Option<Entry>
+    requires some { 0 < under }
+    requires fits { under < 2 ^ 31 }
+    requires divides { Divides term.now.1.under under }
+    ensures position { IfSome result (λ entry. entry.0 ≡ term.now.0) }
+    ensures number { IfSome result (λ entry. reduced entry.1 under ≡ term.now.1) }
+    ensures small { IfSome result (λ entry. IsSmall entry.1) }
+{
+    let over = number_over(&term.1, under)?;
+    let entry = Entry::fitting(term.0, over)?;
+    Some(entry)
 }
 
 /// The whole number that a fraction is over a multiple of its denominator, where it's small.

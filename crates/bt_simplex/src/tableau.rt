@@ -1,6 +1,7 @@
 //! Tableaus: rows over columns, of which some are bound, and a basis with its solved form.
 ghost use Rattle.std.specs.Prelude.{◌≡◌, ◌<◌, IfOk, IfSome, OnErr, MatchOption, Some, None, length, true, false, IsTrue, slice_index_or};
 ghost use Rattle.bt_simplex.specs.Checks.{IsCheck, StartsAt};
+ghost use Rattle.bt_simplex.specs.inner.Bases.{with_slots};
 ghost use Rattle.bt_simplex.specs.inner.Checking.{IsWideFor};
 ghost use Rattle.bt_simplex.specs.inner.Rests.{rest_point};
 ghost use Rattle.bt_simplex.specs.Points.{bound_row, resting};
@@ -17,6 +18,7 @@ use crate::settling::settled;
 use crate::starting::{all_known, copied, first_basis, unbound};
 use crate::trails::{bound_rows, positions};
 use crate::turning::turned_copy;
+use crate::workspace::{Rooms, Workspace};
 use bt_frac::Row;
 use std::alloc::{AllocError, Global};
 use std::marker::Model;
@@ -41,6 +43,8 @@ pub struct Tableau {
     /// For each position where it rests; None where that isn't told by small whole numbers.
     rests: Vec<Option<Rest>>,
     basis: Basis,
+    /// The memory of the basis before the last one, for the next check.
+    spare: Workspace,
 }
 
 impl Model for Tableau {
@@ -85,6 +89,7 @@ impl Tableau {
             bound,
             rests,
             basis,
+            spare: Workspace::none(alloc),
         })
     }
 
@@ -118,19 +123,43 @@ impl Tableau {
         ensures checked { IfOk result (IsCheck pivots self.old self.new) }
         ensures memory { OnErr result (self.new ≡ self.old) }
     {
-        let start = self.basis.copied(alloc)?;
+        let spare = self.take_spare(alloc);
+        self.check_in(alloc, pivots, spare)
+    }
+
+    /// The memory that the last check left.
+    fn take_spare(&mut self, alloc: Global) -> Workspace
+        ensures { self.new ≡ self.old }
+    {
+        std::mem::replace(&mut self.spare, Workspace::none(alloc))
+    }
+
+    /// The same check, in this memory.
+    fn check_in(
+        &mut self,
+        alloc: Global,
+        pivots: u64,
+        spare: Workspace,
+    ) -> Result<Check, AllocError>
+        ensures checked { IfOk result (IsCheck pivots self.old self.new) }
+        ensures memory { OnErr result (self.new ≡ self.old) }
+    {
+        let Workspace {
+            basis: start,
+            rooms,
+        } = spare.copy_of(alloc, &self.basis)?;
         let Run { turns, basis, end } = turned_from(self, alloc, start, pivots)?;
         match end {
             End::Met => match settled(self, alloc, &basis)? {
                 Ok(values) => {
-                    self.basis = basis;
+                    self.take_in(basis, rooms);
                     Ok(Check::Sat(values))
                 }
                 Err(cause) => Ok(Check::Wide(self.wide(alloc, turns, &basis, cause)?)),
             },
             End::Stuck(position) => match lemma(self, alloc, &basis, position)? {
                 Ok(weights) => {
-                    self.basis = basis;
+                    self.take_in(basis, rooms);
                     Ok(Check::Unsat(weights))
                 }
                 Err(cause) => Ok(Check::Wide(self.wide(alloc, turns, &basis, cause)?)),
@@ -138,6 +167,18 @@ impl Tableau {
             End::Pivots => Ok(Check::Pivots(self.trail(alloc, turns)?)),
             End::Wide(cause) => Ok(Check::Wide(self.wide(alloc, turns, &basis, cause)?)),
         }
+    }
+
+    /// Moves a basis in, and keeps the memory of the one before for the next check.
+    fn take_in(&mut self, basis: Basis, rooms: Rooms)
+        requires { IsTableau (with_slots self.old basis) }
+        ensures { self.new ≡ with_slots self.old basis }
+    {
+        let before = std::mem::replace(&mut self.basis, basis);
+        self.spare = Workspace {
+            basis: before,
+            rooms,
+        };
     }
 
     /// The trail of these turns from the tableau's basis on.

@@ -6,13 +6,16 @@ ghost use Rattle.bt_simplex.specs.Lines.{one, Terms, IsLine, HasNumber};
 ghost use Rattle.bt_simplex.specs.Classes.{position_at};
 ghost use Rattle.bt_simplex.specs.SolvedForms.{Slots, slot_at};
 ghost use Rattle.bt_simplex.specs.inner.TurnedSlots.{IsZeroLine, AreLines, IsChange, AreSubstituted, with_line, IsEntering, IsTurned};
+ghost use Rattle.bt_simplex.specs.inner.Kept.{LinesStay, OthersStay, SlotsStay};
 ghost use Rattle.bt_simplex.specs.inner.Shares.{IsNegatedShare, AreNegatedShares};
 ghost use Rattle.bt_simplex.specs.inner.UnfitTurns.{IsUnfitShare, IsUnfitTerm, IsUnfitZero, IsUnfitSlot, CanPart, IsSlotZero, IsUnfitPart, IsUnfitLine, IsUnfitTurn, entry_cause};
 
 use crate::answers::{Operation, WidePlace};
 use crate::basis::{Basis, Member};
 use crate::causes::{Cause, Unfit};
+use crate::kept::Kept;
 use crate::line::{Change, Line, Room, Term, combined};
+use crate::workspace::Workspace;
 use bt_frac::Frac;
 use std::alloc::{AllocError, Global};
 
@@ -118,16 +121,19 @@ fn room_of(alloc: Global, line: Option<Line>) -> Room {
     }
 }
 
-/// Puts what the entering position stands for in place of it, in each line; or tells a product or a sum
-/// that doesn't fit.
+/// Puts what the entering position stands for in place of it, in each line, and forgets the sums of those
+/// that change; or tells a product or a sum that doesn't fit.
 fn substitute(
     alloc: Global,
     slots: &mut [Option<Line>],
+    kept: &mut Kept,
     enters: usize,
     zero: &Line,
 ) -> Result<Result<(), Cause>, AllocError>
     ensures done { IfOk result (λ o. IfOk o (λ _. AreSubstituted enters zero.now slots.old slots.new)) }
     ensures unfit { IfOk result (λ o. IfErr o (IsUnfitSlot enters zero.now slots.old slots.new)) }
+    ensures kept { IfOk result (λ o. IfOk o
+        (λ _. LinesStay slots.old slots.new kept.old.sums.items kept.new.sums.items)) }
 {
     let mut room = Vec::new(alloc);
     for i in 0..slots.len() {
@@ -135,6 +141,7 @@ fn substitute(
             Change::Stays(same) => room = same,
             Change::Line(line) => {
                 let old = std::mem::replace(&mut slots[i], Some(line));
+                kept.forget(i);
                 room = room_of(alloc, old);
             }
             Change::Wide(unfit) => return Ok(Err(entry_cause(i, unfit))),
@@ -199,11 +206,12 @@ fn long_zero(
     zero_line(alloc, leaves, &terms, &number)
 }
 
-/// Takes a class's line, and puts what the entering position stands for in place of it in each other line;
-/// or tells a product or a sum that doesn't fit, and the same classes then have lines as before.
+/// Takes a class's line, and puts what the entering position stands for in place of it in each other line,
+/// with no sums kept of those that change; or tells a product or a sum that doesn't fit, and the same classes then have lines as before.
 fn substitute_others(
     alloc: Global,
     lines: &mut [Option<Line>],
+    kept: &mut Kept,
     left: usize,
     enters: usize,
     zero: &Line,
@@ -212,9 +220,12 @@ fn substitute_others(
     ensures done { IfOk result
         (λ o. IfOk o (λ _. AreSubstituted enters zero.now (slice_set lines.old left None) lines.new)) }
     ensures unfit { IfOk result (λ o. IfErr o (IsUnfitLine left enters zero.now lines.old lines.new)) }
+    ensures kept { IfOk result (λ o. IfOk o
+        (λ _. OthersStay left lines.old lines.new kept.old.sums.items kept.new.sums.items)) }
 {
     let leaving = lines[left].take();
-    match substitute(alloc, lines, enters, zero)? {
+    kept.forget(left);
+    match substitute(alloc, lines, kept, enters, zero)? {
         Ok(()) => Ok(Ok(())),
         Err(cause) => {
             lines[left] = leaving;
@@ -224,12 +235,14 @@ fn substitute_others(
 }
 
 /// Gives a class its line, but where it is the one that is left.
-fn put_line(lines: &mut [Option<Line>], left: usize, class: usize, line: Line)
+fn put_line(lines: &mut [Option<Line>], kept: &mut Kept, left: usize, class: usize, line: Line)
     requires { class < length lines.old }
-    ensures { lines.new ≡ with_line left class line lines.old }
+    ensures lines { lines.new ≡ with_line left class line lines.old }
+    ensures kept { LinesStay lines.old lines.new kept.old.sums.items kept.new.sums.items }
 {
     if class != left {
         lines[class] = Some(line);
+        kept.forget(class);
     }
 }
 
@@ -253,6 +266,7 @@ fn at_first(firsts: &[usize], cause: Cause) -> Cause
 pub fn turn(
     alloc: Global,
     basis: &mut Basis,
+    kept: &mut Kept,
     leaves: usize,
     enters: usize,
 ) -> Result<Result<(), Cause>, AllocError>
@@ -264,6 +278,8 @@ pub fn turn(
     requires lines { AreLines basis.old }
     ensures done { IfOk result (λ o. IfOk o (λ _. IsTurned basis.old leaves enters basis.new)) }
     ensures unfit { IfOk result (λ o. IfErr o (IsUnfitTurn basis.old leaves enters basis.new)) }
+    ensures kept { IfOk result (λ o. IfOk o
+        (λ _. SlotsStay basis.old basis.new kept.old.sums.items kept.new.sums.items)) }
 {
     let slot = basis.line(alloc, leaves)?;
     let zero = match slot_zero(alloc, &slot, leaves, enters)? {
@@ -274,11 +290,12 @@ pub fn turn(
     let Member { class, negated } = basis.members[enters];
     let line = entering.signed(alloc, negated)?;
     let left = basis.members[leaves].class;
-    match substitute_others(alloc, &mut basis.lines, left, enters, &zero)? {
+    kept.own(&basis.members);
+    match substitute_others(alloc, &mut basis.lines, kept, left, enters, &zero)? {
         Ok(()) => {}
         Err(cause) => return Ok(Err(at_first(&basis.firsts, cause))),
     }
-    put_line(&mut basis.lines, left, class, line);
+    put_line(&mut basis.lines, kept, left, class, line);
     basis.outside[left] = leaves;
     Ok(Ok(()))
 }
@@ -298,8 +315,9 @@ pub fn turned_copy(
     requires lines { AreLines basis.now }
     ensures { IfOk result (λ o. IfSome o (λ b. IsTurned basis.now leaves enters b)) }
 {
-    let mut copy = basis.copied(alloc)?;
-    match turn(alloc, &mut copy, leaves, enters)? {
+    let mut copy = Workspace::none(alloc).copy_of(alloc, basis)?.basis;
+    let mut kept = Kept::none(alloc, 0)?;
+    match turn(alloc, &mut copy, &mut kept, leaves, enters)? {
         Ok(()) => Ok(Some(copy)),
         Err(_) => Ok(None),
     }

@@ -8,7 +8,7 @@ use Rattle.bt_simplex.specs.declared.basis.Place.TheVariants.{Line, Like, Outsid
 
 -- the line of its class's first position, up to the sign; another position alone, up to the sign; or outside
 abbrev pub IsPlace : Slots → ℕ → Place → Type 0
-IsPlace slots position (Line first line negated) =
+IsPlace slots position (Line class first line negated) =
     (slot_at slots position ≡ Some (signed_terms negated line.now)) × (slot_at slots first ≡ Some line.now)
 IsPlace slots position (Like other negated) = (slot_at slots position ≡ Some (signed_terms negated ((other, one) ∷ []))) × (other < 2 ^ 64 - 1)
 IsPlace slots position Outside = slot_at slots position ≡ None

@@ -6,7 +6,7 @@ ghost use Rattle.bt_simplex.specs.inner.Shorts.{IsSmall};
 ghost use Rattle.bt_simplex.specs.inner.TurnedSlots.{IsSubstitution};
 ghost use Rattle.bt_simplex.specs.inner.ShortSteps.{AreScales, IsShortStep, IsShortSum, IsSmallTerm, AreNext};
 
-use super::{SMALL_LIMIT, Short, common_divisor, is_small, product, whole_at};
+use super::{Entry, SMALL_LIMIT, Short, common_divisor, is_small, product, whole_at};
 use std::alloc::AllocError;
 
 /// By what the numbers of two lines are multiplied, so that they are over one denominator.
@@ -20,7 +20,7 @@ pub(super) struct Scales {
 /// A term of a sum of two lines, and the places at which what is left of them begins.
 #[derive(Clone, Copy)]
 struct Step {
-    position: usize,
+    position: u32,
     number: i64,
     left: usize,
     right: usize,
@@ -30,7 +30,7 @@ struct Step {
 #[derive(Drop)]
 pub enum Substitution {
     /// The line lacks the position, and stays. The room is not used.
-    Lacks(Vec<(usize, i64)>),
+    Lacks(Vec<Entry>),
     /// A number isn't small.
     Large,
     /// The line and its number at the position times the zero line.
@@ -40,7 +40,7 @@ pub enum Substitution {
 /// What becomes of the line where what a position stands for, by a line that is 0, is put in place of it,
 /// in the room of a list whose terms are dropped.
 pub fn substituted(
-    room: Vec<(usize, i64)>,
+    room: Vec<Entry>,
     line: &Short,
     enters: usize,
     zero: &Short,
@@ -104,11 +104,11 @@ pub(super) fn quotient(number: i64, by: u32) -> i64
 /// The sum of a line and a number times another, by their scales, in a list with room for all their terms.
 /// None where a number isn't small.
 pub(super) fn merged(
-    room: Vec<(usize, i64)>,
-    left: &[(usize, i64)],
-    right: &[(usize, i64)],
+    room: Vec<Entry>,
+    left: &[Entry],
+    right: &[Entry],
     scales: &Scales,
-) -> Option<Vec<(usize, i64)>>
+) -> Option<Vec<Entry>>
     requires empty { room.items ≡ [] }
     requires room { vec_len room + length left.now + length right.now ≤ vec_capacity room }
     requires left { All IsSmallTerm left.now }
@@ -129,7 +129,7 @@ pub(super) fn merged(
             if !is_small(step.number) {
                 return None;
             }
-            terms.push_reserved((step.position, step.number));
+            terms.push_reserved(Entry::of(step.position, step.number));
         }
     }
     while first < left.len() {
@@ -140,7 +140,7 @@ pub(super) fn merged(
             if !is_small(scaled) {
                 return None;
             }
-            terms.push_reserved((position, scaled));
+            terms.push_reserved(Entry::of(position, scaled));
         }
     }
     while second < right.len() {
@@ -151,20 +151,14 @@ pub(super) fn merged(
             if !is_small(other_scaled) {
                 return None;
             }
-            terms.push_reserved((other_position, other_scaled));
+            terms.push_reserved(Entry::of(other_position, other_scaled));
         }
     }
     Some(terms)
 }
 
 /// The first term of the sum of what is left of two lines, which may be 0, and what is left after it.
-fn first_step(
-    left: &[(usize, i64)],
-    first: usize,
-    right: &[(usize, i64)],
-    second: usize,
-    scales: &Scales,
-) -> Step
+fn first_step(left: &[Entry], first: usize, right: &[Entry], second: usize, scales: &Scales) -> Step
     requires left_within { first < length left.now }
     requires right_within { second < length right.now }
     requires left { All IsSmallTerm left.now }
@@ -203,13 +197,13 @@ fn first_step(
 }
 
 /// The term at a place.
-fn term_at(terms: &[(usize, i64)], place: usize) -> (usize, i64)
+fn term_at(terms: &[Entry], place: usize) -> (u32, i64)
     requires inside { place < length terms.now }
     requires small { All IsSmallTerm terms.now }
     ensures rest { drop place terms.now ≡ result ∷ drop (place + 1) terms.now }
     ensures small { IsSmall result.1 }
 {
-    terms[place]
+    terms[place].parts()
 }
 
 /// The sum of two products of small numbers, which fits 64 bits.

@@ -57,9 +57,9 @@ impl Short {
             tiny: 0,
             under,
         };
-        for (position, over) in &self.terms {
-            let rest = tableau.whole_rest(*position)?;
-            sums = added(sums, *over, rest)?;
+        for entry in &self.terms {
+            let rest = tableau.whole_rest(entry.position() as usize)?;
+            sums = added(sums, entry.number(), rest)?;
         }
         Some(sums)
     }

@@ -9,7 +9,7 @@ ghost use Rattle.bt_simplex.specs.inner.Shorts.{reduced, terms_over, IsSmall, Is
 ghost use Rattle.bt_simplex.specs.inner.TurnedSlots.{IsZeroLine, IsEntering};
 
 use super::merging::{merged, quotient, scales_of};
-use super::{Short, common_divisor, whole_at};
+use super::{Entry, Short, common_divisor, whole_at};
 use std::alloc::{AllocError, Global};
 
 /// The line that is 0 wherever a line holds of its position: 1 over the line's number at the position that
@@ -51,7 +51,7 @@ pub fn entering_line(
 }
 
 /// The sum of a number times a position and a factor times a line, where both are over this denominator.
-/// None where a number of the sum isn't small.
+/// None where a number of the sum isn't small, or the position doesn't fit.
 fn lone_sum(
     alloc: Global,
     position: usize,
@@ -74,8 +74,11 @@ fn lone_sum(
     let Some(scales) = scales_of(under, factor, line.under) else {
         return Ok(None);
     };
+    let Some(entry) = Entry::fitting(position, number) else {
+        return Ok(None);
+    };
     let room = Vec::with_capacity(alloc, line.terms.len() + 1)?;
-    match merged(room, &[(position, number)], &line.terms, &scales) {
+    match merged(room, &[entry], &line.terms, &scales) {
         Some(terms) => Ok(Some(Short {
             terms,
             under: scales.under,
@@ -115,7 +118,7 @@ fn lowered(alloc: Global, line: &Short) -> Result<Short, AllocError>
 }
 
 /// A common divisor of the numbers and a denominator: the greatest.
-fn common_divisor_of(terms: &[(usize, i64)], under: u32) -> u32
+fn common_divisor_of(terms: &[Entry], under: u32) -> u32
     requires some { 0 < under }
     requires small { All (λ t. IsSmall t.1) terms.now }
     ensures some { 0 < result }
@@ -124,18 +127,13 @@ fn common_divisor_of(terms: &[(usize, i64)], under: u32) -> u32
 {
     let mut common = under;
     for term in terms {
-        common = common_divisor(magnitude(term.1), common);
+        common = common_divisor(magnitude(term.number()), common);
     }
     common
 }
 
 /// The numbers, divided by a divisor of all of them and of their denominator.
-fn divided(
-    alloc: Global,
-    terms: &[(usize, i64)],
-    under: u32,
-    by: u32,
-) -> Result<Vec<(usize, i64)>, AllocError>
+fn divided(alloc: Global, terms: &[Entry], under: u32, by: u32) -> Result<Vec<Entry>, AllocError>
     requires short { IsShort under terms.now }
     requires some { 0 < by }
     requires under { by ∣ under }
@@ -145,7 +143,7 @@ fn divided(
 {
     let mut lesser = Vec::with_capacity(alloc, terms.len())?;
     for term in terms {
-        lesser.push((term.0, quotient(term.1, by)))?;
+        lesser.push(Entry::of(term.position(), quotient(term.number(), by)))?;
     }
     Ok(lesser)
 }

@@ -1,19 +1,19 @@
-use Rattle.std.proofs.Common.{◌≡◌, Some, IfSome, sym, subst}
+use Rattle.std.proofs.Common.{◌≡◌, Some, sym, subst}
 use Rattle.bt_simplex.specs.SolvedForms.{slot_at}
 use Rattle.bt_simplex.specs.inner.Bases.{with_slots}
 use Rattle.bt_simplex.specs.inner.Rests.{rest_point}
-use Rattle.bt_simplex.specs.inner.ShortPoints.{AreClassSums, delta_of}
+use Rattle.bt_simplex.specs.inner.ShortPoints.{delta_of}
 use Rattle.bt_simplex.proofs.ShortPoints.{break_fails, like_fails}
 use Rattle.bt_simplex.proofs.bland.fails_whole.Goals as goal
 
-pub returns-in_ok-told-in-Line : goal.returns-in_ok-told-in-Line
-returns-in_ok-told-in-Line c =
-    let class = subst (λ o. IfSome o (AreClassSums c.args.tableau.now c.args.basis.now)) c.in_ok-class-in-Line.was c.requires.sums in
-    let same = class.same c.in-Line.line.now (subst (λ n. slot_at c.args.basis.now n ≡ Some c.in-Line.line.now) (sym c.if-class-first.false) c.in-Line.ensures.1) in
+pub returns-in_ok-told-in-Line-clause-told : goal.returns-in_ok-told-in-Line-clause-told
+returns-in_ok-told-in-Line-clause-told c =
+    let class = c.in_ok-of_class-in-Line.ensures.sums c.args.basis.now c.in-Line.ensures.1 c.requires.kept in
+    let same = class.1.same c.in-Line.line.now (subst (λ n. slot_at c.args.basis.now n ≡ Some c.in-Line.line.now) (sym class.0) c.in-Line.ensures.1) in
     break_fails (with_slots c.args.tableau.now c.args.basis.now) c.all_known.ensures.rows c.args.position c.args.row.now c.in-Line.negated c.in-Line.line.now c.in_ok-told-in-Line.told c.requires.row c.in-Line.ensures.0 c.known.ensures
-    (delta_of c.in_ok-class-in-Line.class.sums, same, c.in_ok-told-in-Line.ensures)
+    (delta_of c.in_ok-of_class-in-Line.of_class.sums, same, c.in_ok-told-in-Line.ensures)
 
-pub returns-in_ok-told-in-Like : goal.returns-in_ok-told-in-Like
-returns-in_ok-told-in-Like c =
+pub returns-in_ok-told-in-Like-clause-told : goal.returns-in_ok-told-in-Like-clause-told
+returns-in_ok-told-in-Like-clause-told c =
     like_fails (with_slots c.args.tableau.now c.args.basis.now) c.all_known.ensures.rows c.args.position c.args.row.now c.in-Like.other c.in-Like.negated (rest_point c.in_ok-other_rest-in-Like.other_rest) c.in_ok-told-in-Like.told c.requires.row
     c.in-Like.ensures.0 c.in-Like.ensures.1 (sym c.in_ok-other_rest-in-Like.ensures) c.in_ok-told-in-Like.ensures

@@ -1,5 +1,6 @@
 use Rattle.bt_simplex.specs.inner.Bases.{with_slots}
 use Rattle.bt_simplex.proofs.TableauTurns.{enters_outside, leaves_apart}
+use Rattle.bt_simplex.proofs.KeptSums.{turn_kept}
 use Rattle.bt_simplex.proofs.Runs.{bland_can, can_part, leaves_within, turn_made}
 use Rattle.bt_simplex.proofs.running.make_turn.Goals as goal
 
@@ -31,3 +32,6 @@ turn-requires-clause-lines c position terms e = (c.requires.tableau.solved.lines
 
 pub returns-clause-done : goal.returns-clause-done
 returns-clause-done c = turn_made c.args.tableau.now c.args.basis.now c.args.made c.turn.new.basis c.requires.tableau c.requires.bland c.turn.result c.turn.ensures.done
+
+pub returns-clause-kept : goal.returns-clause-kept
+returns-clause-kept c = turn_kept c.args.tableau.now c.args.basis.now c.turn.new.basis c.args.kept.now.sums.items c.turn.new.kept.sums.items c.requires.kept c.turn.result c.turn.ensures.kept

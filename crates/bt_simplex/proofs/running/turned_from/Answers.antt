@@ -1,14 +1,23 @@
-use Rattle.std.proofs.Common.{◌+◌, ◌≤◌, IfOk, IfErr, arith, length, subst, sym}
+use Rattle.std.proofs.Common.{◌+◌, ◌≤◌, IfOk, IfErr, arith, length, rules, subst, sym}
 use Rattle.bt_simplex.specs.Turns.{Follows}
 use Rattle.bt_simplex.specs.inner.Bases.{with_slots, IsNext}
+use Rattle.bt_simplex.specs.inner.Kept.{AreKept}
 use Rattle.bt_simplex.specs.inner.Runs.{IsMade}
 use Rattle.bt_simplex.specs.inner.UnfitTurns.{IsUnfitTurn}
+use Rattle.bt_simplex.proofs.KeptSums.{nothing_kept}
 use Rattle.bt_simplex.proofs.Runs.{at_more, more_turns, met_run, stuck_run, wide_run, pivots_run, turn_run}
 use Rattle.bt_simplex.proofs.running.turned_from.Goals as goal
 
+pub turns-init : goal.turns-init
+turns-init c = record {
+  is_at = record { tableau = c.requires; follows = search rules };
+  kept = nothing_kept c.args.tableau.now c.args.start c.classes.result c.in_ok-kept.kept.sums.items c.in_ok-kept.ensures;
+  few = search rules;
+}
+
 pub returns-then-len-pivots : goal.returns-then-len-pivots
 returns-then-len-pivots c =
-    let bland = subst (λ n. IsNext (with_slots c.args.tableau.now c.turns.basis) n) c.in-Turn.is c.in_ok-turn.ensures in
+    let bland = subst (λ n. IsNext (with_slots c.args.tableau.now c.turns.basis) n) c.in-Turn.is c.in_ok-turn.ensures.next in
     let many : c.args.pivots ≤ length c.turns.turns.items = omega arith in
     pivots_run c.args.pivots c.args.tableau.now c.args.start c.turns.turns c.turns.basis c.turns.invariant.few c.turns.invariant.is_at c.in-Turn.turn many bland
 
@@ -16,7 +25,7 @@ pub returns-in-Err : goal.returns-in-Err
 returns-in-Err c =
     let t = c.args.tableau.now in
     let turn = c.in-Turn.turn in
-    let bland = subst (λ n. IsNext (with_slots t c.turns.basis) n) c.in-Turn.is c.in_ok-turn.ensures in
+    let bland = subst (λ n. IsNext (with_slots t c.turns.basis) n) c.in-Turn.is c.in_ok-turn.ensures.next in
     let told = subst (λ o. IfErr o (IsUnfitTurn c.turns.basis turn.leaves turn.enters c.make_turn.new.basis)) c.in-Err.is c.in_ok-cause-in-Turn.ensures.unfit in
     turn_run c.args.pivots t c.args.start c.turns.turns c.turns.basis c.turns.invariant.few c.turns.invariant.is_at c.make_turn.new.basis turn c.in-Err.cause bland told
 
@@ -25,11 +34,12 @@ turns-preserved c =
     let t = c.args.tableau.now in
     let start = with_slots t c.args.start in
     let turn = c.in-Turn.turn in
-    let bland = subst (λ n. IsNext (with_slots t c.turns.basis) n) c.in-Turn.is c.in_ok-turn.ensures in
+    let bland = subst (λ n. IsNext (with_slots t c.turns.basis) n) c.in-Turn.is c.in_ok-turn.ensures.next in
     let made = subst (λ o. IfOk o (λ d. IsMade t turn c.turns.basis c.make_turn.new.basis)) c.in_default.is c.in_ok-cause-in-Turn.ensures.done in
     let follows = at_more t start c.turns.turns.items c.turns.basis turn c.make_turn.new.basis c.turns.invariant.is_at.follows bland made in
     let few : length c.turns.turns.items + 1 ≤ c.args.pivots = omega arith in
     record {
+      kept = subst (λ o. IfOk o (λ d. AreKept t c.make_turn.new.basis c.make_turn.new.kept.sums.items)) c.in_default.is c.in_ok-cause-in-Turn.ensures.kept;
       is_at = record { tableau = made.tableau; follows = subst (λ turns. Follows start turns (with_slots t c.make_turn.new.basis)) (sym c.in_ok-push-in-Turn.ensures.items) follows };
       few = subst (λ turns. length turns ≤ c.args.pivots) (sym c.in_ok-push-in-Turn.ensures.items) (more_turns c.turns.turns.items turn c.args.pivots few);
     }
@@ -37,14 +47,14 @@ turns-preserved c =
 pub returns-in-Met : goal.returns-in-Met
 returns-in-Met c =
     met_run c.args.pivots c.args.tableau.now c.args.start c.turns.turns c.turns.basis c.turns.invariant.few c.turns.invariant.is_at
-    (subst (λ n. IsNext (with_slots c.args.tableau.now c.turns.basis) n) c.in-Met.is c.in_ok-turn.ensures)
+    (subst (λ n. IsNext (with_slots c.args.tableau.now c.turns.basis) n) c.in-Met.is c.in_ok-turn.ensures.next)
 
 pub returns-in-Stuck : goal.returns-in-Stuck
 returns-in-Stuck c =
     stuck_run c.args.pivots c.args.tableau.now c.args.start c.turns.turns c.turns.basis c.turns.invariant.few c.turns.invariant.is_at c.in-Stuck.position
-    (subst (λ n. IsNext (with_slots c.args.tableau.now c.turns.basis) n) c.in-Stuck.is c.in_ok-turn.ensures)
+    (subst (λ n. IsNext (with_slots c.args.tableau.now c.turns.basis) n) c.in-Stuck.is c.in_ok-turn.ensures.next)
 
 pub returns-in-Wide : goal.returns-in-Wide
 returns-in-Wide c =
     wide_run c.args.pivots c.args.tableau.now c.args.start c.turns.turns c.turns.basis c.turns.invariant.few c.turns.invariant.is_at c.in-Wide.cause
-    (subst (λ n. IsNext (with_slots c.args.tableau.now c.turns.basis) n) c.in-Wide.is c.in_ok-turn.ensures)
+    (subst (λ n. IsNext (with_slots c.args.tableau.now c.turns.basis) n) c.in-Wide.is c.in_ok-turn.ensures.next)

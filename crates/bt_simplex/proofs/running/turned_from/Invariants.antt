@@ -1,11 +1,13 @@
 use Rattle.std.proofs.Common.{◌≤◌, ◌-◌, length}
 use Rattle.bt_simplex.specs.inner.Bases.{with_slots}
+use Rattle.bt_simplex.specs.inner.Kept.{AreKept}
 use Rattle.bt_simplex.specs.inner.Runs.{IsAt}
 use Rattle.bt_simplex.proofs.running.turned_from.Given as goal
 
 abbrev pub invariant-turns : goal.invariant-turns
 invariant-turns l = record {
   is_at : IsAt (with_slots l.tableau l.fn.start) l.turns.items l.basis;
+  kept : AreKept l.tableau l.basis l.kept.sums.items;
   few : length l.turns.items ≤ l.pivots;
 }
 

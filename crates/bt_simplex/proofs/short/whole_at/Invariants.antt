@@ -2,5 +2,5 @@ use Rattle.std.proofs.Common.{◌≡◌, drop}
 use Rattle.bt_simplex.specs.inner.Shorts.{whole_at}
 use Rattle.bt_simplex.proofs.short.whole_at.Given as goal
 
-abbrev pub invariant-loop-other : goal.invariant-loop-other
-invariant-loop-other l = whole_at l.position l.terms ≡ whole_at l.position (drop l.other-index l.terms)
+abbrev pub invariant-loop-entry : goal.invariant-loop-entry
+invariant-loop-entry l = whole_at l.position l.terms ≡ whole_at l.position (drop l.entry-index l.terms)

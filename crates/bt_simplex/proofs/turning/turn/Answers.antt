@@ -5,9 +5,11 @@ use Rattle.bt_simplex.specs.Classes.{signed_terms, member_at, position_at, slot_
 use Rattle.bt_simplex.specs.SolvedForms.{slot_at}
 use Rattle.bt_simplex.specs.declared.basis.Member.{Member}
 use Rattle.bt_simplex.specs.declared.causes.Cause.{Cause}
+use Rattle.bt_simplex.specs.inner.Kept.{AreOwn, LinesStay, OthersStay, SlotsStay}
 use Rattle.bt_simplex.specs.inner.TurnedSlots.{AreLines, AreSubstituted, with_line, IsTurned}
 use Rattle.bt_simplex.specs.inner.UnfitTurns.{IsSlotZero, IsUnfitLine, IsUnfitPart, IsUnfitTurn}
 use Rattle.bt_simplex.proofs.Classes.{slots_length, read_is, class_in, classes_turned, classes_after, classes_unfit, lines_count}
+use Rattle.bt_simplex.proofs.KeptSums.{slots_stay}
 use Rattle.bt_simplex.proofs.UnfitTurns.{part_unfit, zero_named}
 use Rattle.bt_simplex.proofs.turning.turn.Goals as goal
 
@@ -103,7 +105,7 @@ returns-in-Err-2-clause-unfit c =
     let unfit0 = subst (λ o. IfErr o (IsUnfitLine c.index-2.result.now.class c.args.enters c.in-Ok.zero c.deref_mut.result.now c.substitute_others.new.lines)) c.in-Err-2.is c.in_ok-substitute_others.ensures.unfit in
     let unfit2 = subst (λ l. IsUnfitLine c.index-2.result.now.class c.args.enters c.in-Ok.zero l c.substitute_others.new.lines c.in-Err-2.cause) c.deref_mut.ensures.value unfit0 in
     let unfit = subst (λ (m : Member). IsUnfitLine m.class c.args.enters c.in-Ok.zero lines c.substitute_others.new.lines c.in-Err-2.cause) (sym left) unfit2 in
-    let cause_is = c.at_first.ensures ∙ ap (λ f. at_row c.in-Err-2.cause (position_at f c.in-Err-2.cause.row)) c.deref.ensures.value in
+    let cause_is = c.at_first.ensures ∙ ap (λ f. at_row c.in-Err-2.cause (position_at f c.in-Err-2.cause.row)) c.deref-in-Err-2.ensures.value in
     subst (λ b. IsUnfitTurn b c.args.leaves c.args.enters (slots_of members (with_items c.basis.inside.lines c.substitute_others.new.lines).items outside) c.at_first.result) c.basis.view_is
     (subst (λ l. IsUnfitTurn (slots_of members lines outside) c.args.leaves c.args.enters (slots_of members l outside) c.at_first.result) (sym sub_items)
     (classes_unfit members firsts lines outside c.basis.invariant c.args.leaves c.args.enters c.in-Ok.zero c.substitute_others.new.lines c.in-Err-2.cause leaves_in c.requires.apart zero unfit c.at_first.result cause_is))
@@ -161,7 +163,7 @@ invariant_of-basis-2 c =
     let changed = subst (λ (m : Member). AreSubstituted c.args.enters c.in-Ok.zero (set lines m.class None) c.substitute_others.new.lines) (sym left) changed2 in
     let line_is = c.in_ok-line.ensures in
     let entered =
-    c.put_line.ensures ∙ ap (λ l. with_line c.index-2.result.now.class c.index.result.now.class l c.deref_mut-2.result.now) line_is
+    c.put_line.ensures.lines ∙ ap (λ l. with_line c.index-2.result.now.class c.index.result.now.class l c.deref_mut-2.result.now) line_is
     ∙ ap (λ l. with_line c.index-2.result.now.class c.index.result.now.class (signed_terms c.index.result.now.negated c.in_ok-entering.entering) l) (c.deref_mut-2.ensures.value ∙ sub_items)
     ∙ ap (λ (m : Member). with_line m.class c.index.result.now.class (signed_terms c.index.result.now.negated c.in_ok-entering.entering) c.substitute_others.new.lines) (sym left)
     ∙ ap (λ (m : Member). with_line (member_at members c.args.leaves).class m.class (signed_terms m.negated c.in_ok-entering.entering) c.substitute_others.new.lines) (sym into) in
@@ -194,7 +196,7 @@ returns-clause-done c =
     let changed = subst (λ (m : Member). AreSubstituted c.args.enters c.in-Ok.zero (set lines m.class None) c.substitute_others.new.lines) (sym left) changed2 in
     let line_is = c.in_ok-line.ensures in
     let entered =
-    c.put_line.ensures ∙ ap (λ l. with_line c.index-2.result.now.class c.index.result.now.class l c.deref_mut-2.result.now) line_is
+    c.put_line.ensures.lines ∙ ap (λ l. with_line c.index-2.result.now.class c.index.result.now.class l c.deref_mut-2.result.now) line_is
     ∙ ap (λ l. with_line c.index-2.result.now.class c.index.result.now.class (signed_terms c.index.result.now.negated c.in_ok-entering.entering) l) (c.deref_mut-2.ensures.value ∙ sub_items)
     ∙ ap (λ (m : Member). with_line m.class c.index.result.now.class (signed_terms c.index.result.now.negated c.in_ok-entering.entering) c.substitute_others.new.lines) (sym left)
     ∙ ap (λ (m : Member). with_line (member_at members c.args.leaves).class m.class (signed_terms m.negated c.in_ok-entering.entering) c.substitute_others.new.lines) (sym into) in
@@ -205,3 +207,23 @@ returns-clause-done c =
     let turned' = subst (λ (m : Member). IsTurned (slots_of members lines outside) c.args.leaves c.args.enters (slots_of members c.put_line.new.lines (set outside m.class c.args.leaves))) left turned in
     let turned'' = subst (λ l. IsTurned (slots_of members lines outside) c.args.leaves c.args.enters (slots_of members l (set outside c.index-2.result.now.class c.args.leaves))) (sym put_items) turned' in
     subst (λ b. IsTurned b c.args.leaves c.args.enters (slots_of members (with_items (with_items c.basis.inside.lines c.substitute_others.new.lines) c.put_line.new.lines).items (set outside c.index-2.result.now.class c.args.leaves))) c.basis.view_is turned''
+
+pub returns-clause-kept : goal.returns-clause-kept
+returns-clause-kept c =
+    let members = c.basis.inside.members.items in
+    let firsts = c.basis.inside.firsts.items in
+    let lines = c.basis.inside.lines.items in
+    let outside = c.basis.inside.outside.items in
+    let many : length c.args.basis.now ≡ length c.basis.inside.members.items = sym (ap length c.basis.view_is) ∙ slots_length (slot_of members lines outside) 0 members in
+    let leaves_in : c.args.leaves < length c.basis.inside.members.items = subst (λ n. c.args.leaves < n) many c.requires.leaves in
+    let left : member_at members c.args.leaves ≡ c.index-2.result.now = read_is members c.args.leaves (record { class = 0; negated = false }) c.index-2.result.now leaves_in c.index-2.ensures in
+    let sub_items = with_items_is c.basis.inside.lines c.substitute_others.new.lines (c.substitute_others.auto.lines ∙ c.deref_mut.ensures.len) in
+    let put_items = with_items_is (with_items c.basis.inside.lines c.substitute_others.new.lines) c.put_line.new.lines (c.put_line.auto.lines ∙ c.deref_mut-2.ensures.len) in
+    let own = subst (λ m. AreOwn m c.args.kept.now.sums.items c.own.new.self.sums.items) c.deref.ensures.value c.own.ensures in
+    let others0 = subst (λ o. IfOk o (λ d. OthersStay c.index-2.result.now.class c.deref_mut.result.now c.substitute_others.new.lines c.own.new.self.sums.items c.substitute_others.new.kept.sums.items)) c.in-Ok-2.is c.in_ok-substitute_others.ensures.kept in
+    let others = subst (λ l. OthersStay c.index-2.result.now.class l c.substitute_others.new.lines c.own.new.self.sums.items c.substitute_others.new.kept.sums.items) c.deref_mut.ensures.value others0 in
+    let put = subst (λ l. LinesStay l c.put_line.new.lines c.substitute_others.new.kept.sums.items c.put_line.new.kept.sums.items) (c.deref_mut-2.ensures.value ∙ sub_items) c.put_line.ensures.kept in
+    let stay = slots_stay members lines c.substitute_others.new.lines c.put_line.new.lines outside c.index-2.result.now.class c.args.leaves c.args.kept.now.sums.items c.own.new.self.sums.items c.substitute_others.new.kept.sums.items
+    c.put_line.new.kept.sums.items own others put in
+    let stay' = subst (λ l. SlotsStay (slots_of members lines outside) (slots_of members l (set outside c.index-2.result.now.class c.args.leaves)) c.args.kept.now.sums.items c.put_line.new.kept.sums.items) (sym put_items) stay in
+    subst (λ b. SlotsStay b (slots_of members (with_items (with_items c.basis.inside.lines c.substitute_others.new.lines) c.put_line.new.lines).items (set outside c.index-2.result.now.class c.args.leaves)) c.args.kept.now.sums.items c.put_line.new.kept.sums.items) c.basis.view_is stay'

@@ -1,4 +1,4 @@
-use Rattle.std.proofs.Common.{FitsSigned, rules, arith, ◌≡◌, ◌≢◌, ◌≤◌, pos, length, drop, ◌+◌, sym, subst}
+use Rattle.std.proofs.Common.{FitsSigned, rules, arith, ap, ◌∙◌, ◌++◌, ◌∷◌, [], ◌≡◌, ◌≢◌, ◌≤◌, pos, length, drop, ◌+◌, sym, subst}
 use Rattle.std.specs.Int.{w64}
 use Rattle.std.proofs.lemmas.Int.{to_z-of_z, ints}
 use Rattle.std.proofs.lemmas.List.{drop_all}
@@ -23,7 +23,8 @@ loop-first-preserved-then-step-ne0 c =
     let not : step.number ≢ pos 0 = λ e. grind (arith, ints) in
     let small_is = simp to_z-of_z at c.is_small.ensures in
     let small : IsSmall step.number = search rules in
-    let items = simp to_z-of_z at c.push_reserved.ensures.items in
+    let made = simp to_z-of_z at c.of.ensures in
+    let items = c.push_reserved.ensures.items ∙ ap (λ e. c.loop-first.terms.items ++ e ∷ []) made in
     record {
       walk = subst (λ l. IsShortWalk c.args.left.now c.args.right.now c.args.scales.now.left c.args.scales.now.right c.args.scales.now.under l (drop step.left c.args.left.now) (drop step.right c.args.right.now)) (sym items)
           (short_grows c.args.left.now c.args.right.now c.args.scales.now.left c.args.scales.now.right c.args.scales.now.under c.loop-first.terms.items (drop c.loop-first.first c.args.left.now)
@@ -68,7 +69,8 @@ loop-first-2-preserved-then-scaled-ne0 c =
     let not : number ≢ pos 0 = λ e. grind (arith, ints) in
     let small_is = simp to_z-of_z at c.is_small-then-scaled-ne0.ensures in
     let small : IsSmall number = small_is.0 c.if-not-is_small-2.false in
-    let items = simp to_z-of_z at c.push_reserved-then-scaled-ne0.ensures.items in
+    let made = simp to_z-of_z at c.of-then-scaled-ne0.ensures in
+    let items = c.push_reserved-then-scaled-ne0.ensures.items ∙ ap (λ e. c.loop-first-2.terms.items ++ e ∷ []) made in
     record {
       merge = record {
         walk = subst (λ l. IsShortWalk c.args.left.now c.args.right.now c.args.scales.now.left c.args.scales.now.right c.args.scales.now.under l (drop (c.loop-first-2.first + 1) c.args.left.now) (drop c.loop-first.second c.args.right.now)) (sym items)
@@ -112,7 +114,8 @@ loop-second-preserved-then-other_scaled-ne0 c =
     let not : number ≢ pos 0 = λ e. grind (arith, ints) in
     let small_is = simp to_z-of_z at c.is_small-then-other_scaled-ne0.ensures in
     let small : IsSmall number = small_is.0 c.if-not-is_small-3.false in
-    let items = simp to_z-of_z at c.push_reserved-then-other_scaled-ne0.ensures.items in
+    let made = simp to_z-of_z at c.of-then-other_scaled-ne0.ensures in
+    let items = c.push_reserved-then-other_scaled-ne0.ensures.items ∙ ap (λ e. c.loop-second.terms.items ++ e ∷ []) made in
     record {
       merge = record {
         walk = subst (λ l. IsShortWalk c.args.left.now c.args.right.now c.args.scales.now.left c.args.scales.now.right c.args.scales.now.under l (drop c.loop-first-2.first c.args.left.now) (drop (c.loop-second.second + 1) c.args.right.now)) (sym items)

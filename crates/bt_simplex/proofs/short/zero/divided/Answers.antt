@@ -1,6 +1,7 @@
-use Rattle.std.proofs.Common.{FitsSigned, rules, ◌+◌, ◌/◌, ◌<◌, ◌≤◌, ◌^◌, arith, pos, get_or, length, sym, subst}
+use Rattle.std.proofs.Common.{FitsSigned, rules, ◌+◌, ◌++◌, ◌∷◌, [], ◌/◌, ◌<◌, ◌≤◌, ◌^◌, ◌∙◌, arith, length, ap, sym, subst, unsigned_abs}
 use Rattle.std.specs.Int.{w64}
 use Rattle.std.proofs.lemmas.Int.{to_z-of_z}
+use Prim.Native.Nat.{◌∣◌}
 use Rattle.std.proofs.lemmas.List.{length-map}
 use Rattle.bt_frac.proofs.Gcds.{quotient_positive}
 use Rattle.bt_simplex.specs.inner.Shorts.{reduced, terms_over}
@@ -10,17 +11,21 @@ use Rattle.bt_simplex.proofs.short.zero.divided.Goals as goal
 
 pub quotient-requires-clause-divides : goal.quotient-requires-clause-divides
 quotient-requires-clause-divides c =
-    let fits : FitsSigned w64 (get_or c.args.terms.now c.loop-term.term-index (0, pos 0)).1 = search rules in
-    simp to_z-of_z (c.requires.terms c.loop-term.term-index (0, pos 0) c.loop-term-test.true)
+    let fits : FitsSigned w64 c.number.result = search rules in
+    let number = c.number.ensures ∙ ap (λ e. e.1) c.term-item.is in
+    simp to_z-of_z (subst (λ z. c.args.by ∣ unsigned_abs z) (sym number) (c.requires.terms c.loop-term.term-index c.term-item.result c.loop-term-test.true))
 
 pub loop-term-preserved : goal.loop-term-preserved
 loop-term-preserved c =
-    let fits : FitsSigned w64 (get_or c.args.terms.now c.loop-term.term-index (0, pos 0)).1 = search rules in
+    let fits : FitsSigned w64 c.number.result = search rules in
     let quotient_fits : FitsSigned w64 c.quotient.result = search rules in
-    let items = simp to_z-of_z at c.in_ok-push.ensures.items in
-    let product = simp to_z-of_z at c.quotient.ensures.product in
+    let number = c.number.ensures ∙ ap (λ e. e.1) c.term-item.is in
+    let made = simp to_z-of_z at c.of.ensures in
+    let items =
+    c.in_ok-push.ensures.items ∙ ap (λ e. c.loop-term.lesser.items ++ e ∷ []) made ∙ ap (λ p. c.loop-term.lesser.items ++ (p, c.quotient.result) ∷ []) (c.position.ensures ∙ ap (λ e. e.0) c.term-item.is) in
+    let product = (simp to_z-of_z at c.quotient.ensures.product) ∙ number in
     subst (λ l. AreOver (c.args.under / c.args.by) (terms_over c.args.under c.args.terms.now) (c.loop-term.term-index + 1) l) (sym items)
-    (lowered_more c.args.under c.args.by c.args.terms.now c.loop-term.term-index (0, pos 0) c.loop-term.lesser.items c.quotient.result c.requires.short.some c.requires.short.fits c.requires.under c.requires.short.small
+    (lowered_more c.args.under c.args.by c.args.terms.now c.loop-term.term-index c.term-item.result c.loop-term.lesser.items c.quotient.result c.requires.short.some c.requires.short.fits c.requires.under c.requires.short.small
     c.loop-term-test.true product c.quotient.ensures.small c.loop-term.invariant)
 
 pub returns-clause-short : goal.returns-clause-short

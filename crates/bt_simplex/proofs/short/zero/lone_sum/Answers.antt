@@ -14,8 +14,8 @@ invariant_of-result c =
     let number_fits = c.ranges.number in
     let factor_fits = c.ranges.factor in
     let scales = simp to_z-of_z at c.in-Some.ensures in
-    let merged = simp to_z-of_z at c.in-Some-merged.ensures in
-    let sum = rw c.deref.ensures.value at merged in
+    let entry = simp to_z-of_z at c.in-Some-fitting.ensures in
+    let sum = rw (entry, c.deref.ensures.value) at c.in-Some-merged.ensures in
     (lone_told c.args.position c.args.number c.args.factor c.args.under c.line.inside.under c.in-Some.scales.under c.in-Some.scales.left c.in-Some.scales.right c.line.inside.terms.items c.in-Some-merged.terms.items c.args.line.now
     c.requires.position c.requires.number_small c.requires.number_some scales sum c.line.invariant.line c.line.view_is).0
 
@@ -24,8 +24,8 @@ returns-in-Some-merged-clause-line c =
     let number_fits = c.ranges.number in
     let factor_fits = c.ranges.factor in
     let scales = simp to_z-of_z at c.in-Some.ensures in
-    let merged = simp to_z-of_z at c.in-Some-merged.ensures in
-    let sum = rw c.deref.ensures.value at merged in
+    let entry = simp to_z-of_z at c.in-Some-fitting.ensures in
+    let sum = rw (entry, c.deref.ensures.value) at c.in-Some-merged.ensures in
     (lone_told c.args.position c.args.number c.args.factor c.args.under c.line.inside.under c.in-Some.scales.under c.in-Some.scales.left c.in-Some.scales.right c.line.inside.terms.items c.in-Some-merged.terms.items c.args.line.now
     c.requires.position c.requires.number_small c.requires.number_some scales sum c.line.invariant.line c.line.view_is).0.line
 
@@ -34,7 +34,7 @@ returns-in-Some-merged-clause-sum c =
     let number_fits = c.ranges.number in
     let factor_fits = c.ranges.factor in
     let scales = simp to_z-of_z at c.in-Some.ensures in
-    let merged = simp to_z-of_z at c.in-Some-merged.ensures in
-    let sum = rw c.deref.ensures.value at merged in
+    let entry = simp to_z-of_z at c.in-Some-fitting.ensures in
+    let sum = rw (entry, c.deref.ensures.value) at c.in-Some-merged.ensures in
     (lone_told c.args.position c.args.number c.args.factor c.args.under c.line.inside.under c.in-Some.scales.under c.in-Some.scales.left c.in-Some.scales.right c.line.inside.terms.items c.in-Some-merged.terms.items c.args.line.now
     c.requires.position c.requires.number_small c.requires.number_some scales sum c.line.invariant.line c.line.view_is).1
