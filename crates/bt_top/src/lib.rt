@@ -38,6 +38,3 @@ pub use none_certificate::none_is_accepted;
 pub use program::{NO_MEMORY, READ_FAULT, WRITE_FAULT, run};
 pub use refusal::Refusal;
 pub use std::alloc::AllocError as Memory;
-
-#[cfg(test)]
-mod tests;

@@ -1,7 +1,134 @@
-use bt_frac::{Frac, read_whole};
+//! Sums, differences, products and quotients, orders and spellings, whose answers are worked out by hand. A row is one
+//! text: a table of numbers takes far longer to prove.
+use bt_frac::{Frac, TEXT_MAX, read_whole};
 use std::cmp::Ordering;
 
-const MAX: i128 = i128::MAX;
+/// Two fractions, what is done with them, and what comes; `none` is no fraction.
+const COMPUTED: &[&str] = &[
+    "1/2 + 1/3 = 5/6",
+    "1/4 + 1/4 = 1/2",
+    "1/6 + 1/3 = 1/2",
+    "-1/2 + 1/2 = 0",
+    "3 + -5 = -2",
+    "1/85070591730234615865843651857942052864 + 1/3 = none",
+    "170141183460469231731687303715884105727 + 0 = 170141183460469231731687303715884105727",
+    "170141183460469231731687303715884105726 + 1 = 170141183460469231731687303715884105727",
+    "170141183460469231731687303715884105727 + 1 = none",
+    "-170141183460469231731687303715884105727 + -1 = none",
+    "170141183460469231731687303715884105727/2 + 170141183460469231731687303715884105727/2 = none",
+    "1/170141183460469231731687303715884105727 + 1/170141183460469231731687303715884105727 = \
+     2/170141183460469231731687303715884105727",
+    "1/170141183460469231731687303715884105727 + 1/2 = none",
+    "1/2 - 1/3 = 1/6",
+    "-170141183460469231731687303715884105727 - 1 = none",
+    "0 - -9223372036854775808 = 9223372036854775808",
+    "2/3 * 3/2 = 1",
+    "-2/3 * 3/4 = -1/2",
+    "-1/2 * -1/2 = 1/4",
+    "0 * -5/7 = 0",
+    "170141183460469231731687303715884105727/2 * 2/170141183460469231731687303715884105727 = 1",
+    "170141183460469231731687303715884105727 * -1 = -170141183460469231731687303715884105727",
+    "170141183460469231731687303715884105727 * 2 = none",
+    "1/170141183460469231731687303715884105727 * 1/2 = none",
+    "2/3 : 3/2 = 4/9",
+    "-2/3 : -4/3 = 1/2",
+    "0 : -5/7 = 0",
+    "1 : -9223372036854775808 = -1/9223372036854775808",
+    "170141183460469231731687303715884105727/2 : 170141183460469231731687303715884105727/3 = 3/2",
+    "170141183460469231731687303715884105727 : 1/2 = none",
+    "1/2 : 170141183460469231731687303715884105727 = none",
+    "1 : 0 = none",
+];
+
+/// Two fractions and their order.
+const ORDERED: &[&str] = &[
+    "1/2 > 1/3",
+    "-1/2 < 1/3",
+    "2/3 = 2/3",
+    "1/170141183460469231731687303715884105727 > 0",
+    "170141183460469231731687303715884105727/170141183460469231731687303715884105726 < \
+     170141183460469231731687303715884105726/170141183460469231731687303715884105725",
+    "-170141183460469231731687303715884105727/170141183460469231731687303715884105726 > \
+     -170141183460469231731687303715884105726/170141183460469231731687303715884105725",
+];
+
+/// Two numbers, and the numerator and the denominator of their quotient, or none.
+const QUOTIENTS: &[&str] = &[
+    "2 4 1 2",
+    "-6 -4 3 2",
+    "0 -5 0 1",
+    "-170141183460469231731687303715884105728 2 -85070591730234615865843651857942052864 1",
+    "2 -170141183460469231731687303715884105728 -1 85070591730234615865843651857942052864",
+    "-170141183460469231731687303715884105728 -170141183460469231731687303715884105728 1 1",
+    "-170141183460469231731687303715884105728 -1",
+    "1 -170141183460469231731687303715884105728",
+    "170141183460469231731687303715884105727 170141183460469231731687303715884105726 \
+     170141183460469231731687303715884105727 170141183460469231731687303715884105726",
+];
+
+/// A text, and the numerator and the denominator that it spells, or none.
+const SPELLINGS: &[&str] = &[
+    "0|0|1",
+    "-3|-3|1",
+    "5/6|5|6",
+    "-170141183460469231731687303715884105727/2|-170141183460469231731687303715884105727|2",
+    "1/170141183460469231731687303715884105727|1|170141183460469231731687303715884105727",
+    "-170141183460469231731687303715884105727/170141183460469231731687303715884105726|\
+     -170141183460469231731687303715884105727|170141183460469231731687303715884105726",
+    "",
+    "-",
+    "/",
+    "1/",
+    "/2",
+    "2/4",
+    "3/1",
+    "0/2",
+    "1/0",
+    "-0",
+    "-0/3",
+    "+1",
+    "--1",
+    "1/-2",
+    "1/+2",
+    "00",
+    "01",
+    "1/02",
+    " 1",
+    "1 ",
+    "1/2/3",
+    "0x1",
+    "170141183460469231731687303715884105728",
+    "-170141183460469231731687303715884105728",
+    "1/170141183460469231731687303715884105728",
+    "9999999999999999999999999999999999999999",
+    "1/9999999999999999999999999999999999999999",
+];
+
+/// A word, and the whole number that it spells, or none.
+const WHOLES: &[&str] = &[
+    "0|0",
+    "2048|2048",
+    "",
+    "00",
+    "07",
+    "-1",
+    "1 ",
+    "340282366920938463463374607431768211454|340282366920938463463374607431768211454",
+    "340282366920938463463374607431768211456|340282366920938463463374607431768211455",
+    "9999999999999999999999999999999999999999999|340282366920938463463374607431768211455",
+    "999999999999999999999999999999999999999999x",
+];
+
+/// The fields of a row; those that it lacks are empty.
+fn fields(row: &str, mark: char) -> [&str; 5] {
+    let mut fields = [""; 5];
+    for (place, text) in row.split(mark).enumerate() {
+        if place < 5 {
+            fields[place] = text;
+        }
+    }
+    fields
+}
 
 /// The parts of a fraction, or None where there is none.
 fn parts(fraction: Option<Frac>) -> Option<(i128, i128)> {
@@ -9,185 +136,103 @@ fn parts(fraction: Option<Frac>) -> Option<(i128, i128)> {
     Some((fraction.numerator(), fraction.denominator()))
 }
 
-fn read(text: &str) -> Option<Frac> {
-    Frac::read(text.as_bytes())
-}
-
-fn sum(left: &str, right: &str) -> Option<Frac> {
-    read(left)?.add(&read(right)?)
-}
-
-fn difference(left: &str, right: &str) -> Option<Frac> {
-    read(left)?.sub(&read(right)?)
-}
-
-fn order(left: &str, right: &str) -> Option<Ordering> {
-    Some(read(left)?.cmp(&read(right)?))
-}
-
-fn quotient(p: i128, q: i128) -> Option<Frac> {
-    if q == 0 { None } else { Frac::new(p, q) }
-}
-
-#[test]
-fn sums(rt: HostRuntime) {
-    for (left, right, want) in [
-        ("1/2", "1/3", Some((5, 6))),
-        ("1/4", "1/4", Some((1, 2))),
-        ("1/6", "1/3", Some((1, 2))),
-        ("-1/2", "1/2", Some((0, 1))),
-        ("3", "-5", Some((-2, 1))),
-        ("1/85070591730234615865843651857942052864", "1/3", None),
-        (
-            "170141183460469231731687303715884105727",
-            "0",
-            Some((MAX, 1)),
-        ),
-        (
-            "170141183460469231731687303715884105726",
-            "1",
-            Some((MAX, 1)),
-        ),
-        ("170141183460469231731687303715884105727", "1", None),
-        ("-170141183460469231731687303715884105727", "-1", None),
-        (
-            "170141183460469231731687303715884105727/2",
-            "170141183460469231731687303715884105727/2",
-            None,
-        ),
-        (
-            "1/170141183460469231731687303715884105727",
-            "1/170141183460469231731687303715884105727",
-            Some((2, MAX)),
-        ),
-        ("1/170141183460469231731687303715884105727", "1/2", None),
-    ] {
-        assert!(rt; parts(sum(left, right)) == want);
+/// The two numbers that fields spell.
+fn pair(first: &str, second: &str) -> Option<(i128, i128)> {
+    match (first.parse::<i128>(), second.parse::<i128>()) {
+        (Ok(first), Ok(second)) => Some((first, second)),
+        _ => None,
     }
 }
 
-#[test]
-fn differences(rt: HostRuntime) {
-    for (left, right, want) in [
-        ("1/2", "1/3", Some((1, 6))),
-        ("-170141183460469231731687303715884105727", "1", None),
-        ("0", "-9223372036854775808", Some((9223372036854775808, 1))),
-    ] {
-        assert!(rt; parts(difference(left, right)) == want);
+fn divided(left: &Frac, right: &Frac) -> Option<Frac> {
+    if right.numerator() == 0 {
+        return None;
+    }
+    left.div(right)
+}
+
+fn computed(left: &Frac, operation: &str, right: &Frac) -> Option<Frac> {
+    match operation {
+        "+" => left.add(right),
+        "-" => left.sub(right),
+        "*" => left.mul(right),
+        _ => divided(left, right),
     }
 }
 
-#[test]
-fn orders(rt: HostRuntime) {
-    for (left, right, want) in [
-        ("1/2", "1/3", Ordering::Greater),
-        ("-1/2", "1/3", Ordering::Less),
-        ("2/3", "2/3", Ordering::Equal),
-        (
-            "1/170141183460469231731687303715884105727",
-            "0",
-            Ordering::Greater,
-        ),
-        (
-            "170141183460469231731687303715884105727/170141183460469231731687303715884105726",
-            "170141183460469231731687303715884105726/170141183460469231731687303715884105725",
-            Ordering::Less,
-        ),
-        (
-            "-170141183460469231731687303715884105727/170141183460469231731687303715884105726",
-            "-170141183460469231731687303715884105726/170141183460469231731687303715884105725",
-            Ordering::Greater,
-        ),
-    ] {
-        assert!(rt; order(left, right) == Some(want));
+fn is_computed(row: &str) -> bool {
+    let [left, operation, right, _, wanted] = fields(row, ' ');
+    match (Frac::read(left.as_bytes()), Frac::read(right.as_bytes())) {
+        (Some(left), Some(right)) => {
+            parts(computed(&left, operation, &right)) == parts(Frac::read(wanted.as_bytes()))
+        }
+        _ => false,
     }
 }
 
+fn is_ordered(row: &str) -> bool {
+    let [left, order, right, ..] = fields(row, ' ');
+    let wanted = match order {
+        "<" => Ordering::Less,
+        ">" => Ordering::Greater,
+        _ => Ordering::Equal,
+    };
+    match (Frac::read(left.as_bytes()), Frac::read(right.as_bytes())) {
+        (Some(left), Some(right)) => left.cmp(&right) == wanted,
+        _ => false,
+    }
+}
+
+fn is_quotient(row: &str) -> bool {
+    let [over, under, numerator, denominator, ..] = fields(row, ' ');
+    match pair(over, under) {
+        Some((over, under)) if under != 0 => {
+            parts(Frac::new(over, under)) == pair(numerator, denominator)
+        }
+        _ => false,
+    }
+}
+
+/// Whether the text of a fraction is this one.
+fn is_spelled(fraction: Frac, text: &str) -> bool {
+    let mut buf = [0; TEXT_MAX];
+    let length = fraction.text(&mut buf);
+    &buf[..length] == text.as_bytes()
+}
+
+fn is_spelling(row: &str) -> bool {
+    let [text, numerator, denominator, ..] = fields(row, '|');
+    let wanted = pair(numerator, denominator);
+    match Frac::read(text.as_bytes()) {
+        Some(fraction) => parts(Some(fraction)) == wanted && is_spelled(fraction, text),
+        None => wanted == None,
+    }
+}
+
+fn is_whole(row: &str) -> bool {
+    let [word, number, ..] = fields(row, '|');
+    read_whole(word.as_bytes()) == number.parse::<u128>().ok()
+}
+
 #[test]
-fn quotients(rt: HostRuntime) {
-    for (p, q, want) in [
-        (2, 4, Some((1, 2))),
-        (-6, -4, Some((3, 2))),
-        (0, -5, Some((0, 1))),
-        (i128::MIN, 2, Some((i128::MIN / 2, 1))),
-        (
-            2,
-            i128::MIN,
-            Some((-1, 85070591730234615865843651857942052864)),
-        ),
-        (i128::MIN, i128::MIN, Some((1, 1))),
-        (i128::MIN, -1, None),
-        (1, i128::MIN, None),
-        (MAX, MAX - 1, Some((MAX, MAX - 1))),
-    ] {
-        assert!(rt; parts(quotient(p, q)) == want);
+fn fractions(rt: HostRuntime) {
+    for row in COMPUTED {
+        assert!(rt; is_computed(row), "{row}");
+    }
+    for row in ORDERED {
+        assert!(rt; is_ordered(row), "{row}");
+    }
+    for row in QUOTIENTS {
+        assert!(rt; is_quotient(row), "{row}");
     }
 }
 
 #[test]
 fn spellings(rt: HostRuntime) {
-    for (text, want) in [
-        ("0", Some((0, 1))),
-        ("-3", Some((-3, 1))),
-        ("5/6", Some((5, 6))),
-        (
-            "-170141183460469231731687303715884105727/2",
-            Some((-MAX, 2)),
-        ),
-        ("1/170141183460469231731687303715884105727", Some((1, MAX))),
-        ("", None),
-        ("-", None),
-        ("/", None),
-        ("1/", None),
-        ("/2", None),
-        ("2/4", None),
-        ("3/1", None),
-        ("0/2", None),
-        ("1/0", None),
-        ("-0", None),
-        ("-0/3", None),
-        ("+1", None),
-        ("--1", None),
-        ("1/-2", None),
-        ("1/+2", None),
-        ("00", None),
-        ("01", None),
-        ("1/02", None),
-        (" 1", None),
-        ("1 ", None),
-        ("1/2/3", None),
-        ("0x1", None),
-        ("170141183460469231731687303715884105728", None),
-        ("-170141183460469231731687303715884105728", None),
-        ("1/170141183460469231731687303715884105728", None),
-        ("9999999999999999999999999999999999999999", None),
-        ("1/9999999999999999999999999999999999999999", None),
-    ] {
-        assert!(rt; parts(read(text)) == want);
+    for row in SPELLINGS {
+        assert!(rt; is_spelling(row), "{row}");
     }
-}
-
-#[test]
-fn whole_numbers(rt: HostRuntime) {
-    for (word, want) in [
-        ("0", Some(0)),
-        ("2048", Some(2048)),
-        ("", None),
-        ("00", None),
-        ("07", None),
-        ("-1", None),
-        ("1 ", None),
-        (
-            "340282366920938463463374607431768211454",
-            Some(u128::MAX - 1),
-        ),
-        ("340282366920938463463374607431768211456", Some(u128::MAX)),
-        (
-            "9999999999999999999999999999999999999999999",
-            Some(u128::MAX),
-        ),
-        ("999999999999999999999999999999999999999999x", None),
-    ] {
-        assert!(rt; read_whole(word.as_bytes()) == want);
+    for row in WHOLES {
+        assert!(rt; is_whole(row), "{row}");
     }
 }

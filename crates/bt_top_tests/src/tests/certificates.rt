@@ -1,0 +1,93 @@
+//! Certificates behind a design. In those of the one belt a lemma for each of the two rows that say that the flow is
+//! short is followed by the clause that follows from them.
+use super::answers_all;
+use std::test::Fail;
+
+/// The words, the input, the status and the text. These certificates are accepted, but for the last.
+const ACCEPTED: &[&str] = &[
+    "check unlimited|net 1 1 0\nedge i0 o0\nend\nyes unlimited\nf -9 -12 0 1 1\nf -11 -13 0 1 1\n\
+     r 0 11 12 13 14 8 10 0\nend\n|0|yes unlimited\n",
+    "check unlimited|net 1 1 0\nedge i0 o0\nend\n\n \t\r\nyes unlimited\nf -9 -12 0 1 1\nf -11 -13 0 1 1\n\
+     r 0 11 12 13 14 8 10 0\nend\n\n \n|0|yes unlimited\n",
+    concat!(
+        r#"check unlimited|{"blueprint":{"entities":["#,
+        r#"{"name":"transport-belt","position":{"x":0.5,"y":0.5}}"#,
+        "]}}yes unlimited\nf -9 -12 0 1 1\nf -11 -13 0 1 1\nr 0 11 12 13 14 8 10 0\nend|0|yes unlimited\n",
+    ),
+    "check unlimited|net 1 1 0\nedge i0 o0\nend\nyes unlimited\nf -9 -12 0 1 1\nf -11 -13 0 1 1\n\
+     r 0 11 12 13 14 8 10 0\nr 1 0 15 0\nr 0 15 0\nend\n|0|yes unlimited\n",
+    // There is one output, so the clause that two outputs differ is empty.
+    "check balanced|net 1 1 0\nedge i0 o0\nend\nyes balanced\nr 0 12 0\nend\n|0|yes balanced\n",
+    "check unlimited|net 1 3 3\nedge i0 s0\nedge s0 s1\nedge s0 s2\nedge s1 o0\nedge s1 o1\nedge s2 o2\n\
+     edge s2 s0\nend\nno unlimited\nload 1\nroom 0 0 1\nflow 1/2 0 1 0 0 1/2 1/2\nmark b b f b b f f\nend\n\
+     |1|no unlimited\n",
+    "check unlimited|net 1 1 0\nedge i0 o0\nend\nno unlimited\nload 1\nroom 1\nflow 1\nmark f\nend\n\
+     |9|refused 54 NotBreaking kept 0\n",
+];
+
+/// Certificates of the one belt of which a line is wrong.
+const REFUSED: &[&str] = &[
+    "check unlimited|net 1 1 0\nedge i0 o0\nend\nyes unlimited\nf -9 -12 0 2 1\nf -11 -13 0 1 1\n\
+     r 0 11 12 13 14 8 10 0\nend\n|9|refused 51 BadStep 2 sum\n",
+    // The step itself, which comes before the clause that isn't there.
+    "check unlimited|net 1 1 0\nedge i0 o0\nend\nyes unlimited\nf -9 -12 0 1 1\nf -11 -13 0 1 1\n\
+     r 0 15 11 12 13 14 8 10 0\nend\n|9|refused 51 BadStep 4 hint\n",
+    "check unlimited|net 1 1 0\nedge i0 o0\nend\nyes unlimited\nf -9 -12 0 1 1\nf -11 -13 0 1 1\nend\n\
+     |9|refused 52 NoVerdict\n",
+    "check unlimited|net 1 1 0\nedge i0 o0\nend\nyes unlimited\n\
+     f -9 -12 0 1/85070591730234615865843651857942052864 1/3\nf -11 -13 0 1 1\nr 0 11 12 13 14 8 10 0\nend\n\
+     |9|refused 53 CertWide 2 1 0\n",
+    "check unlimited|net 1 1 0\nedge i0 o0\nend\nyes unlimited\nf -99 -12 0 1 1\nend\n\
+     |9|refused 51 BadStep 2 literal\n",
+    "check unlimited|net 1 1 0\nedge i0 o0\nend\nyes unlimited\nf 9 -12 0 1 1\nend\n\
+     |9|refused 51 BadStep 2 literal\n",
+    "check unlimited|net 1 1 0\nedge i0 o0\nend\nyes unlimited\nf -9 -12 0 -1 1\nend\n\
+     |9|refused 51 BadStep 2 weight\n",
+    "check unlimited|net 1 1 0\nedge i0 o0\nend\nyes unlimited\nf -9 -12 0 1\nend\n\
+     |9|refused 51 BadStep 2 weight\n",
+    "check unlimited|net 1 1 0\nedge i0 o0\nend\nyes unlimited\nr 0 8 0\nend\n|9|refused 51 BadStep 2 unit\n",
+    "check unlimited|net 1 1 0\nedge i0 o0\nend\nyes unlimited\nr 0 0\nend\n|9|refused 51 BadStep 2 unit\n",
+    "check unlimited|net 1 1 0\nedge i0 o0\nend\nyes unlimited\nr 1 -1 0 8 0\nend\n\
+     |9|refused 51 BadStep 2 literal\n",
+    "check unlimited|net 1 1 0\nedge i0 o0\nend\nyes unlimited\nr 0 8\nend\n|9|refused 50 CertLine 2\n",
+    "check unlimited|net 1 1 0\nedge i0 o0\nend\nyes unlimited\nr 1000000000000000000 0 8 0\nend\n\
+     |9|refused 50 CertLine 2\n",
+    "check unlimited|net 1 1 0\nedge i0 o0\nend\nyes unlimited\nf -9 -12 0 1 1\nf -11 -13 0 1 1\n\
+     r 0 11 12 13 14 8 10 0\nend\nx\n|9|refused 50 CertLine 6\n",
+    "check balanced|net 1 1 0\nedge i0 o0\nend\nyes balanced\n|9|refused 50 CertLine 2\n",
+    // A certificate for another property, and one of another network.
+    "check full|net 1 1 0\nedge i0 o0\nend\nyes unlimited\nf -9 -12 0 1 1\nf -11 -13 0 1 1\n\
+     r 0 11 12 13 14 8 10 0\nend\n|9|refused 50 CertLine 1\n",
+    "check unlimited|net 2 2 1\nedge i0 s0\nedge i1 s0\nedge s0 o0\nedge s0 o1\nend\nyes unlimited\n\
+     f -9 -12 0 1 1\nf -11 -13 0 1 1\nr 0 11 12 13 14 8 10 0\nend\n|9|refused 51 BadStep 2 sum\n",
+];
+
+/// Steps that show that no layout lays the splitter in two cells by two.
+const NONE: &[&str] = &[
+    "check-layout --grid 2x2|net 2 2 1\nedge i0 s0\nedge i1 s0\nedge s0 o0\nedge s0 o1\nend\nnone\n\
+     r -220 0 273 1179 1881 1886 1826 0\nr -219 0 1879 1872 1832 0\nr -218 0 1865 1858 1832 0\n\
+     r -217 0 258 711 1843 1848 1826 0\nr -215 0 1176 1624 1948 1953 1826 0\n\
+     r -210 0 714 1621 1896 1901 1826 0\n\
+     r 5 4 3 2 1 0 225 228 303 322 676 678 1130 1132 1582 1583 1584 1585 299 318 688 699 1147 1158 1594 1599 1604 1609 2014 232 2015 2016 2017 229 2018 2019 724 1165 727 1168 704 1141 1813 0\n\
+     r -212 0 1925 1918 1832 0\n\
+     r 0 676 678 1130 1132 1582 1583 1584 1585 688 699 1147 1158 1594 1599 1604 1609 2014 2015 2016 2017 2018 2019 2021 1813 1939 1932 1832 0\n\
+     end\n|1|none\n",
+    "check-layout --grid 2x2|net 2 2 1\nedge i0 s0\nedge i1 s0\nedge s0 o0\nedge s0 o1\nend\nnone\nend\n\
+     |9|refused 52 NoVerdict\n",
+    "check-layout --grid 2x2|net 2 2 1\nedge i0 s0\nedge i1 s0\nedge s0 o0\nedge s0 o1\nend\nnone 2x2\n\
+     r -220 0 273 1179 1881 1886 1826 0\nr -219 0 1879 1872 1832 0\nr -218 0 1865 1858 1832 0\n\
+     r -217 0 258 711 1843 1848 1826 0\nr -215 0 1176 1624 1948 1953 1826 0\n\
+     r -210 0 714 1621 1896 1901 1826 0\n\
+     r 5 4 3 2 1 0 225 228 303 322 676 678 1130 1132 1582 1583 1584 1585 299 318 688 699 1147 1158 1594 1599 1604 1609 2014 232 2015 2016 2017 229 2018 2019 724 1165 727 1168 704 1141 1813 0\n\
+     r -212 0 1925 1918 1832 0\n\
+     r 0 676 678 1130 1132 1582 1583 1584 1585 688 699 1147 1158 1594 1599 1604 1609 2014 2015 2016 2017 2018 2019 2021 1813 1939 1932 1832 0\n\
+     end\n|9|refused 50 CertLine 1\n",
+];
+
+#[test]
+fn answers_to_certificates(rt: HostRuntime) -> Result<(), Fail> {
+    for rows in [ACCEPTED, REFUSED, NONE] {
+        answers_all(&rt, rt.alloc(), rows)?;
+    }
+    Ok(())
+}

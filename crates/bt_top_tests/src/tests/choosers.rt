@@ -1,0 +1,133 @@
+//! Choosers that nobody would choose: the program's answers are as with any other.
+ghost use Rattle.std.specs.Prelude.{Some};
+
+use super::{answer_by, fields, input_of, is_status, smooth};
+use bt_cnf::{Chooser, Lit, Pick, Var};
+use std::alloc::{AllocError, Global};
+use std::cell::Cell;
+use std::rc::Rc;
+use std::test::Fail;
+
+/// Who steers a search.
+#[derive(Clone, Copy, PartialEq, Eq)]
+enum Steering {
+    Nobody,
+    /// Picks the last variable, and changes the sign each time.
+    Last,
+    /// Picks a variable by how many literals it was told, and sets it to true.
+    Kept,
+    /// Picks the first variable, and sets it to false.
+    First,
+    /// Does the same, and finds no memory for the third clause.
+    Forgetful,
+}
+
+/// A chooser that counts how often it is asked, and keeps and tells what it was told.
+#[derive(Drop)]
+struct Odd {
+    steering: Steering,
+    asked: Rc<Cell<u64>>,
+    lits: Vec<Lit>,
+    lengths: Vec<usize>,
+}
+
+impl Chooser for Odd {
+    ghost told_lengths = { λ s. Some s.lengths.items };
+
+    fn pick(&mut self, unset: &[Var]) -> Pick {
+        self.asked.set(self.asked.get().saturating_add(1));
+        match self.steering {
+            Steering::Last => Pick {
+                place: unset.len() - 1,
+                positive: self.asked.get() % 2 == 1,
+            },
+            Steering::Kept => Pick {
+                place: self.lits.len() % unset.len(),
+                positive: true,
+            },
+            _ => Pick {
+                place: 0,
+                positive: false,
+            },
+        }
+    }
+
+    fn told(&mut self, clause: &[Lit]) -> Result<(), AllocError> {
+        if self.steering == Steering::Forgetful && self.lengths.len() == 2 {
+            return Err(AllocError);
+        }
+        self.lits.extend_from_slice(clause)?;
+        self.lengths.push(clause.len())?;
+        Ok(())
+    }
+}
+
+/// The words, the input, the status, the first line of the text or how it begins, and `asks` where each chooser is
+/// asked.
+const STEERED: &[&str] = &[
+    "decide balanced|net 2 2 1\nedge i0 s0\nedge i1 s0\nedge s0 o0\nedge s0 o1\nend\n|0|yes balanced\n",
+    "decide balanced|net 4 4 4\nedge i0 s0\nedge i1 s0\nedge i2 s1\nedge i3 s1\nedge s0 s2\nedge s0 s3\n\
+     edge s1 s2\nedge s1 s3\nedge s2 o0\nedge s2 o1\nedge s3 o2\nedge s3 o3\nend\n|0|yes balanced\n|asks",
+    "decide balanced|net 1 3 3\nedge i0 s0\nedge s0 s1\nedge s0 s2\nedge s1 o0\nedge s1 o1\nedge s2 o2\n\
+     edge s2 s0\nend\n|0|yes balanced\n",
+    "decide unlimited|net 2 2 1\nedge i0 s0\nedge i1 s0\nedge s0 o0\nedge s0 o1\nend\n|0|yes unlimited\n",
+    "decide full|net 4 4 4\nedge i0 s0\nedge i1 s0\nedge i2 s1\nedge i3 s1\nedge s0 s2\nedge s0 s3\n\
+     edge s1 s2\nedge s1 s3\nedge s2 o0\nedge s2 o1\nedge s3 o2\nedge s3 o3\nend\n|0|yes full\n",
+    "decide unlimited|net 4 4 4\nedge i0 s0\nedge i1 s0\nedge i2 s1\nedge i3 s1\nedge s0 s2\nedge s0 s3\n\
+     edge s1 s2\nedge s1 s3\nedge s2 o0\nedge s2 o1\nedge s3 o2\nedge s3 o3\nend\n|1|no unlimited\n",
+    "decide unlimited|net 1 3 3\nedge i0 s0\nedge s0 s1\nedge s0 s2\nedge s1 o0\nedge s1 o1\nedge s2 o2\n\
+     edge s2 s0\nend\n|1|no unlimited\n",
+    "layout --grid 2x2|net 2 2 1\nedge i0 s0\nedge i1 s0\nedge s0 o0\nedge s0 o1\nend\n|1|none\n",
+    "layout --grid 2x3|net 2 2 1\nedge i0 s0\nedge i1 s0\nedge s0 o0\nedge s0 o1\nend\n|0|{\"blueprint\":",
+];
+
+/// The status and the text with which words and an input are answered, where this one steers.
+fn steered(
+    alloc: Global,
+    words: &str,
+    input: Vec<u8>,
+    steering: Steering,
+    asked: &Rc<Cell<u64>>,
+) -> Result<(u8, Vec<u8>), AllocError> {
+    let mut choosers: Vec<Box<dyn Chooser>> = Vec::new(alloc);
+    if steering != Steering::Nobody {
+        choosers.push(Box::new(
+            alloc,
+            Odd {
+                steering,
+                asked: asked.clone()?,
+                lits: Vec::new(alloc),
+                lengths: Vec::new(alloc),
+            },
+        )?)?;
+    }
+    answer_by(alloc, words, input, smooth(1000), choosers)
+}
+
+/// Whether a row is answered as it says, where this one steers.
+fn is_answered_by(alloc: Global, row: &str, steering: Steering) -> Result<bool, AllocError> {
+    let [words, input, status, begins, asks, ..] = fields(row, '|');
+    let asked = Rc::new(alloc, Cell::new(0))?;
+    let (given, text) = steered(alloc, words, input_of(alloc, input)?, steering, &asked)?;
+    if steering == Steering::Forgetful && given == 8 {
+        return Ok(text.is_empty());
+    }
+    let is_asked = asked.get() > 0 || asks.is_empty() || steering == Steering::Nobody;
+    Ok(is_asked && is_status(given, status) && text.starts_with(begins.as_bytes()))
+}
+
+#[test]
+fn answers_whoever_steers(rt: HostRuntime) -> Result<(), Fail> {
+    for steering in [
+        Steering::Nobody,
+        Steering::Last,
+        Steering::Kept,
+        Steering::First,
+        Steering::Forgetful,
+    ] {
+        for row in STEERED {
+            assert!(rt; is_answered_by(rt.alloc(), row, steering)?, "{row}");
+        }
+    }
+    Ok(())
+}
