@@ -8,7 +8,7 @@ mod trail;
 mod words;
 mod write;
 
-use bt_parts::Tier;
+use bt_parts::{Cell, Dir, Kind, Part, Tier};
 
 /// The fields of a row; those that it lacks are empty.
 fn fields(row: &str, mark: char) -> [&str; 5] {
@@ -27,5 +27,37 @@ fn tier_named(name: &str) -> Tier {
         "express" => Tier::Express,
         "turbo" => Tier::Turbo,
         _ => Tier::Basic,
+    }
+}
+
+fn kind_named(name: &str) -> Kind {
+    match name {
+        "entrance" => Kind::Entrance,
+        "exit" => Kind::Exit,
+        "splitter" => Kind::Splitter,
+        _ => Kind::Belt,
+    }
+}
+
+fn direction_named(name: &str) -> Dir {
+    match name {
+        "east" => Dir::East,
+        "south" => Dir::South,
+        "west" => Dir::West,
+        _ => Dir::North,
+    }
+}
+
+/// The part of these words: its tier, its kind, its direction and its cell.
+fn part_of(words: &str) -> Part {
+    let [tier, kind, direction, x, y] = fields(words, ' ');
+    Part {
+        kind: kind_named(kind),
+        tier: tier_named(tier),
+        dir: direction_named(direction),
+        cell: Cell {
+            x: x.parse::<i32>().unwrap_or(0),
+            y: y.parse::<i32>().unwrap_or(0),
+        },
     }
 }
