@@ -43,11 +43,11 @@ fn is_written(alloc: Global, row: &str) -> Result<bool, AllocError> {
 /// Whether the blueprint of parts is read as these parts, and a line feed alone stands behind it.
 fn is_read_back(alloc: Global, parts: &[Part]) -> Result<bool, AllocError> {
     let text = text_of(alloc, parts)?;
-    match read(alloc, &text) {
-        Ok((tree, used)) => {
-            let found = parts_of(alloc, &tree).ok();
-            Ok(used + 1 == text.len() && found.is_some_and(|found| found.as_slice() == parts))
-        }
+    let Ok((tree, used)) = read(alloc, &text) else {
+        return Ok(false);
+    };
+    match parts_of(alloc, &tree) {
+        Ok(found) => Ok(used + 1 == text.len() && found.as_slice() == parts),
         Err(_) => Ok(false),
     }
 }
