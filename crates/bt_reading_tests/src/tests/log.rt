@@ -2,38 +2,49 @@ use bt_cnf::{Formula, Lit};
 use bt_frac::Frac;
 use bt_io::MemSink;
 use bt_log::{Log, StepView};
-use std::alloc::Global;
+use std::alloc::{AllocError, Global};
 use std::test::Fail;
 
 const TEXT: &[u8] = b"f -9 12 0 -1/2 3\nr 0 1 13 0\nend\n";
 
-fn literal(formula: &Formula, place: usize, positive: bool) -> Result<Lit, Fail> {
-    let var = formula.var_at(place).ok_or("no variable")?;
-    Ok(Lit { var, positive })
-}
-
-fn literals(alloc: Global) -> Result<[Lit; 2], Fail> {
+// A negative and a positive literal; none where the formula lacks their variables.
+fn literals(alloc: Global) -> Result<Option<[Lit; 2]>, AllocError> {
     let formula = Formula::new(alloc, 13)?;
-    let first = literal(&formula, 8, false)?;
-    let second = literal(&formula, 11, true)?;
-    Ok([first, second])
+    Ok(match (formula.var_at(8), formula.var_at(11)) {
+        (Some(first), Some(second)) => Some([
+            Lit {
+                var: first,
+                positive: false,
+            },
+            Lit {
+                var: second,
+                positive: true,
+            },
+        ]),
+        _ => None,
+    })
 }
 
 // A log of a lemma and a learnt clause.
-fn two_steps(alloc: Global) -> Result<Log, Fail> {
-    let lits = literals(alloc)?;
-    let half = Frac::read(b"-1/2").ok_or("no fraction")?;
+fn two_steps(alloc: Global, lits: &[Lit]) -> Result<Log, AllocError> {
+    let half = Frac::read(b"-1/2").unwrap_or(Frac::whole(0));
     let mut log = Log::new(alloc, 12)?;
-    log.add_lemma(&lits, &[half, Frac::whole(3)])?;
+    log.add_lemma(lits, &[half, Frac::whole(3)])?;
     log.add_learnt(&[], &[0, 12])?;
     Ok(log)
 }
 
-// Whether the log's text has so much room, and what is written.
-fn printed(alloc: Global, log: &Log, room: usize) -> Result<(bool, Vec<u8>), Fail> {
+// Whether so much room is enough for the log's text, or isn't, and this is written.
+fn is_printed(
+    alloc: Global,
+    log: &Log,
+    room: usize,
+    whole: bool,
+    text: &[u8],
+) -> Result<bool, AllocError> {
     let mut sink = MemSink::new(alloc, room, Vec::new(alloc), 3)?;
     let is_whole = log.print(&mut sink).is_ok();
-    Ok((is_whole, Vec::from_slice(alloc, sink.held())?))
+    Ok(is_whole == whole && sink.held() == text)
 }
 
 fn ends_with_hints(log: &Log, numbers: &[usize]) -> bool {
@@ -48,11 +59,11 @@ fn ends_with_hints(log: &Log, numbers: &[usize]) -> bool {
 
 #[test]
 fn prints_its_steps(rt: HostRuntime) -> Result<(), Fail> {
-    let log = two_steps(rt.alloc())?;
+    let alloc = rt.alloc();
+    let lits = literals(alloc)?.ok_or("no variable")?;
+    let log = two_steps(alloc, &lits)?;
     assert!(rt; ends_with_hints(&log, &[0, 12]));
-    for (room, whole, text) in [(100, true, TEXT), (20, false, b"f -9 12 0 -1/2 3\nr 0")] {
-        let (is_whole, written) = printed(rt.alloc(), &log, room)?;
-        assert!(rt; is_whole == whole && written.as_slice() == text);
-    }
+    assert!(rt; is_printed(alloc, &log, 100, true, TEXT)?);
+    assert!(rt; is_printed(alloc, &log, 20, false, b"f -9 12 0 -1/2 3\nr 0")?);
     Ok(())
 }

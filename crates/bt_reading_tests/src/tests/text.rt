@@ -1,53 +1,48 @@
 //! Lines, pieces and blanks of a text.
+use super::fields;
 use bt_text::{first_line, next_piece, skip_blanks, whole_lines};
 
-#[test]
-fn lines(rt: HostRuntime) {
-    for (text, line, rest) in [
-        ("net 1 1 0\nend", "net 1 1 0", "end"),
-        ("end", "end", ""),
-        ("\n", "", ""),
-        ("", "", ""),
-    ] {
-        let read = first_line(text.as_bytes());
-        assert!(rt; read == (line.as_bytes(), rest.as_bytes()));
+/// What is asked for, the text, and what is there: the first line and the rest, the piece before the first blank and
+/// the rest, the whole lines, or what stands behind the blanks.
+const CUT: &[&str] = &[
+    "line|net 1 1 0\nend|net 1 1 0|end",
+    "line|end|end|",
+    "line|\n||",
+    "line|||",
+    "piece| 1/2 3|1/2| 3",
+    "piece| 3|3|",
+    "piece| ||",
+    "no piece|3",
+    "no piece|",
+    "wholes|a\nb\nc|a\nb\n",
+    "wholes|a\n|a\n",
+    "wholes|\n|\n",
+    "wholes|a|",
+    "wholes||",
+    "blanks| \t\r\n yes P\n|yes P\n",
+    "blanks|\x0b|\x0b",
+    "blanks| \n\n|",
+    "blanks||",
+];
+
+/// Whether a row's text has what is asked for.
+fn is_cut(row: &str) -> bool {
+    let [asked, text, first, rest, _] = fields(row, '|');
+    let text = text.as_bytes();
+    let parts = (first.as_bytes(), rest.as_bytes());
+    match asked {
+        "line" => first_line(text) == parts,
+        "piece" => next_piece(text, b' ') == Some(parts),
+        "no piece" => next_piece(text, b' ') == None,
+        "wholes" => whole_lines(text) == parts.0,
+        "blanks" => skip_blanks(text) == parts.0,
+        _ => false,
     }
 }
 
 #[test]
-fn pieces(rt: HostRuntime) {
-    for (text, piece) in [
-        (" 1/2 3", Some((b"1/2".as_slice(), b" 3".as_slice()))),
-        (" 3", Some((b"3".as_slice(), b"".as_slice()))),
-        (" ", Some((b"".as_slice(), b"".as_slice()))),
-        ("3", None),
-        ("", None),
-    ] {
-        assert!(rt; next_piece(text.as_bytes(), b' ') == piece);
-    }
-}
-
-#[test]
-fn wholes(rt: HostRuntime) {
-    for (text, lines) in [
-        ("a\nb\nc", "a\nb\n"),
-        ("a\n", "a\n"),
-        ("\n", "\n"),
-        ("a", ""),
-        ("", ""),
-    ] {
-        assert!(rt; whole_lines(text.as_bytes()) == lines.as_bytes());
-    }
-}
-
-#[test]
-fn blanks(rt: HostRuntime) {
-    for (text, rest) in [
-        (" \t\r\n yes P\n", "yes P\n"),
-        ("\x0b", "\x0b"),
-        (" \n\n", ""),
-        ("", ""),
-    ] {
-        assert!(rt; skip_blanks(text.as_bytes()) == rest.as_bytes());
+fn texts(rt: HostRuntime) {
+    for row in CUT {
+        assert!(rt; is_cut(row), "{row:?}");
     }
 }

@@ -1,12 +1,21 @@
 //! Texts of trails with and without turns, worked out by hand.
+use super::fields;
 use bt_frac::Frac;
 use bt_io::MemSink;
 use bt_simplex::{Operation, Trail, Turn, Wide, WidePlace};
 use bt_trail::{print_pivots, print_wide};
-use std::alloc::Global;
+use std::alloc::{AllocError, Global};
 use std::test::Fail;
 
-fn trail(alloc: Global, turns: &[Turn]) -> Result<Trail, Fail> {
+/// A place, an operation, and the text of the numbers that were too wide for it there.
+const WIDE: &[&str] = &[
+    "entry|div|wide entry 4 1\nstart 3 4 10\nbound 0\nturn 3 1\nnumbers div 1/3 -2\nend\n",
+    "value|mul|wide value 4 1\nstart 3 4 10\nbound 0\nturn 3 1\nnumbers mul 1/3 -2\nend\n",
+    "settle|add|wide settle 4 1\nstart 3 4 10\nbound 0\nturn 3 1\nnumbers add 1/3 -2\nend\n",
+    "lemma|mul|wide lemma 4 1\nstart 3 4 10\nbound 0\nturn 3 1\nnumbers mul 1/3 -2\nend\n",
+];
+
+fn trail(alloc: Global, turns: &[Turn]) -> Result<Trail, AllocError> {
     Ok(Trail {
         start: vec![in alloc; 3, 4, 10]?,
         bound: vec![in alloc; 0]?,
@@ -14,9 +23,54 @@ fn trail(alloc: Global, turns: &[Turn]) -> Result<Trail, Fail> {
     })
 }
 
+fn place_named(name: &str) -> WidePlace {
+    match name {
+        "entry" => WidePlace::Entry,
+        "value" => WidePlace::Value,
+        "settle" => WidePlace::Settle,
+        _ => WidePlace::Lemma,
+    }
+}
+
+fn operation_named(name: &str) -> Operation {
+    match name {
+        "div" => Operation::Div,
+        "mul" => Operation::Mul,
+        _ => Operation::Add,
+    }
+}
+
+/// Whether turns are printed as this text.
+fn is_printed(alloc: Global, turns: &[Turn], text: &str) -> Result<bool, AllocError> {
+    let mut sink = MemSink::new(alloc, 100, vec![in alloc]?, 7)?;
+    let printed = print_pivots(&trail(alloc, turns)?, &mut sink).is_ok();
+    Ok(printed && sink.held() == text.as_bytes())
+}
+
+/// Whether the numbers at a row's place and for its operation are printed as its text.
+fn is_wide(alloc: Global, row: &str) -> Result<bool, AllocError> {
+    let [place, operation, text, ..] = fields(row, '|');
+    let turn = Turn {
+        leaves: 3,
+        enters: 1,
+    };
+    let wide = Wide {
+        trail: trail(alloc, &[turn])?,
+        place: place_named(place),
+        basis: vec![in alloc; 1, 4, 10]?,
+        row: 4,
+        column: 1,
+        operation: operation_named(operation),
+        left: Frac::new(1, 3).unwrap_or(Frac::whole(0)),
+        right: Frac::whole(-2),
+    };
+    let mut sink = MemSink::new(alloc, 100, vec![in alloc]?, 7)?;
+    let printed = print_wide(&wide, &mut sink).is_ok();
+    Ok(printed && sink.held() == text.as_bytes())
+}
+
 #[test]
 fn trails(rt: HostRuntime) -> Result<(), Fail> {
-    let alloc = rt.alloc();
     let turn = Turn {
         leaves: 3,
         enters: 1,
@@ -25,72 +79,12 @@ fn trails(rt: HostRuntime) -> Result<(), Fail> {
         leaves: 10,
         enters: 3,
     };
-    for (turns, text) in [
-        ([].as_slice(), "pivots 0\nstart 3 4 10\nbound 0\nend\n"),
-        (
-            [turn, last].as_slice(),
-            "pivots 2\nstart 3 4 10\nbound 0\nturn 3 1\nturn 10 3\nend\n",
-        ),
-    ] {
-        let mut sink = MemSink::new(alloc, 100, vec![in alloc]?, 7)?;
-        assert!(rt; print_pivots(&trail(alloc, turns)?, &mut sink).is_ok());
-        assert!(rt; sink.held() == text.as_bytes());
-    }
-    Ok(())
-}
-
-#[test]
-fn wide_numbers(rt: HostRuntime) -> Result<(), Fail> {
-    let alloc = rt.alloc();
-    for (place, operation, first, last) in [
-        (
-            WidePlace::Entry,
-            Operation::Div,
-            "wide entry 4 1\n",
-            "numbers div 1/3 -2\n",
-        ),
-        (
-            WidePlace::Value,
-            Operation::Mul,
-            "wide value 4 1\n",
-            "numbers mul 1/3 -2\n",
-        ),
-        (
-            WidePlace::Settle,
-            Operation::Add,
-            "wide settle 4 1\n",
-            "numbers add 1/3 -2\n",
-        ),
-        (
-            WidePlace::Lemma,
-            Operation::Mul,
-            "wide lemma 4 1\n",
-            "numbers mul 1/3 -2\n",
-        ),
-    ] {
-        let wide = Wide {
-            trail: trail(
-                alloc,
-                &[Turn {
-                    leaves: 3,
-                    enters: 1,
-                }],
-            )?,
-            place,
-            basis: vec![in alloc; 1, 4, 10]?,
-            row: 4,
-            column: 1,
-            operation,
-            left: Frac::new(1, 3).ok_or("a third")?,
-            right: Frac::whole(-2),
-        };
-        let mut sink = MemSink::new(alloc, 100, vec![in alloc]?, 7)?;
-        let mut text = Vec::from_slice(alloc, first.as_bytes())?;
-        text.extend_from_slice(b"start 3 4 10\nbound 0\nturn 3 1\n")?;
-        text.extend_from_slice(last.as_bytes())?;
-        text.extend_from_slice(b"end\n")?;
-        assert!(rt; print_wide(&wide, &mut sink).is_ok());
-        assert!(rt; sink.held() == text.as_slice());
+    let none = "pivots 0\nstart 3 4 10\nbound 0\nend\n";
+    let two = "pivots 2\nstart 3 4 10\nbound 0\nturn 3 1\nturn 10 3\nend\n";
+    assert!(rt; is_printed(rt.alloc(), &[], none)?);
+    assert!(rt; is_printed(rt.alloc(), &[turn, last], two)?);
+    for row in WIDE {
+        assert!(rt; is_wide(rt.alloc(), row)?, "{row:?}");
     }
     Ok(())
 }

@@ -1,253 +1,188 @@
 //! Words that are commands, and words that are none.
+use super::{fields, tier_named};
 use bt_flow::Property;
 use bt_parts::{Rect, Tier};
 use bt_words::{Command, Family, Limits, USUAL_LEARNT, USUAL_PIVOTS, command_of};
-use std::alloc::Global;
+use std::alloc::{AllocError, Global};
 use std::test::Fail;
 
-const USUAL: Limits = Limits {
-    learnt: USUAL_LEARNT,
-    pivots: USUAL_PIVOTS,
-};
+/// Words, and the command that they are: its word, its property, family or tier, and its numbers. These are the most
+/// steps and the most turns, and then an order; or a width and a height, and then the most steps. A dash is the usual
+/// number.
+const COMMANDS: &str = "flow-check unlimited|flow-check unlimited
+recover|recover
+check drawn-evenly|check drawn-evenly
+decide full|decide full - -
+decide balanced --learnt 0 --pivots 0|decide balanced 0 0
+decide --pivots=0 --learnt=0 balanced|decide balanced 0 0
+decide --learnt 0 balanced --pivots=0|decide balanced 0 0
+decide --pivots 100000 full --learnt 1000000|decide full 1000000 100000
+decide full --learnt=7|decide full 7 -
+decide --pivots 10 full|decide full - 10
+make 2|make butterfly - - 2
+make 2 --chain|make chain - - 2
+make --chain 0|make chain - - 0
+make 999999999|make butterfly - - 999999999
+make --learnt=0 16 --chain --pivots 0|make chain 0 0 16
+make --learnt 1000000 --pivots 100000 1|make butterfly 1000000 100000 1
+layout --grid 5x8|layout basic 5 8 -
+layout --grid=5x8|layout basic 5 8 -
+layout --grid 16x16 --tier basic --learnt 0|layout basic 16 16 0
+layout --learnt=1000000 --tier=turbo --grid=1x16|layout turbo 1 16 1000000
+layout --tier fast --grid 16x1|layout fast 16 1 -
+layout --tier=express --learnt 7 --grid 2x3|layout express 2 3 7
+check-layout --grid 5x8|check-layout basic 5 8
+check-layout --grid=10x9 --tier turbo|check-layout turbo 10 9
+check-layout --tier=fast --grid 1x1|check-layout fast 1 1
+check-layout --tier express --grid=16x16|check-layout express 16 16
+|none
+help|none
+--help|none
+--|none
+Recover|none
+recover balanced|none
+recover --|none
+recover --learnt 1|none
+flow-check|none
+flow-check balanced full|none
+flow-check balance|none
+flow-check full --learnt 1|none
+check|none
+check full full|none
+check full --pivots=1|none
+decide|none
+decide |none
+decide balanced full|none
+decide balanced balanced|none
+decide 2|none
+decide balanced --|none
+decide -- balanced|none
+decide balanced --help|none
+decide balanced -l 1|none
+decide balanced --learn 1|none
+decide balanced --learnt|none
+decide balanced --learnt=|none
+decide --learnt balanced|none
+decide --learnt --pivots balanced|none
+decide balanced --learnt 01|none
+decide balanced --learnt=+1|none
+decide balanced --learnt=1=2|none
+decide balanced --learnt=1000001|none
+decide balanced --pivots 100001|none
+decide balanced --pivots 99999999999999999999999999999999999999999|none
+decide balanced --learnt 1 --learnt 1|none
+decide balanced --learnt=1 --pivots 2 --learnt 3|none
+decide balanced --chain|none
+decide balanced --grid 2x2|none
+decide --property balanced|none
+make|none
+make 02|none
+make 1000000000|none
+make 2 3|none
+make 2 balanced|none
+make 2 --chain --chain|none
+make 2 --chain=1|none
+make 2 --grid 2x2|none
+make 2 --tier basic|none
+recover --tier basic|none
+check full --grid 2x2|none
+layout|none
+layout --tier basic|none
+layout --grid|none
+layout --grid=|none
+layout 5x8|none
+layout --grid 0x1|none
+layout --grid 1x0|none
+layout --grid 17x1|none
+layout --grid 1x17|none
+layout --grid 1x|none
+layout --grid x1|none
+layout --grid x|none
+layout --grid 11|none
+layout --grid 01x1|none
+layout --grid 1x01|none
+layout --grid 1x1x1|none
+layout --grid 1X1|none
+layout --grid +1x1|none
+layout --grid 1x1 --grid 1x1|none
+layout --grid=1x1 --grid 2x2|none
+layout --grid 5x8 --tier|none
+layout --grid 5x8 --tier Basic|none
+layout --grid 5x8 --tier yellow|none
+layout --grid 5x8 --tier fast --tier fast|none
+layout --grid 5x8 --learnt 1000001|none
+layout --grid 5x8 --pivots 1|none
+layout --grid 5x8 --chain|none
+layout --grid 5x8 balanced|none
+layout --grid 5x8 2|none
+check-layout|none
+check-layout --grid 17x17|none
+check-layout --grid 5x8 --learnt 1|none
+check-layout --grid 5x8 full|none";
 
-const LEAST: Limits = Limits {
-    learnt: 0,
-    pivots: 0,
-};
+fn property(name: &str) -> Property {
+    match name {
+        "balanced" => Property::Balanced,
+        "drawn-evenly" => Property::DrawnEvenly,
+        "unlimited" => Property::Unlimited,
+        _ => Property::Full,
+    }
+}
 
-const MOST: Limits = Limits {
-    learnt: 1_000_000,
-    pivots: 100_000,
-};
+fn family(name: &str) -> Family {
+    match name {
+        "chain" => Family::Chain,
+        _ => Family::Butterfly,
+    }
+}
 
-const COMMANDS: [(&str, Command); 16] = [
-    (
-        "flow-check unlimited",
-        Command::FlowCheck(Property::Unlimited),
-    ),
-    ("recover", Command::Recover),
-    ("check drawn-evenly", Command::Check(Property::DrawnEvenly)),
-    ("decide full", Command::Decide(Property::Full, USUAL)),
-    (
-        "decide balanced --learnt 0 --pivots 0",
-        Command::Decide(Property::Balanced, LEAST),
-    ),
-    (
-        "decide --pivots=0 --learnt=0 balanced",
-        Command::Decide(Property::Balanced, LEAST),
-    ),
-    (
-        "decide --learnt 0 balanced --pivots=0",
-        Command::Decide(Property::Balanced, LEAST),
-    ),
-    (
-        "decide --pivots 100000 full --learnt 1000000",
-        Command::Decide(Property::Full, MOST),
-    ),
-    (
-        "decide full --learnt=7",
-        Command::Decide(
-            Property::Full,
-            Limits {
-                learnt: 7,
-                pivots: USUAL_PIVOTS,
-            },
-        ),
-    ),
-    (
-        "decide --pivots 10 full",
-        Command::Decide(
-            Property::Full,
-            Limits {
-                learnt: USUAL_LEARNT,
-                pivots: 10,
-            },
-        ),
-    ),
-    ("make 2", Command::Make(Family::Butterfly, 2, USUAL)),
-    ("make 2 --chain", Command::Make(Family::Chain, 2, USUAL)),
-    ("make --chain 0", Command::Make(Family::Chain, 0, USUAL)),
-    (
-        "make 999999999",
-        Command::Make(Family::Butterfly, 999_999_999, USUAL),
-    ),
-    (
-        "make --learnt=0 16 --chain --pivots 0",
-        Command::Make(Family::Chain, 16, LEAST),
-    ),
-    (
-        "make --learnt 1000000 --pivots 100000 1",
-        Command::Make(Family::Butterfly, 1, MOST),
-    ),
-];
+/// The number that a field spells.
+fn number(field: &str) -> u32 {
+    field.parse::<u32>().unwrap_or(0)
+}
 
-/// Words, and the width, the height, the tier and the most steps of the layout that they ask for.
-const LAYOUTS: [(&str, u32, u32, Tier, u64); 6] = [
-    ("layout --grid 5x8", 5, 8, Tier::Basic, USUAL_LEARNT),
-    ("layout --grid=5x8", 5, 8, Tier::Basic, USUAL_LEARNT),
-    (
-        "layout --grid 16x16 --tier basic --learnt 0",
-        16,
-        16,
-        Tier::Basic,
-        0,
-    ),
-    (
-        "layout --learnt=1000000 --tier=turbo --grid=1x16",
-        1,
-        16,
-        Tier::Turbo,
-        1_000_000,
-    ),
-    (
-        "layout --tier fast --grid 16x1",
-        16,
-        1,
-        Tier::Fast,
-        USUAL_LEARNT,
-    ),
-    (
-        "layout --tier=express --learnt 7 --grid 2x3",
-        2,
-        3,
-        Tier::Express,
-        7,
-    ),
-];
+/// The most steps that a field spells.
+fn steps(field: &str) -> u64 {
+    field.parse::<u64>().unwrap_or(USUAL_LEARNT)
+}
 
-/// Words, and the width, the height and the tier of the layouts that they say are none.
-const NO_LAYOUTS: [(&str, u32, u32, Tier); 4] = [
-    ("check-layout --grid 5x8", 5, 8, Tier::Basic),
-    ("check-layout --grid=10x9 --tier turbo", 10, 9, Tier::Turbo),
-    ("check-layout --tier=fast --grid 1x1", 1, 1, Tier::Fast),
-    (
-        "check-layout --tier express --grid=16x16",
-        16,
-        16,
-        Tier::Express,
-    ),
-];
+/// The command that a row spells.
+fn spelled(text: &str) -> Option<Command> {
+    let [word, name, first, second, third] = fields(text, ' ');
+    let limits = Limits {
+        learnt: steps(first),
+        pivots: second.parse::<u64>().unwrap_or(USUAL_PIVOTS),
+    };
+    let grid = Rect {
+        width: number(first),
+        height: number(second),
+    };
+    match word {
+        "flow-check" => Some(Command::FlowCheck(property(name))),
+        "recover" => Some(Command::Recover),
+        "check" => Some(Command::Check(property(name))),
+        "decide" => Some(Command::Decide(property(name), limits)),
+        "make" => Some(Command::Make(family(name), number(third), limits)),
+        "layout" => Some(Command::Layout(grid, tier_named(name), steps(third))),
+        "check-layout" => Some(Command::CheckLayout(grid, tier_named(name))),
+        _ => None,
+    }
+}
 
-const NONE: [&str; 84] = [
-    "",
-    "help",
-    "--help",
-    "--",
-    "Recover",
-    "recover balanced",
-    "recover --",
-    "recover --learnt 1",
-    "flow-check",
-    "flow-check balanced full",
-    "flow-check balance",
-    "flow-check full --learnt 1",
-    "check",
-    "check full full",
-    "check full --pivots=1",
-    "decide",
-    "decide ",
-    "decide balanced full",
-    "decide balanced balanced",
-    "decide 2",
-    "decide balanced --",
-    "decide -- balanced",
-    "decide balanced --help",
-    "decide balanced -l 1",
-    "decide balanced --learn 1",
-    "decide balanced --learnt",
-    "decide balanced --learnt=",
-    "decide --learnt balanced",
-    "decide --learnt --pivots balanced",
-    "decide balanced --learnt 01",
-    "decide balanced --learnt=+1",
-    "decide balanced --learnt=1=2",
-    "decide balanced --learnt=1000001",
-    "decide balanced --pivots 100001",
-    "decide balanced --pivots 99999999999999999999999999999999999999999",
-    "decide balanced --learnt 1 --learnt 1",
-    "decide balanced --learnt=1 --pivots 2 --learnt 3",
-    "decide balanced --chain",
-    "decide balanced --grid 2x2",
-    "decide --property balanced",
-    "make",
-    "make 02",
-    "make 1000000000",
-    "make 2 3",
-    "make 2 balanced",
-    "make 2 --chain --chain",
-    "make 2 --chain=1",
-    "make 2 --grid 2x2",
-    "make 2 --tier basic",
-    "recover --tier basic",
-    "check full --grid 2x2",
-    "layout",
-    "layout --tier basic",
-    "layout --grid",
-    "layout --grid=",
-    "layout 5x8",
-    "layout --grid 0x1",
-    "layout --grid 1x0",
-    "layout --grid 17x1",
-    "layout --grid 1x17",
-    "layout --grid 1x",
-    "layout --grid x1",
-    "layout --grid x",
-    "layout --grid 11",
-    "layout --grid 01x1",
-    "layout --grid 1x01",
-    "layout --grid 1x1x1",
-    "layout --grid 1X1",
-    "layout --grid +1x1",
-    "layout --grid 1x1 --grid 1x1",
-    "layout --grid=1x1 --grid 2x2",
-    "layout --grid 5x8 --tier",
-    "layout --grid 5x8 --tier Basic",
-    "layout --grid 5x8 --tier yellow",
-    "layout --grid 5x8 --tier fast --tier fast",
-    "layout --grid 5x8 --learnt 1000001",
-    "layout --grid 5x8 --pivots 1",
-    "layout --grid 5x8 --chain",
-    "layout --grid 5x8 balanced",
-    "layout --grid 5x8 2",
-    "check-layout",
-    "check-layout --grid 17x17",
-    "check-layout --grid 5x8 --learnt 1",
-    "check-layout --grid 5x8 full",
-];
-
-fn command(alloc: Global, words: &str) -> Result<Option<Command>, Fail> {
+/// Whether a row's words are its command.
+fn is_command(alloc: Global, row: &str) -> Result<bool, AllocError> {
+    let [words, wanted, ..] = fields(row, '|');
     let mut all = Vec::new(alloc);
     for word in words.split(' ') {
         all.push(String::from_str(alloc, word)?)?;
     }
-    Ok(command_of(&all))
+    Ok(command_of(&all) == spelled(wanted))
 }
 
 #[test]
 fn commands(rt: HostRuntime) -> Result<(), Fail> {
-    for (words, expected) in COMMANDS {
-        assert!(rt; command(rt.alloc(), words)? == Some(expected), "{words}");
-    }
-    Ok(())
-}
-
-#[test]
-fn layouts(rt: HostRuntime) -> Result<(), Fail> {
-    for (words, width, height, tier, learnt) in LAYOUTS {
-        let expected = Command::Layout(Rect { width, height }, tier, learnt);
-        assert!(rt; command(rt.alloc(), words)? == Some(expected), "{words}");
-    }
-    for (words, width, height, tier) in NO_LAYOUTS {
-        let expected = Command::CheckLayout(Rect { width, height }, tier);
-        assert!(rt; command(rt.alloc(), words)? == Some(expected), "{words}");
-    }
-    Ok(())
-}
-
-#[test]
-fn no_commands(rt: HostRuntime) -> Result<(), Fail> {
-    for words in NONE {
-        assert!(rt; command(rt.alloc(), words)?.is_none(), "{words}");
+    for row in COMMANDS.lines() {
+        assert!(rt; is_command(rt.alloc(), row)?, "{row}");
     }
     assert!(rt; command_of(&[]).is_none());
     Ok(())

@@ -1,115 +1,63 @@
-//! Blueprints of one part, byte by byte.
+//! Blueprints of no part and of one, byte by byte, and of a few, which are read back.
+use super::{fields, part_of};
 use bt_entities::parts_of;
 use bt_json::read;
-use bt_parts::{Cell, Dir, Kind, Part, Tier};
+use bt_parts::Part;
 use bt_write::text_of;
-use std::alloc::Global;
+use std::alloc::{AllocError, Global};
 use std::test::Fail;
 
-/// Whether the blueprint of this part alone has this name, this centre and this end.
-fn is_written(alloc: Global, part: Part, words: [&str; 4]) -> Result<bool, Fail> {
-    let [name, x, y, end] = words;
-    let front = "{\"blueprint\":{\"item\":\"blueprint\",\"entities\":[{\"entity_number\":1";
-    let place = format!(in alloc; "\"position\":{{\"x\":{x},\"y\":{y}}}")?;
-    let back = "],\"version\":281479271677952}}\n";
-    let wanted = format!(in alloc;
-        "{front},\"name\":\"{name}\",{place},\"direction\":{end}}}{back}"
-    )?;
-    Ok(text_of(alloc, &[part])?.as_slice() == wanted.as_bytes())
-}
+/// Parts, and the entities that are written for them.
+const WRITTEN: &str = r#"|
+basic belt north 0 0|{"entity_number":1,"name":"transport-belt","position":{"x":0.5,"y":0.5},"direction":0}
+basic entrance east 0 0|{"entity_number":1,"name":"underground-belt","position":{"x":0.5,"y":0.5},"direction":2,"type":"input"}
+turbo exit west -1 -2|{"entity_number":1,"name":"turbo-underground-belt","position":{"x":-0.5,"y":-1.5},"direction":6,"type":"output"}
+express splitter north 0 0|{"entity_number":1,"name":"express-splitter","position":{"x":1,"y":0.5},"direction":0}
+fast splitter south -1 -1|{"entity_number":1,"name":"fast-splitter","position":{"x":0,"y":-0.5},"direction":4}"#;
 
-#[test]
-fn one_part(rt: HostRuntime) -> Result<(), Fail> {
-    for (kind, tier, dir, x, y, words) in [
-        (
-            Kind::Belt,
-            Tier::Basic,
-            Dir::North,
-            0,
-            0,
-            ["transport-belt", "0.5", "0.5", "0"],
-        ),
-        (
-            Kind::Entrance,
-            Tier::Basic,
-            Dir::East,
-            0,
-            0,
-            ["underground-belt", "0.5", "0.5", "2,\"type\":\"input\""],
-        ),
-        (
-            Kind::Exit,
-            Tier::Turbo,
-            Dir::West,
-            -1,
-            -2,
-            [
-                "turbo-underground-belt",
-                "-0.5",
-                "-1.5",
-                "6,\"type\":\"output\"",
-            ],
-        ),
-        (
-            Kind::Splitter,
-            Tier::Express,
-            Dir::North,
-            0,
-            0,
-            ["express-splitter", "1", "0.5", "0"],
-        ),
-        (
-            Kind::Splitter,
-            Tier::Fast,
-            Dir::South,
-            -1,
-            -1,
-            ["fast-splitter", "0", "-0.5", "4"],
-        ),
-    ] {
-        let part = Part {
-            kind,
-            tier,
-            dir,
-            cell: Cell { x, y },
-        };
-        assert!(rt; is_written(rt.alloc(), part, words)?);
+/// Parts that are read back.
+const READ_BACK: &str = "fast splitter east 3 -4;basic belt north 0 0;turbo entrance south -7 12;\
+    express exit west 524287 -524288;turbo splitter north -1 9";
+
+/// The parts of these words, between which semicolons stand.
+fn parts_spelled(alloc: Global, words: &str) -> Result<Vec<Part>, AllocError> {
+    let mut parts = Vec::new(alloc);
+    for part in words.split(';') {
+        if !part.is_empty() {
+            parts.push(part_of(part))?;
+        }
     }
-    Ok(())
+    Ok(parts)
 }
 
-#[test]
-fn no_part(rt: HostRuntime) -> Result<(), Fail> {
-    let text = text_of(rt.alloc(), &[])?;
-    let front = "{\"blueprint\":{\"item\":\"blueprint\",\"entities\":[";
-    let wanted = format!(in rt.alloc(); "{front}],\"version\":281479271677952}}}}\n")?;
-    assert!(rt; text.as_slice() == wanted.as_bytes());
-    Ok(())
+/// Whether a row's parts are written as its entities.
+fn is_written(alloc: Global, row: &str) -> Result<bool, AllocError> {
+    let [parts, entities, ..] = fields(row, '|');
+    let parts = parts_spelled(alloc, parts)?;
+    let mut wanted = String::from_str(alloc, r#"{"blueprint":{"item":"blueprint","entities":["#)?;
+    wanted.push_str(entities)?;
+    wanted.push_str("],\"version\":281479271677952}}\n")?;
+    Ok(text_of(alloc, &parts)?.as_slice() == wanted.as_bytes())
 }
 
-/// A part of this kind and direction at this cell.
-const fn part(kind: Kind, tier: Tier, dir: Dir, x: i32, y: i32) -> Part {
-    Part {
-        kind,
-        tier,
-        dir,
-        cell: Cell { x, y },
+/// Whether the blueprint of parts is read as these parts, and a line feed alone stands behind it.
+fn is_read_back(alloc: Global, parts: &[Part]) -> Result<bool, AllocError> {
+    let text = text_of(alloc, parts)?;
+    let Ok((tree, used)) = read(alloc, &text) else {
+        return Ok(false);
+    };
+    match parts_of(alloc, &tree) {
+        Ok(found) => Ok(used + 1 == text.len() && found.as_slice() == parts),
+        Err(_) => Ok(false),
     }
 }
 
 #[test]
-fn what_is_written_is_read_back(rt: HostRuntime) -> Result<(), Fail> {
-    let parts = [
-        part(Kind::Splitter, Tier::Fast, Dir::East, 3, -4),
-        part(Kind::Belt, Tier::Basic, Dir::North, 0, 0),
-        part(Kind::Entrance, Tier::Turbo, Dir::South, -7, 12),
-        part(Kind::Exit, Tier::Express, Dir::West, 524287, -524288),
-        part(Kind::Splitter, Tier::Turbo, Dir::North, -1, 9),
-    ];
-    let text = text_of(rt.alloc(), &parts)?;
-    let (tree, used) = read(rt.alloc(), &text)?;
-    let found = parts_of(rt.alloc(), &tree).ok();
-    assert!(rt; used + 1 == text.len());
-    assert!(rt; found.is_some_and(|found| found.as_slice() == parts.as_slice()));
+fn blueprints(rt: HostRuntime) -> Result<(), Fail> {
+    for row in WRITTEN.lines() {
+        assert!(rt; is_written(rt.alloc(), row)?, "{row}");
+    }
+    let parts = parts_spelled(rt.alloc(), READ_BACK)?;
+    assert!(rt; parts.len() == 5 && is_read_back(rt.alloc(), &parts)?);
     Ok(())
 }

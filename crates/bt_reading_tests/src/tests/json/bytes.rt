@@ -1,101 +1,120 @@
 //! Every byte behind fronts of all kinds: where it goes on, where it is the bad one, and where the value
 //! has ended before it.
+use super::super::fields;
 use super::answer;
 use bt_json::JsonFault;
-use std::alloc::Global;
+use std::alloc::{AllocError, Global};
 use std::test::Fail;
 
+/// Fronts that are in a list or an object, and the bytes that go on behind them.
+const SETS: &[&str] = &[
+    "[[| \t\n\r[]{\"-0123456789tfn",
+    "[[1 | \t\n\r,]",
+    "[1,| \t\n\r[{\"-0123456789tfn",
+    "[{| \t\n\r\"}",
+    "{\"a\"| \t\n\r:",
+    "{\"a\" | \t\n\r:",
+    "{\"a\":| \t\n\r[{\"-0123456789tfn",
+    "[{\"a\":[]| \t\n\r,}",
+    "[{\"a\":1 | \t\n\r,}",
+    "{\"a\":1,| \t\n\r\"",
+    "[-|0123456789",
+    "[[-0| \t\n\r,].eE",
+    "[[0| \t\n\r,].eE",
+    "[[10| \t\n\r,].eE0123456789",
+    "[1.|0123456789",
+    "[[1.0| \t\n\r,]eE0123456789",
+    "[1e|+-0123456789",
+    "[1E+|0123456789",
+    "[0e-|0123456789",
+    "[[1e0| \t\n\r,]0123456789",
+    "[t|r",
+    "[tr|u",
+    "[tru|e",
+    "[[true| \t\n\r,]",
+    "[f|a",
+    "[fa|l",
+    "[fal|s",
+    "[fals|e",
+    "[n|u",
+    "[nu|l",
+    "[nul|l",
+    "[\"\\|\"\\/bfnrtu",
+    "[\"\\u|0123456789abcdefABCDEF",
+    "[\"\\ud|0123456789abcdefABCDEF",
+    "[\"\\udf|0123456789abcdefABCDEF",
+    "[\"\\udf8|0123456789abcdefABCDEF",
+];
+
+/// Two ranges of bytes, which may be one, and the front in a text behind which they go on, after UTF-8.
+const RANGES: &[&[u8]] = &[
+    b"\x20\x7F\xC2\xF4[\"",
+    b"\x80\xBF\x80\xBF[\"\xC2",
+    b"\x80\xBF\x80\xBF[\"\xDF",
+    b"\xA0\xBF\xA0\xBF[\"\xE0",
+    b"\x80\xBF\x80\xBF[\"\xE0\xA0",
+    b"\x80\xBF\x80\xBF[\"\xE1",
+    b"\x80\xBF\x80\xBF[\"\xEC",
+    b"\x80\x9F\x80\x9F[\"\xED",
+    b"\x80\xBF\x80\xBF[\"\xED\x9F",
+    b"\x80\xBF\x80\xBF[\"\xEE",
+    b"\x90\xBF\x90\xBF[\"\xF0",
+    b"\x80\xBF\x80\xBF[\"\xF0\x90",
+    b"\x80\xBF\x80\xBF[\"\xF0\x90\x80",
+    b"\x80\xBF\x80\xBF[\"\xF1",
+    b"\x80\xBF\x80\xBF[\"\xF3",
+    b"\x80\x8F\x80\x8F[\"\xF4",
+    b"\x80\xBF\x80\xBF[\"\xF4\x8F\xBF",
+];
+
 /// The answer to the front and the byte behind it.
-fn answer_behind(alloc: Global, front: &[u8], byte: u8) -> Result<Result<usize, JsonFault>, Fail> {
+fn answer_behind(
+    alloc: Global,
+    front: &[u8],
+    byte: u8,
+) -> Result<Result<usize, JsonFault>, AllocError> {
     let mut bytes = front.to_vec(alloc)?;
     bytes.push(byte)?;
     Ok(answer(alloc, &bytes))
 }
 
-/// The answer where the text ends behind a byte that goes on, or the byte is bad.
-fn at_the_byte(front: &[u8], goes_on: bool) -> Result<usize, JsonFault> {
+/// Whether the byte behind the front goes on, and the text is cut behind it, or it is the bad byte.
+fn is_at(alloc: Global, front: &[u8], byte: u8, goes_on: bool) -> Result<bool, AllocError> {
     let at = front.len().saturating_add(usize::from(goes_on));
-    Err(JsonFault::Json(at))
+    Ok(answer_behind(alloc, front, byte)? == Err(JsonFault::Json(at)))
 }
 
-/// Every byte is put behind a front that is in a list or an object: it goes on, and the text is cut
-/// behind it, or it is the bad byte.
+/// Whether the bytes of a row's set alone go on behind its front.
+fn is_set(alloc: Global, row: &str) -> Result<bool, AllocError> {
+    let [front, set, ..] = fields(row, '|');
+    let mut holds = true;
+    for byte in 0..=u8::MAX {
+        let goes_on = set.as_bytes().contains(&byte);
+        holds &= is_at(alloc, front.as_bytes(), byte, goes_on)?;
+    }
+    Ok(holds)
+}
+
+/// Whether the bytes of a row's ranges alone go on behind its front.
+fn is_range(alloc: Global, row: &[u8]) -> Result<bool, AllocError> {
+    let [low, top, other_low, other_top, front @ ..] = row else {
+        return Ok(false);
+    };
+    let mut holds = true;
+    for byte in 0..=u8::MAX {
+        let goes_on = *low <= byte && byte <= *top || *other_low <= byte && byte <= *other_top;
+        holds &= is_at(alloc, front, byte, goes_on)?;
+    }
+    Ok(holds)
+}
+
 #[test]
 fn bytes_that_go_on(rt: HostRuntime) -> Result<(), Fail> {
-    let alloc = rt.alloc();
-    let sets: [(&[u8], &[u8]); 36] = [
-        (b"[[", b" \t\n\r[]{\"-0123456789tfn"),
-        (b"[[1 ", b" \t\n\r,]"),
-        (b"[1,", b" \t\n\r[{\"-0123456789tfn"),
-        (b"[{", b" \t\n\r\"}"),
-        (b"{\"a\"", b" \t\n\r:"),
-        (b"{\"a\" ", b" \t\n\r:"),
-        (b"{\"a\":", b" \t\n\r[{\"-0123456789tfn"),
-        (b"[{\"a\":[]", b" \t\n\r,}"),
-        (b"[{\"a\":1 ", b" \t\n\r,}"),
-        (b"{\"a\":1,", b" \t\n\r\""),
-        (b"[-", b"0123456789"),
-        (b"[[-0", b" \t\n\r,].eE"),
-        (b"[[0", b" \t\n\r,].eE"),
-        (b"[[10", b" \t\n\r,].eE0123456789"),
-        (b"[1.", b"0123456789"),
-        (b"[[1.0", b" \t\n\r,]eE0123456789"),
-        (b"[1e", b"+-0123456789"),
-        (b"[1E+", b"0123456789"),
-        (b"[0e-", b"0123456789"),
-        (b"[[1e0", b" \t\n\r,]0123456789"),
-        (b"[t", b"r"),
-        (b"[tr", b"u"),
-        (b"[tru", b"e"),
-        (b"[[true", b" \t\n\r,]"),
-        (b"[f", b"a"),
-        (b"[fa", b"l"),
-        (b"[fal", b"s"),
-        (b"[fals", b"e"),
-        (b"[n", b"u"),
-        (b"[nu", b"l"),
-        (b"[nul", b"l"),
-        (b"[\"\\", b"\"\\/bfnrtu"),
-        (b"[\"\\u", b"0123456789abcdefABCDEF"),
-        (b"[\"\\ud", b"0123456789abcdefABCDEF"),
-        (b"[\"\\udf", b"0123456789abcdefABCDEF"),
-        (b"[\"\\udf8", b"0123456789abcdefABCDEF"),
-    ];
-    for (front, set) in sets {
-        for byte in 0..=u8::MAX {
-            let told = answer_behind(alloc, front, byte)?;
-            assert!(rt;
-                told == at_the_byte(front, set.contains(&byte)),
-                "{front:?} {byte}"
-            );
-        }
+    for row in SETS {
+        assert!(rt; is_set(rt.alloc(), row)?, "{row}");
     }
-    // The bytes of UTF-8.
-    let ranges: [(&[u8], &[(u8, u8)]); 17] = [
-        (b"[\"", &[(0x20, 0x7F), (0xC2, 0xF4)]),
-        (b"[\"\xC2", &[(0x80, 0xBF)]),
-        (b"[\"\xDF", &[(0x80, 0xBF)]),
-        (b"[\"\xE0", &[(0xA0, 0xBF)]),
-        (b"[\"\xE0\xA0", &[(0x80, 0xBF)]),
-        (b"[\"\xE1", &[(0x80, 0xBF)]),
-        (b"[\"\xEC", &[(0x80, 0xBF)]),
-        (b"[\"\xED", &[(0x80, 0x9F)]),
-        (b"[\"\xED\x9F", &[(0x80, 0xBF)]),
-        (b"[\"\xEE", &[(0x80, 0xBF)]),
-        (b"[\"\xF0", &[(0x90, 0xBF)]),
-        (b"[\"\xF0\x90", &[(0x80, 0xBF)]),
-        (b"[\"\xF0\x90\x80", &[(0x80, 0xBF)]),
-        (b"[\"\xF1", &[(0x80, 0xBF)]),
-        (b"[\"\xF3", &[(0x80, 0xBF)]),
-        (b"[\"\xF4", &[(0x80, 0x8F)]),
-        (b"[\"\xF4\x8F\xBF", &[(0x80, 0xBF)]),
-    ];
-    for (front, among) in ranges {
-        for byte in 0..=u8::MAX {
-            let goes_on = among.iter().any(|(low, top)| *low <= byte && byte <= *top);
-            let told = answer_behind(alloc, front, byte)?;
-            assert!(rt; told == at_the_byte(front, goes_on), "{front:?} {byte}");
-        }
+    for row in RANGES {
+        assert!(rt; is_range(rt.alloc(), row)?, "{row:?}");
     }
     Ok(())
 }

@@ -1,7 +1,7 @@
 //! Texts that are made: of many names, of many kinds of objects, and of as many levels as there may be.
 use super::answer;
 use bt_json::{JsonFault, MOST_LEVELS, Tree, read};
-use std::alloc::Global;
+use std::alloc::{AllocError, Global};
 use std::test::Fail;
 
 /// The member of that name of a list's last object, where it is a whole number.
@@ -31,7 +31,7 @@ fn objects_of_many_kinds(rt: HostRuntime) -> Result<(), Fail> {
 }
 
 /// An object of that many names, each the text of its member too, but for its closing brace.
-fn numbered(alloc: Global, count: u64) -> Result<String, Fail> {
+fn numbered(alloc: Global, count: u64) -> Result<String, AllocError> {
     let mut text = String::from_str(alloc, "{")?;
     for number in 0..count {
         let comma = if number == 0 { "" } else { "," };
@@ -48,6 +48,13 @@ fn has_text(member: Option<&Tree>, wanted: &str) -> bool {
     }
 }
 
+/// Whether an object has the name, with itself as its text, and can't have it twice; the front is all but its brace.
+fn is_kept(alloc: Global, tree: &Tree, front: &str, name: &str) -> Result<bool, AllocError> {
+    let twice = format!(in alloc; "{front}, \"{name}\"")?;
+    let wanted = Err(JsonFault::DuplicateKey(front.len().saturating_add(2)));
+    Ok(has_text(tree.member(name), name) && answer(alloc, twice.as_bytes()) == wanted)
+}
+
 #[test]
 fn many_names(rt: HostRuntime) -> Result<(), Fail> {
     let alloc = rt.alloc();
@@ -56,11 +63,7 @@ fn many_names(rt: HostRuntime) -> Result<(), Fail> {
         let (tree, _) = read(alloc, format!(in alloc; "{front}}}")?.as_bytes())?;
         for number in 0..count {
             let name = format!(in alloc; "{number}")?;
-            assert!(rt; has_text(tree.member(&name), &name), "{name} of {count}");
-            let twice = format!(in alloc; "{front}, \"{name}\"")?;
-            let told = answer(alloc, twice.as_bytes());
-            let wanted = Err(JsonFault::DuplicateKey(front.len().saturating_add(2)));
-            assert!(rt; told == wanted, "{name} of {count}");
+            assert!(rt; is_kept(alloc, &tree, &front, &name)?, "{name} of {count}");
         }
     }
     Ok(())
