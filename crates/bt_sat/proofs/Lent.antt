@@ -1,6 +1,6 @@
 -- The list of a literal, taken out of the lists and put back.
-use Rattle.std.proofs.Common.{◌≡◌, ◌≢◌, ℕ, ◌+◌, ◌-◌, ◌*◌, ◌<◌, inl, inr, arith, Bool, true, false, List, [], ◌∷◌, ◌++◌, length, length-append, get_or, map, set, sym, subst, refl, ap, ap₂, ◌∙◌, vec_len, Option, Some, None}
-use Rattle.std.specs.Prelude.{cond, slice_get}
+use Rattle.std.proofs.Common.{◌≡◌, ◌≢◌, ℕ, ◌+◌, ◌-◌, ◌<◌, inl, inr, arith, List, [], ◌∷◌, ◌++◌, length, length-append, get_or, map, set, sym, subst, ap, ◌∙◌, vec_len, Option, Some, None}
+use Rattle.std.specs.Prelude.{slice_get}
 use Rattle.std.specs.Global.{Vec}
 use Rattle.std.specs.List.{All}
 use Rattle.std.specs.Vec.{with_item}
@@ -16,70 +16,51 @@ use Rattle.bt_sat.specs.declared.watched.Visit.TheVariants as visit
 use Rattle.bt_sat.specs.inner.Assigning.{Assigns}
 use Rattle.bt_sat.specs.inner.Attending.{no_lit}
 use Rattle.bt_sat.specs.inner.AttendingIn.{AttendsIn}
+use Rattle.bt_sat.specs.inner.Codes.{code_of}
 use Rattle.bt_sat.specs.inner.Keeping.{kept_at, AreTrue, AreWatched, IsBlocked, IsWatchable}
 use Rattle.bt_sat.specs.inner.Loads.{AreEmptyLists}
 use Rattle.bt_sat.specs.inner.Propagating.{root_of, with_watches, Advances, GoesOn, Passes, Settles, Visiting}
 use Rattle.bt_sat.specs.inner.Truths.{IsTrueIn, IsFalseIn}
-use Rattle.bt_sat.specs.inner.Watchers.{lists_of, place_of, watchers, watches_of, with_list, ChangesOne, IsWithout, Resets, Unwatches, Watches}
+use Rattle.bt_sat.specs.inner.Watchers.{lists_of, watchers, watches_of, with_list, ChangesOne, IsWithout, Resets, Unwatches, Watches}
 use Rattle.bt_sat.specs.inner.WatchersParts.{WatchersParts}
 use Rattle.bt_sat.proofs.Advancing
 use Rattle.bt_sat.proofs.Advancing.{blocked_at, numbered_at, starts}
+use Rattle.bt_sat.proofs.Codes.{code_below, code_same}
 use Rattle.bt_sat.proofs.Keeping.{watchable_kept, watchable_left}
 use Rattle.bt_sat.proofs.Lists.{lit_or}
 use Rattle.bt_sat.proofs.Watches.{inside_numbers}
 
--- the list of a variable stands among so many
-pub place_below : (l : Lit) (vars size : ℕ) → l.var < vars → size ≡ 2 * vars → place_of l < size
-place_below l vars size below is = by_sign l.positive
-  where
-    by_sign : (b : Bool) → cond b (2 * l.var) (2 * l.var + 1) < size
-    by_sign true = omega (arith, below, is)
-    by_sign false = omega (arith, below, is)
-
--- different literals have different lists
-place_apart : (m l : Lit) → m ≢ l → place_of m ≢ place_of l
-place_apart m l differs same = differs (made m l (halves m.positive l.positive m.var l.var same).0 (halves m.positive l.positive m.var l.var same).1)
-  where
-    halves : (a b : Bool) (i j : ℕ) → cond a (2 * i) (2 * i + 1) ≡ cond b (2 * j) (2 * j + 1) → (i ≡ j) × (a ≡ b)
-    halves true true i j e = (omega (arith, e), refl)
-    halves false false i j e = (omega (arith, e), refl)
-    halves true false i j e = absurd (omega (arith, e))
-    halves false true i j e = absurd (omega (arith, e))
-
-    made : (a b : Lit) → a.var ≡ b.var → a.positive ≡ b.positive → a ≡ b
-    made a b var sign = let make : ℕ → Bool → Lit = λ v p. record { var = v; positive = p } in ap₂ make var sign
-
-with_here : (w : WatchersParts) (l : Lit) (list : List Watch) → place_of l < length w.lists → watches_of (with_list w l list) l ≡ list
-with_here w l list below = get_or-set_same w.lists (place_of l) list [] below
+with_here : (w : WatchersParts) (l : Lit) (list : List Watch) → code_of l < length w.lists → watches_of (with_list w l list) l ≡ list
+with_here w l list below = get_or-set_same w.lists (code_of l) list [] below
 
 with_there : (w : WatchersParts) (l m : Lit) (list : List Watch) → m ≢ l → watches_of (with_list w l list) m ≡ watches_of w m
-with_there w l m list differs = get_or-set_other w.lists (place_of l) (place_of m) list [] (place_apart m l differs)
+with_there w l m list differs = get_or-set_other w.lists (code_of l) (code_of m) list [] (λ e. differs (code_same m l e))
 
 -- another list in the place of one that was put there
 with_twice : (w : WatchersParts) (l : Lit) (one two : List Watch) → with_list (with_list w l one) l two ≡ with_list w l two
-with_twice w l one two = let make : List (List Watch) → WatchersParts = λ lists. record { lists = lists } in ap make (set-set w.lists (place_of l) one two)
+with_twice w l one two = let make : List (List Watch) → WatchersParts = λ lists. record { lists = lists } in ap make (set-set w.lists (code_of l) one two)
 
 -- a list that is put back
 with_own : (w : WatchersParts) (l : Lit) → with_list w l (watches_of w l) ≡ w
-with_own w l = let make : List (List Watch) → WatchersParts = λ lists. record { lists = lists } in ap make (set-get_or w.lists (place_of l) [])
+with_own w l = let make : List (List Watch) → WatchersParts = λ lists. record { lists = lists } in ap make (set-get_or w.lists (code_of l) [])
 
 changes : (w : WatchersParts) (l : Lit) (one two : List Watch) → ChangesOne (with_list w l one) (with_list w l two) l
 changes w l one two = record {
-  size = length-set w.lists (place_of l) two ∙ sym (length-set w.lists (place_of l) one);
+  size = length-set w.lists (code_of l) two ∙ sym (length-set w.lists (code_of l) one);
   others = λ m differs. with_there w l m two differs ∙ sym (with_there w l m one differs);
 }
 
 -- one more clause is on a literal's list
-pub watches_list : (w w' : WatchersParts) (l : Lit) (watch : Watch) → place_of l < length w.lists → w' ≡ with_list w l (watches_of w l ++ watch ∷ []) → Watches w w' l watch
+pub watches_list : (w w' : WatchersParts) (l : Lit) (watch : Watch) → code_of l < length w.lists → w' ≡ with_list w l (watches_of w l ++ watch ∷ []) → Watches w w' l watch
 watches_list w w' l watch below is =
     let list = watches_of w l ++ watch ∷ [] in
     subst (λ v. Watches w v l watch) (sym is) (record {
       added = with_here w l list below;
-      one = record { size = length-set w.lists (place_of l) list; others = λ m differs. with_there w l m list differs };
+      one = record { size = length-set w.lists (code_of l) list; others = λ m differs. with_there w l m list differs };
     })
 
 -- the vector that stands where a literal's list does is another now
-pub put_at : (lists : Vec (Vec Watch)) (l : Lit) (place : ℕ) (now : Vec Watch) → place ≡ place_of l → lists_of (with_item lists place now) ≡ set (lists_of lists) (place_of l) now.items
+pub put_at : (lists : Vec (Vec Watch)) (l : Lit) (place : ℕ) (now : Vec Watch) → place ≡ code_of l → lists_of (with_item lists place now) ≡ set (lists_of lists) (code_of l) now.items
 put_at lists l place now at = map-set (λ (v : Vec Watch). v.items) lists.items place now ∙ ap (λ n. set (lists_of lists) n now.items) at
 
 -- one more list is empty
@@ -93,39 +74,39 @@ empty_more count was now list are is empty =
     }
 
 -- or it has one more clause
-pub pushed_at : (lists : Vec (Vec Watch)) (w : WatchersParts) (l : Lit) (place : ℕ) (watch : Watch) (was now : Vec Watch) → record { lists = lists_of lists } ≡ w → place_of l < length w.lists
-    → place ≡ place_of l → was ≡ get_or lists.items place was → now.items ≡ was.items ++ watch ∷ [] → Watches w (record { lists = lists_of (with_item lists place now) }) l watch
+pub pushed_at : (lists : Vec (Vec Watch)) (w : WatchersParts) (l : Lit) (place : ℕ) (watch : Watch) (was now : Vec Watch) → record { lists = lists_of lists } ≡ w → code_of l < length w.lists
+    → place ≡ code_of l → was ≡ get_or lists.items place was → now.items ≡ was.items ++ watch ∷ [] → Watches w (record { lists = lists_of (with_item lists place now) }) l watch
 pushed_at lists w l place watch was now view below' at stood is =
-    let below : place_of l < length (lists_of lists) = subst (λ (v : WatchersParts). place_of l < length v.lists) (sym view) below' in
+    let below : code_of l < length (lists_of lists) = subst (λ (v : WatchersParts). code_of l < length v.lists) (sym view) below' in
     let make : List (List Watch) → WatchersParts = λ ls. record { lists = ls } in
-    let inside : place_of l < length lists.items = subst (λ n. place_of l < n) (length-map lists.items (λ (v : Vec Watch). v.items)) below in
-    let stands : was ≡ get_or lists.items (place_of l) was = subst (λ n. was ≡ get_or lists.items n was) at stood in
-    let own : get_or (lists_of lists) (place_of l) [] ≡ was.items = get_or-map (λ (v : Vec Watch). v.items) lists.items (place_of l) was [] inside ∙ ap (λ (v : Vec Watch). v.items) (sym stands) in
+    let inside : code_of l < length lists.items = subst (λ n. code_of l < n) (length-map lists.items (λ (v : Vec Watch). v.items)) below in
+    let stands : was ≡ get_or lists.items (code_of l) was = subst (λ n. was ≡ get_or lists.items n was) at stood in
+    let own : get_or (lists_of lists) (code_of l) [] ≡ was.items = get_or-map (λ (v : Vec Watch). v.items) lists.items (code_of l) was [] inside ∙ ap (λ (v : Vec Watch). v.items) (sym stands) in
     subst (λ v. Watches v (make (lists_of (with_item lists place now))) l watch) view
     (watches_list (make (lists_of lists)) (make (lists_of (with_item lists place now))) l watch below
-    (ap make (put_at lists l place now at ∙ ap (set (lists_of lists) (place_of l)) (is ∙ ap (λ ws. ws ++ watch ∷ []) (sym own)))))
+    (ap make (put_at lists l place now at ∙ ap (set (lists_of lists) (code_of l)) (is ∙ ap (λ ws. ws ++ watch ∷ []) (sym own)))))
 
 -- where a list was taken out, the others are as if it stood there
-resets_out : (w : WatchersParts) (l : Lit) (list : List Watch) (place : ℕ) (watch : Watch) → place_of l < length w.lists → Resets (with_list w l list) (with_list w l (set list place watch)) l place watch
+resets_out : (w : WatchersParts) (l : Lit) (list : List Watch) (place : ℕ) (watch : Watch) → code_of l < length w.lists → Resets (with_list w l list) (with_list w l (set list place watch)) l place watch
 resets_out w l list place watch below = record {
   reset = with_here w l (set list place watch) below ∙ ap (λ ws. set ws place watch) (sym (with_here w l list below));
   one = changes w l list (set list place watch);
 }
 
-unwatches_out : (w : WatchersParts) (l : Lit) (list less : List Watch) (place : ℕ) → place_of l < length w.lists → IsWithout place list less → Unwatches (with_list w l list) (with_list w l less) l place
+unwatches_out : (w : WatchersParts) (l : Lit) (list less : List Watch) (place : ℕ) → code_of l < length w.lists → IsWithout place list less → Unwatches (with_list w l list) (with_list w l less) l place
 unwatches_out w l list less place below without = record {
   without = subst (λ ws. IsWithout place ws (watches_of (with_list w l less) l)) (sym (with_here w l list below)) (subst (IsWithout place list) (sym (with_here w l less below)) without);
   one = changes w l list less;
 }
 
-watches_out : (w w' : WatchersParts) (gone l : Lit) (list : List Watch) (watch : Watch) → place_of gone < length w.lists → l ≢ gone → Watches w w' l watch
+watches_out : (w w' : WatchersParts) (gone l : Lit) (list : List Watch) (watch : Watch) → code_of gone < length w.lists → l ≢ gone → Watches w w' l watch
     → Watches (with_list w gone list) (with_list w' gone list) l watch
 watches_out w w' gone l list watch below apart one =
-    let below' : place_of gone < length w'.lists = subst (λ n. place_of gone < n) (sym one.one.size) below in
+    let below' : code_of gone < length w'.lists = subst (λ n. code_of gone < n) (sym one.one.size) below in
     record {
       added = with_there w' gone l list apart ∙ one.added ∙ ap (λ ws. ws ++ watch ∷ []) (sym (with_there w gone l list apart));
       one = record {
-        size = length-set w'.lists (place_of gone) list ∙ one.one.size ∙ sym (length-set w.lists (place_of gone) list);
+        size = length-set w'.lists (code_of gone) list ∙ one.one.size ∙ sym (length-set w.lists (code_of gone) list);
         others = λ m differs. elim (lit_or m gone) [
           | inl same ↦
               ap (watches_of (with_list w' gone list)) same ∙ with_here w' gone list below' ∙ sym (with_here w gone list below)
@@ -152,13 +133,13 @@ without_of place was now lost =
 
 -- a search from whose lists one was taken out
 pub standing : (s : Search) (gone : Lit) (list : List Watch) → AreWatched (root_of s) (length s.assignment.values) s.clauses (with_list s.watchers gone list) → gone.var < length s.assignment.values
-    → place_of gone < length s.watchers.lists
+    → code_of gone < length s.watchers.lists
 standing s gone list watched variable =
-    place_below gone (length s.assignment.values) (length s.watchers.lists) variable (sym (length-set s.watchers.lists (place_of gone) list) ∙ watched.lists)
+    code_below gone (length s.assignment.values) (length s.watchers.lists) variable (sym (length-set s.watchers.lists (code_of gone) list) ∙ watched.lists)
 
 module _ (s : Search) (gone : Lit) (list : List Watch) (place : ℕ) (watch : Watch) (watched : AreWatched (root_of s) (length s.assignment.values) s.clauses (with_list s.watchers gone list))
     (variable : gone.var < length s.assignment.values) (inside : place < length list) (at : watch ≡ get_or list place watch) where
-  stands : place_of gone < length s.watchers.lists
+  stands : code_of gone < length s.watchers.lists
   stands = standing s gone list watched variable
 
   inside_out : place < length (watches_of (with_list s.watchers gone list) gone)
@@ -203,10 +184,10 @@ module _ (s : Search) (gone : Lit) (list : List Watch) (place : ℕ) (watch : Wa
         let good = watchable_left (length s.assignment.values) s.assignment.values gone (kept_at s.clauses watch.id) visits.clause l watchable visits.attends.0 visits.attends.2 in
         subst (λ (m : Lit). m.var < length s.assignment.values) visits.attends.2.stands (good.below 1 no_lit (omega (arith, good.two)))
 
-    pub moved_stands : (l other : Lit) → AttendsIn s.assignment.values gone watch.id s.clauses clauses (visit.Moves l other) → place_of l < length s.watchers.lists
+    pub moved_stands : (l other : Lit) → AttendsIn s.assignment.values gone watch.id s.clauses clauses (visit.Moves l other) → code_of l < length s.watchers.lists
     moved_stands l other visits =
-        place_below l (length s.assignment.values) (length s.watchers.lists) (moved_below l other visits)
-        (sym (length-set s.watchers.lists (place_of gone) list) ∙ watched.lists)
+        code_below l (length s.assignment.values) (length s.watchers.lists) (moved_below l other visits)
+        (sym (length-set s.watchers.lists (code_of gone) list) ∙ watched.lists)
 
     -- and so is one that is made true
     pub forced_below : (l : Lit) → AttendsIn s.assignment.values gone watch.id s.clauses clauses (visit.Forces l) → l.var < length s.assignment.values
@@ -240,7 +221,7 @@ module _ (s : Search) (gone : Lit) (list : List Watch) (place : ℕ) (watch : Wa
         let apart : l ≢ gone = λ e. visits.attends.2.not_false (subst (IsFalseIn s.assignment.values) (sym e) false_gone) in
         Advancing.leaves (with_watches s gone list) gone place watch.id clauses id_below watchable numbers_inside numbered l other (with_list w gone list) (with_list w gone less) truths visits false_gone
         (watches_out s.watchers w gone l list (record { id = watch.id; blocker = other }) stands apart one)
-        (unwatches_out w gone list less place (subst (λ n. place_of gone < n) (sym one.one.size) stands) without)
+        (unwatches_out w gone list less place (subst (λ n. code_of gone < n) (sym one.one.size) stands) without)
 
     pub forced : (l : Lit) (now : Assignment) (reason : Option ℕ) → AreTrue s.assignment.values s.assignment.trail.items → reason ≡ slice_get s.numbers.items watch.id
         → AttendsIn s.assignment.values gone watch.id s.clauses clauses (visit.Forces l) → Assigns s.assignment now l reason
@@ -276,7 +257,7 @@ whole_after gone old new None watched truths false_gone settles = (settles.1 [] 
 -- so the list has its place still
 pub standing_after : (old new : Search) (gone : Lit) (list : List Watch) (failed : Option ℕ) → AreWatched (root_of old) (length old.assignment.values) old.clauses old.watchers
     → AreTrue old.assignment.values old.assignment.trail.items → IsFalseIn old.assignment.values gone → gone.var < length old.assignment.values → Settles gone old (with_watches new gone list) failed
-    → place_of gone < length new.watchers.lists
+    → code_of gone < length new.watchers.lists
 standing_after old new gone list failed watched truths false_gone variable settles =
     standing new gone list (whole_after gone old (with_watches new gone list) failed watched truths false_gone settles)
     (subst (λ n. gone.var < n) (sym (goes_of gone old (with_watches new gone list) failed settles).variables) variable)

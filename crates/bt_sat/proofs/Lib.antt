@@ -6,6 +6,7 @@ pub mod Asserted
 pub mod Attended
 pub mod Back
 pub mod Chosen
+pub mod Codes
 pub mod Conflicting
 pub mod Counting
 pub mod Cutting

@@ -13,6 +13,7 @@ use Rattle.bt_log.specs.Units.{opposite}
 use Rattle.bt_log.specs.Validity.{clause_at}
 use Rattle.bt_sat.specs.declared.assignment.Assignment.{Assignment}
 use Rattle.bt_sat.specs.declared.search.Search.{Search}
+use Rattle.bt_sat.specs.inner.Codes.{code_of}
 use Rattle.bt_sat.specs.inner.Assigning.{Assigns}
 use Rattle.bt_sat.specs.inner.Attending.{no_lit, first, second}
 use Rattle.bt_sat.specs.inner.Keeping.{kept_at, IsBlocked, AreTrue, IsAtRest, IsWatchable}
@@ -21,7 +22,7 @@ use Rattle.bt_sat.specs.inner.Loads.{AreUnwatched, IsEmptySearch, IsOther, ArePa
 use Rattle.bt_sat.specs.inner.Propagating.{IsWhole, Keeps}
 use Rattle.bt_sat.specs.inner.Reasons.{AreSame, lit_at, IsReason, AreReasons}
 use Rattle.bt_sat.specs.inner.Truths.{IsTrueIn, IsFalseIn}
-use Rattle.bt_sat.specs.inner.Watchers.{place_of, watches_of}
+use Rattle.bt_sat.specs.inner.Watchers.{watches_of}
 use Rattle.bt_sat.specs.inner.WatchersParts.{WatchersParts}
 use Rattle.bt_sat.proofs.Adopted.{with_assignment, held_longer, held_more, numbered_kept, ordered_longer}
 use Rattle.bt_sat.proofs.Back.{take_all_of}
@@ -36,7 +37,7 @@ at_same : {X : Type 0} (d : X) (xs : List X) (k : ℕ) → All (λ x. x ≡ d) x
 at_same d xs k same = elim (lt_or k (length xs)) [ inl small ↦ same k d small | inr none ↦ past xs k d none ]
 
 none_watch : (vars : ℕ) (w : WatchersParts) (l : Lit) → AreUnwatched vars w → watches_of w l ≡ []
-none_watch vars w l are = at_same [] w.lists (place_of l) are.empty
+none_watch vars w l are = at_same [] w.lists (code_of l) are.empty
 
 nothing : {X : Type 0} (P : X → Type 0) (xs : List X) → xs ≡ [] → All P xs
 nothing P xs none k d small = absurd (omega (arith, small, ap length none))

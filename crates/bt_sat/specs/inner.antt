@@ -6,6 +6,7 @@ pub mod Assigning
 pub mod Attending
 pub mod AttendingIn
 pub mod Choices
+pub mod Codes
 pub mod Hunting
 pub mod Keeping
 pub mod Kernels

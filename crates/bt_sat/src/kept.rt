@@ -56,7 +56,7 @@ impl PackedId {
 }
 
 /// A clause that watches a literal. While another literal of it, the blocking one, is true, the clause isn't
-/// looked at. It takes twelve bytes, since propagation waits for memory.
+/// looked at. It takes eight bytes, since propagation waits for memory.
 #[derive(Clone, Copy)]
 pub struct Watch {
     pub id: PackedId,

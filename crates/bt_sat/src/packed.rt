@@ -1,5 +1,6 @@
-//! Literals in half the room, as they are kept for propagation.
-ghost use Rattle.std.specs.Prelude.{◌≡◌, ◌<◌, ◌↔◌, length, IfOk, IsTrue};
+//! Literals in a quarter of the room, as they are kept for propagation.
+ghost use Rattle.std.specs.Prelude.{◌≡◌, ◌<◌, ◌^◌, ◌↔◌, length, IfOk, IsTrue};
+ghost use Rattle.bt_sat.specs.inner.Codes.{code_of};
 ghost use Rattle.bt_sat.specs.inner.Truths.{IsTrueIn, IsFalseIn};
 
 use crate::truth::{Values, is_false, is_true};
@@ -7,21 +8,34 @@ use bt_cnf::Lit;
 use std::alloc::{AllocError, Global};
 use std::marker::Model;
 
-/// A literal in eight bytes.
-#[derive(Clone, Copy, PartialEq, Eq)]
+/// A literal in four bytes, as one number.
+#[derive(Clone, Copy)]
 pub struct Packed {
-    place: u32,
-    positive: bool,
+    code: u32,
 }
 
 impl Model for Packed {
     ghost use Rattle.bt_cnf.specs.declared.literal.Lit.{Lit};
+    ghost use Rattle.bt_sat.specs.inner.Codes.{code_back, code_of, lit_of};
 
     ghost Value = { Lit };
 
-    ghost view = { λ p. record { var = p.place; positive = p.positive } };
+    ghost view = { λ p. lit_of p.code };
 
-    ghost inverse = { λ l. record { place = l.var; positive = l.positive } };
+    ghost inverse = { λ l. record { code = code_of l } };
+
+    ghost inverse_ok = { λ p h i. record { code = code_back p.code i } };
+}
+
+/// Variables with numbers below this one can be packed.
+const LIMIT: usize = 1 << 31;
+
+/// The number of a literal: twice its variable's, and one more for the negation.
+fn code(place: u32, positive: bool) -> u32
+    requires { place < 2 ^ 31 }
+    ensures { result ≡ code_of (record { var = place; positive = positive }) }
+{
+    if positive { 2 * place } else { 2 * place + 1 }
 }
 
 impl Packed {
@@ -29,13 +43,13 @@ impl Packed {
     pub fn pack(lit: &Lit) -> Result<Packed, AllocError>
         ensures { IfOk result (λ packed. packed ≡ lit.now) }
     {
-        match u32::try_from(lit.var.place()) {
-            Ok(place) => Ok(Packed {
-                place,
-                positive: lit.positive,
-            }),
-            Err(_) => Err(AllocError),
+        let place = lit.var.place();
+        if place >= LIMIT {
+            return Err(AllocError);
         }
+        Ok(Packed {
+            code: code(place as u32, lit.positive),
+        })
     }
 
     /// The same literal.
@@ -44,8 +58,8 @@ impl Packed {
         ensures { result ≡ self.now }
     {
         Lit {
-            var: values.id_of(self.place as usize),
-            positive: self.positive,
+            var: values.id_of(self.place()),
+            positive: self.is_positive(),
         }
     }
 
@@ -53,14 +67,35 @@ impl Packed {
     pub fn place(&self) -> usize
         ensures { result ≡ self.now.var }
     {
-        self.place as usize
+        (self.code / 2) as usize
     }
 
-    /// Whether it is this literal.
-    pub fn is(&self, lit: &Lit) -> bool
+    /// Whether it is positive.
+    fn is_positive(&self) -> bool
+        ensures { result ≡ self.now.positive }
+    {
+        self.code % 2 == 0
+    }
+
+    /// Its number among the literals.
+    pub fn number(&self) -> usize
+        ensures { result ≡ code_of self.now }
+    {
+        self.code as usize
+    }
+
+    /// Whether it is the same as another.
+    pub fn is(&self, other: &Packed) -> bool
+        ensures { IsTrue result ↔ (self.now ≡ other.now) }
+    {
+        self.code == other.code
+    }
+
+    /// Whether it stands for this literal.
+    pub fn stands_for(&self, lit: &Lit) -> bool
         ensures { IsTrue result ↔ (self.now ≡ lit.now) }
     {
-        self.place as usize == lit.var.place() && self.positive == lit.positive
+        self.place() == lit.var.place() && self.is_positive() == lit.positive
     }
 
     /// Whether it is true.

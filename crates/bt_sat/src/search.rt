@@ -41,7 +41,7 @@ pub enum Attended {
 }
 
 /// Visits a clause where a literal has become false.
-fn attend_in(clauses: &mut Kept, id: PackedId, gone: &Lit, values: &Values) -> Visit
+fn attend_in(clauses: &mut Kept, id: PackedId, gone: &Packed, values: &Values) -> Visit
     requires id { id < length clauses.old }
     requires watchable { IsWatchable (length values.now) (kept_at clauses.old id) }
     requires gone { IsFalseIn values.now gone.now }
@@ -73,7 +73,7 @@ fn is_at(trail: &[Lit], place: usize, lit: &Packed) -> bool
     ensures { IsTrue result → slice_get trail.now place ≡ Some lit.now }
 {
     match trail.get(place) {
-        Some(other) => lit.is(other),
+        Some(other) => lit.stands_for(other),
         None => false,
     }
 }
@@ -96,7 +96,7 @@ fn pass(search: &Search, list: &mut Vec<Watch>, place: usize, blocker: &Packed) 
 /// Where its blocking literal is true, the clause isn't looked at.
 pub fn attend_at(
     search: &mut Search,
-    gone: &Lit,
+    gone: &Packed,
     list: &mut Vec<Watch>,
     place: usize,
 ) -> Result<Attended, AllocError>
@@ -124,7 +124,6 @@ pub fn attend_at(
             Ok(Attended::Stays)
         }
         Visit::Moves(lit, blocker) => {
-            let lit = lit.unpack(&search.assignment.values);
             search.watchers.watch(&lit, Watch { id, blocker })?;
             let _ = list.swap_remove(place);
             Ok(Attended::Leaves)
@@ -143,7 +142,7 @@ pub fn attend_at(
 /// clause whose literals are all false, where there is one.
 fn settle_list(
     search: &mut Search,
-    gone: &Lit,
+    gone: &Packed,
     list: &mut Vec<Watch>,
 ) -> Result<Option<PackedId>, AllocError>
     requires watched { AreWatched (root_of search.old) (length search.old.assignment.values)
@@ -168,7 +167,7 @@ fn settle_list(
 /// Visits all clauses that watch a literal that is false. Tells the clause whose literals are all false,
 /// where there is one. The literal's list is taken out meanwhile, since no clause comes to watch a literal
 /// that is false; so it is walked without a look at the others.
-pub fn settle(search: &mut Search, gone: &Lit) -> Result<Option<PackedId>, AllocError>
+pub fn settle(search: &mut Search, gone: &Packed) -> Result<Option<PackedId>, AllocError>
     requires watched { AreWatched (root_of search.old) (length search.old.assignment.values)
         search.old.clauses search.old.watchers }
     requires truths { AreTrue search.old.assignment.values search.old.assignment.trail.items }
@@ -192,7 +191,7 @@ pub fn propagate(search: &mut Search, settled: usize) -> Result<Option<PackedId>
 {
     let mut head = settled;
     while head < search.assignment.trail.len() {
-        let gone = negation(&search.assignment.trail[head]);
+        let gone = Packed::pack(&negation(&search.assignment.trail[head]))?;
         if let Some(id) = settle(search, &gone)? {
             return Ok(Some(id));
         }
@@ -201,31 +200,24 @@ pub fn propagate(search: &mut Search, settled: usize) -> Result<Option<PackedId>
     Ok(None)
 }
 
-/// Keeps the clause with a number, whose literals are packed too.
-fn keep_packed(
-    search: &mut Search,
-    lits: &[Lit],
-    packed: &[Packed],
-    number: usize,
-) -> Result<(), AllocError>
+/// Keeps the clause with a number, whose literals are packed.
+fn keep_packed(search: &mut Search, lits: &[Packed], number: usize) -> Result<(), AllocError>
     requires watched { AreWatched (root_of search.old) (length search.old.assignment.values)
         search.old.clauses search.old.watchers }
     requires watchable { IsWatchable (length search.old.assignment.values) lits.now }
-    requires same { packed.now ≡ lits.now }
     ensures { OnOk result (Keeps lits.now number search.old search.new) }
 {
-    let added = search.clauses.add_slice(packed)?;
+    let added = search.clauses.add_slice(lits)?;
     let id = PackedId::pack(added)?;
+    let first = lits[0];
+    let second = lits[1];
     let by_first = Watch {
         id,
-        blocker: packed[1],
+        blocker: second,
     };
-    let by_second = Watch {
-        id,
-        blocker: packed[0],
-    };
-    search.watchers.watch(&lits[0], by_first)?;
-    search.watchers.watch(&lits[1], by_second)?;
+    let by_second = Watch { id, blocker: first };
+    search.watchers.watch(&first, by_first)?;
+    search.watchers.watch(&second, by_second)?;
     search.numbers.push(number)?;
     Ok(())
 }
@@ -238,5 +230,5 @@ pub fn keep(search: &mut Search, lits: &[Lit], number: usize) -> Result<(), Allo
     ensures { OnOk result (Keeps lits.now number search.old search.new) }
 {
     let packed = pack_all(search.numbers.allocator().clone()?, lits)?;
-    keep_packed(search, lits, &packed, number)
+    keep_packed(search, &packed, number)
 }

@@ -8,7 +8,6 @@ ghost use Rattle.bt_sat.specs.inner.Visits.{BringsSecond, CanWatch, ReplacesSeco
 
 use crate::packed::Packed;
 use crate::truth::Values;
-use bt_cnf::Lit;
 
 /// What a clause does where a literal has become false.
 #[derive(Clone, Copy)]
@@ -27,7 +26,7 @@ pub enum Visit {
 }
 
 /// What the clause does where a literal has become false. Where it watches it still, it stands second then.
-pub fn attend(lits: &mut [Packed], gone: &Lit, values: &Values) -> Visit
+pub fn attend(lits: &mut [Packed], gone: &Packed, values: &Values) -> Visit
     requires two { 2 ≤ length lits.old }
     requires variables { LitsBelow (length values.now) lits.old }
     requires gone { IsFalseIn values.now gone.now }
@@ -41,7 +40,7 @@ pub fn attend(lits: &mut [Packed], gone: &Lit, values: &Values) -> Visit
 }
 
 /// Puts a literal into the second place, in exchange, where it stands in the first.
-fn bring_second(lits: &mut [Packed], gone: &Lit)
+fn bring_second(lits: &mut [Packed], gone: &Packed)
     requires { 2 ≤ length lits.old }
     ensures { BringsSecond gone.now lits.old lits.new }
 {
@@ -91,5 +90,5 @@ fn can_watch(values: &Values, first: &Packed, lit: &Packed) -> bool
     requires { lit.now.var < length values.now }
     ensures { CanWatch values.now first.now lit.now result }
 {
-    !lit.is_false(values) && *lit != *first
+    !lit.is_false(values) && !lit.is(first)
 }

@@ -1,9 +1,11 @@
 //! For each literal, the kept clauses that watch it.
 ghost use Rattle.std.specs.Prelude.{◌≡◌, ◌<◌, ◌*◌, length, IfOk, OnOk};
+ghost use Rattle.bt_sat.specs.inner.Codes.{code_of};
 ghost use Rattle.bt_sat.specs.inner.Loads.{AreEmptyLists, AreUnwatched};
-ghost use Rattle.bt_sat.specs.inner.Watchers.{lists_of, place_of, watches_of, with_list, Watches};
+ghost use Rattle.bt_sat.specs.inner.Watchers.{lists_of, watches_of, with_list, Watches};
 
 use crate::kept::Watch;
+use crate::packed::Packed;
 use bt_cnf::{Lit, Var};
 use std::alloc::{AllocError, Global};
 use std::marker::Model;
@@ -77,18 +79,6 @@ fn count_at(counts: &[usize], place: usize) -> usize {
     counts.get(place).copied().unwrap_or(0)
 }
 
-/// Where a literal's list stands.
-fn place_in(lists: &[Vec<Watch>], lit: &Lit) -> usize
-    requires { place_of lit.now < length lists.now }
-    ensures { result ≡ place_of lit.now }
-{
-    if lit.positive {
-        2 * lit.var.place()
-    } else {
-        2 * lit.var.place() + 1
-    }
-}
-
 impl Watchers {
     /// Lists for so many variables, whose literals no clause watches yet.
     pub fn new(alloc: Global, vars: usize, counts: &Counts) -> Result<Watchers, AllocError>
@@ -100,22 +90,20 @@ impl Watchers {
     }
 
     /// Lets a clause watch a literal.
-    pub fn watch(&mut self, lit: &Lit, watch: Watch) -> Result<(), AllocError>
-        requires { place_of lit.now < length self.old.lists }
+    pub fn watch(&mut self, lit: &Packed, watch: Watch) -> Result<(), AllocError>
+        requires { code_of lit.now < length self.old.lists }
         ensures { OnOk result (Watches self.old self.new lit.now watch) }
     {
-        let place = place_in(&self.lists, lit);
-        self.lists[place].push(watch)?;
+        self.lists[lit.number()].push(watch)?;
         Ok(())
     }
 
     /// Puts a list in the place of a literal's list, and gives that one.
-    pub fn replace(&mut self, lit: &Lit, list: Vec<Watch>) -> Vec<Watch>
-        requires { place_of lit.now < length self.old.lists }
+    pub fn replace(&mut self, lit: &Packed, list: Vec<Watch>) -> Vec<Watch>
+        requires { code_of lit.now < length self.old.lists }
         ensures taken { result.items ≡ watches_of self.old lit.now }
         ensures put { self.new ≡ with_list self.old lit.now list.items }
     {
-        let place = place_in(&self.lists, lit);
-        replace(&mut self.lists[place], list)
+        replace(&mut self.lists[lit.number()], list)
     }
 }

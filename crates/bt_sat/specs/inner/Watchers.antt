@@ -1,21 +1,18 @@
 -- For each literal, the clauses that watch it.
-use Rattle.std.specs.Prelude.{◌≡◌, ◌≢◌, ◌+◌, ◌-◌, ◌*◌, ◌<◌, ℕ, ◌++◌, ◌∷◌, [], List, length, cond, map, slice_index_or, slice_set}
+use Rattle.std.specs.Prelude.{◌≡◌, ◌≢◌, ◌+◌, ◌-◌, ◌<◌, ℕ, ◌++◌, ◌∷◌, [], List, length, map, slice_index_or, slice_set}
 use Rattle.std.specs.Global.{Vec}
 use Rattle.bt_cnf.specs.declared.literal.Lit.{Lit}
 use Rattle.bt_sat.specs.declared.kept.Watch.{Watch}
+use Rattle.bt_sat.specs.inner.Codes.{code_of}
 use Rattle.bt_sat.specs.inner.WatchersParts.{WatchersParts}
 
 -- the lists of clauses that vectors have
 abbrev pub lists_of : Vec (Vec Watch) → List (List Watch)
 lists_of vectors = map (λ (v : Vec Watch). v.items) vectors.items
 
--- where a literal's list stands
-abbrev pub place_of : Lit → ℕ
-place_of l = cond l.positive (2 * l.var) (2 * l.var + 1)
-
--- the list of a literal
+-- the list of a literal, which stands at the literal's number
 abbrev pub watches_of : WatchersParts → Lit → List Watch
-watches_of w l = slice_index_or w.lists (place_of l) []
+watches_of w l = slice_index_or w.lists (code_of l) []
 
 -- the clauses that watch a literal
 abbrev pub watchers : WatchersParts → Lit → List ℕ
@@ -23,7 +20,7 @@ watchers w l = map (λ (watch : Watch). watch.id) (watches_of w l)
 
 -- the literal has this list, and the other lists stay
 abbrev pub with_list : WatchersParts → Lit → List Watch → WatchersParts
-with_list w l list = record { lists = slice_set w.lists (place_of l) list }
+with_list w l list = record { lists = slice_set w.lists (code_of l) list }
 
 -- a list lost what stood at a place, where the last item stands now
 pub record IsWithout {X : Type 0} (place : ℕ) (old new : List X) : Type 0 where

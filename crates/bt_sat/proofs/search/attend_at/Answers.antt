@@ -2,7 +2,6 @@ use Rattle.std.proofs.Common.{◌<◌, arith, length, ap, refl, subst, sym, ◌�
 use Rattle.std.specs.Prelude.{slice_get}
 use Rattle.bt_cnf.specs.declared.literal.Lit.{Lit}
 use Rattle.bt_sat.specs.inner.Assigning.{Assigns}
-use Rattle.bt_sat.specs.inner.Watchers.{place_of, Watches}
 use Rattle.bt_sat.proofs.Lent
 use Rattle.bt_sat.proofs.Lent.{without_of}
 use Rattle.bt_sat.proofs.search.attend_at.Goals as goal
@@ -21,25 +20,19 @@ attend_in-requires-clause-id c = Lent.id_below c.args.search.now c.args.gone.now
 pub attend_in-requires-clause-watchable : goal.attend_in-requires-clause-watchable
 attend_in-requires-clause-watchable c = Lent.watchable c.args.search.now c.args.gone.now c.args.list.now.items c.args.place c.index.result.now c.requires.watched c.requires.variable (omega (arith, c.requires.place, c.args.list.now.ok.0)) c.index.ensures
 
-pub unpack-lit-requires : goal.unpack-lit-requires
-unpack-lit-requires c =
-    Lent.moved_below c.args.search.now c.args.gone.now c.args.list.now.items c.args.place c.index.result.now c.requires.watched c.requires.variable (omega (arith, c.requires.place, c.args.list.now.ok.0)) c.index.ensures
-    c.attend_in.new.clauses c.in-Moves.lit c.in-Moves.blocker c.in-Moves.ensures
-
 pub watch-requires : goal.watch-requires
 watch-requires c =
-    subst (λ l. place_of l < length c.args.search.now.watchers.lists) (sym c.unpack-lit.ensures)
-    (Lent.moved_stands c.args.search.now c.args.gone.now c.args.list.now.items c.args.place c.index.result.now c.requires.watched c.requires.variable (omega (arith, c.requires.place, c.args.list.now.ok.0)) c.index.ensures
-    c.attend_in.new.clauses c.in-Moves.lit c.in-Moves.blocker c.in-Moves.ensures)
+    Lent.moved_stands c.args.search.now c.args.gone.now c.args.list.now.items c.args.place c.index.result.now c.requires.watched c.requires.variable (omega (arith, c.requires.place, c.args.list.now.ok.0)) c.index.ensures
+    c.attend_in.new.clauses c.in-Moves.lit c.in-Moves.blocker c.in-Moves.ensures
 
-pub unpack-lit-requires-in-Forces : goal.unpack-lit-requires-in-Forces
-unpack-lit-requires-in-Forces c =
+pub unpack-lit-requires : goal.unpack-lit-requires
+unpack-lit-requires c =
     Lent.forced_below c.args.search.now c.args.gone.now c.args.list.now.items c.args.place c.index.result.now c.requires.watched c.requires.variable (omega (arith, c.requires.place, c.args.list.now.ok.0)) c.index.ensures
     c.attend_in.new.clauses c.in-Forces.lit c.in-Forces.ensures
 
 pub assign-requires : goal.assign-requires
 assign-requires c =
-    subst (λ (l : Lit). l.var < length c.args.search.now.assignment.values) (sym c.unpack-lit-in-Forces.ensures)
+    subst (λ (l : Lit). l.var < length c.args.search.now.assignment.values) (sym c.unpack-lit.ensures)
     (Lent.forced_below c.args.search.now c.args.gone.now c.args.list.now.items c.args.place c.index.result.now c.requires.watched c.requires.variable (omega (arith, c.requires.place, c.args.list.now.ok.0)) c.index.ensures
     c.attend_in.new.clauses c.in-Forces.lit c.in-Forces.ensures)
 
@@ -58,7 +51,7 @@ pub returns-in_ok-watch-in-Moves : goal.returns-in_ok-watch-in-Moves
 returns-in_ok-watch-in-Moves c =
     Lent.moved c.args.search.now c.args.gone.now c.args.list.now.items c.args.place c.index.result.now c.requires.watched c.requires.variable (omega (arith, c.requires.place, c.args.list.now.ok.0)) c.index.ensures
     c.attend_in.new.clauses c.in-Moves.lit c.in-Moves.blocker c.watch.new.self c.swap_remove-in-Moves.new.self.items c.requires.truths c.in-Moves.ensures c.requires.gone
-    (subst (λ l. Watches c.args.search.now.watchers c.watch.new.self l (record { id = c.index.result.now.id; blocker = c.in-Moves.blocker })) c.unpack-lit.ensures c.in_ok-watch-in-Moves.ensures)
+    c.in_ok-watch-in-Moves.ensures
     (without_of c.args.place c.args.list.now c.swap_remove-in-Moves.new.self (record { size = c.swap_remove-in-Moves.ensures.len; last = c.swap_remove-in-Moves.ensures.by_index.0; others = c.swap_remove-in-Moves.ensures.by_index.1 }))
 
 pub returns-in_ok-assign-in-Forces : goal.returns-in_ok-assign-in-Forces
@@ -66,7 +59,7 @@ returns-in_ok-assign-in-Forces c =
     Lent.forced c.args.search.now c.args.gone.now c.args.list.now.items c.args.place c.index.result.now c.requires.watched c.requires.variable (omega (arith, c.requires.place, c.args.list.now.ok.0)) c.index.ensures
     c.attend_in.new.clauses c.in-Forces.lit c.assign.new.assignment c.number_of-reason.result c.requires.truths
     (c.number_of-reason.ensures ∙ ap (λ ns. slice_get ns c.index.result.now.id) c.deref.ensures.value) c.in-Forces.ensures
-    (subst (λ l. Assigns c.args.search.now.assignment c.assign.new.assignment l c.number_of-reason.result) c.unpack-lit-in-Forces.ensures c.in_ok-assign-in-Forces.ensures)
+    (subst (λ l. Assigns c.args.search.now.assignment c.assign.new.assignment l c.number_of-reason.result) c.unpack-lit.ensures c.in_ok-assign-in-Forces.ensures)
 
 pub returns-in-Fails : goal.returns-in-Fails
 returns-in-Fails c =

@@ -1,13 +1,14 @@
-use Rattle.std.proofs.Common.{◌≡◌, ℕ, ◌<◌, arith, [], ◌∷◌, ◌++◌, length, get_or, ap, sym, subst, refl, ◌∙◌}
+use Rattle.std.proofs.Common.{◌≡◌, ℕ, ◌<◌, arith, [], ◌∷◌, ◌++◌, length, sym, subst, refl, ◌∙◌}
 use Rattle.std.proofs.lemmas.List.{get_or_default}
 use Rattle.bt_cnf.specs.declared.literal.Lit.{Lit}
 use Rattle.bt_sat.specs.inner.Attending.{no_lit, first, second}
+use Rattle.bt_sat.specs.inner.Codes.{code_of}
 use Rattle.bt_sat.specs.inner.Keeping.{AreWatched}
 use Rattle.bt_sat.specs.inner.Propagating.{root_of}
-use Rattle.bt_sat.specs.inner.Watchers.{place_of, Watches}
+use Rattle.bt_sat.specs.inner.Watchers.{Watches}
 use Rattle.bt_sat.specs.inner.WatchersParts.{WatchersParts}
 use Rattle.bt_sat.proofs.Adding.{watched_more}
-use Rattle.bt_sat.proofs.Lent.{place_below}
+use Rattle.bt_sat.proofs.Codes.{code_below}
 use Rattle.bt_sat.proofs.search.keep_packed.Goals as goal
 
 -- the same of equal literals
@@ -22,14 +23,10 @@ returns c =
     let id = c.in_ok-id.id in
     let added = c.in_ok-added.ensures.added.right in
     let at_first : first lits ≡ c.index-lits-0.result = get_or_default lits 0 no_lit c.index-lits-0.result (omega (arith, c.requires.watchable.two)) ∙ sym c.index-lits-0.is in
-    let packed_first : first lits ≡ c.index-packed-0.result =
-    get_or_default lits 0 no_lit c.index-packed-0.result (omega (arith, c.requires.watchable.two)) ∙ ap (λ ls. get_or ls 0 c.index-packed-0.result) (sym c.requires.same) ∙ sym c.index-packed-0.is in
-    let packed_second : second lits ≡ c.index-packed-1.result =
-    get_or_default lits 1 no_lit c.index-packed-1.result (omega (arith, c.requires.watchable.two)) ∙ ap (λ ls. get_or ls 1 c.index-packed-1.result) (sym c.requires.same) ∙ sym c.index-packed-1.is in
     let at_second : second lits ≡ c.index-lits-1.result = get_or_default lits 1 no_lit c.index-lits-1.result (omega (arith, c.requires.watchable.two)) ∙ sym c.index-lits-1.is in
-    let one = watches_at old.watchers c.watch.new.self (first lits) c.index-lits-0.result (second lits) c.index-packed-1.result id at_first packed_second c.in_ok-watch.ensures in
-    let two = watches_at c.watch.new.self c.watch-2.new.self (second lits) c.index-lits-1.result (first lits) c.index-packed-0.result id at_second packed_first c.in_ok-watch-2.ensures in
-    let grown : c.add_slice.new.self ≡ old.clauses ++ lits ∷ [] = added.0 ∙ ap (λ ls. old.clauses ++ ls ∷ []) c.requires.same in
+    let one = watches_at old.watchers c.watch.new.self (first lits) c.index-lits-0.result (second lits) c.index-lits-1.result id at_first at_second c.in_ok-watch.ensures in
+    let two = watches_at c.watch.new.self c.watch-2.new.self (second lits) c.index-lits-1.result (first lits) c.index-lits-0.result id at_second at_first c.in_ok-watch-2.ensures in
+    let grown : c.add_slice.new.self ≡ old.clauses ++ lits ∷ [] = added.0 in
     record {
       assignment = refl;
       starts = refl;
@@ -45,14 +42,14 @@ watch-requires c =
     let old = c.args.search.now in
     let lits = c.args.lits.now in
     let at : first lits ≡ c.index-lits-0.result = get_or_default lits 0 no_lit c.index-lits-0.result (omega (arith, c.requires.watchable.two)) ∙ sym c.index-lits-0.is in
-    subst (λ l. place_of l < length old.watchers.lists) at
-    (place_below (first lits) (length old.assignment.values) (length old.watchers.lists) (c.requires.watchable.below 0 no_lit (omega (arith, c.requires.watchable.two))) c.requires.watched.lists)
+    subst (λ l. code_of l < length old.watchers.lists) at
+    (code_below (first lits) (length old.assignment.values) (length old.watchers.lists) (c.requires.watchable.below 0 no_lit (omega (arith, c.requires.watchable.two))) c.requires.watched.lists)
 
 pub watch-requires-2 : goal.watch-requires-2
 watch-requires-2 c =
     let old = c.args.search.now in
     let lits = c.args.lits.now in
     let at : second lits ≡ c.index-lits-1.result = get_or_default lits 1 no_lit c.index-lits-1.result (omega (arith, c.requires.watchable.two)) ∙ sym c.index-lits-1.is in
-    subst (λ l. place_of l < length c.watch.new.self.lists) at
-    (place_below (second lits) (length old.assignment.values) (length c.watch.new.self.lists) (c.requires.watchable.below 1 no_lit (omega (arith, c.requires.watchable.two)))
+    subst (λ l. code_of l < length c.watch.new.self.lists) at
+    (code_below (second lits) (length old.assignment.values) (length c.watch.new.self.lists) (c.requires.watchable.below 1 no_lit (omega (arith, c.requires.watchable.two)))
     (c.in_ok-watch.ensures.one.size ∙ c.requires.watched.lists))

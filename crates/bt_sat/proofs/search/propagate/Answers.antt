@@ -8,14 +8,14 @@ use Rattle.bt_sat.proofs.search.propagate.Goals as goal
 
 pub returns-in-Some : goal.returns-in-Some
 returns-in-Some c =
-    let now = subst (Settles c.negation-gone.result c.loop-head.search c.settle.new.search) c.in-Some.is c.in_ok-id.ensures in
+    let now = subst (Settles c.in_ok-gone.gone c.loop-head.search c.settle.new.search) c.in-Some.is c.in_ok-id.ensures in
     (goes_twice c.args.search.now c.loop-head.search c.settle.new.search c.loop-head.invariant.goes now.0, now.1, now.2 c.loop-head.invariant.settled.whole)
 
 pub loop-head-preserved : goal.loop-head-preserved
 loop-head-preserved c =
     let x = c.index.result.now in
-    let begun = subst (Settles c.negation-gone.result c.loop-head.search c.settle.new.search) c.in_default.is c.in_ok-id.ensures in
-    let now = subst (λ (l : Lit). Settles l c.loop-head.search c.settle.new.search None) c.negation-gone.ensures begun in
+    let begun = subst (Settles c.in_ok-gone.gone c.loop-head.search c.settle.new.search) c.in_default.is c.in_ok-id.ensures in
+    let now = subst (λ (l : Lit). Settles l c.loop-head.search c.settle.new.search None) (c.in_ok-gone.ensures ∙ c.negation.ensures) begun in
     let below : c.loop-head.head < length c.loop-head.search.assignment.trail.items = omega (arith, c.loop-head-test.true, c.len.ensures) in
     record {
       goes = goes_twice c.args.search.now c.loop-head.search c.settle.new.search c.loop-head.invariant.goes now.0;

@@ -1,7 +1,8 @@
 use Rattle.std.proofs.Common.{List, set, ap, ◌∙◌}
 use Rattle.std.specs.Global.{Vec}
 use Rattle.bt_sat.specs.declared.kept.Watch.{Watch}
-use Rattle.bt_sat.specs.inner.Watchers.{lists_of, place_of, with_list}
+use Rattle.bt_sat.specs.inner.Codes.{code_of}
+use Rattle.bt_sat.specs.inner.Watchers.{lists_of, with_list}
 use Rattle.bt_sat.specs.inner.WatchersParts.{WatchersParts}
 use Rattle.bt_sat.proofs.Lent.{put_at}
 use Rattle.bt_sat.proofs.watchers.Watchers.replace.Goals as goal
@@ -9,6 +10,6 @@ use Rattle.bt_sat.proofs.watchers.Watchers.replace.Goals as goal
 pub returns-clause-put : goal.returns-clause-put
 returns-clause-put c =
     let make : List (List Watch) → WatchersParts = λ lists. record { lists = lists } in
-    ap make (put_at c.self.inside.lists c.args.lit.now c.place_in-place.result c.replace.new.dest c.place_in-place.ensures
-    ∙ ap (λ (v : Vec Watch). set (lists_of c.self.inside.lists) (place_of c.args.lit.now) v.items) c.replace.ensures.after)
+    ap make (put_at c.self.inside.lists c.args.lit.now c.number.result c.replace.new.dest c.number.ensures
+    ∙ ap (λ (v : Vec Watch). set (lists_of c.self.inside.lists) (code_of c.args.lit.now) v.items) c.replace.ensures.after)
     ∙ ap (λ w. with_list w c.args.lit.now c.args.list.items) c.self.view_is
