@@ -29,6 +29,7 @@ pub mod Noting
 pub mod Picking
 pub mod Reasoning
 pub mod Retreated
+pub mod Roots
 pub mod Served
 pub mod Settled
 pub mod Taken

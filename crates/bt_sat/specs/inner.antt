@@ -18,6 +18,7 @@ pub mod Loads
 pub mod Progressing
 pub mod Propagating
 pub mod Reasons
+pub mod Roots
 pub mod Telling
 pub mod Truths
 pub mod Visits

@@ -4,11 +4,11 @@ ghost use Rattle.bt_sat.specs.inner.Keeping.{AreWatched, AreTrue, IsWatchable, k
 ghost use Rattle.bt_sat.specs.inner.AttendingIn.{AttendsIn};
 ghost use Rattle.bt_sat.specs.inner.Truths.{IsFalseIn};
 ghost use Rattle.bt_sat.specs.inner.Watchers.{with_list};
+ghost use Rattle.bt_sat.specs.inner.Roots.{bound_of};
 ghost use Rattle.bt_sat.specs.inner.Propagating.{Advances, IsSettledTo, Keeps, Passes, Propagates, Settles, root_of, with_watches};
 
 use crate::assignment::{Assignment, assign};
 use crate::kept::{Kept, PackedId, Watch};
-use crate::levels::start;
 use crate::packed::{Packed, pack_all};
 use crate::truth::{Values, negation};
 use crate::watched::{Visit, attend};
@@ -58,12 +58,23 @@ pub fn number_of(numbers: &[usize], id: PackedId) -> Option<usize>
     numbers.get(id.place()).copied()
 }
 
+/// Where the first level begins, or beyond all places where there is none.
+fn root_bound(starts: &[usize]) -> usize
+    ensures { result ≡ bound_of starts.now }
+{
+    match starts.get(0) {
+        Some(start) => *start,
+        None => usize::MAX,
+    }
+}
+
 /// Whether a literal is known to have been true before the first choice, or while nothing was chosen.
-fn is_rooted(search: &Search, lit: &Packed) -> bool
+fn is_rooted(search: &Search, root: usize, lit: &Packed) -> bool
+    requires { root ≡ bound_of search.now.starts.items }
     ensures { IsTrue result → Contains (root_of search.now) lit.now }
 {
     match search.assignment.places.get(lit.place()) {
-        Some(place) => *place < start(search, 0) && is_at(&search.assignment.trail, *place, lit),
+        Some(place) => *place < root && is_at(&search.assignment.trail, *place, lit),
         None => false,
     }
 }
@@ -80,11 +91,18 @@ fn is_at(trail: &[Lit], place: usize, lit: &Packed) -> bool
 
 /// Passes the clause at a place of a literal's list, whose blocking literal is true. Where that one is true for
 /// good, the clause leaves the list.
-fn pass(search: &Search, list: &mut Vec<Watch>, place: usize, blocker: &Packed) -> Attended
-    requires { place < vec_len list.old }
+fn pass(
+    search: &Search,
+    root: usize,
+    list: &mut Vec<Watch>,
+    place: usize,
+    blocker: &Packed,
+) -> Attended
+    requires bound { root ≡ bound_of search.now.starts.items }
+    requires place { place < vec_len list.old }
     ensures { Passes place blocker.now (root_of search.now) list.old.items list.new.items result }
 {
-    if is_rooted(search, blocker) {
+    if is_rooted(search, root, blocker) {
         let _ = list.swap_remove(place);
         Attended::Leaves
     } else {
@@ -96,6 +114,7 @@ fn pass(search: &Search, list: &mut Vec<Watch>, place: usize, blocker: &Packed) 
 /// Where its blocking literal is true, the clause isn't looked at.
 pub fn attend_at(
     search: &mut Search,
+    root: usize,
     gone: &Packed,
     list: &mut Vec<Watch>,
     place: usize,
@@ -106,12 +125,13 @@ pub fn attend_at(
     requires gone { IsFalseIn search.old.assignment.values gone.now }
     requires variable { gone.now.var < length search.old.assignment.values }
     requires place { place < vec_len list.old }
+    requires bound { root ≡ bound_of search.old.starts.items }
     ensures { IfOk result (Advances gone.now place (with_watches search.old gone.now list.old.items)
         (with_watches search.new gone.now list.new.items)) }
 {
     let watch = list[place];
     if watch.blocker.is_true(&search.assignment.values) {
-        return Ok(pass(search, list, place, &watch.blocker));
+        return Ok(pass(search, root, list, place, &watch.blocker));
     }
     let id = watch.id;
     match attend_in(&mut search.clauses, id, gone, &search.assignment.values) {
@@ -153,9 +173,10 @@ fn settle_list(
     ensures { IfOk result (Settles gone.now (with_watches search.old gone.now list.old.items)
         (with_watches search.new gone.now list.new.items)) }
 {
+    let root = root_bound(&search.starts);
     let mut place = 0;
     while place < list.len() {
-        match attend_at(search, gone, list, place)? {
+        match attend_at(search, root, gone, list, place)? {
             Attended::Stays => place += 1,
             Attended::Leaves => {}
             Attended::Fails(id) => return Ok(Some(id)),

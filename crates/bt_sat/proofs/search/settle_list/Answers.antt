@@ -1,5 +1,7 @@
-use Rattle.std.proofs.Common.{◌<◌, ◌+◌, ◌-◌, arith, [], subst, sym, vec_len}
+use Rattle.std.proofs.Common.{◌<◌, ◌+◌, ◌-◌, ℕ, arith, [], ap, ◌∙◌, subst, sym, vec_len}
+use Rattle.std.specs.Global.{Vec}
 use Rattle.bt_sat.specs.inner.Propagating.{with_watches, Advances}
+use Rattle.bt_sat.specs.inner.Roots.{bound_of}
 use Rattle.bt_sat.proofs.Advancing.{goes_twice, starts}
 use Rattle.bt_sat.proofs.Lent.{len_of}
 use Rattle.bt_sat.proofs.search.settle_list.Goals as goal
@@ -15,6 +17,10 @@ attend_at-requires-clause-truths c =
 pub attend_at-requires-clause-gone : goal.attend_at-requires-clause-gone
 attend_at-requires-clause-gone c =
     (c.loop-place.invariant.visiting [] (starts c.args.gone.now (with_watches c.args.search.now c.args.gone.now c.args.list.now.items) c.requires.watched c.requires.truths c.requires.gone)).gone_false
+
+pub attend_at-requires-clause-bound : goal.attend_at-requires-clause-bound
+attend_at-requires-clause-bound c =
+    c.root_bound-root.ensures ∙ ap bound_of c.deref.ensures.value ∙ ap (λ (starts : Vec ℕ). bound_of starts.items) (sym c.loop-place.invariant.goes.starts)
 
 pub loop-place-smaller-in-Stays : goal.loop-place-smaller-in-Stays
 loop-place-smaller-in-Stays c =
