@@ -37,7 +37,7 @@ fn begin_level(search: &mut Search, lit: &Lit) -> Result<(), AllocError>
     Ok(())
 }
 
-/// Chooses a variable and a value, where a variable has none.
+/// Chooses a variable and a value, where a variable has none. The variable leaves the list of those.
 pub fn decide<C: Chooser>(
     progress: &mut Progress,
     choosers: &mut Vec<C>,
@@ -55,8 +55,9 @@ pub fn decide<C: Chooser>(
         return Ok(false);
     }
     let pick = ask(choosers, &progress.unset);
+    let var = progress.unset.remove(pick.place);
     let lit = Lit {
-        var: progress.unset[pick.place],
+        var,
         positive: pick.positive,
     };
     begin_level(&mut progress.search, &lit)?;

@@ -1,11 +1,11 @@
 //! Going down from choice to choice.
 ghost use Rattle.std.specs.Prelude.{◌≡◌, map, IfOk, OnOk, None, vec_len};
-ghost use Rattle.bt_sat.specs.inner.Choices.{CoversUnset, Descends, Follows};
+ghost use Rattle.bt_sat.specs.inner.Choices.{Descends, Follows, ListsUnset};
 ghost use Rattle.bt_sat.specs.inner.Progressing.{IsRunning, KeepsFormula};
 
 use crate::choosing::decide;
 use crate::progress::{Progress, infer};
-use crate::unset::{drop_set, list_unset};
+use crate::unset::{drop_later, list_unset};
 use bt_cnf::Chooser;
 use std::alloc::AllocError;
 
@@ -28,13 +28,14 @@ fn begin(progress: &mut Progress) -> Result<(), AllocError>
 fn follow(progress: &mut Progress) -> Result<(), AllocError>
     requires running { IsRunning progress.old }
     requires ready { progress.old.conflict ≡ None }
-    requires covers { CoversUnset progress.old }
+    requires listed { ListsUnset progress.old }
     ensures follows { OnOk result (Follows progress.old progress.new) }
     ensures kept { KeepsFormula progress.old progress.new }
 {
+    let known = progress.search.assignment.trail.len();
     infer(progress)?;
     if progress.conflict.is_none() {
-        drop_set(&mut progress.unset, &progress.search.assignment.values);
+        drop_later(&mut progress.unset, &progress.search.assignment, known);
     }
     Ok(())
 }

@@ -2,6 +2,7 @@
 ghost use Rattle.std.specs.Prelude.{◌≡◌, ◌<◌, length, OnOk};
 ghost use Rattle.bt_sat.specs.inner.Choices.{is_unset, AddsUnset, AreUnset, Covers};
 
+use crate::assignment::Assignment;
 use crate::truth::Values;
 use bt_cnf::Var;
 use std::alloc::AllocError;
@@ -29,8 +30,21 @@ fn add_unset(unset: &mut Vec<Var>, values: &Values, place: usize) -> Result<(), 
     Ok(())
 }
 
+/// Drops the variables that have a value by now. Where no literal follows the first so many of the trail, all
+/// that are listed have none: nothing follows from most choices.
+pub fn drop_later(unset: &mut Vec<Var>, assignment: &Assignment, known: usize)
+    requires covers { Covers assignment.now.values (length assignment.now.values) unset.old.items }
+    requires listed { length assignment.now.trail.items ≡ known
+        → AreUnset assignment.now.values (length assignment.now.values) unset.old.items }
+    ensures { AreUnset assignment.now.values (length assignment.now.values) unset.new.items }
+{
+    if assignment.trail.len() != known {
+        drop_set(unset, &assignment.values);
+    }
+}
+
 /// Drops the variables that have a value by now.
-pub fn drop_set(unset: &mut Vec<Var>, values: &Values)
+fn drop_set(unset: &mut Vec<Var>, values: &Values)
     requires { Covers values.now (length values.now) unset.old.items }
     ensures { AreUnset values.now (length values.now) unset.new.items }
 {

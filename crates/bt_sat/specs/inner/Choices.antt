@@ -59,10 +59,6 @@ pub record IsComplete (p : Progress) : Type 0 where
 abbrev pub ListsUnset : Progress → Type 0
 ListsUnset p = AreUnset p.search.assignment.values (length p.search.assignment.values) p.unset.items
 
--- the list of the search has all variables that have no value, and perhaps some that have got one
-abbrev pub CoversUnset : Progress → Type 0
-CoversUnset p = Covers p.search.assignment.values (length p.search.assignment.values) p.unset.items
-
 -- where no clause is known to be false, nothing is unsettled, and the variables that have no value are listed
 pub record IsAtChoice (p : Progress) : Type 0 where
   pub settled : p.conflict ≡ None → p.settled ≡ length p.search.assignment.trail.items
@@ -79,7 +75,7 @@ pub record Follows (old new : Progress) : Type 0 where
 abbrev pub Decides : Progress → Progress → Bool → Type 0
 Decides old new true =
     KeepsLog old new × IsRunning new × (new.conflict ≡ None) × (unset new.search.assignment.values < unset old.search.assignment.values)
-    × CoversUnset new
+    × ListsUnset new
 Decides old new false = KeepsLog old new × IsComplete new
 
 -- a clause was found whose literals are all false, or all variables have a value

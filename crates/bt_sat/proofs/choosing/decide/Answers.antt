@@ -1,7 +1,8 @@
-use Rattle.std.proofs.Common.{◌<◌, length, refl, sym, subst, ◌∙◌, Some}
+use Rattle.std.proofs.Common.{◌≡◌, ◌<◌, ℕ, List, get_or, length, refl, sym, subst, ◌∙◌, Some}
 use Rattle.std.specs.Prelude.{slice_set}
+use Rattle.std.specs.List.{remove}
 use Rattle.bt_cnf.specs.declared.literal.Lit.{Lit}
-use Rattle.bt_sat.specs.inner.Choices.{Covers}
+use Rattle.bt_sat.specs.inner.Choices.{AreUnset}
 use Rattle.bt_sat.specs.inner.Known.{clauses_in}
 use Rattle.bt_sat.specs.inner.Levels.{IsReady}
 use Rattle.bt_sat.specs.inner.Progressing.{Stands}
@@ -15,7 +16,7 @@ begin_level-requires g c =
     let vars = p.unset.items in
     let place = c.ask-pick.result.place in
     let inside : place < length vars = subst (λ vs. place < length vs) c.deref.ensures.value c.ask-pick.ensures.in_range in
-    (c.requires.listed.are c.index.result.now (place, inside, sym c.index.ensures)).0
+    (c.requires.listed.are c.remove-var.result (place, inside, sym c.remove-var.ensures.value)).0
 
 pub returns-clause-decides : goal.returns-clause-decides
 returns-clause-decides g c =
@@ -23,10 +24,13 @@ returns-clause-decides g c =
     let all = clauses_in p.known in
     let vars = p.unset.items in
     let place = c.ask-pick.result.place in
-    let l : Lit = record { var = c.index.result.now; positive = c.ask-pick.result.positive } in
+    let l : Lit = record { var = c.remove-var.result; positive = c.ask-pick.result.positive } in
     let inside : place < length vars = subst (λ vs. place < length vs) c.deref.ensures.value c.ask-pick.ensures.in_range in
-    let is = c.requires.listed.are c.index.result.now (place, inside, sym c.index.ensures) in
+    let is = c.requires.listed.are c.remove-var.result (place, inside, sym c.remove-var.ensures.value) in
     let was : IsReady all p.settled p.search = subst (Stands all p.settled p.search) c.requires.none c.requires.running.stands in
+    let left = c.remove-var.new.self.items in
+    let stood : get_or vars place l.var ≡ l.var = sym c.remove-var.ensures.value in
+    let taken : remove vars place ≡ left = sym {A = List ℕ} c.remove-var.ensures.items in
     let ready : IsReady all (length p.search.assignment.trail.items) p.search = subst (λ n. IsReady all n p.search) c.requires.settled was in
     let now = Chosen.level_ready all p.search c.begin_level.new.search l c.in_ok-begin_level.ensures ready is.0 is.1 in (
       record { known = refl; limit = refl; served = refl },
@@ -38,7 +42,8 @@ returns-clause-decides g c =
       },
       c.requires.none,
       Chosen.fewer_unset all p.search c.begin_level.new.search l c.in_ok-begin_level.ensures ready is.0 is.1,
-      subst (λ vs. Covers vs (length c.begin_level.new.search.assignment.values) vars) (sym c.in_ok-begin_level.ensures.assigns.values)
-          (subst (λ n. Covers (slice_set p.search.assignment.values l.var (Some l.positive)) n vars) (sym (Chosen.same_values all p.search c.begin_level.new.search l c.in_ok-begin_level.ensures ready is.0 is.1))
-          (Listing.set_covers p.search.assignment.values vars l.var l.positive c.requires.listed)),
+      subst (λ vs. AreUnset vs (length c.begin_level.new.search.assignment.values) left) (sym c.in_ok-begin_level.ensures.assigns.values)
+          (subst (λ n. AreUnset (slice_set p.search.assignment.values l.var (Some l.positive)) n left) (sym (Chosen.same_values all p.search c.begin_level.new.search l c.in_ok-begin_level.ensures ready is.0 is.1))
+          (subst (AreUnset (slice_set p.search.assignment.values l.var (Some l.positive)) (length p.search.assignment.values)) taken
+          (Listing.removed_lists p.search.assignment.values vars place l.var l.positive c.requires.listed inside stood))),
     )
