@@ -25,3 +25,4 @@ pub mod Visits
 pub mod Watchers
 pub mod WatchersParts
 pub mod Watching
+pub mod Worths

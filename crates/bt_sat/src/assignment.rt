@@ -2,7 +2,7 @@
 ghost use Rattle.std.specs.Prelude.{◌≡◌, ◌<◌, length, slice_set, OnOk};
 ghost use Rattle.bt_sat.specs.inner.Assigning.{Assigns};
 
-use crate::truth::Values;
+use crate::truth::{Values, Worth};
 use bt_cnf::{Lit, Var};
 use std::alloc::AllocError;
 
@@ -29,7 +29,7 @@ pub fn assign(
     set_place(&mut assignment.places, lit.var, assignment.trail.len());
     assignment.trail.push(*lit)?;
     assignment.reasons.push(reason)?;
-    *assignment.values.get_mut(lit.var) = Some(lit.positive);
+    *assignment.values.get_mut(lit.var) = Worth::set(lit.positive);
     Ok(())
 }
 

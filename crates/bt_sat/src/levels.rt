@@ -6,6 +6,7 @@ ghost use Rattle.bt_sat.specs.inner.Levels.{ArePlaced, Forgets, GoesBack, IsLeve
 
 use crate::assignment::Assignment;
 use crate::search::Search;
+use crate::truth::Worth;
 
 /// Unsets all variables but those of the first so many literals of the trail.
 fn forget(assignment: &mut Assignment, size: usize)
@@ -15,7 +16,7 @@ fn forget(assignment: &mut Assignment, size: usize)
 {
     while assignment.trail.len() > size {
         if let Some(lit) = assignment.trail.pop() {
-            *assignment.values.get_mut(lit.var) = None;
+            *assignment.values.get_mut(lit.var) = Worth::unset();
         }
     }
     assignment.reasons.truncate(size);

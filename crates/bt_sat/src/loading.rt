@@ -14,7 +14,7 @@ use crate::known::Known;
 use crate::learning::Lesson;
 use crate::progress::Progress;
 use crate::search::{Search, keep};
-use crate::truth::{Values, is_false, is_true};
+use crate::truth::{Values, Worth, is_false, is_true};
 use crate::watchers::{Counts, Watchers};
 use bt_arena::{Arena, Pool};
 use bt_cnf::{ClauseId, Formula, Lit};
@@ -27,7 +27,7 @@ fn unset_values(alloc: Global, vars: usize) -> Result<Values, AllocError>
 {
     let mut values = Arena::new(alloc)?;
     for _ in 0..vars {
-        values.add(None)?;
+        values.add(Worth::unset())?;
     }
     Ok(values)
 }

@@ -23,7 +23,7 @@ fn value_at(values: &Values, place: usize) -> bool
     ensures { result ≡ value_of (slice_index_or values.now place None) }
 {
     match values.id_at(place) {
-        Some(var) => (*values.get(var)).unwrap_or(false),
+        Some(var) => values.get(var).is(true),
         None => false,
     }
 }

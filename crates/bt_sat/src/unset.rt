@@ -24,7 +24,7 @@ fn add_unset(unset: &mut Vec<Var>, values: &Values, place: usize) -> Result<(), 
     ensures { OnOk result (AddsUnset values.now place unset.old.items unset.new.items) }
 {
     let var = values.id_of(place);
-    if values.get(var).is_none() {
+    if values.get(var).is_unset() {
         unset.push(var)?;
     }
     Ok(())
@@ -64,5 +64,5 @@ fn lacks_value(values: &Values, var: Var) -> bool
     requires { var < length values.now }
     ensures { result ≡ is_unset values.now var }
 {
-    values.get(var).is_none()
+    values.get(var).is_unset()
 }

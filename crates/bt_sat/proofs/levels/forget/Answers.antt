@@ -1,4 +1,4 @@
-use Rattle.std.proofs.Common.{◌≡◌, ◌<◌, ◌+◌, arith, length, sym, subst, ap, ◌∙◌, ◌≢◌, ℕ, [], ◌∷◌, ◌++◌, min, length-append, length-set, None, refl}
+use Rattle.std.proofs.Common.{◌≡◌, ◌<◌, ◌+◌, arith, length, sym, subst, ap, ◌∙◌, ◌≢◌, ℕ, [], ◌∷◌, ◌++◌, min, length-append, length-set, refl, set}
 use Rattle.std.specs.Prelude.{take}
 use Rattle.std.proofs.Math.Seq.{take-append_seam}
 use Rattle.std.proofs.lemmas.List.{get_or_append_left, get_or_push, length-take}
@@ -33,6 +33,6 @@ loop-assignment-preserved-in-Some c =
       enough = omega (arith, inv.enough, size, was, c.loop-assignment-test.true, c.len.ensures);
       reasons = inv.reasons;
       places = inv.places;
-      variables = length-set mid.values l.var None ∙ inv.variables;
-      truths = truths_less mid.values front l (subst (AreTrue mid.values) split inv.truths) apart;
+      variables = length-set mid.values l.var c.unset.result ∙ inv.variables;
+      truths = subst (λ value. AreTrue (set mid.values l.var value) front) (sym c.unset.ensures) (truths_less mid.values front l (subst (AreTrue mid.values) split inv.truths) apart);
     }
