@@ -1,6 +1,6 @@
 //! Lines whose numbers are small whole numbers over one small denominator. Sums of these need no
 //! fractions, and their products fit 64 bits.
-ghost use Rattle.std.specs.Prelude.{◌≡◌, ◌<◌, ◌≤◌, ◌^◌, ◌*ℤ◌, IfOk, IfSome, true, IsTrue, ◌↔◌, length, slice_index_or, unsigned_abs};
+ghost use Rattle.std.specs.Prelude.{◌≡◌, ◌≢◌, ◌<◌, ◌≤◌, ◌^◌, ◌*ℤ◌, IfOk, IfSome, None, true, false, IsTrue, ◌↔◌, length, slice_index_or, unsigned_abs};
 ghost use Rattle.std.specs.Int.{IsGcd};
 ghost use Rattle.std.specs.List.{All};
 ghost use Rattle.bt_lin.specs.WeightedRows.{coefficient_at};
@@ -17,7 +17,7 @@ mod zero;
 use crate::line::Term;
 use bt_frac::Frac;
 pub use entry::Entry;
-pub use merging::{Substitution, substituted};
+pub use merging::substituted;
 pub use points::{ClassSums, breaks_at, breaks_by};
 use std::alloc::{AllocError, Global};
 use std::marker::Model;
@@ -86,6 +86,17 @@ impl Short {
         match whole_at(&self.terms, position) {
             Some(over) => Some(number(over, self.under)),
             None => None,
+        }
+    }
+
+    /// Whether the line names a position.
+    pub fn names(&self, position: usize) -> bool
+        ensures named { IsTrue result → coefficient_at position self.now ≢ None }
+        ensures lacks { result ≡ false → coefficient_at position self.now ≡ None }
+    {
+        match whole_at(&self.terms, position) {
+            Some(_) => true,
+            None => false,
         }
     }
 

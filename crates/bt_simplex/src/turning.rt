@@ -1,11 +1,11 @@
 //! Turns of a basis: a position leaves it, and one that its line names enters.
-ghost use Rattle.std.specs.Prelude.{◌≡◌, ◌≢◌, ℕ, ◌<◌, ◌-◌, ◌^◌, pos, length, slice_set, IfOk, IfErr, IfSome, Some, None};
+ghost use Rattle.std.specs.Prelude.{◌≡◌, ◌≢◌, ℕ, ◌<◌, ◌-◌, ◌^◌, pos, length, slice_set, IfOk, IfErr, IfSome, IfNone, Some, None};
 ghost use Rattle.bt_frac.specs.Ratio.{IsLowest, negated};
 ghost use Rattle.bt_lin.specs.WeightedRows.{coefficient_at};
 ghost use Rattle.bt_simplex.specs.Lines.{one, Terms, IsLine, HasNumber};
 ghost use Rattle.bt_simplex.specs.Classes.{position_at};
 ghost use Rattle.bt_simplex.specs.SolvedForms.{Slots, slot_at};
-ghost use Rattle.bt_simplex.specs.inner.TurnedSlots.{IsZeroLine, AreLines, IsChange, AreSubstituted, with_line, IsEntering, IsTurned};
+ghost use Rattle.bt_simplex.specs.inner.TurnedSlots.{IsZeroLine, AreLines, IsSubstituted, AreSubstituted, with_line, IsEntering, IsTurned};
 ghost use Rattle.bt_simplex.specs.inner.Kept.{LinesStay, OthersStay, SlotsStay};
 ghost use Rattle.bt_simplex.specs.inner.Shares.{IsNegatedShare, AreNegatedShares};
 ghost use Rattle.bt_simplex.specs.inner.UnfitTurns.{IsUnfitShare, IsUnfitTerm, IsUnfitZero, IsUnfitSlot, CanPart, IsSlotZero, IsUnfitPart, IsUnfitLine, IsUnfitTurn, entry_cause};
@@ -14,7 +14,7 @@ use crate::answers::{Operation, WidePlace};
 use crate::basis::{Basis, Member};
 use crate::causes::{Cause, Unfit};
 use crate::kept::Kept;
-use crate::line::{Change, Line, Room, Term, combined};
+use crate::line::{Line, Room, Term, combined};
 use crate::workspace::Workspace;
 use bt_frac::Frac;
 use std::alloc::{AllocError, Global};
@@ -78,19 +78,20 @@ fn zero_line(
     }
 }
 
-/// What a turn makes of a slot, by a line that is 0, in the room of a list whose terms are dropped.
-fn changed(
-    alloc: Global,
-    room: Room,
-    slot: &Option<Line>,
-    enters: usize,
-    zero: &Line,
-) -> Result<Change, AllocError>
-    ensures { IfOk result (IsChange enters zero.now slot.now) }
+/// The line of a slot, where it names the position.
+fn naming(slot: &Option<Line>, position: usize) -> Option<&Line>
+    ensures line { IfSome result (λ line. slot.now ≡ Some line.now) }
+    ensures named { IfSome result (λ line. coefficient_at position line.now ≢ None) }
+    ensures lacks { IfNone result ((zero : Terms) → IsSubstituted position zero slot.now slot.now) }
 {
     match slot {
-        Some(line) => line.substituted(alloc, room, enters, zero),
-        None => Ok(Change::Stays(room)),
+        Some(line) => {
+            if line.names(position) {
+                return Some(line);
+            }
+            None
+        }
+        None => None,
     }
 }
 
@@ -137,14 +138,16 @@ fn substitute(
 {
     let mut room = Vec::new(alloc);
     for i in 0..slots.len() {
-        match changed(alloc, room, &slots[i], enters, zero)? {
-            Change::Stays(same) => room = same,
-            Change::Line(line) => {
+        let Some(line) = naming(&slots[i], enters) else {
+            continue;
+        };
+        match line.substituted(alloc, room, enters, zero)? {
+            Ok(line) => {
                 let old = std::mem::replace(&mut slots[i], Some(line));
                 kept.forget(i);
                 room = room_of(alloc, old);
             }
-            Change::Wide(unfit) => return Ok(Err(entry_cause(i, unfit))),
+            Err(unfit) => return Ok(Err(entry_cause(i, unfit))),
         }
     }
     Ok(Ok(()))
