@@ -16,6 +16,7 @@ mod zero;
 
 use crate::line::Term;
 use bt_frac::Frac;
+pub use copying::lone_short;
 pub use entry::Entry;
 pub use merging::substituted;
 pub use points::{ClassSums, breaks_at, breaks_by};
@@ -101,14 +102,14 @@ impl Short {
     }
 
     /// The line, with the other sign where this is told.
-    pub fn signed(&self, alloc: Global, negated: bool) -> Result<Short, AllocError>
-        ensures { IfOk result (λ line. line ≡ signed_terms negated self.now) }
+    pub fn with_sign(self, negated: bool) -> Short
+        ensures { result ≡ signed_terms negated self }
     {
-        let terms = signed_numbers(alloc, &self.terms, negated)?;
-        Ok(Short {
-            terms,
-            under: self.under,
-        })
+        let Short { terms, under } = self;
+        Short {
+            terms: signed_numbers(terms, negated),
+            under,
+        }
     }
 
     /// The room of the terms, for those of another line.
@@ -167,27 +168,27 @@ fn whole_at(terms: &[Entry], position: usize) -> Option<i64>
 }
 
 /// The numbers, with the other sign where this is told.
-fn signed_numbers(alloc: Global, terms: &[Entry], negated: bool) -> Result<Vec<Entry>, AllocError>
-    requires { All (λ t. IsSmall t.1) terms.now }
-    ensures { IfOk result (λ v. v.items ≡ signed_numbers negated terms.now) }
+fn signed_numbers(terms: Vec<Entry>, negated: bool) -> Vec<Entry>
+    requires { All (λ t. IsSmall t.1) terms.items }
+    ensures { result.items ≡ signed_numbers negated terms.items }
 {
     if negated {
-        negated_numbers(alloc, terms)
+        negated_numbers(terms)
     } else {
-        Vec::from_slice(alloc, terms)
+        terms
     }
 }
 
 /// The numbers with the other sign.
-fn negated_numbers(alloc: Global, terms: &[Entry]) -> Result<Vec<Entry>, AllocError>
-    requires { All (λ t. IsSmall t.1) terms.now }
-    ensures { IfOk result (λ v. v.items ≡ signed_numbers true terms.now) }
+fn negated_numbers(terms: Vec<Entry>) -> Vec<Entry>
+    requires { All (λ t. IsSmall t.1) terms.items }
+    ensures { result.items ≡ signed_numbers true terms.items }
 {
-    let mut others = Vec::with_capacity(alloc, terms.len())?;
-    for entry in terms {
-        others.push(Entry::of(entry.position(), -entry.number()))?;
+    let mut others = terms;
+    for entry in others.iter_mut() {
+        *entry = Entry::of(entry.position(), -entry.number());
     }
-    Ok(others)
+    others
 }
 
 /// The line of these terms, where their numbers are small over a small denominator and their positions fit.
