@@ -4,21 +4,21 @@ use Rattle.bt_frac.specs.Ratio.{Ratio}
 use Rattle.bt_lin.specs.WeightedRows.{coefficient_at}
 use Rattle.bt_simplex.specs.Lines.{Terms, IsLine, IsCombination}
 use Rattle.bt_simplex.specs.declared.causes.Unfit.{Unfit}
-use Rattle.bt_simplex.specs.inner.TurnedSlots.{IsZeroLine, IsSubstituted, IsChange}
-use Rattle.bt_simplex.specs.declared.line.Change.TheVariants.{Wide}
+use Rattle.bt_simplex.specs.inner.TurnedSlots.{IsZeroLine, IsSubstituted, IsUnfitChange}
 use Rattle.bt_simplex.specs.inner.Unfits.{IsUnfit}
 use Rattle.bt_simplex.specs.inner.UnfitTurns.{CanPart, IsSlotZero}
 
 -- what was formed by fractions for the number of a line
-pub substituted_by : (enters : ℕ) (zero terms : Terms) (number : Ratio) (made : Result Terms Unfit) (terms' : Terms) → coefficient_at enters terms ≡ Some number → made ≡ Ok terms'
-    → IfOk made IsLine → IfOk made (IsCombination terms number zero) → IsSubstituted enters zero (Some terms) (Some terms')
-substituted_by enters zero terms number made terms' named made_is line sum =
-    inr (number, named, (terms', refl, subst (λ o. IfOk o IsLine) made_is line, subst (λ o. IfOk o (IsCombination terms number zero)) made_is sum))
+pub substituted_by : (enters : ℕ) (zero terms : Terms) (number : Ratio) (made : Result Terms Unfit) → coefficient_at enters terms ≡ Some number → IfOk made IsLine → IfOk made (IsCombination terms number zero)
+    → IfOk made (λ line. IsSubstituted enters zero (Some terms) (Some line))
+substituted_by enters zero terms number (Err unfit) named line sum = tt
+substituted_by enters zero terms number (Ok terms') named line sum = inr (number, named, (terms', refl, line, sum))
 
 -- an operation of it that doesn't fit
-pub unfit_by : (enters : ℕ) (zero terms : Terms) (number : Ratio) (made : Result Terms Unfit) (unfit : Unfit) → coefficient_at enters terms ≡ Some number → made ≡ Err unfit
-    → IfErr made (IsUnfit terms number zero) → IsChange enters zero (Some terms) (Wide unfit)
-unfit_by enters zero terms number made unfit named made_is wide = (terms, refl, (number, named, subst (λ o. IfErr o (IsUnfit terms number zero)) made_is wide))
+pub unfit_by : (enters : ℕ) (zero terms : Terms) (number : Ratio) (made : Result Terms Unfit) → coefficient_at enters terms ≡ Some number → IfErr made (IsUnfit terms number zero)
+    → IfErr made (IsUnfitChange enters zero terms)
+unfit_by enters zero terms number (Ok terms') named wide = tt
+unfit_by enters zero terms number (Err unfit) named wide = (number, named, wide)
 
 -- the zero line of a slot
 pub slot_zero_told : (slot : Option Terms) (leaves enters : ℕ) (terms : Terms) (made : Option Terms) (zero : Terms) → CanPart slot leaves enters → slot ≡ Some terms → IsLine terms → made ≡ Some zero

@@ -340,7 +340,3 @@ pub sum_told : (p lu ru : ℕ) (k : ℤ) (left right : Numbers) (now other writt
     → IsLine written → IsCombination (terms_over lu left) (reduced k lu) (terms_over ru right) written → IsSubstituted p other (Some now) (Some written)
 sum_told p lu ru k left right now other written is is' whole line sum =
     inr (reduced k lu, sym (number_is p lu left now (Some k) is (sym whole)), (written, refl, line, subst (λ l. IsCombination l (reduced k lu) other written) is (subst (λ l. IsCombination (terms_over lu left) (reduced k lu) l written) is' sum)))
-
--- a line that lacks the position stays
-pub lacks_told : (p lu : ℕ) (numbers : Numbers) (now other : Terms) → terms_over lu numbers ≡ now → whole_at p numbers ≡ None → IsSubstituted p other (Some now) (Some now)
-lacks_told p lu numbers now other is whole = inl (sym (number_is p lu numbers now None is (sym whole)), refl)

@@ -1,8 +1,8 @@
 -- The lines that a turn forms of short lines.
-use Rattle.std.proofs.Common.{FitsSigned, lit<, ◌≡◌, ◌≢◌, ℕ, ◌+◌, ◌-◌, ◌*◌, ◌/◌, ◌^◌, ◌<◌, arith, ℤ, pos, neg_ℤ, ◌*ℤ◌, ◌-ℤ◌, unsigned_abs, [], ◌∷◌, ◌++◌, length, take, get_or, Option, Some, None, Result, Ok, Err, IfOk, IfSome, ap, sym, ◌∙◌, refl, subst}
+use Rattle.std.proofs.Common.{FitsSigned, lit<, ◌≡◌, ◌≢◌, ℕ, ◌+◌, ◌-◌, ◌*◌, ◌/◌, ◌^◌, ◌<◌, ◌≤◌, arith, ℤ, pos, neg_ℤ, ◌*ℤ◌, ◌-ℤ◌, unsigned_abs, [], ◌∷◌, ◌++◌, length, take, drop, set, get_or, Option, Some, None, Result, Ok, Err, IfOk, IfSome, ap, sym, ◌∙◌, refl, subst}
 use Rattle.std.specs.List.{All}
 use Rattle.std.proofs.lemmas.Int.{ints, fits_signed_from_abs}
-use Rattle.std.proofs.lemmas.List.{length-map, get_or-map}
+use Rattle.std.proofs.lemmas.List.{length-map, get_or-map, drop_more, take_more_set, drop-set-lt, length-set, take_all}
 use Rattle.std.proofs.lemmas.List.Elements.{All-cons, All-nil, All-more}
 use Rattle.std.proofs.lemmas.Nat.Gcd.{dvd_trans}
 use Rattle.std.specs.Int.{w64, IsGcd}
@@ -47,6 +47,39 @@ lowered_more u g terms i d numbers q some fits divides all inside is small so_fa
     let t : ℕ × ℤ = get_or terms i d in
     are_over_more (u / g) (terms_over u terms) i (t.0, reduced t.1 u) numbers q (subst (λ n. i < n) (sym (length-map terms (λ x. (x.0, reduced x.1 u)))) inside)
     (sym (get_or-map (λ x. (x.0, reduced x.1 u)) terms i d (t.0, reduced t.1 u) inside)) (lowered_same t.1 q u g is divides some fits small (all i d inside)) small so_far
+
+-- in place, so many numbers divided, and the others as they were
+pub record ArePartlyLowered (u g : ℕ) (terms items : Numbers) (i : ℕ) : Type 0 where
+  pub over : AreOver (u / g) (terms_over u terms) i (take i items)
+  pub rest : drop i items ≡ drop i terms
+  pub same_length : length items ≡ length terms
+
+pub lowered_start : (u g : ℕ) (terms : Numbers) → ArePartlyLowered u g terms terms 0
+lowered_start u g terms = record { over = record { same = refl; small = All-nil (λ t. IsSmall t.1) }; rest = refl; same_length = refl }
+
+pub lowered_here : (u g : ℕ) (terms items : Numbers) (i : ℕ) (x : ℕ × ℤ) → i < length items → ArePartlyLowered u g terms items i → get_or items i x ≡ get_or terms i x
+lowered_here u g terms items i x inside so_far =
+    let inside' : i < length terms = subst (λ n. i < n) so_far.same_length inside in
+    let both : get_or items i x ∷ drop (i + 1) items ≡ get_or terms i x ∷ drop (i + 1) terms = sym (drop_more items i x inside) ∙ so_far.rest ∙ drop_more terms i x inside' in
+    cc
+
+pub lowered_place : (u g : ℕ) (terms items : Numbers) (i : ℕ) (x : ℕ × ℤ) (q : ℤ) → 0 < u → u < 2 ^ 31 → g ∣ u → All (λ t. IsSmall t.1) terms → i < length items → x ≡ get_or items i x → q *ℤ pos g ≡ x.1
+    → IsSmall q → ArePartlyLowered u g terms items i → ArePartlyLowered u g terms (set items i (x.0, q)) (i + 1)
+lowered_place u g terms items i x q some fits divides all inside is product small so_far =
+    let inside' : i < length terms = subst (λ n. i < n) so_far.same_length inside in
+    let both : get_or items i x ∷ drop (i + 1) items ≡ get_or terms i x ∷ drop (i + 1) terms = sym (drop_more items i x inside) ∙ so_far.rest ∙ drop_more terms i x inside' in
+    let after : drop (i + 1) items ≡ drop (i + 1) terms = cc in
+    let here : x ≡ get_or terms i x = is ∙ lowered_here u g terms items i x inside so_far in
+    record {
+      over =
+          subst (λ l. AreOver (u / g) (terms_over u terms) (i + 1) l) (ap (λ (t : ℕ × ℤ). take i items ++ (t.0, q) ∷ []) (sym here) ∙ sym (take_more_set items i (x.0, q) inside))
+          (lowered_more u g terms i x (take i items) q some fits divides all inside' (product ∙ ap (λ (t : ℕ × ℤ). t.1) here) small so_far.over);
+      rest = drop-set-lt (i + 1) items i (x.0, q) (omega arith) ∙ after;
+      same_length = length-set items i (x.0, q) ∙ so_far.same_length;
+    }
+
+pub lowered_all : (u g : ℕ) (terms items : Numbers) (i : ℕ) → length items ≤ i → ArePartlyLowered u g terms items i → AreOver (u / g) (terms_over u terms) i items
+lowered_all u g terms items i past so_far = subst (λ l. AreOver (u / g) (terms_over u terms) i l) (take_all i items past) so_far.over
 
 -- a line of one position
 pub lone_short : (p : ℕ) (z : ℤ) (u : ℕ) → p < 2 ^ 64 - 1 → 0 < u → u < 2 ^ 31 → IsSmall z → z ≢ pos 0 → IsLine (terms_over u ((p, z) ∷ []))
@@ -126,3 +159,16 @@ opposite_is s = omega (arith, ints)
 -- what holds of a value that there is
 pub held : (P : Terms → Type 0) (o : Option Terms) (l : Terms) → o ≡ Some l → IfSome o P → P l
 held P o l is holds = subst (λ x. IfSome x P) is holds
+
+-- a line of one position with the number 1
+pub lone_one : (p : ℕ) (numbers : Numbers) → p < 2 ^ 64 - 1 → numbers ≡ (p, pos 1) ∷ [] → IsShort 1 numbers × (terms_over 1 numbers ≡ (p, one) ∷ [])
+lone_one p numbers fits is =
+    subst (λ l. IsShort 1 l × (terms_over 1 l ≡ (p, one) ∷ [])) (sym is) (
+      record {
+        some = lit< tt;
+        fits = lit< tt;
+        small = All-cons (λ t. IsSmall t.1) (p, pos 1) [] (lit< tt) (All-nil (λ t. IsSmall t.1));
+        line = lone_short p (pos 1) 1 fits (lit< tt) (lit< tt) (lit< tt) (λ e. omega (arith, ints));
+      },
+      ap (λ r. (p, r) ∷ []) one_reduced,
+    )

@@ -1,6 +1,6 @@
 -- The fractions in lowest terms that whole numbers over a denominator stand for.
 use Rattle.std.proofs.Common.{◌≡◌, ◌≢◌, ℕ, ◌+◌, ◌*◌, ◌/◌, ◌%◌, ◌^◌, ◌<◌, ◌≤◌, ◌==◌, zero, suc, arith, ℤ, pos, negsuc, neg_ℤ, ◌*ℤ◌, ◌<ℤ◌, ◌↔◌, unsigned_abs, [], ◌∷◌, Bool, true, false, IsTrue, if◌then◌else◌, Option, Some, None, ap, sym, ◌∙◌, refl, subst, ◌++◌}
-use Rattle.std.proofs.Common.{length, get_or, take, IfSome}
+use Rattle.std.proofs.Common.{length, get_or, take, drop, IfSome}
 use Rattle.std.specs.Option.{option_map}
 use Rattle.std.specs.Int.{IsGcd}
 use Rattle.std.specs.List.{All}
@@ -104,6 +104,13 @@ negated_small (t ∷ numbers) all =
   where
     same : (z : ℤ) → IsSmall z → IsSmall (neg_ℤ z)
     same z h = omega (arith, ints)
+
+-- in place, so many numbers with the other sign, and the others as they were
+pub negated_here : (numbers : Numbers) (i : ℕ) (x : ℕ × ℤ) → get_or (signed_numbers true (take i numbers) ++ drop i numbers) i x ≡ get_or numbers i x
+negated_here [] zero x = refl
+negated_here [] (suc i) x = refl
+negated_here (t ∷ numbers) zero x = refl
+negated_here (t ∷ numbers) (suc i) x = negated_here numbers i x
 
 pub signed_over : (told : Bool) (under : ℕ) (numbers : Numbers) (now : Terms) → IsShort under numbers → terms_over under numbers ≡ now → terms_over under (signed_numbers told numbers) ≡ signed_terms told now
 signed_over false under numbers now short is = is

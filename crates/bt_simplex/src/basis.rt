@@ -8,7 +8,7 @@ ghost use Rattle.bt_simplex.specs.SolvedForms.{slot_at};
 ghost use Rattle.bt_simplex.specs.Turns.{InBasis};
 ghost use Rattle.bt_simplex.specs.inner.Places.{IsPlace};
 
-use crate::line::{Line, Term, signed_line};
+use crate::line::{Line, Room, Term, lone_line};
 use bt_frac::Frac;
 use std::alloc::{AllocError, Global};
 use std::marker::Model;
@@ -127,13 +127,21 @@ impl Basis {
         }
     }
 
-    /// The line of a position, where that is in the basis.
-    pub fn line(&self, alloc: Global, position: usize) -> Result<Option<Line>, AllocError>
+    /// The line of a position, where that is in the basis, in the room of a list whose terms are dropped.
+    pub fn line(
+        &self,
+        alloc: Global,
+        room: Room,
+        position: usize,
+    ) -> Result<Option<Line>, AllocError>
         ensures { IfOk result (λ slot. slot ≡ slot_at self.now position) }
     {
         match self.place(position) {
-            Place::Line { line, negated, .. } => Ok(Some(line.signed(alloc, negated)?)),
-            Place::Like { other, negated } => Ok(Some(lone_line(alloc, other, negated)?)),
+            Place::Line { line, negated, .. } => {
+                let copy = line.copied_in(alloc, room)?;
+                Ok(Some(copy.with_sign(alloc, negated)?))
+            }
+            Place::Like { other, negated } => Ok(Some(lone_line(alloc, room, other, negated)?)),
             Place::Outside => Ok(None),
         }
     }
@@ -209,14 +217,6 @@ pub fn differ(first: bool, second: bool) -> bool
     ensures { result ≡ differ first second }
 {
     if first { !second } else { second }
-}
-
-/// The line of one position with the number 1, or -1 where this is told.
-fn lone_line(alloc: Global, position: usize, negated: bool) -> Result<Line, AllocError>
-    requires { position < 2 ^ 64 - 1 }
-    ensures { IfOk result (λ line. line ≡ signed_terms negated ((position, one) ∷ [])) }
-{
-    signed_line(alloc, &[(position, Frac::whole(1))], negated)
 }
 
 /// Whether a line has these terms, or these with the other sign where this is told.

@@ -15,6 +15,7 @@ use crate::line::Line;
 use crate::points::{bound_value, line_point, point};
 use crate::short::{breaks_at, breaks_by};
 use crate::tableau::{Tableau, Turn};
+use crate::workspace::Rooms;
 use bt_frac::{Delta, Frac, Relation, Row};
 use std::alloc::{AllocError, Global};
 use std::cmp::Ordering;
@@ -171,6 +172,7 @@ fn first_entering(tableau: &Tableau, row: &Row, point: &Delta, line: &Line) -> O
 pub fn entering(
     tableau: &Tableau,
     alloc: Global,
+    rooms: &mut Rooms,
     basis: &Basis,
     leaves: usize,
 ) -> Result<Least, AllocError>
@@ -178,10 +180,13 @@ pub fn entering(
     ensures { IfOk result (Finds (with_slots tableau.now basis.now)
         (λ e. CanEnter (with_slots tableau.now basis.now) leaves e)) }
 {
-    let Some(line) = basis.line(alloc, leaves)? else {
+    let room = rooms.taken(alloc);
+    let Some(line) = basis.line(alloc, room, leaves)? else {
         return Ok(Least::Nowhere);
     };
-    Ok(entering_by(tableau, leaves, &line))
+    let least = entering_by(tableau, leaves, &line);
+    rooms.give(Some(line));
+    Ok(least)
 }
 
 /// The least position that can enter for one that fails and has this line.
@@ -207,6 +212,7 @@ fn entering_by(tableau: &Tableau, leaves: usize, line: &Line) -> Least
 pub fn blands_next(
     tableau: &Tableau,
     alloc: Global,
+    rooms: &mut Rooms,
     basis: &Basis,
     kept: &mut Kept,
 ) -> Result<Next, AllocError>
@@ -215,7 +221,7 @@ pub fn blands_next(
     ensures kept { AreKept tableau.now basis.now kept.new.sums.items }
 {
     match leaving(tableau, basis, kept) {
-        Least::At(leaves) => match entering(tableau, alloc, basis, leaves)? {
+        Least::At(leaves) => match entering(tableau, alloc, rooms, basis, leaves)? {
             Least::At(enters) => Ok(Next::Turn(Turn { leaves, enters })),
             Least::Nowhere => Ok(Next::Stuck(leaves)),
             Least::Wide(cause) => Ok(Next::Wide(cause)),

@@ -17,15 +17,23 @@ pub struct Kept {
 }
 
 impl Kept {
-    /// No sums, of so many classes.
-    pub fn none(alloc: Global, classes: usize) -> Result<Kept, AllocError>
-        ensures { IfOk result (λ kept. kept.sums.items ≡ replicate classes None) }
-    {
-        let mut sums = Vec::with_capacity(alloc, classes)?;
-        for _ in 0..classes {
-            sums.push(None)?;
+    /// No sums and no memory.
+    pub fn none(alloc: Global) -> Kept {
+        Kept {
+            sums: Vec::new(alloc),
         }
-        Ok(Kept { sums })
+    }
+
+    /// Drops all sums, and has places for those of so many classes.
+    pub fn restart(&mut self, classes: usize) -> Result<(), AllocError>
+        ensures { IfOk result (λ _. self.new.sums.items ≡ replicate classes None) }
+    {
+        self.sums.clear();
+        self.sums.reserve(classes)?;
+        for _ in 0..classes {
+            self.sums.push(None)?;
+        }
+        Ok(())
     }
 
     /// The sums that are kept of a class.

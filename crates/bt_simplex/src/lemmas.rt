@@ -84,7 +84,7 @@ fn stuck_weights(
         (λ o. IfOk o (λ v. AreLineWeights (with_slots tableau.now basis.now) position v.items)) }
     ensures unfit { IfOk result (λ o. IfErr o (IsCause (with_slots tableau.now basis.now))) }
 {
-    let Some(found) = basis.line(alloc, position)? else {
+    let Some(found) = basis.line(alloc, Vec::new(alloc), position)? else {
         unreachable!()
     };
     let terms = found.terms(alloc)?;

@@ -1,15 +1,15 @@
 //! Lines of a solved form: the positions whose numbers aren't 0, in ascending order, with these numbers.
-ghost use Rattle.std.specs.Prelude.{◌≡◌, ◌≢◌, ◌<◌, ◌-◌, ◌^◌, pos, IfOk, IfErr, IfSome, Some, true, length, slice_index_or};
+ghost use Rattle.std.specs.Prelude.{◌≡◌, ◌≢◌, ◌∷◌, [], ◌<◌, ◌-◌, ◌^◌, pos, IfOk, IfErr, IfSome, Some, None, IsTrue, true, false, length, slice_index_or};
 ghost use Rattle.bt_frac.specs.Ratio.{Ratio, IsLowest};
 ghost use Rattle.bt_lin.specs.WeightedRows.{coefficient_at};
 ghost use Rattle.bt_simplex.specs.Classes.{signed_terms};
-ghost use Rattle.bt_simplex.specs.Lines.{IsLine, HasNumber, IsCombination};
-ghost use Rattle.bt_simplex.specs.inner.TurnedSlots.{IsZeroLine, IsEntering, IsChange};
+ghost use Rattle.bt_simplex.specs.Lines.{one, IsLine, HasNumber, IsCombination};
+ghost use Rattle.bt_simplex.specs.inner.TurnedSlots.{IsZeroLine, IsSubstituted, IsUnfitChange, IsEntering};
 ghost use Rattle.bt_simplex.specs.inner.Unfits.{IsUnfit};
 
 use crate::causes::Unfit;
 use crate::merging::merged;
-use crate::short::{Entry, Short, Substitution, entering_line, shortened, substituted, zero_line};
+use crate::short::{Entry, Short, entering_line, lone_short, shortened, substituted, zero_line};
 use bt_frac::Frac;
 use std::alloc::{AllocError, Global};
 use std::marker::Model;
@@ -45,17 +45,6 @@ impl Model for Line {
     ghost view = { λ l. form_terms l.form };
 
     ghost invariant = { λ l. IsLine (form_terms l.form) };
-}
-
-/// What a turn makes of a slot.
-#[derive(Drop)]
-pub enum Change {
-    /// The slot has no line, or one without the entering position. The room is not used.
-    Stays(Room),
-    /// The slot's line, with what the entering position stands for in place of it.
-    Line(Line),
-    /// A product or a sum doesn't fit.
-    Wide(Unfit),
 }
 
 impl Line {
@@ -145,12 +134,13 @@ impl Line {
     }
 
     /// The line, with the other sign where this is told.
-    pub fn signed(&self, alloc: Global, negated: bool) -> Result<Line, AllocError>
-        ensures { IfOk result (λ line. line ≡ signed_terms negated self.now) }
+    pub fn with_sign(self, alloc: Global, negated: bool) -> Result<Line, AllocError>
+        ensures { IfOk result (λ line. line ≡ signed_terms negated self) }
     {
-        match &self.form {
-            Form::Whole(short) => Ok(Line::whole(short.signed(alloc, negated)?)),
-            Form::Fractions(terms) => signed_line(alloc, terms, negated),
+        let Line { form } = self;
+        match form {
+            Form::Whole(short) => Ok(Line::whole(short.with_sign(negated))),
+            Form::Fractions(terms) => signed_line(alloc, &terms, negated),
         }
     }
 
@@ -164,53 +154,67 @@ impl Line {
         }
     }
 
-    /// What becomes of the line where what a position stands for, by a line that is 0, is put in place of it,
-    /// in the room of a list whose terms are dropped.
+    /// Whether the line names a position.
+    pub fn names(&self, position: usize) -> bool
+        ensures named { IsTrue result → coefficient_at position self.now ≢ None }
+        ensures lacks { result ≡ false → coefficient_at position self.now ≡ None }
+    {
+        match &self.form {
+            Form::Whole(short) => short.names(position),
+            Form::Fractions(terms) => match found(terms, position) {
+                Some(_) => true,
+                None => false,
+            },
+        }
+    }
+
+    /// The line, which names a position, with what the position stands for, by a line that is 0, in place of it,
+    /// in the room of a list whose terms are dropped; or a product or a sum that doesn't fit.
     pub fn substituted(
         &self,
         alloc: Global,
         room: Room,
         enters: usize,
         zero: &Line,
-    ) -> Result<Change, AllocError>
-        ensures { IfOk result (IsChange enters zero.now (Some self.now)) }
+    ) -> Result<Result<Line, Unfit>, AllocError>
+        requires { coefficient_at enters self.now ≢ None }
+        ensures sum { IfOk result (λ o. IfOk o
+            (λ line. IsSubstituted enters zero.now (Some self.now) (Some line))) }
+        ensures unfit { IfOk result (λ o. IfErr o (IsUnfitChange enters zero.now self.now)) }
     {
-        let (Some(line), Some(other)) = (self.short(), zero.short()) else {
-            return self.substituted_long(alloc, room, enters, zero);
-        };
-        match substituted(room, line, enters, other)? {
-            Substitution::Lacks(same) => Ok(Change::Stays(same)),
-            Substitution::Large => self.substituted_long(alloc, Vec::new(alloc), enters, zero),
-            Substitution::Sum(sum) => Ok(Change::Line(Line::whole(sum))),
+        if let (Some(line), Some(other)) = (self.short(), zero.short()) {
+            if let Some(sum) = substituted(room, line, enters, other)? {
+                return Ok(Ok(Line::whole(sum)));
+            }
         }
+        self.substituted_long(alloc, enters, zero)
     }
 
     /// The same by fractions.
     fn substituted_long(
         &self,
         alloc: Global,
-        room: Room,
         enters: usize,
         zero: &Line,
-    ) -> Result<Change, AllocError>
-        ensures { IfOk result (IsChange enters zero.now (Some self.now)) }
+    ) -> Result<Result<Line, Unfit>, AllocError>
+        requires { coefficient_at enters self.now ≢ None }
+        ensures sum { IfOk result (λ o. IfOk o
+            (λ line. IsSubstituted enters zero.now (Some self.now) (Some line))) }
+        ensures unfit { IfOk result (λ o. IfErr o (IsUnfitChange enters zero.now self.now)) }
     {
         let Some(number) = self.number_at(enters) else {
-            return Ok(Change::Stays(room));
+            unreachable!()
         };
         let left = self.terms(alloc)?;
         let right = zero.terms(alloc)?;
-        match combined(alloc, &left, &number, &right)? {
-            Ok(line) => Ok(Change::Line(line)),
-            Err(unfit) => Ok(Change::Wide(unfit)),
-        }
+        combined(alloc, &left, &number, &right)
     }
 
     /// The line that is 0 wherever this line holds of its position, where both are held as small whole
-    /// numbers.
+    /// numbers, in the room of a list whose terms are dropped.
     pub fn whole_zero(
         &self,
-        alloc: Global,
+        room: Room,
         position: usize,
         enters: usize,
     ) -> Result<Option<Line>, AllocError>
@@ -223,31 +227,31 @@ impl Line {
         let Some(line) = self.short() else {
             return Ok(None);
         };
-        match zero_line(alloc, position, line, enters)? {
+        match zero_line(room, position, line, enters)? {
             Some(zero) => Ok(Some(Line::whole(zero))),
             None => Ok(None),
         }
     }
 
-    /// The room of a line that is needed no more.
-    pub fn into_room(self, alloc: Global) -> Room {
+    /// The room of a line that is needed no more, where it holds small whole numbers.
+    pub fn into_room(self) -> Option<Room> {
         let Line { form } = self;
         match form {
-            Form::Whole(short) => short.into_room(),
-            Form::Fractions(_) => Vec::new(alloc),
+            Form::Whole(short) => Some(short.into_room()),
+            Form::Fractions(_) => None,
         }
     }
 
     /// The line of the position that enters, by this line, which is 0 and has its number -1 there, where both
-    /// are held as small whole numbers.
-    pub fn whole_entering(&self, alloc: Global, enters: usize) -> Result<Option<Line>, AllocError>
+    /// are held as small whole numbers, in the room of a list whose terms are dropped.
+    pub fn whole_entering(&self, room: Room, enters: usize) -> Result<Option<Line>, AllocError>
         requires { enters < 2 ^ 64 - 1 }
         ensures { IfOk result (λ o. IfSome o (IsEntering enters self.now)) }
     {
         let Some(zero) = self.short() else {
             return Ok(None);
         };
-        match entering_line(alloc, enters, zero)? {
+        match entering_line(room, enters, zero)? {
             Some(line) => Ok(Some(Line::whole(line))),
             None => Ok(None),
         }
@@ -280,6 +284,23 @@ pub fn signed_line(alloc: Global, terms: &[Term], negated: bool) -> Result<Line,
         Line::of(alloc, others)
     } else {
         Line::of(alloc, Vec::from_slice(alloc, terms)?)
+    }
+}
+
+/// The line of one position with the number 1, or -1 where this is told, in the room of a list whose terms are
+/// dropped.
+pub fn lone_line(
+    alloc: Global,
+    room: Room,
+    position: usize,
+    negated: bool,
+) -> Result<Line, AllocError>
+    requires { position < 2 ^ 64 - 1 }
+    ensures { IfOk result (λ line. line ≡ signed_terms negated ((position, one) ∷ [])) }
+{
+    match lone_short(room, position)? {
+        Some(short) => Ok(Line::whole(short.with_sign(negated))),
+        None => signed_line(alloc, &[(position, Frac::whole(1))], negated),
     }
 }
 

@@ -13,6 +13,7 @@ use crate::causes::Cause;
 use crate::kept::Kept;
 use crate::tableau::{Tableau, Turn};
 use crate::turning::turn;
+use crate::workspace::Rooms;
 use std::alloc::{AllocError, Global};
 
 /// Where a run of turns ends.
@@ -45,6 +46,7 @@ fn make_turn(
     tableau: &Tableau,
     alloc: Global,
     basis: &mut Basis,
+    rooms: &mut Rooms,
     kept: &mut Kept,
     made: Turn,
 ) -> Result<Result<(), Cause>, AllocError>
@@ -57,30 +59,32 @@ fn make_turn(
         (λ o. IfOk o (λ _. AreKept tableau.now basis.new kept.new.sums.items)) }
 {
     let _ = tableau;
-    turn(alloc, basis, kept, made.leaves, made.enters)
+    turn(alloc, rooms, basis, kept, made.leaves, made.enters)
 }
 
-/// Makes Bland's turns from a basis on, at most so many.
+/// Makes Bland's turns from a basis on, at most so many, in the memory of earlier runs.
 pub fn turned_from(
     tableau: &Tableau,
     alloc: Global,
     start: Basis,
+    rooms: &mut Rooms,
+    kept: &mut Kept,
     pivots: u64,
 ) -> Result<Run, AllocError>
     requires { IsTableau (with_slots tableau.now start) }
     ensures { IfOk result (IsRun pivots tableau.now start) }
 {
     let mut basis = start;
-    let mut kept = Kept::none(alloc, basis.classes())?;
+    kept.restart(basis.classes())?;
     let mut turns = Vec::new(alloc);
     'turns: loop {
-        match blands_next(tableau, alloc, &basis, &mut kept)? {
+        match blands_next(tableau, alloc, rooms, &basis, kept)? {
             Next::Turn(turn) => {
                 if turns.len() as u64 >= pivots {
                     let end = End::Pivots;
                     return Ok(Run { turns, basis, end });
                 }
-                if let Err(cause) = make_turn(tableau, alloc, &mut basis, &mut kept, turn)? {
+                if let Err(cause) = make_turn(tableau, alloc, &mut basis, rooms, kept, turn)? {
                     let end = End::Wide(cause);
                     return Ok(Run { turns, basis, end });
                 }

@@ -1,6 +1,6 @@
 //! Lines whose numbers are small whole numbers over one small denominator. Sums of these need no
 //! fractions, and their products fit 64 bits.
-ghost use Rattle.std.specs.Prelude.{◌≡◌, ◌<◌, ◌≤◌, ◌^◌, ◌*ℤ◌, IfOk, IfSome, true, IsTrue, ◌↔◌, length, slice_index_or, unsigned_abs};
+ghost use Rattle.std.specs.Prelude.{◌≡◌, ◌≢◌, ◌<◌, ◌≤◌, ◌^◌, ◌*ℤ◌, IfOk, IfSome, None, true, false, IsTrue, ◌↔◌, length, slice_index_or, unsigned_abs};
 ghost use Rattle.std.specs.Int.{IsGcd};
 ghost use Rattle.std.specs.List.{All};
 ghost use Rattle.bt_lin.specs.WeightedRows.{coefficient_at};
@@ -16,8 +16,9 @@ mod zero;
 
 use crate::line::Term;
 use bt_frac::Frac;
+pub use copying::lone_short;
 pub use entry::Entry;
-pub use merging::{Substitution, substituted};
+pub use merging::substituted;
 pub use points::{ClassSums, breaks_at, breaks_by};
 use std::alloc::{AllocError, Global};
 use std::marker::Model;
@@ -89,15 +90,26 @@ impl Short {
         }
     }
 
-    /// The line, with the other sign where this is told.
-    pub fn signed(&self, alloc: Global, negated: bool) -> Result<Short, AllocError>
-        ensures { IfOk result (λ line. line ≡ signed_terms negated self.now) }
+    /// Whether the line names a position.
+    pub fn names(&self, position: usize) -> bool
+        ensures named { IsTrue result → coefficient_at position self.now ≢ None }
+        ensures lacks { result ≡ false → coefficient_at position self.now ≡ None }
     {
-        let terms = signed_numbers(alloc, &self.terms, negated)?;
-        Ok(Short {
-            terms,
-            under: self.under,
-        })
+        match whole_at(&self.terms, position) {
+            Some(_) => true,
+            None => false,
+        }
+    }
+
+    /// The line, with the other sign where this is told.
+    pub fn with_sign(self, negated: bool) -> Short
+        ensures { result ≡ signed_terms negated self }
+    {
+        let Short { terms, under } = self;
+        Short {
+            terms: signed_numbers(terms, negated),
+            under,
+        }
     }
 
     /// The room of the terms, for those of another line.
@@ -156,27 +168,27 @@ fn whole_at(terms: &[Entry], position: usize) -> Option<i64>
 }
 
 /// The numbers, with the other sign where this is told.
-fn signed_numbers(alloc: Global, terms: &[Entry], negated: bool) -> Result<Vec<Entry>, AllocError>
-    requires { All (λ t. IsSmall t.1) terms.now }
-    ensures { IfOk result (λ v. v.items ≡ signed_numbers negated terms.now) }
+fn signed_numbers(terms: Vec<Entry>, negated: bool) -> Vec<Entry>
+    requires { All (λ t. IsSmall t.1) terms.items }
+    ensures { result.items ≡ signed_numbers negated terms.items }
 {
     if negated {
-        negated_numbers(alloc, terms)
+        negated_numbers(terms)
     } else {
-        Vec::from_slice(alloc, terms)
+        terms
     }
 }
 
 /// The numbers with the other sign.
-fn negated_numbers(alloc: Global, terms: &[Entry]) -> Result<Vec<Entry>, AllocError>
-    requires { All (λ t. IsSmall t.1) terms.now }
-    ensures { IfOk result (λ v. v.items ≡ signed_numbers true terms.now) }
+fn negated_numbers(terms: Vec<Entry>) -> Vec<Entry>
+    requires { All (λ t. IsSmall t.1) terms.items }
+    ensures { result.items ≡ signed_numbers true terms.items }
 {
-    let mut others = Vec::with_capacity(alloc, terms.len())?;
-    for entry in terms {
-        others.push(Entry::of(entry.position(), -entry.number()))?;
+    let mut others = terms;
+    for entry in others.iter_mut() {
+        *entry = Entry::of(entry.position(), -entry.number());
     }
-    Ok(others)
+    others
 }
 
 /// The line of these terms, where their numbers are small over a small denominator and their positions fit.

@@ -11,6 +11,7 @@ ghost use Rattle.bt_simplex.specs.Turns.{CanTurn, IsTurnedBy};
 use crate::answers::{Check, Trail, Wide};
 use crate::basis::{Basis, Place};
 use crate::causes::Cause;
+use crate::kept::Kept;
 use crate::lemmas::lemma;
 use crate::rests::{Rest, all_free};
 use crate::running::{End, Run, turned_from};
@@ -147,30 +148,48 @@ impl Tableau {
         let Workspace {
             basis: start,
             rooms,
+            kept,
         } = spare.copy_of(alloc, &self.basis)?;
-        let Run { turns, basis, end } = turned_from(self, alloc, start, pivots)?;
+        let mut rooms = rooms;
+        let mut kept = kept;
+        let Run { turns, basis, end } = turned_from(
+            self, alloc, start, &mut rooms, &mut kept, pivots,
+        )?;
         match end {
             End::Met => match settled(self, alloc, &basis)? {
                 Ok(values) => {
-                    self.take_in(basis, rooms);
+                    self.take_in(basis, rooms, kept);
                     Ok(Check::Sat(values))
                 }
-                Err(cause) => Ok(Check::Wide(self.wide(alloc, turns, &basis, cause)?)),
+                Err(cause) => {
+                    let reached = Workspace { basis, rooms, kept };
+                    Ok(Check::Wide(self.wide(alloc, turns, reached, cause)?))
+                }
             },
             End::Stuck(position) => match lemma(self, alloc, &basis, position)? {
                 Ok(weights) => {
-                    self.take_in(basis, rooms);
+                    self.take_in(basis, rooms, kept);
                     Ok(Check::Unsat(weights))
                 }
-                Err(cause) => Ok(Check::Wide(self.wide(alloc, turns, &basis, cause)?)),
+                Err(cause) => {
+                    let reached = Workspace { basis, rooms, kept };
+                    Ok(Check::Wide(self.wide(alloc, turns, reached, cause)?))
+                }
             },
-            End::Pivots => Ok(Check::Pivots(self.trail(alloc, turns)?)),
-            End::Wide(cause) => Ok(Check::Wide(self.wide(alloc, turns, &basis, cause)?)),
+            End::Pivots => {
+                let trail = self.trail(alloc, turns)?;
+                self.spare = Workspace { basis, rooms, kept };
+                Ok(Check::Pivots(trail))
+            }
+            End::Wide(cause) => {
+                let reached = Workspace { basis, rooms, kept };
+                Ok(Check::Wide(self.wide(alloc, turns, reached, cause)?))
+            }
         }
     }
 
     /// Moves a basis in, and keeps the memory of the one before for the next check.
-    fn take_in(&mut self, basis: Basis, rooms: Rooms)
+    fn take_in(&mut self, basis: Basis, rooms: Rooms, kept: Kept)
         requires { IsTableau (with_slots self.old basis) }
         ensures { self.new ≡ with_slots self.old basis }
     {
@@ -178,6 +197,7 @@ impl Tableau {
         self.spare = Workspace {
             basis: before,
             rooms,
+            kept,
         };
     }
 
@@ -192,26 +212,29 @@ impl Tableau {
         })
     }
 
-    /// The cause, after these turns, which lead to this basis.
+    /// The cause, after these turns, which lead to this basis, whose memory is kept for the next check.
     fn wide(
-        &self,
+        &mut self,
         alloc: Global,
         turns: Vec<Turn>,
-        basis: &Basis,
+        reached: Workspace,
         cause: Cause,
     ) -> Result<Wide, AllocError>
-        ensures { IfOk result (IsWideFor self.now turns.items basis.now cause) }
+        ensures wide { IfOk result (IsWideFor self.old turns.items reached.basis cause) }
+        ensures same { self.new ≡ self.old }
     {
-        Ok(Wide {
+        let wide = Wide {
             trail: self.trail(alloc, turns)?,
             place: cause.place,
-            basis: positions(alloc, basis)?,
+            basis: positions(alloc, &reached.basis)?,
             row: cause.row,
             column: cause.column,
             operation: cause.operation,
             left: cause.left,
             right: cause.right,
-        })
+        };
+        self.spare = reached;
+        Ok(wide)
     }
 
     /// The rows.

@@ -1,11 +1,11 @@
 //! Turns of a basis: a position leaves it, and one that its line names enters.
-ghost use Rattle.std.specs.Prelude.{◌≡◌, ◌≢◌, ℕ, ◌<◌, ◌-◌, ◌^◌, pos, length, slice_set, IfOk, IfErr, IfSome, Some, None};
+ghost use Rattle.std.specs.Prelude.{◌≡◌, ◌≢◌, ℕ, ◌<◌, ◌-◌, ◌^◌, pos, length, slice_set, IfOk, IfErr, IfSome, IfNone, Some, None};
 ghost use Rattle.bt_frac.specs.Ratio.{IsLowest, negated};
 ghost use Rattle.bt_lin.specs.WeightedRows.{coefficient_at};
 ghost use Rattle.bt_simplex.specs.Lines.{one, Terms, IsLine, HasNumber};
 ghost use Rattle.bt_simplex.specs.Classes.{position_at};
 ghost use Rattle.bt_simplex.specs.SolvedForms.{Slots, slot_at};
-ghost use Rattle.bt_simplex.specs.inner.TurnedSlots.{IsZeroLine, AreLines, IsChange, AreSubstituted, with_line, IsEntering, IsTurned};
+ghost use Rattle.bt_simplex.specs.inner.TurnedSlots.{IsZeroLine, AreLines, IsSubstituted, AreSubstituted, with_line, IsEntering, IsTurned};
 ghost use Rattle.bt_simplex.specs.inner.Kept.{LinesStay, OthersStay, SlotsStay};
 ghost use Rattle.bt_simplex.specs.inner.Shares.{IsNegatedShare, AreNegatedShares};
 ghost use Rattle.bt_simplex.specs.inner.UnfitTurns.{IsUnfitShare, IsUnfitTerm, IsUnfitZero, IsUnfitSlot, CanPart, IsSlotZero, IsUnfitPart, IsUnfitLine, IsUnfitTurn, entry_cause};
@@ -14,8 +14,8 @@ use crate::answers::{Operation, WidePlace};
 use crate::basis::{Basis, Member};
 use crate::causes::{Cause, Unfit};
 use crate::kept::Kept;
-use crate::line::{Change, Line, Room, Term, combined};
-use crate::workspace::Workspace;
+use crate::line::{Line, Term, combined};
+use crate::workspace::{Rooms, Workspace};
 use bt_frac::Frac;
 use std::alloc::{AllocError, Global};
 
@@ -78,19 +78,20 @@ fn zero_line(
     }
 }
 
-/// What a turn makes of a slot, by a line that is 0, in the room of a list whose terms are dropped.
-fn changed(
-    alloc: Global,
-    room: Room,
-    slot: &Option<Line>,
-    enters: usize,
-    zero: &Line,
-) -> Result<Change, AllocError>
-    ensures { IfOk result (IsChange enters zero.now slot.now) }
+/// The line of a slot, where it names the position.
+fn naming(slot: &Option<Line>, position: usize) -> Option<&Line>
+    ensures line { IfSome result (λ line. slot.now ≡ Some line.now) }
+    ensures named { IfSome result (λ line. coefficient_at position line.now ≢ None) }
+    ensures lacks { IfNone result ((zero : Terms) → IsSubstituted position zero slot.now slot.now) }
 {
     match slot {
-        Some(line) => line.substituted(alloc, room, enters, zero),
-        None => Ok(Change::Stays(room)),
+        Some(line) => {
+            if line.names(position) {
+                return Some(line);
+            }
+            None
+        }
+        None => None,
     }
 }
 
@@ -113,18 +114,11 @@ fn entry_cause(row: usize, unfit: Unfit) -> Cause
     }
 }
 
-/// The room of a line that is needed no more.
-fn room_of(alloc: Global, line: Option<Line>) -> Room {
-    match line {
-        Some(line) => line.into_room(alloc),
-        None => Vec::new(alloc),
-    }
-}
-
 /// Puts what the entering position stands for in place of it, in each line, and forgets the sums of those
 /// that change; or tells a product or a sum that doesn't fit.
 fn substitute(
     alloc: Global,
+    rooms: &mut Rooms,
     slots: &mut [Option<Line>],
     kept: &mut Kept,
     enters: usize,
@@ -135,16 +129,18 @@ fn substitute(
     ensures kept { IfOk result (λ o. IfOk o
         (λ _. LinesStay slots.old slots.new kept.old.sums.items kept.new.sums.items)) }
 {
-    let mut room = Vec::new(alloc);
     for i in 0..slots.len() {
-        match changed(alloc, room, &slots[i], enters, zero)? {
-            Change::Stays(same) => room = same,
-            Change::Line(line) => {
+        let Some(line) = naming(&slots[i], enters) else {
+            continue;
+        };
+        let room = rooms.taken(alloc);
+        match line.substituted(alloc, room, enters, zero)? {
+            Ok(line) => {
                 let old = std::mem::replace(&mut slots[i], Some(line));
                 kept.forget(i);
-                room = room_of(alloc, old);
+                rooms.give(old);
             }
-            Change::Wide(unfit) => return Ok(Err(entry_cause(i, unfit))),
+            Err(unfit) => return Ok(Err(entry_cause(i, unfit))),
         }
     }
     Ok(Ok(()))
@@ -152,12 +148,18 @@ fn substitute(
 
 /// The line of the entering position: the position itself and a line that is 0 and has its number -1
 /// there, so that each product and sum fits.
-fn entering_line(alloc: Global, enters: usize, zero: &Line) -> Result<Line, AllocError>
+fn entering_line(
+    alloc: Global,
+    rooms: &mut Rooms,
+    enters: usize,
+    zero: &Line,
+) -> Result<Line, AllocError>
     requires position { enters < 2 ^ 64 - 1 }
     requires number { coefficient_at enters zero.now ≡ Some (negated one) }
     ensures { IfOk result (IsEntering enters zero.now) }
 {
-    if let Some(line) = zero.whole_entering(alloc, enters)? {
+    let room = rooms.taken(alloc);
+    if let Some(line) = zero.whole_entering(room, enters)? {
         return Ok(line);
     }
     let one = Frac::whole(1);
@@ -171,6 +173,7 @@ fn entering_line(alloc: Global, enters: usize, zero: &Line) -> Result<Line, Allo
 /// The line that is 0 wherever a slot's line holds of its position; or a quotient that doesn't fit.
 fn slot_zero(
     alloc: Global,
+    rooms: &mut Rooms,
     slot: &Option<Line>,
     leaves: usize,
     enters: usize,
@@ -181,10 +184,31 @@ fn slot_zero(
     ensures unfit { IfOk result (λ o. IfErr o (IsUnfitPart slot.now leaves enters)) }
 {
     let Some(line) = slot else { unreachable!() };
-    if let Some(zero) = line.whole_zero(alloc, leaves, enters)? {
+    let room = rooms.taken(alloc);
+    if let Some(zero) = line.whole_zero(room, leaves, enters)? {
         return Ok(Ok(zero));
     }
     long_zero(alloc, line, leaves, enters)
+}
+
+/// The line that is 0 wherever the line of a position of the basis holds; or a quotient that doesn't fit.
+fn leaving_zero(
+    alloc: Global,
+    rooms: &mut Rooms,
+    basis: &Basis,
+    leaves: usize,
+    enters: usize,
+) -> Result<Result<Line, Unfit>, AllocError>
+    requires position { leaves < 2 ^ 64 - 1 }
+    requires can { CanPart (slot_at basis.now leaves) leaves enters }
+    ensures zero { IfOk result (λ o. IfOk o (IsSlotZero (slot_at basis.now leaves) leaves enters)) }
+    ensures unfit { IfOk result (λ o. IfErr o (IsUnfitPart (slot_at basis.now leaves) leaves enters)) }
+{
+    let room = rooms.taken(alloc);
+    let slot = basis.line(alloc, room, leaves)?;
+    let zero = slot_zero(alloc, rooms, &slot, leaves, enters)?;
+    rooms.give(slot);
+    Ok(zero)
 }
 
 /// The same of a line, by fractions.
@@ -207,9 +231,11 @@ fn long_zero(
 }
 
 /// Takes a class's line, and puts what the entering position stands for in place of it in each other line,
-/// with no sums kept of those that change; or tells a product or a sum that doesn't fit, and the same classes then have lines as before.
+/// with no sums kept of those that change; or tells a product or a sum that doesn't fit, and the same classes
+/// then have lines as before.
 fn substitute_others(
     alloc: Global,
+    rooms: &mut Rooms,
     lines: &mut [Option<Line>],
     kept: &mut Kept,
     left: usize,
@@ -225,8 +251,11 @@ fn substitute_others(
 {
     let leaving = lines[left].take();
     kept.forget(left);
-    match substitute(alloc, lines, kept, enters, zero)? {
-        Ok(()) => Ok(Ok(())),
+    match substitute(alloc, rooms, lines, kept, enters, zero)? {
+        Ok(()) => {
+            rooms.give(leaving);
+            Ok(Ok(()))
+        }
         Err(cause) => {
             lines[left] = leaving;
             Ok(Err(cause))
@@ -235,15 +264,24 @@ fn substitute_others(
 }
 
 /// Gives a class its line, but where it is the one that is left.
-fn put_line(lines: &mut [Option<Line>], kept: &mut Kept, left: usize, class: usize, line: Line)
+fn put_line(
+    rooms: &mut Rooms,
+    lines: &mut [Option<Line>],
+    kept: &mut Kept,
+    left: usize,
+    class: usize,
+    line: Line,
+)
     requires { class < length lines.old }
     ensures lines { lines.new ≡ with_line left class line lines.old }
     ensures kept { LinesStay lines.old lines.new kept.old.sums.items kept.new.sums.items }
 {
-    if class != left {
-        lines[class] = Some(line);
-        kept.forget(class);
+    if class == left {
+        rooms.give(Some(line));
+        return;
     }
+    lines[class] = Some(line);
+    kept.forget(class);
 }
 
 /// The cause, of a class's first position in place of the class.
@@ -265,6 +303,7 @@ fn at_first(firsts: &[usize], cause: Cause) -> Cause
 /// whose result doesn't fit; the same positions are then in the basis, but not with its lines.
 pub fn turn(
     alloc: Global,
+    rooms: &mut Rooms,
     basis: &mut Basis,
     kept: &mut Kept,
     leaves: usize,
@@ -281,22 +320,22 @@ pub fn turn(
     ensures kept { IfOk result (λ o. IfOk o
         (λ _. SlotsStay basis.old basis.new kept.old.sums.items kept.new.sums.items)) }
 {
-    let slot = basis.line(alloc, leaves)?;
-    let zero = match slot_zero(alloc, &slot, leaves, enters)? {
+    let zero = match leaving_zero(alloc, rooms, basis, leaves, enters)? {
         Ok(zero) => zero,
         Err(unfit) => return Ok(Err(entry_cause(leaves, unfit))),
     };
-    let entering = entering_line(alloc, enters, &zero)?;
+    let entering = entering_line(alloc, rooms, enters, &zero)?;
     let Member { class, negated } = basis.members[enters];
-    let line = entering.signed(alloc, negated)?;
+    let line = entering.with_sign(alloc, negated)?;
     let left = basis.members[leaves].class;
     kept.own(&basis.members);
-    match substitute_others(alloc, &mut basis.lines, kept, left, enters, &zero)? {
+    match substitute_others(alloc, rooms, &mut basis.lines, kept, left, enters, &zero)? {
         Ok(()) => {}
         Err(cause) => return Ok(Err(at_first(&basis.firsts, cause))),
     }
-    put_line(&mut basis.lines, kept, left, class, line);
+    put_line(rooms, &mut basis.lines, kept, left, class, line);
     basis.outside[left] = leaves;
+    rooms.give(Some(zero));
     Ok(Ok(()))
 }
 
@@ -316,8 +355,9 @@ pub fn turned_copy(
     ensures { IfOk result (λ o. IfSome o (λ b. IsTurned basis.now leaves enters b)) }
 {
     let mut copy = Workspace::none(alloc).copy_of(alloc, basis)?.basis;
-    let mut kept = Kept::none(alloc, 0)?;
-    match turn(alloc, &mut copy, &mut kept, leaves, enters)? {
+    let mut rooms = Rooms::none(alloc);
+    let mut kept = Kept::none(alloc);
+    match turn(alloc, &mut rooms, &mut copy, &mut kept, leaves, enters)? {
         Ok(()) => Ok(Some(copy)),
         Err(_) => Ok(None),
     }

@@ -3,6 +3,7 @@
 ghost use Rattle.std.specs.Prelude.{◌≡◌, [], IfOk};
 
 use crate::basis::Basis;
+use crate::kept::Kept;
 use crate::line::{Line, Room};
 use std::alloc::{AllocError, Global};
 
@@ -21,28 +22,33 @@ impl Rooms {
     }
 
     /// The room of a line, or an empty one where none is left.
-    fn taken(&mut self, alloc: Global) -> Room {
+    pub fn taken(&mut self, alloc: Global) -> Room {
         match self.rooms.pop() {
             Some(room) => room,
             None => Vec::new(alloc),
         }
     }
 
-    /// Keeps the room of a line that is needed no more.
-    fn give(&mut self, alloc: Global, slot: Option<Line>) -> Result<(), AllocError> {
-        match slot {
-            Some(line) => self.rooms.push(line.into_room(alloc))?,
-            None => {}
+    /// Keeps the room of a line that is needed no more, where there is memory to note it.
+    pub fn give(&mut self, slot: Option<Line>) {
+        let Some(line) = slot else {
+            return;
+        };
+        let Some(room) = line.into_room() else {
+            return;
+        };
+        match self.rooms.push(room) {
+            Ok(()) | Err(_) => {}
         }
-        Ok(())
     }
 }
 
-/// A basis, with memory for further lines.
+/// A basis, with memory for the lines of further ones and for their sums.
 #[derive(Drop)]
 pub struct Workspace {
     pub basis: Basis,
     pub rooms: Rooms,
+    pub kept: Kept,
 }
 
 impl Workspace {
@@ -53,6 +59,7 @@ impl Workspace {
         Workspace {
             basis: Basis::empty(alloc),
             rooms: Rooms::none(alloc),
+            kept: Kept::none(alloc),
         }
     }
 
@@ -60,10 +67,14 @@ impl Workspace {
     pub fn copy_of(self, alloc: Global, basis: &Basis) -> Result<Workspace, AllocError>
         ensures { IfOk result (λ copy. copy.basis ≡ basis.now) }
     {
-        let Workspace { basis: old, rooms } = self;
+        let Workspace {
+            basis: old,
+            rooms,
+            kept,
+        } = self;
         let mut rooms = rooms;
         let basis = copied_in(alloc, old, basis, &mut rooms)?;
-        Ok(Workspace { basis, rooms })
+        Ok(Workspace { basis, rooms, kept })
     }
 }
 
@@ -110,7 +121,7 @@ fn copied_lines(
 ) -> Result<Vec<Option<Line>>, AllocError>
     ensures { IfOk result (λ v. v.items ≡ lines.now) }
 {
-    let mut copies = emptied(alloc, old, rooms)?;
+    let mut copies = emptied(old, rooms);
     for line in lines {
         let copy = copied_line(alloc, line, rooms)?;
         copies.push(copy)?;
@@ -120,21 +131,17 @@ fn copied_lines(
 
 /// The list without its lines, whose rooms are kept. The last line's goes first, so that the first one's is
 /// at hand first.
-fn emptied(
-    alloc: Global,
-    old: Vec<Option<Line>>,
-    rooms: &mut Rooms,
-) -> Result<Vec<Option<Line>>, AllocError>
-    ensures { IfOk result (λ v. v.items ≡ []) }
+fn emptied(old: Vec<Option<Line>>, rooms: &mut Rooms) -> Vec<Option<Line>>
+    ensures { result.items ≡ [] }
 {
     let mut list = old;
     for _ in 0..list.len() {
         if let Some(slot) = list.pop() {
-            rooms.give(alloc, slot)?;
+            rooms.give(slot);
         }
     }
     list.clear();
-    Ok(list)
+    list
 }
 
 /// The same line, in a room that is kept.

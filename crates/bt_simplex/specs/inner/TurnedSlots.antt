@@ -4,11 +4,8 @@ use Rattle.bt_frac.specs.Ratio.{Ratio, IsLowest, negated}
 use Rattle.bt_frac.specs.Products.{IsDivision}
 use Rattle.bt_lin.specs.WeightedRows.{coefficient_at}
 use Rattle.bt_simplex.specs.Lines.{one, Terms, IsLine, IsCombination}
-use Rattle.bt_simplex.specs.declared.line.Change.{Change}
-use Rattle.bt_simplex.specs.declared.line.Change.TheVariants.{Stays, Line, Wide}
-use Rattle.bt_simplex.specs.declared.short.merging.Substitution.{Substitution}
-use Rattle.bt_simplex.specs.declared.short.merging.Substitution.TheVariants.{Lacks, Large, Sum}
 use Rattle.bt_simplex.specs.SolvedForms.{Slots, slot_at}
+use Rattle.bt_simplex.specs.declared.causes.Unfit.{Unfit}
 use Rattle.bt_simplex.specs.inner.Unfits.{IsUnfit}
 
 -- 1 over the number times the position less its line: where the line holds, this is 0
@@ -39,17 +36,9 @@ with_line left class line lines = if class == left then lines else slice_set lin
 abbrev pub AreLines : Slots → Type 0
 AreLines slots = (position : ℕ) (terms : Terms) → slot_at slots position ≡ Some terms → IsLine terms
 
--- what a turn makes of a slot
-abbrev pub IsChange : ℕ → Terms → Option Terms → Change → Type 0
-IsChange position zero slot (Stays room) = IsSubstituted position zero slot slot
-IsChange position zero slot (Line line) = IsSubstituted position zero slot (Some line)
-IsChange position zero slot (Wide unfit) = (terms : Terms) × (slot ≡ Some terms) × ((number : Ratio) × (coefficient_at position terms ≡ Some number) × IsUnfit terms number zero unfit)
-
--- what becomes of a short line, or nothing is told where a number is too large for one
-abbrev pub IsSubstitution : ℕ → Terms → Terms → Substitution → Type 0
-IsSubstitution position zero terms (Lacks room) = IsSubstituted position zero (Some terms) (Some terms)
-IsSubstitution position zero terms Large = Unit {0}
-IsSubstitution position zero terms (Sum line) = IsSubstituted position zero (Some terms) (Some line)
+-- an operation of the sum of a line and its number at the position times the zero line doesn't fit
+abbrev pub IsUnfitChange : ℕ → Terms → Terms → Unfit → Type 0
+IsUnfitChange position zero terms unfit = (number : Ratio) × (coefficient_at position terms ≡ Some number) × IsUnfit terms number zero unfit
 
 -- the position and the zero line, which has its number -1 there
 pub record IsEntering (position : ℕ) (zero entering : Terms) : Type 0 where

@@ -3,7 +3,7 @@ ghost use Rattle.std.specs.Prelude.{◌≡◌, ◌≢◌, ◌<◌, ◌≤◌, �
 ghost use Rattle.std.specs.List.{All};
 ghost use Prim.Native.Nat.{◌∣◌};
 ghost use Rattle.bt_simplex.specs.inner.Shorts.{IsSmall};
-ghost use Rattle.bt_simplex.specs.inner.TurnedSlots.{IsSubstitution};
+ghost use Rattle.bt_simplex.specs.inner.TurnedSlots.{IsSubstituted};
 ghost use Rattle.bt_simplex.specs.inner.ShortSteps.{AreScales, IsShortStep, IsShortSum, IsSmallTerm, AreNext};
 
 use super::{Entry, SMALL_LIMIT, Short, common_divisor, is_small, product, whole_at};
@@ -26,42 +26,31 @@ struct Step {
     right: usize,
 }
 
-/// What becomes of a line where what a position stands for is put in place of it.
-#[derive(Drop)]
-pub enum Substitution {
-    /// The line lacks the position, and stays. The room is not used.
-    Lacks(Vec<Entry>),
-    /// A number isn't small.
-    Large,
-    /// The line and its number at the position times the zero line.
-    Sum(Short),
-}
-
-/// What becomes of the line where what a position stands for, by a line that is 0, is put in place of it,
-/// in the room of a list whose terms are dropped.
+/// The line with what a position that it names stands for, by a line that is 0, in place of it, in the room of
+/// a list whose terms are dropped. None where a number of the sum isn't small.
 pub fn substituted(
     room: Vec<Entry>,
     line: &Short,
     enters: usize,
     zero: &Short,
-) -> Result<Substitution, AllocError>
-    ensures { IfOk result (IsSubstitution enters zero.now line.now) }
+) -> Result<Option<Short>, AllocError>
+    ensures { IfOk result (λ o. IfSome o (λ sum. IsSubstituted enters zero.now (Some line.now) (Some sum))) }
 {
     let Some(factor) = whole_at(&line.terms, enters) else {
-        return Ok(Substitution::Lacks(room));
+        return Ok(None);
     };
     let Some(scales) = scales_of(line.under, factor, zero.under) else {
-        return Ok(Substitution::Large);
+        return Ok(None);
     };
     let mut terms = room;
     terms.clear();
     terms.reserve(line.terms.len() + zero.terms.len())?;
     match merged(terms, &line.terms, &zero.terms, &scales) {
-        Some(terms) => Ok(Substitution::Sum(Short {
+        Some(terms) => Ok(Some(Short {
             terms,
             under: scales.under,
         })),
-        None => Ok(Substitution::Large),
+        None => Ok(None),
     }
 }
 

@@ -10,15 +10,15 @@ ghost use Rattle.bt_simplex.specs.inner.TurnedSlots.{IsZeroLine, IsEntering};
 
 use super::merging::{merged, quotient, scales_of};
 use super::{Entry, Short, common_divisor, whole_at};
-use std::alloc::{AllocError, Global};
+use std::alloc::AllocError;
 
 /// The line that is 0 wherever a line holds of its position: 1 over the line's number at the position that
 /// enters, times the position less the line. None where the line has no such number.
 ///
 /// Its numbers and its denominator are divided by what all of them have in common: without this they grow
-/// with each turn.
+/// with each turn. It is formed in the room of a list whose terms are dropped.
 pub fn zero_line(
-    alloc: Global,
+    room: Vec<Entry>,
     position: usize,
     line: &Short,
     enters: usize,
@@ -31,29 +31,30 @@ pub fn zero_line(
         return Ok(None);
     };
     let share = share_over(line.under, number);
-    match lone_sum(alloc, position, share, magnitude(number), -share, line)? {
-        Some(sum) => Ok(Some(lowered(alloc, &sum)?)),
+    match lone_sum(room, position, share, magnitude(number), -share, line)? {
+        Some(sum) => Ok(Some(lowered(sum))),
         None => Ok(None),
     }
 }
 
 /// The line of the position that enters: the position itself and the zero line, which has its number -1
-/// there.
+/// there. It is formed in the room of a list whose terms are dropped.
 pub fn entering_line(
-    alloc: Global,
+    room: Vec<Entry>,
     enters: usize,
     zero: &Short,
 ) -> Result<Option<Short>, AllocError>
     requires { enters < 2 ^ 64 - 1 }
     ensures { IfOk result (λ o. IfSome o (IsEntering enters zero.now)) }
 {
-    lone_sum(alloc, enters, 1, 1, 1, zero)
+    lone_sum(room, enters, 1, 1, 1, zero)
 }
 
-/// The sum of a number times a position and a factor times a line, where both are over this denominator.
-/// None where a number of the sum isn't small, or the position doesn't fit.
+/// The sum of a number times a position and a factor times a line, where both are over this denominator,
+/// in the room of a list whose terms are dropped. None where a number of the sum isn't small, or the position
+/// doesn't fit.
 fn lone_sum(
-    alloc: Global,
+    room: Vec<Entry>,
     position: usize,
     number: i64,
     under: u32,
@@ -77,8 +78,10 @@ fn lone_sum(
     let Some(entry) = Entry::fitting(position, number) else {
         return Ok(None);
     };
-    let room = Vec::with_capacity(alloc, line.terms.len() + 1)?;
-    match merged(room, &[entry], &line.terms, &scales) {
+    let mut terms = room;
+    terms.clear();
+    terms.reserve(line.terms.len() + 1)?;
+    match merged(terms, &[entry], &line.terms, &scales) {
         Some(terms) => Ok(Some(Short {
             terms,
             under: scales.under,
@@ -106,15 +109,15 @@ fn magnitude(number: i64) -> u32
 }
 
 /// The same line, with its numbers and its denominator divided by what all of them have in common.
-fn lowered(alloc: Global, line: &Short) -> Result<Short, AllocError>
-    ensures { IfOk result (λ s. s ≡ line.now) }
+fn lowered(line: Short) -> Short
+    ensures { result ≡ line }
 {
-    let common = common_divisor_of(&line.terms, line.under);
-    let terms = divided(alloc, &line.terms, line.under, common)?;
-    Ok(Short {
-        terms,
-        under: line.under / common,
-    })
+    let Short { terms, under } = line;
+    let common = common_divisor_of(&terms, under);
+    Short {
+        terms: divided(terms, under, common),
+        under: under / common,
+    }
 }
 
 /// A common divisor of the numbers and a denominator: the greatest.
@@ -133,17 +136,17 @@ fn common_divisor_of(terms: &[Entry], under: u32) -> u32
 }
 
 /// The numbers, divided by a divisor of all of them and of their denominator.
-fn divided(alloc: Global, terms: &[Entry], under: u32, by: u32) -> Result<Vec<Entry>, AllocError>
-    requires short { IsShort under terms.now }
+fn divided(terms: Vec<Entry>, under: u32, by: u32) -> Vec<Entry>
+    requires short { IsShort under terms.items }
     requires some { 0 < by }
     requires under { by ∣ under }
-    requires terms { All (λ t. by ∣ unsigned_abs t.1) terms.now }
-    ensures short { IfOk result (λ v. IsShort (under / by) v.items) }
-    ensures same { IfOk result (λ v. terms_over (under / by) v.items ≡ terms_over under terms.now) }
+    requires terms { All (λ t. by ∣ unsigned_abs t.1) terms.items }
+    ensures short { IsShort (under / by) result.items }
+    ensures same { terms_over (under / by) result.items ≡ terms_over under terms.items }
 {
-    let mut lesser = Vec::with_capacity(alloc, terms.len())?;
-    for term in terms {
-        lesser.push(Entry::of(term.position(), quotient(term.number(), by)))?;
+    let mut lesser = terms;
+    for term in lesser.iter_mut() {
+        *term = Entry::of(term.position(), quotient(term.number(), by));
     }
-    Ok(lesser)
+    lesser
 }

@@ -11,7 +11,7 @@ use Rattle.bt_simplex.proofs.running.turned_from.Goals as goal
 pub turns-init : goal.turns-init
 turns-init c = record {
   is_at = record { tableau = c.requires; follows = search rules };
-  kept = nothing_kept c.args.tableau.now c.args.start c.classes.result c.in_ok-kept.kept.sums.items c.in_ok-kept.ensures;
+  kept = nothing_kept c.args.tableau.now c.args.start c.classes.result c.restart.new.self.sums.items c.in_ok-restart.ensures;
   few = search rules;
 }
 

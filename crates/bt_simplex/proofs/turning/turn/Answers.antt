@@ -13,8 +13,8 @@ use Rattle.bt_simplex.proofs.KeptSums.{slots_stay}
 use Rattle.bt_simplex.proofs.UnfitTurns.{part_unfit, zero_named}
 use Rattle.bt_simplex.proofs.turning.turn.Goals as goal
 
-pub slot_zero-requires-clause-position : goal.slot_zero-requires-clause-position
-slot_zero-requires-clause-position c =
+pub leaving_zero-requires-clause-position : goal.leaving_zero-requires-clause-position
+leaving_zero-requires-clause-position c =
     let members = c.basis.inside.members.items in
     let firsts = c.basis.inside.firsts.items in
     let lines = c.basis.inside.lines.items in
@@ -44,7 +44,7 @@ entering_line-requires-clause-number c =
     let many : length c.args.basis.now ≡ length c.basis.inside.members.items = sym (ap length c.basis.view_is) ∙ slots_length (slot_of members lines outside) 0 members in
     let leaves_in : c.args.leaves < length c.basis.inside.members.items = subst (λ n. c.args.leaves < n) many c.requires.leaves in
     let enters_in : c.args.enters < length c.basis.inside.members.items = subst (λ n. c.args.enters < n) many c.requires.enters in
-    let told = subst (λ o. IfOk o (IsSlotZero c.in_ok-slot.slot c.args.leaves c.args.enters)) c.in-Ok.is c.in_ok-zero.ensures.zero in
+    let told = subst (λ o. IfOk o (IsSlotZero (slot_at c.args.basis.now c.args.leaves) c.args.leaves c.args.enters)) c.in-Ok.is c.in_ok-zero.ensures.zero in
     zero_named c.args.leaves c.args.enters told.terms told.number c.in-Ok.zero told.is_zero c.requires.apart told.is_line told.named told.lacks
 
 pub index-requires : goal.index-requires
@@ -84,8 +84,7 @@ substitute_others-requires c =
 
 pub returns-in-Err-clause-unfit : goal.returns-in-Err-clause-unfit
 returns-in-Err-clause-unfit c =
-    let told = subst (λ o. IfErr o (IsUnfitPart c.in_ok-slot.slot c.args.leaves c.args.enters)) c.in-Err.is c.in_ok-zero.ensures.unfit in
-    let part = subst (λ s. IsUnfitPart s c.args.leaves c.args.enters c.in-Err.unfit) c.in_ok-slot.ensures told in
+    let part = subst (λ o. IfErr o (IsUnfitPart (slot_at c.args.basis.now c.args.leaves) c.args.leaves c.args.enters)) c.in-Err.is c.in_ok-zero.ensures.unfit in
     subst (λ w. IsUnfitTurn c.args.basis.now c.args.leaves c.args.enters c.args.basis.now w) (sym c.entry_cause.ensures) (part_unfit c.args.basis.now c.args.leaves c.args.enters c.in-Err.unfit part)
 
 pub returns-in-Err-2-clause-unfit : goal.returns-in-Err-2-clause-unfit
@@ -99,8 +98,8 @@ returns-in-Err-2-clause-unfit c =
     let enters_in : c.args.enters < length c.basis.inside.members.items = subst (λ n. c.args.enters < n) many c.requires.enters in
     let left : member_at members c.args.leaves ≡ c.index-2.result.now = read_is members c.args.leaves (record { class = 0; negated = false }) c.index-2.result.now leaves_in c.index-2.ensures in
     let left_in = class_in members firsts lines outside c.basis.invariant c.args.leaves c.index-2.result.now leaves_in left in
-    let told = subst (λ o. IfOk o (IsSlotZero c.in_ok-slot.slot c.args.leaves c.args.enters)) c.in-Ok.is c.in_ok-zero.ensures.zero in
-    let zero = subst (λ s. IsSlotZero s c.args.leaves c.args.enters c.in-Ok.zero) (c.in_ok-slot.ensures ∙ ap (λ b. slot_at b c.args.leaves) (sym c.basis.view_is)) told in
+    let told = subst (λ o. IfOk o (IsSlotZero (slot_at c.args.basis.now c.args.leaves) c.args.leaves c.args.enters)) c.in-Ok.is c.in_ok-zero.ensures.zero in
+    let zero = subst (λ s. IsSlotZero s c.args.leaves c.args.enters c.in-Ok.zero) (ap (λ b. slot_at b c.args.leaves) (sym c.basis.view_is)) told in
     let sub_items = with_items_is c.basis.inside.lines c.substitute_others.new.lines (c.substitute_others.auto.lines ∙ c.deref_mut.ensures.len) in
     let unfit0 = subst (λ o. IfErr o (IsUnfitLine c.index-2.result.now.class c.args.enters c.in-Ok.zero c.deref_mut.result.now c.substitute_others.new.lines)) c.in-Err-2.is c.in_ok-substitute_others.ensures.unfit in
     let unfit2 = subst (λ l. IsUnfitLine c.index-2.result.now.class c.args.enters c.in-Ok.zero l c.substitute_others.new.lines c.in-Err-2.cause) c.deref_mut.ensures.value unfit0 in
@@ -156,8 +155,8 @@ invariant_of-basis-2 c =
     let into : member_at members c.args.enters ≡ c.index.result.now = read_is members c.args.enters (record { class = 0; negated = false }) c.index.result.now enters_in c.index.ensures in
     let sub_items = with_items_is c.basis.inside.lines c.substitute_others.new.lines (c.substitute_others.auto.lines ∙ c.deref_mut.ensures.len) in
     let put_items = with_items_is (with_items c.basis.inside.lines c.substitute_others.new.lines) c.put_line.new.lines (c.put_line.auto.lines ∙ c.deref_mut-2.ensures.len) in
-    let told = subst (λ o. IfOk o (IsSlotZero c.in_ok-slot.slot c.args.leaves c.args.enters)) c.in-Ok.is c.in_ok-zero.ensures.zero in
-    let zero = subst (λ s. IsSlotZero s c.args.leaves c.args.enters c.in-Ok.zero) (c.in_ok-slot.ensures ∙ ap (λ b. slot_at b c.args.leaves) (sym c.basis.view_is)) told in
+    let told = subst (λ o. IfOk o (IsSlotZero (slot_at c.args.basis.now c.args.leaves) c.args.leaves c.args.enters)) c.in-Ok.is c.in_ok-zero.ensures.zero in
+    let zero = subst (λ s. IsSlotZero s c.args.leaves c.args.enters c.in-Ok.zero) (ap (λ b. slot_at b c.args.leaves) (sym c.basis.view_is)) told in
     let changed0 = subst (λ o. IfOk o (λ d. AreSubstituted c.args.enters c.in-Ok.zero (set c.deref_mut.result.now c.index-2.result.now.class None) c.substitute_others.new.lines)) c.in-Ok-2.is c.in_ok-substitute_others.ensures.done in
     let changed2 = subst (λ l. AreSubstituted c.args.enters c.in-Ok.zero (set l c.index-2.result.now.class None) c.substitute_others.new.lines) c.deref_mut.ensures.value changed0 in
     let changed = subst (λ (m : Member). AreSubstituted c.args.enters c.in-Ok.zero (set lines m.class None) c.substitute_others.new.lines) (sym left) changed2 in
@@ -189,8 +188,8 @@ returns-clause-done c =
     let into : member_at members c.args.enters ≡ c.index.result.now = read_is members c.args.enters (record { class = 0; negated = false }) c.index.result.now enters_in c.index.ensures in
     let sub_items = with_items_is c.basis.inside.lines c.substitute_others.new.lines (c.substitute_others.auto.lines ∙ c.deref_mut.ensures.len) in
     let put_items = with_items_is (with_items c.basis.inside.lines c.substitute_others.new.lines) c.put_line.new.lines (c.put_line.auto.lines ∙ c.deref_mut-2.ensures.len) in
-    let told = subst (λ o. IfOk o (IsSlotZero c.in_ok-slot.slot c.args.leaves c.args.enters)) c.in-Ok.is c.in_ok-zero.ensures.zero in
-    let zero = subst (λ s. IsSlotZero s c.args.leaves c.args.enters c.in-Ok.zero) (c.in_ok-slot.ensures ∙ ap (λ b. slot_at b c.args.leaves) (sym c.basis.view_is)) told in
+    let told = subst (λ o. IfOk o (IsSlotZero (slot_at c.args.basis.now c.args.leaves) c.args.leaves c.args.enters)) c.in-Ok.is c.in_ok-zero.ensures.zero in
+    let zero = subst (λ s. IsSlotZero s c.args.leaves c.args.enters c.in-Ok.zero) (ap (λ b. slot_at b c.args.leaves) (sym c.basis.view_is)) told in
     let changed0 = subst (λ o. IfOk o (λ d. AreSubstituted c.args.enters c.in-Ok.zero (set c.deref_mut.result.now c.index-2.result.now.class None) c.substitute_others.new.lines)) c.in-Ok-2.is c.in_ok-substitute_others.ensures.done in
     let changed2 = subst (λ l. AreSubstituted c.args.enters c.in-Ok.zero (set l c.index-2.result.now.class None) c.substitute_others.new.lines) c.deref_mut.ensures.value changed0 in
     let changed = subst (λ (m : Member). AreSubstituted c.args.enters c.in-Ok.zero (set lines m.class None) c.substitute_others.new.lines) (sym left) changed2 in

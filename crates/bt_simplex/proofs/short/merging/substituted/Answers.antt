@@ -4,7 +4,7 @@ use Rattle.std.specs.List.{All}
 use Rattle.std.proofs.lemmas.Int.{to_z-of_z}
 use Rattle.bt_simplex.specs.inner.Shorts.{Ascend, whole_at}
 use Rattle.bt_simplex.specs.inner.ShortSteps.{IsSmallTerm}
-use Rattle.bt_simplex.proofs.ShortWalks.{short_ascends, terms_small, whole_small, whole_not, sum_told, lacks_told}
+use Rattle.bt_simplex.proofs.ShortWalks.{short_ascends, terms_small, whole_small, whole_not, sum_told}
 use Rattle.bt_simplex.proofs.short.merging.substituted.Goals as goal
 
 pub whole_at-requires : goal.whole_at-requires
@@ -27,11 +27,6 @@ merged-requires-clause-left c = subst (λ l. All IsSmallTerm l) (sym c.deref-2.e
 
 pub merged-requires-clause-right : goal.merged-requires-clause-right
 merged-requires-clause-right c = subst (λ l. All IsSmallTerm l) (sym c.deref-3.ensures.value) (terms_small c.zero.inside.under c.zero.inside.terms.items c.zero.invariant)
-
-pub returns-in_default : goal.returns-in_default
-returns-in_default c =
-    lacks_told c.args.enters c.line.inside.under c.line.inside.terms.items c.args.line.now c.args.zero.now c.line.view_is
-    (ap (λ l. whole_at c.args.enters l) (sym c.deref.ensures.value) ∙ sym c.whole_at.ensures ∙ c.in_default.is)
 
 pub returns-in-Some-merged : goal.returns-in-Some-merged
 returns-in-Some-merged c =

@@ -32,8 +32,8 @@ lone_sum-requires-clause-fits c =
     subst (λ n. n < 2 ^ 31) (sym size) (whole_small c.args.enters c.line.inside.terms.items c.in-Some.number c.line.invariant.small
     (ap (λ l. whole_at c.args.enters l) (sym c.deref.ensures.value) ∙ sym c.whole_at.ensures ∙ c.in-Some.is))
 
-pub returns-in_ok-lowered-in-Some-2 : goal.returns-in_ok-lowered-in-Some-2
-returns-in_ok-lowered-in-Some-2 c f named =
+pub returns-in-Some-2 : goal.returns-in-Some-2
+returns-in-Some-2 c f named =
     let number_fits : FitsSigned w64 c.in-Some.number = search rules in
     let share_fits : FitsSigned w64 c.share_over-share.result = search rules in
     let opposite_fits : FitsSigned w64 (pos 0 -ℤ c.share_over-share.result) = opposite_small c.share_over-share.result c.line.inside.under c.share_over-share.ensures.size c.line.invariant.fits in
@@ -44,7 +44,7 @@ returns-in_ok-lowered-in-Some-2 c f named =
     let line = held (λ l. IsLine l) c.in_ok-sum.field-0 c.in-Some-2.sum c.in-Some-2.is c.in_ok-sum.ensures.line in
     let sum = held (IsCombination ((c.args.position, reduced c.share_over-share.result c.magnitude.result) ∷ []) (reduced (pos 0 -ℤ c.share_over-share.result) c.magnitude.result) c.args.line.now) c.in_ok-sum.field-0
     c.in-Some-2.sum c.in-Some-2.is sums in
-    subst (λ z. IsZeroLine c.args.position c.args.line.now f z) (sym c.in_ok-lowered-in-Some-2.ensures)
+    subst (λ z. IsZeroLine c.args.position c.args.line.now f z) (sym c.lowered.ensures)
     (zero_is c.args.position c.args.enters c.line.inside.under c.line.inside.terms.items c.args.line.now c.in-Some-2.sum f c.in-Some.number c.share_over-share.result (pos 0 -ℤ c.share_over-share.result)
     c.magnitude.result c.line.invariant c.line.view_is whole named size
     (whole_not c.args.enters c.line.inside.under c.line.inside.terms.items c.in-Some.number c.line.invariant whole)
