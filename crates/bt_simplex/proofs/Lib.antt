@@ -1,4 +1,5 @@
 pub mod BasisLists
+pub mod BoundRests
 pub mod Checking
 pub mod Classes
 pub mod Entering

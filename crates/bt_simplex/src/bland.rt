@@ -2,7 +2,6 @@
 //! least does.
 ghost use Rattle.std.specs.Prelude.{◌≡◌, ℕ, IfOk, IfErr, IfSome, IsTrue, ◌↔◌, Some};
 ghost use Rattle.bt_simplex.specs.Causes.{IsCause};
-ghost use Rattle.bt_simplex.specs.Points.{bound_row};
 ghost use Rattle.bt_simplex.specs.SolvedForms.{Slots, slot_at};
 ghost use Rattle.bt_simplex.specs.Turns.{Breaks, Fails, MovesTowards, CanEnter};
 ghost use Rattle.bt_simplex.specs.inner.Bases.{with_slots, MayEnter, Names, Finds, IsLeastOf, IsNext};
@@ -76,15 +75,8 @@ fn may_enter(tableau: &Tableau, row: &Row, point: &Delta, position: usize, numbe
     }
 }
 
-/// Whether a bound row is in the basis and doesn't hold, where whole numbers tell it.
-fn fails_whole(
-    tableau: &Tableau,
-    basis: &Basis,
-    row: &Row,
-    position: usize,
-    kept: &mut Kept,
-) -> Option<bool>
-    requires row { bound_row tableau.now position ≡ Some row.now }
+/// Whether a position is a bound row of the basis that doesn't hold, where whole numbers tell it.
+fn fails_whole(tableau: &Tableau, basis: &Basis, position: usize, kept: &mut Kept) -> Option<bool>
     requires kept { AreKept tableau.now basis.now kept.old.sums.items }
     ensures told { IfSome result
         (λ told. IsTrue told ↔ Fails (with_slots tableau.now basis.now) position) }
@@ -92,6 +84,9 @@ fn fails_whole(
 {
     tableau.all_known();
     let rest = tableau.whole_rest(position)?;
+    let Some(relation) = rest.relation else {
+        return Some(false);
+    };
     match basis.place(position) {
         Place::Line {
             class,
@@ -101,12 +96,12 @@ fn fails_whole(
         } => {
             line.known();
             let of_class = class_sums(tableau, kept, class, first, line)?;
-            let told = breaks_by(row, rest, of_class.sums, negated)?;
+            let told = breaks_by(relation, rest, of_class.sums, negated)?;
             Some(told)
         }
         Place::Like { other, negated } => {
             let other_rest = tableau.whole_rest(other)?;
-            let told = breaks_at(row, rest, other_rest, negated)?;
+            let told = breaks_at(relation, rest, other_rest, negated)?;
             Some(told)
         }
         Place::Outside => Some(false),
@@ -120,12 +115,20 @@ fn fails(tableau: &Tableau, basis: &Basis, position: usize, kept: &mut Kept) -> 
     ensures unfit { IfErr result (IsCause (with_slots tableau.now basis.now)) }
     ensures kept { AreKept tableau.now basis.now kept.new.sums.items }
 {
+    match fails_whole(tableau, basis, position, kept) {
+        Some(told) => Ok(told),
+        None => fails_long(tableau, basis, position),
+    }
+}
+
+/// The same by fractions.
+fn fails_long(tableau: &Tableau, basis: &Basis, position: usize) -> Result<bool, Cause>
+    ensures told { IfOk result (λ told. IsTrue told ↔ Fails (with_slots tableau.now basis.now) position) }
+    ensures unfit { IfErr result (IsCause (with_slots tableau.now basis.now)) }
+{
     let Some(row) = tableau.bound_row(position) else {
         return Ok(false);
     };
-    if let Some(told) = fails_whole(tableau, basis, row, position, kept) {
-        return Ok(told);
-    }
     if !basis.has(position) {
         return Ok(false);
     }

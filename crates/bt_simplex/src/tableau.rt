@@ -3,8 +3,8 @@ ghost use Rattle.std.specs.Prelude.{◌≡◌, ◌<◌, IfOk, IfSome, OnErr, Mat
 ghost use Rattle.bt_simplex.specs.Checks.{IsCheck, StartsAt};
 ghost use Rattle.bt_simplex.specs.inner.Bases.{with_slots};
 ghost use Rattle.bt_simplex.specs.inner.Checking.{IsWideFor};
-ghost use Rattle.bt_simplex.specs.inner.Rests.{rest_point};
-ghost use Rattle.bt_simplex.specs.Points.{bound_row, resting};
+ghost use Rattle.bt_simplex.specs.inner.Rests.{IsRestOf};
+ghost use Rattle.bt_simplex.specs.Points.{bound_row};
 ghost use Rattle.bt_simplex.specs.Tableaus.{AreOverColumns, IsNew, IsBoundAs, IsTableau};
 ghost use Rattle.bt_simplex.specs.Turns.{CanTurn, IsTurnedBy};
 
@@ -243,9 +243,9 @@ impl Tableau {
         self.rows.get(row)
     }
 
-    /// Where a position rests, where that is told by small whole numbers.
+    /// Where a position rests and whether it is a bound row, where that is told by small whole numbers.
     pub(crate) fn whole_rest(&self, position: usize) -> Option<Rest>
-        ensures { IfSome result (λ rest. resting self.now position ≡ rest_point rest) }
+        ensures { IfSome result (IsRestOf (bound_row self.now position)) }
     {
         if position < self.rests.len() {
             self.rests[position]
