@@ -31,6 +31,7 @@ pub mod Signs
 pub mod Standing
 pub mod Substitutions
 pub mod TableauTurns
+pub mod TermSigns
 pub mod Totals
 pub mod Turned
 pub mod UnfitTurns

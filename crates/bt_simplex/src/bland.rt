@@ -1,11 +1,17 @@
 //! Bland's rule: of the positions that fail the least leaves the basis, and of those that can enter the
 //! least does.
-ghost use Rattle.std.specs.Prelude.{◌≡◌, ℕ, IfOk, IfErr, IfSome, IsTrue, ◌↔◌, Some};
+ghost use Rattle.std.specs.Prelude.{◌≡◌, ◌<◌, ℕ, length, IfOk, IfErr, IfSome, IsTrue, ◌↔◌, Some};
+ghost use Rattle.bt_frac.specs.Deltas.{IsOrderOfDeltas};
+ghost use Rattle.bt_frac.specs.Ratio.{Ratio};
+ghost use Rattle.bt_frac.specs.Rows.{RowParts};
 ghost use Rattle.bt_simplex.specs.Causes.{IsCause};
+ghost use Rattle.bt_frac.specs.declared.delta.Delta.{Delta};
+ghost use Rattle.bt_simplex.specs.Points.{bound_value};
 ghost use Rattle.bt_simplex.specs.SolvedForms.{Slots, slot_at};
 ghost use Rattle.bt_simplex.specs.Turns.{Breaks, Fails, MovesTowards, CanEnter};
 ghost use Rattle.bt_simplex.specs.inner.Bases.{with_slots, MayEnter, Names, Finds, IsLeastOf, IsNext};
 ghost use Rattle.bt_simplex.specs.inner.Kept.{AreKept};
+ghost use Rattle.bt_simplex.specs.inner.TermSigns.{IsSign, IsSignedTerm};
 
 use crate::basis::{Basis, Place};
 use crate::causes::Cause;
@@ -14,7 +20,7 @@ use crate::line::Line;
 use crate::points::{bound_value, line_point, point};
 use crate::short::{breaks_at, breaks_by};
 use crate::tableau::{Tableau, Turn};
-use bt_frac::{Delta, Frac, Relation, Row};
+use bt_frac::{Delta, Relation, Row};
 use std::alloc::{AllocError, Global};
 use std::cmp::Ordering;
 
@@ -53,25 +59,42 @@ fn breaks(row: &Row, point: &Delta) -> bool
     }
 }
 
-/// Whether a position with this number in the row's line moves it towards its bound value where it is
-/// raised.
-fn moves_towards(row: &Row, point: &Delta, number: &Frac) -> bool
-    ensures { IsTrue result ↔ MovesTowards row.now point.now number.now }
+/// Whether a position with a number of this sign in a row's line moves the row towards its bound value where
+/// it is raised, by how the bound value stands to where the row stands.
+fn moves_towards(bound: Ordering, sign: Ordering) -> bool
+    ensures { (row : RowParts) (point : Delta) (number : Ratio) → IsOrderOfDeltas bound (bound_value row) point
+        → IsSign sign number.over → (IsTrue result ↔ MovesTowards row point number) }
 {
-    match point.compare(&bound_value(row)) {
-        Ordering::Less => number.numerator() > 0,
+    match bound {
+        Ordering::Less => sign == Ordering::Less,
         Ordering::Equal => false,
-        Ordering::Greater => number.numerator() < 0,
+        Ordering::Greater => sign == Ordering::Greater,
     }
 }
 
-/// Whether a position with this number in the failing row's line may be moved.
-fn may_enter(tableau: &Tableau, row: &Row, point: &Delta, position: usize, number: &Frac) -> bool
-    ensures { IsTrue result ↔ MayEnter tableau.now row.now point.now position number.now }
+/// Whether a position with a number of this sign in the failing row's line may be moved, by how the bound
+/// value stands to where the row stands.
+fn may_enter(tableau: &Tableau, bound: Ordering, position: usize, sign: Ordering) -> bool
+    ensures { (row : RowParts) (point : Delta) (number : Ratio) → IsOrderOfDeltas bound (bound_value row) point
+        → IsSign sign number.over → (IsTrue result ↔ MayEnter tableau.now row point position number) }
 {
-    match tableau.bound_row(position) {
-        Some(other) => other.relation() != Relation::Equal && moves_towards(row, point, number),
+    match tableau.bound_relation(position) {
+        Some(relation) => relation != Relation::Equal && moves_towards(bound, sign),
         None => true,
+    }
+}
+
+/// The position of a term of a line, and the sign of its number.
+fn sign_at(line: &Line, index: usize) -> (usize, Ordering)
+    requires { index < length line.now }
+    ensures { IsSignedTerm line.now index result }
+{
+    match line.short() {
+        Some(short) => short.sign_at(index),
+        None => {
+            let (position, number) = line.term_at(index);
+            (position, number.numerator().cmp(&0))
+        }
     }
 }
 
@@ -161,9 +184,10 @@ fn first_entering(tableau: &Tableau, row: &Row, point: &Delta, line: &Line) -> O
     ensures { IsLeastOf (λ e. Names line.now (MayEnter tableau.now row.now point.now) e) result }
 {
     line.known();
+    let bound = bound_value(row).compare(point);
     for index in 0..line.len() {
-        let (position, number) = line.term_at(index);
-        if may_enter(tableau, row, point, position, &number) {
+        let (position, sign) = sign_at(line, index);
+        if may_enter(tableau, bound, position, sign) {
             return Some(position);
         }
     }

@@ -3,7 +3,7 @@ ghost use Rattle.std.specs.Prelude.{◌≡◌, ◌<◌, IfOk, IfSome, OnErr, Mat
 ghost use Rattle.bt_simplex.specs.Checks.{IsCheck, StartsAt};
 ghost use Rattle.bt_simplex.specs.inner.Bases.{with_slots};
 ghost use Rattle.bt_simplex.specs.inner.Checking.{IsWideFor};
-ghost use Rattle.bt_simplex.specs.inner.Rests.{IsRestOf};
+ghost use Rattle.bt_simplex.specs.inner.Rests.{IsRestOf, relation_of};
 ghost use Rattle.bt_simplex.specs.Points.{bound_row};
 ghost use Rattle.bt_simplex.specs.Tableaus.{AreOverColumns, IsNew, IsBoundAs, IsTableau};
 ghost use Rattle.bt_simplex.specs.Turns.{CanTurn, IsTurnedBy};
@@ -19,7 +19,7 @@ use crate::starting::{all_known, copied, first_basis, unbound};
 use crate::trails::{bound_rows, positions};
 use crate::turning::turned_copy;
 use crate::workspace::{Rooms, Workspace};
-use bt_frac::Row;
+use bt_frac::{Relation, Row};
 use std::alloc::{AllocError, Global};
 use std::marker::Model;
 
@@ -251,6 +251,16 @@ impl Tableau {
             self.rests[position]
         } else {
             None
+        }
+    }
+
+    /// The relation of the row of a position, where that is a row and bound.
+    pub(crate) fn bound_relation(&self, position: usize) -> Option<Relation>
+        ensures { result ≡ relation_of (bound_row self.now position) }
+    {
+        match self.whole_rest(position) {
+            Some(rest) => rest.relation,
+            None => Some(self.bound_row(position)?.relation()),
         }
     }
 

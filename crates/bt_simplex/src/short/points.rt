@@ -1,11 +1,12 @@
 //! Where positions stand by their short lines, in whole numbers.
-ghost use Rattle.std.specs.Prelude.{◌≡◌, ◌<◌, ◌^◌, ◌*ℤ◌, IfSome, IsTrue, ◌↔◌, Some, neg_ℤ};
+ghost use Rattle.std.specs.Prelude.{◌≡◌, ◌<◌, ◌^◌, ◌*ℤ◌, length, IfSome, IsTrue, ◌↔◌, Some, neg_ℤ};
 ghost use Rattle.bt_frac.specs.declared.row.Relation.TheVariants.{Equal as AnEquation};
 ghost use Rattle.bt_simplex.specs.Points.{resting, standing};
 ghost use Rattle.bt_simplex.specs.inner.Bases.{IsSamePoint, signed_point};
 ghost use Rattle.bt_simplex.specs.inner.Rests.{rest_point};
 ghost use Rattle.bt_simplex.specs.inner.Shorts.{IsSmall};
 ghost use Rattle.bt_simplex.specs.inner.ShortPoints.{AddsWhole, delta_of, TellsBreak, BreaksTiny};
+ghost use Rattle.bt_simplex.specs.inner.TermSigns.{IsSignedTerm};
 
 use crate::rests::Rest;
 use crate::short::{Short, number};
@@ -41,6 +42,15 @@ impl Short {
             value: number(sums.value, sums.under),
             tiny: number(sums.tiny, sums.under),
         })
+    }
+
+    /// The position of a term, and the sign of its number.
+    pub fn sign_at(&self, index: usize) -> (usize, Ordering)
+        requires { index < length self.now }
+        ensures { IsSignedTerm self.now index result }
+    {
+        let (position, number) = self.terms[index].parts();
+        (position as usize, number.cmp(&0))
     }
 
     /// The sums of the terms. None as above.
