@@ -62,8 +62,9 @@ fn breaks(row: &Row, point: &Delta) -> bool
 /// Whether a position with a number of this sign in a row's line moves the row towards its bound value where
 /// it is raised, by how the bound value stands to where the row stands.
 fn moves_towards(bound: Ordering, sign: Ordering) -> bool
-    ensures { (row : RowParts) (point : Delta) (number : Ratio) → IsOrderOfDeltas bound (bound_value row) point
-        → IsSign sign number.over → (IsTrue result ↔ MovesTowards row point number) }
+    ensures { (row : RowParts) (point : Delta) (number : Ratio)
+        → IsOrderOfDeltas bound (bound_value row) point → IsSign sign number.over
+        → (IsTrue result ↔ MovesTowards row point number) }
 {
     match bound {
         Ordering::Less => sign == Ordering::Less,
@@ -75,8 +76,9 @@ fn moves_towards(bound: Ordering, sign: Ordering) -> bool
 /// Whether a position with a number of this sign in the failing row's line may be moved, by how the bound
 /// value stands to where the row stands.
 fn may_enter(tableau: &Tableau, bound: Ordering, position: usize, sign: Ordering) -> bool
-    ensures { (row : RowParts) (point : Delta) (number : Ratio) → IsOrderOfDeltas bound (bound_value row) point
-        → IsSign sign number.over → (IsTrue result ↔ MayEnter tableau.now row point position number) }
+    ensures { (row : RowParts) (point : Delta) (number : Ratio)
+        → IsOrderOfDeltas bound (bound_value row) point → IsSign sign number.over
+        → (IsTrue result ↔ MayEnter tableau.now row point position number) }
 {
     match tableau.bound_relation(position) {
         Some(relation) => relation != Relation::Equal && moves_towards(bound, sign),
@@ -131,20 +133,7 @@ fn fails_whole(tableau: &Tableau, basis: &Basis, position: usize, kept: &mut Kep
     }
 }
 
-/// Whether a position is a bound row of the basis that doesn't hold; or why its point doesn't fit.
-fn fails(tableau: &Tableau, basis: &Basis, position: usize, kept: &mut Kept) -> Result<bool, Cause>
-    requires { AreKept tableau.now basis.now kept.old.sums.items }
-    ensures told { IfOk result (λ told. IsTrue told ↔ Fails (with_slots tableau.now basis.now) position) }
-    ensures unfit { IfErr result (IsCause (with_slots tableau.now basis.now)) }
-    ensures kept { AreKept tableau.now basis.now kept.new.sums.items }
-{
-    match fails_whole(tableau, basis, position, kept) {
-        Some(told) => Ok(told),
-        None => fails_long(tableau, basis, position),
-    }
-}
-
-/// The same by fractions.
+/// The same by fractions; or why the position's point doesn't fit.
 fn fails_long(tableau: &Tableau, basis: &Basis, position: usize) -> Result<bool, Cause>
     ensures told { IfOk result (λ told. IsTrue told ↔ Fails (with_slots tableau.now basis.now) position) }
     ensures unfit { IfErr result (IsCause (with_slots tableau.now basis.now)) }
@@ -167,13 +156,14 @@ pub fn leaving(tableau: &Tableau, basis: &Basis, kept: &mut Kept) -> Least
     ensures kept { AreKept tableau.now basis.now kept.new.sums.items }
 {
     for position in 0..basis.len() {
-        match fails(tableau, basis, position, kept) {
-            Ok(told) => {
-                if told {
-                    return Least::At(position);
-                }
-            }
-            Err(cause) => return Least::Wide(cause),
+        match fails_whole(tableau, basis, position, kept) {
+            Some(true) => return Least::At(position),
+            Some(false) => {}
+            None => match fails_long(tableau, basis, position) {
+                Ok(true) => return Least::At(position),
+                Ok(false) => {}
+                Err(cause) => return Least::Wide(cause),
+            },
         }
     }
     Least::Nowhere
