@@ -1,4 +1,5 @@
 pub mod BasisLists
+pub mod BoundRests
 pub mod Checking
 pub mod Classes
 pub mod Entering
@@ -30,6 +31,7 @@ pub mod Signs
 pub mod Standing
 pub mod Substitutions
 pub mod TableauTurns
+pub mod TermSigns
 pub mod Totals
 pub mod Turned
 pub mod UnfitTurns

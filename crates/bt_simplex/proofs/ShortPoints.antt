@@ -61,14 +61,14 @@ sum_parts_ints v w u = simp (products, sums)
 sum_over : (v w : ℤ) (under : ℕ) → IsSum (over_of v under) (over_of w under) (over_of (v +ℤ w) under)
 sum_over v w under = simp pos-*ℤ-pos at (sum_parts_ints v w (pos under))
 
-length_over : (under : ℕ) (numbers : Numbers) → length (terms_over under numbers) ≡ length numbers
+pub length_over : (under : ℕ) (numbers : Numbers) → length (terms_over under numbers) ≡ length numbers
 length_over under [] = refl
 length_over under (t ∷ numbers) = ap suc (length_over under numbers)
 
 term_over : ℕ → ℕ × ℤ → ℕ × Ratio
 term_over under t = (t.0, reduced t.1 under)
 
-item_over : (under : ℕ) (numbers : Numbers) (i : ℕ) (x : ℕ × ℤ) → i < length numbers → x ≡ get_or numbers i x
+pub item_over : (under : ℕ) (numbers : Numbers) (i : ℕ) (x : ℕ × ℤ) → i < length numbers → x ≡ get_or numbers i x
     → (x.0, reduced x.1 under) ≡ get_or (terms_over under numbers) i (x.0, reduced x.1 under)
 unfolding term_over
 item_over under numbers i x inside is = ap (term_over under) is ∙ here numbers i inside

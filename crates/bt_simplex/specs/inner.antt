@@ -15,6 +15,7 @@ pub mod Shorts
 pub mod Starts
 pub mod Steps
 pub mod Sums
+pub mod TermSigns
 pub mod TurnedSlots
 pub mod UnfitPoints
 pub mod UnfitTurns

@@ -1,12 +1,17 @@
 //! Bland's rule: of the positions that fail the least leaves the basis, and of those that can enter the
 //! least does.
-ghost use Rattle.std.specs.Prelude.{◌≡◌, ℕ, IfOk, IfErr, IfSome, IsTrue, ◌↔◌, Some};
+ghost use Rattle.std.specs.Prelude.{◌≡◌, ◌<◌, ℕ, length, IfOk, IfErr, IfSome, IsTrue, ◌↔◌, Some};
+ghost use Rattle.bt_frac.specs.Deltas.{IsOrderOfDeltas};
+ghost use Rattle.bt_frac.specs.Ratio.{Ratio};
+ghost use Rattle.bt_frac.specs.Rows.{RowParts};
 ghost use Rattle.bt_simplex.specs.Causes.{IsCause};
-ghost use Rattle.bt_simplex.specs.Points.{bound_row};
+ghost use Rattle.bt_frac.specs.declared.delta.Delta.{Delta};
+ghost use Rattle.bt_simplex.specs.Points.{bound_value};
 ghost use Rattle.bt_simplex.specs.SolvedForms.{Slots, slot_at};
 ghost use Rattle.bt_simplex.specs.Turns.{Breaks, Fails, MovesTowards, CanEnter};
 ghost use Rattle.bt_simplex.specs.inner.Bases.{with_slots, MayEnter, Names, Finds, IsLeastOf, IsNext};
 ghost use Rattle.bt_simplex.specs.inner.Kept.{AreKept};
+ghost use Rattle.bt_simplex.specs.inner.TermSigns.{IsSign, IsSignedTerm};
 
 use crate::basis::{Basis, Place};
 use crate::causes::Cause;
@@ -16,7 +21,7 @@ use crate::points::{bound_value, line_point, point};
 use crate::short::{breaks_at, breaks_by};
 use crate::tableau::{Tableau, Turn};
 use crate::workspace::Rooms;
-use bt_frac::{Delta, Frac, Relation, Row};
+use bt_frac::{Delta, Relation, Row};
 use std::alloc::{AllocError, Global};
 use std::cmp::Ordering;
 
@@ -55,37 +60,49 @@ fn breaks(row: &Row, point: &Delta) -> bool
     }
 }
 
-/// Whether a position with this number in the row's line moves it towards its bound value where it is
-/// raised.
-fn moves_towards(row: &Row, point: &Delta, number: &Frac) -> bool
-    ensures { IsTrue result ↔ MovesTowards row.now point.now number.now }
+/// Whether a position with a number of this sign in a row's line moves the row towards its bound value where
+/// it is raised, by how the bound value stands to where the row stands.
+fn moves_towards(bound: Ordering, sign: Ordering) -> bool
+    ensures { (row : RowParts) (point : Delta) (number : Ratio)
+        → IsOrderOfDeltas bound (bound_value row) point → IsSign sign number.over
+        → (IsTrue result ↔ MovesTowards row point number) }
 {
-    match point.compare(&bound_value(row)) {
-        Ordering::Less => number.numerator() > 0,
+    match bound {
+        Ordering::Less => sign == Ordering::Less,
         Ordering::Equal => false,
-        Ordering::Greater => number.numerator() < 0,
+        Ordering::Greater => sign == Ordering::Greater,
     }
 }
 
-/// Whether a position with this number in the failing row's line may be moved.
-fn may_enter(tableau: &Tableau, row: &Row, point: &Delta, position: usize, number: &Frac) -> bool
-    ensures { IsTrue result ↔ MayEnter tableau.now row.now point.now position number.now }
+/// Whether a position with a number of this sign in the failing row's line may be moved, by how the bound
+/// value stands to where the row stands.
+fn may_enter(tableau: &Tableau, bound: Ordering, position: usize, sign: Ordering) -> bool
+    ensures { (row : RowParts) (point : Delta) (number : Ratio)
+        → IsOrderOfDeltas bound (bound_value row) point → IsSign sign number.over
+        → (IsTrue result ↔ MayEnter tableau.now row point position number) }
 {
-    match tableau.bound_row(position) {
-        Some(other) => other.relation() != Relation::Equal && moves_towards(row, point, number),
+    match tableau.bound_relation(position) {
+        Some(relation) => relation != Relation::Equal && moves_towards(bound, sign),
         None => true,
     }
 }
 
-/// Whether a bound row is in the basis and doesn't hold, where whole numbers tell it.
-fn fails_whole(
-    tableau: &Tableau,
-    basis: &Basis,
-    row: &Row,
-    position: usize,
-    kept: &mut Kept,
-) -> Option<bool>
-    requires row { bound_row tableau.now position ≡ Some row.now }
+/// The position of a term of a line, and the sign of its number.
+fn sign_at(line: &Line, index: usize) -> (usize, Ordering)
+    requires { index < length line.now }
+    ensures { IsSignedTerm line.now index result }
+{
+    match line.short() {
+        Some(short) => short.sign_at(index),
+        None => {
+            let (position, number) = line.term_at(index);
+            (position, number.numerator().cmp(&0))
+        }
+    }
+}
+
+/// Whether a position is a bound row of the basis that doesn't hold, where whole numbers tell it.
+fn fails_whole(tableau: &Tableau, basis: &Basis, position: usize, kept: &mut Kept) -> Option<bool>
     requires kept { AreKept tableau.now basis.now kept.old.sums.items }
     ensures told { IfSome result
         (λ told. IsTrue told ↔ Fails (with_slots tableau.now basis.now) position) }
@@ -93,6 +110,9 @@ fn fails_whole(
 {
     tableau.all_known();
     let rest = tableau.whole_rest(position)?;
+    let Some(relation) = rest.relation else {
+        return Some(false);
+    };
     match basis.place(position) {
         Place::Line {
             class,
@@ -102,31 +122,26 @@ fn fails_whole(
         } => {
             line.known();
             let of_class = class_sums(tableau, kept, class, first, line)?;
-            let told = breaks_by(row, rest, of_class.sums, negated)?;
+            let told = breaks_by(relation, rest, of_class.sums, negated)?;
             Some(told)
         }
         Place::Like { other, negated } => {
             let other_rest = tableau.whole_rest(other)?;
-            let told = breaks_at(row, rest, other_rest, negated)?;
+            let told = breaks_at(relation, rest, other_rest, negated)?;
             Some(told)
         }
         Place::Outside => Some(false),
     }
 }
 
-/// Whether a position is a bound row of the basis that doesn't hold; or why its point doesn't fit.
-fn fails(tableau: &Tableau, basis: &Basis, position: usize, kept: &mut Kept) -> Result<bool, Cause>
-    requires { AreKept tableau.now basis.now kept.old.sums.items }
+/// The same by fractions; or why the position's point doesn't fit.
+fn fails_long(tableau: &Tableau, basis: &Basis, position: usize) -> Result<bool, Cause>
     ensures told { IfOk result (λ told. IsTrue told ↔ Fails (with_slots tableau.now basis.now) position) }
     ensures unfit { IfErr result (IsCause (with_slots tableau.now basis.now)) }
-    ensures kept { AreKept tableau.now basis.now kept.new.sums.items }
 {
     let Some(row) = tableau.bound_row(position) else {
         return Ok(false);
     };
-    if let Some(told) = fails_whole(tableau, basis, row, position, kept) {
-        return Ok(told);
-    }
     if !basis.has(position) {
         return Ok(false);
     }
@@ -142,13 +157,14 @@ pub fn leaving(tableau: &Tableau, basis: &Basis, kept: &mut Kept) -> Least
     ensures kept { AreKept tableau.now basis.now kept.new.sums.items }
 {
     for position in 0..basis.len() {
-        match fails(tableau, basis, position, kept) {
-            Ok(told) => {
-                if told {
-                    return Least::At(position);
-                }
-            }
-            Err(cause) => return Least::Wide(cause),
+        match fails_whole(tableau, basis, position, kept) {
+            Some(true) => return Least::At(position),
+            Some(false) => {}
+            None => match fails_long(tableau, basis, position) {
+                Ok(true) => return Least::At(position),
+                Ok(false) => {}
+                Err(cause) => return Least::Wide(cause),
+            },
         }
     }
     Least::Nowhere
@@ -159,9 +175,10 @@ fn first_entering(tableau: &Tableau, row: &Row, point: &Delta, line: &Line) -> O
     ensures { IsLeastOf (λ e. Names line.now (MayEnter tableau.now row.now point.now) e) result }
 {
     line.known();
+    let bound = bound_value(row).compare(point);
     for index in 0..line.len() {
-        let (position, number) = line.term_at(index);
-        if may_enter(tableau, row, point, position, &number) {
+        let (position, sign) = sign_at(line, index);
+        if may_enter(tableau, bound, position, sign) {
             return Some(position);
         }
     }

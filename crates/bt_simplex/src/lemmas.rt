@@ -4,7 +4,8 @@ ghost use Rattle.std.specs.Prelude.{◌≡◌, ◌<◌, ◌≤◌, ◌-◌, ◌^
 ghost use Rattle.std.specs.List.{All};
 ghost use Rattle.bt_frac.specs.Ratio.{negated};
 ghost use Rattle.bt_frac.specs.Deltas.{IsLessDelta};
-ghost use Rattle.bt_lin.specs.WeightedRows.{coefficient_at};
+ghost use Rattle.bt_lin.specs.Farkas.{IsFarkas};
+ghost use Rattle.bt_lin.specs.WeightedRows.{coefficient_at, weighted};
 ghost use Rattle.bt_simplex.specs.Causes.{IsCause};
 ghost use Rattle.bt_simplex.specs.Checks.{RefutesBoundRows};
 ghost use Rattle.bt_simplex.specs.Lines.{one, IsLine, IsCombination};
@@ -21,7 +22,7 @@ use crate::points::{bound_value, line_point};
 use crate::sums::sum_cause;
 use crate::tableau::Tableau;
 use bt_frac::{Delta, Frac, Row};
-use bt_lin::farkas;
+use bt_lin::{SumFault, Weigher, WideAt};
 use std::alloc::{AllocError, Global};
 use std::cmp::Ordering;
 
@@ -116,6 +117,24 @@ fn parted(alloc: Global, weights: &[(usize, Frac)]) -> Result<(Vec<usize>, Vec<F
     Ok((picks, numbers))
 }
 
+/// Whether weighted rows add up to a row that no values meet, or where their sum leaves 128 bits.
+fn weighed(
+    alloc: Global,
+    rows: &[Row],
+    picks: &[usize],
+    weights: &[Frac],
+) -> Result<Result<bool, WideAt>, AllocError>
+    requires picks { All (λ pick. pick < length rows.now) picks.now }
+    requires weights { length weights.now ≡ length picks.now }
+    ensures { IfOk result (IsFarkas (weighted rows.now picks.now weights.now)) }
+{
+    match Weigher::new(alloc).farkas(rows, picks, weights) {
+        Ok(is_false) => Ok(Ok(is_false)),
+        Err(SumFault::Wide(at)) => Ok(Err(at)),
+        Err(SumFault::Memory) => Err(AllocError),
+    }
+}
+
 /// Bound rows and weights that `farkas` accepts, where a position fails and none can enter for it; or
 /// why such a number doesn't fit.
 pub fn lemma(
@@ -135,7 +154,7 @@ pub fn lemma(
         Err(cause) => return Ok(Err(cause)),
     };
     let (picks, numbers) = parted(alloc, &weights)?;
-    match farkas(tableau.rows(), &picks, &numbers) {
+    match weighed(alloc, tableau.rows(), &picks, &numbers)? {
         Ok(_) => Ok(Ok(weights)),
         Err(at) => Ok(Err(sum_cause(tableau.rows(), &weights, at))),
     }

@@ -1,8 +1,7 @@
-//! Where the positions of a tableau rest, as small whole numbers, which sums of many positions read in place
-//! of the rows.
+//! Where the positions of a tableau rest, as small whole numbers, which sums and tests of many positions read
+//! in place of the rows.
 ghost use Rattle.std.specs.Prelude.{◌≡◌, IfOk, IfSome, Some, replicate};
-ghost use Rattle.bt_simplex.specs.Points.{bound_value};
-ghost use Rattle.bt_simplex.specs.inner.Rests.{rest_point, nowhere};
+ghost use Rattle.bt_simplex.specs.inner.Rests.{nowhere, IsRestOf};
 
 use bt_frac::{Relation, Row};
 use std::alloc::{AllocError, Global};
@@ -13,6 +12,8 @@ pub struct Rest {
     pub value: i32,
     /// How often the infinitesimal stands in it.
     pub tiny: i32,
+    /// The relation of the row, where the position is a bound one.
+    pub relation: Option<Relation>,
 }
 
 impl Rest {
@@ -20,24 +21,33 @@ impl Rest {
     pub fn free() -> Rest
         ensures { result ≡ nowhere }
     {
-        Rest { value: 0, tiny: 0 }
+        Rest {
+            value: 0,
+            tiny: 0,
+            relation: None,
+        }
     }
 
     /// Where a bound row rests, where its bound is a small whole number.
     pub fn at_bound(row: &Row) -> Option<Rest>
-        ensures { IfSome result (λ rest. bound_value row.now ≡ rest_point rest) }
+        ensures { IfSome result (IsRestOf (Some row.now)) }
     {
         let bound = row.bound();
         if bound.denominator() != 1 {
             return None;
         }
         let value = i32::try_from(bound.numerator()).ok()?;
-        let tiny = match row.relation() {
+        let relation = row.relation();
+        let tiny = match relation {
             Relation::AtLeast => 0,
             Relation::Above => 1,
             Relation::Equal => 0,
         };
-        Some(Rest { value, tiny })
+        Some(Rest {
+            value,
+            tiny,
+            relation: Some(relation),
+        })
     }
 }
 

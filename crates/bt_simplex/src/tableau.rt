@@ -3,8 +3,8 @@ ghost use Rattle.std.specs.Prelude.{◌≡◌, ◌<◌, IfOk, IfSome, OnErr, Mat
 ghost use Rattle.bt_simplex.specs.Checks.{IsCheck, StartsAt};
 ghost use Rattle.bt_simplex.specs.inner.Bases.{with_slots};
 ghost use Rattle.bt_simplex.specs.inner.Checking.{IsWideFor};
-ghost use Rattle.bt_simplex.specs.inner.Rests.{rest_point};
-ghost use Rattle.bt_simplex.specs.Points.{bound_row, resting};
+ghost use Rattle.bt_simplex.specs.inner.Rests.{IsRestOf, relation_of};
+ghost use Rattle.bt_simplex.specs.Points.{bound_row};
 ghost use Rattle.bt_simplex.specs.Tableaus.{AreOverColumns, IsNew, IsBoundAs, IsTableau};
 ghost use Rattle.bt_simplex.specs.Turns.{CanTurn, IsTurnedBy};
 
@@ -20,7 +20,7 @@ use crate::starting::{all_known, copied, first_basis, unbound};
 use crate::trails::{bound_rows, positions};
 use crate::turning::turned_copy;
 use crate::workspace::{Rooms, Workspace};
-use bt_frac::Row;
+use bt_frac::{Relation, Row};
 use std::alloc::{AllocError, Global};
 use std::marker::Model;
 
@@ -266,14 +266,24 @@ impl Tableau {
         self.rows.get(row)
     }
 
-    /// Where a position rests, where that is told by small whole numbers.
+    /// Where a position rests and whether it is a bound row, where that is told by small whole numbers.
     pub(crate) fn whole_rest(&self, position: usize) -> Option<Rest>
-        ensures { IfSome result (λ rest. resting self.now position ≡ rest_point rest) }
+        ensures { IfSome result (IsRestOf (bound_row self.now position)) }
     {
         if position < self.rests.len() {
             self.rests[position]
         } else {
             None
+        }
+    }
+
+    /// The relation of the row of a position, where that is a row and bound.
+    pub(crate) fn bound_relation(&self, position: usize) -> Option<Relation>
+        ensures { result ≡ relation_of (bound_row self.now position) }
+    {
+        match self.whole_rest(position) {
+            Some(rest) => rest.relation,
+            None => Some(self.bound_row(position)?.relation()),
         }
     }
 

@@ -1,7 +1,9 @@
 -- Where the positions of a tableau rest, as whole numbers.
-use Rattle.std.specs.Prelude.{◌≡◌, ℕ, ◌+◌, pos, List, length, Option, None, IfSome, slice_index_or}
+use Rattle.std.specs.Prelude.{◌≡◌, ℕ, ◌+◌, pos, List, length, Option, Some, None, IfSome, slice_index_or}
+use Rattle.bt_frac.specs.Rows.{RowParts}
 use Rattle.bt_frac.specs.declared.delta.Delta.{Delta}
-use Rattle.bt_simplex.specs.Points.{resting}
+use Rattle.bt_frac.specs.declared.row.Relation.{Relation}
+use Rattle.bt_simplex.specs.Points.{bound_row, value_or_zero}
 use Rattle.bt_simplex.specs.Tableaus.{TableauParts}
 use Rattle.bt_simplex.specs.declared.rests.Rest.{Rest}
 
@@ -11,10 +13,19 @@ rest_point rest = record { value = record { over = rest.value; under = 1 }; tiny
 
 -- where a position rests that is no bound row
 abbrev pub nowhere : Rest
-nowhere = record { value = pos 0; tiny = pos 0 }
+nowhere = record { value = pos 0; tiny = pos 0; relation = None }
+
+-- the relation of a row, where there is one
+abbrev pub relation_of : Option RowParts → Option Relation
+relation_of (Some row) = Some row.relation
+relation_of None = None
+
+-- where a position rests that is this bound row, or none
+abbrev pub IsRestOf : Option RowParts → Rest → Type 0
+IsRestOf row rest = (value_or_zero row ≡ rest_point rest) × (rest.relation ≡ relation_of row)
 
 -- for each position the whole numbers where it rests, or none
 abbrev pub AreRests : TableauParts → List (Option Rest) → Type 0
 AreRests t rests =
     (length rests ≡ t.columns + length t.rows)
-    × ((position : ℕ) → IfSome (slice_index_or rests position None) (λ rest. resting t position ≡ rest_point rest))
+    × ((position : ℕ) → IfSome (slice_index_or rests position None) (IsRestOf (bound_row t position)))

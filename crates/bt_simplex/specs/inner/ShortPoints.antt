@@ -5,7 +5,7 @@ use Rattle.bt_frac.specs.Rows.{RowParts}
 use Rattle.bt_frac.specs.declared.delta.Delta.{Delta}
 use Rattle.bt_frac.specs.declared.row.Relation.{Relation}
 use Rattle.bt_frac.specs.declared.row.Relation.TheVariants.{Equal}
-use Rattle.bt_simplex.specs.Points.{tiny_of, resting, standing}
+use Rattle.bt_simplex.specs.Points.{tiny_of, bound_value, resting, standing}
 use Rattle.bt_simplex.specs.Lines.{Terms}
 use Rattle.bt_simplex.specs.SolvedForms.{Slots, slot_at}
 use Rattle.bt_simplex.specs.Tableaus.{TableauParts}
@@ -31,6 +31,10 @@ pub record AddsWhole (rest : Delta) (sums : Sums) (over : ℤ) (next : Sums) : T
 -- a row of this relation doesn't hold where it stands at its bound, but for this multiple of the infinitesimal
 abbrev pub BreaksTiny : Relation → Ratio → Type 0
 BreaksTiny relation tiny = IsLess tiny (tiny_of relation) ⊎ ((relation ≡ Equal) × IsLess (tiny_of relation) tiny)
+
+-- whether a row of this relation and bound value doesn't hold at a point
+abbrev pub TellsBreak : Relation → Delta → Delta → Bool → Type 0
+TellsBreak relation bound point told = (row : RowParts) → row.relation ≡ relation → bound_value row ≡ bound → (IsTrue told ↔ Breaks row point)
 
 -- whether a row doesn't hold at a point that is this one, or at this one with the other sign where that is told
 abbrev pub IsBreak : RowParts → Bool → Delta → Bool → Type 0

@@ -1,17 +1,17 @@
 //! Where positions stand by their short lines, in whole numbers.
-ghost use Rattle.std.specs.Prelude.{◌≡◌, ◌<◌, ◌^◌, ◌*ℤ◌, IfSome, IsTrue, ◌↔◌, Some, neg_ℤ};
+ghost use Rattle.std.specs.Prelude.{◌≡◌, ◌<◌, ◌^◌, ◌*ℤ◌, length, IfSome, IsTrue, ◌↔◌, Some, neg_ℤ};
 ghost use Rattle.bt_frac.specs.declared.row.Relation.TheVariants.{Equal as AnEquation};
-ghost use Rattle.bt_simplex.specs.Points.{bound_value, resting, standing};
-ghost use Rattle.bt_simplex.specs.Turns.{Breaks};
+ghost use Rattle.bt_simplex.specs.Points.{resting, standing};
 ghost use Rattle.bt_simplex.specs.inner.Bases.{IsSamePoint, signed_point};
 ghost use Rattle.bt_simplex.specs.inner.Rests.{rest_point};
 ghost use Rattle.bt_simplex.specs.inner.Shorts.{IsSmall};
-ghost use Rattle.bt_simplex.specs.inner.ShortPoints.{AddsWhole, delta_of, BreaksTiny};
+ghost use Rattle.bt_simplex.specs.inner.ShortPoints.{AddsWhole, delta_of, TellsBreak, BreaksTiny};
+ghost use Rattle.bt_simplex.specs.inner.TermSigns.{IsSignedTerm};
 
 use crate::rests::Rest;
 use crate::short::{Short, number};
 use crate::tableau::Tableau;
-use bt_frac::{Delta, Relation, Row};
+use bt_frac::{Delta, Relation};
 use std::cmp::Ordering;
 
 /// The sums of terms where their positions rest, over the denominator of their line.
@@ -44,6 +44,15 @@ impl Short {
         })
     }
 
+    /// The position of a term, and the sign of its number.
+    pub fn sign_at(&self, index: usize) -> (usize, Ordering)
+        requires { index < length self.now }
+        ensures { IsSignedTerm self.now index result }
+    {
+        let (position, number) = self.terms[index].parts();
+        (position as usize, number.cmp(&0))
+    }
+
     /// The sums of the terms. None as above.
     pub fn sums(&self, tableau: &Tableau) -> Option<Sums>
         ensures same { IfSome result
@@ -65,27 +74,26 @@ impl Short {
     }
 }
 
-/// Whether a row that rests here doesn't hold where these sums are, or with the other sign where this is told.
-/// None where a number doesn't fit.
-pub fn breaks_by(row: &Row, rest: Rest, sums: Sums, negated: bool) -> Option<bool>
-    requires rests { bound_value row.now ≡ rest_point rest }
+/// Whether a row of this relation that rests here doesn't hold where these sums are, or with the other sign
+/// where this is told. None where a number doesn't fit.
+pub fn breaks_by(relation: Relation, rest: Rest, sums: Sums, negated: bool) -> Option<bool>
     requires fits { sums.under < 2 ^ 31 }
-    ensures { IfSome result (λ told. IsTrue told ↔ Breaks row.now (signed_point negated (delta_of sums))) }
+    ensures { IfSome result
+        (λ told. TellsBreak relation (rest_point rest) (signed_point negated (delta_of sums)) told) }
 {
     let others = signed_sums(sums, negated)?;
-    Some(sums_break(row, rest, others))
+    Some(sums_break(relation, rest, others))
 }
 
-/// Whether a row that rests here doesn't hold where it stands as another position rests, or with the other
-/// sign where this is told. None where a number doesn't fit.
-pub fn breaks_at(row: &Row, rest: Rest, other: Rest, negated: bool) -> Option<bool>
-    requires { bound_value row.now ≡ rest_point rest }
+/// Whether a row of this relation that rests here doesn't hold where it stands as another position rests, or
+/// with the other sign where this is told. None where a number doesn't fit.
+pub fn breaks_at(relation: Relation, rest: Rest, other: Rest, negated: bool) -> Option<bool>
     ensures { IfSome result
-        (λ told. IsTrue told ↔ Breaks row.now (signed_point negated (rest_point other))) }
+        (λ told. TellsBreak relation (rest_point rest) (signed_point negated (rest_point other)) told) }
 {
     let sums = rest_sums(other);
     let others = signed_sums(sums, negated)?;
-    Some(sums_break(row, rest, others))
+    Some(sums_break(relation, rest, others))
 }
 
 /// The sums of one position alone, with the number 1.
@@ -140,25 +148,24 @@ fn opposite(number: i64) -> Option<i64>
     number.checked_neg()
 }
 
-/// Whether a row that rests here doesn't hold where it stands.
-fn sums_break(row: &Row, rest: Rest, sums: Sums) -> bool
-    requires rests { bound_value row.now ≡ rest_point rest }
-    requires fits { sums.under < 2 ^ 31 }
-    ensures { IsTrue result ↔ Breaks row.now (delta_of sums) }
+/// Whether a row of this relation that rests here doesn't hold where it stands.
+fn sums_break(relation: Relation, rest: Rest, sums: Sums) -> bool
+    requires { sums.under < 2 ^ 31 }
+    ensures { TellsBreak relation (rest_point rest) (delta_of sums) result }
 {
     let level = multiple(i64::from(sums.under), rest.value);
     match sums.value.cmp(&level) {
         Ordering::Less => true,
-        Ordering::Equal => breaks_tiny(row.relation(), sums.tiny, sums.under),
-        Ordering::Greater => is_equation(row),
+        Ordering::Equal => breaks_tiny(relation, sums.tiny, sums.under),
+        Ordering::Greater => is_equation(relation),
     }
 }
 
-/// Whether the row asks for its bound itself.
-fn is_equation(row: &Row) -> bool
-    ensures { IsTrue result ↔ (row.now.relation ≡ AnEquation) }
+/// Whether a row of this relation asks for its bound itself.
+fn is_equation(relation: Relation) -> bool
+    ensures { IsTrue result ↔ (relation ≡ AnEquation) }
 {
-    row.relation() == Relation::Equal
+    relation == Relation::Equal
 }
 
 /// Whether a row that stands at its bound, but for a multiple of the infinitesimal, doesn't hold.

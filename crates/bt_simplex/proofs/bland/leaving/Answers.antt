@@ -4,16 +4,26 @@ use Rattle.bt_simplex.specs.Turns.{Fails}
 use Rattle.bt_simplex.specs.inner.Bases.{with_slots}
 use Rattle.bt_simplex.proofs.Failing.{no_slot, least_here}
 use Rattle.bt_simplex.proofs.bland.leaving.Goals as goal
+use Rattle.bt_simplex.proofs.bland.leaving.Goals.{in-Some-false, in-None+in-Ok-false}
 
-pub returns-then-told-clause-least : goal.returns-then-told-clause-least
-returns-then-told-clause-least c =
-    least_here (λ p. Fails (with_slots c.args.tableau.now c.args.basis.now) p) c.loop-position.position c.loop-position.invariant.none (c.in-Ok.ensures.told.0 c.if-told.true)
+pub returns-in-Some-true-clause-least : goal.returns-in-Some-true-clause-least
+returns-in-Some-true-clause-least c =
+    least_here (λ p. Fails (with_slots c.args.tableau.now c.args.basis.now) p) c.loop-position.position c.loop-position.invariant.none (c.in-Some-true.ensures.told.0 c.in-Some-true.field-0-test)
+
+pub returns-in-Ok-true-clause-least : goal.returns-in-Ok-true-clause-least
+returns-in-Ok-true-clause-least c =
+    least_here (λ p. Fails (with_slots c.args.tableau.now c.args.basis.now) p) c.loop-position.position c.loop-position.invariant.none (c.in-Ok-true.ensures.told.0 c.in-Ok-true.field-0-test)
 
 pub loop-position-preserved : goal.loop-position-preserved
 loop-position-preserved c =
+    let holds : Fails (with_slots c.args.tableau.now c.args.basis.now) c.loop-position.position → ⊥ =
+    elim c.match-fails_whole.branch [
+      | in-Some-false w ↦ iff_false w.in-Some-false.ensures.told w.in-Some-false.field-0-test
+      | in-None+in-Ok-false w ↦ iff_false w.in-Ok-false.ensures.told w.in-Ok-false.field-0-test
+    ] in
     record {
-      none = below_more (λ p. Fails (with_slots c.args.tableau.now c.args.basis.now) p → ⊥) c.loop-position.position c.loop-position.invariant.none (iff_false c.in-Ok.ensures.told c.if-told.false);
-      kept = c.fails.ensures.kept;
+      none = below_more (λ p. Fails (with_slots c.args.tableau.now c.args.basis.now) p → ⊥) c.loop-position.position c.loop-position.invariant.none holds;
+      kept = c.fails_whole.ensures.kept;
     }
 
 pub returns-clause-least : goal.returns-clause-least

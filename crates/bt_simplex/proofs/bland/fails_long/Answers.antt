@@ -1,6 +1,6 @@
 use Rattle.bt_simplex.specs.inner.Bases.{with_slots}
 use Rattle.bt_simplex.proofs.Failing.{fails_told}
-use Rattle.bt_simplex.proofs.bland.fails.Goals as goal
+use Rattle.bt_simplex.proofs.bland.fails_long.Goals as goal
 
 pub returns-clause-told : goal.returns-clause-told
 returns-clause-told c =

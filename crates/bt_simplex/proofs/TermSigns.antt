@@ -1,0 +1,107 @@
+-- The signs of a line's numbers, and where a number of a sign moves a row.
+use Rattle.std.proofs.Common.{◌≡◌, ℕ, ◌<◌, ◌^◌, arith, ℤ, pos, neg_ℤ, ◌*ℤ◌, ◌<ℤ◌, ◌↔◌, Ordering, Less, Equal, Greater, length, get_or, ap, sym, ◌∙◌, refl, subst, inl, inr}
+use Rattle.std.proofs.lemmas.Int.{ints}
+use Rattle.std.proofs.Math.IntN.{zero-*ℤ}
+use Rattle.bt_frac.specs.Ratio.{Ratio}
+use Rattle.bt_frac.specs.Rows.{RowParts}
+use Rattle.bt_frac.specs.Deltas.{IsLessDelta, SameDelta}
+use Rattle.bt_frac.specs.declared.delta.Delta.{Delta}
+use Rattle.bt_frac.proofs.Order.{mul_cancel}
+use Rattle.bt_lin.proofs.SameNumbers.{above_same}
+use Rattle.bt_simplex.specs.Lines.{Terms}
+use Rattle.bt_simplex.specs.Points.{bound_value}
+use Rattle.bt_simplex.specs.Turns.{MovesTowards}
+use Rattle.bt_simplex.specs.inner.Shorts.{Numbers, reduced, terms_over, IsSmall, IsShort}
+use Rattle.bt_simplex.specs.inner.TermSigns.{IsSign, IsSignedTerm}
+use Rattle.bt_simplex.proofs.ShortPoints.{over_of, length_over, item_over}
+use Rattle.bt_simplex.proofs.Shorts.{reduced_lowest, reduced_over, reduced_negated}
+
+above_over : (z : ℤ) (under : ℕ) → 0 < under → under < 2 ^ 31 → IsSmall z → pos 0 <ℤ z → pos 0 <ℤ (reduced z under).over
+above_over z under some fits small up =
+    let low = reduced_lowest z under some (omega arith) (omega arith) in
+    (above_same (over_of z under) (reduced z under) some low.positive (sym (reduced_over z under))).0 up
+
+small_negated : (z : ℤ) → IsSmall z → IsSmall (neg_ℤ z)
+small_negated z small = omega (arith, ints)
+
+below_over : (z : ℤ) (under : ℕ) → 0 < under → under < 2 ^ 31 → IsSmall z → z <ℤ pos 0 → (reduced z under).over <ℤ pos 0
+below_over z under some fits small down =
+    back (reduced z under).over
+    (subst (λ r. pos 0 <ℤ r.over) (reduced_negated z under some (omega arith) (omega arith)) (above_over (neg_ℤ z) under some fits (small_negated z small) (up z down)))
+  where
+    up : (z : ℤ) → z <ℤ pos 0 → pos 0 <ℤ neg_ℤ z
+    up z h = omega (arith, ints)
+
+    back : (z : ℤ) → pos 0 <ℤ neg_ℤ z → z <ℤ pos 0
+    back z h = omega (arith, ints)
+
+zero_over : (z : ℤ) (under : ℕ) → 0 < under → z ≡ pos 0 → (reduced z under).over ≡ pos 0
+zero_over z under some none =
+    mul_cancel (reduced z under).over (pos 0) under some
+    (reduced_over z under ∙ ap (λ t. t *ℤ pos (reduced z under).under) none ∙ zero-*ℤ (pos (reduced z under).under) ∙ sym (zero-*ℤ (pos under)))
+
+-- the fraction in lowest terms has the sign of its whole number
+sign_over : (z : ℤ) (under : ℕ) (o : Ordering) → 0 < under → under < 2 ^ 31 → IsSmall z → IsSign o z → IsSign o (reduced z under).over
+sign_over z under Less some fits small sign = below_over z under some fits small sign
+sign_over z under Equal some fits small sign = zero_over z under some sign
+sign_over z under Greater some fits small sign = above_over z under some fits small sign
+
+-- the sign of a term of a short line is that of its whole number
+pub short_sign : (under : ℕ) (numbers : Numbers) (now : Terms) → IsShort under numbers → terms_over under numbers ≡ now → (i : ℕ) (x : ℕ × ℤ) (o : Ordering) → i < length now → x ≡ get_or numbers i x → IsSign o x.1
+    → IsSignedTerm now i (x.0, o)
+short_sign under numbers now short now_is i x o within is sign =
+    let many : length now ≡ length numbers = sym (ap length now_is) ∙ length_over under numbers in
+    let inside : i < length numbers = subst (λ n. i < n) many within in
+    let small : IsSmall x.1 = subst (λ (t : ℕ × ℤ). IsSmall t.1) (sym is) (short.small i x inside) in
+    subst (λ terms. IsSignedTerm terms i (x.0, o)) now_is (reduced x.1 under, item_over under numbers i x inside is, sign_over x.1 under o short.some short.fits small sign)
+
+both_ways : {x y : ℤ} → x <ℤ y → y <ℤ x → ⊥
+both_ways {x} {y} p q = omega (arith, ints)
+
+less_even : {x y : ℤ} → x <ℤ y → x ≡ y → ⊥
+less_even {x} {y} p q = omega (arith, ints)
+
+opposed : (a b : Delta) → IsLessDelta a b → IsLessDelta b a → ⊥
+opposed a b (inl p) (inl q) = both_ways p q
+opposed a b (inl p) (inr (s, q)) = less_even p (sym s)
+opposed a b (inr (s, p)) (inl q) = less_even q (sym s)
+opposed a b (inr (s, p)) (inr (r, q)) = both_ways p q
+
+even : (a b : Delta) → SameDelta a b → IsLessDelta a b → ⊥
+even a b same (inl h) = less_even h same.0
+even a b same (inr (s, h)) = less_even h same.1
+
+even_back : (a b : Delta) → SameDelta a b → IsLessDelta b a → ⊥
+even_back a b same (inl h) = less_even h (sym same.0)
+even_back a b same (inr (s, h)) = less_even h (sym same.1)
+
+up_is : (o : Ordering) (z : ℤ) → IsSign o z → pos 0 <ℤ z → o ≡ Greater
+up_is Less z sign up = absurd (omega (arith, ints))
+up_is Equal z sign up = absurd (omega (arith, ints))
+up_is Greater z sign up = refl
+
+down_is : (o : Ordering) (z : ℤ) → IsSign o z → z <ℤ pos 0 → o ≡ Less
+down_is Less z sign down = refl
+down_is Equal z sign down = absurd (omega (arith, ints))
+down_is Greater z sign down = absurd (omega (arith, ints))
+
+-- below its bound value a row is moved towards it by a number above 0
+pub moves_up : (row : RowParts) (point : Delta) (number : Ratio) (o : Ordering) → IsLessDelta point (bound_value row) → IsSign o number.over → (o ≡ Greater) ↔ MovesTowards row point number
+moves_up row point number o below sign = (λ e. inl (below, subst (λ s. IsSign s number.over) e sign), λ moves. told moves)
+  where
+    told : MovesTowards row point number → o ≡ Greater
+    told (inl (less, up)) = up_is o number.over sign up
+    told (inr (more, down)) = absurd (opposed point (bound_value row) below more)
+
+-- above it by a number below 0
+pub moves_down : (row : RowParts) (point : Delta) (number : Ratio) (o : Ordering) → IsLessDelta (bound_value row) point → IsSign o number.over → (o ≡ Less) ↔ MovesTowards row point number
+moves_down row point number o above sign = (λ e. inr (above, subst (λ s. IsSign s number.over) e sign), λ moves. told moves)
+  where
+    told : MovesTowards row point number → o ≡ Less
+    told (inl (less, up)) = absurd (opposed point (bound_value row) less above)
+    told (inr (more, down)) = down_is o number.over sign down
+
+-- at it by none
+pub moves_none : (row : RowParts) (point : Delta) (number : Ratio) → SameDelta (bound_value row) point → MovesTowards row point number → ⊥
+moves_none row point number same (inl (less, up)) = even_back (bound_value row) point same less
+moves_none row point number same (inr (more, down)) = even (bound_value row) point same more
