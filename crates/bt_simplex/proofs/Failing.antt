@@ -1,5 +1,6 @@
 -- The same point fails alike, and is moved alike.
-use Rattle.std.proofs.Common.{◌≡◌, ℕ, ◌<◌, ◌≤◌, arith, pos, ◌*ℤ◌, ◌<ℤ◌, ◌↔◌, length, Option, Some, None, ap, sym, ◌∙◌, subst, inl, inr}
+use Rattle.std.proofs.Common.{◌≡◌, ℕ, ◌-◌, ◌<◌, ◌≤◌, arith, nat_lt, true, false, if◌then◌else◌, get_or, pos, ◌*ℤ◌, ◌<ℤ◌, ◌↔◌, length, Option, Some, None, ap, sym, ◌∙◌, subst, inl, inr}
+use Rattle.std.proofs.lemmas.Bool.Decides.{nat_tests}
 use Rattle.std.proofs.lemmas.List.{get_or_past}
 use Rattle.bt_frac.specs.Ratio.{Ratio, SameRatio, IsLess}
 use Rattle.bt_frac.specs.Rows.{RowParts}
@@ -9,7 +10,7 @@ use Rattle.bt_frac.specs.declared.row.Relation.TheVariants.{Above}
 use Rattle.bt_frac.proofs.Order.{mul_lt, lt_from_mul}
 use Rattle.bt_frac.proofs.Ring.{turn_last}
 use Rattle.bt_lin.proofs.SameNumbers.{same_trans, stands_same}
-use Rattle.bt_lin.specs.WeightedRows.{coefficient_at}
+use Rattle.bt_lin.specs.WeightedRows.{coefficient_at, empty_row}
 use Rattle.bt_simplex.specs.Lines.{Terms}
 use Rattle.bt_simplex.specs.SolvedForms.{slot_at}
 use Rattle.bt_simplex.specs.Tableaus.{TableauParts}
@@ -75,6 +76,12 @@ no_line t position none fails = let both : None ≡ Some fails.basic.0 = sym non
 
 pub no_row : (t : TableauParts) (position : ℕ) → bound_row t position ≡ None → Fails t position → ⊥
 no_row t position none fails = let both : None ≡ Some fails.row = sym none ∙ fails.is_bound in cc
+
+pub no_column : (t : TableauParts) (position : ℕ) → position < t.columns → Fails t position → ⊥
+no_column t position before fails =
+    let test : nat_lt position t.columns ≡ true = grind (arith, nat_tests) in
+    no_row t position
+    (ap (λ b. if b then None else if get_or t.bound (position - t.columns) false then Some (get_or t.rows (position - t.columns) empty_row) else None) test) fails
 
 pub no_slot : (t : TableauParts) (position : ℕ) → length t.slots ≤ position → Fails t position → ⊥
 no_slot t position past fails = no_line t position (get_or_past t.slots position None past) fails

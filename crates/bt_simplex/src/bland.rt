@@ -149,14 +149,14 @@ fn fails_long(tableau: &Tableau, basis: &Basis, position: usize) -> Result<bool,
     Ok(breaks(row, &point))
 }
 
-/// The least position that fails.
+/// The least position that fails, which is none of the columns.
 pub fn leaving(tableau: &Tableau, basis: &Basis, kept: &mut Kept) -> Least
     requires { AreKept tableau.now basis.now kept.old.sums.items }
     ensures least { Finds (with_slots tableau.now basis.now)
         (λ p. Fails (with_slots tableau.now basis.now) p) result }
     ensures kept { AreKept tableau.now basis.now kept.new.sums.items }
 {
-    for position in 0..basis.len() {
+    for position in tableau.columns()..basis.len() {
         match fails_whole(tableau, basis, position, kept) {
             Some(true) => return Least::At(position),
             Some(false) => {}

@@ -1,8 +1,8 @@
-use Rattle.std.proofs.Common.{◌≤◌, arith, length, below_more}
+use Rattle.std.proofs.Common.{subst, ◌<◌, ◌≤◌, arith, length, below_more}
 use Rattle.std.proofs.lemmas.Bool.{iff_false}
 use Rattle.bt_simplex.specs.Turns.{Fails}
 use Rattle.bt_simplex.specs.inner.Bases.{with_slots}
-use Rattle.bt_simplex.proofs.Failing.{no_slot, least_here}
+use Rattle.bt_simplex.proofs.Failing.{no_column, no_slot, least_here}
 use Rattle.bt_simplex.proofs.bland.leaving.Goals as goal
 use Rattle.bt_simplex.proofs.bland.leaving.Goals.{in-Some-false, in-None+in-Ok-false}
 
@@ -13,6 +13,13 @@ returns-in-Some-true-clause-least c =
 pub returns-in-Ok-true-clause-least : goal.returns-in-Ok-true-clause-least
 returns-in-Ok-true-clause-least c =
     least_here (λ p. Fails (with_slots c.args.tableau.now c.args.basis.now) p) c.loop-position.position c.loop-position.invariant.none (c.in-Ok-true.ensures.told.0 c.in-Ok-true.field-0-test)
+
+pub loop-position-init : goal.loop-position-init
+loop-position-init c =
+    record {
+      none = λ p before fails. no_column (with_slots c.args.tableau.now c.args.basis.now) p (subst (λ n. p < n) c.columns-position.ensures before) fails;
+      kept = c.requires;
+    }
 
 pub loop-position-preserved : goal.loop-position-preserved
 loop-position-preserved c =
