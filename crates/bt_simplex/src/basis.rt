@@ -1,6 +1,6 @@
 //! A basis with its solved form. Positions whose terms are the same up to the sign are a class, of which one
 //! line is held, or which member is outside.
-ghost use Rattle.std.specs.Prelude.{◌≡◌, ◌<◌, ◌↔◌, ◌-◌, ◌^◌, ◌++◌, ◌∷◌, [], length, IfOk, IfSome, IsTrue, Some, None, true};
+ghost use Rattle.std.specs.Prelude.{◌≡◌, ◌<◌, ◌↔◌, ◌++◌, ◌∷◌, [], length, IfOk, IfSome, IsTrue, Some, None, true};
 ghost use Rattle.bt_frac.specs.Ratio.{negated};
 ghost use Rattle.bt_simplex.specs.Lines.{one, IsLine};
 ghost use Rattle.bt_simplex.specs.Classes.{signed_terms, differ, class_terms, position_at};
