@@ -1,4 +1,5 @@
-//! One file for each subject.
+//! One file for each subject. A row of a table is one text, whose fields stand between bars: a table of structs or tuples
+//! takes far longer to prove. What judges a row lacks memory at most, since an error of its own is dear too.
 mod arena;
 mod cert;
 mod choosers;
@@ -12,3 +13,65 @@ mod pool;
 mod sat;
 mod simplex;
 mod theory;
+
+use bt_frac::{Frac, Relation, Row};
+use std::alloc::{AllocError, Global};
+
+/// The fields of a row; those that it lacks are empty.
+fn fields(row: &str, mark: char) -> [&str; 5] {
+    let mut fields = [""; 5];
+    for (place, text) in row.split(mark).enumerate() {
+        if place < 5 {
+            fields[place] = text;
+        }
+    }
+    fields
+}
+
+/// The number that a field spells.
+fn number_of(field: &str) -> usize {
+    field.parse::<usize>().unwrap_or(0)
+}
+
+/// The fraction that a field spells, and 0 where it spells none.
+fn fraction_of(field: &str) -> Frac {
+    Frac::read(field.as_bytes()).unwrap_or(Frac::whole(0))
+}
+
+/// The fractions of a field's first three words.
+fn fractions_of(field: &str) -> [Frac; 3] {
+    let [first, second, third, ..] = fields(field, ' ');
+    [fraction_of(first), fraction_of(second), fraction_of(third)]
+}
+
+fn relation_named(name: &str) -> Relation {
+    match name {
+        ">" => Relation::Above,
+        "=" => Relation::Equal,
+        _ => Relation::AtLeast,
+    }
+}
+
+/// The row of a relation, a bound and the coefficients of the first columns, of which 0 is none.
+fn row_of(alloc: Global, field: &str) -> Result<Option<Row>, AllocError> {
+    let [relation, bound, first, second, third] = fields(field, ' ');
+    let mut terms = Vec::new(alloc);
+    for (column, word) in [first, second, third].into_iter().enumerate() {
+        let coefficient = fraction_of(word);
+        if coefficient.numerator() != 0 {
+            terms.push((column, coefficient))?;
+        }
+    }
+    Row::new(alloc, &terms, relation_named(relation), fraction_of(bound))
+}
+
+/// The rows of fields that are rows.
+fn rows_of(alloc: Global, fields: &[&str]) -> Result<Vec<Row>, AllocError> {
+    let mut rows = Vec::new(alloc);
+    for field in fields {
+        if let Some(row) = row_of(alloc, field)? {
+            rows.push(row)?;
+        }
+    }
+    Ok(rows)
+}

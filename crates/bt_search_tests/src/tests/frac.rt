@@ -1,5 +1,5 @@
-//! Sums, differences, products and quotients, orders and spellings, whose answers are worked out by hand. A row is one
-//! text: a table of numbers takes far longer to prove.
+//! Sums, differences, products and quotients, orders and spellings, whose answers are worked out by hand.
+use super::fields;
 use bt_frac::{Frac, TEXT_MAX, read_whole};
 use std::cmp::Ordering;
 
@@ -118,17 +118,6 @@ const WHOLES: &[&str] = &[
     "9999999999999999999999999999999999999999999|340282366920938463463374607431768211455",
     "999999999999999999999999999999999999999999x",
 ];
-
-/// The fields of a row; those that it lacks are empty.
-fn fields(row: &str, mark: char) -> [&str; 5] {
-    let mut fields = [""; 5];
-    for (place, text) in row.split(mark).enumerate() {
-        if place < 5 {
-            fields[place] = text;
-        }
-    }
-    fields
-}
 
 /// The parts of a fraction, or None where there is none.
 fn parts(fraction: Option<Frac>) -> Option<(i128, i128)> {

@@ -1,51 +1,45 @@
-use bt_frac::{Frac, Relation, Row};
+//! Turns of tableaux, and what checks answer, worked out by hand.
+use super::{fields, number_of, rows_of};
+use bt_frac::{Frac, Row};
 use bt_lin::{eval, farkas};
 use bt_simplex::{Check, Operation, Tableau, Turn, Wide, WidePlace, are_over};
-use std::alloc::Global;
+use std::alloc::{AllocError, Global};
 use std::test::Fail;
 
-/// 2^100.
-const GREAT: i128 = 1 << 100;
+/// The position that leaves, the one that enters, and whether the tableau takes the turn, after those above.
+const TURNS: &[&str] = &[
+    "0|1|no", "1|2|no", "1|0|yes", "1|0|no", "2|1|yes", "0|1|no", "0|2|yes",
+];
 
-/// 3^40.
-const ODD: i128 = 12157665459056928801;
+/// Two rows, and a letter for what each of four checks answers: values, a refutation, or too many turns.
+const ANSWERS: &[&str] = &[
+    "> 0 1|>= -1 -1|psss",
+    ">= 1 1|>= 0 -1|pusu",
+    ">= 1 1|> -1 -1|pusu",
+    "= 3 2|>= -2 -1|psss",
+    "= -3 2|= -1 1|pusu",
+    ">= 0 1|>= -1 3|ssss",
+];
 
-/// A fraction.
-fn number(parts: (i128, i128)) -> Result<Frac, Fail> {
-    let (over, under) = parts;
-    if under == 0 {
-        return Err("no fraction".into());
-    }
-    match Frac::new(over, under) {
-        Some(number) => Ok(number),
-        None => Err("no number".into()),
-    }
-}
-
-/// The row of one column.
-fn row(
-    alloc: Global,
-    coefficient: (i128, i128),
-    relation: Relation,
-    bound: (i128, i128),
-) -> Result<Row, Fail> {
-    let terms = [(0, number(coefficient)?)];
-    match Row::new(alloc, &terms, relation, number(bound)?)? {
-        Some(row) => Ok(row),
-        None => Err("no row".into()),
-    }
-}
+/// Two rows, and of the number that is too wide in a check of both its place, the operation, and the turns before it and
+/// its row. The great numbers are 2^100 and 3^40.
+const WIDE: &[&str] = &[
+    ">= 1 1/1267650600228229401496703205376|>= 0 1267650600228229401496703205376|entry|mul|0 2",
+    ">= 1267650600228229401496703205376 1|>= 0 1267650600228229401496703205376|value|mul|1 2",
+    "> 1/1267650600228229401496703205376 1|>= -1/12157665459056928801 -1|settle|add|1 2",
+    ">= 1/12157665459056928801 1|>= -1/1267650600228229401496703205376 -1|lemma|add|1 1",
+];
 
 /// A tableau of rows over one column, all of which are bound.
-fn bound_tableau(alloc: Global, rows: &[Row]) -> Result<Tableau, Fail> {
+fn bound_tableau(alloc: Global, rows: &[Row]) -> Result<Option<Tableau>, AllocError> {
     if !are_over(rows, 1) {
-        return Err("a column is missing".into());
+        return Ok(None);
     }
     let mut tableau = Tableau::new(alloc, rows, 1)?;
     for row in 0..rows.len() {
         bind(&mut tableau, row, true);
     }
-    Ok(tableau)
+    Ok(Some(tableau))
 }
 
 /// Requires a row, or requires it no longer.
@@ -61,28 +55,35 @@ fn bind(tableau: &mut Tableau, row: usize, bound: bool) {
 }
 
 /// Whether the tableau takes the turn.
-fn takes(alloc: Global, tableau: &mut Tableau, leaves: usize, enters: usize) -> Result<bool, Fail> {
-    let turn = Turn { leaves, enters };
+fn takes(alloc: Global, tableau: &mut Tableau, turn: Turn) -> Result<bool, AllocError> {
     if !tableau.can_turn(turn) {
         return Ok(false);
     }
-    Ok(tableau.turn(alloc, turn)?)
+    tableau.turn(alloc, turn)
 }
 
-#[test]
-fn turns(rt: HostRuntime) -> Result<(), Fail> {
-    let alloc = rt.alloc();
-    let rows = [
-        row(alloc, (1, 1), Relation::Above, (0, 1))?,
-        row(alloc, (-1, 1), Relation::AtLeast, (-1, 1))?,
-    ];
-    let mut tableau = bound_tableau(alloc, &rows)?;
-    let mut answers = Vec::new(alloc);
-    for (leaves, enters) in [(0, 1), (1, 2), (1, 0), (1, 0), (2, 1), (0, 1), (0, 2)] {
-        answers.push(takes(alloc, &mut tableau, leaves, enters)?)?;
+/// Whether the tableau takes the turn of a row or not, as the row says.
+fn is_taken(alloc: Global, tableau: &mut Tableau, row: &str) -> Result<bool, AllocError> {
+    let [leaves, enters, answer, ..] = fields(row, '|');
+    let turn = Turn {
+        leaves: number_of(leaves),
+        enters: number_of(enters),
+    };
+    Ok(takes(alloc, tableau, turn)? == (answer == "yes"))
+}
+
+/// Whether the tableau of two rows takes the turns that it may take, one after the other.
+fn are_taken(alloc: Global) -> Result<bool, AllocError> {
+    let rows = rows_of(alloc, &["> 0 1", ">= -1 -1"])?;
+    let Some(mut tableau) = bound_tableau(alloc, &rows)? else {
+        return Ok(false);
+    };
+    for row in TURNS {
+        if !is_taken(alloc, &mut tableau, row)? {
+            return Ok(false);
+        }
     }
-    assert!(rt; answers[..] == [false, false, true, false, true, false, true]);
-    Ok(())
+    Ok(true)
 }
 
 /// Whether all rows hold of the values.
@@ -99,19 +100,20 @@ fn meet(rows: &[Row], values: &[Frac]) -> bool {
 }
 
 /// Whether two rows with these weights add up to one that no values meet.
-fn refute(rows: &[Row; 2], weights: &[(usize, Frac)]) -> bool {
+fn refute(rows: &[Row], weights: &[(usize, Frac)]) -> bool {
     match weights {
         [(first_row, first), (second_row, second)] => {
             *first_row == 0
                 && *second_row == 1
+                && rows.len() == 2
                 && matches!(farkas(rows, &[0, 1], &[*first, *second]), Ok(true))
         }
         _ => false,
     }
 }
 
-/// A letter for an answer, and for values and weights that are none a question mark.
-fn letter(rows: &[Row; 2], check: &Check) -> u8 {
+/// A letter for an answer, and for values and weights that are none of the rows a question mark.
+fn letter(rows: &[Row], check: &Check) -> u8 {
     match check {
         Check::Sat(values) => if meet(rows, values) { b's' } else { b'?' },
         Check::Unsat(weights) => if refute(rows, weights) { b'u' } else { b'?' },
@@ -120,128 +122,94 @@ fn letter(rows: &[Row; 2], check: &Check) -> u8 {
     }
 }
 
-/// What checks answer, the first of which may make no turn, while all rows are bound, then without the
-/// second row, and with it again.
-fn letters(alloc: Global, rows: &[Row; 2]) -> Result<[u8; 4], Fail> {
-    let mut tableau = bound_tableau(alloc, rows)?;
-    let none = tableau.check(alloc, 0)?;
-    let all = tableau.check(alloc, 10)?;
-    bind(&mut tableau, 1, false);
-    let first = tableau.check(alloc, 10)?;
-    bind(&mut tableau, 1, true);
-    let again = tableau.check(alloc, 10)?;
-    let first = match first {
-        Check::Sat(values) => if meet(&rows[..1], &values) {
-            b's'
-        } else {
-            b'?'
-        },
-        _ => b'?',
+/// The letter of a check of the first row, and of the second where it is bound.
+fn checked(
+    alloc: Global,
+    tableau: &mut Tableau,
+    rows: &[Row],
+    has_second: bool,
+    turns: u64,
+) -> Result<u8, AllocError> {
+    bind(tableau, 1, has_second);
+    let check = tableau.check(alloc, turns)?;
+    match rows {
+        [first, _] if !has_second => Ok(letter(std::slice::from_ref(first), &check)),
+        _ => Ok(letter(rows, &check)),
+    }
+}
+
+/// Whether the checks of two rows answer what the letters say. The first may make no turn, and in the third one the second
+/// row isn't bound.
+fn is_answered(alloc: Global, row: &str) -> Result<bool, AllocError> {
+    let [first, second, letters, ..] = fields(row, '|');
+    let rows = rows_of(alloc, &[first, second])?;
+    let Some(mut tableau) = bound_tableau(alloc, &rows)? else {
+        return Ok(false);
     };
-    Ok([
-        letter(rows, &none),
-        letter(rows, &all),
-        first,
-        letter(rows, &again),
-    ])
+    for (place, letter) in letters.bytes().enumerate() {
+        let turns = if place == 0 { 0 } else { 10 };
+        if checked(alloc, &mut tableau, &rows, place != 2, turns)? != letter {
+            return Ok(false);
+        }
+    }
+    Ok(true)
+}
+
+fn place_named(name: &str) -> WidePlace {
+    match name {
+        "entry" => WidePlace::Entry,
+        "value" => WidePlace::Value,
+        "settle" => WidePlace::Settle,
+        _ => WidePlace::Lemma,
+    }
+}
+
+fn operation_named(name: &str) -> Operation {
+    match name {
+        "mul" => Operation::Mul,
+        _ => Operation::Add,
+    }
+}
+
+/// Where a check of all rows meets a number that doesn't fit.
+fn wide_of(alloc: Global, rows: &[Row]) -> Result<Option<Wide>, AllocError> {
+    let Some(mut tableau) = bound_tableau(alloc, rows)? else {
+        return Ok(None);
+    };
+    match tableau.check(alloc, 10)? {
+        Check::Wide(wide) => Ok(Some(wide)),
+        _ => Ok(None),
+    }
+}
+
+/// Whether a number is too wide where a row says so.
+fn is_wide(alloc: Global, row: &str) -> Result<bool, AllocError> {
+    let [first, second, place, operation, at] = fields(row, '|');
+    let [turns, row, ..] = fields(at, ' ');
+    let rows = rows_of(alloc, &[first, second])?;
+    match wide_of(alloc, &rows)? {
+        Some(wide) => {
+            let is_there = wide.place == place_named(place) && wide.row == number_of(row);
+            let is_so = wide.operation == operation_named(operation);
+            Ok(is_there && is_so && wide.trail.turns.len() == number_of(turns))
+        }
+        None => Ok(false),
+    }
+}
+
+#[test]
+fn turns(rt: HostRuntime) -> Result<(), Fail> {
+    assert!(rt; are_taken(rt.alloc())?);
+    Ok(())
 }
 
 #[test]
 fn answers(rt: HostRuntime) -> Result<(), Fail> {
-    let alloc = rt.alloc();
-    for (first, second, expected) in [
-        (
-            (1, Relation::Above, 0),
-            (-1, Relation::AtLeast, -1),
-            [b'p', b's', b's', b's'],
-        ),
-        (
-            (1, Relation::AtLeast, 1),
-            (-1, Relation::AtLeast, 0),
-            [b'p', b'u', b's', b'u'],
-        ),
-        (
-            (1, Relation::AtLeast, 1),
-            (-1, Relation::Above, -1),
-            [b'p', b'u', b's', b'u'],
-        ),
-        (
-            (2, Relation::Equal, 3),
-            (-1, Relation::AtLeast, -2),
-            [b'p', b's', b's', b's'],
-        ),
-        (
-            (2, Relation::Equal, -3),
-            (1, Relation::Equal, -1),
-            [b'p', b'u', b's', b'u'],
-        ),
-        (
-            (1, Relation::AtLeast, 0),
-            (3, Relation::AtLeast, -1),
-            [b's', b's', b's', b's'],
-        ),
-    ] {
-        let rows = [
-            row(alloc, (first.0, 1), first.1, (first.2, 1))?,
-            row(alloc, (second.0, 1), second.1, (second.2, 1))?,
-        ];
-        assert!(rt; letters(alloc, &rows)? == expected);
+    for row in ANSWERS {
+        assert!(rt; is_answered(rt.alloc(), row)?, "{row}");
     }
-    Ok(())
-}
-
-/// Where a check of all rows meets a number that doesn't fit.
-fn wide_of(alloc: Global, rows: &[Row]) -> Result<Wide, Fail> {
-    match bound_tableau(alloc, rows)?.check(alloc, 10)? {
-        Check::Wide(wide) => Ok(wide),
-        _ => Err("it fits".into()),
-    }
-}
-
-#[test]
-fn wide(rt: HostRuntime) -> Result<(), Fail> {
-    let alloc = rt.alloc();
-    for (first, second, place, operation, turns, at) in [
-        (
-            ((1, GREAT), Relation::AtLeast, (1, 1)),
-            ((GREAT, 1), (0, 1)),
-            WidePlace::Entry,
-            Operation::Mul,
-            0,
-            2,
-        ),
-        (
-            ((1, 1), Relation::AtLeast, (GREAT, 1)),
-            ((GREAT, 1), (0, 1)),
-            WidePlace::Value,
-            Operation::Mul,
-            1,
-            2,
-        ),
-        (
-            ((1, 1), Relation::Above, (1, GREAT)),
-            ((-1, 1), (-1, ODD)),
-            WidePlace::Settle,
-            Operation::Add,
-            1,
-            2,
-        ),
-        (
-            ((1, 1), Relation::AtLeast, (1, ODD)),
-            ((-1, 1), (-1, GREAT)),
-            WidePlace::Lemma,
-            Operation::Add,
-            1,
-            1,
-        ),
-    ] {
-        let rows = [
-            row(alloc, first.0, first.1, first.2)?,
-            row(alloc, second.0, Relation::AtLeast, second.1)?,
-        ];
-        let wide = wide_of(alloc, &rows)?;
-        assert!(rt; wide.place == place && wide.operation == operation);
-        assert!(rt; [wide.trail.turns.len(), wide.row] == [turns, at]);
+    for row in WIDE {
+        assert!(rt; is_wide(rt.alloc(), row)?, "{row}");
     }
     Ok(())
 }
