@@ -1,36 +1,45 @@
+//! Sums, differences, orders and multiples of fractions with an infinitesimal.
+use super::{fields, fraction_of};
 use bt_frac::{Delta, Frac};
 use std::cmp::Ordering;
 
-/// The parts of a fraction and a multiple of an infinitesimal, or None where there are none.
-fn parts(delta: Option<Delta>) -> Option<(i128, i128)> {
-    let delta = delta?;
-    Some((delta.value.numerator(), delta.tiny.numerator()))
+/// Two deltas, their sum, their difference and their order. A delta is its fraction and the multiple of the infinitesimal.
+const DELTAS: &[&str] = &[
+    "1 2|3 -5|4 -3|-2 7|<",
+    "1 2|1 1|2 3|0 1|>",
+    "2 -1|1 9|3 8|1 -10|>",
+    "0 0|0 0|0 0|0 0|=",
+];
+
+fn delta_of(field: &str) -> Delta {
+    let [value, tiny, ..] = fields(field, ' ');
+    Delta {
+        value: fraction_of(value),
+        tiny: fraction_of(tiny),
+    }
 }
 
-fn delta(value: i64, tiny: i64) -> Delta {
-    Delta {
-        value: Frac::whole(value),
-        tiny: Frac::whole(tiny),
+fn mark_of(order: Ordering) -> &'static str {
+    match order {
+        Ordering::Less => "<",
+        Ordering::Equal => "=",
+        Ordering::Greater => ">",
     }
+}
+
+fn is_so(row: &str) -> bool {
+    let [first, second, sum, difference, order] = fields(row, '|');
+    let first = delta_of(first);
+    let second = delta_of(second);
+    first.add(&second) == Some(delta_of(sum))
+        && first.sub(&second) == Some(delta_of(difference))
+        && mark_of(first.cmp(&second)) == order
 }
 
 #[test]
 fn deltas(rt: HostRuntime) {
-    for (left, right, sum, difference, order) in [
-        ((1, 2), (3, -5), (4, -3), (-2, 7), Ordering::Less),
-        ((1, 2), (1, 1), (2, 3), (0, 1), Ordering::Greater),
-        ((2, -1), (1, 9), (3, 8), (1, -10), Ordering::Greater),
-        ((0, 0), (0, 0), (0, 0), (0, 0), Ordering::Equal),
-    ] {
-        let first = delta(left.0, left.1);
-        let second = delta(right.0, right.1);
-        assert!(rt; parts(first.add(&second)) == Some(sum));
-        assert!(rt; parts(first.sub(&second)) == Some(difference));
-        assert!(rt; first.cmp(&second) == order);
+    for row in DELTAS {
+        assert!(rt; is_so(row), "{row}");
     }
-}
-
-#[test]
-fn scaled(rt: HostRuntime) {
-    assert!(rt; parts(delta(3, -1).scale(&Frac::whole(-2))) == Some((-6, 2)));
+    assert!(rt; delta_of("3 -1").scale(&Frac::whole(-2)) == Some(delta_of("-6 2")));
 }

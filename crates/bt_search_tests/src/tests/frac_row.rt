@@ -1,22 +1,34 @@
+//! Which columns make a row.
+use super::{fields, number_of};
 use bt_frac::{Frac, Relation, Row};
+use std::alloc::{AllocError, Global};
 use std::test::Fail;
+
+/// The columns of two terms, and whether they make a row.
+const COLUMNS: &[&str] = &[
+    "0|1|yes",
+    "3|9|yes",
+    "1|0|no",
+    "2|2|no",
+    "0|18446744073709551615|no",
+    "0|18446744073709551614|yes",
+];
+
+/// Whether the columns of a table's row make a row or not, as it says.
+fn is_so(alloc: Global, row: &str) -> Result<bool, AllocError> {
+    let [first, second, answer, ..] = fields(row, '|');
+    let one = Frac::whole(1);
+    let terms = [(number_of(first), one), (number_of(second), one)];
+    let copied = Row::new(alloc, &terms, Relation::Above, one)?;
+    let taken = Row::from_vec(Vec::from_slice(alloc, &terms)?, Relation::Above, one);
+    let wanted = answer == "yes";
+    Ok(copied.is_some() == wanted && taken.is_some() == wanted)
+}
 
 #[test]
 fn rows(rt: HostRuntime) -> Result<(), Fail> {
-    let one = Frac::whole(1);
-    for (columns, is_row) in [
-        ([0, 1], true),
-        ([3, 9], true),
-        ([1, 0], false),
-        ([2, 2], false),
-        ([0, usize::MAX], false),
-        ([0, usize::MAX - 1], true),
-    ] {
-        let terms = [(columns[0], one), (columns[1], one)];
-        let row = Row::new(rt.alloc(), &terms, Relation::Above, one)?;
-        assert!(rt; row.is_some() == is_row);
-        let row = Row::from_vec(Vec::from_slice(rt.alloc(), &terms)?, Relation::Above, one);
-        assert!(rt; row.is_some() == is_row);
+    for row in COLUMNS {
+        assert!(rt; is_so(rt.alloc(), row)?, "{row}");
     }
     Ok(())
 }
