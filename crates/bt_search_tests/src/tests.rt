@@ -14,6 +14,7 @@ mod sat;
 mod simplex;
 mod theory;
 
+use bt_cnf::{Formula, Lit};
 use bt_frac::{Frac, Relation, Row};
 use std::alloc::{AllocError, Global};
 
@@ -74,4 +75,35 @@ fn rows_of(alloc: Global, fields: &[&str]) -> Result<Vec<Row>, AllocError> {
         }
     }
     Ok(rows)
+}
+
+/// The literal of a word: its variable's place plus 1, and a sign.
+fn literal_of(formula: &Formula, word: &str) -> Option<Lit> {
+    let number = word.parse::<i64>().unwrap_or(0);
+    let place = (number.unsigned_abs() as usize).wrapping_sub(1);
+    let var = formula.var_at(place)?;
+    Some(Lit {
+        var,
+        positive: number > 0,
+    })
+}
+
+/// The literals of a text, as far as they are of variables.
+fn literals_of(alloc: Global, formula: &Formula, clause: &str) -> Result<Vec<Lit>, AllocError> {
+    let mut lits = Vec::new(alloc);
+    for word in clause.split(' ') {
+        if let Some(lit) = literal_of(formula, word) {
+            lits.push(lit)?;
+        }
+    }
+    Ok(lits)
+}
+
+/// Adds the clause of a text of literals, as far as they are of variables.
+fn add_clause(alloc: Global, formula: &mut Formula, clause: &str) -> Result<(), AllocError> {
+    let lits = literals_of(alloc, formula, clause)?;
+    if lits.iter().all(|lit| lit.var.place() < formula.vars()) {
+        formula.add_clause(&lits)?;
+    }
+    Ok(())
 }

@@ -1,38 +1,34 @@
-use bt_cnf::{Chooser, Formula, Lit};
-use bt_frac::{Frac, Relation, Row};
+//! What formulas with rows come to within limits.
+use super::{add_clause, fields, number_of, row_of};
+use bt_cnf::{Chooser, Formula};
 use bt_theory::{Limits, Outcome, solve};
-use std::alloc::Global;
+use std::alloc::{AllocError, Global};
 use std::test::Fail;
 
-// A coefficient times the only column is at least a bound.
-fn row_of(alloc: Global, coefficient: i64, bound: i64) -> Result<Row, Fail> {
-    let terms = [(0, Frac::whole(coefficient))];
-    let row = Row::new(alloc, &terms, Relation::AtLeast, Frac::whole(bound))?;
-    Ok(row.ok_or("no row")?)
-}
+/// The clauses of a formula whose first variable says that the column is at least 1 and the second that it is at most 0, the
+/// most steps, the most turns, and the outcome.
+const CASES: &[&str] = &[
+    "1|9|9|sat",
+    "1,2|9|9|refuted",
+    "1,2|0|9|spent",
+    "1|9|0|pivots",
+    "1,2|2|9|refuted",
+];
 
-// The formula that the column is at least 1 and, where it is asked for, at most 0.
-fn formula_of(alloc: Global, both: bool) -> Result<Formula, Fail> {
-    let mut formula = Formula::new(alloc, 2)?;
-    let first = formula.var_at(0).ok_or("no variable")?;
-    let second = formula.var_at(1).ok_or("no variable")?;
-    formula.set_atom(first, row_of(alloc, 1, 1)?)?;
-    formula.set_atom(second, row_of(alloc, -1, 0)?)?;
-    let positive = true;
-    formula.add_clause(&[Lit {
-        var: first,
-        positive,
-    }])?;
-    if both {
-        formula.add_clause(&[Lit {
-            var: second,
-            positive,
-        }])?;
+fn formula_of(alloc: Global, clauses: &str) -> Result<Formula, AllocError> {
+    let mut formula = Formula::new(alloc, 0)?;
+    for row in [">= 1 1", ">= 0 -1"] {
+        if let Some(row) = row_of(alloc, row)? {
+            formula.add_atom(row)?;
+        }
+    }
+    for clause in clauses.split(',') {
+        add_clause(alloc, &mut formula, clause)?;
     }
     Ok(formula)
 }
 
-// What an outcome is: whether it is an assignment, a refutation, a spent log or too many turns.
+/// What an outcome is: an assignment, a refutation, a spent log, too many turns or a number that is too wide.
 fn name_of(outcome: &Outcome) -> &'static str {
     match outcome {
         Outcome::Sat { .. } => "sat",
@@ -43,23 +39,22 @@ fn name_of(outcome: &Outcome) -> &'static str {
     }
 }
 
-// Whether the column is also at most 0, the limits, and the outcome.
-const CASES: [(bool, u64, u64, &str); 5] = [
-    (false, 9, 9, "sat"),
-    (true, 9, 9, "refuted"),
-    (true, 0, 9, "spent"),
-    (false, 9, 0, "pivots"),
-    (true, 2, 9, "refuted"),
-];
+/// Whether a formula comes to what a row says.
+fn is_outcome(alloc: Global, row: &str) -> Result<bool, AllocError> {
+    let [clauses, learnt, pivots, name, ..] = fields(row, '|');
+    let choosers: Vec<Box<dyn Chooser>> = Vec::new(alloc);
+    let limits = Limits {
+        learnt: number_of(learnt) as u64,
+        pivots: number_of(pivots) as u64,
+    };
+    let outcome = solve(alloc, formula_of(alloc, clauses)?, choosers, limits)?;
+    Ok(name_of(&outcome) == name)
+}
 
 #[test]
-fn decides_formulas(rt: HostRuntime) -> Result<(), Fail> {
-    let alloc = rt.alloc();
-    for (both, learnt, pivots, name) in CASES {
-        let choosers: Vec<Box<dyn Chooser>> = Vec::new(alloc);
-        let limits = Limits { learnt, pivots };
-        let outcome = solve(alloc, formula_of(alloc, both)?, choosers, limits)?;
-        assert!(rt; name_of(&outcome) == name);
+fn formulas(rt: HostRuntime) -> Result<(), Fail> {
+    for row in CASES {
+        assert!(rt; is_outcome(rt.alloc(), row)?, "{row}");
     }
     Ok(())
 }
