@@ -1,29 +1,19 @@
 //! Certificates for a small formula, whole and cut and changed.
-ghost use Rattle.std.specs.Prelude.{◌≡◌, ◌≤◌, ◌<◌, ◌^◌};
+ghost use Rattle.std.specs.Prelude.{◌≤◌, ◌<◌, ◌^◌};
 
+use super::{add_clause, fields, number_of};
 use bt_cert::{Cause, CertFault, check_log};
-use bt_cnf::{Formula, Lit, Var};
+use bt_cnf::Formula;
 use bt_io::MemSource;
 use std::alloc::{AllocError, Global};
 use std::test::Fail;
 
-fn lit(var: Var, positive: bool) -> Lit
-    ensures { result ≡ record { var = var; positive = positive } }
-{
-    Lit { var, positive }
-}
-
 // Two variables, no atoms, and the clauses `1 2`, `-1` and `-2`.
-fn formula(alloc: Global) -> Result<Formula, Fail> {
+fn formula(alloc: Global) -> Result<Formula, AllocError> {
     let mut formula = Formula::new(alloc, 2)?;
-    let first = formula.var_at(0).ok_or("no variable")?;
-    let second = formula.var_at(1).ok_or("no variable")?;
-    if first.place() >= formula.vars() || second.place() >= formula.vars() {
-        return Err("no variable".into());
+    for clause in ["1 2", "-1", "-2"] {
+        add_clause(alloc, &mut formula, clause)?;
     }
-    formula.add_clause(&[lit(first, true), lit(second, true)])?;
-    formula.add_clause(&[lit(first, false)])?;
-    formula.add_clause(&[lit(second, false)])?;
     Ok(formula)
 }
 
@@ -83,6 +73,7 @@ fn line_of(told: &Result<(), CertFault>) -> usize {
     match told {
         Err(CertFault::CertLine(line)) => *line,
         Err(CertFault::BadStep(line, _)) => *line,
+        Err(CertFault::CertWide(line, _, _)) => *line,
         _ => 0,
     }
 }
@@ -97,63 +88,99 @@ fn name_of_cause(cause: Cause) -> &'static str {
     }
 }
 
-fn name_of(told: &Result<(), CertFault>) -> &'static str {
-    match told {
-        Ok(()) => "accepted",
-        Err(CertFault::CertLine(_)) => "line",
-        Err(CertFault::NoVerdict) => "no verdict",
-        Err(CertFault::BadStep(_, cause)) => name_of_cause(*cause),
-        Err(_) => "another fault",
+fn name_of_fault(fault: &CertFault) -> &'static str {
+    match fault {
+        CertFault::CertLine(_) => "line",
+        CertFault::NoVerdict => "no verdict",
+        CertFault::BadStep(_, cause) => name_of_cause(*cause),
+        CertFault::CertWide(_, 1, 0) => "wide in row 1 at column 0",
+        CertFault::TooLong => "too long",
+        CertFault::ReadFault => "not read",
+        _ => "another fault",
     }
 }
 
-// Whether the text of a row is answered as it says, where the source gives so many bytes a call.
-fn is_answered(
-    alloc: Global,
-    formula: &Formula,
-    row: &str,
-    most: usize,
-) -> Result<bool, AllocError> {
-    let mut fields = row.split('|');
-    let (Some(text), Some(line), Some(name)) = (fields.next(), fields.next(), fields.next()) else {
-        return Ok(false);
+// Whether this was answered: the line of the fault, or 0, and its name.
+fn is_told(told: &Result<(), CertFault>, line: usize, name: &str) -> bool {
+    let named = match told {
+        Ok(()) => "accepted",
+        Err(fault) => name_of_fault(fault),
     };
-    let told = answer(alloc, formula, b"", text.as_bytes(), most.max(1), 99)?;
-    Ok(line.parse::<usize>().unwrap_or(0) == line_of(&told) && name == name_of(&told))
+    line == line_of(told) && name == named
 }
 
-#[test]
-fn answers_the_first_fault(rt: HostRuntime) -> Result<(), Fail> {
-    let formula = formula(rt.alloc())?;
-    for row in TEXTS {
-        for most in [1, 2, 7, 99] {
-            assert!(rt; is_answered(rt.alloc(), &formula, row, most)?, "{row}");
+// Whether the text of a row is answered as it says, whatever number of bytes the source gives a call.
+pub fn is_answered(alloc: Global, formula: &Formula, row: &str) -> Result<bool, AllocError> {
+    let [text, line, name, ..] = fields(row, '|');
+    for most in [1, 2, 7, 99] {
+        let told = answer(alloc, formula, b"", text.as_bytes(), most.max(1), 99)?;
+        if !is_told(&told, number_of(line), name) {
+            return Ok(false);
         }
     }
-    Ok(())
+    Ok(true)
 }
 
 const CERTIFICATE: &[u8] = b"r 1 0 3 1 0\nr 0 2 4 0\nend\n";
 
-// The answer to so many bytes of the certificate.
-fn wanted_of(length: usize) -> Result<(), CertFault> {
+// Whether what is answered to so many bytes of the certificate alone names the first line that lacks bytes.
+fn is_cut(told: &Result<(), CertFault>, length: usize) -> bool {
     match length {
-        0..11 => Err(CertFault::CertLine(2)),
-        11..21 => Err(CertFault::CertLine(3)),
-        21..25 => Err(CertFault::CertLine(4)),
-        _ => Ok(()),
+        0..11 => is_told(told, 2, "line"),
+        11..21 => is_told(told, 3, "line"),
+        21..25 => is_told(told, 4, "line"),
+        _ => is_told(told, 0, "accepted"),
     }
 }
 
+// Whether a head of this length and a source of the rest are one text, and the source's limit and the end are seen.
+fn is_joined(alloc: Global, formula: &Formula, length: usize) -> Result<bool, AllocError> {
+    let (head, bytes) = CERTIFICATE.split_at(length.min(CERTIFICATE.len()));
+    let whole = answer(alloc, formula, head, bytes, 3, bytes.len())?;
+    let short = answer(
+        alloc,
+        formula,
+        head,
+        bytes,
+        3,
+        bytes.len().saturating_sub(1),
+    )?;
+    let cut = answer(alloc, formula, head, b"", 1, 0)?;
+    Ok(is_told(&whole, 0, "accepted") && is_told(&short, 0, "too long") && is_cut(&cut, length))
+}
+
+// Whether the certificate is refused where a bit of a byte is changed.
+fn is_refused(alloc: Global, formula: &Formula, at: usize, bit: u8) -> Result<bool, AllocError> {
+    let mut text = Vec::from_slice(alloc, CERTIFICATE)?;
+    if let Some(byte) = text.get_mut(at) {
+        *byte ^= bit;
+    }
+    Ok(answer(alloc, formula, &text, b"", 1, 0)?.is_err())
+}
+
+// Whether the fault of a source that fails at this call is told, where the text's first line isn't read before.
+fn is_fault_told(alloc: Global, formula: &Formula, call: u64) -> Result<bool, AllocError> {
+    let bytes = Vec::from_slice(alloc, b"x\nend\n")?;
+    let mut source = MemSource::new(bytes, vec![in alloc; call]?, 2);
+    let told = check_log(alloc, formula, b"", &mut source, 9);
+    Ok(if call < 5 {
+        is_told(&told, 0, "not read")
+    } else {
+        is_told(&told, 2, "line")
+    })
+}
+
 #[test]
-fn joins_head_and_source(rt: HostRuntime) -> Result<(), Fail> {
+fn certificates(rt: HostRuntime) -> Result<(), Fail> {
     let formula = formula(rt.alloc())?;
-    for at in 0..CERTIFICATE.len() {
-        let (head, bytes) = CERTIFICATE.split_at(at);
-        let whole = answer(rt.alloc(), &formula, head, bytes, 3, bytes.len())?;
-        let short = answer(rt.alloc(), &formula, head, bytes, 3, bytes.len() - 1)?;
-        let cut = answer(rt.alloc(), &formula, head, b"", 1, 0)?;
-        assert!(rt; whole == Ok(()) && short == Err(CertFault::TooLong) && cut == wanted_of(at));
+    for row in TEXTS {
+        assert!(rt; is_answered(rt.alloc(), &formula, row)?, "{row}");
+    }
+    for length in 0..CERTIFICATE.len() {
+        assert!(rt; is_joined(rt.alloc(), &formula, length)?);
+    }
+    for call in 1..6 {
+        assert!(rt; is_fault_told(rt.alloc(), &formula, call)?);
     }
     Ok(())
 }
@@ -163,32 +190,8 @@ fn refuses_what_is_changed(rt: HostRuntime) -> Result<(), Fail> {
     let formula = formula(rt.alloc())?;
     for at in 0..CERTIFICATE.len() {
         for bit in [1, 2, 4, 8, 16, 32, 64, 128] {
-            let (front, back) = CERTIFICATE.split_at(at);
-            let mut text = Vec::from_slice(rt.alloc(), front)?;
-            for (i, byte) in back.iter().enumerate() {
-                text.push(if i == 0 { *byte ^ bit } else { *byte })?;
-            }
-            let told = answer(rt.alloc(), &formula, &text, b"", 1, 0)?;
-            assert!(rt; told.is_err());
+            assert!(rt; is_refused(rt.alloc(), &formula, at, bit)?);
         }
-    }
-    Ok(())
-}
-
-#[test]
-fn tells_a_fault_of_the_source(rt: HostRuntime) -> Result<(), Fail> {
-    let formula = formula(rt.alloc())?;
-    for call in 1..6 {
-        let bytes = Vec::from_slice(rt.alloc(), b"x\nend\n")?;
-        let fails = vec![in rt.alloc(); call]?;
-        let mut source = MemSource::new(bytes, fails, 2);
-        let told = check_log(rt.alloc(), &formula, b"", &mut source, 9);
-        let wanted = if call < 5 {
-            CertFault::ReadFault
-        } else {
-            CertFault::CertLine(2)
-        };
-        assert!(rt; told == Err(wanted));
     }
     Ok(())
 }

@@ -2,6 +2,7 @@
 ghost use Rattle.std.specs.Prelude.{◌<◌, IfOk, None};
 ghost use Rattle.bt_cnf.specs.Formulas.{LitsBelow};
 
+use super::{fields, number_of};
 use bt_cnf::{Chooser, Formula, Lit, Pick, Var};
 use bt_sat::{Answer, Highest, Lowest, Recent, Solver};
 use std::alloc::{AllocError, Global};
@@ -30,22 +31,24 @@ fn clause_over(
     formula: &Formula,
     size: usize,
     vars: usize,
-) -> Result<Vec<Lit>, Fail>
+) -> Result<Vec<Lit>, AllocError>
     requires { 0 < vars }
     ensures { IfOk result (λ lits. LitsBelow formula.now.vars lits.items) }
 {
     let mut lits = Vec::new(alloc);
     for _ in 0..size {
-        lits.push(Lit {
-            var: formula.var_at(chance.below(vars)).ok_or("no variable")?,
-            positive: chance.below(2) == 0,
-        })?;
+        if let Some(var) = formula.var_at(chance.below(vars)) {
+            lits.push(Lit {
+                var,
+                positive: chance.below(2) == 0,
+            })?;
+        }
     }
     Ok(lits)
 }
 
 /// The formula that a seed names, with clauses of one to three literals, and sometimes an empty one.
-fn formula_of(alloc: Global, seed: u64, vars: usize) -> Result<Formula, Fail>
+fn formula_of(alloc: Global, seed: u64, vars: usize) -> Result<Formula, AllocError>
     requires some { 0 < vars }
     requires few { vars < 9 }
 {
@@ -58,7 +61,7 @@ fn formula_of(alloc: Global, seed: u64, vars: usize) -> Result<Formula, Fail>
             chance.below(3) + 1
         };
         let lits = clause_over(alloc, &mut chance, &formula, size, vars)?;
-        let _ = formula.add_clause(&lits)?;
+        formula.add_clause(&lits)?;
     }
     Ok(formula)
 }
@@ -95,7 +98,7 @@ fn advance(values: &mut [bool]) {
 }
 
 /// Whether one of the assignments of up to five variables meets the formula.
-fn has_model(alloc: Global, formula: &Formula) -> Result<bool, Fail> {
+fn has_model(alloc: Global, formula: &Formula) -> Result<bool, AllocError> {
     let mut values = vec![in alloc; false; formula.vars()]?;
     for _ in 0..32 {
         if are_met(formula, &values) {
@@ -107,7 +110,7 @@ fn has_model(alloc: Global, formula: &Formula) -> Result<bool, Fail> {
 }
 
 /// Whether a search answers with a model that meets the formula, or where there is none that it is refuted.
-fn is_right<C: Chooser>(solver: &mut Solver<C>, has_model: bool) -> Result<bool, Fail> {
+fn is_right<C: Chooser>(solver: &mut Solver<C>, has_model: bool) -> Result<bool, AllocError> {
     match solver.next_model()? {
         Answer::Model(model) => Ok(has_model && are_met(solver.formula(), &model)),
         Answer::Refuted => Ok(!has_model),
@@ -121,37 +124,35 @@ fn is_right_by<C: Chooser>(
     seed: u64,
     vars: usize,
     choosers: Vec<C>,
-) -> Result<bool, Fail>
+) -> Result<bool, AllocError>
     requires some { 0 < vars }
     requires few { vars < 9 }
 {
     let wanted = has_model(alloc, &formula_of(alloc, seed, vars)?)?;
-    is_right(
-        &mut Solver::new(alloc, formula_of(alloc, seed, vars)?, choosers, 300)?,
-        wanted,
+    let mut solver = Solver::new(alloc, formula_of(alloc, seed, vars)?, choosers, 300)?;
+    is_right(&mut solver, wanted)
+}
+
+/// Whether searches without a chooser and with one of two choosers answer right.
+fn are_right(alloc: Global, seed: u64, vars: usize) -> Result<bool, AllocError>
+    requires some { 0 < vars }
+    requires few { vars < 9 }
+{
+    let none: Vec<Lowest> = Vec::new(alloc);
+    let highest = vec![in alloc; Highest::new()]?;
+    let recent = vec![in alloc; Recent::new(alloc)?]?;
+    Ok(
+        is_right_by(alloc, seed, vars, none)?
+            && is_right_by(alloc, seed, vars, highest)?
+            && is_right_by(alloc, seed, vars, recent)?,
     )
 }
 
 #[test]
 fn agrees_with_all_assignments(rt: HostRuntime) -> Result<(), Fail> {
-    let alloc = rt.alloc();
-    for seed in 0..40u64 {
+    for seed in 0..40 {
         for vars in 1..6 {
-            let none: Vec<Lowest> = Vec::new(alloc);
-            assert!(rt;
-                is_right_by(alloc, seed, vars, none)?,
-                "no chooser, seed {seed}"
-            );
-            let highest = vec![in alloc; Highest::new()]?;
-            assert!(rt;
-                is_right_by(alloc, seed, vars, highest)?,
-                "highest, seed {seed}"
-            );
-            let recent = vec![in alloc; Recent::new(alloc)?]?;
-            assert!(rt;
-                is_right_by(alloc, seed, vars, recent)?,
-                "recent, seed {seed}"
-            );
+            assert!(rt; are_right(rt.alloc(), seed, vars)?, "seed {seed}");
         }
     }
     Ok(())
@@ -181,14 +182,14 @@ impl Chooser for Picky {
 }
 
 /// A search over 71 variables, the last of which stands in no clause.
-fn with_free(alloc: Global, limit: u64, choosers: Vec<Picky>) -> Result<Solver<Picky>, Fail> {
+fn with_free(alloc: Global, limit: u64, choosers: Vec<Picky>) -> Result<Solver<Picky>, AllocError> {
     let mut chance = Chance(3);
     let mut formula = Formula::new(alloc, 71)?;
     for _ in 0..290 {
         let lits = clause_over(alloc, &mut chance, &formula, 3, 70)?;
-        let _ = formula.add_clause(&lits)?;
+        formula.add_clause(&lits)?;
     }
-    Ok(Solver::new(alloc, formula, choosers, limit)?)
+    Solver::new(alloc, formula, choosers, limit)
 }
 
 /// The value of the free variable in the first model, where there is one.
@@ -199,42 +200,60 @@ fn free_value(solver: &mut Solver<Picky>) -> Result<Option<bool>, AllocError> {
     }
 }
 
+/// Whether the free variable has this value once the first of some choosers, which picks the lowest variable, has served an
+/// epoch.
+fn is_free_value(alloc: Global, next: Option<Picky>, value: bool) -> Result<bool, AllocError> {
+    let first = Picky {
+        is_high: false,
+        left: 1000,
+    };
+    let mut choosers = vec![in alloc; first]?;
+    if let Some(next) = next {
+        choosers.push(next)?;
+    }
+    let mut solver = with_free(alloc, 1000, choosers)?;
+    Ok(free_value(&mut solver)? == Some(value) && solver.log().len() > 128)
+}
+
 #[test]
 fn asks_the_next_chooser_after_an_epoch(rt: HostRuntime) -> Result<(), Fail> {
-    for (next, value) in [(None, false), (Some(true), true)] {
-        let mut choosers = vec![in rt.alloc();
-            Picky {
-                is_high: false,
-                left: 1000
-            },
-        ]?;
-        if let Some(is_high) = next {
-            choosers.push(Picky {
-                is_high,
-                left: 1000,
-            })?;
-        }
-        let mut solver = with_free(rt.alloc(), 1000, choosers)?;
-        assert!(rt; free_value(&mut solver)? == Some(value) && solver.log().len() > 128);
-    }
+    let next = Picky {
+        is_high: true,
+        left: 1000,
+    };
+    assert!(rt; is_free_value(rt.alloc(), None, false)?);
+    assert!(rt; is_free_value(rt.alloc(), Some(next), true)?);
     Ok(())
+}
+
+/// The most steps, the steps that the chooser may be told of, how a search ends, and its steps.
+const ENDS: &[&str] = &["0|9|spent|0", "1|9|spent|1", "9|2|no memory|3"];
+
+/// Whether a search ends as a row says, and again where it goes on.
+fn ends(alloc: Global, row: &str) -> Result<bool, AllocError> {
+    let [limit, left, end, steps, ..] = fields(row, '|');
+    let chooser = Picky {
+        is_high: false,
+        left: number_of(left) as u64,
+    };
+    let mut solver = with_free(alloc, number_of(limit) as u64, vec![in alloc; chooser]?)?;
+    for _ in 0..2 {
+        let told = match free_value(&mut solver) {
+            Ok(None) => "spent",
+            Ok(Some(_)) => "model",
+            Err(_) => "no memory",
+        };
+        if told != end || solver.log().len() != number_of(steps) {
+            return Ok(false);
+        }
+    }
+    Ok(true)
 }
 
 #[test]
 fn ends_at_its_limit_or_without_memory(rt: HostRuntime) -> Result<(), Fail> {
-    for (limit, left, lacks, steps) in [(0, 9, false, 0), (1, 9, false, 1), (9, 2, true, 3)] {
-        let choosers = vec![in rt.alloc();
-            Picky {
-                is_high: false,
-                left
-            },
-        ]?;
-        let mut solver = with_free(rt.alloc(), limit, choosers)?;
-        for _ in 0..2 {
-            let answer = free_value(&mut solver);
-            assert!(rt; answer.is_err() == lacks && answer.ok().flatten() == None);
-            assert!(rt; solver.log().len() == steps);
-        }
+    for row in ENDS {
+        assert!(rt; ends(rt.alloc(), row)?, "{row}");
     }
     Ok(())
 }
