@@ -24,7 +24,7 @@ use Rattle.bt_model.proofs.HandLaws.{front_fed, takes_at, comes_at, pair_leaves}
 use Rattle.bt_model.proofs.SightLemmas.{one_side}
 use Rattle.bt_place.specs.declared.fact.Content.TheVariants.{Empty}
 use Rattle.bt_place.specs.declared.fact.Fact.{Fact}
-use Rattle.bt_place.specs.declared.fact.Fact.TheVariants.{First, Last, Begins, Still}
+use Rattle.bt_place.specs.declared.fact.Fact.TheVariants.{Last, Begins, Still}
 use Rattle.bt_place.specs.declared.fact.Fact.TheVariants as fact
 use Rattle.bt_place.specs.declared.fact.Half.TheVariants.{Lesser, Greater}
 use Rattle.bt_place.specs.declared.fact.Shape.{Shape}

@@ -1,5 +1,5 @@
 -- Budgets of steps that no search uses up.
-use Rattle.std.proofs.Common.{◌≡◌, ◌≢◌, ◌⊎◌, ℕ, ◌<◌, ◌^◌, Bool, true, false, List, Result, Ok, Err, inl, inr, ap, sym, subst, ◌∙◌, arith}
+use Rattle.std.proofs.Common.{◌≡◌, ◌≢◌, ◌⊎◌, ℕ, Bool, true, false, List, Result, Ok, Err, inl, inr, ap, sym, subst, ◌∙◌, arith}
 use Rattle.bt_io.specs.Passages.{Passage}
 use Rattle.bt_io.specs.declared.fault.WriteFault.{WriteFault}
 use Rattle.bt_cnf.specs.Formulas.{FormulaParts}
@@ -22,27 +22,22 @@ use Rattle.bt_layout.specs.declared.outcome.Layout.TheVariants as layout
 use Rattle.bt_layout.specs.Layouts.{IsLayout}
 use Rattle.bt_model.specs.Requests.{LayoutRequest}
 use Rattle.bt_place.specs.PlaceFormula.{place_formula}
-use Rattle.bt_words.specs.declared.command.Command.{Command}
 use Rattle.bt_words.specs.declared.command.Command.TheVariants.{FlowCheck, Recover, Check, Decide, Make, Layout, CheckLayout}
 use Rattle.bt_words.specs.declared.command.Family.{Family}
-use Rattle.bt_words.specs.Commands.{IsCommand}
 use Rattle.bt_top.specs.declared.answer.Answer.{Answer}
 use Rattle.bt_top.specs.declared.answer.Answer.TheVariants as answer
 use Rattle.bt_top.specs.declared.fault.DesignFault.{DesignFault}
 use Rattle.bt_top.specs.declared.fault.DesignFault.TheVariants as design
 use Rattle.bt_top.specs.declared.refusal.Refusal.TheVariants as refusal
 use Rattle.bt_top.specs.declared.program.TheConstants.{READ_FAULT, NO_MEMORY}
-use Rattle.bt_top.specs.Alone.{IsLoneNet}
 use Rattle.bt_top.specs.Answering.{IsRightTo}
-use Rattle.bt_top.specs.Answers.{status_of, text_of}
+use Rattle.bt_top.specs.Answers.{status_of}
 use Rattle.bt_top.specs.Budgets.{IsAmple, HasAmple, AmpleIsNeverSpent, AmpleNeverEndsSpent}
-use Rattle.bt_top.specs.Deciding.{verdict_told, IsDecided}
-use Rattle.bt_top.specs.Endings.{Ends, IsTold, status_after}
-use Rattle.bt_top.specs.Inputs.{IsInput}
-use Rattle.bt_top.specs.LayingOut.{layout_told, IsLaidOut}
-use Rattle.bt_top.specs.Making.{net_of, made_of, gen_told, balance_told, IsBalanceDecided}
+use Rattle.bt_top.specs.Deciding.{verdict_told}
+use Rattle.bt_top.specs.Endings.{IsTold, status_after}
+use Rattle.bt_top.specs.LayingOut.{layout_told}
+use Rattle.bt_top.specs.Making.{made_of, gen_told, balance_told}
 use Rattle.bt_top.specs.Replies.{Reply, design_told}
-use Rattle.bt_top.specs.Requested.{IsLoneRequest}
 use Rattle.bt_top.specs.Steps.{stopped, went_on}
 use Rattle.bt_top.proofs.InTurns.{same_value, not_both}
 use Rattle.bt_top.proofs.OneAnswer.{one_lone_net}

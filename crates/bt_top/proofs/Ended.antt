@@ -1,6 +1,5 @@
 -- How the program ends, from what it answered and what it told the sink.
-use Rattle.std.proofs.Common.{◌≡◌, ◌≢◌, ℕ, List, Result, Ok, Err, ◌⊎◌, inl, inr, refl, sym, subst}
-use Rattle.bt_io.specs.Bytes.{WritesText}
+use Rattle.std.proofs.Common.{◌≡◌, ◌≢◌, ℕ, List, Result, Ok, Err, ◌⊎◌, inl, inr, refl, subst}
 use Rattle.std.specs.declared.option.Option.{Option}
 use Rattle.bt_io.specs.Passages.{Passage, passage}
 use Rattle.bt_io.specs.declared.fault.ReadAll.{ReadAll}
@@ -11,9 +10,8 @@ use Rattle.bt_words.proofs.OneCommand.{same_command}
 use Rattle.bt_top.specs.declared.answer.Answer.{Answer}
 use Rattle.bt_top.specs.declared.answer.Answer.TheVariants as answer
 use Rattle.bt_top.specs.declared.program.TheConstants.{READ_FAULT, NO_MEMORY}
-use Rattle.bt_top.specs.Answers.{status_of, text_of}
 use Rattle.bt_top.specs.Answering.{IsRightTo, HasOneRight}
-use Rattle.bt_top.specs.Inputs.{IsUntouched, IsInput, ReadsInput, IsUnread, ReadsNothing}
+use Rattle.bt_top.specs.Inputs.{IsUntouched, IsInput, ReadsInput}
 use Rattle.bt_top.specs.Endings.{IsRight, no_command, too_long, to_bytes, IsTold, IsEnding, told, read_fault, no_memory, Ends}
 use Rattle.bt_top.specs.inner.Telling.{IsAnswered, IsAnsweredTo, IsToldUnlessMemory, IsLineTold}
 use Rattle.bt_top.proofs.InTurns.{same_value}

@@ -1,10 +1,9 @@
 -- What is read of a source that tells its bytes.
-use Rattle.std.proofs.Common.{◌≡◌, ℕ, ◌+◌, ◌≤◌, List, [], length, Ok, Err, Some, sym, ◌∙◌, subst, arith}
+use Rattle.std.proofs.Common.{◌≡◌, ℕ, ◌+◌, ◌≤◌, List, length, Ok, Err, Some, sym, ◌∙◌, subst, arith}
 use Rattle.bt_io.specs.Bytes.{ReadsAll}
 use Rattle.bt_io.specs.Passages.{Passage}
 use Rattle.bt_io.specs.declared.fault.ReadAll.TheVariants.{TooLong, Memory}
 use Rattle.bt_io.proofs.Told.{all_told, takes_told}
-use Rattle.bt_theory.specs.declared.outcome.Limits.{Limits}
 use Rattle.bt_words.specs.declared.command.Command.{Command}
 use Rattle.bt_words.specs.declared.command.Command.TheVariants.{FlowCheck, Recover, Check, Decide, Make, Layout, CheckLayout}
 use Rattle.bt_top.specs.Inputs.{ReadsInput, IsInput, input_limit}

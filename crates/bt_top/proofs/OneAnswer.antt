@@ -1,5 +1,5 @@
 -- A command has one answer to the bytes of its input.
-use Rattle.std.proofs.Common.{◌≡◌, ℕ, List, length, drop, inl, inr, ap, sym, subst, ◌∙◌, arith, Ok, Err}
+use Rattle.std.proofs.Common.{ℕ, List, drop, inl, inr, ap, sym, subst, ◌∙◌, Ok}
 use Rattle.bt_answers.specs.Answers.{HasOneAnswer}
 use Rattle.bt_text.proofs.FirstLines.{IsFirstLine-unique}
 use Rattle.bt_net.specs.Network.{Network, IsNetwork}
@@ -22,7 +22,7 @@ use Rattle.bt_top.specs.declared.answer.Answer.TheVariants as answer
 use Rattle.bt_words.specs.declared.command.Command.{Command}
 use Rattle.bt_words.specs.declared.command.Command.TheVariants.{FlowCheck, Recover, Check, Decide, Make, Layout, CheckLayout}
 use Rattle.bt_top.specs.Designs.{IsDesign}
-use Rattle.bt_top.specs.Certificates.{cert_told, SaysYes, IsYesChecked, IsTextChecked, IsCertificateChecked, IsCertified}
+use Rattle.bt_top.specs.Certificates.{cert_told, IsYesChecked, IsTextChecked, IsCertificateChecked, IsCertified}
 use Rattle.bt_top.specs.Alone.{IsLoneNet}
 use Rattle.bt_top.specs.Answering.{IsRightTo, HasOneRight}
 use Rattle.bt_top.specs.NoneCertificates.{IsNoneChecked, IsNoneTextChecked, IsNoneCertificateChecked, IsLayoutChecked}
@@ -30,7 +30,6 @@ use Rattle.bt_top.specs.Recovering.{IsRecoveredFrom}
 use Rattle.bt_top.specs.Requested.{IsFrontRequest}
 use Rattle.bt_top.specs.Replies.{design_told}
 use Rattle.bt_top.specs.States.{verdict, state_told, IsJudged, IsStateJudged, IsStateChecked, IsChecked}
-use Rattle.bt_top.specs.Steps.{InTurn}
 use Rattle.bt_top.proofs.Blanks.{one_rest}
 use Rattle.bt_top.proofs.InTurns.{one_in_turn, one_in_turn_of}
 use Rattle.bt_top.proofs.OneDesign.{one_design, design_network}

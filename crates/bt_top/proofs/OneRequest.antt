@@ -11,7 +11,6 @@ use Rattle.bt_model.proofs.Requested.{one_made}
 use Rattle.bt_top.specs.declared.fault.DesignFault.{DesignFault}
 use Rattle.bt_top.specs.Alone.{IsAlone}
 use Rattle.bt_top.specs.Designs.{IsJsonDesign}
-use Rattle.bt_top.specs.Refusals.{net_told, request_told}
 use Rattle.bt_top.specs.Requested.{PinnedNet, IsPinnedText, IsPinnedJson, IsPinned, IsRequestFor, IsLoneRequest, IsFrontRequest}
 use Rattle.bt_top.specs.Steps.{stopped, went_on}
 use Rattle.bt_top.proofs.InTurns.{one_in_turn, same_value, not_both}
