@@ -4,6 +4,7 @@ ghost use Rattle.std.specs.Prelude.{IfOk};
 ghost use Rattle.bt_parts.specs.Cells.{IsInRange};
 ghost use Rattle.bt_parts.specs.Layouts.{AreInRange};
 
+use super::{fields, number_of};
 use bt_grid::{Grid, GridFault, Memory, PairFault, pairs};
 use bt_parts::{Cell, Dir, Kind, Part, Tier};
 use std::alloc::Global;
@@ -21,108 +22,106 @@ fn eastward(kind: Kind, x: u8) -> Part
     }
 }
 
-/// Basic parts that point to the east, each on the cell (x, 0).
-fn row(alloc: Global, places: &[(Kind, u8)]) -> Result<Vec<Part>, Memory>
+/// The kind of a word's letter: a belt, an entrance, an exit or a splitter.
+fn kind_of(word: &str) -> Kind {
+    match word.as_bytes() {
+        [b'e', ..] => Kind::Entrance,
+        [b'x', ..] => Kind::Exit,
+        [b's', ..] => Kind::Splitter,
+        _ => Kind::Belt,
+    }
+}
+
+/// The number of a word of a letter and a digit.
+fn digit_of(word: &str) -> u8 {
+    match word.as_bytes() {
+        [_, digit] => digit.saturating_sub(b'0'),
+        _ => 0,
+    }
+}
+
+/// Basic parts that point to the east, each on the cell (x, 0): a word is the letter of the kind and x.
+fn row(alloc: Global, words: &str) -> Result<Vec<Part>, Memory>
     ensures { IfOk result (λ parts. AreInRange parts.items) }
 {
     let mut parts = Vec::new(alloc);
-    for (kind, x) in places {
-        parts.push(eastward(*kind, *x))?;
+    for word in words.split(' ') {
+        parts.push(eastward(kind_of(word), digit_of(word)))?;
     }
     Ok(parts)
 }
 
+/// Parts, and the first two that overlap.
+const OVERLAPS: &[&str] = &["b0 b0 b0 b2|0|1", "b2 b0 b0 b2|1|2", "s2 x0 b1 b2|0|3"];
+
+/// Three parts and the partner of each, where each piece has one.
+const PAIRS: &[&str] = &[
+    "e0 b2 x5|2|-|0",
+    "x4 e1 b3|1|0|-",
+    "b2 b0 b1|-|-|-",
+    "e0 x6 b1|unpaired",
+    "e0 e1 x3|unpaired",
+];
+
+/// Whether the first overlap of a row's parts is told.
+fn overlaps(alloc: Global, words: &str) -> Result<bool, Memory> {
+    let [parts, first, second, ..] = fields(words, '|');
+    match Grid::place(alloc, row(alloc, parts)?) {
+        Err(GridFault::Overlap(one, other)) => {
+            Ok(one == number_of(first) && other == number_of(second))
+        }
+        _ => Ok(false),
+    }
+}
+
+/// Whether a partner, or none, is that of a field.
+fn is_partner(partner: Option<usize>, field: &str) -> bool {
+    partner == field.parse::<usize>().ok()
+}
+
+/// Whether the partners of a row's three parts are told, or that the first one has none.
+fn are_paired(alloc: Global, words: &str) -> Result<bool, Memory> {
+    let [parts, first, second, third, ..] = fields(words, '|');
+    let Ok(grid) = Grid::place(alloc, row(alloc, parts)?) else {
+        return Ok(false);
+    };
+    match pairs(alloc, &grid) {
+        Ok(found) => Ok(
+            is_partner(found.partner(0), first)
+                && is_partner(found.partner(1), second)
+                && is_partner(found.partner(2), third),
+        ),
+        Err(fault) => Ok(fault == PairFault::Unpaired(0) && first == "unpaired"),
+    }
+}
+
 #[test]
-fn the_first_overlap_is_refused(rt: HostRuntime) -> Result<(), Fail> {
-    let table = [
-        (
-            [
-                (Kind::Belt, 0),
-                (Kind::Belt, 0),
-                (Kind::Belt, 0),
-                (Kind::Belt, 2),
-            ],
-            (0, 1),
-        ),
-        (
-            [
-                (Kind::Belt, 2),
-                (Kind::Belt, 0),
-                (Kind::Belt, 0),
-                (Kind::Belt, 2),
-            ],
-            (1, 2),
-        ),
-        (
-            [
-                (Kind::Splitter, 2),
-                (Kind::Exit, 0),
-                (Kind::Belt, 1),
-                (Kind::Belt, 2),
-            ],
-            (0, 3),
-        ),
-    ];
-    for (places, (first, second)) in table {
-        let parts = row(rt.alloc(), &places)?;
-        let fault = Grid::place(rt.alloc(), parts).err();
-        assert!(rt; fault == Some(GridFault::Overlap(first, second)));
+fn overlaps_and_pairs(rt: HostRuntime) -> Result<(), Fail> {
+    for words in OVERLAPS {
+        assert!(rt; overlaps(rt.alloc(), words)?, "{words}");
+    }
+    for words in PAIRS {
+        assert!(rt; are_paired(rt.alloc(), words)?, "{words}");
     }
     Ok(())
+}
+
+/// Whether a grid tells which part is on a cell.
+fn tells_parts(alloc: Global) -> Result<bool, Memory> {
+    let Ok(grid) = Grid::place(alloc, row(alloc, "b3 s1")?) else {
+        return Ok(false);
+    };
+    Ok(
+        grid.at(Cell { x: 3, y: 0 }) == Some(0)
+            && grid.at(Cell { x: 1, y: 0 }) == Some(1)
+            && grid.at(Cell { x: 1, y: 1 }) == Some(1)
+            && grid.at(Cell { x: 2, y: 0 }) == None
+            && grid.at(Cell { x: 3, y: 1 }) == None,
+    )
 }
 
 #[test]
 fn a_grid_tells_which_part_is_on_a_cell(rt: HostRuntime) -> Result<(), Fail> {
-    let parts = row(rt.alloc(), &[(Kind::Belt, 3), (Kind::Splitter, 1)])?;
-    let grid = Grid::place(rt.alloc(), parts).expect(&rt, "no two parts share a cell");
-    let table = [
-        (3, 0, Some(0)),
-        (1, 0, Some(1)),
-        (1, 1, Some(1)),
-        (2, 0, None),
-        (3, 1, None),
-    ];
-    for (x, y, part) in table {
-        assert!(rt; grid.at(Cell { x, y }) == part);
-    }
-    Ok(())
-}
-
-#[test]
-fn pieces_are_paired_within_reach(rt: HostRuntime) -> Result<(), Fail> {
-    let table = [
-        (
-            [(Kind::Entrance, 0), (Kind::Belt, 2), (Kind::Exit, 5)],
-            Some([Some(2), None, Some(0)]),
-        ),
-        (
-            [(Kind::Exit, 4), (Kind::Entrance, 1), (Kind::Belt, 3)],
-            Some([Some(1), Some(0), None]),
-        ),
-        (
-            [(Kind::Belt, 2), (Kind::Belt, 0), (Kind::Belt, 1)],
-            Some([None, None, None]),
-        ),
-        (
-            [(Kind::Entrance, 0), (Kind::Exit, 6), (Kind::Belt, 1)],
-            None,
-        ),
-        (
-            [(Kind::Entrance, 0), (Kind::Entrance, 1), (Kind::Exit, 3)],
-            None,
-        ),
-    ];
-    for (places, wanted) in table {
-        let parts = row(rt.alloc(), &places)?;
-        let grid = Grid::place(rt.alloc(), parts).expect(&rt, "no two parts share a cell");
-        let found = match pairs(rt.alloc(), &grid) {
-            Ok(found) => Some([found.partner(0), found.partner(1), found.partner(2)]),
-            Err(fault) => {
-                assert!(rt; fault == PairFault::Unpaired(0));
-                None
-            }
-        };
-        assert!(rt; found == wanted);
-    }
+    assert!(rt; tells_parts(rt.alloc())?);
     Ok(())
 }

@@ -1,78 +1,60 @@
 //! Small networks, edge by edge, and the orders that there are.
+use super::{fields, is_printed};
 use bt_gen::{GenFault, MOST_IN_CHAIN, MOST_STAGES, butterfly, chain};
-use bt_net::{Net, Start, Target};
-use std::alloc::Global;
+use bt_net::Net;
+use std::alloc::{AllocError, Global};
 use std::test::Fail;
 
-/// Whether the network has so many inputs, outputs and splitters, and these edges, each of a cap of 1.
-fn is_net(net: &Net, counts: [u32; 3], edges: &[(Start, Target)]) -> bool {
-    [net.inputs(), net.outputs(), net.splitters()] == counts
-        && net.edges().len() == edges.len()
-        && net.edges().iter().zip(edges).all(|(edge, ends)| edge.start == ends.0
-            && edge.target == ends.1
-            && edge.cap == 1)
-}
+const BUTTERFLY: &str =
+    "net 4 4 4\nedge i0 s0\nedge i1 s0\nedge i2 s1\nedge i3 s1\nedge s0 s2\nedge s0 s3\nedge s1 s2\nedge s1 s3\nedge s2 o0\nedge s2 o1\nedge s3 o2\nedge s3 o3\nend\n";
 
-#[test]
-fn butterfly_of_two_stages(rt: HostRuntime) -> Result<(), Fail> {
-    let net = butterfly(rt.alloc(), 2)?;
-    let edges = [
-        (Start::Input(0), Target::Split(0)),
-        (Start::Input(1), Target::Split(0)),
-        (Start::Input(2), Target::Split(1)),
-        (Start::Input(3), Target::Split(1)),
-        (Start::Split(0), Target::Split(2)),
-        (Start::Split(0), Target::Split(3)),
-        (Start::Split(1), Target::Split(2)),
-        (Start::Split(1), Target::Split(3)),
-        (Start::Split(2), Target::Output(0)),
-        (Start::Split(2), Target::Output(1)),
-        (Start::Split(3), Target::Output(2)),
-        (Start::Split(3), Target::Output(3)),
-    ];
-    assert!(rt; is_net(&net, [4, 4, 4], &edges));
-    Ok(())
-}
+const CHAIN: &str = "net 1 3 2\nedge i0 s0\nedge s0 o0\nedge s0 s1\nedge s1 o1\nedge s1 o2\nend\n";
 
-#[test]
-fn chain_of_two_splitters(rt: HostRuntime) -> Result<(), Fail> {
-    let net = chain(rt.alloc(), 2)?;
-    let edges = [
-        (Start::Input(0), Target::Split(0)),
-        (Start::Split(0), Target::Output(0)),
-        (Start::Split(0), Target::Split(1)),
-        (Start::Split(1), Target::Output(1)),
-        (Start::Split(1), Target::Output(2)),
-    ];
-    assert!(rt; is_net(&net, [1, 3, 2], &edges));
-    Ok(())
-}
+/// An order, and the edges of a butterfly and of a chain of it, where it is one of theirs.
+const ORDERS: &[&str] = &[
+    "0|none|none",
+    "1|4|3",
+    "5|192|11",
+    "6|none|13",
+    "64|none|129",
+    "65|none|none",
+];
 
-/// How many edges a network of an order has, or the order that is none.
-fn edges_of(made: Result<Net, GenFault>) -> Result<usize, u32> {
+/// Whether a network is made, and printed as this text.
+fn is_net(alloc: Global, made: Result<Net, GenFault>, text: &str) -> Result<bool, AllocError> {
     match made {
-        Ok(net) => Ok(net.edges().len()),
-        Err(GenFault::Order(order)) => Err(order),
-        Err(GenFault::Memory) => Err(u32::MAX),
+        Ok(net) => is_printed(alloc, &net, text),
+        Err(_) => Ok(false),
     }
 }
 
-/// Whether a butterfly and a chain of an order have so many edges, or are refused.
-fn have(alloc: Global, order: u32, in_butterfly: Option<usize>, in_chain: Option<usize>) -> bool {
-    edges_of(butterfly(alloc, order)).map_err(|k| k == order) == in_butterfly.ok_or(true)
-        && edges_of(chain(alloc, order)).map_err(|k| k == order) == in_chain.ok_or(true)
+/// Whether a network of an order has so many edges, or the order is refused, as a field says.
+fn has_edges(made: &Result<Net, GenFault>, order: u32, field: &str) -> bool {
+    match made {
+        Ok(net) => field.parse::<usize>().ok() == Some(net.edges().len()),
+        Err(GenFault::Order(refused)) => field == "none" && *refused == order,
+        Err(GenFault::Memory) => false,
+    }
+}
+
+fn is_order(alloc: Global, row: &str) -> bool {
+    let [order, in_butterfly, in_chain, ..] = fields(row, '|');
+    let order = order.parse::<u32>().unwrap_or(0);
+    has_edges(&butterfly(alloc, order), order, in_butterfly)
+        && has_edges(&chain(alloc, order), order, in_chain)
+}
+
+#[test]
+fn networks(rt: HostRuntime) -> Result<(), Fail> {
+    assert!(rt; is_net(rt.alloc(), butterfly(rt.alloc(), 2), BUTTERFLY)?);
+    assert!(rt; is_net(rt.alloc(), chain(rt.alloc(), 2), CHAIN)?);
+    Ok(())
 }
 
 #[test]
 fn orders(rt: HostRuntime) {
-    for (order, in_butterfly, in_chain) in [
-        (0, None, None),
-        (1, Some(4), Some(3)),
-        (MOST_STAGES, Some(192), Some(11)),
-        (MOST_STAGES + 1, None, Some(13)),
-        (MOST_IN_CHAIN, None, Some(129)),
-        (MOST_IN_CHAIN + 1, None, None),
-    ] {
-        assert!(rt; have(rt.alloc(), order, in_butterfly, in_chain));
+    for row in ORDERS {
+        assert!(rt; is_order(rt.alloc(), row), "{row}");
     }
+    assert!(rt; [MOST_STAGES, MOST_IN_CHAIN] == [5, 64]);
 }

@@ -1,40 +1,53 @@
-use bt_model::*;
+//! Which requests are refused, and by which cause.
+use super::{fields, number_of};
+use bt_model::{Request, RequestFault};
 use bt_net::read;
 use bt_parts::{Rect, Tier};
 use std::alloc::Global;
-use std::test::Fail;
 
-/// What comes of a request in one cell for the network, the pins and the blocks of a text.
-fn told(alloc: Global, text: &[u8]) -> Result<Option<RequestFault>, Fail> {
-    let found = read(alloc, text)?;
+/// A network with pins and blocks for one cell, and what is refused of it.
+const REQUESTS: &[&str] = &[
+    "net 1 1 0\nedge i0 o0\nend\n|none|0",
+    "net 1 1 0\nedge i0 o0\npin i0 0 0\npin o0 0 0 east\nend\n|none|0",
+    "net 1 1 0\nedge i0 o0\npin o0 0 0\nblock 0 0\nend\n|block|4",
+    "net 1 1 0\nedge i0 o0\nblock 0 0\nblock 0 0\nend\n|block|4",
+    "net 1 1 0\nedge i0 o0\nblock 0 0\nblock 1 0\nend\n|block|4",
+    "net 1 1 0\nedge i0 o0\npin i0 0 0\npin i0 0 0\nend\n|pin|4",
+    "net 1 1 0\nedge i0 o0\npin i0 0 1\nblock 1 0\nend\n|pin|3",
+    "net 1 1 0\nedge i0 o0 2\npin i0 0 1\nend\n|cap|0",
+    "net 1 1 129\nedge i0 o0 3\nend\n|too large|0",
+];
+
+/// The word of a fault, and the line or the edge that it names, or 0.
+fn told_of(fault: &RequestFault) -> (&'static str, usize) {
+    match fault {
+        RequestFault::Block(line) => ("block", *line),
+        RequestFault::Pin(line) => ("pin", *line),
+        RequestFault::Cap(edge) => ("cap", *edge),
+        RequestFault::TooLarge => ("too large", 0),
+    }
+}
+
+/// Whether what is refused of a row's request is what the row says.
+fn is_so(alloc: Global, row: &str) -> bool {
+    let [text, name, number, ..] = fields(row, '|');
     let rect = Rect {
         width: 1,
         height: 1,
     };
-    Ok(Request::new(found.net, rect, Tier::Basic, found.pins, found.blocks).err())
+    let told = match read(alloc, text.as_bytes()) {
+        Ok(found) => match Request::new(found.net, rect, Tier::Basic, found.pins, found.blocks) {
+            Ok(_) => ("none", 0),
+            Err(fault) => told_of(&fault),
+        },
+        Err(_) => ("no network", 0),
+    };
+    told.0 == name && told.1 == number_of(number)
 }
 
 #[test]
-fn tells_the_first_cause(rt: HostRuntime) -> Result<(), Fail> {
-    for (cap, lines, want) in [
-        ("", "", None),
-        ("", "pin i0 0 0\npin o0 0 0 east\n", None),
-        ("", "pin o0 0 0\nblock 0 0\n", Some(RequestFault::Block(4))),
-        ("", "block 0 0\nblock 0 0\n", Some(RequestFault::Block(4))),
-        ("", "block 0 0\nblock 1 0\n", Some(RequestFault::Block(4))),
-        ("", "pin i0 0 0\npin i0 0 0\n", Some(RequestFault::Pin(4))),
-        ("", "pin i0 0 1\nblock 1 0\n", Some(RequestFault::Pin(3))),
-        (" 2", "pin i0 0 1\n", Some(RequestFault::Cap(0))),
-    ] {
-        let text = format!(in rt.alloc(); "net 1 1 0\nedge i0 o0{cap}\n{lines}end\n")?;
-        assert!(rt; told(rt.alloc(), text.as_bytes())? == want);
+fn tells_the_first_cause(rt: HostRuntime) {
+    for row in REQUESTS {
+        assert!(rt; is_so(rt.alloc(), row), "{row}");
     }
-    Ok(())
-}
-
-#[test]
-fn has_at_most_128_splitters(rt: HostRuntime) -> Result<(), Fail> {
-    let text = "net 1 1 129\nedge i0 o0 3\nend\n";
-    assert!(rt; told(rt.alloc(), text.as_bytes())? == Some(RequestFault::TooLarge));
-    Ok(())
 }

@@ -1,43 +1,69 @@
+//! Layouts whose networks are recovered, or refused.
 ghost use Rattle.std.specs.Prelude.{IfOk, OnOk};
 ghost use Rattle.bt_parts.specs.Cells.{IsInRange};
 ghost use Rattle.bt_parts.specs.Layouts.{AreInRange};
 
+use super::{fields, is_printed, number_of};
 use bt_grid::Grid;
 use bt_model::{hands, pair, ring};
-use bt_net::{Net, Start, Target};
 use bt_parts::{Cell, Dir, Kind, Part, Tier};
 use bt_recover::{Memory, RecoverFault, Traced, recover};
 use std::alloc::Global;
 use std::process::Abort;
 use std::test::Fail;
 
-const RING: [&[u8]; 2] = [b">v", b"^<"];
-
-/// A balancer of four belts.
-const FOUR: [&[u8]; 8] = [
-    b"^^.^^", b"[].[]", b"^^<^^", b"^.uu^", b"^>>>^", b"^^UU.", b"[][].", b"^^^^.",
-];
+const RING: &str = ">v/^<";
 
 /// A balancer of eight belts.
-const EIGHT: [&[u8]; 18] = [
-    b".....^^^^^^^^",
-    b".....[][][][]",
-    b".....u^u^u^u^",
-    b">>>>>>^.^.^.^",
-    b"^>>>>>>>^.^.^",
-    b"^^.>>>>>>>^.^",
-    b"^^.^>>>>>>>>^",
-    b"^^.^^U.U.U.U.",
-    b"^^.^^^.^>^.^.",
-    b"^^.^^^>^^>>^.",
-    b"^^.^^^^.^^...",
-    b"[].[][].[]...",
-    b"^^<^^^^<^^...",
-    b"^.uu^^.uu^...",
-    b"^>>>^^>>>^...",
-    b"^^UU.^^UU....",
-    b"[][].[][]....",
-    b"^^^^.^^^^....",
+const EIGHT: &str = "\
+     .....^^^^^^^^/\
+     .....[][][][]/\
+     .....u^u^u^u^/\
+     >>>>>>^.^.^.^/\
+     ^>>>>>>>^.^.^/\
+     ^^.>>>>>>>^.^/\
+     ^^.^>>>>>>>>^/\
+     ^^.^^U.U.U.U./\
+     ^^.^^^.^>^.^./\
+     ^^.^^^>^^>>^./\
+     ^^.^^^^.^^.../\
+     [].[][].[].../\
+     ^^<^^^^<^^.../\
+     ^.uu^^.uu^.../\
+     ^>>>^^>>>^.../\
+     ^^UU.^^UU..../\
+     [][].[][]..../\
+     ^^^^.^^^^....";
+
+/// A map of a layout that is refused, the fault, and the part that it names.
+const FAULTS: &[&str] = &[
+    "E.....e|unpaired|0",
+    "EE.e|unpaired|0",
+    ">>/.^|side load|1",
+    "><|blocked|0",
+    ">v/^<|ring|0",
+    "[]|no ends|0",
+    "|no ends|0",
+];
+
+/// A map, the speeds of its parts in their order, or none for the slowest, and its network. The largest map is that of a
+/// balancer of four belts.
+const NETWORKS: &[&str] = &[
+    ">>||net 1 1 0\nedge i0 o0\nend\n",
+    "E....e||net 1 1 0\nedge i0 o0\nend\n",
+    ">/^||net 1 1 0\nedge i0 o0\nend\n",
+    "^^||net 2 2 0\nedge i0 o0\nedge i1 o1\nend\n",
+    "^^/[]/^^||net 2 2 1\nedge i0 s0\nedge i1 s0\nedge s0 o0\nedge s0 o1\nend\n",
+    "^^/[]/[]/^^||net 2 2 2\nedge i0 s1\nedge i1 s1\nedge s0 o0\nedge s0 o1\nedge s1 s0\nedge s1 s0\nend\n",
+    "^^.^^/[].[]/^^<^^/^.uu^/^>>>^/^^UU./[][]./^^^^.||net 4 4 4\nedge i0 s2\nedge i1 s2\nedge i2 s3\nedge i3 s3\n\
+     edge s0 o0\nedge s0 o1\nedge s1 o2\nedge s1 o3\nedge s2 s0\nedge s2 s1\nedge s3 s0\nedge s3 s1\nend\n",
+    ">E.e>|4224|net 1 1 0\nedge i0 o0 2\nend\n",
+    ">>>|324|net 1 1 0\nedge i0 o0 2\nend\n",
+    "EE.e..e|1212|net 2 2 0\nedge i0 o0\nedge i1 o1 2\nend\n",
+    "^^/[]/^^|42341|net 2 2 1\nedge i0 s0 3\nedge i1 s0\nedge s0 o0 3\nedge s0 o1 2\nend\n",
+    "^^/[]/[]/^^|443244|net 2 2 2\nedge i0 s1 2\nedge i1 s1 2\nedge s0 o0 3\nedge s0 o1 3\nedge s1 s0 2\nedge s1 s0 2\nend\n",
+    "^^/[]/[]/^^|442344|net 2 2 2\nedge i0 s1 3\nedge i1 s1 3\nedge s0 o0 2\nedge s0 o1 2\nedge s1 s0 2\nedge s1 s0 2\nend\n",
+    "^^/[]/^^|33333|net 2 2 1\nedge i0 s0\nedge i1 s0\nedge s0 o0\nedge s0 o1\nend\n",
 ];
 
 /// What a letter of a map stands for: arrows are belts, `U` and `u` a north entrance and exit, `E`
@@ -96,27 +122,20 @@ fn push_piece(parts: &mut Vec<Part>, letter: u8, speeds: &[u8], x: u8, y: u8) ->
 }
 
 /// The parts of a map, row by row, with tiers of these speeds in their order.
-fn parts_with_speeds(alloc: Global, map: &[&[u8]], speeds: &[u8]) -> Result<Vec<Part>, Memory>
+fn parts_with_speeds(alloc: Global, map: &str, speeds: &str) -> Result<Vec<Part>, Memory>
     ensures { IfOk result (λ parts. AreInRange parts.items) }
 {
     let mut parts = Vec::new(alloc);
     let mut y: u8 = 0;
-    for row in map {
+    for row in map.split('/') {
         let mut x: u8 = 0;
-        for letter in *row {
-            push_piece(&mut parts, *letter, speeds, x, y)?;
+        for letter in row.bytes() {
+            push_piece(&mut parts, letter, speeds.as_bytes(), x, y)?;
             x = x.saturating_add(1);
         }
         y = y.saturating_add(1);
     }
     Ok(parts)
-}
-
-/// The parts of a map, row by row, of the basic tier.
-fn parts_of(alloc: Global, map: &[&[u8]]) -> Result<Vec<Part>, Memory>
-    ensures { IfOk result (λ parts. AreInRange parts.items) }
-{
-    parts_with_speeds(alloc, map, &[])
 }
 
 /// So many belts, none of which hands to another.
@@ -145,188 +164,101 @@ fn placed(rt: &impl Abort, alloc: Global, parts: Vec<Part>) -> Grid
     Grid::place(alloc, parts).expect(rt, "no two parts share a cell")
 }
 
-/// What is recovered from the layout, which is clean.
-fn recovered(rt: &impl Abort, alloc: Global, grid: &Grid) -> Traced {
-    recover(alloc, grid)
-        .ok()
-        .expect(rt, "the layout has a network")
+/// What is recovered of the layout of parts.
+fn recovered(alloc: Global, parts: Vec<Part>) -> Result<Traced, RecoverFault>
+    requires { AreInRange parts.items }
+{
+    match Grid::place(alloc, parts) {
+        Ok(grid) => recover(alloc, &grid),
+        Err(_) => Err(RecoverFault::Memory),
+    }
 }
 
-/// Whether the network has these edges, each with cap 1.
-fn has_edges(net: &Net, edges: &[(Start, Target)]) -> bool {
-    if net.edges().len() != edges.len() {
-        return false;
+/// The word of a fault, and the part that it names, or 0.
+fn told_of(fault: &RecoverFault) -> (&'static str, usize) {
+    match fault {
+        RecoverFault::Unpaired(part) => ("unpaired", *part),
+        RecoverFault::SideLoad(part) => ("side load", *part),
+        RecoverFault::Blocked(part) => ("blocked", *part),
+        RecoverFault::Ring(part) => ("ring", *part),
+        RecoverFault::TooLarge => ("too large", 0),
+        RecoverFault::NoEnds => ("no ends", 0),
+        RecoverFault::Memory => ("no memory", 0),
     }
-    for (edge, (start, target)) in net.edges().iter().zip(edges) {
-        if edge.start != *start || edge.target != *target || edge.cap != 1 {
-            return false;
+}
+
+/// Whether a row's layout is refused as the row says.
+fn is_refused(alloc: Global, row: &str) -> Result<bool, Memory> {
+    let [map, name, part, ..] = fields(row, '|');
+    match recovered(alloc, parts_with_speeds(alloc, map, "")?) {
+        Ok(_) => Ok(false),
+        Err(fault) => Ok(told_of(&fault).0 == name && told_of(&fault).1 == number_of(part)),
+    }
+}
+
+/// Whether a row's network is recovered.
+fn is_recovered(alloc: Global, row: &str) -> Result<bool, Memory> {
+    let [map, speeds, network, ..] = fields(row, '|');
+    match recovered(alloc, parts_with_speeds(alloc, map, speeds)?) {
+        Ok(traced) => is_printed(alloc, &traced.net, network),
+        Err(_) => Ok(false),
+    }
+}
+
+/// Whether a network is recovered that has so many inputs, outputs, splitters and edges.
+fn has_counts(recovered: &Result<Traced, RecoverFault>, ends: [u32; 3], edges: usize) -> bool {
+    match recovered {
+        Ok(traced) => {
+            let net = &traced.net;
+            [net.inputs(), net.outputs(), net.splitters()] == ends && net.edges().len() == edges
         }
+        Err(_) => false,
     }
-    true
 }
 
-/// Whether the network's edges have these caps.
-fn has_caps(net: &Net, caps: &[u32]) -> bool {
-    if net.edges().len() != caps.len() {
-        return false;
-    }
-    for (edge, cap) in net.edges().iter().zip(caps) {
-        if edge.cap != *cap {
-            return false;
+/// Whether splitters are told by their parts and ends by their cells.
+fn are_numbered(recovered: &Result<Traced, RecoverFault>) -> bool {
+    match recovered {
+        Ok(traced) => {
+            traced.inputs.as_slice() == [4, 5].as_slice()
+                && traced.outputs.as_slice() == [0, 1].as_slice()
+                && traced.splitters.as_slice() == [2, 3].as_slice()
         }
+        Err(_) => false,
     }
-    true
 }
 
 #[test]
-fn faulty_layouts_are_refused(rt: HostRuntime) -> Result<(), Fail> {
-    let table: [(&[&[u8]], RecoverFault); 7] = [
-        (&[b"E.....e"], RecoverFault::Unpaired(0)),
-        (&[b"EE.e"], RecoverFault::Unpaired(0)),
-        (&[b">>", b".^"], RecoverFault::SideLoad(1)),
-        (&[b"><"], RecoverFault::Blocked(0)),
-        (&RING, RecoverFault::Ring(0)),
-        (&[b"[]"], RecoverFault::NoEnds),
-        (&[], RecoverFault::NoEnds),
-    ];
-    for (map, fault) in table {
-        let grid = placed(&rt, rt.alloc(), parts_of(rt.alloc(), map)?);
-        let refused = recover(rt.alloc(), &grid).err() == Some(fault);
-        assert!(rt; refused);
+fn layouts(rt: HostRuntime) -> Result<(), Fail> {
+    for row in FAULTS {
+        assert!(rt; is_refused(rt.alloc(), row)?, "{row}");
     }
-    Ok(())
-}
-
-#[test]
-fn networks_are_recovered(rt: HostRuntime) -> Result<(), Fail> {
-    let table: [(&[&[u8]], &[(Start, Target)]); 7] = [
-        (&[b">>"], &[(Start::Input(0), Target::Output(0))]),
-        (&[b"E....e"], &[(Start::Input(0), Target::Output(0))]),
-        (&[b">", b"^"], &[(Start::Input(0), Target::Output(0))]),
-        (
-            &[b"^^"],
-            &[
-                (Start::Input(0), Target::Output(0)),
-                (Start::Input(1), Target::Output(1)),
-            ],
-        ),
-        (
-            &[b"^^", b"[]", b"^^"],
-            &[
-                (Start::Input(0), Target::Split(0)),
-                (Start::Input(1), Target::Split(0)),
-                (Start::Split(0), Target::Output(0)),
-                (Start::Split(0), Target::Output(1)),
-            ],
-        ),
-        (
-            &[b"^^", b"[]", b"[]", b"^^"],
-            &[
-                (Start::Input(0), Target::Split(1)),
-                (Start::Input(1), Target::Split(1)),
-                (Start::Split(0), Target::Output(0)),
-                (Start::Split(0), Target::Output(1)),
-                (Start::Split(1), Target::Split(0)),
-                (Start::Split(1), Target::Split(0)),
-            ],
-        ),
-        (
-            &FOUR,
-            &[
-                (Start::Input(0), Target::Split(2)),
-                (Start::Input(1), Target::Split(2)),
-                (Start::Input(2), Target::Split(3)),
-                (Start::Input(3), Target::Split(3)),
-                (Start::Split(0), Target::Output(0)),
-                (Start::Split(0), Target::Output(1)),
-                (Start::Split(1), Target::Output(2)),
-                (Start::Split(1), Target::Output(3)),
-                (Start::Split(2), Target::Split(0)),
-                (Start::Split(2), Target::Split(1)),
-                (Start::Split(3), Target::Split(0)),
-                (Start::Split(3), Target::Split(1)),
-            ],
-        ),
-    ];
-    for (map, edges) in table {
-        let grid = placed(&rt, rt.alloc(), parts_of(rt.alloc(), map)?);
-        let traced = recovered(&rt, rt.alloc(), &grid);
-        let same = has_edges(&traced.net, edges);
-        assert!(rt; same);
+    for row in NETWORKS {
+        assert!(rt; is_recovered(rt.alloc(), row)?, "{row}");
     }
+    let parts = parts_with_speeds(rt.alloc(), "^^/[]/[]/^^", "")?;
+    assert!(rt; are_numbered(&recovered(rt.alloc(), parts)));
     Ok(())
 }
 
 #[test]
-fn caps_are_those_of_the_slowest_parts(rt: HostRuntime) -> Result<(), Fail> {
-    let table: [(&[&[u8]], &[u8], &[u32]); 7] = [
-        (&[b">E.e>"], b"4224", &[2]),
-        (&[b">>>"], b"324", &[2]),
-        (&[b"EE.e..e"], b"1212", &[1, 2]),
-        (&[b"^^", b"[]", b"^^"], b"42341", &[3, 1, 3, 2]),
-        (
-            &[b"^^", b"[]", b"[]", b"^^"],
-            b"443244",
-            &[2, 2, 3, 3, 2, 2],
-        ),
-        (
-            &[b"^^", b"[]", b"[]", b"^^"],
-            b"442344",
-            &[3, 3, 2, 2, 2, 2],
-        ),
-        (&[b"^^", b"[]", b"^^"], b"33333", &[1, 1, 1, 1]),
-    ];
-    for (map, speeds, caps) in table {
-        let parts = parts_with_speeds(rt.alloc(), map, speeds)?;
-        let grid = placed(&rt, rt.alloc(), parts);
-        let traced = recovered(&rt, rt.alloc(), &grid);
-        let same = has_caps(&traced.net, caps);
-        assert!(rt; same);
-    }
-    Ok(())
-}
-
-#[test]
-fn splitters_are_numbered_by_parts_and_ends_by_cells(rt: HostRuntime) -> Result<(), Fail> {
-    let map: [&[u8]; 4] = [b"^^", b"[]", b"[]", b"^^"];
-    let grid = placed(&rt, rt.alloc(), parts_of(rt.alloc(), &map)?);
-    let traced = recovered(&rt, rt.alloc(), &grid);
-    let same = traced.inputs.as_slice() == [4, 5].as_slice()
-        && traced.outputs.as_slice() == [0, 1].as_slice()
-        && traced.splitters.as_slice() == [2, 3].as_slice();
-    assert!(rt; same);
-    Ok(())
-}
-
-#[test]
-fn a_balancer_of_eight_belts_is_recovered(rt: HostRuntime) -> Result<(), Fail> {
-    let grid = placed(&rt, rt.alloc(), parts_of(rt.alloc(), &EIGHT)?);
-    let net = recovered(&rt, rt.alloc(), &grid).net;
-    let counts = (
-        net.inputs(),
-        net.outputs(),
-        net.splitters(),
-        net.edges().len(),
-    );
-    assert!(rt; counts == (8, 8, 12, 32));
-    Ok(())
-}
-
-#[test]
-fn at_most_so_many_of_a_kind_are_recovered(rt: HostRuntime) -> Result<(), Fail> {
-    let grid = placed(&rt, rt.alloc(), lone_belts(rt.alloc(), 2048)?);
-    let net = recovered(&rt, rt.alloc(), &grid).net;
-    let counts = (net.inputs(), net.outputs(), net.edges().len());
-    assert!(rt; counts == (2048, 2048, 2048));
-    let grid = placed(&rt, rt.alloc(), lone_belts(rt.alloc(), 2049)?);
-    let refused = recover(rt.alloc(), &grid).err() == Some(RecoverFault::TooLarge);
-    assert!(rt; refused);
+fn large_layouts(rt: HostRuntime) -> Result<(), Fail> {
+    let eight = recovered(rt.alloc(), parts_with_speeds(rt.alloc(), EIGHT, "")?);
+    assert!(rt; has_counts(&eight, [8, 8, 12], 32));
+    let most = recovered(rt.alloc(), lone_belts(rt.alloc(), 2048)?);
+    assert!(rt; has_counts(&most, [2048, 2048, 0], 2048));
+    let more = recovered(rt.alloc(), lone_belts(rt.alloc(), 2049)?);
+    assert!(rt; more.err() == Some(RecoverFault::TooLarge));
     Ok(())
 }
 
 #[test]
 fn plain_lists_tell_pairs_handing_and_rings(rt: HostRuntime) -> Result<(), Fail> {
-    let grid = placed(&rt, rt.alloc(), parts_of(rt.alloc(), &[b"E...e>"])?);
+    let grid = placed(
+        &rt,
+        rt.alloc(),
+        parts_with_speeds(rt.alloc(), "E...e>", "")?,
+    );
     let parts = grid.parts();
     assert!(rt; parts.len() == 3);
     let told = [
@@ -338,7 +270,7 @@ fn plain_lists_tell_pairs_handing_and_rings(rt: HostRuntime) -> Result<(), Fail>
         ring(parts, 0),
     ];
     assert!(rt; told == [true, false, true, true, false, false]);
-    let grid = placed(&rt, rt.alloc(), parts_of(rt.alloc(), &RING)?);
+    let grid = placed(&rt, rt.alloc(), parts_with_speeds(rt.alloc(), RING, "")?);
     let parts = grid.parts();
     assert!(rt; parts.len() == 4 && ring(parts, 3));
     Ok(())

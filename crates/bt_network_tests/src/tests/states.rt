@@ -1,119 +1,79 @@
 //! Texts of states that are read, or refused at a line.
-ghost use Rattle.std.specs.Prelude.{◌≡◌, [], ◌∷◌, IfOk};
-
-use bt_flow::{Property, StateFault, print_state, read_state};
+use super::{ONE_BELT, fields, net_of, number_of};
+use bt_flow::{Property, State, StateFault, print_state, read_state};
 use bt_io::MemSink;
-use bt_net::{Edge, Net, Start, Target};
+use bt_net::Net;
 use std::alloc::{AllocError, Global};
 use std::test::Fail;
 
-// One belt from the only input to the only output.
-fn one_belt(alloc: Global) -> Result<Vec<Edge>, AllocError>
-    ensures { IfOk result (λ v. v.items ≡
-        record { start = Start.Input 0; target = Target.Output 0; cap = 1 } ∷ []) }
-{
-    let mut edges = Vec::new(alloc);
-    edges.push(Edge {
-        start: Start::Input(0),
-        target: Target::Output(0),
-        cap: 1,
-    })?;
-    Ok(edges)
-}
-
-// A state of that belt as text, and the line that is refused, or 0.
-const TEXTS: [(&str, usize); 20] = [
-    ("no unlimited\nload 1/2\nroom 0\nflow -1/3\nmark b\nend", 0),
-    (
-        "no unlimited\nload 1/2\nroom 0\nflow -1/3\nmark f\nend\n \t\r\n\n",
-        0,
-    ),
-    ("", 1),
-    (
-        "\nno unlimited\nload 1/2\nroom 0\nflow -1/3\nmark b\nend\n",
-        1,
-    ),
-    ("yes unlimited\n", 1),
-    ("no full\nload 1/2\nroom 0\nflow -1/3\nmark b\nend\n", 1),
-    (
-        "no unlimited\r\nload 1/2\nroom 0\nflow -1/3\nmark b\nend\n",
-        1,
-    ),
-    ("no unlimited", 2),
-    ("no unlimited\nload\nroom 0\nflow -1/3\nmark b\nend\n", 2),
-    (
-        "no unlimited\nload 2/4\nroom 0\nflow -1/3\nmark b\nend\n",
-        2,
-    ),
-    (
-        "no unlimited\nload 1/2\nroom 0 0\nflow -1/3\nmark b\nend\n",
-        3,
-    ),
-    (
-        "no unlimited\nload 1/2\nroom  0\nflow -1/3\nmark b\nend\n",
-        3,
-    ),
-    (
-        "no unlimited\nload 1/2\nroom 0\nflow -1/3 \nmark b\nend\n",
-        4,
-    ),
-    ("no unlimited\nload 1/2\nroom 0\n", 4),
-    (
-        "no unlimited\nload 1/2\nroom 0\nflow -1/3\nmark x\nend\n",
-        5,
-    ),
-    ("no unlimited\nload 1/2\nroom 0\nflow -1/3\nmark\nend\n", 5),
-    ("no unlimited\nload 1/2\nroom 0\nflow -1/3\nmark b\n", 6),
-    (
-        "no unlimited\nload 1/2\nroom 0\nflow -1/3\nmark b\nend \n",
-        6,
-    ),
-    (
-        "no unlimited\nload 1/2\nroom 0\nflow -1/3\nmark b\nend\nend\n",
-        7,
-    ),
-    (
-        "no unlimited\nload 1/2\nroom 0\nflow -1/3\nmark b\nend\n\n \r\n\t.\n",
-        9,
-    ),
+/// A state of the belt as text, and the line that is refused, or 0.
+const TEXTS: &[&str] = &[
+    "no unlimited\nload 1/2\nroom 0\nflow -1/3\nmark b\nend|0",
+    "no unlimited\nload 1/2\nroom 0\nflow -1/3\nmark f\nend\n \t\r\n\n|0",
+    "|1",
+    "\nno unlimited\nload 1/2\nroom 0\nflow -1/3\nmark b\nend\n|1",
+    "yes unlimited\n|1",
+    "no full\nload 1/2\nroom 0\nflow -1/3\nmark b\nend\n|1",
+    "no unlimited\r\nload 1/2\nroom 0\nflow -1/3\nmark b\nend\n|1",
+    "no unlimited|2",
+    "no unlimited\nload\nroom 0\nflow -1/3\nmark b\nend\n|2",
+    "no unlimited\nload 2/4\nroom 0\nflow -1/3\nmark b\nend\n|2",
+    "no unlimited\nload 1/2\nroom 0 0\nflow -1/3\nmark b\nend\n|3",
+    "no unlimited\nload 1/2\nroom  0\nflow -1/3\nmark b\nend\n|3",
+    "no unlimited\nload 1/2\nroom 0\nflow -1/3 \nmark b\nend\n|4",
+    "no unlimited\nload 1/2\nroom 0\n|4",
+    "no unlimited\nload 1/2\nroom 0\nflow -1/3\nmark x\nend\n|5",
+    "no unlimited\nload 1/2\nroom 0\nflow -1/3\nmark\nend\n|5",
+    "no unlimited\nload 1/2\nroom 0\nflow -1/3\nmark b\n|6",
+    "no unlimited\nload 1/2\nroom 0\nflow -1/3\nmark b\nend \n|6",
+    "no unlimited\nload 1/2\nroom 0\nflow -1/3\nmark b\nend\nend\n|7",
+    "no unlimited\nload 1/2\nroom 0\nflow -1/3\nmark b\nend\n\n \r\n\t.\n|9",
 ];
 
-#[test]
-fn names_the_first_wrong_line(rt: HostRuntime) -> Result<(), Fail> {
-    let net = Net::new(1, 1, 0, one_belt(rt.alloc())?)?;
-    for (text, wanted) in TEXTS {
-        let line = match read_state(rt.alloc(), &net, text.as_bytes(), Property::Unlimited) {
-            Ok(_) => 0,
-            Err(StateFault::CertLine(line)) => line,
-            Err(StateFault::Memory) => usize::MAX,
-        };
-        assert!(rt; line == wanted);
-    }
-    Ok(())
+/// Whether the text of a row is read, or refused at its line.
+fn is_read(alloc: Global, net: &Net, row: &str) -> bool {
+    let [text, line, ..] = fields(row, '|');
+    let told = match read_state(alloc, net, text.as_bytes(), Property::Unlimited) {
+        Ok(_) => 0,
+        Err(StateFault::CertLine(line)) => line,
+        Err(StateFault::Memory) => usize::MAX,
+    };
+    told == number_of(line)
 }
 
-#[test]
-fn reads_each_list(rt: HostRuntime) -> Result<(), Fail> {
-    let net = Net::new(1, 1, 0, one_belt(rt.alloc())?)?;
-    let text = b"no drawn-evenly\nload 1/2\nroom 0\nflow -3\nmark b\nend\n";
-    let state = read_state(rt.alloc(), &net, text, Property::DrawnEvenly)?;
-    let read = match (state.flows(), state.backed(), state.loads(), state.rooms()) {
+const STATE: &str = "no drawn-evenly\nload 1/2\nroom 0\nflow -3\nmark b\nend\n";
+
+/// Whether a state has the numbers of the one that is printed.
+fn has_numbers(state: &State) -> bool {
+    match (state.flows(), state.backed(), state.loads(), state.rooms()) {
         ([flow], [backed], [load], [room]) => {
             *backed && flow.numerator() == -3 && load.denominator() == 2 && room.numerator() == 0
         }
         _ => false,
-    };
-    assert!(rt; read);
-    Ok(())
+    }
+}
+
+/// Whether a state is printed as its text.
+fn is_printed(alloc: Global, state: &State) -> Result<bool, AllocError> {
+    let mut sink = MemSink::new(alloc, 99, Vec::new(alloc), 5)?;
+    let printed = print_state(state, Property::DrawnEvenly, &mut sink).is_ok();
+    Ok(printed && sink.held() == STATE.as_bytes())
+}
+
+/// Whether each list of a state is read, and it is printed as it was read.
+fn is_state(alloc: Global, net: &Net) -> Result<bool, AllocError> {
+    match read_state(alloc, net, STATE.as_bytes(), Property::DrawnEvenly) {
+        Ok(state) => Ok(has_numbers(&state) && is_printed(alloc, &state)?),
+        Err(_) => Ok(false),
+    }
 }
 
 #[test]
-fn prints_what_it_reads(rt: HostRuntime) -> Result<(), Fail> {
-    let net = Net::new(1, 1, 0, one_belt(rt.alloc())?)?;
-    let text = b"no drawn-evenly\nload 1/2\nroom 0\nflow -3\nmark b\nend\n";
-    let state = read_state(rt.alloc(), &net, text, Property::DrawnEvenly)?;
-    let mut sink = MemSink::new(rt.alloc(), 99, Vec::new(rt.alloc()), 5)?;
-    print_state(&state, Property::DrawnEvenly, &mut sink)?;
-    assert!(rt; sink.held() == text.as_slice());
+fn states(rt: HostRuntime) -> Result<(), Fail> {
+    let net = net_of(rt.alloc(), ONE_BELT).ok_or("no network")?;
+    for row in TEXTS {
+        assert!(rt; is_read(rt.alloc(), &net, row), "{row}");
+    }
+    assert!(rt; is_state(rt.alloc(), &net)?);
     Ok(())
 }

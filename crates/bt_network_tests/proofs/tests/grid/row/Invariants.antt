@@ -1,5 +1,5 @@
 use Rattle.bt_parts.specs.Layouts.{AreInRange}
 use Rattle.bt_network_tests.proofs.tests.grid.row.Given as goal
 
-abbrev pub invariant-loop-kind : goal.invariant-loop-kind
-invariant-loop-kind l = AreInRange l.parts.items
+abbrev pub invariant-loop-word : goal.invariant-loop-word
+invariant-loop-word l = AreInRange l.parts.items
