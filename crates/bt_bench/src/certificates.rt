@@ -1,11 +1,12 @@
 //! The formulas whose certificates are checked: the same as in bench/certificate.rs.
-ghost use Rattle.std.specs.Prelude.{◌≡◌, ◌<◌, [], OnOk};
-ghost use Rattle.std.specs.List.{All};
+ghost use Rattle.std.specs.Prelude.{◌<◌, ◌^◌};
 
+use bt_cert::check_log;
 use bt_cnf::{Formula, Lit};
 use bt_fenc::encode;
 use bt_flow::Property;
 use bt_frac::{Frac, Relation, Row};
+use bt_io::Source;
 use bt_net::read;
 use std::alloc::{AllocError, Global};
 
@@ -18,21 +19,31 @@ const COLUMNS: usize = 30;
 /// The columns of the formula of the ring.
 const RING: usize = 100_000;
 
+/// Whether the log that the source tells refutes the formula of this name.
+pub fn refutes<S: Source>(alloc: Global, name: &str, source: &mut S, limit: usize) -> bool
+    requires { limit < 2 ^ 62 }
+{
+    match formula_named(alloc, name) {
+        Some(formula) => check_log(alloc, &formula, &[], source, limit).is_ok(),
+        None => false,
+    }
+}
+
 /// The formula of this name, or of the network of this text and the property `unlimited`.
-pub fn formula_named(alloc: Global, name: &str) -> Result<Option<Formula>, AllocError> {
+fn formula_named(alloc: Global, name: &str) -> Option<Formula> {
     match name {
-        "implications" => Ok(Some(implications(alloc)?)),
-        "differences" => Ok(Some(all_true(alloc, difference_rows(alloc)?)?)),
-        "ring" => Ok(Some(all_true(alloc, ring_rows(alloc)?)?)),
+        "implications" => implications(alloc).ok(),
+        "differences" => differences(alloc).ok(),
+        "ring" => ring(alloc).ok(),
         _ => flow_formula(alloc, name.as_bytes()),
     }
 }
 
 /// The formula of a network, where the text is that of one, and the property `unlimited`.
-fn flow_formula(alloc: Global, text: &[u8]) -> Result<Option<Formula>, AllocError> {
+pub fn flow_formula(alloc: Global, text: &[u8]) -> Option<Formula> {
     match read(alloc, text) {
-        Ok(read) => Ok(Some(encode(alloc, &read.net, Property::Unlimited)?)),
-        Err(_) => Ok(None),
+        Ok(read) => encode(alloc, &read.net, Property::Unlimited).ok(),
+        Err(_) => None,
     }
 }
 
@@ -49,8 +60,10 @@ fn implications(alloc: Global) -> Result<Formula, AllocError> {
 
 /// A variable for each row, and all are true.
 fn all_true(alloc: Global, rows: Vec<Row>) -> Result<Formula, AllocError> {
-    let mut formula = Formula::new(alloc, rows.len())?;
-    set_atoms(&mut formula, rows)?;
+    let mut formula = Formula::new(alloc, 0)?;
+    for row in rows {
+        formula.add_atom(row)?;
+    }
     for place in 0..formula.vars() {
         add_clause(alloc, &mut formula, &[(place, true)])?;
     }
@@ -78,45 +91,37 @@ pub fn add_clause(
     Ok(())
 }
 
-/// Gives the first variables these rows.
-fn set_atoms(formula: &mut Formula, rows: Vec<Row>) -> Result<(), AllocError>
-    requires { formula.old.atoms ≡ [] }
-{
-    let mut rest = rows.into_iter();
-    for place in 0..formula.vars() {
-        let Some(var) = formula.var_at(place) else {
-            return Ok(());
-        };
-        let Some(row) = rest.next() else {
-            return Ok(());
-        };
-        formula.set_atom(var, row)?;
-    }
-    Ok(())
-}
-
 /// A row for each two columns, ordered by the first and then by the second.
-fn difference_rows(alloc: Global) -> Result<Vec<Row>, AllocError> {
+fn differences(alloc: Global) -> Result<Formula, AllocError> {
     let mut rows = Vec::new(alloc);
     for first in 0..COLUMNS {
         for second in 0..COLUMNS {
-            if let Some(row) = difference(alloc, first, second)? {
-                rows.push(row)?;
-            }
+            push_difference(alloc, &mut rows, first, second)?;
         }
     }
-    Ok(rows)
+    all_true(alloc, rows)
 }
 
 /// A row for each column and the next, and after the last comes the first.
-fn ring_rows(alloc: Global) -> Result<Vec<Row>, AllocError> {
+fn ring(alloc: Global) -> Result<Formula, AllocError> {
     let mut rows = Vec::new(alloc);
     for first in 0..RING {
-        if let Some(row) = difference(alloc, first, (first + 1) % RING)? {
-            rows.push(row)?;
-        }
+        push_difference(alloc, &mut rows, first, (first + 1) % RING)?;
     }
-    Ok(rows)
+    all_true(alloc, rows)
+}
+
+/// Adds the row of two columns, where there is one.
+fn push_difference(
+    alloc: Global,
+    rows: &mut Vec<Row>,
+    first: usize,
+    second: usize,
+) -> Result<(), AllocError> {
+    if let Some(row) = difference(alloc, first, second)? {
+        rows.push(row)?;
+    }
+    Ok(())
 }
 
 /// The first column is at least 1 more than the second; there is no such row of a column and itself.

@@ -5,8 +5,20 @@ use std::alloc::{AllocError, Global};
 /// How many fractions a round adds.
 const TERMS: u32 = 1000;
 
+/// The sum of the fractions of this name, as often as there are rounds.
+pub fn sum_named(alloc: Global, name: &str, rounds: u64) -> Option<Frac> {
+    let terms = match name {
+        "add-small" => small_fractions(alloc),
+        _ => wide_fractions(alloc),
+    };
+    match terms {
+        Ok(terms) => repeated_sum(&terms, rounds),
+        Err(_) => None,
+    }
+}
+
 /// Fractions with denominators up to 30.
-pub fn small_fractions(alloc: Global) -> Result<Vec<Frac>, AllocError> {
+fn small_fractions(alloc: Global) -> Result<Vec<Frac>, AllocError> {
     let mut terms = Vec::new(alloc);
     for place in 0..TERMS {
         let over = i128::from(place * 7 % 41) - 20;
@@ -16,7 +28,7 @@ pub fn small_fractions(alloc: Global) -> Result<Vec<Frac>, AllocError> {
 }
 
 /// Fractions with denominators from 2^31 * 3^21 to 2^60 * 3^40.
-pub fn wide_fractions(alloc: Global) -> Result<Vec<Frac>, AllocError> {
+fn wide_fractions(alloc: Global) -> Result<Vec<Frac>, AllocError> {
     let mut terms = Vec::new(alloc);
     let mut seed: u64 = 1;
     for place in 0..TERMS {
@@ -48,12 +60,19 @@ fn power(base: i128, exponent: u32) -> i128 {
 }
 
 /// The sum of all fractions, as often as there are rounds; `None` where a sum doesn't fit.
-pub fn repeated_sum(terms: &[Frac], rounds: u64) -> Option<Frac> {
+fn repeated_sum(terms: &[Frac], rounds: u64) -> Option<Frac> {
     let mut total = Frac::whole(0);
     for _ in 0..rounds {
-        for term in terms {
-            total = total.add(term)?;
-        }
+        total = sum_from(total, terms)?;
+    }
+    Some(total)
+}
+
+/// The sum of a fraction and all these.
+fn sum_from(first: Frac, terms: &[Frac]) -> Option<Frac> {
+    let mut total = first;
+    for term in terms {
+        total = total.add(term)?;
     }
     Some(total)
 }

@@ -1,5 +1,6 @@
 //! Checks of a tableau, whose bound rows change by a few from check to check: the same as in
 //! bench/pivots.rs.
+use crate::certificates::flow_formula;
 use bt_cnf::Formula;
 use bt_simplex::{Check, Tableau, are_over};
 use std::alloc::{AllocError, Global};
@@ -40,26 +41,38 @@ fn change_some(tableau: &mut Tableau, seed: u64) -> u64 {
     next
 }
 
-/// How many of the checks of the formula's rows find values that meet them.
-pub fn checks_met(
-    alloc: Global,
-    formula: &Formula,
-    rounds: u64,
-) -> Result<Option<usize>, AllocError> {
+/// A tableau of the formula's rows, of which those at the front are bound, where its columns hold them.
+fn tableau_of(alloc: Global, formula: &Formula) -> Option<Tableau> {
     if !are_over(formula.rows(), formula.columns()) {
-        return Ok(None);
+        return None;
     }
-    let mut tableau = Tableau::new(alloc, formula.rows(), formula.columns())?;
-    for row in 0..ALWAYS {
-        change(&mut tableau, row);
+    match Tableau::new(alloc, formula.rows(), formula.columns()) {
+        Ok(mut tableau) => {
+            for row in 0..ALWAYS {
+                change(&mut tableau, row);
+            }
+            Some(tableau)
+        }
+        Err(_) => None,
     }
+}
+
+/// How many checks find values that meet the bound rows, some of which change before each.
+fn met_often(alloc: Global, tableau: &mut Tableau, rounds: u64) -> Result<usize, AllocError> {
     let mut met: usize = 0;
     let mut seed = 1;
     for _ in 0..rounds {
-        seed = change_some(&mut tableau, seed);
+        seed = change_some(tableau, seed);
         if let Check::Sat(_) = tableau.check(alloc, TURNS)? {
             met = met.wrapping_add(1);
         }
     }
-    Ok(Some(met))
+    Ok(met)
+}
+
+/// How many checks of the rows of a network's flow formula find values.
+pub fn checks_met(alloc: Global, text: &[u8], rounds: u64) -> Option<usize> {
+    let formula = flow_formula(alloc, text)?;
+    let mut tableau = tableau_of(alloc, &formula)?;
+    met_often(alloc, &mut tableau, rounds).ok()
 }

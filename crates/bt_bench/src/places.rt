@@ -23,15 +23,23 @@ fn literals(formula: &Formula) -> usize {
     count
 }
 
-/// The number of literals of the placement formula of a request for the slowest tier in 16x16, which is
-/// written in each round.
+/// The request of a text for the slowest tier in 16x16, where it is one.
+fn request_of(alloc: Global, text: &[u8]) -> Option<Request> {
+    match read(alloc, text) {
+        Ok(found) => Request::new(found.net, RECT, Tier::Basic, found.pins, found.blocks).ok(),
+        Err(_) => None,
+    }
+}
+
+/// The number of literals of the placement formula of a request, which is written in each round.
 pub fn literals_written(alloc: Global, text: &[u8], rounds: u64) -> Option<usize> {
-    let found = read(alloc, text).ok()?;
-    let request = Request::new(found.net, RECT, Tier::Basic, found.pins, found.blocks).ok()?;
+    let request = request_of(alloc, text)?;
     let mut count = 0;
     for _ in 0..rounds {
-        let formula = encode_place(alloc, &request).ok()?;
-        count = literals(&formula);
+        match encode_place(alloc, &request) {
+            Ok(formula) => count = literals(&formula),
+            Err(_) => return None,
+        }
     }
     Some(count)
 }

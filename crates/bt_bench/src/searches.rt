@@ -42,8 +42,8 @@ fn formula_of(alloc: Global, text: &str) -> Result<Formula, AllocError> {
     Ok(formula)
 }
 
-/// Searches for a model with the program's choosers, in turn.
-fn search(alloc: Global, formula: Formula) -> Result<Found, AllocError> {
+/// Searches for a model of a formula with the program's choosers, in turn.
+fn search_of(alloc: Global, formula: Formula) -> Result<Found, AllocError> {
     let lowest: Box<dyn Chooser> = Box::new(alloc, Lowest::new())?;
     let recent: Box<dyn Chooser> = Box::new(alloc, Recent::new(alloc)?)?;
     let highest: Box<dyn Chooser> = Box::new(alloc, Highest::new())?;
@@ -58,16 +58,31 @@ fn search(alloc: Global, formula: Formula) -> Result<Found, AllocError> {
     Ok(Found { answer, log })
 }
 
+/// Searches for a model of the formula of a text.
+fn search(alloc: Global, text: &str) -> Result<Found, AllocError> {
+    search_of(alloc, formula_of(alloc, text)?)
+}
+
 /// What the last of so many searches comes to, for each of which the formula is read anew. In no rounds it
 /// is read alone.
-pub fn found_often(alloc: Global, text: &str, rounds: u64) -> Result<Option<Found>, AllocError> {
-    let formula = formula_of(alloc, text)?;
+pub fn found_often(alloc: Global, text: &[u8], rounds: u64) -> Option<Found> {
+    let Ok(text) = std::str::from_utf8(text) else {
+        return None;
+    };
     if rounds == 0 {
-        return Ok(None);
+        drop(formula_of(alloc, text));
+        return None;
     }
-    let mut found = search(alloc, formula)?;
     for _ in 1..rounds {
-        found = search(alloc, formula_of(alloc, text)?)?;
+        drop(search(alloc, text));
     }
-    Ok(Some(found))
+    search(alloc, text).ok()
+}
+
+/// The answer and the steps of the last of so many searches.
+pub fn search_told(alloc: Global, text: &[u8], rounds: u64) -> Option<String> {
+    match found_often(alloc, text, rounds) {
+        Some(found) => format!(in alloc; "{} {}\n", found.answer, found.log.len()).ok(),
+        None => None,
+    }
 }
