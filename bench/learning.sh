@@ -3,13 +3,13 @@
 # ratios: on random clauses of three literals, on a pigeonhole formula, and on a placement formula (bench/place.rs). Then
 # it times chains of implications, where twice as many should take twice as long, and tells the memory of the clauses.
 #
-# The seconds are those of the processor, the least of several runs, less those of the same formula with two units at its
-# end that contradict each other, so reading and loading count on neither side; minisat simplifies nothing before
-# (`-no-pre`). A literal counts where the clauses are visited that watch it, choices too: that is what minisat prints as
-# `propagations`. bt_sat counts nothing, so bench/learning.rs (compiled by `rustc -O`) follows its search by its log. What
-# is propagated before a choice is the same in every order of visits; what is propagated before a conflict isn't, and is
-# counted in that program's order. The last column takes none of these for granted: there bt_sat's literals are only those
-# before choices, while minisat's are all of its own.
+# The seconds are those of the processor, the least of many runs that take turns, less those of the same formula with two
+# units at its end that contradict each other, so reading and loading count on neither side; minisat simplifies nothing
+# before (`-no-pre`). A literal counts where the clauses are visited that watch it, choices too: that is what minisat
+# prints as `propagations`. bt_sat counts nothing, so bench/learning.rs (compiled by `rustc -O`) follows its search by its
+# log. What is propagated before a choice is the same in every order of visits; what is propagated before a conflict
+# isn't, and is counted in that program's order. The last column takes none of these for granted: there bt_sat's literals
+# are only those before choices, while minisat's are all of its own.
 #
 # It needs minisat (`apt-get install minisat`).
 set -euo pipefail
@@ -97,22 +97,19 @@ def run(words, path):
     return usage.ru_utime + usage.ru_stime, text.decode()
 
 
-def least(words, path):
-    """The least processor seconds of at most nine runs, or fewer where they take long, and what was printed."""
-    best, printed, spent = None, "", 0
-    for _ in range(9):
-        seconds, printed = run(words, path)
-        best = seconds if best is None else min(best, seconds)
-        spent += seconds
-        if spent > 4:
+def alone(searches):
+    """For each of some programs with a formula and its bare one, the processor seconds of the search alone, and what it
+    printed. They take turns, since a machine is now faster and now slower; and the least of many runs counts."""
+    runs = [(words, path) for words, path, bare in searches for path in (path, bare)]
+    best, printed, spent = [None] * len(runs), [""] * len(runs), 0
+    for _ in range(60):
+        for place, (words, path) in enumerate(runs):
+            seconds, printed[place] = run(words, path)
+            best[place] = seconds if best[place] is None else min(best[place], seconds)
+            spent += seconds
+        if spent > 8:
             break
-    return best, printed
-
-
-def alone(words, path, bare):
-    """The processor seconds of a search alone, and what was printed."""
-    whole, printed = least(words, path)
-    return whole - least(words, bare)[0], printed
+    return [(best[place] - best[place + 1], printed[place]) for place in range(0, len(runs), 2)]
 
 
 OURS = [program, "search", "1"]
@@ -135,9 +132,8 @@ def compare(title, formulas):
     ours = theirs = steps = fixed = before_conflicts = propagations = 0
     for formula in formulas:
         path, bare = write("formula", formula), write("bare", contradicted(formula))
-        seconds, printed = alone(OURS, path, bare)
+        (seconds, printed), (rival, said) = alone([(OURS, path, bare), (MINISAT, path, bare)])
         answer, count = printed.split()
-        rival, said = alone(MINISAT, path, bare)
         if (answer == "refuted") != ("UNSATISFIABLE" in said) or answer == "spent":
             sys.exit(f"{title}: {answer}, and minisat says otherwise")
         ours, theirs, steps = ours + seconds, theirs + rival, steps + int(count)
@@ -169,7 +165,7 @@ for name, grid in PLACED:
 times = []
 for length in (CHAIN, 2 * CHAIN):
     formula = chain(length)
-    seconds, printed = alone(OURS, write("formula", formula), write("bare", contradicted(formula)))
+    [(seconds, printed)] = alone([(OURS, write("formula", formula), write("bare", contradicted(formula)))])
     if printed.split() != ["model", "0"]:
         sys.exit(f"a chain: {printed}")
     times.append(seconds)
