@@ -119,7 +119,7 @@ impl Packed {
 pub fn pack_all(alloc: Global, lits: &[Lit]) -> Result<Vec<Packed>, AllocError>
     ensures { IfOk result (λ packed. packed.items ≡ lits.now) }
 {
-    let mut packed = Vec::new(alloc);
+    let mut packed = Vec::with_capacity(alloc, lits.len())?;
     for lit in lits {
         packed.push(Packed::pack(lit)?)?;
     }

@@ -9,12 +9,13 @@ use bt_arena::Arena;
 use bt_cnf::{Lit, Variable};
 use std::marker::Model;
 
-/// Whether a variable is set, and to what.
+/// Whether a variable is set, and to what. True is 0 and false is 1, as the last bit of a packed literal's number
+/// tells them, so that no step lies between that bit and the setting that makes the literal true.
 #[derive(Clone, Copy, PartialEq, Eq)]
 enum Setting {
-    Unset,
-    False,
     True,
+    False,
+    Unset,
 }
 
 /// Whether a variable is set, and to what, in one byte: one comparison tells whether a literal is true.

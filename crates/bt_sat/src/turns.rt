@@ -1,5 +1,5 @@
 //! One turn of a search: for the next model, or with one more lemma.
-ghost use Rattle.std.specs.Prelude.{◌≡◌, ◌≤◌, length, map, slice_index_or, IfOk, OnOk, None, vec_len};
+ghost use Rattle.std.specs.Prelude.{◌≡◌, ◌<◌, ◌≤◌, length, map, slice_index_or, IfOk, OnOk, None, vec_len};
 ghost use Rattle.std.specs.List.{All};
 ghost use Rattle.bt_log.specs.Logs.{Lemma};
 ghost use Rattle.bt_sat.specs.Serving.{IsFair};
@@ -20,19 +20,17 @@ use std::alloc::{AllocError, Global};
 
 /// The value of the variable at a place, which is false where it has none.
 fn value_at(values: &Values, place: usize) -> bool
+    requires { place < length values.now }
     ensures { result ≡ value_of (slice_index_or values.now place None) }
 {
-    match values.id_at(place) {
-        Some(var) => values.get(var).is(true),
-        None => false,
-    }
+    values.get(values.id_of(place)).is(true)
 }
 
 /// The values of the variables.
 fn list_model(alloc: Global, values: &Values) -> Result<Vec<bool>, AllocError>
     ensures { IfOk result (λ model. model.items ≡ model_of values.now) }
 {
-    let mut model = Vec::new(alloc);
+    let mut model = Vec::with_capacity(alloc, values.len())?;
     for place in 0..values.len() {
         model.push(value_at(values, place))?;
     }
