@@ -1,15 +1,14 @@
 -- The list of a literal, taken out of the lists and put back.
-use Rattle.std.proofs.Common.{◌≡◌, ◌≢◌, ℕ, ◌+◌, ◌-◌, ◌<◌, inl, inr, arith, List, [], ◌∷◌, ◌++◌, length, length-append, get_or, map, set, sym, subst, ap, ◌∙◌, vec_len, Option, Some, None}
-use Rattle.std.specs.Prelude.{slice_get}
+use Rattle.std.proofs.Common.{◌≡◌, ◌≢◌, ℕ, ◌+◌, ◌-◌, ◌<◌, ◌≤◌, zero, suc, inl, inr, arith, List, [], ◌∷◌, ◌++◌, length, length-append, get_or, map, set, sym, subst, ap, ◌∙◌, vec_len, Option, Some, None}
+use Rattle.std.specs.Prelude.{slice_get, Contains}
 use Rattle.std.specs.Global.{Vec}
-use Rattle.std.specs.List.{All}
+use Rattle.std.specs.List.{All, AllWithin}
 use Rattle.std.specs.Vec.{with_item}
-use Rattle.std.proofs.lemmas.List.{get_or-map, get_or-set_same, get_or-set_other, length-map, length-set, map-append, map-set, set-get_or, set-set}
+use Rattle.std.proofs.lemmas.List.{get_or_default, get_or-map, get_or-set_same, get_or-set_other, length-map, length-set, map-append, map-set, set-get_or, set-set}
 use Rattle.std.proofs.lemmas.List.Elements.{All-contains, All-push}
 use Rattle.bt_cnf.specs.declared.literal.Lit.{Lit}
 use Rattle.bt_sat.specs.declared.assignment.Assignment.{Assignment}
 use Rattle.bt_sat.specs.declared.kept.Watch.{Watch}
-use Rattle.bt_sat.specs.declared.search.Attended.{Attended}
 use Rattle.bt_sat.specs.declared.search.Attended.TheVariants as attended
 use Rattle.bt_sat.specs.declared.search.Search.{Search}
 use Rattle.bt_sat.specs.declared.watched.Visit.TheVariants as visit
@@ -19,7 +18,7 @@ use Rattle.bt_sat.specs.inner.AttendingIn.{AttendsIn}
 use Rattle.bt_sat.specs.inner.Codes.{code_of}
 use Rattle.bt_sat.specs.inner.Keeping.{kept_at, AreTrue, AreWatched, IsBlocked, IsWatchable}
 use Rattle.bt_sat.specs.inner.Loads.{AreEmptyLists}
-use Rattle.bt_sat.specs.inner.Propagating.{root_of, with_watches, Advances, GoesOn, Passes, Settles, Visiting}
+use Rattle.bt_sat.specs.inner.Propagating.{root_of, with_watches, Advances, ComesTo, GoesOn, Settles, Visiting}
 use Rattle.bt_sat.specs.inner.Truths.{IsTrueIn, IsFalseIn}
 use Rattle.bt_sat.specs.inner.Watchers.{lists_of, watchers, watches_of, with_list, ChangesOne, IsWithout, Resets, Unwatches, Watches}
 use Rattle.bt_sat.specs.inner.WatchersParts.{WatchersParts}
@@ -28,7 +27,7 @@ use Rattle.bt_sat.proofs.Advancing.{blocked_at, numbered_at, starts}
 use Rattle.bt_sat.proofs.Codes.{code_below, code_same}
 use Rattle.bt_sat.proofs.Keeping.{watchable_kept, watchable_left}
 use Rattle.bt_sat.proofs.Lists.{lit_or}
-use Rattle.bt_sat.proofs.Watches.{inside_numbers}
+use Rattle.bt_sat.proofs.Watches.{inside_numbers, no_watch}
 
 with_here : (w : WatchersParts) (l : Lit) (list : List Watch) → code_of l < length w.lists → watches_of (with_list w l list) l ≡ list
 with_here w l list below = get_or-set_same w.lists (code_of l) list [] below
@@ -169,13 +168,10 @@ module _ (s : Search) (gone : Lit) (list : List Watch) (place : ℕ) (watch : Wa
   passed : IsTrueIn s.assignment.values watch.blocker → Advances gone place (with_watches s gone list) (with_watches s gone list) attended.Stays
   passed true_blocker = Advancing.passed (with_watches s gone list) gone place watch watched inside_out at_out true_blocker
 
-  -- a clause whose blocking literal is true is passed
-  pub passes_on : (now : List Watch) (attended : Attended) → IsTrueIn s.assignment.values watch.blocker → Passes place watch.blocker (root_of s) list now attended
-      → Advances gone place (with_watches s gone list) (with_watches s gone now) attended
-  passes_on now attended.Stays true_blocker same = subst (λ ws. Advances gone place (with_watches s gone list) (with_watches s gone ws) attended.Stays) (sym same) (passed true_blocker)
-  passes_on now attended.Leaves true_blocker (good, without) =
-      Advancing.dropped (with_watches s gone list) gone place watch (with_list s.watchers gone now) watched inside_out at_out good (unwatches_out s.watchers gone list now place stands without)
-  passes_on now (attended.Fails id) true_blocker never = absurd never
+  -- a clause whose blocking literal is true for good leaves the list
+  pub dropped : (less : List Watch) → Contains (root_of s) watch.blocker → IsWithout place list less → Advances gone place (with_watches s gone list) (with_watches s gone less) attended.Leaves
+  dropped less good without =
+      Advancing.dropped (with_watches s gone list) gone place watch (with_list s.watchers gone less) watched inside_out at_out good (unwatches_out s.watchers gone list less place stands without)
 
   module _ (clauses : List (List Lit)) where
     -- the literal that is watched now is one of a variable, and has a list
@@ -234,6 +230,47 @@ module _ (s : Search) (gone : Lit) (list : List Watch) (place : ℕ) (watch : Wa
         → Advances gone place (with_watches s gone list)
         (with_watches (record { assignment = s.assignment; clauses = clauses; watchers = s.watchers; numbers = s.numbers; starts = s.starts }) gone list) (attended.Fails watch.id)
     failed visits = Advancing.fails (with_watches s gone list) gone place watch.id clauses id_below watchable numbers_inside numbered visits
+
+module _ (s : Search) (gone : Lit) (list : List Watch) (variable : gone.var < length s.assignment.values) where
+  module _ (watched : AreWatched (root_of s) (length s.assignment.values) s.clauses (with_list s.watchers gone list)) where
+    -- the blocking literals are of variables
+    pub blockers_below : All (λ (w : Watch). w.blocker.var < length s.assignment.values) list
+    blockers_below k d small = blocker_below s gone list k (get_or list k d) watched variable small (get_or_default list k d (get_or list k d) small)
+
+  -- the clauses are passed whose blocking literals are true
+  skips : (part : List Lit) (from count : ℕ) → Visiting part gone from (with_watches s gone list) → AllWithin (λ (w : Watch). IsTrueIn s.assignment.values w.blocker) list from (from + count)
+      → from + count ≤ length list → Visiting part gone (from + count) (with_watches s gone list)
+  skips part from zero v trues within =
+      let same : from ≡ from + 0 = omega arith in
+      subst (λ n. Visiting part gone n (with_watches s gone list)) same v
+  skips part from (suc count) v trues within =
+      let place = from + count in
+      let watch = get_or list place no_watch in
+      let inside : place < length list = omega (arith, within) in
+      let before : Visiting part gone place (with_watches s gone list) = skips part from count v (λ k d low high. trues k d low (omega (arith, high))) (omega (arith, within)) in
+      let true_blocker : IsTrueIn s.assignment.values watch.blocker = trues place no_watch (omega arith) (omega arith) in
+      let after = (passed s gone list place watch before.watched variable inside (get_or_default list place no_watch watch inside) true_blocker).2 part before in
+      let same : place + 1 ≡ from + suc count = omega arith in
+      subst (λ n. Visiting part gone n (with_watches s gone list)) same after
+
+  skipped : (part : List Lit) (from place : ℕ) → Visiting part gone from (with_watches s gone list) → from ≤ place → place ≤ length list
+      → AllWithin (λ (w : Watch). IsTrueIn s.assignment.values w.blocker) list from place → Visiting part gone place (with_watches s gone list)
+  skipped part from place v order within trues =
+      let same : from + (place - from) ≡ place = omega (arith, order) in
+      subst (λ n. Visiting part gone n (with_watches s gone list)) same
+      (skips part from (place - from) v (λ k d low high. trues k d low (omega (arith, high, same))) (omega (arith, same, within)))
+
+  module _ (seen : List Watch) (same : seen ≡ list) (part : List Lit) (from : ℕ) (v : Visiting part gone from (with_watches s gone list)) where
+    pub comes_to : (place : ℕ) → ComesTo s.assignment.values seen from place → Visiting part gone place (with_watches s gone list)
+    comes_to place at =
+        let here : ComesTo s.assignment.values list from place = subst (λ ws. ComesTo s.assignment.values ws from place) same at in
+        skipped part from place v here.order (omega (arith, here.within)) here.trues
+
+    pub comes_behind : (place : ℕ) → from ≤ place → place ≡ length list → AllWithin (λ (w : Watch). IsTrueIn s.assignment.values w.blocker) seen from (length seen)
+        → Visiting part gone place (with_watches s gone list)
+    comes_behind place order end trues =
+        skipped part from place v order (omega (arith, end))
+        (subst (AllWithin (λ (w : Watch). IsTrueIn s.assignment.values w.blocker) list from) (sym end) (subst (λ ws. AllWithin (λ (w : Watch). IsTrueIn s.assignment.values w.blocker) ws from (length ws)) same trues))
 
 -- a search is that with its own list
 pub with_taken : (s : Search) (gone : Lit) (w : WatchersParts) (other list : List Watch) → w ≡ with_list s.watchers gone other → list ≡ watches_of s.watchers gone

@@ -1,11 +1,12 @@
 //! Propagation over watched clauses.
 ghost use Rattle.std.specs.Prelude.{◌≡◌, ◌<◌, ◌≤◌, length, IfOk, OnOk, IsTrue, Some, slice_get, vec_len, Contains};
+ghost use Rattle.std.specs.List.{All};
 ghost use Rattle.bt_sat.specs.inner.Keeping.{AreWatched, AreTrue, IsWatchable, kept_at};
 ghost use Rattle.bt_sat.specs.inner.AttendingIn.{AttendsIn};
 ghost use Rattle.bt_sat.specs.inner.Truths.{IsFalseIn};
 ghost use Rattle.bt_sat.specs.inner.Watchers.{with_list};
 ghost use Rattle.bt_sat.specs.inner.Roots.{bound_of};
-ghost use Rattle.bt_sat.specs.inner.Propagating.{Advances, IsSettledTo, Keeps, Passes, Propagates, Settles, root_of, with_watches};
+ghost use Rattle.bt_sat.specs.inner.Propagating.{Advances, Finds, IsSettledTo, Keeps, Propagates, Settles, root_of, with_watches};
 
 use crate::assignment::{Assignment, assign};
 use crate::kept::{Kept, PackedId, Watch};
@@ -38,6 +39,17 @@ pub enum Attended {
     Leaves,
     /// All its literals are false.
     Fails(PackedId),
+}
+
+/// What comes next on the list of a literal that is false.
+#[derive(Clone, Copy)]
+pub enum Next {
+    /// Nothing: all blocking literals are true.
+    Nothing,
+    /// The clause at this place, whose blocking literal is true for good.
+    Done(usize),
+    /// The clause at this place, whose blocking literal isn't true.
+    Open(usize),
 }
 
 /// Visits a clause where a literal has become false.
@@ -89,32 +101,28 @@ fn is_at(trail: &[Lit], place: usize, lit: &Packed) -> bool
     }
 }
 
-/// Passes the clause at a place of a literal's list, whose blocking literal is true. Where that one is true for
-/// good, the clause leaves the list.
-fn pass(
-    search: &Search,
-    root: usize,
-    list: &mut Vec<Watch>,
-    place: usize,
-    blocker: &Packed,
-) -> Attended
+/// Finds the next clause to deal with on a list, from a place on. Most blocking literals are true, so that this walks
+/// past them without a look at anything else.
+fn find_next(search: &Search, root: usize, list: &[Watch], from: usize) -> Next
     requires bound { root ≡ bound_of search.now.starts.items }
-    requires place { place < vec_len list.old }
-    ensures { Passes place blocker.now (root_of search.now) list.old.items list.new.items result }
+    requires variables { All (λ w. w.blocker.var < length search.now.assignment.values) list.now }
+    ensures { Finds search.now.assignment.values (root_of search.now) list.now from result }
 {
-    if is_rooted(search, root, blocker) {
-        let _ = list.swap_remove(place);
-        Attended::Leaves
-    } else {
-        Attended::Stays
+    for place in from..list.len() {
+        let blocker = list[place].blocker;
+        if !blocker.is_true(&search.assignment.values) {
+            return Next::Open(place);
+        }
+        if is_rooted(search, root, &blocker) {
+            return Next::Done(place);
+        }
     }
+    Next::Nothing
 }
 
 /// Visits the clause at a place of the list of a literal that is false, which was taken out of the lists.
-/// Where its blocking literal is true, the clause isn't looked at.
 pub fn attend_at(
     search: &mut Search,
-    root: usize,
     gone: &Packed,
     list: &mut Vec<Watch>,
     place: usize,
@@ -125,15 +133,10 @@ pub fn attend_at(
     requires gone { IsFalseIn search.old.assignment.values gone.now }
     requires variable { gone.now.var < length search.old.assignment.values }
     requires place { place < vec_len list.old }
-    requires bound { root ≡ bound_of search.old.starts.items }
     ensures { IfOk result (Advances gone.now place (with_watches search.old gone.now list.old.items)
         (with_watches search.new gone.now list.new.items)) }
 {
-    let watch = list[place];
-    if watch.blocker.is_true(&search.assignment.values) {
-        return Ok(pass(search, root, list, place, &watch.blocker));
-    }
-    let id = watch.id;
+    let id = list[place].id;
     match attend_in(&mut search.clauses, id, gone, &search.assignment.values) {
         Visit::Strays => {
             let _ = list.swap_remove(place);
@@ -158,8 +161,9 @@ pub fn attend_at(
     }
 }
 
-/// Visits all clauses on the list of a literal that is false, which was taken out of the lists. Tells the
-/// clause whose literals are all false, where there is one.
+/// Visits all clauses on the list of a literal that is false, which was taken out of the lists, but for those whose
+/// blocking literal is true: where that one is true for good, the clause leaves the list. Tells the clause whose
+/// literals are all false, where there is one.
 fn settle_list(
     search: &mut Search,
     gone: &Packed,
@@ -174,12 +178,19 @@ fn settle_list(
         (with_watches search.new gone.now list.new.items)) }
 {
     let root = root_bound(&search.starts);
-    let mut place = 0;
-    while place < list.len() {
-        match attend_at(search, root, gone, list, place)? {
-            Attended::Stays => place += 1,
-            Attended::Leaves => {}
-            Attended::Fails(id) => return Ok(Some(id)),
+    let mut from = 0;
+    while from < list.len() {
+        match find_next(search, root, list, from) {
+            Next::Nothing => from = list.len(),
+            Next::Done(place) => {
+                let _ = list.swap_remove(place);
+                from = place;
+            }
+            Next::Open(place) => match attend_at(search, gone, list, place)? {
+                Attended::Stays => from = place + 1,
+                Attended::Leaves => from = place,
+                Attended::Fails(id) => return Ok(Some(id)),
+            },
         }
     }
     Ok(None)

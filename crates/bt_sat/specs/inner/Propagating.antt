@@ -1,6 +1,6 @@
 -- Propagation over watched clauses.
-use Rattle.std.specs.Prelude.{◌≡◌, ◌+◌, ◌<◌, ◌≤◌, ℕ, Option, Some, None, List, [], ◌∷◌, ◌++◌, length, map, take, slice_index_or, Contains, IsPermutation}
-use Rattle.std.specs.List.{All}
+use Rattle.std.specs.Prelude.{◌≡◌, ◌+◌, ◌<◌, ◌≤◌, ℕ, Bool, Option, Some, None, List, [], ◌∷◌, ◌++◌, length, map, take, slice_index_or, Contains, IsPermutation}
+use Rattle.std.specs.List.{All, AllWithin, HoldsAt}
 use Rattle.bt_cnf.specs.declared.literal.Lit.{Lit}
 use Rattle.bt_log.specs.Units.{opposite}
 use Rattle.bt_sat.specs.Propagation.{IsSettled}
@@ -8,10 +8,12 @@ use Rattle.bt_sat.specs.declared.kept.Watch.{Watch}
 use Rattle.bt_sat.specs.declared.search.Search.{Search}
 use Rattle.bt_sat.specs.declared.search.Attended.{Attended}
 use Rattle.bt_sat.specs.declared.search.Attended.TheVariants.{Stays, Leaves, Fails}
+use Rattle.bt_sat.specs.declared.search.Next.{Next}
+use Rattle.bt_sat.specs.declared.search.Next.TheVariants.{Nothing, Done, Open}
 use Rattle.bt_sat.specs.inner.Keeping.{kept_at, AreWatched, AreTrue, IsAtRest, IsVisiting}
 use Rattle.bt_sat.specs.inner.Reasons.{AreSame, AreNumbered, IsReasoned}
-use Rattle.bt_sat.specs.inner.Truths.{IsFalseIn, unset}
-use Rattle.bt_sat.specs.inner.Watchers.{watches_of, with_list, IsWithout}
+use Rattle.bt_sat.specs.inner.Truths.{IsFalseIn, IsTrueIn, unset}
+use Rattle.bt_sat.specs.inner.Watchers.{watches_of, with_list}
 
 -- unset literals were added to the trail, and each clause has its literals still, in some order
 pub record GoesOn (old new : Search) : Type 0 where
@@ -43,12 +45,19 @@ with_watches s l list = record { assignment = s.assignment; clauses = s.clauses;
 abbrev pub Visiting : List Lit → Lit → ℕ → Search → Type 0
 Visiting part gone place s = IsVisiting part gone place (root_of s) s.assignment.values s.assignment.trail.items s.clauses s.watchers
 
--- the clause at a place of a list, whose blocking literal is true, stays there; or it leaves the list, as that literal is
--- true for good
-abbrev pub Passes : ℕ → Lit → List Lit → List Watch → List Watch → Attended → Type 0
-Passes place blocker root old new Stays = new ≡ old
-Passes place blocker root old new Leaves = Contains root blocker × IsWithout place old new
-Passes place blocker root old new (Fails id) = ⊥
+-- the blocking literals of the clauses of a list are true from one place of it up to another, which it has
+pub record ComesTo (values : List (Option Bool)) (list : List Watch) (from place : ℕ) : Type 0 where
+  pub order : from ≤ place
+  pub within : place < length list
+  pub trues : AllWithin (λ (w : Watch). IsTrueIn values w.blocker) list from place
+
+-- what comes next on a list, from a place on: nothing, as all blocking literals are true; or a clause whose blocking
+-- literal is true for good; or one that is to be visited
+abbrev pub Finds : List (Option Bool) → List Lit → List Watch → ℕ → Next → Type 0
+Finds values root list from Nothing = AllWithin (λ (w : Watch). IsTrueIn values w.blocker) list from (length list)
+Finds values root list from (Done place) = ComesTo values list from place
+    × HoldsAt (λ (w : Watch). IsTrueIn values w.blocker × Contains root w.blocker) list place
+Finds values root list from (Open place) = ComesTo values list from place
 
 -- all literals of the clause with this number are false
 abbrev pub FailsAt : Search → ℕ → Type 0

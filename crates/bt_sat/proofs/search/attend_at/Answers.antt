@@ -1,18 +1,10 @@
-use Rattle.std.proofs.Common.{◌<◌, arith, length, ap, refl, subst, sym, ◌∙◌}
+use Rattle.std.proofs.Common.{◌<◌, arith, length, ap, subst, sym, ◌∙◌}
 use Rattle.std.specs.Prelude.{slice_get}
 use Rattle.bt_cnf.specs.declared.literal.Lit.{Lit}
 use Rattle.bt_sat.specs.inner.Assigning.{Assigns}
 use Rattle.bt_sat.proofs.Lent
 use Rattle.bt_sat.proofs.Lent.{without_of}
 use Rattle.bt_sat.proofs.search.attend_at.Goals as goal
-
-pub is_true-requires : goal.is_true-requires
-is_true-requires c = Lent.blocker_below c.args.search.now c.args.gone.now c.args.list.now.items c.args.place c.index.result.now c.requires.watched c.requires.variable (omega (arith, c.requires.place, c.args.list.now.ok.0)) c.index.ensures
-
-pub returns-then-is_true : goal.returns-then-is_true
-returns-then-is_true c =
-    Lent.passes_on c.args.search.now c.args.gone.now c.args.list.now.items c.args.place c.index.result.now c.requires.watched c.requires.variable (omega (arith, c.requires.place, c.args.list.now.ok.0)) c.index.ensures
-    c.pass.new.list.items c.pass.result (c.if-is_true.ensures.0 refl) c.pass.ensures
 
 pub attend_in-requires-clause-id : goal.attend_in-requires-clause-id
 attend_in-requires-clause-id c = Lent.id_below c.args.search.now c.args.gone.now c.args.list.now.items c.args.place c.index.result.now c.requires.watched c.requires.variable (omega (arith, c.requires.place, c.args.list.now.ok.0)) c.index.ensures

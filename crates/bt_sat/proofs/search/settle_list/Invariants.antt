@@ -3,11 +3,11 @@ use Rattle.bt_cnf.specs.declared.literal.Lit.{Lit}
 use Rattle.bt_sat.specs.inner.Propagating.{with_watches, GoesOn, Visiting}
 use Rattle.bt_sat.proofs.search.settle_list.Given as goal
 
-abbrev pub invariant-loop-place : goal.invariant-loop-place
-invariant-loop-place l = record {
+abbrev pub invariant-loop-from : goal.invariant-loop-from
+invariant-loop-from l = record {
   goes : GoesOn (with_watches l.fn.search l.gone l.fn.list.items) (with_watches l.search l.gone l.list.items);
-  visiting : (part : List Lit) → Visiting part l.gone 0 (with_watches l.fn.search l.gone l.fn.list.items) → Visiting part l.gone l.place (with_watches l.search l.gone l.list.items);
+  visiting : (part : List Lit) → Visiting part l.gone 0 (with_watches l.fn.search l.gone l.fn.list.items) → Visiting part l.gone l.from (with_watches l.search l.gone l.list.items);
 }
 
-abbrev pub decreases-loop-place : goal.decreases-loop-place
-decreases-loop-place l = vec_len l.list - l.place
+abbrev pub decreases-loop-from : goal.decreases-loop-from
+decreases-loop-from l = vec_len l.list - l.from
