@@ -13,7 +13,6 @@ pub mod Cutting
 pub mod Deriving
 pub mod Ended
 pub mod Ending
-pub mod Heaps
 pub mod Hunted
 pub mod Inferring
 pub mod Keeping

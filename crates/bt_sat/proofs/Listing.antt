@@ -35,7 +35,7 @@ either P false xs ys on off = off refl
 
 module _ (p : ℕ → Bool) where
   -- what passes is kept
-  passes_kept : (xs : List ℕ) (v : ℕ) → p v ≡ true → Contains xs v → Contains (filter p xs) v
+  pub passes_kept : (xs : List ℕ) (v : ℕ) → p v ≡ true → Contains xs v → Contains (filter p xs) v
   passes_kept [] v passes among = among
   passes_kept (x ∷ xs) v passes among =
       elim (first_or x v xs among) [

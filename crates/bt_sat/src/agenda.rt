@@ -1,31 +1,29 @@
 //! Places of the trail that are to be dealt with, the greatest first.
-ghost use Rattle.std.specs.Prelude.{◌≡◌, [], true, false, slice_index_or, slice_set, IfOk, OnOk, IsTrue, Contains, ◌↔◌};
-ghost use Rattle.std.specs.BinaryHeap.{heap_items, IsHeap};
-ghost use Rattle.std.specs.Ordering.{nat_cmp};
-ghost use Rattle.bt_sat.specs.inner.Agendas.{Adds, AreMarked, IsGreatest, NoneMarked, Reaches, Takes};
+ghost use Rattle.std.specs.Prelude.{◌≡◌, ◌≤◌, ◌<◌, [], false, length, slice_index_or, IfOk, OnOk, IsTrue, Contains, ◌↔◌};
+ghost use Rattle.bt_sat.specs.inner.Agendas.{places_of, Adds, AreBefore, IsGreatest, NoneMarked, Reaches, Takes};
 
 use std::alloc::{AllocError, Global};
-use std::collections::BinaryHeap;
 use std::marker::Model;
 
-/// Places of the trail.
+/// Places of the trail. Each has a mark of its own: a conflict takes them from the last one down, so that the
+/// walks to the next one pass each mark about once.
 #[derive(Drop)]
 pub struct Agenda {
-    heap: BinaryHeap<usize>,
-    /// For each place, whether it is known to be on the heap, so that it isn't put there again.
+    /// For each place, whether it is on the agenda.
     marks: Vec<bool>,
+    /// All places on the agenda are before this one.
+    end: usize,
 }
 
 impl Model for Agenda {
     ghost use Rattle.std.specs.Prelude.{ℕ, List};
-    ghost use Rattle.std.specs.BinaryHeap.{heap_items};
-    ghost use Rattle.bt_sat.specs.inner.Agendas.{AreMarked};
+    ghost use Rattle.bt_sat.specs.inner.Agendas.{places_of, AreBefore};
 
     ghost Value = { List ℕ };
 
-    ghost view = { λ a. heap_items a.heap };
+    ghost view = { λ a. places_of a.marks.items };
 
-    ghost invariant = { λ a. AreMarked (heap_items a.heap) a.marks.items };
+    ghost invariant = { λ a. AreBefore a.marks.items a.end };
 }
 
 impl Agenda {
@@ -34,8 +32,8 @@ impl Agenda {
         ensures { IfOk result (λ a. a ≡ []) }
     {
         Ok(Agenda {
-            heap: BinaryHeap::new(alloc),
             marks: vec![in alloc; false; size]?,
+            end: 0,
         })
     }
 
@@ -44,17 +42,17 @@ impl Agenda {
         ensures { self.new ≡ [] }
     {
         unmark_all(&mut self.marks);
-        self.heap.clear();
+        self.end = 0;
     }
 
     /// Puts a place on the agenda.
     pub fn add(&mut self, place: usize) -> Result<(), AllocError>
         ensures { OnOk result (Adds self.old place self.new) }
     {
-        add_new(&mut self.heap, &mut self.marks, place)
+        mark(&mut self.marks, &mut self.end, place)
     }
 
-    /// Whether a place is known to be on the agenda.
+    /// Whether a place is on the agenda.
     pub fn has(&self, place: usize) -> bool
         ensures { IsTrue result → Contains self.now place }
     {
@@ -65,7 +63,7 @@ impl Agenda {
     pub fn greatest(&self) -> Option<usize>
         ensures { IsGreatest self.now result }
     {
-        top(&self.heap)
+        last_marked(&self.marks, self.end)
     }
 
     /// Whether a place is on the agenda that isn't before this one.
@@ -82,34 +80,37 @@ impl Agenda {
     pub fn take_greatest(&mut self) -> Option<usize>
         ensures { Takes self.old result self.new }
     {
-        take_marked(&mut self.heap, &mut self.marks)
+        take_last(&mut self.marks, &mut self.end)
     }
 }
 
-/// Puts a number on a heap, where it isn't marked as one that is there.
-fn add_new(heap: &mut BinaryHeap<usize>, marks: &mut [bool], place: usize) -> Result<(), AllocError>
-    requires { AreMarked (heap_items heap.old) marks.old }
-    ensures adds { OnOk result (Adds (heap_items heap.old) place (heap_items heap.new)) }
-    ensures marked { AreMarked (heap_items heap.new) marks.new }
+/// Marks a place, which the end moves behind.
+fn mark(marks: &mut Vec<bool>, end: &mut usize, place: usize) -> Result<(), AllocError>
+    requires { AreBefore marks.old.items end.old }
+    ensures adds { OnOk result (Adds (places_of marks.old.items) place (places_of marks.new.items)) }
+    ensures before { AreBefore marks.new.items end.new }
 {
-    if is_marked(marks, place) {
-        return Ok(());
+    while marks.len() <= place {
+        marks.push(false)?;
     }
-    heap.push(place)?;
-    set_mark(marks, place, true);
+    marks[place] = true;
+    if *end <= place {
+        *end = place + 1;
+    }
     Ok(())
 }
 
-/// Takes the greatest number off a heap, which is marked no longer.
-fn take_marked(heap: &mut BinaryHeap<usize>, marks: &mut [bool]) -> Option<usize>
-    requires { AreMarked (heap_items heap.old) marks.old }
-    ensures takes { Takes (heap_items heap.old) result (heap_items heap.new) }
-    ensures marked { AreMarked (heap_items heap.new) marks.new }
+/// Takes the mark of the last place that has one away, which the end moves to.
+fn take_last(marks: &mut [bool], end: &mut usize) -> Option<usize>
+    requires { AreBefore marks.old end.old }
+    ensures takes { Takes (places_of marks.old) result (places_of marks.new) }
+    ensures before { AreBefore marks.new end.new }
 {
-    match take_all(heap) {
-        Some(greatest) => {
-            set_mark(marks, greatest, false);
-            Some(greatest)
+    match last_marked(marks, *end) {
+        Some(place) => {
+            marks[place] = false;
+            *end = place;
+            Some(place)
         }
         None => None,
     }
@@ -122,42 +123,25 @@ fn is_marked(marks: &[bool], place: usize) -> bool
     place < marks.len() && marks[place]
 }
 
-/// Marks a place, or takes its mark away.
-fn set_mark(marks: &mut [bool], place: usize, mark: bool)
-    ensures { marks.new ≡ slice_set marks.old place mark }
-{
-    if place < marks.len() {
-        marks[place] = mark;
-    }
-}
-
 /// Takes all marks away.
 fn unmark_all(marks: &mut [bool])
-    ensures { NoneMarked marks.new }
+    ensures none { NoneMarked marks.new }
+    ensures size { length marks.new ≡ length marks.old }
 {
     marks.fill(false);
 }
 
-/// Takes the greatest number off a heap, however often it is there.
-fn take_all(heap: &mut BinaryHeap<usize>) -> Option<usize>
-    requires { IsHeap nat_cmp (heap_items heap.old) }
-    ensures takes { Takes (heap_items heap.old) result (heap_items heap.new) }
-    ensures heap { IsHeap nat_cmp (heap_items heap.new) }
+/// The last place that is marked.
+fn last_marked(marks: &[bool], end: usize) -> Option<usize>
+    requires { AreBefore marks.now end }
+    ensures { IsGreatest (places_of marks.now) result }
 {
-    let greatest = match heap.pop() {
-        Some(greatest) => greatest,
-        None => return None,
-    };
-    while top(heap) == Some(greatest) {
-        let _ = heap.pop();
+    let mut place = end;
+    while place > 0 {
+        place -= 1;
+        if marks[place] {
+            return Some(place);
+        }
     }
-    Some(greatest)
-}
-
-/// The greatest number of a heap.
-fn top(heap: &BinaryHeap<usize>) -> Option<usize>
-    requires { IsHeap nat_cmp (heap_items heap.now) }
-    ensures { IsGreatest (heap_items heap.now) result }
-{
-    heap.peek().copied()
+    None
 }

@@ -80,12 +80,13 @@ fn root_bound(starts: &[usize]) -> usize
     }
 }
 
-/// Whether a literal is known to have been true before the first choice, or while nothing was chosen.
-fn is_rooted(search: &Search, root: usize, lit: &Packed) -> bool
+/// Whether a literal, whose variable's place is among these, is known to have been true before the first
+/// choice, or while nothing was chosen.
+fn is_rooted(search: &Search, places: &[usize], root: usize, lit: &Packed) -> bool
     requires { root ≡ bound_of search.now.starts.items }
     ensures { IsTrue result → Contains (root_of search.now) lit.now }
 {
-    match search.assignment.places.get(lit.place()) {
+    match places.get(lit.place()) {
         Some(place) => *place < root && is_at(&search.assignment.trail, *place, lit),
         None => false,
     }
@@ -101,21 +102,24 @@ fn is_at(trail: &[Lit], place: usize, lit: &Packed) -> bool
     }
 }
 
-/// Finds the next clause to deal with on a list, from a place on. Most blocking literals are true, so that this walks
-/// past them without a look at anything else.
+/// Finds the next clause to deal with on a list, from a place on. Most blocking literals are true, and the walk
+/// past those reads nothing else but where they stand.
 fn find_next(search: &Search, root: usize, list: &[Watch], from: usize) -> Next
     requires bound { root ≡ bound_of search.now.starts.items }
     requires variables { All (λ w. w.blocker.var < length search.now.assignment.values) list.now }
     ensures { Finds search.now.assignment.values (root_of search.now) list.now from result }
 {
-    for place in from..list.len() {
+    let places: &[usize] = &search.assignment.places;
+    let mut place = from;
+    while place < list.len() {
         let blocker = list[place].blocker;
         if !blocker.is_true(&search.assignment.values) {
             return Next::Open(place);
         }
-        if is_rooted(search, root, &blocker) {
+        if is_rooted(search, places, root, &blocker) {
             return Next::Done(place);
         }
+        place += 1;
     }
     Next::Nothing
 }
@@ -161,9 +165,9 @@ pub fn attend_at(
     }
 }
 
-/// Visits all clauses on the list of a literal that is false, which was taken out of the lists, but for those whose
-/// blocking literal is true: where that one is true for good, the clause leaves the list. Tells the clause whose
-/// literals are all false, where there is one.
+/// Visits all clauses on the list of a literal that is false, which was taken out of the lists, but for those
+/// whose blocking literal is true: where that one is true for good, the clause leaves the list. Tells the
+/// clause whose literals are all false, where there is one.
 fn settle_list(
     search: &mut Search,
     gone: &Packed,

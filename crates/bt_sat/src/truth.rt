@@ -9,8 +9,8 @@ use bt_arena::Arena;
 use bt_cnf::{Lit, Variable};
 use std::marker::Model;
 
-/// Whether a variable is set, and to what. True is 0 and false is 1, as the last bit of a packed literal's number
-/// tells them, so that no step lies between that bit and the setting that makes the literal true.
+/// Whether a variable is set, and to what. True is 0 and false is 1: so the last bit of a packed literal's
+/// number is the setting that makes the literal true.
 #[derive(Clone, Copy, PartialEq, Eq)]
 enum Setting {
     True,

@@ -1,12 +1,15 @@
 -- Places that are to be dealt with.
-use Rattle.std.specs.Prelude.{◌≡◌, ◌≢◌, ◌⊎◌, ◌↔◌, ◌≤◌, ℕ, Bool, true, false, List, Option, Some, None, Contains, slice_index_or}
-use Rattle.std.specs.BinaryHeap.{IsHeap}
-use Rattle.std.specs.Ordering.{nat_cmp}
+use Rattle.std.specs.Prelude.{◌≡◌, ◌≢◌, ◌⊎◌, ◌↔◌, ◌≤◌, ◌<◌, ℕ, Bool, true, false, List, Option, Some, None, Contains, length, slice_index_or}
+use Rattle.std.specs.List.{filter, range_with_len}
 
--- the numbers make a heap, and those that are marked are among them
-pub record AreMarked (places : List ℕ) (marks : List Bool) : Type 0 where
-  pub heap : IsHeap nat_cmp places
-  pub among : (k : ℕ) → slice_index_or marks k false ≡ true → Contains places k
+-- the places that are marked, in ascending order
+abbrev pub places_of : List Bool → List ℕ
+places_of marks = filter (λ place. slice_index_or marks place false) (range_with_len 0 (length marks))
+
+-- all places that are marked are before this one
+pub record AreBefore (marks : List Bool) (end : ℕ) : Type 0 where
+  pub within : end ≤ length marks
+  pub before : (k : ℕ) → slice_index_or marks k false ≡ true → k < end
 
 -- none is marked
 abbrev pub NoneMarked : List Bool → Type 0
@@ -21,7 +24,7 @@ abbrev pub IsGreatest : List ℕ → Option ℕ → Type 0
 IsGreatest places (Some place) = Contains places place × ((k : ℕ) → Contains places k → k ≤ place)
 IsGreatest places None = (k : ℕ) → Contains places k → ⊥
 
--- the greatest place has gone, however often it was there
+-- the greatest place has gone
 abbrev pub Takes : List ℕ → Option ℕ → List ℕ → Type 0
 Takes old (Some place) new = IsGreatest old (Some place) × ((k : ℕ) → Contains new k ↔ (Contains old k × (k ≢ place)))
 Takes old None new = IsGreatest old None

@@ -11,7 +11,7 @@ returns-then-is_rooted c =
     let list = c.args.list.now in
     let place = c.loop-place.place in
     let within : place < length list = omega arith in (
-      record { order = omega arith; within = within; trues = c.loop-place.invariant },
+      record { order = c.loop-place.invariant.order; within = within; trues = c.loop-place.invariant.trues },
       (λ d. subst (λ (w : Watch). IsTrueIn c.args.search.now.assignment.values w.blocker × Contains (root_of c.args.search.now) w.blocker)
           (get_or_default list place c.index-list-place.result d within) (c.if-not-is_true.ensures.0 refl, c.is_rooted.ensures c.if-is_rooted.true)),
     )
