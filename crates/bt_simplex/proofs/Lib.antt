@@ -1,5 +1,7 @@
 pub mod BasisLists
 pub mod BoundRests
+pub mod Carrying
+pub mod Changing
 pub mod Checking
 pub mod Classes
 pub mod Entering

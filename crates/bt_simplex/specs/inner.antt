@@ -1,5 +1,7 @@
 -- What the contracts of private functions cite.
 pub mod Bases
+pub mod Carrying
+pub mod Changes
 pub mod Checking
 pub mod Forms
 pub mod Kept

@@ -1,12 +1,15 @@
 //! The sums of classes' lines that are kept from turn to turn: a turn changes some of the lines only.
-ghost use Rattle.std.specs.Prelude.{◌≡◌, IfOk, IfSome, IsTrue, None, Some, replicate, slice_index_or};
+ghost use Rattle.std.specs.Prelude.{◌≡◌, ◌<◌, ◌^◌, IfOk, IfSome, IsTrue, None, Some, false, replicate, slice_index_or};
 ghost use Rattle.bt_simplex.specs.SolvedForms.{Slots, slot_at};
-ghost use Rattle.bt_simplex.specs.inner.Kept.{AreKept, IsFormed, Forgets, Keeps, IsOwn, OwnsAt, AreOwn};
-ghost use Rattle.bt_simplex.specs.inner.ShortPoints.{AreClassSums};
+ghost use Rattle.bt_simplex.specs.Points.{resting, standing};
+ghost use Rattle.bt_simplex.specs.inner.Bases.{IsSamePoint};
+ghost use Rattle.bt_simplex.specs.inner.Carrying.{IsCarriedOf};
+ghost use Rattle.bt_simplex.specs.inner.Kept.{AreKept, IsFormed, Carries, Forgets, Keeps, IsOwn, OwnsAt, AreOwn};
+ghost use Rattle.bt_simplex.specs.inner.ShortPoints.{AreClassSums, delta_of};
 
 use crate::basis::Member;
 use crate::line::Line;
-use crate::short::ClassSums;
+use crate::short::{ClassSums, Scales, Sums, carried};
 use crate::tableau::Tableau;
 use std::alloc::{AllocError, Global};
 
@@ -78,6 +81,16 @@ impl Kept {
         }
     }
 
+    /// Keeps the sums of a class to whose line a number times another is added, by those before, those of the other line
+    /// and the scales of both, where all of these are at hand.
+    pub fn carry(&mut self, class: usize, others: Option<Sums>, scales: &Scales)
+        ensures { Carries class others scales.now self.old.sums.items self.new.sums.items }
+    {
+        if class < self.sums.len() {
+            self.sums[class] = carried_of(self.sums[class], others, scales);
+        }
+    }
+
     /// Drops the sums that are kept for a first position of another class.
     pub fn own(&mut self, members: &[Member])
         ensures { AreOwn members.now self.old.sums.items self.new.sums.items }
@@ -98,14 +111,42 @@ impl Kept {
     }
 }
 
+/// The sums of a class, where they are kept, with those of another line by their scales.
+fn carried_of(sums: Option<ClassSums>, others: Option<Sums>, scales: &Scales) -> Option<ClassSums>
+    ensures { IfSome result (IsCarriedOf sums others scales.now) }
+{
+    let before = sums?;
+    let other = others?;
+    let first = before.first;
+    let sums = carried(before.sums, other, scales)?;
+    Some(ClassSums { first, sums })
+}
+
+/// The sums of a line, where whole numbers tell them.
+pub fn sums_of(tableau: &Tableau, line: &Line) -> Option<Sums>
+    ensures fits { IfSome result (λ s. s.under < 2 ^ 31) }
+    ensures same { IfSome result
+        (λ s. IsSamePoint (delta_of s) (standing (resting tableau.now) 0 (Some line.now))) }
+{
+    let short = line.short()?;
+    short.sums(tableau)
+}
+
 /// Whether the sums, where there are some, are kept for a first position of their class.
 fn is_own(members: &[Member], class: usize, sums: Option<ClassSums>) -> bool
     ensures { IsTrue result → IfSome sums (IsOwn members.now class) }
 {
     match sums {
-        Some(sums) => sums.first < members.len() && members[sums.first].class == class,
+        Some(sums) => sums.first < members.len() && is_first(members[sums.first], class),
         None => true,
     }
+}
+
+/// Whether a member is one of this class with the sign of its first position.
+fn is_first(member: Member, class: usize) -> bool
+    ensures { IsTrue result → member ≡ record { class = class; negated = false } }
+{
+    member.class == class && !member.negated
 }
 
 /// The sums of the line of a class, by its first position: those that are kept, or else they are formed and
@@ -135,7 +176,6 @@ pub fn class_sums(
 fn formed(tableau: &Tableau, first: usize, line: &Line) -> Option<ClassSums>
     ensures { IfSome result (IsFormed tableau.now first line.now) }
 {
-    let short = line.short()?;
-    let sums = short.sums(tableau)?;
+    let sums = sums_of(tableau, line)?;
     Some(ClassSums { first, sums })
 }

@@ -3,13 +3,14 @@ ghost use Rattle.std.specs.Prelude.{◌≡◌, ◌≢◌, ◌∷◌, [], ◌<◌
 ghost use Rattle.bt_frac.specs.Ratio.{Ratio, IsLowest};
 ghost use Rattle.bt_lin.specs.WeightedRows.{coefficient_at};
 ghost use Rattle.bt_simplex.specs.Classes.{signed_terms};
-ghost use Rattle.bt_simplex.specs.Lines.{one, IsLine, HasNumber, IsCombination};
+ghost use Rattle.bt_simplex.specs.Lines.{one, Terms, IsLine, HasNumber, IsCombination};
+ghost use Rattle.bt_simplex.specs.inner.Changes.{IsChange};
 ghost use Rattle.bt_simplex.specs.inner.TurnedSlots.{IsZeroLine, IsSubstituted, IsUnfitChange, IsEntering};
 ghost use Rattle.bt_simplex.specs.inner.Unfits.{IsUnfit};
 
 use crate::causes::Unfit;
 use crate::merging::merged;
-use crate::short::{Entry, Short, entering_line, lone_short, shortened, substituted, zero_line};
+use crate::short::{Change, Entry, Short, entering_line, lone_short, shortened, zero_line};
 use bt_frac::Frac;
 use std::alloc::{AllocError, Global};
 use std::marker::Model;
@@ -168,30 +169,41 @@ impl Line {
         }
     }
 
-    /// The line, which names a position, with what the position stands for, by a line that is 0, in place of it,
-    /// in the room of a list whose terms are dropped; or a product or a sum that doesn't fit.
-    pub fn substituted(
-        &self,
+    /// Puts what a position stands for, by a line that is 0, in place of it, where the line names it and both
+    /// are held as small whole numbers. A room is taken for the new terms, and that of the old ones is left.
+    pub fn substitute(
+        &mut self,
         alloc: Global,
-        room: Room,
+        room: &mut Room,
         enters: usize,
         zero: &Line,
-    ) -> Result<Result<Line, Unfit>, AllocError>
-        requires { coefficient_at enters self.now ≢ None }
-        ensures sum { IfOk result (λ o. IfOk o
-            (λ line. IsSubstituted enters zero.now (Some self.now) (Some line))) }
-        ensures unfit { IfOk result (λ o. IfErr o (IsUnfitChange enters zero.now self.now)) }
+    ) -> Result<Change, AllocError>
+        ensures { IfOk result (IsChange enters zero.now (Some self.old) (Some self.new)) }
     {
-        if let (Some(line), Some(other)) = (self.short(), zero.short()) {
-            if let Some(sum) = substituted(room, line, enters, other)? {
-                return Ok(Ok(Line::whole(sum)));
+        if let Some(other) = zero.short() {
+            if let Form::Whole(line) = &mut self.form {
+                let change = line.substitute(alloc, room, enters, other);
+                line.known();
+                return change;
             }
         }
-        self.substituted_long(alloc, enters, zero)
+        Ok(self.unchanged(enters))
     }
 
-    /// The same by fractions.
-    fn substituted_long(
+    /// Nothing is done where a position enters, or not yet.
+    fn unchanged(&self, enters: usize) -> Change
+        ensures { (zero : Terms) → IsChange enters zero (Some self.now) (Some self.now) result }
+    {
+        if self.names(enters) {
+            Change::Long
+        } else {
+            Change::Lacks
+        }
+    }
+
+    /// The line, which names a position, with what the position stands for, by a line that is 0, in place of it,
+    /// by fractions; or a product or a sum that doesn't fit.
+    pub fn substituted_long(
         &self,
         alloc: Global,
         enters: usize,

@@ -58,8 +58,7 @@ fn make_turn(
     ensures kept { IfOk result
         (λ o. IfOk o (λ _. AreKept tableau.now basis.new kept.new.sums.items)) }
 {
-    let _ = tableau;
-    turn(alloc, rooms, basis, kept, made.leaves, made.enters)
+    turn(tableau, alloc, rooms, basis, kept, made.leaves, made.enters)
 }
 
 /// Makes Bland's turns from a basis on, at most so many, in the memory of earlier runs.

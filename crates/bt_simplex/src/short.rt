@@ -18,8 +18,8 @@ use crate::line::Term;
 use bt_frac::Frac;
 pub use copying::lone_short;
 pub use entry::Entry;
-pub use merging::substituted;
-pub use points::{ClassSums, breaks_at, breaks_by};
+pub use merging::{Change, Scales};
+pub use points::{ClassSums, Sums, breaks_at, breaks_by, carried};
 use std::alloc::{AllocError, Global};
 use std::marker::Model;
 pub use zero::{entering_line, zero_line};
@@ -280,7 +280,8 @@ fn small_number(number: i64) -> Option<i64>
 fn is_small(number: i64) -> bool
     ensures { IsTrue result ↔ IsSmall number }
 {
-    number.unsigned_abs() < SMALL_LIMIT
+    let limit = SMALL_LIMIT as i64;
+    -limit < number && number < limit
 }
 
 /// A common multiple of the denominators, where it's small.

@@ -321,7 +321,7 @@ impl Tableau {
         ensures wide { IfOk result (λ done. done ≡ false → self.new ≡ self.old) }
         ensures memory { OnErr result (self.new ≡ self.old) }
     {
-        let Some(basis) = turned_copy(alloc, &self.basis, turn.leaves, turn.enters)? else {
+        let Some(basis) = turned_copy(self, alloc, &self.basis, turn.leaves, turn.enters)? else {
             return Ok(false);
         };
         self.basis = basis;

@@ -5,7 +5,9 @@ ghost use Rattle.bt_lin.specs.WeightedRows.{coefficient_at};
 ghost use Rattle.bt_simplex.specs.Lines.{one, Terms, IsLine, HasNumber};
 ghost use Rattle.bt_simplex.specs.Classes.{position_at};
 ghost use Rattle.bt_simplex.specs.SolvedForms.{Slots, slot_at};
-ghost use Rattle.bt_simplex.specs.inner.TurnedSlots.{IsZeroLine, AreLines, IsSubstituted, AreSubstituted, with_line, IsEntering, IsTurned};
+ghost use Rattle.bt_simplex.specs.inner.Changes.{IsChange};
+ghost use Rattle.bt_simplex.specs.Tableaus.{TableauParts};
+ghost use Rattle.bt_simplex.specs.inner.TurnedSlots.{IsZeroLine, AreLines, IsSubstituted, IsUnfitChange, AreSubstituted, with_line, IsEntering, IsTurned};
 ghost use Rattle.bt_simplex.specs.inner.Kept.{LinesStay, OthersStay, SlotsStay};
 ghost use Rattle.bt_simplex.specs.inner.Shares.{IsNegatedShare, AreNegatedShares};
 ghost use Rattle.bt_simplex.specs.inner.UnfitTurns.{IsUnfitShare, IsUnfitTerm, IsUnfitZero, IsUnfitSlot, CanPart, IsSlotZero, IsUnfitPart, IsUnfitLine, IsUnfitTurn, entry_cause};
@@ -13,8 +15,10 @@ ghost use Rattle.bt_simplex.specs.inner.UnfitTurns.{IsUnfitShare, IsUnfitTerm, I
 use crate::answers::{Operation, WidePlace};
 use crate::basis::{Basis, Member};
 use crate::causes::{Cause, Unfit};
-use crate::kept::Kept;
-use crate::line::{Line, Term, combined};
+use crate::kept::{Kept, sums_of};
+use crate::line::{Line, Room, Term, combined};
+use crate::short::Change;
+use crate::tableau::Tableau;
 use crate::workspace::{Rooms, Workspace};
 use bt_frac::Frac;
 use std::alloc::{AllocError, Global};
@@ -78,20 +82,43 @@ fn zero_line(
     }
 }
 
-/// The line of a slot, where it names the position.
-fn naming(slot: &Option<Line>, position: usize) -> Option<&Line>
-    ensures line { IfSome result (λ line. slot.now ≡ Some line.now) }
-    ensures named { IfSome result (λ line. coefficient_at position line.now ≢ None) }
-    ensures lacks { IfNone result ((zero : Terms) → IsSubstituted position zero slot.now slot.now) }
+/// Puts what the entering position stands for in place of it in the line of a slot, by small whole numbers. A
+/// room is taken for the new terms, and that of the old ones is left.
+fn change(
+    alloc: Global,
+    room: &mut Room,
+    slot: &mut Option<Line>,
+    enters: usize,
+    zero: &Line,
+) -> Result<Change, AllocError>
+    ensures { IfOk result (IsChange enters zero.now slot.old slot.new) }
 {
     match slot {
-        Some(line) => {
-            if line.names(position) {
-                return Some(line);
-            }
-            None
+        Some(line) => line.substitute(alloc, room, enters, zero),
+        None => Ok(Change::Lacks),
+    }
+}
+
+/// The same by fractions, where the slot's line names the position; or a product or a sum that doesn't fit.
+fn change_long(
+    alloc: Global,
+    slot: &mut Option<Line>,
+    enters: usize,
+    zero: &Line,
+) -> Result<Result<(), Unfit>, AllocError>
+    requires { (terms : Terms) × (slot.old ≡ Some terms) × (coefficient_at enters terms ≢ None) }
+    ensures done { IfOk result (λ o. IfOk o (λ _. IsSubstituted enters zero.now slot.old slot.new)) }
+    ensures stays { IfOk result (λ o. IfErr o (λ _. slot.new ≡ slot.old)) }
+    ensures unfit { IfOk result (λ o. IfErr o
+        (λ u. (terms : Terms) × (slot.old ≡ Some terms) × IsUnfitChange enters zero.now terms u)) }
+{
+    let Some(line) = slot else { unreachable!() };
+    match line.substituted_long(alloc, enters, zero)? {
+        Ok(sum) => {
+            *slot = Some(sum);
+            Ok(Ok(()))
         }
-        None => None,
+        Err(unfit) => Ok(Err(unfit)),
     }
 }
 
@@ -117,6 +144,7 @@ fn entry_cause(row: usize, unfit: Unfit) -> Cause
 /// Puts what the entering position stands for in place of it, in each line, and forgets the sums of those
 /// that change; or tells a product or a sum that doesn't fit.
 fn substitute(
+    tableau: &Tableau,
     alloc: Global,
     rooms: &mut Rooms,
     slots: &mut [Option<Line>],
@@ -127,22 +155,22 @@ fn substitute(
     ensures done { IfOk result (λ o. IfOk o (λ _. AreSubstituted enters zero.now slots.old slots.new)) }
     ensures unfit { IfOk result (λ o. IfErr o (IsUnfitSlot enters zero.now slots.old slots.new)) }
     ensures kept { IfOk result (λ o. IfOk o
-        (λ _. LinesStay slots.old slots.new kept.old.sums.items kept.new.sums.items)) }
+        (λ _. LinesStay tableau.now slots.old slots.new kept.old.sums.items kept.new.sums.items)) }
 {
+    tableau.all_known();
+    let others = sums_of(tableau, zero);
+    let mut room = rooms.taken(alloc);
     for i in 0..slots.len() {
-        let Some(line) = naming(&slots[i], enters) else {
-            continue;
-        };
-        let room = rooms.taken(alloc);
-        match line.substituted(alloc, room, enters, zero)? {
-            Ok(line) => {
-                let old = std::mem::replace(&mut slots[i], Some(line));
-                kept.forget(i);
-                rooms.give(old);
-            }
-            Err(unfit) => return Ok(Err(entry_cause(i, unfit))),
+        match change(alloc, &mut room, &mut slots[i], enters, zero)? {
+            Change::Lacks => {}
+            Change::Made(scales) => kept.carry(i, others, &scales),
+            Change::Long => match change_long(alloc, &mut slots[i], enters, zero)? {
+                Ok(()) => kept.forget(i),
+                Err(unfit) => return Ok(Err(entry_cause(i, unfit))),
+            },
         }
     }
+    rooms.keep(room);
     Ok(Ok(()))
 }
 
@@ -234,6 +262,7 @@ fn long_zero(
 /// with no sums kept of those that change; or tells a product or a sum that doesn't fit, and the same classes
 /// then have lines as before.
 fn substitute_others(
+    tableau: &Tableau,
     alloc: Global,
     rooms: &mut Rooms,
     lines: &mut [Option<Line>],
@@ -247,11 +276,11 @@ fn substitute_others(
         (λ o. IfOk o (λ _. AreSubstituted enters zero.now (slice_set lines.old left None) lines.new)) }
     ensures unfit { IfOk result (λ o. IfErr o (IsUnfitLine left enters zero.now lines.old lines.new)) }
     ensures kept { IfOk result (λ o. IfOk o
-        (λ _. OthersStay left lines.old lines.new kept.old.sums.items kept.new.sums.items)) }
+        (λ _. OthersStay tableau.now left lines.old lines.new kept.old.sums.items kept.new.sums.items)) }
 {
     let leaving = lines[left].take();
     kept.forget(left);
-    match substitute(alloc, rooms, lines, kept, enters, zero)? {
+    match substitute(tableau, alloc, rooms, lines, kept, enters, zero)? {
         Ok(()) => {
             rooms.give(leaving);
             Ok(Ok(()))
@@ -274,7 +303,7 @@ fn put_line(
 )
     requires { class < length lines.old }
     ensures lines { lines.new ≡ with_line left class line lines.old }
-    ensures kept { LinesStay lines.old lines.new kept.old.sums.items kept.new.sums.items }
+    ensures kept { (t : TableauParts) → LinesStay t lines.old lines.new kept.old.sums.items kept.new.sums.items }
 {
     if class == left {
         rooms.give(Some(line));
@@ -302,6 +331,7 @@ fn at_first(firsts: &[usize], cause: Cause) -> Cause
 /// A turn of the basis: one position leaves it, and one that its line names enters. Or the operation
 /// whose result doesn't fit; the same positions are then in the basis, but not with its lines.
 pub fn turn(
+    tableau: &Tableau,
     alloc: Global,
     rooms: &mut Rooms,
     basis: &mut Basis,
@@ -318,7 +348,7 @@ pub fn turn(
     ensures done { IfOk result (λ o. IfOk o (λ _. IsTurned basis.old leaves enters basis.new)) }
     ensures unfit { IfOk result (λ o. IfErr o (IsUnfitTurn basis.old leaves enters basis.new)) }
     ensures kept { IfOk result (λ o. IfOk o
-        (λ _. SlotsStay basis.old basis.new kept.old.sums.items kept.new.sums.items)) }
+        (λ _. SlotsStay tableau.now basis.old basis.new kept.old.sums.items kept.new.sums.items)) }
 {
     let zero = match leaving_zero(alloc, rooms, basis, leaves, enters)? {
         Ok(zero) => zero,
@@ -329,7 +359,16 @@ pub fn turn(
     let line = entering.with_sign(alloc, negated)?;
     let left = basis.members[leaves].class;
     kept.own(&basis.members);
-    match substitute_others(alloc, rooms, &mut basis.lines, kept, left, enters, &zero)? {
+    match substitute_others(
+        tableau,
+        alloc,
+        rooms,
+        &mut basis.lines,
+        kept,
+        left,
+        enters,
+        &zero,
+    )? {
         Ok(()) => {}
         Err(cause) => return Ok(Err(at_first(&basis.firsts, cause))),
     }
@@ -341,6 +380,7 @@ pub fn turn(
 
 /// The basis after a turn. None where a quotient, a product or a sum doesn't fit.
 pub fn turned_copy(
+    tableau: &Tableau,
     alloc: Global,
     basis: &Basis,
     leaves: usize,
@@ -357,7 +397,9 @@ pub fn turned_copy(
     let mut copy = Workspace::none(alloc).copy_of(alloc, basis)?.basis;
     let mut rooms = Rooms::none(alloc);
     let mut kept = Kept::none(alloc);
-    match turn(alloc, &mut rooms, &mut copy, &mut kept, leaves, enters)? {
+    match turn(
+        tableau, alloc, &mut rooms, &mut copy, &mut kept, leaves, enters,
+    )? {
         Ok(()) => Ok(Some(copy)),
         Err(_) => Ok(None),
     }

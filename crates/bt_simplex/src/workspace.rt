@@ -34,9 +34,13 @@ impl Rooms {
         let Some(line) = slot else {
             return;
         };
-        let Some(room) = line.into_room() else {
-            return;
-        };
+        if let Some(room) = line.into_room() {
+            self.keep(room);
+        }
+    }
+
+    /// Keeps a room, where there is memory to note it.
+    pub fn keep(&mut self, room: Room) {
         match self.rooms.push(room) {
             Ok(()) | Err(_) => {}
         }

@@ -3,18 +3,21 @@ ghost use Rattle.std.specs.Prelude.{◌≡◌, ◌≢◌, ◌<◌, ◌≤◌, �
 ghost use Rattle.std.specs.List.{All};
 ghost use Prim.Native.Nat.{◌∣◌};
 ghost use Rattle.bt_simplex.specs.inner.Shorts.{IsSmall};
-ghost use Rattle.bt_simplex.specs.inner.TurnedSlots.{IsSubstituted};
+ghost use Rattle.bt_simplex.specs.inner.Changes.{IsChange};
 ghost use Rattle.bt_simplex.specs.inner.ShortSteps.{AreScales, IsShortStep, IsShortSum, IsSmallTerm, AreNext};
 
 use super::{Entry, SMALL_LIMIT, Short, common_divisor, is_small, product, whole_at};
-use std::alloc::AllocError;
+use std::alloc::{AllocError, Global};
 
 /// By what the numbers of two lines are multiplied, so that they are over one denominator.
 #[derive(Clone, Copy)]
-pub(super) struct Scales {
+pub struct Scales {
     pub(super) left: i64,
     pub(super) right: i64,
     pub(super) under: u32,
+    /// The denominators of both lines.
+    pub(super) left_under: u32,
+    pub(super) right_under: u32,
 }
 
 /// A term of a sum of two lines, and the places at which what is left of them begins.
@@ -26,32 +29,66 @@ struct Step {
     right: usize,
 }
 
-/// The line with what a position that it names stands for, by a line that is 0, in place of it, in the room of
-/// a list whose terms are dropped. None where a number of the sum isn't small.
-pub fn substituted(
+/// What is done to a line where a position enters.
+#[derive(Clone, Copy)]
+pub enum Change {
+    /// Nothing: the line lacks the position.
+    Lacks,
+    /// What the position stands for is put in place of it, by these scales.
+    Made(Scales),
+    /// Nothing yet: the line names the position, but small whole numbers don't hold what comes of it.
+    Long,
+}
+
+impl Short {
+    /// Puts what a position stands for, by a line that is 0, in place of it, where the line names it. A room is
+    /// taken for the new terms, and that of the old ones is left.
+    pub fn substitute(
+        &mut self,
+        alloc: Global,
+        room: &mut Vec<Entry>,
+        enters: usize,
+        zero: &Short,
+    ) -> Result<Change, AllocError>
+        ensures { IfOk result (IsChange enters zero.now (Some self.old) (Some self.new)) }
+    {
+        let Some(factor) = whole_at(&self.terms, enters) else {
+            return Ok(Change::Lacks);
+        };
+        let Some(scales) = scales_of(self.under, factor, zero.under) else {
+            return Ok(Change::Long);
+        };
+        let taken = std::mem::replace(room, Vec::new(alloc));
+        match merged_in(taken, &self.terms, &zero.terms, &scales)? {
+            Some(terms) => {
+                *room = std::mem::replace(&mut self.terms, terms);
+                self.under = scales.under;
+                Ok(Change::Made(scales))
+            }
+            None => Ok(Change::Long),
+        }
+    }
+}
+
+/// The sum of a line and a number times another, by their scales, in the room of a list whose terms are dropped.
+/// None where a number isn't small.
+pub(super) fn merged_in(
     room: Vec<Entry>,
-    line: &Short,
-    enters: usize,
-    zero: &Short,
-) -> Result<Option<Short>, AllocError>
-    ensures { IfOk result (λ o. IfSome o (λ sum. IsSubstituted enters zero.now (Some line.now) (Some sum))) }
+    left: &[Entry],
+    right: &[Entry],
+    scales: &Scales,
+) -> Result<Option<Vec<Entry>>, AllocError>
+    requires left { All IsSmallTerm left.now }
+    requires right { All IsSmallTerm right.now }
+    requires left_by { IsSmall scales.now.left }
+    requires right_by { IsSmall scales.now.right }
+    ensures { IfOk result (λ o. IfSome o (λ v. IsShortSum left.now right.now scales.now.left scales.now.right
+        scales.now.under v.items)) }
 {
-    let Some(factor) = whole_at(&line.terms, enters) else {
-        return Ok(None);
-    };
-    let Some(scales) = scales_of(line.under, factor, zero.under) else {
-        return Ok(None);
-    };
     let mut terms = room;
     terms.clear();
-    terms.reserve(line.terms.len() + zero.terms.len())?;
-    match merged(terms, &line.terms, &zero.terms, &scales) {
-        Some(terms) => Ok(Some(Short {
-            terms,
-            under: scales.under,
-        })),
-        None => Ok(None),
-    }
+    terms.reserve(left.len() + right.len())?;
+    Ok(merged(terms, left, right, scales))
 }
 
 /// The scales for the sum of a line and a number, itself over the line's denominator, times another line.
@@ -63,7 +100,9 @@ pub(super) fn scales_of(left_under: u32, factor: i64, right_under: u32) -> Optio
     requires right_fits { right_under < 2 ^ 31 }
     requires factor_some { factor ≢ pos 0 }
     requires factor_small { IsSmall factor }
-    ensures { IfSome result (λ s. AreScales left_under factor right_under s.left s.right s.under) }
+    ensures scales { IfSome result (λ s. AreScales left_under factor right_under s.left s.right s.under) }
+    ensures left { IfSome result (λ s. s.left_under ≡ left_under) }
+    ensures right { IfSome result (λ s. s.right_under ≡ right_under) }
 {
     let common = common_divisor(factor.unsigned_abs() as u32, right_under);
     let by = right_under / common;
@@ -75,6 +114,8 @@ pub(super) fn scales_of(left_under: u32, factor: i64, right_under: u32) -> Optio
         left: i64::from(by),
         right: quotient(factor, common),
         under: under as u32,
+        left_under,
+        right_under,
     })
 }
 

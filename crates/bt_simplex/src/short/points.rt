@@ -1,15 +1,16 @@
 //! Where positions stand by their short lines, in whole numbers.
-ghost use Rattle.std.specs.Prelude.{◌≡◌, ◌<◌, ◌^◌, ◌*ℤ◌, length, IfSome, IsTrue, ◌↔◌, Some, neg_ℤ};
+ghost use Rattle.std.specs.Prelude.{◌≡◌, ◌<◌, ◌^◌, ◌*ℤ◌, ◌+ℤ◌, length, IfSome, IsTrue, ◌↔◌, Some, neg_ℤ};
 ghost use Rattle.bt_frac.specs.declared.row.Relation.TheVariants.{Equal as AnEquation};
 ghost use Rattle.bt_simplex.specs.Points.{resting, standing};
 ghost use Rattle.bt_simplex.specs.inner.Bases.{IsSamePoint, signed_point};
+ghost use Rattle.bt_simplex.specs.inner.Carrying.{AreCarried};
 ghost use Rattle.bt_simplex.specs.inner.Rests.{rest_point};
 ghost use Rattle.bt_simplex.specs.inner.Shorts.{IsSmall};
 ghost use Rattle.bt_simplex.specs.inner.ShortPoints.{AddsWhole, delta_of, TellsBreak, BreaksTiny};
 ghost use Rattle.bt_simplex.specs.inner.TermSigns.{IsSignedTerm};
 
 use crate::rests::Rest;
-use crate::short::{Short, number};
+use crate::short::{Scales, Short, number};
 use crate::tableau::Tableau;
 use bt_frac::{Delta, Relation};
 use std::cmp::Ordering;
@@ -117,6 +118,29 @@ fn added(sums: Sums, over: i64, rest: Rest) -> Option<Sums>
     let tiny = sums.tiny.checked_add(multiple(over, rest.tiny))?;
     let under = sums.under;
     Some(Sums { value, tiny, under })
+}
+
+/// The sums of a line to which a number times another is added, by the sums of both and by their scales. None where
+/// the sums are over other denominators, or leave 64 bits.
+pub fn carried(sums: Sums, others: Sums, scales: &Scales) -> Option<Sums>
+    ensures { IfSome result (AreCarried scales.now sums others) }
+{
+    if sums.under != scales.left_under || others.under != scales.right_under {
+        return None;
+    }
+    let value = scaled(sums.value, others.value, scales)?;
+    let tiny = scaled(sums.tiny, others.tiny, scales)?;
+    let under = scales.under;
+    Some(Sums { value, tiny, under })
+}
+
+/// The sum of two numbers by their scales, where it and both products fit.
+fn scaled(number: i64, other: i64, scales: &Scales) -> Option<i64>
+    ensures { IfSome result (λ z. z ≡ number *ℤ scales.now.left +ℤ scales.now.right *ℤ other) }
+{
+    let first = number.checked_mul(scales.left)?;
+    let second = scales.right.checked_mul(other)?;
+    first.checked_add(second)
 }
 
 /// The product of two numbers, which fits 64 bits.

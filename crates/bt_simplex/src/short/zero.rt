@@ -8,7 +8,7 @@ ghost use Rattle.bt_simplex.specs.Lines.{IsLine, IsCombination};
 ghost use Rattle.bt_simplex.specs.inner.Shorts.{reduced, terms_over, IsSmall, IsShort};
 ghost use Rattle.bt_simplex.specs.inner.TurnedSlots.{IsZeroLine, IsEntering};
 
-use super::merging::{merged, quotient, scales_of};
+use super::merging::{merged_in, quotient, scales_of};
 use super::{Entry, Short, common_divisor, whole_at};
 use std::alloc::AllocError;
 
@@ -78,10 +78,7 @@ fn lone_sum(
     let Some(entry) = Entry::fitting(position, number) else {
         return Ok(None);
     };
-    let mut terms = room;
-    terms.clear();
-    terms.reserve(line.terms.len() + 1)?;
-    match merged(terms, &[entry], &line.terms, &scales) {
+    match merged_in(room, &[entry], &line.terms, &scales)? {
         Some(terms) => Ok(Some(Short {
             terms,
             under: scales.under,
@@ -114,6 +111,9 @@ fn lowered(line: Short) -> Short
 {
     let Short { terms, under } = line;
     let common = common_divisor_of(&terms, under);
+    if common == 1 {
+        return Short { terms, under };
+    }
     Short {
         terms: divided(terms, under, common),
         under: under / common,

@@ -17,5 +17,5 @@ returns-in-Err-clause-unfit c =
 
 pub returns-in-Ok-clause-kept : goal.returns-in-Ok-clause-kept
 returns-in-Ok-clause-kept c =
-    let stay = subst (λ o. IfOk o (λ d. LinesStay (set c.args.lines.now c.args.left c.take-leaving.new.self) c.substitute.new.slots c.forget.new.self.sums.items c.substitute.new.kept.sums.items)) c.in-Ok.is c.in_ok-substitute.ensures.kept in
-    others_stay c.args.lines.now c.substitute.new.slots c.args.kept.now.sums.items c.forget.new.self.sums.items c.substitute.new.kept.sums.items c.args.left c.take-leaving.new.self c.forget.ensures stay
+    let stay = subst (λ o. IfOk o (λ d. LinesStay c.args.tableau.now (set c.args.lines.now c.args.left c.take-leaving.new.self) c.substitute.new.slots c.forget.new.self.sums.items c.substitute.new.kept.sums.items)) c.in-Ok.is c.in_ok-substitute.ensures.kept in
+    others_stay c.args.tableau.now c.args.lines.now c.substitute.new.slots c.args.kept.now.sums.items c.forget.new.self.sums.items c.substitute.new.kept.sums.items c.args.left c.take-leaving.new.self c.forget.ensures stay

@@ -219,10 +219,10 @@ returns-clause-kept c =
     let sub_items = with_items_is c.basis.inside.lines c.substitute_others.new.lines (c.substitute_others.auto.lines ∙ c.deref_mut.ensures.len) in
     let put_items = with_items_is (with_items c.basis.inside.lines c.substitute_others.new.lines) c.put_line.new.lines (c.put_line.auto.lines ∙ c.deref_mut-2.ensures.len) in
     let own = subst (λ m. AreOwn m c.args.kept.now.sums.items c.own.new.self.sums.items) c.deref.ensures.value c.own.ensures in
-    let others0 = subst (λ o. IfOk o (λ d. OthersStay c.index-2.result.now.class c.deref_mut.result.now c.substitute_others.new.lines c.own.new.self.sums.items c.substitute_others.new.kept.sums.items)) c.in-Ok-2.is c.in_ok-substitute_others.ensures.kept in
-    let others = subst (λ l. OthersStay c.index-2.result.now.class l c.substitute_others.new.lines c.own.new.self.sums.items c.substitute_others.new.kept.sums.items) c.deref_mut.ensures.value others0 in
-    let put = subst (λ l. LinesStay l c.put_line.new.lines c.substitute_others.new.kept.sums.items c.put_line.new.kept.sums.items) (c.deref_mut-2.ensures.value ∙ sub_items) c.put_line.ensures.kept in
-    let stay = slots_stay members lines c.substitute_others.new.lines c.put_line.new.lines outside c.index-2.result.now.class c.args.leaves c.args.kept.now.sums.items c.own.new.self.sums.items c.substitute_others.new.kept.sums.items
+    let others0 = subst (λ o. IfOk o (λ d. OthersStay c.args.tableau.now c.index-2.result.now.class c.deref_mut.result.now c.substitute_others.new.lines c.own.new.self.sums.items c.substitute_others.new.kept.sums.items)) c.in-Ok-2.is c.in_ok-substitute_others.ensures.kept in
+    let others = subst (λ l. OthersStay c.args.tableau.now c.index-2.result.now.class l c.substitute_others.new.lines c.own.new.self.sums.items c.substitute_others.new.kept.sums.items) c.deref_mut.ensures.value others0 in
+    let put = subst (λ l. LinesStay c.args.tableau.now l c.put_line.new.lines c.substitute_others.new.kept.sums.items c.put_line.new.kept.sums.items) (c.deref_mut-2.ensures.value ∙ sub_items) (c.put_line.ensures.kept c.args.tableau.now) in
+    let stay = slots_stay c.args.tableau.now members lines c.substitute_others.new.lines c.put_line.new.lines outside c.index-2.result.now.class c.args.leaves c.args.kept.now.sums.items c.own.new.self.sums.items c.substitute_others.new.kept.sums.items
     c.put_line.new.kept.sums.items own others put in
-    let stay' = subst (λ l. SlotsStay (slots_of members lines outside) (slots_of members l (set outside c.index-2.result.now.class c.args.leaves)) c.args.kept.now.sums.items c.put_line.new.kept.sums.items) (sym put_items) stay in
-    subst (λ b. SlotsStay b (slots_of members (with_items (with_items c.basis.inside.lines c.substitute_others.new.lines) c.put_line.new.lines).items (set outside c.index-2.result.now.class c.args.leaves)) c.args.kept.now.sums.items c.put_line.new.kept.sums.items) c.basis.view_is stay'
+    let stay' = subst (λ l. SlotsStay c.args.tableau.now (slots_of members lines outside) (slots_of members l (set outside c.index-2.result.now.class c.args.leaves)) c.args.kept.now.sums.items c.put_line.new.kept.sums.items) (sym put_items) stay in
+    subst (λ b. SlotsStay c.args.tableau.now b (slots_of members (with_items (with_items c.basis.inside.lines c.substitute_others.new.lines) c.put_line.new.lines).items (set outside c.index-2.result.now.class c.args.leaves)) c.args.kept.now.sums.items c.put_line.new.kept.sums.items) c.basis.view_is stay'

@@ -18,8 +18,8 @@ quotient-requires-clause-divides c =
     let common = rw value at c.common_divisor-common.ensures in
     simp to_z-of_z common.0
 
-pub returns : goal.returns
-returns c =
+pub returns-clause-scales : goal.returns-clause-scales
+returns-clause-scales c =
     let factor_fits = c.ranges.factor in
     let by_fits : FitsSigned w64 c.from-3.result = search rules in
     let quotient_fits : FitsSigned w64 c.quotient.result = search rules in
