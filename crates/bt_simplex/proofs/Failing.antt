@@ -4,7 +4,8 @@ use Rattle.std.proofs.lemmas.Bool.Decides.{nat_tests}
 use Rattle.std.proofs.lemmas.List.{get_or_past}
 use Rattle.bt_frac.specs.Ratio.{Ratio, SameRatio, IsLess}
 use Rattle.bt_frac.specs.Rows.{RowParts}
-use Rattle.bt_frac.specs.Deltas.{IsLessDelta}
+use Rattle.std.specs.declared.cmp.Ordering.{Ordering}
+use Rattle.bt_frac.specs.Deltas.{IsLessDelta, IsOrderOfDeltas}
 use Rattle.bt_frac.specs.declared.delta.Delta.{Delta}
 use Rattle.bt_frac.specs.declared.row.Relation.TheVariants.{Above}
 use Rattle.bt_frac.proofs.Order.{mul_lt, lt_from_mul}
@@ -16,7 +17,7 @@ use Rattle.bt_simplex.specs.SolvedForms.{slot_at}
 use Rattle.bt_simplex.specs.Tableaus.{TableauParts}
 use Rattle.bt_simplex.specs.Points.{bound_row, bound_value, resting, standing, point_at}
 use Rattle.bt_simplex.specs.Turns.{InBasis, Breaks, Fails, MovesTowards, MayMove, CanEnter, IsLeast}
-use Rattle.bt_simplex.specs.inner.Bases.{IsSamePoint, MayEnter, Names}
+use Rattle.bt_simplex.specs.inner.Bases.{IsSamePoint, IsBoundOrder, IsLeastOf, MayEnter, Names}
 use Rattle.bt_simplex.proofs.Numbers.{Positive}
 
 pub less_right : (a b x : Ratio) → Positive a → Positive b → SameRatio a b → IsLess x a → IsLess x b
@@ -120,6 +121,24 @@ enters_told t fails enters terms row point line is_bound same = (forth, from)
 -- the least of one property is that of the same property in other words
 pub least_told : (P Q : ℕ → Type 0) → ((p : ℕ) → P p ↔ Q p) → (position : ℕ) → IsLeast P position → IsLeast Q position
 least_told P Q same position least = ((same position).0 least.0, λ other has. least.1 other ((same other).1 has))
+
+-- the same of a position whose row's bound value and point have this order
+pub enters_by : (t : TableauParts) (leaves : ℕ) (terms : Terms) (order : Ordering) → Fails t leaves → IsBoundOrder t leaves order → slot_at t.slots leaves ≡ Some terms → (o : Option ℕ)
+    → ((row : RowParts) (point : Delta) → IsOrderOfDeltas order (bound_value row) point → IsLeastOf (λ e. Names terms (MayEnter t row point) e) o) → IsLeastOf (λ e. CanEnter t leaves e) o
+enters_by t leaves terms order fails bound slot o told = at o (told fails.row here.0 here.2)
+  where
+    here : (point : Delta) × IsSamePoint point (point_at t leaves) × IsOrderOfDeltas order (bound_value fails.row) point
+    here = bound fails.row fails.is_bound
+
+    same : IsSamePoint here.0 (standing (resting t) 0 (Some terms))
+    same = subst (λ s. IsSamePoint here.0 (standing (resting t) leaves s)) slot here.1
+
+    both : (e : ℕ) → Names terms (MayEnter t fails.row here.0) e ↔ CanEnter t leaves e
+    both e = enters_told t leaves e terms fails.row here.0 slot fails.is_bound same
+
+    at : (o : Option ℕ) → IsLeastOf (λ e. Names terms (MayEnter t fails.row here.0) e) o → IsLeastOf (λ e. CanEnter t leaves e) o
+    at (Some e) least = least_told (λ e. Names terms (MayEnter t fails.row here.0) e) (λ e. CanEnter t leaves e) both e least
+    at None none = λ e can. none e ((both e).1 can)
 
 -- nothing enters for a position without a line
 pub enters_line : (t : TableauParts) (fails enters : ℕ) → slot_at t.slots fails ≡ None → CanEnter t fails enters → ⊥

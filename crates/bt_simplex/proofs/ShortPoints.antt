@@ -1,15 +1,17 @@
 -- What short lines add up to where their positions rest.
-use Rattle.std.proofs.Common.{Bool, IsTrue, ◌↔◌, ◌<ℤ◌, inl, inr, ◌≡◌, ℕ, ◌+◌, ◌-◌, ◌<◌, ◌≤◌, ◌^◌, zero, suc, arith, ℤ, pos, ◌+ℤ◌, ◌*ℤ◌, [], ◌∷◌, length, take, get_or, Some, ap, sym, ◌∙◌, refl, subst}
+use Rattle.std.proofs.Common.{Ordering, Less, Equal, Greater, Bool, IsTrue, ◌↔◌, ◌<ℤ◌, inl, inr, ◌≡◌, ℕ, ◌+◌, ◌-◌, ◌<◌, ◌≤◌, ◌^◌, zero, suc, arith, ℤ, pos, ◌+ℤ◌, ◌*ℤ◌, [], ◌∷◌, length, take, get_or, Some, ap, sym, ◌∙◌, refl, subst}
 use Rattle.std.specs.List.{All}
 use Rattle.std.proofs.lemmas.Int.{ints}
 use Rattle.std.proofs.lemmas.List.{take_all}
 use Rattle.std.proofs.Math.IntN.{pos-*ℤ-pos}
 use Rattle.bt_frac.specs.Ratio.{Ratio, SameRatio, IsSum, IsLess, FitsPart}
 use Rattle.bt_frac.specs.Products.{IsProduct}
+use Rattle.bt_frac.specs.Deltas.{IsLessDelta, IsOrderOfDeltas}
+use Rattle.std.specs.Ordering.{MatchOrdering}
 use Rattle.bt_frac.specs.Rows.{RowParts, IsRow}
 use Rattle.bt_frac.specs.Values.{AreValues}
 use Rattle.bt_frac.specs.declared.delta.Delta.{Delta}
-use Rattle.bt_frac.specs.declared.row.Relation.TheVariants.{Equal}
+use Rattle.bt_frac.specs.declared.row.Relation.TheVariants.{Equal as AnEquation}
 use Rattle.bt_frac.proofs.Ring.{products, sums}
 use Rattle.bt_simplex.specs.Lines.{one, Terms, HasNumber, IsLine, total}
 use Rattle.bt_simplex.specs.Points.{bound_row, resting, standing}
@@ -160,7 +162,7 @@ less_same : (x y : ℤ) → x <ℤ y → x ≡ y → ⊥
 less_same x y p q = omega (arith, ints)
 
 -- above it, where it is an equation
-pub above_breaks : (row : RowParts) (s : Sums) (bound level : ℤ) → row.bound ≡ over_of bound 1 → level ≡ bound *ℤ pos s.under → level <ℤ s.value → (row.relation ≡ Equal) ↔ Breaks row (delta_of s)
+pub above_breaks : (row : RowParts) (s : Sums) (bound level : ℤ) → row.bound ≡ over_of bound 1 → level ≡ bound *ℤ pos s.under → level <ℤ s.value → (row.relation ≡ AnEquation) ↔ Breaks row (delta_of s)
 above_breaks row s bound level is level_is more = (λ e. inr (e, inl above), λ breaks. told breaks)
   where
     here : (bound *ℤ pos s.under) <ℤ (s.value *ℤ pos 1)
@@ -169,7 +171,7 @@ above_breaks row s bound level is level_is more = (λ e. inr (e, inl above), λ 
     above : IsLess row.bound (over_of s.value s.under)
     above = subst (λ b. IsLess b (over_of s.value s.under)) (sym is) here
 
-    told : Breaks row (delta_of s) → row.relation ≡ Equal
+    told : Breaks row (delta_of s) → row.relation ≡ AnEquation
     told (inl (inl less)) = absurd (less_not (bound *ℤ pos s.under) (s.value *ℤ pos 1) here (subst (λ b. IsLess (over_of s.value s.under) b) is less))
     told (inl (inr (same, less))) = absurd (less_same (bound *ℤ pos s.under) (s.value *ℤ pos 1) here (sym (subst (λ b. SameRatio (over_of s.value s.under) b) is same)))
     told (inr (e, less)) = e
@@ -197,6 +199,25 @@ level_breaks row s bound level is level_is even = (λ tiny. made tiny, λ breaks
     told (inl (inr (even, less))) = inl less
     told (inr (e, inl more)) = absurd (less_same (bound *ℤ pos s.under) (s.value *ℤ pos 1) (subst (λ b. IsLess b (over_of s.value s.under)) is more) (sym here))
     told (inr (e, inr (even, more))) = inr (e, more)
+
+-- how whole numbers stand to sums over a denominator
+pub order_less : (v t : ℤ) (s : Sums) (level : ℤ) → level ≡ v *ℤ pos s.under → level <ℤ s.value → IsLessDelta (record { value = over_of v 1; tiny = over_of t 1 }) (delta_of s)
+order_less v t s level is less = inl (subst (λ z. (v *ℤ pos s.under) <ℤ z) (sym (times_one s.value)) (subst (λ z. z <ℤ s.value) is less))
+
+pub order_more : (v t : ℤ) (s : Sums) (level : ℤ) → level ≡ v *ℤ pos s.under → s.value <ℤ level → IsLessDelta (delta_of s) (record { value = over_of v 1; tiny = over_of t 1 })
+order_more v t s level is more = inl (subst (λ z. z <ℤ (v *ℤ pos s.under)) (sym (times_one s.value)) (subst (λ z. s.value <ℤ z) is more))
+
+pub order_tiny : (v t : ℤ) (s : Sums) (level tiny : ℤ) (o : Ordering) → level ≡ v *ℤ pos s.under → level ≡ s.value → tiny ≡ t *ℤ pos s.under → MatchOrdering o (tiny <ℤ s.tiny) (tiny ≡ s.tiny) (s.tiny <ℤ tiny)
+    → IsOrderOfDeltas o (record { value = over_of v 1; tiny = over_of t 1 }) (delta_of s)
+order_tiny v t s level tiny o is even tiny_is ranks = at o ranks
+  where
+    same : v *ℤ pos s.under ≡ s.value *ℤ pos 1
+    same = sym is ∙ even ∙ sym (times_one s.value)
+
+    at : (o : Ordering) → MatchOrdering o (tiny <ℤ s.tiny) (tiny ≡ s.tiny) (s.tiny <ℤ tiny) → IsOrderOfDeltas o (record { value = over_of v 1; tiny = over_of t 1 }) (delta_of s)
+    at Less less = inr (same, subst (λ z. (t *ℤ pos s.under) <ℤ z) (sym (times_one s.tiny)) (subst (λ z. z <ℤ s.tiny) tiny_is less))
+    at Equal level_too = (same, sym tiny_is ∙ level_too ∙ sym (times_one s.tiny))
+    at Greater more = inr (sym same, subst (λ z. z <ℤ (t *ℤ pos s.under)) (sym (times_one s.tiny)) (subst (λ z. s.tiny <ℤ z) tiny_is more))
 
 -- the position of a row breaks as its line does
 pub break_fails : (t : TableauParts) → All IsRow t.rows → (position : ℕ) (row : RowParts) (negated : Bool) (terms : Terms) (told : Bool) → bound_row t position ≡ Some row

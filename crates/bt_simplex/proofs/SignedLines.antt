@@ -1,5 +1,5 @@
 -- Lines with the other sign.
-use Rattle.std.proofs.Common.{◌≡◌, ◌≢◌, ℕ, ◌+◌, ◌-◌, ◌^◌, ◌<◌, arith, pos, ℤ, neg_ℤ, Bool, true, false, [], ◌∷◌, Some, None, ap, sym, ◌∙◌, refl, subst, inl, inr}
+use Rattle.std.proofs.Common.{◌≡◌, ◌≢◌, ℕ, ◌+◌, ◌-◌, ◌^◌, ◌<◌, arith, pos, ℤ, neg_ℤ, Bool, true, false, [], ◌∷◌, length, suc, Some, None, ap, sym, ◌∙◌, refl, subst, inl, inr}
 use Rattle.std.specs.List.{All}
 use Rattle.std.proofs.lemmas.Int.{ints}
 use Rattle.std.proofs.lemmas.List.Elements.{All-head, All-tail, All-cons, All-nil}
@@ -36,6 +36,11 @@ negated_line least (t ∷ terms) line =
 pub signed_line : (told : Bool) (terms : Terms) → IsLine terms → IsLine (signed_terms told terms)
 signed_line false terms line = line
 signed_line true terms line = negated_line 0 terms line
+
+pub signed_length : (told : Bool) (terms : Terms) → length (signed_terms told terms) ≡ length terms
+signed_length false terms = refl
+signed_length true [] = refl
+signed_length true (t ∷ terms) = ap suc (signed_length true terms)
 
 -- what it adds up to has the other sign
 pub negated_total : (at : ℕ → Ratio) → AreValues at → (terms : Terms) → All HasNumber terms → Alike (total at (signed_terms true terms)) (negated (total at terms))

@@ -1,13 +1,15 @@
 -- The signs of a line's numbers, and where a number of a sign moves a row.
-use Rattle.std.proofs.Common.{◌≡◌, ℕ, ◌<◌, ◌^◌, arith, ℤ, pos, neg_ℤ, ◌*ℤ◌, ◌<ℤ◌, ◌↔◌, Ordering, Less, Equal, Greater, length, get_or, ap, sym, ◌∙◌, refl, subst, inl, inr}
+use Rattle.std.proofs.Common.{◌≡◌, ℕ, zero, suc, true, [], ◌∷◌, ◌<◌, ◌^◌, arith, ℤ, pos, neg_ℤ, ◌*ℤ◌, ◌<ℤ◌, ◌↔◌, Ordering, Less, Equal, Greater, length, get_or, ap, sym, ◌∙◌, refl, subst, inl, inr}
 use Rattle.std.proofs.lemmas.Int.{ints}
 use Rattle.std.proofs.Math.IntN.{zero-*ℤ}
-use Rattle.bt_frac.specs.Ratio.{Ratio}
+use Rattle.std.specs.Ordering.{ordering_reverse}
+use Rattle.bt_frac.specs.Ratio.{Ratio, negated}
 use Rattle.bt_frac.specs.Rows.{RowParts}
 use Rattle.bt_frac.specs.Deltas.{IsLessDelta, SameDelta}
 use Rattle.bt_frac.specs.declared.delta.Delta.{Delta}
 use Rattle.bt_frac.proofs.Order.{mul_cancel}
 use Rattle.bt_lin.proofs.SameNumbers.{above_same}
+use Rattle.bt_simplex.specs.Classes.{signed_terms}
 use Rattle.bt_simplex.specs.Lines.{Terms}
 use Rattle.bt_simplex.specs.Points.{bound_value}
 use Rattle.bt_simplex.specs.Turns.{MovesTowards}
@@ -105,3 +107,17 @@ moves_down row point number o above sign = (λ e. inr (above, subst (λ s. IsSig
 pub moves_none : (row : RowParts) (point : Delta) (number : Ratio) → SameDelta (bound_value row) point → MovesTowards row point number → ⊥
 moves_none row point number same (inl (less, up)) = even_back (bound_value row) point same less
 moves_none row point number same (inr (more, down)) = even (bound_value row) point same more
+
+-- the sign of a term of a line with the other sign
+negated_item : (terms : Terms) (i : ℕ) (p : ℕ) (number : Ratio) → i < length terms → (p, number) ≡ get_or terms i (p, number) → (p, negated number) ≡ get_or (signed_terms true terms) i (p, negated number)
+negated_item [] i p number inside is = absurd (omega arith)
+negated_item (t ∷ terms) zero p number inside is = ap (λ (x : ℕ × Ratio). (x.0, negated x.1)) is
+negated_item (t ∷ terms) (suc i) p number inside is = negated_item terms i p number (omega arith) is
+
+negated_sign : (o : Ordering) (z : ℤ) → IsSign o z → IsSign (ordering_reverse o) (neg_ℤ z)
+negated_sign Less z sign = omega (arith, ints)
+negated_sign Equal z sign = omega (arith, ints)
+negated_sign Greater z sign = omega (arith, ints)
+
+pub negated_term : (terms : Terms) (i p : ℕ) (o : Ordering) → i < length terms → IsSignedTerm terms i (p, o) → IsSignedTerm (signed_terms true terms) i (p, ordering_reverse o)
+negated_term terms i p o inside (number, is, sign) = (negated number, negated_item terms i p number inside is, negated_sign o number.over sign)

@@ -1,15 +1,16 @@
 //! Bland's rule: of the positions that fail the least leaves the basis, and of those that can enter the
 //! least does.
-ghost use Rattle.std.specs.Prelude.{◌≡◌, ◌<◌, ℕ, length, IfOk, IfErr, IfSome, IsTrue, ◌↔◌, Some};
+ghost use Rattle.std.specs.Prelude.{◌≡◌, ◌<◌, ◌-◌, ◌^◌, ◌∷◌, [], ℕ, length, IfOk, IfErr, IfSome, IsTrue, ◌↔◌, Some};
 ghost use Rattle.bt_frac.specs.Deltas.{IsOrderOfDeltas};
 ghost use Rattle.bt_frac.specs.Ratio.{Ratio};
 ghost use Rattle.bt_frac.specs.Rows.{RowParts};
 ghost use Rattle.bt_simplex.specs.Causes.{IsCause};
 ghost use Rattle.bt_frac.specs.declared.delta.Delta.{Delta};
 ghost use Rattle.bt_simplex.specs.Points.{bound_value};
-ghost use Rattle.bt_simplex.specs.SolvedForms.{Slots, slot_at};
+ghost use Rattle.bt_simplex.specs.Classes.{signed_terms};
+ghost use Rattle.bt_simplex.specs.Lines.{one};
 ghost use Rattle.bt_simplex.specs.Turns.{Breaks, Fails, MovesTowards, CanEnter};
-ghost use Rattle.bt_simplex.specs.inner.Bases.{with_slots, MayEnter, Names, Finds, IsLeastOf, IsNext};
+ghost use Rattle.bt_simplex.specs.inner.Bases.{with_slots, IsBoundOrder, MayEnter, Names, Finds, IsLeastOf, IsNext};
 ghost use Rattle.bt_simplex.specs.inner.Kept.{AreKept};
 ghost use Rattle.bt_simplex.specs.inner.TermSigns.{IsSign, IsSignedTerm};
 
@@ -17,12 +18,10 @@ use crate::basis::{Basis, Place};
 use crate::causes::Cause;
 use crate::kept::{Kept, class_sums};
 use crate::line::Line;
-use crate::points::{bound_value, line_point, point};
-use crate::short::{breaks_at, breaks_by};
+use crate::points::{bound_value, point};
+use crate::short::{breaks_at, breaks_by, order_by};
 use crate::tableau::{Tableau, Turn};
-use crate::workspace::Rooms;
 use bt_frac::{Delta, Relation, Row};
-use std::alloc::{AllocError, Global};
 use std::cmp::Ordering;
 
 /// The least position that has a property.
@@ -84,6 +83,19 @@ fn may_enter(tableau: &Tableau, bound: Ordering, position: usize, sign: Ordering
     match tableau.bound_relation(position) {
         Some(relation) => relation != Relation::Equal && moves_towards(bound, sign),
         None => true,
+    }
+}
+
+/// The position of a term of a line, and the sign of its number, or the other sign where this is told.
+fn signed_at(line: &Line, index: usize, negated: bool) -> (usize, Ordering)
+    requires { index < length line.now }
+    ensures { IsSignedTerm (signed_terms negated line.now) index result }
+{
+    let (position, sign) = sign_at(line, index);
+    if negated {
+        (position, sign.reverse())
+    } else {
+        (position, sign)
     }
 }
 
@@ -170,14 +182,15 @@ pub fn leaving(tableau: &Tableau, basis: &Basis, kept: &mut Kept) -> Least
     Least::Nowhere
 }
 
-/// The least position of the failing row's line that may be moved.
-fn first_entering(tableau: &Tableau, row: &Row, point: &Delta, line: &Line) -> Option<usize>
-    ensures { IsLeastOf (λ e. Names line.now (MayEnter tableau.now row.now point.now) e) result }
+/// The least position that may be moved of a line, or of the line with the other sign where this is told, by
+/// how the bound value of its row stands to where the row stands.
+fn first_entering(tableau: &Tableau, bound: Ordering, line: &Line, negated: bool) -> Option<usize>
+    ensures { (row : RowParts) (point : Delta) → IsOrderOfDeltas bound (bound_value row) point
+        → IsLeastOf (λ e. Names (signed_terms negated line.now) (MayEnter tableau.now row point) e) result }
 {
     line.known();
-    let bound = bound_value(row).compare(point);
     for index in 0..line.len() {
-        let (position, sign) = sign_at(line, index);
+        let (position, sign) = signed_at(line, index, negated);
         if may_enter(tableau, bound, position, sign) {
             return Some(position);
         }
@@ -185,39 +198,68 @@ fn first_entering(tableau: &Tableau, row: &Row, point: &Delta, line: &Line) -> O
     None
 }
 
-/// The least position that can enter for one that fails.
-pub fn entering(
+/// How the bound value of a row of the basis stands to where the row stands, where whole numbers tell it.
+fn whole_order(
     tableau: &Tableau,
-    alloc: Global,
-    rooms: &mut Rooms,
     basis: &Basis,
-    leaves: usize,
-) -> Result<Least, AllocError>
-    requires { Fails (with_slots tableau.now basis.now) leaves }
-    ensures { IfOk result (Finds (with_slots tableau.now basis.now)
-        (λ e. CanEnter (with_slots tableau.now basis.now) leaves e)) }
+    position: usize,
+    kept: &mut Kept,
+) -> Option<Ordering>
+    requires kept { AreKept tableau.now basis.now kept.old.sums.items }
+    ensures order { IfSome result (IsBoundOrder (with_slots tableau.now basis.now) position) }
+    ensures kept { AreKept tableau.now basis.now kept.new.sums.items }
 {
-    let room = rooms.taken(alloc);
-    let Some(line) = basis.line(alloc, room, leaves)? else {
-        return Ok(Least::Nowhere);
-    };
-    let least = entering_by(tableau, leaves, &line);
-    rooms.give(Some(line));
-    Ok(least)
+    tableau.all_known();
+    let rest = tableau.whole_rest(position)?;
+    match basis.place(position) {
+        Place::Line {
+            class,
+            first,
+            line,
+            negated,
+        } => {
+            line.known();
+            let of_class = class_sums(tableau, kept, class, first, line)?;
+            let order = order_by(rest, of_class.sums, negated)?;
+            Some(order)
+        }
+        Place::Like { .. } | Place::Outside => None,
+    }
 }
 
-/// The least position that can enter for one that fails and has this line.
-fn entering_by(tableau: &Tableau, leaves: usize, line: &Line) -> Least
-    ensures { (slots : Slots) → slot_at slots leaves ≡ Some line.now
-        → Fails (with_slots tableau.now slots) leaves
-        → Finds (with_slots tableau.now slots)
-        (λ e. CanEnter (with_slots tableau.now slots) leaves e) result }
+/// The same, by fractions where whole numbers don't tell it; or why the position's point doesn't fit.
+fn bound_order(
+    tableau: &Tableau,
+    basis: &Basis,
+    position: usize,
+    kept: &mut Kept,
+) -> Result<Ordering, Cause>
+    requires fails { Fails (with_slots tableau.now basis.now) position }
+    requires kept { AreKept tableau.now basis.now kept.old.sums.items }
+    ensures order { IfOk result (IsBoundOrder (with_slots tableau.now basis.now) position) }
+    ensures unfit { IfErr result (IsCause (with_slots tableau.now basis.now)) }
+    ensures kept { AreKept tableau.now basis.now kept.new.sums.items }
 {
-    let Some(row) = tableau.bound_row(leaves) else {
-        return Least::Nowhere;
+    if let Some(order) = whole_order(tableau, basis, position, kept) {
+        return Ok(order);
+    }
+    let Some(row) = tableau.bound_row(position) else {
+        unreachable!()
     };
-    match line_point(tableau, leaves, line) {
-        Ok(point) => match first_entering(tableau, row, &point, line) {
+    let point = point(tableau, basis, position)?;
+    Ok(bound_value(row).compare(&point))
+}
+
+/// The least position that can enter for one that fails.
+pub fn entering(tableau: &Tableau, basis: &Basis, leaves: usize, kept: &mut Kept) -> Least
+    requires fails { Fails (with_slots tableau.now basis.now) leaves }
+    requires kept { AreKept tableau.now basis.now kept.old.sums.items }
+    ensures least { Finds (with_slots tableau.now basis.now)
+        (λ e. CanEnter (with_slots tableau.now basis.now) leaves e) result }
+    ensures kept { AreKept tableau.now basis.now kept.new.sums.items }
+{
+    match bound_order(tableau, basis, leaves, kept) {
+        Ok(order) => match entering_by(tableau, basis, leaves, order) {
             Some(enters) => Least::At(enters),
             None => Least::Nowhere,
         },
@@ -225,25 +267,64 @@ fn entering_by(tableau: &Tableau, leaves: usize, line: &Line) -> Least
     }
 }
 
-/// Bland's turn of a basis, or how the basis is final.
-pub fn blands_next(
+/// The least position that can enter for one that fails, by how its bound value stands to where it stands.
+fn entering_by(tableau: &Tableau, basis: &Basis, leaves: usize, order: Ordering) -> Option<usize>
+    requires fails { Fails (with_slots tableau.now basis.now) leaves }
+    requires order { IsBoundOrder (with_slots tableau.now basis.now) leaves order }
+    ensures { IsLeastOf (λ e. CanEnter (with_slots tableau.now basis.now) leaves e) result }
+{
+    match basis.place(leaves) {
+        Place::Line { line, negated, .. } => first_entering(tableau, order, line, negated),
+        Place::Like { other, negated } => alone_entering(tableau, order, other, negated),
+        Place::Outside => None,
+    }
+}
+
+/// The sign of 1, or of -1 where this is told.
+fn alone_sign(negated: bool) -> Ordering
+    ensures { (position : ℕ)
+        → IsSignedTerm (signed_terms negated ((position, one) ∷ [])) 0 (position, result) }
+{
+    if negated {
+        Ordering::Less
+    } else {
+        Ordering::Greater
+    }
+}
+
+/// The position, where it may be moved as the only one of a line, with the number 1, or -1 where this is told.
+fn alone_entering(
     tableau: &Tableau,
-    alloc: Global,
-    rooms: &mut Rooms,
-    basis: &Basis,
-    kept: &mut Kept,
-) -> Result<Next, AllocError>
+    bound: Ordering,
+    position: usize,
+    negated: bool,
+) -> Option<usize>
+    requires { position < 2 ^ 64 - 1 }
+    ensures { (row : RowParts) (point : Delta) → IsOrderOfDeltas bound (bound_value row) point
+        → IsLeastOf
+        (λ e. Names (signed_terms negated ((position, one) ∷ [])) (MayEnter tableau.now row point) e) result }
+{
+    let sign = alone_sign(negated);
+    if may_enter(tableau, bound, position, sign) {
+        Some(position)
+    } else {
+        None
+    }
+}
+
+/// Bland's turn of a basis, or how the basis is final.
+pub fn blands_next(tableau: &Tableau, basis: &Basis, kept: &mut Kept) -> Next
     requires { AreKept tableau.now basis.now kept.old.sums.items }
-    ensures next { IfOk result (IsNext (with_slots tableau.now basis.now)) }
+    ensures next { IsNext (with_slots tableau.now basis.now) result }
     ensures kept { AreKept tableau.now basis.now kept.new.sums.items }
 {
     match leaving(tableau, basis, kept) {
-        Least::At(leaves) => match entering(tableau, alloc, rooms, basis, leaves)? {
-            Least::At(enters) => Ok(Next::Turn(Turn { leaves, enters })),
-            Least::Nowhere => Ok(Next::Stuck(leaves)),
-            Least::Wide(cause) => Ok(Next::Wide(cause)),
+        Least::At(leaves) => match entering(tableau, basis, leaves, kept) {
+            Least::At(enters) => Next::Turn(Turn { leaves, enters }),
+            Least::Nowhere => Next::Stuck(leaves),
+            Least::Wide(cause) => Next::Wide(cause),
         },
-        Least::Nowhere => Ok(Next::Met),
-        Least::Wide(cause) => Ok(Next::Wide(cause)),
+        Least::Nowhere => Next::Met,
+        Least::Wide(cause) => Next::Wide(cause),
     }
 }

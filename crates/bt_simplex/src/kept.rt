@@ -81,8 +81,8 @@ impl Kept {
         }
     }
 
-    /// Keeps the sums of a class to whose line a number times another is added, by those before, those of the other line
-    /// and the scales of both, where all of these are at hand.
+    /// Keeps the sums of a class to whose line a number times another is added, by those before, those of
+    /// the other line and the scales of both, where all of these are at hand.
     pub fn carry(&mut self, class: usize, others: Option<Sums>, scales: &Scales)
         ensures { Carries class others scales.now self.old.sums.items self.new.sums.items }
     {

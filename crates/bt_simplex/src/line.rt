@@ -201,8 +201,8 @@ impl Line {
         }
     }
 
-    /// The line, which names a position, with what the position stands for, by a line that is 0, in place of it,
-    /// by fractions; or a product or a sum that doesn't fit.
+    /// The line, which names a position, with what the position stands for, by a line that is 0, in place of
+    /// it, by fractions; or a product or a sum that doesn't fit.
     pub fn substituted_long(
         &self,
         alloc: Global,

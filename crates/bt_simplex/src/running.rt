@@ -77,7 +77,7 @@ pub fn turned_from(
     kept.restart(basis.classes())?;
     let mut turns = Vec::new(alloc);
     'turns: loop {
-        match blands_next(tableau, alloc, rooms, &basis, kept)? {
+        match blands_next(tableau, &basis, kept) {
             Next::Turn(turn) => {
                 if turns.len() as u64 >= pivots {
                     let end = End::Pivots;

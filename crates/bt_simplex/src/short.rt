@@ -19,7 +19,7 @@ use bt_frac::Frac;
 pub use copying::lone_short;
 pub use entry::Entry;
 pub use merging::{Change, Scales};
-pub use points::{ClassSums, Sums, breaks_at, breaks_by, carried};
+pub use points::{ClassSums, Sums, breaks_at, breaks_by, carried, order_by};
 use std::alloc::{AllocError, Global};
 use std::marker::Model;
 pub use zero::{entering_line, zero_line};

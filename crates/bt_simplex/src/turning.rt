@@ -303,7 +303,8 @@ fn put_line(
 )
     requires { class < length lines.old }
     ensures lines { lines.new ≡ with_line left class line lines.old }
-    ensures kept { (t : TableauParts) → LinesStay t lines.old lines.new kept.old.sums.items kept.new.sums.items }
+    ensures kept { (t : TableauParts)
+        → LinesStay t lines.old lines.new kept.old.sums.items kept.new.sums.items }
 {
     if class == left {
         rooms.give(Some(line));

@@ -1,15 +1,16 @@
 -- What Bland's rule says of a tableau at a basis.
 use Rattle.std.specs.Prelude.{◌≡◌, ◌≢◌, ◌⊎◌, ℕ, ◌<◌, Bool, true, false, Option, Some, None}
+use Rattle.std.specs.declared.cmp.Ordering.{Ordering}
 use Rattle.bt_frac.specs.Ratio.{Ratio, negated}
 use Rattle.bt_frac.specs.Rows.{RowParts}
-use Rattle.bt_frac.specs.Deltas.{SameDelta}
+use Rattle.bt_frac.specs.Deltas.{IsOrderOfDeltas, SameDelta}
 use Rattle.bt_frac.specs.declared.delta.Delta.{Delta}
 use Rattle.bt_frac.specs.declared.row.Relation.TheVariants.{Equal}
 use Rattle.bt_lin.specs.WeightedRows.{coefficient_at}
 use Rattle.bt_simplex.specs.Lines.{Terms}
 use Rattle.bt_simplex.specs.SolvedForms.{Slots}
 use Rattle.bt_simplex.specs.Tableaus.{TableauParts}
-use Rattle.bt_simplex.specs.Points.{bound_row}
+use Rattle.bt_simplex.specs.Points.{bound_row, bound_value, point_at}
 use Rattle.bt_simplex.specs.Causes.{IsCause}
 use Rattle.bt_simplex.specs.Turns.{MovesTowards, IsLeast, IsBlandTurn, IsMet, IsStuckAt}
 use Rattle.bt_simplex.specs.declared.bland.Least.{Least}
@@ -33,6 +34,11 @@ pub record IsSamePoint (a b : Delta) : Type 0 where
 abbrev pub signed_point : Bool → Delta → Delta
 signed_point false point = point
 signed_point true point = record { value = negated point.value; tiny = negated point.tiny }
+
+-- the order of the bound value of a position's row, where it has one that is bound, and a point that is where it stands
+abbrev pub IsBoundOrder : TableauParts → ℕ → Ordering → Type 0
+IsBoundOrder t position order =
+    (row : RowParts) → bound_row t position ≡ Some row → (point : Delta) × IsSamePoint point (point_at t position) × IsOrderOfDeltas order (bound_value row) point
 
 -- the position may be moved: it is a column or a row that isn't bound, or a bound row that is no equation, and raising it moves the failing row towards its bound value
 abbrev pub MayEnter : TableauParts → RowParts → Delta → ℕ → Ratio → Type 0

@@ -41,8 +41,8 @@ pub enum Change {
 }
 
 impl Short {
-    /// Puts what a position stands for, by a line that is 0, in place of it, where the line names it. A room is
-    /// taken for the new terms, and that of the old ones is left.
+    /// Puts what a position stands for, by a line that is 0, in place of it, where the line names it. A room
+    /// is taken for the new terms, and that of the old ones is left.
     pub fn substitute(
         &mut self,
         alloc: Global,
@@ -70,8 +70,8 @@ impl Short {
     }
 }
 
-/// The sum of a line and a number times another, by their scales, in the room of a list whose terms are dropped.
-/// None where a number isn't small.
+/// The sum of a line and a number times another, by their scales, in the room of a list whose terms are
+/// dropped. None where a number isn't small.
 pub(super) fn merged_in(
     room: Vec<Entry>,
     left: &[Entry],

@@ -1,6 +1,7 @@
 //! Where positions stand by their short lines, in whole numbers.
 ghost use Rattle.std.specs.Prelude.{◌≡◌, ◌<◌, ◌^◌, ◌*ℤ◌, ◌+ℤ◌, length, IfSome, IsTrue, ◌↔◌, Some, neg_ℤ};
 ghost use Rattle.bt_frac.specs.declared.row.Relation.TheVariants.{Equal as AnEquation};
+ghost use Rattle.bt_frac.specs.Deltas.{IsOrderOfDeltas};
 ghost use Rattle.bt_simplex.specs.Points.{resting, standing};
 ghost use Rattle.bt_simplex.specs.inner.Bases.{IsSamePoint, signed_point};
 ghost use Rattle.bt_simplex.specs.inner.Carrying.{AreCarried};
@@ -86,6 +87,17 @@ pub fn breaks_by(relation: Relation, rest: Rest, sums: Sums, negated: bool) -> O
     Some(sums_break(relation, rest, others))
 }
 
+/// How where a row rests stands to where these sums are, or to them with the other sign where this is told.
+/// None where a number doesn't fit.
+pub fn order_by(rest: Rest, sums: Sums, negated: bool) -> Option<Ordering>
+    requires fits { sums.under < 2 ^ 31 }
+    ensures { IfSome result
+        (λ o. IsOrderOfDeltas o (rest_point rest) (signed_point negated (delta_of sums))) }
+{
+    let others = signed_sums(sums, negated)?;
+    Some(sums_order(rest, others))
+}
+
 /// Whether a row of this relation that rests here doesn't hold where it stands as another position rests, or
 /// with the other sign where this is told. None where a number doesn't fit.
 pub fn breaks_at(relation: Relation, rest: Rest, other: Rest, negated: bool) -> Option<bool>
@@ -120,8 +132,8 @@ fn added(sums: Sums, over: i64, rest: Rest) -> Option<Sums>
     Some(Sums { value, tiny, under })
 }
 
-/// The sums of a line to which a number times another is added, by the sums of both and by their scales. None where
-/// the sums are over other denominators, or leave 64 bits.
+/// The sums of a line to which a number times another is added, by the sums of both and by their scales. None
+/// where the sums are over other denominators, or leave 64 bits.
 pub fn carried(sums: Sums, others: Sums, scales: &Scales) -> Option<Sums>
     ensures { IfSome result (AreCarried scales.now sums others) }
 {
@@ -182,6 +194,22 @@ fn sums_break(relation: Relation, rest: Rest, sums: Sums) -> bool
         Ordering::Less => true,
         Ordering::Equal => breaks_tiny(relation, sums.tiny, sums.under),
         Ordering::Greater => is_equation(relation),
+    }
+}
+
+/// How where a row rests stands to where these sums are.
+fn sums_order(rest: Rest, sums: Sums) -> Ordering
+    requires { sums.under < 2 ^ 31 }
+    ensures { IsOrderOfDeltas result (rest_point rest) (delta_of sums) }
+{
+    let level = multiple(i64::from(sums.under), rest.value);
+    match level.cmp(&sums.value) {
+        Ordering::Less => Ordering::Less,
+        Ordering::Equal => {
+            let tiny = multiple(i64::from(sums.under), rest.tiny);
+            tiny.cmp(&sums.tiny)
+        }
+        Ordering::Greater => Ordering::Greater,
     }
 }
 

@@ -1,24 +1,18 @@
-use Rattle.bt_simplex.specs.Turns.{CanEnter}
-use Rattle.bt_simplex.specs.inner.Bases.{with_slots, MayEnter, Names}
-use Rattle.bt_simplex.proofs.Resting.{point_cause}
-use Rattle.bt_simplex.proofs.Failing.{enters_told, least_told}
+use Rattle.bt_simplex.specs.Classes.{signed_terms}
+use Rattle.bt_simplex.specs.Lines.{one}
+use Rattle.bt_simplex.specs.inner.Bases.{with_slots}
+use Rattle.std.proofs.Common.{◌∷◌, []}
+use Rattle.bt_simplex.proofs.Failing.{enters_by, enters_line}
 use Rattle.bt_simplex.proofs.bland.entering_by.Goals as goal
 
-pub returns-in-Some-first_entering : goal.returns-in-Some-first_entering
-returns-in-Some-first_entering c slots slot fails =
-    let t = with_slots c.args.tableau.now slots in
-    let leaves = c.args.leaves in
-    let terms = c.args.line.now in
-    let row = c.in-Some.row.now in
-    let point = c.in-Ok.point in
-    least_told (λ e. Names terms (MayEnter t row point) e) (λ e. CanEnter t leaves e)
-    (λ e. enters_told t leaves e terms row point slot c.in-Some.ensures c.in-Ok.ensures.point) c.in-Some-first_entering.enters c.in-Some-first_entering.ensures
+pub returns-in-Line : goal.returns-in-Line
+returns-in-Line c =
+    enters_by (with_slots c.args.tableau.now c.args.basis.now) c.args.leaves (signed_terms c.in-Line.negated c.in-Line.line.now) c.args.order c.requires.fails c.requires.order c.in-Line.ensures.0 c.first_entering.result c.first_entering.ensures
 
-pub returns-in-None : goal.returns-in-None
-returns-in-None c slots slot fails e can =
-    let t = with_slots c.args.tableau.now slots in
-    c.in-None.ensures e
-    ((enters_told t c.args.leaves e c.args.line.now c.in-Some.row.now c.in-Ok.point slot c.in-Some.ensures c.in-Ok.ensures.point).1 can)
+pub returns-in-Like : goal.returns-in-Like
+returns-in-Like c =
+    enters_by (with_slots c.args.tableau.now c.args.basis.now) c.args.leaves (signed_terms c.in-Like.negated ((c.in-Like.other, one) ∷ [])) c.args.order c.requires.fails c.requires.order c.in-Like.ensures.0
+    c.alone_entering.result c.alone_entering.ensures
 
-pub returns-in-Err : goal.returns-in-Err
-returns-in-Err c slots slot fails = point_cause (with_slots c.args.tableau.now slots) c.args.leaves c.args.line.now c.in-Err.cause slot c.in-Err.ensures.unfit
+pub returns-in-Outside : goal.returns-in-Outside
+returns-in-Outside c e can = enters_line (with_slots c.args.tableau.now c.args.basis.now) c.args.leaves e c.in-Outside.ensures can

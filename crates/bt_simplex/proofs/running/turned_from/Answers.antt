@@ -17,7 +17,7 @@ turns-init c = record {
 
 pub returns-then-len-pivots : goal.returns-then-len-pivots
 returns-then-len-pivots c =
-    let bland = subst (λ n. IsNext (with_slots c.args.tableau.now c.turns.basis) n) c.in-Turn.is c.in_ok-turn.ensures.next in
+    let bland = subst (λ n. IsNext (with_slots c.args.tableau.now c.turns.basis) n) c.in-Turn.is c.blands_next.ensures.next in
     let many : c.args.pivots ≤ length c.turns.turns.items = omega arith in
     pivots_run c.args.pivots c.args.tableau.now c.args.start c.turns.turns c.turns.basis c.turns.invariant.few c.turns.invariant.is_at c.in-Turn.turn many bland
 
@@ -25,7 +25,7 @@ pub returns-in-Err : goal.returns-in-Err
 returns-in-Err c =
     let t = c.args.tableau.now in
     let turn = c.in-Turn.turn in
-    let bland = subst (λ n. IsNext (with_slots t c.turns.basis) n) c.in-Turn.is c.in_ok-turn.ensures.next in
+    let bland = subst (λ n. IsNext (with_slots t c.turns.basis) n) c.in-Turn.is c.blands_next.ensures.next in
     let told = subst (λ o. IfErr o (IsUnfitTurn c.turns.basis turn.leaves turn.enters c.make_turn.new.basis)) c.in-Err.is c.in_ok-cause-in-Turn.ensures.unfit in
     turn_run c.args.pivots t c.args.start c.turns.turns c.turns.basis c.turns.invariant.few c.turns.invariant.is_at c.make_turn.new.basis turn c.in-Err.cause bland told
 
@@ -34,7 +34,7 @@ turns-preserved c =
     let t = c.args.tableau.now in
     let start = with_slots t c.args.start in
     let turn = c.in-Turn.turn in
-    let bland = subst (λ n. IsNext (with_slots t c.turns.basis) n) c.in-Turn.is c.in_ok-turn.ensures.next in
+    let bland = subst (λ n. IsNext (with_slots t c.turns.basis) n) c.in-Turn.is c.blands_next.ensures.next in
     let made = subst (λ o. IfOk o (λ d. IsMade t turn c.turns.basis c.make_turn.new.basis)) c.in_default.is c.in_ok-cause-in-Turn.ensures.done in
     let follows = at_more t start c.turns.turns.items c.turns.basis turn c.make_turn.new.basis c.turns.invariant.is_at.follows bland made in
     let few : length c.turns.turns.items + 1 ≤ c.args.pivots = omega arith in
@@ -47,14 +47,14 @@ turns-preserved c =
 pub returns-in-Met : goal.returns-in-Met
 returns-in-Met c =
     met_run c.args.pivots c.args.tableau.now c.args.start c.turns.turns c.turns.basis c.turns.invariant.few c.turns.invariant.is_at
-    (subst (λ n. IsNext (with_slots c.args.tableau.now c.turns.basis) n) c.in-Met.is c.in_ok-turn.ensures.next)
+    (subst (λ n. IsNext (with_slots c.args.tableau.now c.turns.basis) n) c.in-Met.is c.blands_next.ensures.next)
 
 pub returns-in-Stuck : goal.returns-in-Stuck
 returns-in-Stuck c =
     stuck_run c.args.pivots c.args.tableau.now c.args.start c.turns.turns c.turns.basis c.turns.invariant.few c.turns.invariant.is_at c.in-Stuck.position
-    (subst (λ n. IsNext (with_slots c.args.tableau.now c.turns.basis) n) c.in-Stuck.is c.in_ok-turn.ensures.next)
+    (subst (λ n. IsNext (with_slots c.args.tableau.now c.turns.basis) n) c.in-Stuck.is c.blands_next.ensures.next)
 
 pub returns-in-Wide : goal.returns-in-Wide
 returns-in-Wide c =
     wide_run c.args.pivots c.args.tableau.now c.args.start c.turns.turns c.turns.basis c.turns.invariant.few c.turns.invariant.is_at c.in-Wide.cause
-    (subst (λ n. IsNext (with_slots c.args.tableau.now c.turns.basis) n) c.in-Wide.is c.in_ok-turn.ensures.next)
+    (subst (λ n. IsNext (with_slots c.args.tableau.now c.turns.basis) n) c.in-Wide.is c.blands_next.ensures.next)
