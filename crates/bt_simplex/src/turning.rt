@@ -141,8 +141,8 @@ fn entry_cause(row: usize, unfit: Unfit) -> Cause
     }
 }
 
-/// Puts what the entering position stands for in place of it, in each line, and forgets the sums of those
-/// that change; or tells a product or a sum that doesn't fit.
+/// Puts what the entering position stands for in place of it, in each line, and carries the sums of those
+/// that change, or forgets them; or tells a product or a sum that doesn't fit.
 fn substitute(
     tableau: &Tableau,
     alloc: Global,
@@ -259,8 +259,8 @@ fn long_zero(
 }
 
 /// Takes a class's line, and puts what the entering position stands for in place of it in each other line,
-/// with no sums kept of those that change; or tells a product or a sum that doesn't fit, and the same classes
-/// then have lines as before.
+/// with the sums of those that change carried or forgotten; or tells a product or a sum that doesn't fit, and
+/// the same classes then have lines as before.
 fn substitute_others(
     tableau: &Tableau,
     alloc: Global,
