@@ -1,6 +1,6 @@
 -- Middles of tiles on a shifted grid.
-use Rattle.std.proofs.Common.{◌≡◌, ℕ, ◌+◌, ◌/◌, ◌%◌, ◌<◌, ◌≤◌, ℤ, pos, negsuc, ◌+ℤ◌, ◌-ℤ◌, ◌*ℤ◌, arith, inl, inr, ◌⊎◌}
-use Rattle.std.specs.Prelude.{unsigned_abs}
+use Rattle.std.proofs.Common.{◌≡◌, ℕ, ◌+◌, ◌/◌, ◌%◌, ◌<◌, ◌≤◌, ℤ, pos, negsuc, ◌+ℤ◌, ◌-ℤ◌, ◌*ℤ◌, Option, None, Some, arith, inl, inr, ◌⊎◌}
+use Rattle.std.specs.Prelude.{unsigned_abs, MatchOption}
 use Rattle.std.proofs.lemmas.Bool.{cases_lt}
 use Rattle.std.proofs.lemmas.Int.{ints}
 use Rattle.bt_json.specs.declared.limits.TheConstants.{MOST_HALVES}
@@ -19,6 +19,13 @@ even_or_odd (negsuc n) = elim (cases_lt (n % 2) 1) [
   | inl even ↦ inr (negsuc (n / 2), omega (arith, ints))
   | inr odd ↦ inl (negsuc (n / 2), omega (arith, ints))
 ]
+
+-- the half of twice the first tile is the first tile
+pub first_of_half : (middle : ℤ) (size shift : ℕ) (twice : ℤ) (half : Option ℤ) → twice ≡ (middle -ℤ pos size) -ℤ pos shift
+    → MatchOption half ((h : ℤ) → ¬ (twice ≡ pos 2 *ℤ h)) (λ h. twice ≡ pos 2 *ℤ h)
+    → MatchOption half ((first : ℤ) → ¬ IsMiddle middle size shift first) (IsMiddle middle size shift)
+first_of_half middle size shift twice None e none = λ first is. none first (let m : middle ≡ (pos 2 *ℤ first) +ℤ pos (size + shift) = is in omega (arith, ints))
+first_of_half middle size shift twice (Some h) e is = omega (arith, ints)
 
 -- tiles that don't stand on the grid stand on it shifted by a half
 pub shifted : (z : ℤ) (size : ℕ) → ((first : ℤ) → ¬ IsMiddle z size 0 first) → (first : ℤ) × IsMiddle z size 1 first

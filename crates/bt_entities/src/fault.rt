@@ -46,7 +46,7 @@ impl EntityName {
 }
 
 /// What of an entity is wrong or special: one of its members, or the entity itself.
-#[derive(Clone, Copy, Debug, PartialEq, Eq)]
+#[derive(Clone, Copy, PartialEq, Eq)]
 pub enum Member {
     /// The entity itself.
     Entity,

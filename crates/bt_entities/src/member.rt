@@ -83,7 +83,10 @@ pub fn text_member<'a>(value: &'a Tree, name: &str) -> Option<&'a str>
         ((t : List ℕ) → ¬ HasText (json_of value.now) name.now t)
         (λ t. HasText (json_of value.now) name.now t.now) }
 {
-    as_text(member(value, name)?)
+    match member(value, name) {
+        Some(value) => as_text(value),
+        None => None,
+    }
 }
 
 /// The member of that name, where it is a number.
@@ -92,5 +95,8 @@ pub fn number_member<'a>(value: &'a Tree, name: &str) -> Option<&'a Decimal>
         ((n : Number) → ¬ HasNumber (json_of value.now) name.now n)
         (λ n. HasNumber (json_of value.now) name.now (number_of n.now)) }
 {
-    as_number(member(value, name)?)
+    match member(value, name) {
+        Some(value) => as_number(value),
+        None => None,
+    }
 }

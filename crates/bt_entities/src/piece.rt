@@ -8,7 +8,7 @@ ghost use Rattle.bt_parts.specs.declared.part.Dir.{Dir};
 ghost use Rattle.bt_parts.specs.declared.part.Cell.{Cell};
 ghost use Rattle.bt_entities.specs.declared.name.Family.TheVariants.{Undergrounds, Splitters};
 ghost use Rattle.bt_entities.specs.declared.shift.Shift.{Shift};
-ghost use Rattle.bt_entities.specs.Members.{HasText};
+ghost use Rattle.bt_entities.specs.Members.{HasText, HasNumber};
 ghost use Rattle.bt_entities.specs.Names.{name_of};
 ghost use Rattle.bt_entities.specs.declared.fault.EntityFault.TheVariants.{Memory};
 ghost use Rattle.bt_entities.specs.Entities.{HasFamily, HasKind, HasDirection, HasPosition, direction_value};
@@ -55,16 +55,29 @@ pub struct Piece {
     pub output: Priority,
 }
 
+/// The coordinates that a position tells.
+fn coordinates(position: &Tree) -> Option<(&Decimal, &Decimal)>
+    ensures { MatchOption result
+        ((x y : Number) → ¬ (HasNumber (json_of position.now) (codes "x") x × HasNumber (json_of position.now) (codes "y") y))
+        (λ p. HasNumber (json_of position.now) (codes "x") (number_of p.0.now)
+        × HasNumber (json_of position.now) (codes "y") (number_of p.1.now)) }
+{
+    match (number_member(position, "x"), number_member(position, "y")) {
+        (Some(x), Some(y)) => Some((x, y)),
+        _ => None,
+    }
+}
+
 /// The coordinates of the centre, in tiles.
 fn position(entity: &Tree) -> Option<(&Decimal, &Decimal)>
     ensures { MatchOption result
         ((x y : Number) → ¬ HasPosition (json_of entity.now) x y)
         (λ p. HasPosition (json_of entity.now) (number_of p.0.now) (number_of p.1.now)) }
 {
-    let position = member(entity, "position")?;
-    let x = number_member(position, "x")?;
-    let y = number_member(position, "y")?;
-    Some((x, y))
+    match member(entity, "position") {
+        Some(position) => coordinates(position),
+        None => None,
+    }
 }
 
 /// Twice the number, where that is a whole number in range: no other is rounded to one.
@@ -127,9 +140,9 @@ fn kind_of(family: Family, entity: &Tree) -> Option<Kind>
     match family {
         Family::Belts => Some(Kind::Belt),
         Family::Splitters => Some(Kind::Splitter),
-        Family::Undergrounds => match text_member(entity, "type")? {
-            "input" => Some(Kind::Entrance),
-            "output" => Some(Kind::Exit),
+        Family::Undergrounds => match text_member(entity, "type") {
+            Some("input") => Some(Kind::Entrance),
+            Some("output") => Some(Kind::Exit),
             _ => None,
         },
     }
@@ -145,9 +158,9 @@ fn side_of(entity: &Tree, name: &str) -> Option<Priority>
     let Some(side) = member(entity, name) else {
         return Some(Priority::Even);
     };
-    match as_text(side)? {
-        "none" => Some(Priority::Even),
-        "left" | "right" => Some(Priority::Sided),
+    match as_text(side) {
+        Some("none") => Some(Priority::Even),
+        Some("left" | "right") => Some(Priority::Sided),
         _ => None,
     }
 }
@@ -251,11 +264,15 @@ impl Piece {
     pub fn cell(&self, shift: Shift) -> Option<Cell>
         ensures { MatchOption result ((cell : Cell) → ¬ IsOn self.now shift cell) (IsOn self.now shift) }
     {
-        let twice_x = self.x?;
-        let twice_y = self.y?;
-        let x = first_tile(twice_x, width(self.kind, self.dir), shift.x)?;
-        let y = first_tile(twice_y, height(self.kind, self.dir), shift.y)?;
-        Some(Cell { x, y })
+        let (Some(twice_x), Some(twice_y)) = (self.x, self.y) else {
+            return None;
+        };
+        let x = first_tile(twice_x, width(self.kind, self.dir), shift.x);
+        let y = first_tile(twice_y, height(self.kind, self.dir), shift.y);
+        match (x, y) {
+            (Some(x), Some(y)) => Some(Cell { x, y }),
+            _ => None,
+        }
     }
 }
 

@@ -1,7 +1,7 @@
 //! From the middle of a part, in halves of a tile, to its first cell. A blueprint's positions are relative
 //! to a point of its own, so its parts may all stand off whole tiles by half a tile, each way.
 
-ghost use Rattle.std.specs.Prelude.{◌≡◌, ◌<◌, ◌^◌, ℤ, ◌*ℤ◌, pos, neg_ℤ, unsigned_abs};
+ghost use Rattle.std.specs.Prelude.{◌≡◌, ◌<◌, ◌^◌, ℤ, ◌-ℤ◌, ◌*ℤ◌, pos, neg_ℤ, unsigned_abs};
 ghost use Rattle.std.specs.Prelude.{if◌then◌else◌, MatchOption};
 ghost use Rattle.bt_entities.specs.Places.{width_of, height_of, IsMiddle};
 
@@ -59,13 +59,21 @@ fn half(twice: i64) -> Option<i32>
     Some(with_sign(twice < 0, magnitude / 2))
 }
 
+/// Twice the first of so many tiles with this middle, which is shifted, if that is a whole tile.
+fn twice_first(middle: i32, size: u8, shift: u8) -> i64
+    ensures first { result ≡ (middle -ℤ pos size) -ℤ pos shift }
+    ensures near { unsigned_abs result < 2 ^ 32 }
+{
+    i64::from(middle) - i64::from(size) - i64::from(shift)
+}
+
 /// The first of so many tiles with this middle, which is told in halves of a tile and shifted.
 pub fn first_tile(middle: i32, size: u8, shift: u8) -> Option<i32>
     ensures { MatchOption result
         ((first : ℤ) → ¬ IsMiddle middle size shift first)
         (IsMiddle middle size shift) }
 {
-    half(i64::from(middle) - i64::from(size) - i64::from(shift))
+    half(twice_first(middle, size, shift))
 }
 
 /// By how many halves of a tile so many tiles with this middle stand off the grid.

@@ -5,11 +5,11 @@ ghost use Rattle.bt_io.specs.declared.fault.ReadAll.TheVariants.{Memory};
 use std::alloc::{AllocError, AllocFailed};
 
 /// A read or a write that failed.
-#[derive(Clone, Copy, Debug, PartialEq, Eq)]
+#[derive(Clone, Copy, PartialEq, Eq)]
 pub struct Failed;
 
 /// A write that failed before the whole text was written.
-#[derive(Clone, Copy, Debug, PartialEq, Eq)]
+#[derive(Clone, Copy, PartialEq, Eq)]
 pub struct WriteFault;
 
 /// Why a source was not read to its end.

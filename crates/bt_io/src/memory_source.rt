@@ -1,5 +1,5 @@
 //! A source in memory with faults of its own, for the tests of what reads.
-ghost use Rattle.std.specs.Prelude.{◌≡◌, ◌≤◌, ◌↔◌, length, IfOk, IsErr, OnErr, Contains, Some};
+ghost use Rattle.std.specs.Prelude.{◌≡◌, ◌≤◌, ◌+◌, ◌↔◌, length, take, drop, IfOk, IsErr, OnErr, Contains, Some};
 ghost use Rattle.std.specs.Io.{ReadsAtMost};
 ghost use Rattle.std.specs.Io.KnownBytes.{ReadConsumes};
 ghost use Rattle.bt_io.specs.Causes.{HasCause, next_count};
@@ -52,6 +52,16 @@ impl MemSource {
     }
 }
 
+/// Copies so many bytes from a place on to the front of a buffer.
+fn copy_from(bytes: &[u8], at: usize, count: usize, buf: &mut [u8])
+    requires bytes { at + count ≤ length bytes.now }
+    requires buf { count ≤ length buf.old }
+    ensures front { take count buf.new ≡ take count (drop at bytes.now) }
+    ensures length { length buf.new ≡ length buf.old }
+{
+    buf[..count].copy_from_slice(&bytes[at..at + count]);
+}
+
 impl Source for MemSource {
     ghost left = { λ s. Some s.left };
 
@@ -75,7 +85,7 @@ impl Source for MemSource {
         }
         let left = self.bytes.len() - self.at;
         let count = self.most.min(buf.len()).min(left);
-        buf[..count].copy_from_slice(&self.bytes[self.at..self.at + count]);
+        copy_from(&self.bytes, self.at, count, buf);
         self.at += count;
         Ok(count)
     }

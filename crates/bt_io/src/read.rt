@@ -1,5 +1,5 @@
 //! Reading a source to its end, block by block.
-ghost use Rattle.std.specs.Prelude.{◌≢◌, ◌^◌, ◌<◌, ◌≤◌, IfErr, length, vec_items};
+ghost use Rattle.std.specs.Prelude.{◌≢◌, ◌+◌, ◌^◌, ◌<◌, ◌≤◌, IfErr, length, vec_items};
 ghost use Rattle.bt_answers.specs.Answers.{seen};
 ghost use Rattle.bt_io.specs.Blocks.{Drains, ReadsOn};
 ghost use Rattle.bt_io.specs.Bytes.{ReadsAll};
@@ -12,6 +12,17 @@ use std::alloc::Global;
 
 /// The most bytes that one call asks of its source.
 const BLOCK: usize = 65536;
+
+/// How many bytes are asked for where so many were taken: one past the limit shows that there are too many.
+fn room_for(limit: usize, taken: usize) -> usize
+    requires limit { limit < 2 ^ 62 }
+    requires within { taken ≤ limit }
+    ensures fits { taken + result ≤ limit + 1 }
+    ensures some { 0 < result }
+    ensures block { result ≤ 65536 }
+{
+    (limit + 1 - taken).min(BLOCK)
+}
 
 /// Reads the next block of a source behind the bytes that were read so far, and gives whether there was one: else the
 /// source has ended. No more than `limit` bytes are read in all.
@@ -29,7 +40,7 @@ pub fn read_on<S: Source>(
         bytes.old.items bytes.new.items result }
 {
     let mut block = [0u8; BLOCK];
-    let room = (limit + 1 - bytes.len()).min(BLOCK);
+    let room = room_for(limit, bytes.len());
     let piece = &mut block[..room];
 
     // The memory is taken first, so that want of memory loses no byte of the source.
@@ -74,7 +85,7 @@ pub fn drain<S: Source>(source: &mut S, limit: usize) -> Result<(), ReadAll>
     let mut block = [0u8; BLOCK];
     let mut taken = 0;
     while taken <= limit {
-        let room = (limit + 1 - taken).min(BLOCK);
+        let room = room_for(limit, taken);
         let Ok(count) = source.read(&mut block[..room]) else {
             return Err(ReadAll::ReadFault);
         };

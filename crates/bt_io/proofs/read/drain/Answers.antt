@@ -9,7 +9,7 @@ loop-taken-preserved g c =
     record {
       drained = drained_more (g.S.Source.left c.args.source.now) (g.S.Source.left c.loop-taken.source) (g.S.Source.left c.read.new.self) c.loop-taken.taken c.in-Ok.count
           (take c.in-Ok.count c.read.new.buf) c.loop-taken.invariant.drained c.in-Ok.ensures.bytes.0 (sym c.in-Ok.ensures.bound.1);
-      size = first_of (grind (arith, common_steps), omega (arith, c.min-room.ensures, c.read.auto.buf));
+      size = first_of (grind (arith, common_steps), omega (arith, c.room_for-room.ensures.fits, c.read.auto.buf));
       block = first_of (search rules, grind (arith, common_steps));
       count = omega (arith, c.loop-taken.invariant.count, c.read.ensures.cause.later);
     }
