@@ -7,7 +7,7 @@ use bt_frac::Frac;
 
 /// A test of a state, in the order in which the tests come: of the loads and rooms, the seven laws of
 /// steady states (Couëtoux, Gastaldi and Naves), and of a property's conclusion.
-#[derive(Clone, Copy, Debug, PartialEq, Eq)]
+#[derive(Clone, Copy, PartialEq, Eq)]
 pub enum Test {
     /// The load of an input is from 0 to its cap, and at it where the property asks that.
     Load,
@@ -77,7 +77,7 @@ impl Test {
 
 /// Whether a state passes all tests, or which is the first that fails. The tests of `breaks` pass
 /// where the state breaks the property, those of `steady` where it is steady.
-#[derive(Clone, Copy, Debug, PartialEq, Eq)]
+#[derive(Clone, Copy, PartialEq, Eq)]
 pub enum Judgement {
     /// All tests pass.
     Passes,
@@ -87,7 +87,7 @@ pub enum Judgement {
 }
 
 /// Two numbers whose sum a test at a place needs, and whose addition leaves 128 bits.
-#[derive(Clone, Copy, Debug, PartialEq, Eq)]
+#[derive(Clone, Copy, PartialEq, Eq)]
 pub struct WideSum {
     /// The test that needs the sum.
     pub test: Test,

@@ -4,7 +4,7 @@ ghost use Rattle.bt_flow.specs.Properties.{asks_loads, asks_rooms};
 ghost use Rattle.bt_flow.specs.Names.{property_name};
 
 /// A property that the steady states of a balancer may have. (Factorio Wiki, on balancers.)
-#[derive(Clone, Copy, Debug, PartialEq, Eq)]
+#[derive(Clone, Copy, PartialEq, Eq)]
 pub enum Property {
     /// Where no output is blocked, all output flows are equal.
     Balanced,

@@ -46,9 +46,16 @@ fn read_sizes(line: &[u8]) -> Option<Sizes>
 {
     let (inputs, words) = split_once(after_word(line, b"net ")?, b' ')?;
     let (outputs, splitters) = split_once(words, b' ')?;
-    Some(Sizes {
-        inputs: read_whole(inputs)?,
-        outputs: read_whole(outputs)?,
-        splitters: read_whole(splitters)?,
-    })
+    match (
+        read_whole(inputs),
+        read_whole(outputs),
+        read_whole(splitters),
+    ) {
+        (Some(inputs), Some(outputs), Some(splitters)) => Some(Sizes {
+            inputs,
+            outputs,
+            splitters,
+        }),
+        _ => None,
+    }
 }

@@ -1,5 +1,5 @@
 //! A line of text in a buffer of its own, so that printing takes no memory.
-ghost use Rattle.std.specs.Prelude.{◌≡◌, ◌==◌, ◌+◌, ◌≤◌, ◌++◌, [], length, decimal};
+ghost use Rattle.std.specs.Prelude.{◌≡◌, ◌==◌, ◌+◌, ◌≤◌, ◌++◌, [], length, codes, decimal};
 ghost use Rattle.std.specs.Prelude.{if◌then◌else◌};
 ghost use Rattle.bt_net.specs.NetText.{start_text, target_text, cap_text};
 
@@ -63,6 +63,16 @@ impl LineBuffer {
         self.push(digits);
     }
 
+    /// Adds a space and a number.
+    pub fn push_spaced(&mut self, number: u32)
+        requires { length self.old + 11 ≤ 48 }
+        ensures number { self.new ≡ self.old ++ codes " " ++ decimal number }
+        ensures short { length self.new ≤ length self.old + 11 }
+    {
+        self.push(b" ");
+        self.push_number(number);
+    }
+
     /// Adds a space and a cap, or nothing where the cap is 1.
     pub fn push_cap(&mut self, cap: u32)
         requires { length self.old + 11 ≤ 48 }
@@ -70,8 +80,7 @@ impl LineBuffer {
         ensures short { length self.new ≤ length self.old + 11 }
     {
         if cap != 1 {
-            self.push(b" ");
-            self.push_number(cap);
+            self.push_spaced(cap);
         }
     }
 

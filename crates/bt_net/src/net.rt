@@ -10,7 +10,7 @@ use std::marker::Model;
 /// A network of splitters: each input and each output has one edge, and each splitter has at most
 /// two in edges and two out edges. There are at most `MOST_OF_EACH` of each kind, at least one input
 /// and at least one output, and every edge has a cap from 1 to `MOST_CAP`.
-#[derive(Debug, Drop)]
+#[derive(Drop)]
 pub struct Net {
     inputs: u32,
     outputs: u32,

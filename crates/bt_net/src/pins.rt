@@ -1,5 +1,5 @@
 //! The lines that say where ends stand, and where no part does, and their words.
-ghost use Rattle.std.specs.Prelude.{◌≡◌, ℕ, ◌^◌, ◌<◌, ◌++◌, Option, codes, decimal, IfSome, IfNone};
+ghost use Rattle.std.specs.Prelude.{◌≡◌, ◌↔◌, ℕ, ◌^◌, ◌<◌, ◌++◌, Option, codes, decimal, IsTrue, IfSome, IfNone};
 ghost use Rattle.bt_parts.specs.declared.part.Dir.{Dir};
 ghost use Rattle.bt_net.specs.declared.network.Block.{Block};
 ghost use Rattle.bt_net.specs.declared.network.End.{End};
@@ -11,7 +11,7 @@ ghost use Rattle.bt_net.specs.inner.PinWords.{AreCellAndWay, AreRowAndWay};
 
 use crate::network::{Block, End, NO_COORDINATE, Pin};
 use crate::wiring::Wiring;
-use crate::words::read_number;
+use crate::words::{number_behind, read_number};
 use bt_parts::Dir;
 use bt_text::{after_word, split_once};
 
@@ -55,10 +55,12 @@ fn read_end(word: &[u8]) -> Option<End>
     ensures fits { IfSome result EndFits }
     ensures none { IfNone result ((e : End) → EndFits e → word.now ≡ end_text e → ⊥) }
 {
-    match word {
-        [b'i', digits @ ..] => Some(End::Input(read_number(digits)?)),
-        [b'o', digits @ ..] => Some(End::Output(read_number(digits)?)),
-        _ => None,
+    match number_behind(word, b'i') {
+        Some(input) => Some(End::Input(input)),
+        None => match number_behind(word, b'o') {
+            Some(output) => Some(End::Output(output)),
+            None => None,
+        },
     }
 }
 
@@ -89,17 +91,24 @@ fn read_dir(word: &[u8]) -> Option<Dir>
     ensures some { IfSome result (λ dir. word.now ≡ dir_text dir) }
     ensures none { IfNone result ((dir : Dir) → word.now ≡ dir_text dir → ⊥) }
 {
-    if word == b"north".as_slice() {
+    if is_word(word, b"north") {
         Some(Dir::North)
-    } else if word == b"east".as_slice() {
+    } else if is_word(word, b"east") {
         Some(Dir::East)
-    } else if word == b"south".as_slice() {
+    } else if is_word(word, b"south") {
         Some(Dir::South)
-    } else if word == b"west".as_slice() {
+    } else if is_word(word, b"west") {
         Some(Dir::West)
     } else {
         None
     }
+}
+
+/// Whether the word is this one.
+fn is_word(word: &[u8], other: &[u8]) -> bool
+    ensures { IsTrue result ↔ (word.now ≡ other.now) }
+{
+    word == other
 }
 
 /// A whole number of at most nine digits.

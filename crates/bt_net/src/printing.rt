@@ -29,10 +29,8 @@ fn header_line(net: &Net) -> LineBuffer
     let mut line = LineBuffer::new();
     line.push(b"net ");
     line.push_number(net.inputs());
-    line.push(b" ");
-    line.push_number(net.outputs());
-    line.push(b" ");
-    line.push_number(net.splitters());
+    line.push_spaced(net.outputs());
+    line.push_spaced(net.splitters());
     line.push(b"\n");
     line
 }

@@ -66,8 +66,8 @@ impl Wiring {
         ensures { IsTrue result ↔ HasEnd self.now end }
     {
         match end {
-            End::Input(i) => (i as usize) < self.inputs.len(),
-            End::Output(o) => (o as usize) < self.outputs.len(),
+            End::Input(i) => has_place(&self.inputs, i),
+            End::Output(o) => has_place(&self.outputs, o),
         }
     }
 
@@ -142,6 +142,13 @@ fn ends_free(entering: &[u8], outputs: &[u8], target: Target) -> bool
         Target::Split(s) => is_below(entering, s, 2),
         Target::Output(o) => is_below(outputs, o, 1),
     }
+}
+
+/// Whether the tally has this place.
+fn has_place(tally: &[u8], place: u32) -> bool
+    ensures { IsTrue result ↔ place < length tally.now }
+{
+    (place as usize) < tally.len()
 }
 
 /// Whether the tally has this place, with fewer than that many.

@@ -1,5 +1,5 @@
 //! The words of an edge line, and numbers.
-ghost use Rattle.std.specs.Prelude.{◌≡◌, ℕ, ◌^◌, ◌<◌, decimal, IfSome, IfNone};
+ghost use Rattle.std.specs.Prelude.{◌≡◌, ℕ, ◌^◌, ◌<◌, ◌∷◌, decimal, IfSome, IfNone};
 ghost use Rattle.bt_net.specs.NetText.{start_text, target_text, IsEdgeLine};
 ghost use Rattle.bt_net.specs.Network.{IsCap};
 ghost use Rattle.bt_net.specs.inner.Lines.{StartFits, TargetFits, EdgeFits, IsTargetAndCap};
@@ -54,10 +54,12 @@ fn read_start(word: &[u8]) -> Option<Start>
     ensures fits { IfSome result StartFits }
     ensures none { IfNone result ((s : Start) → StartFits s → word.now ≡ start_text s → ⊥) }
 {
-    match word {
-        [b'i', digits @ ..] => Some(Start::Input(read_number(digits)?)),
-        [b's', digits @ ..] => Some(Start::Split(read_number(digits)?)),
-        _ => None,
+    match number_behind(word, b'i') {
+        Some(input) => Some(Start::Input(input)),
+        None => match number_behind(word, b's') {
+            Some(splitter) => Some(Start::Split(splitter)),
+            None => None,
+        },
     }
 }
 
@@ -67,10 +69,23 @@ fn read_target(word: &[u8]) -> Option<Target>
     ensures fits { IfSome result TargetFits }
     ensures none { IfNone result ((t : Target) → TargetFits t → word.now ≡ target_text t → ⊥) }
 {
-    match word {
-        [b's', digits @ ..] => Some(Target::Split(read_number(digits)?)),
-        [b'o', digits @ ..] => Some(Target::Output(read_number(digits)?)),
-        _ => None,
+    match number_behind(word, b's') {
+        Some(splitter) => Some(Target::Split(splitter)),
+        None => match number_behind(word, b'o') {
+            Some(output) => Some(Target::Output(output)),
+            None => None,
+        },
+    }
+}
+
+/// The number behind this letter, with which the word has to begin.
+pub fn number_behind(word: &[u8], letter: u8) -> Option<u32>
+    ensures some { IfSome result (λ n. word.now ≡ letter ∷ decimal n) }
+    ensures none { IfNone result ((n : ℕ) → n < 2 ^ 32 → word.now ≡ letter ∷ decimal n → ⊥) }
+{
+    match after_word(word, &[letter]) {
+        Some(digits) => read_number(digits),
+        None => None,
     }
 }
 

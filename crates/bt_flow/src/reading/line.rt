@@ -58,9 +58,16 @@ fn is_title(line: &[u8], property: Property) -> bool
     ensures { IsTrue result ↔ (line.now ≡ codes "no " ++ property_name property) }
 {
     match after_word(line, b"no ") {
-        Some(name) => name == property.name().as_bytes(),
+        Some(name) => is_name(name, property),
         None => false,
     }
+}
+
+/// Whether the word is the property's name.
+fn is_name(word: &[u8], property: Property) -> bool
+    ensures { IsTrue result ↔ (word.now ≡ property_name property) }
+{
+    word == property.name().as_bytes()
 }
 
 /// Passes the line `end`, after which only blanks stand.

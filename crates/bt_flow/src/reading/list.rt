@@ -80,7 +80,11 @@ fn next_item<T: Item>(text: &[u8]) -> Option<(T, &[u8])>
     ensures none { IfNone result ((x : T) (rest : List ℕ) →
         LeadsToItem T.can_stand T.word text.now x rest → ⊥) }
 {
-    let (word, rest) = next_piece(text, b' ')?;
-    let item = T::read(word)?;
-    Some((item, rest))
+    let Some((word, rest)) = next_piece(text, b' ') else {
+        return None;
+    };
+    match T::read(word) {
+        Some(item) => Some((item, rest)),
+        None => None,
+    }
 }

@@ -8,27 +8,24 @@ returns-in_err-outputs-clause-none c =
     rw c.from_residual-in_err-outputs.ensures (λ i o s h.
     header_spaces c.args.line.now (codes "net ") c.in_ok-after_word.field-0.now _ _ i o s c.in_ok-after_word.ensures.some refl c.in_ok-inputs.ensures.some c.in_err-outputs.ensures.none h)
 
-pub returns-in_err-read_whole-clause-none : goal.returns-in_err-read_whole-clause-none
-returns-in_err-read_whole-clause-none c =
-    rw c.from_residual-in_err-read_whole.ensures (λ i o s h.
+pub returns-in_default-3-clause-none : goal.returns-in_default-3-clause-none
+returns-in_default-3-clause-none c = λ i o s h.
     let words = header_words c.args.line.now (codes "net ") c.in_ok-after_word.field-0.now _ _ _ _ i o s c.in_ok-after_word.ensures.some refl c.in_ok-inputs.ensures.some c.in_ok-outputs.ensures.some h in
-    c.in_err-read_whole.ensures.none i words.0)
+    (rw c.in_default.is-0 at c.read_whole.ensures.none) i words.0
 
-pub returns-in_err-read_whole-2-clause-none : goal.returns-in_err-read_whole-2-clause-none
-returns-in_err-read_whole-2-clause-none c =
-    rw c.from_residual-in_err-read_whole-2.ensures (λ i o s h.
+pub returns-in_default-2-clause-none : goal.returns-in_default-2-clause-none
+returns-in_default-2-clause-none c = λ i o s h.
     let words = header_words c.args.line.now (codes "net ") c.in_ok-after_word.field-0.now _ _ _ _ i o s c.in_ok-after_word.ensures.some refl c.in_ok-inputs.ensures.some c.in_ok-outputs.ensures.some h in
-    c.in_err-read_whole-2.ensures.none o words.1)
+    (rw c.in_default.is-1 at c.read_whole-2.ensures.none) o words.1
 
-pub returns-in_err-read_whole-3-clause-none : goal.returns-in_err-read_whole-3-clause-none
-returns-in_err-read_whole-3-clause-none c =
-    rw c.from_residual-in_err-read_whole-3.ensures (λ i o s h.
+pub returns-in_default-clause-none : goal.returns-in_default-clause-none
+returns-in_default-clause-none c = λ i o s h.
     let words = header_words c.args.line.now (codes "net ") c.in_ok-after_word.field-0.now _ _ _ _ i o s c.in_ok-after_word.ensures.some refl c.in_ok-inputs.ensures.some c.in_ok-outputs.ensures.some h in
-    c.in_err-read_whole-3.ensures.none s words.2)
+    (rw c.in_default.is-2 at c.read_whole-3.ensures.none) s words.2
 
-pub returns-clause-some : goal.returns-clause-some
-returns-clause-some c =
-    let one = c.in_ok-read_whole.ensures.some in
-    let two = c.in_ok-read_whole-2.ensures.some in
-    let three = c.in_ok-read_whole-3.ensures.some in
+pub returns-in-Some-Some-Some-clause-some : goal.returns-in-Some-Some-Some-clause-some
+returns-in-Some-Some-Some-clause-some c =
+    let one = c.in-Some-Some-Some.ensures.some in
+    let two = c.in-Some-Some-Some.ensures'.some in
+    let three = c.in-Some-Some-Some.ensures''.some in
     (one.0, two.0, three.0, header_of c.args.line.now (codes "net ") c.in_ok-after_word.field-0.now _ _ _ _ one.0 two.0 three.0 c.in_ok-after_word.ensures.some refl c.in_ok-inputs.ensures.some c.in_ok-outputs.ensures.some one.1 two.1 three.1, one.2, two.2, three.2)
