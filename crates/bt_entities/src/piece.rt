@@ -58,7 +58,8 @@ pub struct Piece {
 /// The coordinates that a position tells.
 fn coordinates(position: &Tree) -> Option<(&Decimal, &Decimal)>
     ensures { MatchOption result
-        ((x y : Number) → ¬ (HasNumber (json_of position.now) (codes "x") x × HasNumber (json_of position.now) (codes "y") y))
+        ((x y : Number) → ¬ (HasNumber (json_of position.now) (codes "x") x
+        × HasNumber (json_of position.now) (codes "y") y))
         (λ p. HasNumber (json_of position.now) (codes "x") (number_of p.0.now)
         × HasNumber (json_of position.now) (codes "y") (number_of p.1.now)) }
 {

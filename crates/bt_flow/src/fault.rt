@@ -5,7 +5,7 @@ ghost use Rattle.bt_flow.specs.declared.fault.StateFault.TheVariants.{Memory};
 use std::alloc::{AllocError, AllocFailed};
 
 /// Why there is no state.
-#[derive(Clone, Copy)]
+#[derive(Clone, Copy, PartialEq, Eq)]
 pub enum StateFault {
     /// This line, from 1, isn't the line that belongs there.
     CertLine(usize),

@@ -5,7 +5,7 @@ ghost use Rattle.bt_net.specs.declared.fault.NetFault.TheVariants.{Memory};
 use std::alloc::AllocError;
 
 /// Why there is no network.
-#[derive(Clone, Copy, Debug)]
+#[derive(Clone, Copy, Debug, PartialEq, Eq)]
 pub enum NetFault {
     /// This line, from 1, may not stand there.
     NetLine(usize),

@@ -14,14 +14,14 @@ pub const MOST_CAP: u32 = 4;
 pub const NO_COORDINATE: u32 = 1_000_000_000;
 
 /// Where an edge starts: at an input or at a splitter, by its number from 0.
-#[derive(Clone, Copy)]
+#[derive(Clone, Copy, PartialEq, Eq)]
 pub enum Start {
     Input(u32),
     Split(u32),
 }
 
 /// Where an edge ends: at a splitter or at an output, by its number from 0.
-#[derive(Clone, Copy)]
+#[derive(Clone, Copy, PartialEq, Eq)]
 pub enum Target {
     Split(u32),
     Output(u32),
@@ -29,7 +29,7 @@ pub enum Target {
 
 /// A belt between two ends of a network. `cap` is the most that it carries, from 1 to `MOST_CAP`,
 /// where 1 is one belt of the slowest tier.
-#[derive(Clone, Copy)]
+#[derive(Clone, Copy, PartialEq, Eq)]
 pub struct Edge {
     pub start: Start,
     pub target: Target,
