@@ -1,6 +1,7 @@
 #!/usr/bin/env bash
 # Times `beltproof decide` as a whole program against z3 on the same formula, which is written here as SMT-LIB, on the
 # examples' balancers and on butterflies, and prints the ratio of the two times, the verdict and the steps of its log.
+# The seconds are those of the processor, the least of many runs that take turns.
 # It needs z3 (`apt-get install z3`).
 set -euo pipefail
 top=$(cd "$(dirname "${BASH_SOURCE[0]}")/.." && pwd)
@@ -94,19 +95,30 @@ def formula(counts, edges, wanted):
     return "\n".join([*out, "(check-sat)", ""])
 
 
-def run(words, path, rounds):
-    """The least processor seconds of some runs, and what was printed."""
-    best, text = None, b""
-    for _ in range(rounds):
-        with open(path, "rb") as file:
-            process = subprocess.Popen(words, stdin=file, stdout=subprocess.PIPE)
-            text = process.stdout.read()
-            _, _, usage = os.wait4(process.pid, 0)
-        time = usage.ru_utime + usage.ru_stime
-        best = time if best is None else min(best, time)
-        if time > 5:
+# The runs of each side, and the seconds of both after which no more are begun.
+ROUNDS, ENOUGH = 20, 12
+
+
+def run(words, path):
+    """The processor seconds of one run, and what was printed."""
+    with open(path, "rb") as file:
+        process = subprocess.Popen(words, stdin=file, stdout=subprocess.PIPE)
+        text = process.stdout.read()
+        _, _, usage = os.wait4(process.pid, 0)
+    return usage.ru_utime + usage.ru_stime, text.decode().splitlines()
+
+
+def race(*sides):
+    """The least processor seconds of many runs of each side, which take turns, and what each printed."""
+    least, spent = [], 0
+    for _ in range(ROUNDS):
+        results = [run(*side) for side in sides]
+        seconds = [time for time, _ in results]
+        least = [min(times) for times in zip(least, seconds)] if least else seconds
+        spent += sum(seconds)
+        if spent > ENOUGH:
             break
-    return best, text.decode().splitlines()
+    return list(zip(least, (lines for _, lines in results)))
 
 
 def write(name, text):
@@ -120,8 +132,10 @@ texts = {name: open(os.path.join(examples, f"{name}.net")).read() for name in ("
 texts |= {f"butterfly-{2**k}-to-{2**k}": butterfly(k) for k in (2, 3)}
 for name, text in texts.items():
     for wanted in PROPERTIES:
-        ours, lines = run([program, "decide", wanted], write("network", text), 3)
-        theirs, answer = run(["z3", "-smt2", "/dev/stdin"], write("formula", formula(*network(text), wanted)), 3)
+        (ours, lines), (theirs, answer) = race(
+            ([program, "decide", wanted], write("network", text)),
+            (["z3", "-smt2", "/dev/stdin"], write("formula", formula(*network(text), wanted))),
+        )
         steps = sum(line[:2] in ("f ", "r ") for line in lines)
         lemmas = sum(line[:2] == "f " for line in lines)
         agree = {"unsat": "yes", "sat": "no"}.get(answer[0]) == lines[0].split()[0]
