@@ -1,5 +1,5 @@
 -- The rows of atoms that literals negate.
-use Rattle.std.proofs.Common.{◌≡◌, ℕ, zero, suc, ◌<◌, ◌≤◌, ◌+◌, arith, Bool, true, false, List, [], ◌∷◌, ◌++◌, length, get_or, Option, None, Some, Ok, Err, ap, sym, ◌∙◌, refl, subst, map}
+use Rattle.std.proofs.Common.{◌≡◌, ℕ, zero, suc, ◌<◌, arith, Bool, true, false, List, [], ◌∷◌, ◌++◌, length, get_or, Option, None, Some, Ok, Err, ap, sym, ◌∙◌, refl, subst, map}
 use Rattle.std.specs.List.{All, AllZip, zip}
 use Rattle.std.proofs.lemmas.List.{map-append, length-map, get_or-map}
 use Rattle.std.proofs.lemmas.List.Elements.{All-push}
@@ -8,10 +8,11 @@ use Rattle.bt_frac.specs.Rows.{RowParts}
 use Rattle.bt_lin.specs.Farkas.{IsFarkas, IsWidePlace}
 use Rattle.bt_lin.specs.WeightedRows.{empty_row, picked}
 use Rattle.bt_lin.specs.declared.wide.WideAt.{WideAt}
-use Rattle.bt_cnf.specs.Formulas.{FormulaParts, AscendBelow, IsFormula, LitsBelow}
+use Rattle.bt_cnf.specs.Formulas.{FormulaParts, IsFormula}
 use Rattle.bt_cnf.specs.Places.{IsPlaceOf}
 use Rattle.bt_cnf.specs.declared.literal.Lit.{Lit}
 use Rattle.bt_log.specs.Validity.{NegatesAtom}
+use Rattle.bt_log.proofs.NegatedAtoms.{var_at}
 use Rattle.bt_cert.specs.Judging.{Negate, MayWeighRows, IsWeighed}
 use Rattle.bt_cert.proofs.OneJudgement.{rows_same, as_many}
 use Rattle.bt_cert.specs.inner.Weighing.{rows_of, IsNegatedRow, IsPicked, IsWideLemma, JudgesLemma}
@@ -28,26 +29,6 @@ zip_at R [] ys i d e all inside = absurd (omega (arith, inside))
 zip_at R (v ∷ xs) [] i d e all inside = absurd all
 zip_at R (v ∷ xs) (w ∷ ys) zero d e all inside = all.0
 zip_at R (v ∷ xs) (w ∷ ys) (suc i) d e all inside = zip_at R xs ys i d e all.1 (omega (arith, inside))
-
--- ascending numbers are above the least, and below the end
-pub ascend_within : (least end : ℕ) (ns : List ℕ) (k : ℕ) → AscendBelow least end ns → k < length ns → (least ≤ get_or ns k 0) × (get_or ns k 0 < end)
-ascend_within least end [] k ascend inside = absurd (omega (arith, inside))
-ascend_within least end (n ∷ ns) zero ascend inside = (ascend.0, ascend.1)
-ascend_within least end (n ∷ ns) (suc k) ascend inside =
-    let rest = ascend_within (n + 1) end ns k ascend.2 (omega (arith, inside)) in
-    (omega (arith, rest.0, ascend.0), rest.1)
-
--- the variable of an atom at a place
-var_at : (atoms : List (ℕ × RowParts)) (k : ℕ) (a : ℕ × RowParts) → k < length atoms → get_or atoms k a ≡ a → get_or (map (λ a. a.0) atoms) k 0 ≡ a.0
-var_at atoms k a inside is = get_or-map (λ b. b.0) atoms k a 0 inside ∙ ap (λ b. b.0) is
-
--- literals that negate atoms are of variables
-pub negate_below : (f : FormulaParts) (lits : List Lit) (rows : List RowParts) → IsFormula f → Negate f lits rows → LitsBelow f.vars lits
-negate_below f lits rows is negate i d inside =
-    let atom = zip_at (NegatesAtom f) lits rows i d empty_row negate inside in
-    let j = atom.1.0 in
-    let a : ℕ × RowParts = ((get_or lits i d).var, get_or rows i empty_row) in
-    subst (λ n. n < f.vars) (var_at f.atoms j a atom.1.1 atom.1.2) (ascend_within 0 f.vars (map (λ a. a.0) f.atoms) j is.atoms (omega (arith, atom.1.1, length-map f.atoms (λ a. a.0)))).1
 
 -- a variable's place among the atoms tells its row
 pub negated_row : (f : FormulaParts) (l : Lit) (o : Option ℕ) → l.positive ≡ false → IsPlaceOf (map (λ a. a.0) f.atoms) l.var o → IsNegatedRow f l o

@@ -6,9 +6,9 @@ use Rattle.bt_cnf.specs.Formulas.{FormulaParts, IsFormula, LitsBelow}
 use Rattle.bt_cnf.specs.declared.literal.Lit.{Lit}
 use Rattle.bt_log.specs.Logs.{Step, Lemma, Learnt, clause_of}
 use Rattle.bt_log.specs.Validity.{IsValidStep, AreValid}
+use Rattle.bt_log.proofs.NegatedAtoms.{negated_below}
 use Rattle.bt_cert.specs.StepLines.{IsNumber, IsWrittenLit}
 use Rattle.bt_cert.specs.Laws.{written_lit, MayBeWritten}
-use Rattle.bt_cert.proofs.AtomRows.{negate_below}
 
 number : (n : ℕ) → n < 2 * 10 ^ 17 → IsNumber (n + 1)
 number n l = record { positive = omega arith; short = omega (arith, l) }
@@ -21,7 +21,7 @@ module _ (f : FormulaParts) (is : IsFormula f) (small : f.vars < 10 ^ 17) where
   hints_written hints m few h = All-map IsNumber (λ hint. hint + 1) hints (All-weaker (λ hint. hint < m) (λ hint. IsNumber (hint + 1)) (λ hint b. number hint (omega (arith, b, few))) hints h)
 
   step_written : (clauses : List (List Lit)) (step : Step) → length clauses < 2 * 10 ^ 17 → IsValidStep f clauses step → MayBeWritten step
-  step_written clauses (Lemma lits weights) few valid = (lits_written lits (negate_below f lits valid.rows is valid.negated), valid.fractions)
+  step_written clauses (Lemma lits weights) few valid = (lits_written lits (negated_below f lits valid.rows is valid.negated), valid.fractions)
   step_written clauses (Learnt lits hints) few valid = (lits_written lits valid.variables, hints_written hints (length clauses) few valid.numbers)
 
   pub steps_written : (clauses : List (List Lit)) (steps : List Step) → length clauses + length steps < 2 * 10 ^ 17 → AreValid f clauses steps → All MayBeWritten steps

@@ -4,6 +4,7 @@ use Rattle.std.proofs.lemmas.List.{length-map, get_or-map}
 use Rattle.bt_frac.specs.Ratio.{Ratio}
 use Rattle.bt_cnf.specs.Formulas.{LitsBelow, IsFormula}
 use Rattle.bt_cnf.specs.declared.literal.Lit.{Lit}
+use Rattle.bt_log.proofs.NegatedAtoms.{negated_below}
 use Rattle.bt_cert.specs.inner.Checking.{Checking, JudgesStep}
 use Rattle.bt_cert.specs.StepLines.{Lemma, Learnt, lit_of}
 use Rattle.bt_cert.specs.declared.written.WrittenLit.{WrittenLit}
@@ -13,7 +14,6 @@ use Rattle.bt_cert.specs.declared.fault.StepFault.TheVariants as fault
 use Rattle.bt_cert.specs.inner.Knowing.{AddsClause}
 use Rattle.bt_cert.specs.inner.Refuting.{JudgesLearnt, places_of}
 use Rattle.bt_cert.specs.inner.Weighing.{JudgesLemma}
-use Rattle.bt_cert.proofs.AtomRows.{negate_below}
 
 -- a written literal that is of no variable
 pub read_fails : (vars : ℕ) (written : List WrittenLit) (i : ℕ) (d : WrittenLit) → i < length written → vars ≤ (get_or written i d).number - 1 → LitsBelow vars (map lit_of written) → ⊥
@@ -25,7 +25,7 @@ read_fails vars written i d inside above below =
 module _ (old new : Checking) (same : new.formula ≡ old.formula) (lits : List WrittenLit) where
   -- literals of no variables
   pub lemma_unread : (weights : List Ratio) → IsFormula old.formula → (LitsBelow old.formula.vars (map lit_of lits) → ⊥) → JudgesStep old (Lemma lits weights) new (Err (fault.Fails cause.Literal))
-  lemma_unread weights is none = (λ rows negate. none (negate_below old.formula (map lit_of lits) rows is negate), same)
+  lemma_unread weights is none = (λ rows negate. none (negated_below old.formula (map lit_of lits) rows is negate), same)
 
   pub learnt_unread : (hints : List ℕ) → (LitsBelow old.formula.vars (map lit_of lits) → ⊥) → JudgesStep old (Learnt lits hints) new (Err (fault.Fails cause.Literal))
   learnt_unread hints none = (λ are. none are.variables, same)

@@ -125,7 +125,8 @@ ascend_wider : (least end : ℕ) (ns : List ℕ) → AscendBelow least end ns �
 ascend_wider least end [] ascend = tt
 ascend_wider least end (n ∷ ns) ascend = (ascend.0, omega (arith, ascend.1), ascend_wider (n + 1) end ns ascend.2)
 
-ascend_all : (least end : ℕ) (ns : List ℕ) → AscendBelow least end ns → All (λ m. m < end) ns
+-- all are below the end
+pub ascend_all : (least end : ℕ) (ns : List ℕ) → AscendBelow least end ns → All (λ m. m < end) ns
 ascend_all least end [] ascend = All-nil (λ m. m < end)
 ascend_all least end (n ∷ ns) ascend = All-cons (λ m. m < end) n ns ascend.1 (ascend_all (n + 1) end ns ascend.2)
 

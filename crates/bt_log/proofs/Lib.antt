@@ -1,2 +1,3 @@
 pub mod KeptLists
+pub mod NegatedAtoms
 pub mod Sound

@@ -1,19 +1,20 @@
 -- A log of fresh steps is no longer than there are clauses, where a clause counts as the set of its literals: each has
 -- a number in base 3, with a digit for each variable.
-use Rattle.std.proofs.Common.{◌≡◌, ◌≢◌, ℕ, zero, suc, ◌+◌, ◌*◌, ◌^◌, ◌<◌, ◌⊎◌, inl, inr, arith, Bool, true, false, not, List, [], ◌∷◌, ◌++◌, length, map, sym, subst, refl, ap, ◌∙◌, eqb}
+use Rattle.std.proofs.Common.{◌≡◌, ◌≢◌, ℕ, zero, suc, ◌+◌, ◌*◌, ◌^◌, ◌<◌, ◌⊎◌, inl, inr, arith, Bool, true, false, not, List, [], ◌∷◌, ◌++◌, length, sym, subst, refl, ap, ◌∙◌, eqb}
 use Rattle.std.proofs.Math.Nat.{pow-succ'}
 use Rattle.std.specs.Prelude.{Contains}
 use Rattle.std.specs.List.{AllByRecursion, AllZip, IsDistinct, list_any}
 use Rattle.std.proofs.lemmas.Bool.{eqb-true, false≢true, ne_eqb, or_cases}
-use Rattle.std.proofs.lemmas.List.Elements.{All-nil, All-cons, All-head, All-tail, All-contains, Contains-append_left, Contains-push}
+use Rattle.std.proofs.lemmas.List.Elements.{All-head, All-tail, All-contains, Contains-append_left, Contains-push}
 use Rattle.std.proofs.lemmas.Map.Steps.{length-le_from_distinct_below}
 use Rattle.bt_frac.specs.Rows.{RowParts}
-use Rattle.bt_cnf.specs.Formulas.{AscendBelow, FormulaParts, IsFormula, LitsBelow}
+use Rattle.bt_cnf.specs.Formulas.{FormulaParts, IsFormula, LitsBelow}
 use Rattle.bt_cnf.specs.Meeting.{IsTrueUnder, MeetsClause}
 use Rattle.bt_cnf.specs.declared.literal.Lit.{Lit}
 use Rattle.bt_log.specs.Logs.{Lemma, Learnt, Step, clause_of}
 use Rattle.bt_log.specs.Units.{HasNoBothSigns, IsUnit, opposite}
 use Rattle.bt_log.specs.Validity.{AreValid, IsValidStep, NegatesAtom}
+use Rattle.bt_log.proofs.NegatedAtoms.{negated_below}
 use Rattle.bt_sat.specs.Freshness.{IsFreshLemma, IsFreshStep, IsOpen}
 use Rattle.bt_sat.specs.Laws.{FreshStepsAreFew}
 use Rattle.bt_sat.specs.Propagation.{begins, goes_on}
@@ -139,22 +140,6 @@ nonempty_code vars (l ∷ lits) is some =
     some_digit var true among = omega (arith, digit_positive (l ∷ lits) var among)
     some_digit var false among = omega (arith, digit_negative (l ∷ lits) var is.signs among)
 
--- a variable of an atom is one of the formula's
-atom_below : {X : Type 0} (atoms : List (ℕ × X)) (least end : ℕ) → AscendBelow least end (map (λ a. a.0) atoms) → (var : ℕ) (x : X) → Contains atoms (var, x) → var < end
-atom_below [] least end ascend var x among = absurd (none_in (var, x) among)
-atom_below (a ∷ atoms) least end ascend var x among =
-    elim (first_or a (var, x) atoms among) [
-      | inl here ↦ subst (λ v. v < end) (ap (λ p. p.0) here) ascend.1
-      | inr later ↦ atom_below atoms (a.0 + 1) end ascend.2 var x later
-    ]
-
-lemma_below : (f : FormulaParts) (lits : List Lit) (rows : List RowParts) → IsFormula f → AllZip (NegatesAtom f) lits rows → LitsBelow f.vars lits
-lemma_below f [] [] is all = All-nil (λ (l : Lit). l.var < f.vars)
-lemma_below f [] (row ∷ rows) is all = absurd all
-lemma_below f (l ∷ lits) [] is all = absurd all
-lemma_below f (l ∷ lits) (row ∷ rows) is all =
-    All-cons (λ (m : Lit). m.var < f.vars) l lits (atom_below f.atoms 0 f.vars is.atoms l.var row all.0.1) (lemma_below f lits rows is all.1)
-
 -- the literals of a lemma are negations
 pub all_negated : (f : FormulaParts) (lits : List Lit) (rows : List RowParts) → AllZip (NegatesAtom f) lits rows → (l : Lit) → Contains lits l → l.positive ≡ false
 all_negated f [] rows all l among = absurd (none_in l among)
@@ -168,7 +153,7 @@ all_negated f (m ∷ lits) (row ∷ rows) all l among =
 -- the clause of a valid step is such a set
 step_set : (f : FormulaParts) (clauses : List (List Lit)) (step : Step) → IsFormula f → IsValidStep f clauses step → IsSet f.vars (clause_of step)
 step_set f clauses (Lemma lits weights) is valid = record {
-  below = lemma_below f lits valid.rows is valid.negated;
+  below = negated_below f lits valid.rows is valid.negated;
   signs = λ l here there.
       false≢true (sym (all_negated f lits valid.rows valid.negated (opposite l) there) ∙ ap not (all_negated f lits valid.rows valid.negated l here));
 }
