@@ -99,39 +99,3 @@ impl Sink for MemSink {
         Ok(count)
     }
 }
-
-#[cfg(test)]
-mod tests {
-    use super::*;
-    use crate::write::write_all_of;
-    use std::test::Fail;
-
-    #[test]
-    fn takes_what_it_may(rt: HostRuntime) -> Result<(), Fail> {
-        let rows = [
-            // room, most, the call that fails, what is held of "hello", whether that is all
-            (5, 2, 9, "hello", true),
-            (6, 9, 2, "hello", true),
-            (3, 2, 9, "hel", false),
-            (0, 1, 9, "", false),
-            (5, 4, 2, "hell", false),
-            (5, 4, 1, "", false),
-        ];
-        for (room, most, fails_at, held, whole) in rows {
-            let fails = vec![in rt.alloc(); fails_at]?;
-            let mut sink = MemSink::new(rt.alloc(), room, fails, most)?;
-            let answer = write_all_of(&mut sink, b"hello");
-            assert!(rt; answer.is_ok() == whole);
-            assert!(rt; sink.held() == held.as_bytes());
-        }
-        Ok(())
-    }
-
-    #[test]
-    fn takes_no_byte_where_it_is_full(rt: HostRuntime) -> Result<(), Fail> {
-        let mut sink = MemSink::new(rt.alloc(), 0, Vec::new(rt.alloc()), 1)?;
-        assert!(rt; sink.write(b"") == Ok(0));
-        assert!(rt; sink.write(b"x") == Err(Failed));
-        Ok(())
-    }
-}

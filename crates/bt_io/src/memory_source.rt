@@ -90,23 +90,3 @@ impl Source for MemSource {
         Ok(count)
     }
 }
-
-#[cfg(test)]
-mod tests {
-    use super::*;
-    use std::test::Fail;
-
-    #[test]
-    fn gives_what_it_may(rt: HostRuntime) -> Result<(), Fail> {
-        let bytes = Vec::from_slice(rt.alloc(), b"hello")?;
-        let fails = vec![in rt.alloc(); 2u64]?;
-        let mut source = MemSource::new(bytes, fails, 2);
-        let mut buf = [0; 9];
-        let answers = [Ok(2), Err(Failed), Ok(2), Ok(1), Ok(0)];
-        for answer in answers {
-            assert!(rt; source.read(&mut buf) == answer);
-        }
-        assert!(rt; buf[0] == b'o');
-        Ok(())
-    }
-}

@@ -19,7 +19,7 @@ fn room_for(limit: usize, taken: usize) -> usize
     requires within { taken ≤ limit }
     ensures fits { taken + result ≤ limit + 1 }
     ensures some { 0 < result }
-    ensures block { result ≤ 65536 }
+    ensures block { result ≤ BLOCK }
 {
     (limit + 1 - taken).min(BLOCK)
 }
@@ -95,62 +95,4 @@ pub fn drain<S: Source>(source: &mut S, limit: usize) -> Result<(), ReadAll>
         taken += count;
     }
     Err(ReadAll::TooLong)
-}
-
-#[cfg(test)]
-mod tests {
-    use super::*;
-    use crate::memory_source::MemSource;
-    use std::test::Fail;
-
-    // What reading "hello" answers, with a source that gives at most two bytes a call and fails at one.
-    fn answer(alloc: Global, limit: usize, fails_at: u64) -> Result<Result<Vec<u8>, ReadAll>, Fail>
-        requires { limit < 2 ^ 62 }
-    {
-        let bytes = Vec::from_slice(alloc, b"hello")?;
-        let fails = vec![in alloc; fails_at]?;
-        let mut source = MemSource::new(bytes, fails, 2);
-        Ok(read_all(alloc, &mut source, limit))
-    }
-
-    #[test]
-    fn reads_to_the_end(rt: HostRuntime) -> Result<(), Fail> {
-        let all = answer(rt.alloc(), 5, 9)??;
-        assert!(rt; all.as_slice() == b"hello".as_slice());
-        Ok(())
-    }
-
-    #[test]
-    fn refuses(rt: HostRuntime) -> Result<(), Fail> {
-        let rows = [
-            // limit, the call that fails, the answer
-            (4, 9, ReadAll::TooLong),
-            (0, 9, ReadAll::TooLong),
-            (5, 1, ReadAll::ReadFault),
-            (5, 4, ReadAll::ReadFault),
-            (4, 3, ReadAll::ReadFault),
-        ];
-        for (limit, fails_at, fault) in rows {
-            assert!(rt; answer(rt.alloc(), limit, fails_at)? == Err(fault));
-        }
-        Ok(())
-    }
-
-    // The same of what is drained.
-    #[test]
-    fn drains(rt: HostRuntime) -> Result<(), Fail> {
-        let rows = [
-            (5, 9, Ok(())),
-            (4, 9, Err(ReadAll::TooLong)),
-            (5, 4, Err(ReadAll::ReadFault)),
-            (4, 3, Err(ReadAll::ReadFault)),
-        ];
-        for (limit, fails_at, told) in rows {
-            let bytes = Vec::from_slice(rt.alloc(), b"hello")?;
-            let fails = vec![in rt.alloc(); fails_at]?;
-            let mut source = MemSource::new(bytes, fails, 2);
-            assert!(rt; drain(&mut source, limit) == told);
-        }
-        Ok(())
-    }
 }

@@ -41,18 +41,3 @@ impl<'a> Source for SliceSource<'a> {
         Ok(count)
     }
 }
-
-#[cfg(test)]
-mod tests {
-    use super::*;
-
-    #[test]
-    fn gives_all(rt: HostRuntime) {
-        let mut source = SliceSource::new(b"hello");
-        let mut buf = [0; 3];
-        for count in [3, 2, 0] {
-            assert!(rt; source.read(&mut buf) == Ok(count));
-        }
-        assert!(rt; buf == *b"lol");
-    }
-}

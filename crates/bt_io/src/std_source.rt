@@ -59,37 +59,3 @@ impl<R: Read> Source for StdSource<R> {
         }
     }
 }
-
-#[cfg(test)]
-mod tests {
-    use super::*;
-    use std::io;
-
-    // A reader that fails.
-    #[derive(Drop)]
-    struct Broken;
-
-    impl Read for Broken {
-        fn read(&mut self, _: &mut [u8]) -> io::Result<usize> {
-            Err(io::ErrorKind::BrokenPipe.into())
-        }
-    }
-
-    #[test]
-    fn reads_to_the_end(rt: HostRuntime) {
-        let mut buf = [0; 3];
-        let mut source = StdSource::new(b"hello".as_slice());
-        for answer in [Ok(3), Ok(2), Ok(0), Ok(0)] {
-            assert!(rt; source.read(&mut buf) == answer);
-        }
-        assert!(rt; source.faults == 0);
-    }
-
-    #[test]
-    fn counts_a_failed_read(rt: HostRuntime) {
-        let mut buf = [0; 3];
-        let mut broken = StdSource::new(Broken);
-        assert!(rt; broken.read(&mut buf) == Err(Failed));
-        assert!(rt; broken.faults == 1);
-    }
-}

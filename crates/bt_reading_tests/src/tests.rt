@@ -1,6 +1,7 @@
 //! One file for each subject. A row of a table is one text, whose fields stand between bars: a table of structs or tuples
 //! takes far longer to prove.
 mod entities;
+mod io;
 mod json;
 mod log;
 mod text;
