@@ -6,10 +6,12 @@ pub mod Numerals
 pub mod Order
 pub mod Ordered
 pub mod Over
+pub mod Passing
 pub mod Products
 pub mod Quotients
 pub mod Ring
 pub mod RowColumns
+pub mod Signs
 pub mod TextPieces
 pub mod Sums
 pub mod Words

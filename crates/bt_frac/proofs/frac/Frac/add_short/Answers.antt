@@ -1,9 +1,10 @@
-use Rattle.std.proofs.Common.{rules, ◌/◌, ◌∙◌, FitsSigned}
+use Rattle.std.proofs.Common.{◌/◌, ◌∙◌, FitsSigned}
 use Rattle.std.specs.Int.{w128}
-use Rattle.std.proofs.lemmas.Int.{to_z-of_z}
+use Rattle.std.proofs.lemmas.Int.{to_z-of_z, fits_signed_from_abs}
 use Rattle.std.proofs.Math.Nat.{div-mul_cancel, dvd-mul_right_of_dvd}
 use Rattle.bt_frac.proofs.Gcds.{sum_is, quotient_positive, gcd_positive}
 use Rattle.bt_frac.proofs.Over.{under_positive}
+use Rattle.bt_frac.proofs.Passing.{short_fits_signed}
 use Rattle.bt_frac.proofs.Sums.{shares, short_fits, same_is, sum_seen}
 use Rattle.bt_frac.proofs.frac.Frac.add_short.Goals as goal
 
@@ -15,11 +16,9 @@ returns-clause-fits c = short_fits _ _ c.requires.self_short c.requires.other_sh
 
 pub returns-then-self-other-clause-sum : goal.returns-then-self-other-clause-sum
 returns-then-self-other-clause-sum c =
-    let small = c.self.invariant.over_fits in
-    let small' = c.other.invariant.over_fits in
-    let fits : FitsSigned w128 c.self.inside.over = search rules in
-    let fits' : FitsSigned w128 c.other.inside.over = search rules in
-    let sum_fits : FitsSigned w128 c.short_plus.result = search rules in
+    let fits : FitsSigned w128 c.self.inside.over = fits_signed_from_abs w128 c.self.inside.over c.self.invariant.over_fits in
+    let fits' : FitsSigned w128 c.other.inside.over = fits_signed_from_abs w128 c.other.inside.over c.other.invariant.over_fits in
+    let sum_fits : FitsSigned w128 c.short_plus.result = fits_signed_from_abs w128 c.short_plus.result c.short_plus.ensures.size in
     let sum = simp to_z-of_z at c.short_plus.ensures.sum in
     let over = simp to_z-of_z at c.lowest.ensures.reduces.1 in
     sum_seen c.lowest.result c.self.view_is c.other.view_is
@@ -41,13 +40,11 @@ lowest-requires-2-clause-divides c = dvd-mul_right_of_dvd _ c.gcd-common.ensures
 
 pub lowest-requires-2-clause-holds : goal.lowest-requires-2-clause-holds
 lowest-requires-2-clause-holds c =
-    let small = c.self.invariant.over_fits in
-    let small' = c.other.invariant.over_fits in
-    let fits : FitsSigned w128 c.self.inside.over = search rules in
-    let fits' : FitsSigned w128 c.other.inside.over = search rules in
-    let left_fits : FitsSigned w128 c.short_times-left.result = search rules in
-    let right_fits : FitsSigned w128 c.short_times-right.result = search rules in
-    let sum_fits : FitsSigned w128 c.short_plus-2.result = search rules in
+    let fits : FitsSigned w128 c.self.inside.over = fits_signed_from_abs w128 c.self.inside.over c.self.invariant.over_fits in
+    let fits' : FitsSigned w128 c.other.inside.over = fits_signed_from_abs w128 c.other.inside.over c.other.invariant.over_fits in
+    let left_fits : FitsSigned w128 c.short_times-left.result = short_fits_signed c.short_times-left.result c.short_times-left.ensures.size in
+    let right_fits : FitsSigned w128 c.short_times-right.result = short_fits_signed c.short_times-right.result c.short_times-right.ensures.size in
+    let sum_fits : FitsSigned w128 c.short_plus-2.result = fits_signed_from_abs w128 c.short_plus-2.result c.short_plus-2.ensures.size in
     let left = simp (to_z-of_z, c.quotient-left_factor.ensures) at c.short_times-left.ensures.product in
     let right = simp (to_z-of_z, c.quotient-right_factor.ensures) at c.short_times-right.ensures.product in
     let sum = simp to_z-of_z at c.short_plus-2.ensures.sum in
@@ -56,13 +53,11 @@ lowest-requires-2-clause-holds c =
 
 pub returns-clause-sum : goal.returns-clause-sum
 returns-clause-sum c =
-    let small = c.self.invariant.over_fits in
-    let small' = c.other.invariant.over_fits in
-    let fits : FitsSigned w128 c.self.inside.over = search rules in
-    let fits' : FitsSigned w128 c.other.inside.over = search rules in
-    let left_fits : FitsSigned w128 c.short_times-left.result = search rules in
-    let right_fits : FitsSigned w128 c.short_times-right.result = search rules in
-    let sum_fits : FitsSigned w128 c.short_plus-2.result = search rules in
+    let fits : FitsSigned w128 c.self.inside.over = fits_signed_from_abs w128 c.self.inside.over c.self.invariant.over_fits in
+    let fits' : FitsSigned w128 c.other.inside.over = fits_signed_from_abs w128 c.other.inside.over c.other.invariant.over_fits in
+    let left_fits : FitsSigned w128 c.short_times-left.result = short_fits_signed c.short_times-left.result c.short_times-left.ensures.size in
+    let right_fits : FitsSigned w128 c.short_times-right.result = short_fits_signed c.short_times-right.result c.short_times-right.ensures.size in
+    let sum_fits : FitsSigned w128 c.short_plus-2.result = fits_signed_from_abs w128 c.short_plus-2.result c.short_plus-2.ensures.size in
     let left = simp (to_z-of_z, c.quotient-left_factor.ensures) at c.short_times-left.ensures.product in
     let right = simp (to_z-of_z, c.quotient-right_factor.ensures) at c.short_times-right.ensures.product in
     let sum = simp to_z-of_z at c.short_plus-2.ensures.sum in

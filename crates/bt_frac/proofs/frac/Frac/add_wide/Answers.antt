@@ -1,6 +1,6 @@
-use Rattle.std.proofs.Common.{rules, ◌/◌, ◌∙◌, FitsSigned}
+use Rattle.std.proofs.Common.{◌/◌, ◌∙◌, FitsSigned}
 use Rattle.std.specs.Int.{w128}
-use Rattle.std.proofs.lemmas.Int.{to_z-of_z}
+use Rattle.std.proofs.lemmas.Int.{to_z-of_z, fits_signed_from_abs}
 use Rattle.std.proofs.Math.Nat.{div-mul_cancel, dvd-mul_right_of_dvd}
 use Rattle.bt_frac.proofs.Gcds.{wrong_left, wrong_right, wrong_sum, wrong_under, all_fit, sum_is, quotient_positive, gcd_positive}
 use Rattle.bt_frac.proofs.Over.{under_positive}
@@ -9,28 +9,24 @@ use Rattle.bt_frac.proofs.frac.Frac.add_wide.Goals as goal
 
 pub returns-in_default-clause-none : goal.returns-in_default-clause-none
 returns-in_default-clause-none c =
-    let small = c.self.invariant.over_fits in
-    let fits : FitsSigned w128 c.self.inside.over = search rules in
+    let fits : FitsSigned w128 c.self.inside.over = fits_signed_from_abs w128 c.self.inside.over c.self.invariant.over_fits in
     let refused = simp (to_z-of_z, c.quotient-left_factor.ensures) at c.in_default.ensures.none in
     wide_seen c.self.view_is c.other.view_is (wrong_left _ _ c.gcd-common.result c.gcd-common.ensures refused)
 
 pub returns-in_default-times-clause-none : goal.returns-in_default-times-clause-none
 returns-in_default-times-clause-none c =
-    let small = c.other.invariant.over_fits in
-    let fits : FitsSigned w128 c.other.inside.over = search rules in
+    let fits : FitsSigned w128 c.other.inside.over = fits_signed_from_abs w128 c.other.inside.over c.other.invariant.over_fits in
     let refused = simp (to_z-of_z, c.quotient-right_factor.ensures) at c.in_default-times.ensures.none in
     wide_seen c.self.view_is c.other.view_is (wrong_right _ _ c.gcd-common.result c.gcd-common.ensures refused)
 
 pub returns-in_default-plus-clause-none : goal.returns-in_default-plus-clause-none
 returns-in_default-plus-clause-none c =
-    let small = c.self.invariant.over_fits in
-    let small' = c.other.invariant.over_fits in
-    let fits : FitsSigned w128 c.self.inside.over = search rules in
-    let fits' : FitsSigned w128 c.other.inside.over = search rules in
+    let fits : FitsSigned w128 c.self.inside.over = fits_signed_from_abs w128 c.self.inside.over c.self.invariant.over_fits in
+    let fits' : FitsSigned w128 c.other.inside.over = fits_signed_from_abs w128 c.other.inside.over c.other.invariant.over_fits in
     let left = simp (to_z-of_z, c.quotient-left_factor.ensures) at c.in-Some.ensures.some.0 in
     let right = simp (to_z-of_z, c.quotient-right_factor.ensures) at c.in-Some-times.ensures.some.0 in
-    let left_fits : FitsSigned w128 c.in-Some.left = search rules in
-    let right_fits : FitsSigned w128 c.in-Some-times.right = search rules in
+    let left_fits : FitsSigned w128 c.in-Some.left = fits_signed_from_abs w128 c.in-Some.left c.in-Some.ensures.some.1 in
+    let right_fits : FitsSigned w128 c.in-Some-times.right = fits_signed_from_abs w128 c.in-Some-times.right c.in-Some-times.ensures.some.1 in
     let refused = simp to_z-of_z at c.in_default-plus.ensures.none in
     let refused' = simp (left, right) at refused in
     wide_seen c.self.view_is c.other.view_is (wrong_sum _ _ c.gcd-common.result c.gcd-common.ensures refused')
@@ -58,15 +54,13 @@ lowest-requires-clause-divides c =
 
 pub lowest-requires-clause-holds : goal.lowest-requires-clause-holds
 lowest-requires-clause-holds c =
-    let small = c.self.invariant.over_fits in
-    let small' = c.other.invariant.over_fits in
-    let fits : FitsSigned w128 c.self.inside.over = search rules in
-    let fits' : FitsSigned w128 c.other.inside.over = search rules in
+    let fits : FitsSigned w128 c.self.inside.over = fits_signed_from_abs w128 c.self.inside.over c.self.invariant.over_fits in
+    let fits' : FitsSigned w128 c.other.inside.over = fits_signed_from_abs w128 c.other.inside.over c.other.invariant.over_fits in
     let left = simp (to_z-of_z, c.quotient-left_factor.ensures) at c.in-Some.ensures.some.0 in
     let right = simp (to_z-of_z, c.quotient-right_factor.ensures) at c.in-Some-times.ensures.some.0 in
-    let left_fits : FitsSigned w128 c.in-Some.left = search rules in
-    let right_fits : FitsSigned w128 c.in-Some-times.right = search rules in
-    let sum_fits : FitsSigned w128 c.in-Some-plus.sum = search rules in
+    let left_fits : FitsSigned w128 c.in-Some.left = fits_signed_from_abs w128 c.in-Some.left c.in-Some.ensures.some.1 in
+    let right_fits : FitsSigned w128 c.in-Some-times.right = fits_signed_from_abs w128 c.in-Some-times.right c.in-Some-times.ensures.some.1 in
+    let sum_fits : FitsSigned w128 c.in-Some-plus.sum = fits_signed_from_abs w128 c.in-Some-plus.sum c.in-Some-plus.ensures.some.1 in
     let sum = simp to_z-of_z at c.in-Some-plus.ensures.some.0 in
     let sum' = simp (left, right) at sum in
     let under = simp c.quotient-left_factor.ensures at c.in-Some-times_unsigned.ensures.some.0 in
@@ -74,14 +68,12 @@ lowest-requires-clause-holds c =
 
 pub returns-clause-fits : goal.returns-clause-fits
 returns-clause-fits c =
-    let small = c.self.invariant.over_fits in
-    let small' = c.other.invariant.over_fits in
-    let fits : FitsSigned w128 c.self.inside.over = search rules in
-    let fits' : FitsSigned w128 c.other.inside.over = search rules in
+    let fits : FitsSigned w128 c.self.inside.over = fits_signed_from_abs w128 c.self.inside.over c.self.invariant.over_fits in
+    let fits' : FitsSigned w128 c.other.inside.over = fits_signed_from_abs w128 c.other.inside.over c.other.invariant.over_fits in
     let left = simp (to_z-of_z, c.quotient-left_factor.ensures) at c.in-Some.ensures.some.0 in
     let right = simp (to_z-of_z, c.quotient-right_factor.ensures) at c.in-Some-times.ensures.some.0 in
-    let left_fits : FitsSigned w128 c.in-Some.left = search rules in
-    let right_fits : FitsSigned w128 c.in-Some-times.right = search rules in
+    let left_fits : FitsSigned w128 c.in-Some.left = fits_signed_from_abs w128 c.in-Some.left c.in-Some.ensures.some.1 in
+    let right_fits : FitsSigned w128 c.in-Some-times.right = fits_signed_from_abs w128 c.in-Some-times.right c.in-Some-times.ensures.some.1 in
     let sum = simp to_z-of_z at c.in-Some-plus.ensures.some.0 in
     let sum' = simp (left, right) at sum in
     let under = simp c.quotient-left_factor.ensures at c.in-Some-times_unsigned.ensures.some.0 in
@@ -93,15 +85,13 @@ returns-clause-fits c =
 
 pub returns-clause-sum : goal.returns-clause-sum
 returns-clause-sum c =
-    let small = c.self.invariant.over_fits in
-    let small' = c.other.invariant.over_fits in
-    let fits : FitsSigned w128 c.self.inside.over = search rules in
-    let fits' : FitsSigned w128 c.other.inside.over = search rules in
+    let fits : FitsSigned w128 c.self.inside.over = fits_signed_from_abs w128 c.self.inside.over c.self.invariant.over_fits in
+    let fits' : FitsSigned w128 c.other.inside.over = fits_signed_from_abs w128 c.other.inside.over c.other.invariant.over_fits in
     let left = simp (to_z-of_z, c.quotient-left_factor.ensures) at c.in-Some.ensures.some.0 in
     let right = simp (to_z-of_z, c.quotient-right_factor.ensures) at c.in-Some-times.ensures.some.0 in
-    let left_fits : FitsSigned w128 c.in-Some.left = search rules in
-    let right_fits : FitsSigned w128 c.in-Some-times.right = search rules in
-    let sum_fits : FitsSigned w128 c.in-Some-plus.sum = search rules in
+    let left_fits : FitsSigned w128 c.in-Some.left = fits_signed_from_abs w128 c.in-Some.left c.in-Some.ensures.some.1 in
+    let right_fits : FitsSigned w128 c.in-Some-times.right = fits_signed_from_abs w128 c.in-Some-times.right c.in-Some-times.ensures.some.1 in
+    let sum_fits : FitsSigned w128 c.in-Some-plus.sum = fits_signed_from_abs w128 c.in-Some-plus.sum c.in-Some-plus.ensures.some.1 in
     let sum = simp to_z-of_z at c.in-Some-plus.ensures.some.0 in
     let sum' = simp (left, right) at sum in
     let over = simp to_z-of_z at c.lowest.ensures.reduces.1 in

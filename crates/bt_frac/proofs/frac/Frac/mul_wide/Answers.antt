@@ -1,6 +1,6 @@
 use Rattle.std.proofs.Common.{FitsSigned, rules, ◌≡◌, subst}
 use Rattle.std.specs.Int.{w128}
-use Rattle.std.proofs.lemmas.Int.{to_z-of_z}
+use Rattle.std.proofs.lemmas.Int.{to_z-of_z, fits_signed_from_abs}
 use Rattle.bt_frac.specs.Ratio.{Ratio}
 use Rattle.bt_frac.proofs.Products.{HaveNoProduct, no_product, parts_are_lowest}
 use Rattle.bt_frac.proofs.frac.Frac.mul_wide.Goals as goal
@@ -10,24 +10,20 @@ seen {a} {a'} {b} {b'} P ea eb p = subst (λ y. P a' y) eb (subst (λ x. P x b) 
 
 pub product_parts-requires-clause-left_lowest : goal.product_parts-requires-clause-left_lowest
 product_parts-requires-clause-left_lowest c =
-    let small = c.self.invariant.over_fits in
-    let fits : FitsSigned w128 c.self.inside.over = search rules in
+    let fits : FitsSigned w128 c.self.inside.over = fits_signed_from_abs w128 c.self.inside.over c.self.invariant.over_fits in
     let size = simp to_z-of_z at c.magnitude-size.ensures in
     rw size c.self.invariant.coprime
 
 pub product_parts-requires-clause-right_lowest : goal.product_parts-requires-clause-right_lowest
 product_parts-requires-clause-right_lowest c =
-    let small = c.other.invariant.over_fits in
-    let fits : FitsSigned w128 c.other.inside.over = search rules in
+    let fits : FitsSigned w128 c.other.inside.over = fits_signed_from_abs w128 c.other.inside.over c.other.invariant.over_fits in
     let size = simp to_z-of_z at c.magnitude-other_size.ensures in
     rw size c.other.invariant.coprime
 
 pub returns-in_default-clause-none : goal.returns-in_default-clause-none
 returns-in_default-clause-none c =
-    let small = c.self.invariant.over_fits in
-    let small' = c.other.invariant.over_fits in
-    let fits : FitsSigned w128 c.self.inside.over = search rules in
-    let fits' : FitsSigned w128 c.other.inside.over = search rules in
+    let fits : FitsSigned w128 c.self.inside.over = fits_signed_from_abs w128 c.self.inside.over c.self.invariant.over_fits in
+    let fits' : FitsSigned w128 c.other.inside.over = fits_signed_from_abs w128 c.other.inside.over c.other.invariant.over_fits in
     let size = simp to_z-of_z at c.magnitude-size.ensures in
     let other_size = simp to_z-of_z at c.magnitude-other_size.ensures in
     seen HaveNoProduct c.self.view_is c.other.view_is (no_product
