@@ -1,10 +1,12 @@
 //! Searching for a layout of a request by its placement formula.
-ghost use Rattle.std.specs.Prelude.{IfOk};
+ghost use Rattle.std.specs.Prelude.{IfOk, ℕ};
 ghost use Rattle.bt_layout.specs.Layouts.{IsLayout};
+ghost use Rattle.bt_layout.specs.inner.Ends.{EndsWith};
 
 use crate::outcome::Layout;
 use bt_cnf::Chooser;
 use bt_decode::decode;
+use bt_log::Log;
 use bt_model::Request;
 use bt_place::encode_place;
 use bt_sat::{Answer, Solver};
@@ -24,12 +26,24 @@ pub fn layout<C: Chooser>(
 {
     let formula = encode_place(alloc, request)?;
     let mut solver = Solver::new(alloc, formula, choosers, learnt)?;
-    match solver.next_model()? {
-        Answer::Model(model) => {
-            let parts = decode(alloc, request, &model)?;
-            Ok(Layout::Found(parts))
-        }
-        Answer::Refuted => Ok(Layout::Nowhere(solver.into_log())),
-        Answer::Spent => Ok(Layout::Spent(solver.into_log())),
+    let answer = solver.next_model()?;
+    layout_of(alloc, request, answer, solver.into_log())
+}
+
+/// What a search with this answer and these steps comes to.
+fn layout_of(
+    alloc: Global,
+    request: &Request,
+    answer: Answer,
+    log: Log,
+) -> Result<Layout, AllocError>
+    requires { (learnt : ℕ) × EndsWith request.now learnt log.steps answer }
+    ensures { (learnt : ℕ) → EndsWith request.now learnt log.steps answer
+        → IfOk result (IsLayout request.now learnt) }
+{
+    match answer {
+        Answer::Model(model) => Ok(Layout::Found(decode(alloc, request, &model)?)),
+        Answer::Refuted => Ok(Layout::Nowhere(log)),
+        Answer::Spent => Ok(Layout::Spent(log)),
     }
 }

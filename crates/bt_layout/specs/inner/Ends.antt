@@ -1,0 +1,17 @@
+-- How a search for a layout ends.
+use Rattle.std.specs.Prelude.{ℕ, ◌≤◌, List, length}
+use Rattle.bt_model.specs.Requests.{LayoutRequest}
+use Rattle.bt_log.specs.Logs.{Step}
+use Rattle.bt_sat.specs.declared.solver.Answer.{Answer}
+use Rattle.bt_sat.specs.declared.solver.Answer.TheVariants.{Model, Refuted, Spent}
+use Rattle.bt_place.specs.PlaceFormula.{place_formula}
+use Rattle.bt_decode.specs.Solutions.{IsSolution}
+use Rattle.bt_theory.specs.Outcomes.{IsRefutation, IsUsedUp}
+use Rattle.bt_layout.specs.Layouts.{HasNoLayout}
+
+-- with a model of the placement formula; with a log that refutes it; or with a log that has so many steps, where one more
+-- is needed
+abbrev pub EndsWith : LayoutRequest → ℕ → List Step → Answer → Type 0
+EndsWith r learnt steps (Model model) = IsSolution r model.items
+EndsWith r learnt steps Refuted = HasNoLayout r × IsRefutation (place_formula r) steps × (length steps ≤ learnt)
+EndsWith r learnt steps Spent = IsUsedUp (place_formula r) learnt steps
