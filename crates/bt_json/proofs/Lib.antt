@@ -27,3 +27,4 @@ pub mod Longer
 pub mod FirstBytes
 pub mod NameLemmas
 pub mod FrameSteps
+pub mod Closing
