@@ -35,7 +35,7 @@ pub enum Next {
 }
 
 impl Numeral {
-    ghost use Rattle.bt_json.specs.inner.Numerals.{view, shown, TakesByte, ReadsNumber};
+    ghost use Rattle.bt_json.specs.inner.Numerals.{view, shown, TakesByte, TakesRest, ReadsNumber};
     ghost use Rattle.bt_json.specs.inner.Reading.{with_whole, with_fraction, with_power, step_digit, step_number, step_sign, numeral_value};
     ghost use Rattle.bt_json.specs.Stands.{number_of};
     ghost use Rattle.bt_json.specs.inner.Reading.{numeral};
@@ -157,15 +157,10 @@ impl Numeral {
         })
     }
 
-    /// The rest of a number, and the place after it.
-    fn rest(
-        mut self,
-        phase: Phase,
-        bytes: &[u8],
-        start: usize,
-    ) -> Result<(Decimal, usize), JsonFault>
+    /// Takes the rest of a number: the place after it.
+    fn take_rest(&mut self, phase: Phase, bytes: &[u8], start: usize) -> Result<usize, JsonFault>
         requires { start ≤ length bytes.now }
-        ensures { ReadsNumber bytes.now start phase (view self) result }
+        ensures { TakesRest bytes.now start phase (view self.old) (view self.new) result }
     {
         let mut phase = phase;
         let mut at = start;
@@ -175,14 +170,14 @@ impl Numeral {
                     phase = next;
                     at += 1;
                 }
-                Next::Ends => return Ok((self.into_decimal()?, at)),
+                Next::Ends => return Ok(at),
                 Next::Wrong => return Err(JsonFault::Json(at)),
             }
         }
         if !may_end(phase) {
             return Err(JsonFault::Json(at));
         }
-        Ok((self.into_decimal()?, at))
+        Ok(at)
     }
 
     fn new(alloc: Global, negative: bool) -> Self
@@ -208,7 +203,9 @@ impl Numeral {
         requires { start ≤ length bytes.now }
         ensures { ReadsNumber bytes.now start BeforeWhole (numeral negative []) result }
     {
-        Numeral::new(alloc, negative).rest(Phase::BeforeWhole, bytes, start)
+        let mut numeral = Numeral::new(alloc, negative);
+        let end = numeral.take_rest(Phase::BeforeWhole, bytes, start)?;
+        Ok((numeral.into_decimal()?, end))
     }
 }
 

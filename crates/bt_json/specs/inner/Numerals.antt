@@ -2,7 +2,7 @@
 use Rattle.std.specs.Prelude.{◌≡◌, ℕ, List, Result}
 use Rattle.bt_json.specs.Json.{number}
 use Rattle.bt_json.specs.Stands.{number_of}
-use Rattle.bt_json.specs.inner.Reading.{Numeral, InNumber, goes_on, ends, wrong, step_number, in_number, deliver}
+use Rattle.bt_json.specs.inner.Reading.{Numeral, numeral_value, InNumber, goes_on, ends, wrong, step_number, in_number, deliver}
 use Rattle.bt_json.specs.inner.Bytes.{mark_of}
 use Rattle.bt_json.specs.inner.Running.{ReadsOn}
 use Rattle.bt_json.specs.declared.decimal.Decimal.{Decimal}
@@ -25,6 +25,10 @@ shown Wrong n = wrong
 -- how the number goes on at a byte
 abbrev pub TakesByte : Phase → Held → ℕ → Held → Next → Type 0
 TakesByte phase old byte new next = shown next (view new) ≡ step_number phase (view old) (mark_of byte)
+
+-- the number as far as it is written, and the same where it ends
+abbrev pub TakesRest : List ℕ → ℕ → Phase → Numeral → Numeral → Result ℕ JsonFault → Type 0
+TakesRest bytes start phase old new = ReadsOn bytes start (in_number phase old) (λ end. end) (λ end k. deliver (number (numeral_value new)) k end)
 
 -- the rest of a number that is written so far, and its value
 abbrev pub ReadsNumber : List ℕ → ℕ → Phase → Numeral → Result (Decimal × ℕ) JsonFault → Type 0

@@ -2,7 +2,7 @@ use Rattle.std.proofs.Common.{length, ◌-◌, ◌≡◌, ◌≤◌, List}
 use Rattle.bt_json.specs.inner.Numerals.{view}
 use Rattle.bt_json.specs.inner.Reading.{Frame, in_number}
 use Rattle.bt_json.specs.inner.Running.{rest_of}
-use Rattle.bt_json.proofs.number.Numeral.rest.Given as goal
+use Rattle.bt_json.proofs.number.Numeral.take_rest.Given as goal
 
 abbrev pub invariant-loop-at : goal.invariant-loop-at
 invariant-loop-at l = record {

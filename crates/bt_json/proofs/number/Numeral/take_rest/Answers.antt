@@ -1,10 +1,8 @@
 use Rattle.std.proofs.Common.{arith, ◌≡◌, sym, ◌∙◌, ap, false, true}
-use Rattle.bt_json.specs.Json.{number}
 use Rattle.bt_json.specs.inner.Numerals.{view, shown}
-use Rattle.bt_json.specs.inner.Reading.{deliver, may_end}
-use Rattle.bt_json.specs.inner.Running.{rest_after}
+use Rattle.bt_json.specs.inner.Reading.{may_end}
 use Rattle.bt_json.proofs.Running.{number_goes_on, number_ends, number_breaks, number_at_end, number_cut}
-use Rattle.bt_json.proofs.number.Numeral.rest.Goals as goal
+use Rattle.bt_json.proofs.number.Numeral.take_rest.Goals as goal
 
 pub loop-at-preserved : goal.loop-at-preserved
 loop-at-preserved c = record {
@@ -19,8 +17,7 @@ returns-in-Ends c = (
   (c.loop-at.invariant.from, c.loop-at.invariant.within),
   λ k.
       c.loop-at.invariant.written k ∙ number_ends c.args.bytes.now c.loop-at.at c.loop-at.phase (view c.loop-at.self) (view c.step.new.self) k (omega arith)
-      (ap (λ x. shown x (view c.step.new.self)) (sym c.in-Ends.is) ∙ c.in_ok-next.ensures)
-      ∙ ap (λ n. rest_after c.args.bytes.now c.loop-at.at (deliver (number n) k c.loop-at.at)) (sym c.in_ok-into_decimal-in-Ends.ensures.ok),
+      (ap (λ x. shown x (view c.step.new.self)) (sym c.in-Ends.is) ∙ c.in_ok-next.ensures),
 )
 
 pub returns-in-Wrong : goal.returns-in-Wrong
@@ -38,6 +35,5 @@ returns c = (
   (c.loop-at.invariant.from, c.loop-at.invariant.within),
   λ k.
       let yes : may_end c.loop-at.phase ≡ true = grind arith in
-      c.loop-at.invariant.written k ∙ number_at_end c.args.bytes.now c.loop-at.at c.loop-at.phase (view c.loop-at.self) k (omega arith) yes
-      ∙ ap (λ n. rest_after c.args.bytes.now c.loop-at.at (deliver (number n) k c.loop-at.at)) (sym c.in_ok-into_decimal.ensures.ok),
+      c.loop-at.invariant.written k ∙ number_at_end c.args.bytes.now c.loop-at.at c.loop-at.phase (view c.loop-at.self) k (omega arith) yes,
 )
