@@ -13,14 +13,20 @@ use Rattle.bt_flow.specs.States.{Flows, IsStateOf, flow_at, backed_at, load_at, 
 use Rattle.bt_flow.specs.Steady.{HasEdge, IsFull, IsSteady}
 use Rattle.bt_flow.specs.Properties.{IsAdmissible}
 use Rattle.bt_flow.proofs.Adding.{no_edge}
+use Rattle.bt_fenc.specs.declared.claim.Side.{Side}
+use Rattle.bt_fenc.specs.declared.claim.Side.TheVariants.{Out, In}
+use Rattle.bt_fenc.specs.declared.claim.Pair.{Pair}
+use Rattle.bt_fenc.specs.declared.claim.Pair.TheVariants.{Even}
 use Rattle.bt_fenc.specs.declared.claim.Claim.{Claim}
-use Rattle.bt_fenc.specs.declared.claim.Claim.TheVariants.{Mark, Says}
+use Rattle.bt_fenc.specs.declared.claim.Claim.TheVariants.{Mark, Says, First}
 use Rattle.bt_fenc.specs.declared.family.Family.{Family}
 use Rattle.bt_fenc.specs.declared.family.Family.TheVariants as of
-use Rattle.bt_fenc.specs.Columns.{input_edge, output_edge, in_edges, out_edges, cap_at, load_column, room_column, at_least, not_below}
-use Rattle.bt_fenc.specs.Families.{clauses_at, places, family_clauses, families, range_clauses, end_clauses, even_clause, even_clauses, backing_clause}
+use Rattle.bt_fenc.specs.Columns.{input_edge, output_edge, in_edges, out_edges, cap_at, load_column, room_column, at_least, below as below_cap, not_below, above}
+use Rattle.bt_fenc.specs.Families.{clauses_at, places, family_clauses, families, range_clauses, end_clauses, excuse, even_clause, even_clauses, backing_clause}
+use Rattle.bt_fenc.specs.Pairs.{first_row, pair_clause, even_pairs, full, loaded, filled}
 use Rattle.bt_fenc.specs.Laws.{HasTrue}
 use Rattle.bt_fenc.proofs.NetEdges.{IsEdgeWith, edges_with, cap_is, input_is, output_is}
+use Rattle.bt_fenc.proofs.Orders.{at_most_or}
 use Rattle.bt_fenc.proofs.RowValues as rows
 use Rattle.bt_fenc.proofs.Withins.{each-flat_map, each-map, each-range, each_any}
 
@@ -136,13 +142,14 @@ module _ (n : Network) (is : IsNetwork n) (s : Flows) (state : IsStateOf n s) (s
       let high = r.1 in
       range_true (room_column n o) (cap_at n (output_edge n o)) (omega (arith, ints, x, low)) (omega (arith, ints, x, c, high))
 
-  end_true : (c a : ℕ) (mark : Bool) → w n is s state a ≤ℤ w n is s state c → (backed_at s a ≡ not mark → w n is s state c ≤ℤ w n is s state a) → AllTrue (end_clauses c a mark)
-  end_true c a mark most least = (
+  end_true : (c a : ℕ) (mark : Bool) (pair : Pair) → first_row pair ≡ not_below a c → w n is s state a ≤ℤ w n is s state c
+      → (backed_at s a ≡ not mark → w n is s state c ≤ℤ w n is s state a) → AllTrue (end_clauses c a mark pair)
+  end_true c a mark pair same most least = (
     inl (rows.not_below_holds (w n is s state) s.denominator state.positive c a most),
     (
       elim (same_or_not (backed_at s a) mark) [
         | inl x ↦ inl x
-        | inr y ↦ inr (inl (rows.not_below_holds (w n is s state) s.denominator state.positive a c (least y)))
+        | inr y ↦ inr (inl (subst (λ row. RowHolds row (rows.over (w n is s state) s.denominator)) (sym same) (rows.not_below_holds (w n is s state) s.denominator state.positive a c (least y))))
       ],
       tt,
     ),
@@ -156,7 +163,7 @@ module _ (n : Network) (is : IsNetwork n) (s : Flows) (state : IsStateOf n s) (s
       let y = flow_is a edge.0 edge.1 in
       let law = steady.input i l a edge.0 edge.1 edge.2 in
       let most = law.0 in
-      end_true (load_column n i) a true (omega (arith, ints, x, y, most)) (λ free. let same = law.1 free in omega (arith, ints, x, y, same))
+      end_true (load_column n i) a true (loaded n i) refl (omega (arith, ints, x, y, most)) (λ free. let same = law.1 free in omega (arith, ints, x, y, same))
 
   pub outputs_true : (o : ℕ) → o < n.outputs → AllTrue (clauses_at n of.Outputs o)
   outputs_true o l =
@@ -166,50 +173,71 @@ module _ (n : Network) (is : IsNetwork n) (s : Flows) (state : IsStateOf n s) (s
       let y = flow_is a edge.0 edge.1 in
       let law = steady.output o l a edge.0 edge.1 edge.2 in
       let most = law.0 in
-      end_true (room_column n o) a false (omega (arith, ints, x, y, most)) (λ backed. let same = law.1 backed in omega (arith, ints, x, y, same))
+      end_true (room_column n o) a false (filled n o) refl (omega (arith, ints, x, y, most)) (λ backed. let same = law.1 backed in omega (arith, ints, x, y, same))
 
-  full_clause : (mark : Bool) (a b : ℕ) (e f : Edge) → HasEdge n a e → HasEdge n b f → IsFull s a e → (t : Bool) → ltb (cap_at n a) (cap_at n b) ≡ t
-      → True (Mark a mark ∷ Says (not_below a b) ∷ cond t (Says (at_least a (cap_at n a)) ∷ []) [])
-  full_clause mark a b e f h g full true u = inr (inr (inl (full_true a e h full)))
-  full_clause mark a b e f h g full false u =
+  full_clause : (side : Side) (k a b : ℕ) (e f : Edge) → HasEdge n a e → HasEdge n b f → IsFull s a e → (t : Bool) → ltb (cap_at n a) (cap_at n b) ≡ t
+      → True (Mark a (excuse side) ∷ First (Even side k a b) ∷ cond t (First (full n a) ∷ []) [])
+  full_clause side k a b e f h g is_full true u = inr (inr (inl (full_true a e h is_full)))
+  full_clause side k a b e f h g is_full false u =
       let x = cap_over a e h in
       let y = cap_over b f g in
       let high = (steady.range b (below b f g) f g).1 in
       let caps = mul_mono (cap_at n b) (cap_at n a) s.denominator (ltb-false (cap_at n a) (cap_at n b) u) in
-      inr (inl (not_below_true a b e f h g (omega (arith, ints, x, y, high, caps, full))))
+      inr (inl (not_below_true a b e f h g (omega (arith, ints, x, y, high, caps, is_full))))
 
-  even_true : (mark : Bool) (a b : ℕ) (e f : Edge) → HasEdge n a e → HasEdge n b f
-      → (b ≢ a → backed_at s a ≡ not mark → (flow_at s b ≤ℤ flow_at s a) ⊎ IsFull s a e) → True (even_clause n mark a b)
-  even_true mark a b e f h g law =
-      elim (same_or_not (backed_at s a) mark) [
+  even_true : (side : Side) (k a b : ℕ) (e f : Edge) → HasEdge n a e → HasEdge n b f
+      → (b ≢ a → backed_at s a ≡ not (excuse side) → (flow_at s b ≤ℤ flow_at s a) ⊎ IsFull s a e) → True (even_clause n side k a b)
+  even_true side k a b e f h g law =
+      elim (same_or_not (backed_at s a) (excuse side)) [
         | inl x ↦ inl x
         | inr y ↦ elim (cases_eq b a) [
           | inl same ↦ let z : flow_at s b ≡ flow_at s a = ap (flow_at s) same in inr (inl (not_below_true a b e f h g (omega (arith, ints, z))))
           | inr other ↦ elim (law other y) [
             | inl l ↦ inr (inl (not_below_true a b e f h g l))
-            | inr full ↦ full_clause mark a b e f h g full (ltb (cap_at n a) (cap_at n b)) refl
+            | inr is_full ↦ full_clause side k a b e f h g is_full (ltb (cap_at n a) (cap_at n b)) refl
           ]
         ]
       ]
 
-  evens_true : (p : Edge → Bool) (mark : Bool)
-      → ((a b : ℕ) (e f : Edge) → HasEdge n a e → HasEdge n b f → IsTrue (p e) → IsTrue (p f) → b ≢ a → backed_at s a ≡ not mark → (flow_at s b ≤ℤ flow_at s a) ⊎ IsFull s a e)
-      → (edges : List ℕ) → AllByRecursion (IsEdgeWith n p) edges → AllTrue (even_clauses n mark edges)
-  evens_true p mark law [] h = tt
-  evens_true p mark law (a ∷ []) h = tt
-  evens_true p mark law (a ∷ b ∷ []) h =
+  evens_true : (p : Edge → Bool) (side : Side) (k : ℕ)
+      → ((a b : ℕ) (e f : Edge) → HasEdge n a e → HasEdge n b f → IsTrue (p e) → IsTrue (p f) → b ≢ a → backed_at s a ≡ not (excuse side) → (flow_at s b ≤ℤ flow_at s a) ⊎ IsFull s a e)
+      → (edges : List ℕ) → AllByRecursion (IsEdgeWith n p) edges → AllTrue (even_clauses n side k edges)
+  evens_true p side k law [] h = tt
+  evens_true p side k law (a ∷ []) h = tt
+  evens_true p side k law (a ∷ b ∷ []) h =
       let x = h.0 in
       let y = h.1.0 in
-      (even_true mark a b x.0 y.0 x.1 y.1 (λ o m. law a b x.0 y.0 x.1 y.1 x.2 y.2 o m), (even_true mark b a y.0 x.0 y.1 x.1 (λ o m. law b a y.0 x.0 y.1 x.1 y.2 x.2 o m), tt))
-  evens_true p mark law (a ∷ b ∷ c ∷ edges) h = tt
+      (even_true side k a b x.0 y.0 x.1 y.1 (λ o m. law a b x.0 y.0 x.1 y.1 x.2 y.2 o m), (even_true side k b a y.0 x.0 y.1 x.1 (λ o m. law b a y.0 x.0 y.1 x.1 y.2 x.2 o m), tt))
+  evens_true p side k law (a ∷ b ∷ c ∷ edges) h = tt
 
   pub even_out_true : (k : ℕ) → AllTrue (clauses_at n of.EvenOut k)
   even_out_true k =
-      evens_true (leaves k) true (λ a b e f h g p q o m. steady.even_out a (below a e h) k b e f h g o p q m) (out_edges n k) (edges_with n (leaves k))
+      evens_true (leaves k) Out k (λ a b e f h g p q o m. steady.even_out a (below a e h) k b e f h g o p q m) (out_edges n k) (edges_with n (leaves k))
 
   pub even_in_true : (k : ℕ) → AllTrue (clauses_at n of.EvenIn k)
   even_in_true k =
-      evens_true (enters k) false (λ a b e f h g p q o m. steady.even_in a (below a e h) k b e f h g o p q m) (in_edges n k) (edges_with n (enters k))
+      evens_true (enters k) In k (λ a b e f h g p q o m. steady.even_in a (below a e h) k b e f h g o p q m) (in_edges n k) (edges_with n (enters k))
+
+  -- the order of whole numbers is total, so of each pair a row holds
+  two_true : (a b : ℕ) → True (Says (not_below a b) ∷ Says (above b a) ∷ [])
+  two_true a b =
+      elim (at_most_or (w n is s state b) (w n is s state a)) [
+        | inl l ↦ inl (rows.not_below_holds (w n is s state) s.denominator state.positive a b l)
+        | inr g ↦ inr (inl (rows.above_holds (w n is s state) s.denominator state.positive b a g))
+      ]
+
+  full_or_not : (a cap : ℕ) → True (Says (at_least a cap) ∷ Says (below_cap a cap) ∷ [])
+  full_or_not a cap =
+      elim (at_most_or (pos (cap * s.denominator)) (w n is s state a)) [
+        | inl l ↦ inl (rows.at_least_holds (w n is s state) s.denominator state.positive a cap l)
+        | inr g ↦ inr (inl (rows.below_holds (w n is s state) s.denominator state.positive a cap g))
+      ]
+
+  pairs_true : (side : Side) (k : ℕ) (edges : List ℕ) → AllTrue (map pair_clause (even_pairs side k edges))
+  pairs_true side k [] = tt
+  pairs_true side k (a ∷ []) = tt
+  pairs_true side k (a ∷ b ∷ []) = (two_true a b, (two_true b a, tt))
+  pairs_true side k (a ∷ b ∷ c ∷ edges) = tt
 
   back_true : (k a x : ℕ) → IsEdgeWith n (enters k) a → IsEdgeWith n (leaves k) x → True (backing_clause n a x)
   back_true k a x i o =
@@ -231,6 +259,11 @@ module _ (n : Network) (is : IsNetwork n) (s : Flows) (state : IsStateOf n s) (s
   at_true admits of.Loads k l = loads_true admits k l
   at_true admits of.Rooms k l = rooms_true admits k l
   at_true admits of.Conserve k l = conserve_true k l
+  at_true admits of.OutPairs k l = pairs_true Out k (out_edges n k)
+  at_true admits of.InPairs k l = pairs_true In k (in_edges n k)
+  at_true admits of.FullPairs k l = (full_or_not k (cap_at n k), tt)
+  at_true admits of.LoadPairs k l = (two_true (input_edge n k) (load_column n k), tt)
+  at_true admits of.RoomPairs k l = (two_true (output_edge n k) (room_column n k), tt)
   at_true admits of.EvenOut k l = even_out_true k
   at_true admits of.EvenIn k l = even_in_true k
   at_true admits of.Backing k l = backing_true k

@@ -2,8 +2,6 @@
 use Rattle.std.proofs.Common.{◌≡◌, ℕ, ◌<◌, ◌+◌, ◌⊎◌, inl, inr, Bool, IsTrue, ℤ, pos, ◌+ℤ◌, ◌≤ℤ◌, ◌<ℤ◌, List, [], ◌∷◌, length, get_or, ap, sym, ◌∙◌, refl, subst, arith}
 use Rattle.std.specs.List.{AllByRecursion, flat_map, range_with_len, count_by}
 use Rattle.std.proofs.lemmas.Int.{ints}
-use Rattle.std.proofs.lemmas.Bool.{cases_lt}
-use borrow.Author.Differences.{up, down}
 use Rattle.bt_net.specs.declared.network.Edge.{Edge}
 use Rattle.bt_net.specs.Network.{Network, IsNetwork, StartsIn, EndsIn, leaves, enters, is_input, is_output}
 use Rattle.bt_flow.specs.declared.property.Property.{Property}
@@ -16,23 +14,17 @@ use Rattle.bt_flow.proofs.Numbers.{length-numbers_where}
 use Rattle.bt_fenc.specs.Columns.{input_edge, output_edge, input_edges, output_edges, cap_at, load_column, room_column}
 use Rattle.bt_fenc.specs.Families.{family_clauses, families}
 use Rattle.bt_fenc.specs.Properties.{property_clauses, loaded_clauses, open_clauses, short_clauses, unequal_clause, differ}
-use Rattle.bt_fenc.specs.FlowFormula.{flow_clauses}
+use Rattle.bt_fenc.specs.FlowFormula.{flow_clauses, variable_of}
 use Rattle.bt_fenc.specs.Laws.{BreakingMeets, values_of}
 use Rattle.bt_fenc.proofs.Numbers.{all_to}
 use Rattle.bt_fenc.proofs.NetEdges.{input_is, output_is, edge_of_input, edge_of_output}
 use Rattle.bt_fenc.proofs.RowValues as rows
-use Rattle.bt_fenc.proofs.Withins.{each-append, each-three, each-map, each-range, in_range, flow_within}
+use Rattle.bt_fenc.proofs.Withins.{each-append, each-three, each-map, each-range, in_range}
+use Rattle.bt_fenc.proofs.Orders.{order}
+use Rattle.bt_fenc.proofs.Named.{flow_named}
 use Rattle.bt_fenc.proofs.EdgeSums.{sums_from, starts_total, ends_total, outputs_total, sums_same, sums_at_most, picked, one_listed}
 use Rattle.bt_fenc.proofs.Admitted.{w, flow_column, load_column_is, room_column_is, flow_is, cap_over, True, AllTrue, families_true}
 use Rattle.bt_fenc.proofs.TrueClaims.{true_claims_meet}
-
--- a whole number is below another, the same or above it
-order : (x y : ℤ) → (x <ℤ y) ⊎ ((x ≡ y) ⊎ (y <ℤ x))
-order x y =
-    elim (cases_lt (up x + down y) (up y + down x)) [
-      | inl l ↦ inl (omega (arith, ints, l))
-      | inr l ↦ elim (cases_lt (up y + down x) (up x + down y)) [ inl m ↦ inr (inr (omega (arith, ints, m))) | inr m ↦ inr (inl (omega (arith, ints, l, m))) ]
-    ]
 
 -- what is at most two numbers and not the lesser of them is below both
 below_both : (z x y : ℤ) → z ≤ℤ x → z ≤ℤ y → (IsLesser z x y → ⊥) → (z <ℤ x) × (z <ℤ y)
@@ -174,6 +166,6 @@ property_true n is Full s b =
 pub breaking_meets : BreakingMeets
 breaking_meets n p s is b = (
   λ column. b.state.positive,
-  true_claims_meet (length n.edges) (flow_clauses n p) (backed_at s) (values_of s) (flow_within n is p)
+  true_claims_meet (variable_of n) (length n.edges) (flow_clauses n p) (backed_at s) (values_of s) (flow_named n is p)
       (each-append (True n is s b.state b.steady) (flat_map (family_clauses n) families) (property_clauses n p) (families_true n is s b.state b.steady b.admissible) (property_true n is p s b)),
 )

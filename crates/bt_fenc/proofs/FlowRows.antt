@@ -15,12 +15,16 @@ use Rattle.bt_flow.specs.declared.property.Property.{Property}
 use Rattle.bt_flow.specs.declared.property.Property.TheVariants.{Balanced, DrawnEvenly, Unlimited, Full}
 use Rattle.bt_flow.specs.Ports.{numbers_where}
 use Rattle.bt_flow.specs.Properties.{is_last}
+use Rattle.bt_fenc.specs.declared.claim.Side.{Side}
+use Rattle.bt_fenc.specs.declared.claim.Side.TheVariants.{Out, In}
+use Rattle.bt_fenc.specs.declared.claim.Pair.{Pair}
 use Rattle.bt_fenc.specs.declared.claim.Claim.{Claim}
-use Rattle.bt_fenc.specs.declared.claim.Claim.TheVariants.{Says}
+use Rattle.bt_fenc.specs.declared.claim.Claim.TheVariants.{Says, First}
 use Rattle.bt_fenc.specs.declared.family.Family.{Family}
 use Rattle.bt_fenc.specs.declared.family.Family.TheVariants as of
-use Rattle.bt_fenc.specs.Columns.{input_edge, output_edge, input_edges, output_edges, in_edges, out_edges, cap_at, load_column, room_column, whole, plus, minus, zero_row, at_least, at_most, less, not_below, above, in_less_out, above_outputs}
+use Rattle.bt_fenc.specs.Columns.{input_edge, output_edge, input_edges, output_edges, in_edges, out_edges, cap_at, load_column, room_column, whole, plus, minus, zero_row, at_least, at_most, below, less, not_below, above, in_less_out, above_outputs}
 use Rattle.bt_fenc.specs.Families.{clauses_at, places, family_clauses, families, range_clauses, end_clauses, even_clauses, backing_clause}
+use Rattle.bt_fenc.specs.Pairs.{pair_clause, even_pairs, full, loaded, filled}
 use Rattle.bt_fenc.specs.Properties.{property_clauses, loaded_clauses, open_clauses, short_clauses, unequal_clause, differ}
 use Rattle.bt_fenc.specs.FlowFormula.{flow_clauses}
 use Rattle.bt_fenc.specs.Numbering.{mentioned, rows_in}
@@ -59,6 +63,9 @@ at_least_row c k l m = is_row (plus c ∷ []) AtLeast (whole k) (omega arith, l,
 
 at_most_row : (c k : ℕ) → IsColumn c → k < 2 ^ 127 → IsRow (at_most c k)
 at_most_row c k l m = is_row (minus c ∷ []) AtLeast (negated (whole k)) (omega arith, l, tt) (minus_is, tt) (negated_is k m)
+
+below_row : (c k : ℕ) → IsColumn c → k < 2 ^ 127 → IsRow (below c k)
+below_row c k l m = is_row (minus c ∷ []) Above (negated (whole k)) (omega arith, l, tt) (minus_is, tt) (negated_is k m)
 
 less_columns : (a b : ℕ) → IsColumn a → IsColumn b → (t u : Bool) → ltb a b ≡ t → ltb b a ≡ u
     → AreColumnsFrom 0 (columns_of (cond t (plus a ∷ minus b ∷ []) (cond u (minus b ∷ plus a ∷ []) [])))
@@ -142,21 +149,28 @@ module _ (n : Network) (is : IsNetwork n) where
   range_rows : (c k : ℕ) → IsColumn c → k < 2 ^ 127 → MentionRows (range_clauses c k)
   range_rows c k l m = (((at_least_row c 0 l (lit< tt), tt), tt), (((at_most_row c k l m, tt), tt), tt))
 
-  last_row : (b : Bool) (x k : ℕ) → IsColumn x → k < 2 ^ 127 → AllByRecursion MentionsRow (cond b (Says (at_least x k) ∷ []) [])
-  last_row true x k l m = ((at_least_row x k l m, tt), tt)
-  last_row false x k l m = tt
+  -- a pair of two columns
+  two_rows : (a b : ℕ) → IsColumn a → IsColumn b → AllByRecursion MentionsRow (Says (not_below a b) ∷ Says (above b a) ∷ [])
+  two_rows a b l m = ((not_below_row a b l m, tt), ((above_row b a m l, tt), tt))
 
-  even_rows : (mark : Bool) (edges : List ℕ) → AllByRecursion IsColumn edges → MentionRows (even_clauses n mark edges)
-  even_rows mark [] h = tt
-  even_rows mark (a ∷ []) h = tt
-  even_rows mark (a ∷ b ∷ []) h = (
-    (tt, ((not_below_row a b h.0 h.1.0, tt), last_row (ltb (cap_at n a) (cap_at n b)) a (cap_at n a) h.0 (cap_fits a))),
-    ((tt, ((not_below_row b a h.1.0 h.0, tt), last_row (ltb (cap_at n b) (cap_at n a)) b (cap_at n b) h.1.0 (cap_fits b))), tt),
-  )
-  even_rows mark (a ∷ b ∷ c ∷ edges) h = tt
+  pair_rows : (side : Side) (k : ℕ) (edges : List ℕ) → AllByRecursion IsColumn edges → MentionRows (map pair_clause (even_pairs side k edges))
+  pair_rows side k [] h = tt
+  pair_rows side k (a ∷ []) h = tt
+  pair_rows side k (a ∷ b ∷ []) h = (two_rows a b h.0 h.1.0, (two_rows b a h.1.0 h.0, tt))
+  pair_rows side k (a ∷ b ∷ c ∷ edges) h = tt
 
-  end_rows : (c a : ℕ) (mark : Bool) → IsColumn c → IsColumn a → MentionRows (end_clauses c a mark)
-  end_rows c a mark l m = (((not_below_row c a l m, tt), tt), ((tt, ((not_below_row a c m l, tt), tt)), tt))
+  last_row : (b : Bool) (x : ℕ) → AllByRecursion MentionsRow (cond b (First (full n x) ∷ []) [])
+  last_row true x = (tt, tt)
+  last_row false x = tt
+
+  even_rows : (side : Side) (k : ℕ) (edges : List ℕ) → MentionRows (even_clauses n side k edges)
+  even_rows side k [] = tt
+  even_rows side k (a ∷ []) = tt
+  even_rows side k (a ∷ b ∷ []) = ((tt, (tt, last_row (ltb (cap_at n a) (cap_at n b)) a)), ((tt, (tt, last_row (ltb (cap_at n b) (cap_at n a)) b)), tt))
+  even_rows side k (a ∷ b ∷ c ∷ edges) = tt
+
+  end_rows : (c a : ℕ) (mark : Bool) (pair : Pair) → IsColumn c → IsColumn a → MentionRows (end_clauses c a mark pair)
+  end_rows c a mark pair l m = (((not_below_row c a l m, tt), tt), ((tt, (tt, tt)), tt))
 
   conserve_row : (k : ℕ) → IsRow (zero_row (in_less_out k 0 n.edges) Equal)
   conserve_row k =
@@ -168,13 +182,18 @@ module _ (n : Network) (is : IsNetwork n) where
   at_rows of.Loads i l = range_rows (load_column n i) (cap_at n (input_edge n i)) (load_is i l) (cap_fits (input_edge n i))
   at_rows of.Rooms o l = range_rows (room_column n o) (cap_at n (output_edge n o)) (room_is o l) (cap_fits (output_edge n o))
   at_rows of.Conserve k l = (((conserve_row k, tt), tt), tt)
-  at_rows of.EvenOut k l = even_rows true (out_edges n k) (edges_are (leaves k))
-  at_rows of.EvenIn k l = even_rows false (in_edges n k) (edges_are (enters k))
+  at_rows of.OutPairs k l = pair_rows Out k (out_edges n k) (edges_are (leaves k))
+  at_rows of.InPairs k l = pair_rows In k (in_edges n k) (edges_are (enters k))
+  at_rows of.FullPairs a l = (((at_least_row a (cap_at n a) (flow_column a l) (cap_fits a), tt), ((below_row a (cap_at n a) (flow_column a l) (cap_fits a), tt), tt)), tt)
+  at_rows of.LoadPairs i l = (two_rows (input_edge n i) (load_column n i) (input_is i) (load_is i l), tt)
+  at_rows of.RoomPairs o l = (two_rows (output_edge n o) (room_column n o) (output_is o) (room_is o l), tt)
+  at_rows of.EvenOut k l = even_rows Out k (out_edges n k)
+  at_rows of.EvenIn k l = even_rows In k (in_edges n k)
   at_rows of.Backing k l =
-      each-flat_map _ _ _ (in_edges n k) (edges_are (enters k))
-      (λ a l. each-map _ _ (backing_clause n a) (out_edges n k) (edges_are (leaves k)) (λ x m. (tt, (tt, ((at_least_row x (cap_at n x) m (cap_fits x), tt), tt)))))
-  at_rows of.Inputs i l = end_rows (load_column n i) (input_edge n i) true (load_is i l) (input_is i)
-  at_rows of.Outputs o l = end_rows (room_column n o) (output_edge n o) false (room_is o l) (output_is o)
+      each-flat_map _ (λ x. Unit {0}) _ (in_edges n k) (each_any (in_edges n k))
+      (λ a l. each-map _ (λ x. Unit {0}) (backing_clause n a) (out_edges n k) (each_any (out_edges n k)) (λ x m. (tt, (tt, (tt, tt)))))
+  at_rows of.Inputs i l = end_rows (load_column n i) (input_edge n i) true (loaded n i) (load_is i l) (input_is i)
+  at_rows of.Outputs o l = end_rows (room_column n o) (output_edge n o) false (filled n o) (room_is o l) (output_is o)
 
   family_rows : (f : Family) → MentionRows (family_clauses n f)
   family_rows f =

@@ -1,7 +1,10 @@
 pub mod Merges
 pub mod Columns
+pub mod Orders
 pub mod Numbers
 pub mod Withins
+pub mod Named
+pub mod Kept
 pub mod TrueClaims
 pub mod NetEdges
 pub mod RowValues

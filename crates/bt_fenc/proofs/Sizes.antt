@@ -10,15 +10,19 @@ use Rattle.bt_flow.specs.declared.property.Property.{Property}
 use Rattle.bt_flow.specs.declared.property.Property.TheVariants.{Balanced, DrawnEvenly, Unlimited, Full}
 use Rattle.bt_flow.specs.Ports.{numbers_where, plays}
 use Rattle.bt_flow.proofs.Numbers.{length-numbers_where, few_at, ends_of}
+use Rattle.bt_fenc.specs.declared.claim.Side.{Side}
+use Rattle.bt_fenc.specs.declared.claim.Side.TheVariants.{Out, In}
+use Rattle.bt_fenc.specs.declared.claim.Pair.{Pair}
 use Rattle.bt_fenc.specs.declared.claim.Claim.{Claim}
-use Rattle.bt_fenc.specs.declared.claim.Claim.TheVariants.{Says}
+use Rattle.bt_fenc.specs.declared.claim.Claim.TheVariants.{First}
+use Rattle.bt_fenc.specs.Pairs.{pair_clause, even_pairs, full}
 use Rattle.bt_fenc.specs.declared.family.Family.{Family}
 use Rattle.bt_fenc.specs.declared.family.Family.TheVariants as of
-use Rattle.bt_fenc.specs.Columns.{input_edge, output_edge, input_edges, output_edges, in_edges, out_edges, at_least, cap_at}
+use Rattle.bt_fenc.specs.Columns.{input_edge, output_edge, input_edges, output_edges, in_edges, out_edges, cap_at}
 use Rattle.bt_fenc.specs.Families.{clauses_at, places, family_clauses, families, even_clause, even_clauses, backing_clause}
 use Rattle.bt_fenc.specs.Properties.{property_clauses, loaded_clauses, open_clauses, short_clauses, unequal_clause, differ}
 use Rattle.bt_fenc.specs.Numbering.{mentioned, rows_in, clauses_from}
-use Rattle.bt_fenc.specs.FlowFormula.{flow_clauses}
+use Rattle.bt_fenc.specs.FlowFormula.{flow_clauses, variable_of}
 use Rattle.bt_fenc.specs.Sizes.{FlowFormulasAreSmall}
 
 -- there are at most so many clauses, which mention at most so many rows
@@ -46,24 +50,27 @@ few_range f a (suc m) h =
     few_more (flat_map f (range_with_len a (suc m))) (4 + 4 * m) (4 + 4 * m) (4 * suc m) (4 * suc m) (omega arith) (omega arith)
     (few-append (f a) (flat_map f (range_with_len (a + 1) m)) 4 4 (4 * m) (4 * m) (h a (omega arith) (omega arith)) rest)
 
-last_rows : (t : Bool) (x k : ℕ) → length (flat_map mentioned (cond t (Says (at_least x k) ∷ []) [])) ≤ 1
-last_rows true x k = omega arith
-last_rows false x k = omega arith
+no_last_row : (t : Bool) (pair : Pair) → length (flat_map mentioned (cond t (First pair ∷ []) [])) ≡ 0
+no_last_row true pair = refl
+no_last_row false pair = refl
 
 module _ (n : Network) (is : IsNetwork n) where
-  even_rows : (mark : Bool) (a b : ℕ) → length (flat_map mentioned (even_clause n mark a b)) ≤ 2
-  even_rows mark a b = let l = last_rows (ltb (cap_at n a) (cap_at n b)) a (cap_at n a) in omega (arith, l)
+  pairs_few : (side : Side) (k : ℕ) (edges : List ℕ) → AreFew (map pair_clause (even_pairs side k edges)) 4 4
+  pairs_few side k [] = record { count = omega arith; rows = omega arith }
+  pairs_few side k (a ∷ []) = record { count = omega arith; rows = omega arith }
+  pairs_few side k (a ∷ b ∷ []) = record { count = omega arith; rows = omega arith }
+  pairs_few side k (a ∷ b ∷ c ∷ edges) = record { count = omega arith; rows = omega arith }
 
-  evens_few : (mark : Bool) (edges : List ℕ) → AreFew (even_clauses n mark edges) 4 4
-  evens_few mark [] = record { count = omega arith; rows = omega arith }
-  evens_few mark (a ∷ []) = record { count = omega arith; rows = omega arith }
-  evens_few mark (a ∷ b ∷ []) =
-      let first = even_rows mark a b in
-      let second = even_rows mark b a in
-      let more = length-append (flat_map mentioned (even_clause n mark a b)) (flat_map mentioned (even_clause n mark b a) ++ []) in
-      let last = length-append (flat_map mentioned (even_clause n mark b a)) [] in
+  evens_few : (side : Side) (k : ℕ) (edges : List ℕ) → AreFew (even_clauses n side k edges) 4 4
+  evens_few side k [] = record { count = omega arith; rows = omega arith }
+  evens_few side k (a ∷ []) = record { count = omega arith; rows = omega arith }
+  evens_few side k (a ∷ b ∷ []) =
+      let first = no_last_row (ltb (cap_at n a) (cap_at n b)) (full n a) in
+      let second = no_last_row (ltb (cap_at n b) (cap_at n a)) (full n b) in
+      let more = length-append (flat_map mentioned (even_clause n side k a b)) (flat_map mentioned (even_clause n side k b a) ++ []) in
+      let last = length-append (flat_map mentioned (even_clause n side k b a)) [] in
       record { count = omega arith; rows = omega (arith, first, second, more, last) }
-  evens_few mark (a ∷ b ∷ c ∷ edges) = record { count = omega arith; rows = omega arith }
+  evens_few side k (a ∷ b ∷ c ∷ edges) = record { count = omega arith; rows = omega arith }
 
   backing_few : (ins outs : List ℕ) → length ins ≤ 2 → length outs ≤ 2 → AreFew (flat_map (λ a. map (backing_clause n a) outs) ins) 4 4
   backing_few [] outs l m = record { count = omega arith; rows = omega arith }
@@ -85,8 +92,13 @@ module _ (n : Network) (is : IsNetwork n) where
   at_few of.Loads k l = record { count = omega arith; rows = omega arith }
   at_few of.Rooms k l = record { count = omega arith; rows = omega arith }
   at_few of.Conserve k l = record { count = omega arith; rows = omega arith }
-  at_few of.EvenOut k l = evens_few true (out_edges n k)
-  at_few of.EvenIn k l = evens_few false (in_edges n k)
+  at_few of.OutPairs k l = pairs_few Out k (out_edges n k)
+  at_few of.InPairs k l = pairs_few In k (in_edges n k)
+  at_few of.FullPairs k l = record { count = omega arith; rows = omega arith }
+  at_few of.LoadPairs k l = record { count = omega arith; rows = omega arith }
+  at_few of.RoomPairs k l = record { count = omega arith; rows = omega arith }
+  at_few of.EvenOut k l = evens_few Out k (out_edges n k)
+  at_few of.EvenIn k l = evens_few In k (in_edges n k)
   at_few of.Backing k l = backing_few (in_edges n k) (out_edges n k) (few_edges Into k l) (few_edges OutOf k l)
   at_few of.Inputs k l = record { count = omega arith; rows = omega arith }
   at_few of.Outputs k l = record { count = omega arith; rows = omega arith }
@@ -96,6 +108,11 @@ module _ (n : Network) (is : IsNetwork n) where
   few_places of.Loads = is.few_inputs
   few_places of.Rooms = is.few_outputs
   few_places of.Conserve = is.few_splitters
+  few_places of.OutPairs = is.few_splitters
+  few_places of.InPairs = is.few_splitters
+  few_places of.FullPairs = is.few_edges
+  few_places of.LoadPairs = is.few_inputs
+  few_places of.RoomPairs = is.few_outputs
   few_places of.EvenOut = is.few_splitters
   few_places of.EvenIn = is.few_splitters
   few_places of.Backing = is.few_splitters
@@ -164,12 +181,12 @@ module _ (n : Network) (is : IsNetwork n) where
   property_few Full =
       few-append (loaded_clauses n ++ open_clauses n) (short_clauses n) 4096 4096 4096 4096 (few-append (loaded_clauses n) (open_clauses n) 2048 2048 2048 2048 loaded_few open_few) short_few
 
-  flow_few : (p : Property) → AreFew (flow_clauses n p) 81920 81920
-  flow_few p = few-append (flat_map (family_clauses n) families) (property_clauses n p) 73728 73728 8192 8192 (each_few families) (property_few p)
+  flow_few : (p : Property) → AreFew (flow_clauses n p) 122880 122880
+  flow_few p = few-append (flat_map (family_clauses n) families) (property_clauses n p) 114688 114688 8192 8192 (each_few families) (property_few p)
 
-clauses_as_many : (next : ℕ) (clauses : List (List Claim)) → length (clauses_from next clauses) ≡ length clauses
-clauses_as_many next [] = refl
-clauses_as_many next (claims ∷ clauses) = ap suc (clauses_as_many (next + length (flat_map mentioned claims)) clauses)
+clauses_as_many : (at : Pair → ℕ) (next : ℕ) (clauses : List (List Claim)) → length (clauses_from at next clauses) ≡ length clauses
+clauses_as_many at next [] = refl
+clauses_as_many at next (claims ∷ clauses) = ap suc (clauses_as_many at (next + length (flat_map mentioned claims)) clauses)
 
 pub flow_formulas_small : FlowFormulasAreSmall
 flow_formulas_small n p is =
@@ -177,5 +194,5 @@ flow_formulas_small n p is =
     let count = few.count in
     let rows = few.rows in
     let edges = is.few_edges in
-    let same = clauses_as_many (length n.edges) (flow_clauses n p) in
+    let same = clauses_as_many (variable_of n) (length n.edges) (flow_clauses n p) in
     record { vars = omega (arith, rows, edges); clauses = omega (arith, count, same) }

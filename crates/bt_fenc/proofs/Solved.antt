@@ -20,20 +20,26 @@ use Rattle.bt_flow.specs.Properties.{AdmitsLoad, AdmitsRoom, IsAdmissible, IsLoa
 use Rattle.bt_flow.proofs.Adding.{no_edge}
 use Rattle.bt_flow.proofs.Each.{numbers_all}
 use Rattle.bt_flow.proofs.Numbers.{length-numbers_where, few_at, within, ends_of}
+use Rattle.bt_fenc.specs.declared.claim.Side.{Side}
+use Rattle.bt_fenc.specs.declared.claim.Side.TheVariants.{Out, In}
+use Rattle.bt_fenc.specs.declared.claim.Pair.{Pair}
 use Rattle.bt_fenc.specs.declared.claim.Claim.{Claim}
-use Rattle.bt_fenc.specs.declared.claim.Claim.TheVariants.{Says}
+use Rattle.bt_fenc.specs.declared.claim.Claim.TheVariants.{Says, First}
 use Rattle.bt_fenc.specs.declared.family.Family.{Family}
 use Rattle.bt_fenc.specs.declared.family.Family.TheVariants as of
-use Rattle.bt_fenc.specs.Columns.{input_edge, output_edge, input_edges, output_edges, in_edges, out_edges, cap_at, load_column, room_column, at_least}
-use Rattle.bt_fenc.specs.Families.{clauses_at, places, family_clauses, families, range_clauses, end_clauses, even_clause, even_clauses, backing_clause}
+use Rattle.bt_fenc.specs.Columns.{input_edge, output_edge, input_edges, output_edges, in_edges, out_edges, cap_at, load_column, room_column, at_least, not_below}
+use Rattle.bt_fenc.specs.Families.{clauses_at, places, family_clauses, families, range_clauses, end_clauses, excuse, even_clause, even_clauses, backing_clause}
+use Rattle.bt_fenc.specs.Pairs.{first_row, full, filled}
+use Rattle.bt_fenc.specs.Pairs.{loaded as has_load}
 use Rattle.bt_fenc.specs.Properties.{property_clauses, loaded_clauses, open_clauses, short_clauses, unequal_clause, differ}
-use Rattle.bt_fenc.specs.FlowFormula.{flow_clauses}
+use Rattle.bt_fenc.specs.FlowFormula.{flow_clauses, variable_of}
 use Rattle.bt_fenc.specs.Laws.{HasTrue}
 use Rattle.bt_fenc.specs.Solutions.{HasValues, MeetingBreaks}
 use Rattle.bt_fenc.proofs.Withins.{each-left, each-right, each-map, each-range, from_flat_map, from_map, at_range, in_range}
 use Rattle.bt_fenc.proofs.NetEdges.{cap_is, input_is, output_is, edge_of_input, edge_of_output}
 use Rattle.bt_fenc.proofs.RowValues.{At, AllAt, at_least_says, at_most_says, not_below_says, above_says, conserve_says, above_outputs_says}
 use Rattle.bt_fenc.proofs.Claimed.{met_claims}
+use Rattle.bt_fenc.proofs.Named.{flow_named}
 
 never_both : (x y : Bool) → x ≡ y → x ≡ not y → ⊥
 never_both true true p q = false≢true (sym q)
@@ -90,13 +96,17 @@ module _ (n : Network) (is : IsNetwork n) (f : ℕ → Bool) (v : ℕ → Ratio)
       let zero_is : pos (0 * s.denominator) ≡ pos 0 = omega (arith, ints) in
       (subst (λ z. z ≤ℤ x) zero_is low, (at_most_says v s.denominator has.state.positive c k x at).0 (holds_alone h.1.0))
 
-  end_said : (c a : ℕ) (x y : ℤ) (mark : Bool) → IsAt c x → IsAt a y → AllTrue (end_clauses c a mark) → (y ≤ℤ x) × (f a ≡ not mark → y ≡ x)
-  end_said c a x y mark at_c at_a h =
+  end_said : (c a : ℕ) (x y : ℤ) (mark : Bool) (pair : Pair) → first_row pair ≡ not_below a c → IsAt c x → IsAt a y → AllTrue (end_clauses c a mark pair)
+      → (y ≤ℤ x) × (f a ≡ not mark → y ≡ x)
+  end_said c a x y mark pair same at_c at_a h =
       let most = (not_below_says v s.denominator has.state.positive c a x y at_c at_a).0 (holds_alone h.0) in (
         most,
         λ m. elim h.1.0 [
           | inl marked ↦ absurd (never_both (f a) mark marked m)
-          | inr rest ↦ let least = (not_below_says v s.denominator has.state.positive a c y x at_a at_c).0 (holds_alone rest) in omega (arith, ints, most, least)
+          | inr rest ↦
+              let row = subst (λ r. RowHolds r v) same (holds_alone rest) in
+              let least = (not_below_says v s.denominator has.state.positive a c y x at_a at_c).0 row in
+              omega (arith, ints, most, least)
         ],
       )
 
@@ -116,40 +126,40 @@ module _ (n : Network) (is : IsNetwork n) (f : ℕ → Bool) (v : ℕ → Ratio)
     conserve : (k : ℕ) → k < n.splitters → Conserves n s k
     conserve k l = (conserve_says v s.denominator has.state.positive k n.edges s.flows has.state.flows flows_are).0 (holds_alone (all of.Conserve k l).0)
 
-    last_said : (t : Bool) (a : ℕ) (e : Edge) → HasEdge n a e → True (cond t (Says (at_least a (cap_at n a)) ∷ []) []) → IsFull s a e
+    last_said : (t : Bool) (a : ℕ) (e : Edge) → HasEdge n a e → True (cond t (First (full n a) ∷ []) []) → IsFull s a e
     last_said true a e h said = full_said a e h (holds_alone said)
     last_said false a e h said = absurd said
 
-    even_said : (mark : Bool) (a b : ℕ) (e g : Edge) → HasEdge n a e → HasEdge n b g → backed_at s a ≡ not mark → True (even_clause n mark a b) → (flow_at s b ≤ℤ flow_at s a) ⊎ IsFull s a e
-    even_said mark a b e g h k m (inl marked) = absurd (never_both (f a) mark marked (sym (has.marks a (below a e h)) ∙ m))
-    even_said mark a b e g h k m (inr (inl row)) =
+    even_said : (side : Side) (i a b : ℕ) (e g : Edge) → HasEdge n a e → HasEdge n b g → backed_at s a ≡ not (excuse side) → True (even_clause n side i a b) → (flow_at s b ≤ℤ flow_at s a) ⊎ IsFull s a e
+    even_said side i a b e g h k m (inl marked) = absurd (never_both (f a) (excuse side) marked (sym (has.marks a (below a e h)) ∙ m))
+    even_said side i a b e g h k m (inr (inl row)) =
         inl ((not_below_says v s.denominator has.state.positive a b (flow_at s a) (flow_at s b) (flow_is a (below a e h)) (flow_is b (below b g k))).0 row)
-    even_said mark a b e g h k m (inr (inr last)) = inr (last_said (ltb (cap_at n a) (cap_at n b)) a e h last)
+    even_said side i a b e g h k m (inr (inr last)) = inr (last_said (ltb (cap_at n a) (cap_at n b)) a e h last)
 
     -- an edge that passes a test is one of the listed
     listed : (p : Edge → Bool) (P : ℕ → Type 0) (numbers : List ℕ) → numbers ≡ numbers_where p 0 n.edges → AllByRecursion P numbers → (a : ℕ) (e : Edge) → HasEdge n a e → IsTrue (p e) → P a
     listed p P numbers same h a e is t =
         subst P (let z : 0 + a ≡ a = omega arith in z) (numbers_all p P 0 n.edges (subst (AllByRecursion P) same h) a e is t)
 
-    pair_said : (p : Edge → Bool) (mark : Bool) (numbers : List ℕ) → numbers ≡ numbers_where p 0 n.edges → length numbers ≤ 2 → AllTrue (even_clauses n mark numbers)
-        → (a b : ℕ) (e g : Edge) → HasEdge n a e → HasEdge n b g → IsTrue (p e) → IsTrue (p g) → b ≢ a → True (even_clause n mark a b)
-    pair_said p mark [] same few said a b e g h k t u o = absurd (listed p (λ x. ⊥) [] same tt a e h t)
-    pair_said p mark (c ∷ []) same few said a b e g h k t u o =
+    pair_said : (p : Edge → Bool) (side : Side) (i : ℕ) (numbers : List ℕ) → numbers ≡ numbers_where p 0 n.edges → length numbers ≤ 2 → AllTrue (even_clauses n side i numbers)
+        → (a b : ℕ) (e g : Edge) → HasEdge n a e → HasEdge n b g → IsTrue (p e) → IsTrue (p g) → b ≢ a → True (even_clause n side i a b)
+    pair_said p side i [] same few said a b e g h k t u o = absurd (listed p (λ x. ⊥) [] same tt a e h t)
+    pair_said p side i (c ∷ []) same few said a b e g h k t u o =
         absurd (o (listed p (λ x. x ≡ c) (c ∷ []) same (refl, tt) b g k u ∙ sym (listed p (λ x. x ≡ c) (c ∷ []) same (refl, tt) a e h t)))
-    pair_said p mark (c ∷ i ∷ []) same few said a b e g h k t u o =
-        let first = listed p (λ x. (x ≡ c) ⊎ (x ≡ i)) (c ∷ i ∷ []) same (inl refl, (inr refl, tt)) a e h t in
-        let second = listed p (λ x. (x ≡ c) ⊎ (x ≡ i)) (c ∷ i ∷ []) same (inl refl, (inr refl, tt)) b g k u in
+    pair_said p side i (c ∷ d ∷ []) same few said a b e g h k t u o =
+        let first = listed p (λ x. (x ≡ c) ⊎ (x ≡ d)) (c ∷ d ∷ []) same (inl refl, (inr refl, tt)) a e h t in
+        let second = listed p (λ x. (x ≡ c) ⊎ (x ≡ d)) (c ∷ d ∷ []) same (inl refl, (inr refl, tt)) b g k u in
         elim first [
           | inl x ↦ elim second [
             | inl y ↦ absurd (o (y ∙ sym x))
-            | inr y ↦ subst (λ z. True (even_clause n mark z b)) (sym x) (subst (λ z. True (even_clause n mark c z)) (sym y) said.0)
+            | inr y ↦ subst (λ z. True (even_clause n side i z b)) (sym x) (subst (λ z. True (even_clause n side i c z)) (sym y) said.0)
           ]
           | inr x ↦ elim second [
-            | inl y ↦ subst (λ z. True (even_clause n mark z b)) (sym x) (subst (λ z. True (even_clause n mark i z)) (sym y) said.1.0)
+            | inl y ↦ subst (λ z. True (even_clause n side i z b)) (sym x) (subst (λ z. True (even_clause n side i d z)) (sym y) said.1.0)
             | inr y ↦ absurd (o (y ∙ sym x))
           ]
         ]
-    pair_said p mark (c ∷ i ∷ j ∷ numbers) same few said a b e g h k t u o = absurd (omega arith)
+    pair_said p side i (c ∷ d ∷ j ∷ numbers) same few said a b e g h k t u o = absurd (omega arith)
 
     -- a splitter of which an edge has a role is one of the network, and has at most two such edges
     splitter : (r : Role) (k a : ℕ) (e : Edge) → HasEdge n a e → IsTrue (plays r k e) → (k < ends_of r n) × (length (numbers_where (plays r k) 0 n.edges) ≤ 2)
@@ -162,12 +172,12 @@ module _ (n : Network) (is : IsNetwork n) (f : ℕ → Bool) (v : ℕ → Ratio)
     even_out : (a : ℕ) → a < length n.edges → EvensOut n s a
     even_out a l = λ k b e g h j o t u m.
         let at = splitter OutOf k a e h t in
-        even_said true a b e g h j m (pair_said (leaves k) true (out_edges n k) refl at.1 (all of.EvenOut k at.0) a b e g h j t u o)
+        even_said Out k a b e g h j m (pair_said (leaves k) Out k (out_edges n k) refl at.1 (all of.EvenOut k at.0) a b e g h j t u o)
 
     even_in : (a : ℕ) → a < length n.edges → EvensIn n s a
     even_in a l = λ k b e g h j o t u m.
         let at = splitter Into k a e h t in
-        even_said false a b e g h j m (pair_said (enters k) false (in_edges n k) refl at.1 (all of.EvenIn k at.0) a b e g h j t u o)
+        even_said In k a b e g h j m (pair_said (enters k) In k (in_edges n k) refl at.1 (all of.EvenIn k at.0) a b e g h j t u o)
 
     back_said : (a b : ℕ) (e g : Edge) → HasEdge n a e → HasEdge n b g → backed_at s a ≡ true → True (backing_clause n a b) → (backed_at s b ≡ true) ⊎ IsFull s b g
     back_said a b e g h k m (inl free) = absurd (never_both (f a) false free (sym (has.marks a (below a e h)) ∙ m))
@@ -184,13 +194,13 @@ module _ (n : Network) (is : IsNetwork n) (f : ℕ → Bool) (v : ℕ → Ratio)
     input : (i : ℕ) → i < n.inputs → FeedsInput n s i
     input i l = λ a e h t.
         let same = (edge_of_input n is i a e h t).1 in
-        let said = end_said (load_column n i) a (load_at s i) (flow_at s a) true (load_is i l) (flow_is a (below a e h)) (subst (λ b. AllTrue (end_clauses (load_column n i) b true)) (sym same) (all of.Inputs i l)) in
+        let said = end_said (load_column n i) a (load_at s i) (flow_at s a) true (has_load n i) (ap (λ x. not_below x (load_column n i)) (sym same)) (load_is i l) (flow_is a (below a e h)) (subst (λ b. AllTrue (end_clauses (load_column n i) b true (has_load n i))) (sym same) (all of.Inputs i l)) in
         (said.0, λ m. said.1 (sym (has.marks a (below a e h)) ∙ m))
 
     output : (o : ℕ) → o < n.outputs → FillsOutput n s o
     output o l = λ a e h t.
         let same = (edge_of_output n is o a e h t).1 in
-        let said = end_said (room_column n o) a (room_at s o) (flow_at s a) false (room_is o l) (flow_is a (below a e h)) (subst (λ b. AllTrue (end_clauses (room_column n o) b false)) (sym same) (all of.Outputs o l)) in
+        let said = end_said (room_column n o) a (room_at s o) (flow_at s a) false (filled n o) (ap (λ x. not_below x (room_column n o)) (sym same)) (room_is o l) (flow_is a (below a e h)) (subst (λ b. AllTrue (end_clauses (room_column n o) b false (filled n o))) (sym same) (all of.Outputs o l)) in
         (said.0, λ m. said.1 (sym (has.marks a (below a e h)) ∙ m))
 
     pub steady : IsSteady n s
@@ -275,11 +285,16 @@ module _ (n : Network) (is : IsNetwork n) (f : ℕ → Bool) (v : ℕ → Ratio)
       of_family of.Loads = each.1.0
       of_family of.Rooms = each.1.1.0
       of_family of.Conserve = each.1.1.1.0
-      of_family of.EvenOut = each.1.1.1.1.0
-      of_family of.EvenIn = each.1.1.1.1.1.0
-      of_family of.Backing = each.1.1.1.1.1.1.0
-      of_family of.Inputs = each.1.1.1.1.1.1.1.0
-      of_family of.Outputs = each.1.1.1.1.1.1.1.1.0
+      of_family of.OutPairs = each.1.1.1.1.0
+      of_family of.InPairs = each.1.1.1.1.1.0
+      of_family of.FullPairs = each.1.1.1.1.1.1.0
+      of_family of.LoadPairs = each.1.1.1.1.1.1.1.0
+      of_family of.RoomPairs = each.1.1.1.1.1.1.1.1.0
+      of_family of.EvenOut = each.1.1.1.1.1.1.1.1.1.0
+      of_family of.EvenIn = each.1.1.1.1.1.1.1.1.1.1.0
+      of_family of.Backing = each.1.1.1.1.1.1.1.1.1.1.1.0
+      of_family of.Inputs = each.1.1.1.1.1.1.1.1.1.1.1.1.0
+      of_family of.Outputs = each.1.1.1.1.1.1.1.1.1.1.1.1.1.0
 
   meets : (all : (g : Family) (k : ℕ) → k < places n g → AllTrue (clauses_at n g k)) (p : Property) → AllTrue (property_clauses n p) → properties.Meets p n s
   meets all Balanced said = record { loads = λ t. absurd (false≢true t); rooms = λ t. open_ends all (each-left True (open_clauses n) (unequal_clause (output_edges n) ∷ []) said) }
@@ -303,4 +318,4 @@ module _ (n : Network) (is : IsNetwork n) (f : ℕ → Bool) (v : ℕ → Ratio)
 
 pub meeting_breaks : MeetingBreaks
 meeting_breaks n p assignment values s is some met has =
-    breaks n is assignment values s some has p (met_claims assignment values (length n.edges) (flow_clauses n p) met)
+    breaks n is assignment values s some has p (met_claims (variable_of n) (length n.edges) (flow_clauses n p) assignment values (flow_named n is p) met)

@@ -1,139 +1,139 @@
--- An assignment that makes true, of each clause, one row that holds or none.
-use Rattle.std.proofs.Common.{◌≡◌, ℕ, ◌<◌, ◌+◌, ◌-◌, inl, inr, Bool, true, false, List, [], ◌∷◌, ◌++◌, length, get_or, cond, ap, sym, ◌∙◌, refl, subst, arith, suc, ltb}
+-- An assignment that makes each atom true exactly where its row holds.
+use Rattle.std.proofs.Common.{◌≡◌, ◌↔◌, ℕ, ℤ, pos, ◌*ℤ◌, ◌<◌, ◌+◌, ◌-◌, ◌⊎◌, ◌≤ℤ◌, ◌<ℤ◌, inl, inr, Bool, true, false, List, [], ◌∷◌, ◌++◌, length, get_or, cond, ap, sym, ◌∙◌, refl, subst, arith, suc, ltb, append_assoc, length-append}
 use Rattle.std.specs.List.{Any, AllByRecursion, flat_map}
+use Rattle.std.proofs.lemmas.Int.{ints}
 use Rattle.std.proofs.lemmas.Bool.{lt-ltb, le-ltb, false≢true}
+use Rattle.std.proofs.lemmas.List.{get_or-append-add}
 use Rattle.bt_frac.specs.Ratio.{Ratio}
-use Rattle.bt_frac.specs.Values.{RowHolds}
+use Rattle.bt_frac.specs.Rows.{RowParts}
+use Rattle.bt_frac.specs.Values.{RowHolds, Stands, sum_of_products, valued}
+use Rattle.bt_frac.specs.declared.row.Relation.{Relation}
+use Rattle.bt_frac.specs.declared.row.Relation.TheVariants.{AtLeast, Above, Equal}
 use Rattle.bt_cnf.specs.declared.literal.Lit.{Lit}
 use Rattle.bt_cnf.specs.Meeting.{IsTrueUnder, MeetsClause}
+use Rattle.bt_fenc.specs.declared.claim.Pair.{Pair}
 use Rattle.bt_fenc.specs.declared.claim.Claim.{Claim}
-use Rattle.bt_fenc.specs.declared.claim.Claim.TheVariants.{Mark, Says}
-use Rattle.bt_fenc.specs.Numbering.{mentioned, rows_in, literals_from, clauses_from, atoms_from}
-use Rattle.bt_fenc.specs.Within.{IsWithin, AreWithin}
+use Rattle.bt_fenc.specs.declared.claim.Claim.TheVariants.{Mark, Says, First}
+use Rattle.bt_fenc.specs.Columns.{zero_row}
+use Rattle.bt_fenc.specs.Pairs.{first_row}
+use Rattle.bt_fenc.specs.Numbering.{mentioned, rows_in, literals_from, clauses_from, atoms_from, IsNamed}
 use Rattle.bt_fenc.specs.Laws.{HasTrue, TrueClaimsMeet}
-use Rattle.bt_fenc.proofs.Numbers.{all_from, atoms-append}
-use Rattle.bt_fenc.proofs.Withins.{each-append}
+use Rattle.bt_fenc.proofs.Numbers.{all_from, atoms-append, at_variable}
+use Rattle.bt_fenc.proofs.Withins.{each-left, each-right}
+use Rattle.bt_fenc.proofs.Orders.{order, at_most_or}
 
--- the assignment has these values from a variable on
-Agrees : (ℕ → Bool) → ℕ → List Bool → Type 0
-Agrees f next [] = Unit {0}
-Agrees f next (b ∷ bits) = (f next ≡ b) × Agrees f (next + 1) bits
+-- ---- whether a row holds
 
-agrees-left : (f : ℕ → Bool) (next : ℕ) (xs ys : List Bool) → Agrees f next (xs ++ ys) → Agrees f next xs
-unfolding Agrees
-agrees-left f next [] ys h = tt
-agrees-left f next (x ∷ xs) ys h = (h.0, agrees-left f (next + 1) xs ys h.1)
+at_most_or_not : (x y : ℤ) → (x ≤ℤ y) ⊎ (x ≤ℤ y → ⊥)
+at_most_or_not x y = elim (at_most_or x y) [ inl l ↦ inl l | inr g ↦ inr (λ h. omega (arith, ints, g, h)) ]
 
-agrees-right : (f : ℕ → Bool) (next : ℕ) (xs ys : List Bool) → Agrees f next (xs ++ ys) → Agrees f (next + length xs) ys
-unfolding Agrees
-agrees-right f next [] ys h = subst (λ k. Agrees f k ys) (let e : next ≡ next + length {A = Bool} [] = omega arith in e) h
-agrees-right f next (x ∷ xs) ys h =
-    subst (λ k. Agrees f k ys) (let e : next + 1 + length xs ≡ next + length (x ∷ xs) = omega arith in e) (agrees-right f (next + 1) xs ys h.1)
+less_or_not : (x y : ℤ) → (x <ℤ y) ⊎ (x <ℤ y → ⊥)
+less_or_not x y = elim (at_most_or y x) [ inl l ↦ inr (λ h. omega (arith, ints, l, h)) | inr g ↦ inl g ]
 
-agrees-from : (f : ℕ → Bool) (next : ℕ) (bits : List Bool) → ((j : ℕ) → j < length bits → f (next + j) ≡ get_or bits j false) → Agrees f next bits
-unfolding Agrees
-agrees-from f next [] h = tt
-agrees-from f next (b ∷ bits) h = (
-  ap f (let e : next ≡ next + 0 = omega arith in e) ∙ h 0 (omega arith),
-  agrees-from f (next + 1) bits (λ j l. ap f (let e : next + 1 + j ≡ next + suc j = omega arith in e) ∙ h (suc j) (omega arith)),
-)
+same_or_not : (x y : ℤ) → (x ≡ y) ⊎ (x ≡ y → ⊥)
+same_or_not x y =
+    elim (order x y) [ inl l ↦ inr (λ e. omega (arith, ints, l, e)) | inr h ↦ elim h [ inl e ↦ inl e | inr g ↦ inr (λ e. omega (arith, ints, g, e)) ] ]
 
--- false for each row that claims mention
-falses : List Claim → List Bool
-falses [] = []
-falses (Mark a b ∷ claims) = falses claims
-falses (Says row ∷ claims) = false ∷ falses claims
+stands_or_not : (r : Relation) (sum bound : Ratio) → Stands r sum bound ⊎ (Stands r sum bound → ⊥)
+stands_or_not AtLeast sum bound = at_most_or_not (bound.over *ℤ pos sum.under) (sum.over *ℤ pos bound.under)
+stands_or_not Above sum bound = less_or_not (bound.over *ℤ pos sum.under) (sum.over *ℤ pos bound.under)
+stands_or_not Equal sum bound = same_or_not (sum.over *ℤ pos bound.under) (bound.over *ℤ pos sum.under)
 
-module _ (marks : ℕ) (mark : ℕ → Bool) (values : ℕ → Ratio) where
-  -- true for the row that is the true claim, if one is, and false for each other
-  bits : (claims : List Claim) → HasTrue mark values claims → List Bool
-  bits [] h = []
-  bits (Mark a b ∷ claims) (inl x) = falses claims
-  bits (Mark a b ∷ claims) (inr h) = bits claims h
-  bits (Says row ∷ claims) (inl x) = true ∷ falses claims
-  bits (Says row ∷ claims) (inr h) = false ∷ bits claims h
+is_so : {P : Type 0} → P ⊎ (P → ⊥) → Bool
+is_so (inl p) = true
+is_so (inr f) = false
 
-  length-falses : (claims : List Claim) → length (falses claims) ≡ length (flat_map mentioned claims)
-  unfolding falses
-  length-falses [] = refl
-  length-falses (Mark a b ∷ claims) = length-falses claims
-  length-falses (Says row ∷ claims) = ap suc (length-falses claims)
+so_exactly : {P : Type 0} (d : P ⊎ (P → ⊥)) → (is_so d ≡ true) ↔ P
+unfolding is_so
+so_exactly (inl p) = (λ e. p, λ q. refl)
+so_exactly (inr f) = (λ e. absurd (false≢true e), λ q. absurd (f q))
 
-  length-bits : (claims : List Claim) (h : HasTrue mark values claims) → length (bits claims h) ≡ length (flat_map mentioned claims)
-  unfolding bits
-  length-bits [] h = refl
-  length-bits (Mark a b ∷ claims) (inl x) = length-falses claims
-  length-bits (Mark a b ∷ claims) (inr h) = length-bits claims h
-  length-bits (Says row ∷ claims) (inl x) = ap suc (length-falses claims)
-  length-bits (Says row ∷ claims) (inr h) = ap suc (length-bits claims h)
+module _ (values : ℕ → Ratio) where
+  holds : RowParts → Bool
+  holds row = is_so (stands_or_not row.relation (sum_of_products (valued values row.terms)) row.bound)
 
-  all_bits : (clauses : List (List Claim)) → AllByRecursion (HasTrue mark values) clauses → List Bool
-  all_bits [] h = []
-  all_bits (claims ∷ clauses) h = bits claims h.0 ++ all_bits clauses h.1
+  holds_exactly : (row : RowParts) → (holds row ≡ true) ↔ RowHolds row values
+  unfolding holds
+  holds_exactly row = so_exactly (stands_or_not row.relation (sum_of_products (valued values row.terms)) row.bound)
 
-  module _ (f : ℕ → Bool) (begins : (a : ℕ) → a < marks → f a ≡ mark a) where
-    later : (l : Lit) (lits : List Lit) → Any (IsTrueUnder f) lits → Any (IsTrueUnder f) (l ∷ lits)
-    later l lits h = (suc h.0, h.1, (let e = h.2 in omega (arith, e)), h.3, h.4)
+-- an atom is true exactly where its row holds
+abbrev Exact : (ℕ → Bool) → (ℕ → Ratio) → ℕ × RowParts → Type 0
+Exact f values atom = (f atom.0 ≡ true) ↔ RowHolds atom.1 values
 
-    clause_true : (next : ℕ) (claims : List Claim) (h : HasTrue mark values claims) → AllByRecursion (IsWithin marks) claims → Agrees f next (bits claims h)
-        → MeetsClause f (literals_from next claims)
-    unfolding Agrees bits
-    clause_true next [] h w g = absurd h
-    clause_true next (Mark a b ∷ claims) (inl x) w g = (0, record { var = a; positive = b }, (omega arith), refl, begins a w.0 ∙ x)
-    clause_true next (Mark a b ∷ claims) (inr h) w g = later (record { var = a; positive = b }) (literals_from next claims) (clause_true next claims h w.1 g)
-    clause_true next (Says row ∷ claims) (inl x) w g = (0, record { var = next; positive = true }, (omega arith), refl, g.0)
-    clause_true next (Says row ∷ claims) (inr h) w g = later (record { var = next; positive = true }) (literals_from (next + 1) claims) (clause_true (next + 1) claims h w.1 g.1)
+no_row : RowParts
+no_row = zero_row [] Equal
 
-    none_true : (next : ℕ) (claims : List Claim) → Agrees f next (falses claims) → AllByRecursion (λ a. f a.0 ≡ true → RowHolds a.1 values) (atoms_from next (flat_map mentioned claims))
-    unfolding Agrees falses
-    none_true next [] g = tt
-    none_true next (Mark a b ∷ claims) g = none_true next claims g
-    none_true next (Says row ∷ claims) g = (λ t. absurd (false≢true (sym g.0 ∙ t)), none_true (next + 1) claims g.1)
+-- the assignment of marks, and of rows after them
+abbrev chosen : ℕ → (ℕ → Bool) → (ℕ → Ratio) → List RowParts → ℕ → Bool
+chosen marks mark values rows v = cond (ltb v marks) (mark v) (holds values (get_or rows (v - marks) no_row))
 
-    rows_true : (next : ℕ) (claims : List Claim) (h : HasTrue mark values claims) → Agrees f next (bits claims h)
-        → AllByRecursion (λ a. f a.0 ≡ true → RowHolds a.1 values) (atoms_from next (flat_map mentioned claims))
-    unfolding Agrees bits
-    rows_true next [] h g = absurd h
-    rows_true next (Mark a b ∷ claims) (inl x) g = none_true next claims g
-    rows_true next (Mark a b ∷ claims) (inr h) g = rows_true next claims h g
-    rows_true next (Says row ∷ claims) (inl x) g = (λ t. x, none_true (next + 1) claims g.1)
-    rows_true next (Says row ∷ claims) (inr h) g = (λ t. absurd (false≢true (sym g.0 ∙ t)), rows_true (next + 1) claims h g.1)
+row_chosen : (marks : ℕ) (mark : ℕ → Bool) (values : ℕ → Ratio) (before : List RowParts) (row : RowParts) (after : List RowParts)
+    → chosen marks mark values (before ++ row ∷ after) (marks + length before) ≡ holds values row
+row_chosen marks mark values before row after =
+    let v : ℕ = marks + length before in
+    let rows : List RowParts = before ++ row ∷ after in
+    ap (λ b. cond b (mark v) (holds values (get_or rows (v - marks) no_row))) (le-ltb v marks (omega arith))
+    ∙ ap (λ k. holds values (get_or rows k no_row)) (let e : v - marks ≡ length before + 0 = omega arith in e)
+    ∙ ap (holds values) (get_or-append-add before (row ∷ after) 0 no_row)
 
-    all_clauses : (next : ℕ) (clauses : List (List Claim)) (h : AllByRecursion (HasTrue mark values) clauses) → AreWithin marks clauses → Agrees f next (all_bits clauses h)
-        → AllByRecursion (MeetsClause f) (clauses_from next clauses)
-    unfolding all_bits
-    all_clauses next [] h w g = tt
-    all_clauses next (claims ∷ clauses) h w g = (
-      clause_true next claims h.0 w.0 (agrees-left f next (bits claims h.0) (all_bits clauses h.1) g),
-      all_clauses (next + length (flat_map mentioned claims)) clauses h.1 w.1
-          (subst (λ k. Agrees f (next + k) (all_bits clauses h.1)) (length-bits claims h.0) (agrees-right f next (bits claims h.0) (all_bits clauses h.1) g)),
+all_exact : (marks : ℕ) (mark : ℕ → Bool) (values : ℕ → Ratio) (before rows : List RowParts)
+    → AllByRecursion (Exact (chosen marks mark values (before ++ rows)) values) (atoms_from (marks + length before) rows)
+all_exact marks mark values before [] = tt
+all_exact marks mark values before (row ∷ rows) =
+    let same = row_chosen marks mark values before row rows in
+    let so = holds_exactly values row in
+    let again = all_exact marks mark values (before ++ row ∷ []) rows in
+    let whole : (before ++ row ∷ []) ++ rows ≡ before ++ row ∷ rows = append_assoc before (row ∷ []) rows in
+    let long = length-append before (row ∷ []) in (
+      (λ t. so.0 (sym same ∙ t), λ h. same ∙ so.1 h),
+      subst (λ k. AllByRecursion (Exact (chosen marks mark values (before ++ row ∷ rows)) values) (atoms_from k rows))
+          (let e : marks + length (before ++ row ∷ []) ≡ marks + length before + 1 = omega (arith, long) in e)
+          (subst (λ l. AllByRecursion (Exact (chosen marks mark values l) values) (atoms_from (marks + length (before ++ row ∷ [])) rows)) whole again),
     )
 
-    all_rows : (next : ℕ) (clauses : List (List Claim)) (h : AllByRecursion (HasTrue mark values) clauses) → Agrees f next (all_bits clauses h)
-        → AllByRecursion (λ a. f a.0 ≡ true → RowHolds a.1 values) (atoms_from next (rows_in clauses))
-    unfolding all_bits
-    all_rows next [] h g = tt
-    all_rows next (claims ∷ clauses) h g =
-        subst (AllByRecursion (λ a. f a.0 ≡ true → RowHolds a.1 values)) (sym (atoms-append next (flat_map mentioned claims) (rows_in clauses)))
-        (each-append (λ a. f a.0 ≡ true → RowHolds a.1 values) (atoms_from next (flat_map mentioned claims)) (atoms_from (next + length (flat_map mentioned claims)) (rows_in clauses))
-        (rows_true next claims h.0 (agrees-left f next (bits claims h.0) (all_bits clauses h.1) g))
-        (all_rows (next + length (flat_map mentioned claims)) clauses h.1
-        (subst (λ k. Agrees f (next + k) (all_bits clauses h.1)) (length-bits claims h.0) (agrees-right f next (bits claims h.0) (all_bits clauses h.1) g))))
+module _ (at : Pair → ℕ) (marks : ℕ) (all : List RowParts) (mark : ℕ → Bool) (values : ℕ → Ratio) (f : ℕ → Bool) (begins : (a : ℕ) → a < marks → f a ≡ mark a)
+    (whole : AllByRecursion (Exact f values) (atoms_from marks all)) where
+  later : (l : Lit) (lits : List Lit) → Any (IsTrueUnder f) lits → Any (IsTrueUnder f) (l ∷ lits)
+  later l lits h = (suc h.0, h.1, (let e = h.2 in omega (arith, e)), h.3, h.4)
+
+  clause_true : (next : ℕ) (claims : List Claim) → HasTrue mark values claims → AllByRecursion (IsNamed at marks all) claims
+      → AllByRecursion (Exact f values) (atoms_from next (flat_map mentioned claims)) → MeetsClause f (literals_from at next claims)
+  clause_true next [] h w g = absurd h
+  clause_true next (Mark a b ∷ claims) (inl x) w g = (0, record { var = a; positive = b }, (omega arith), refl, begins a w.0 ∙ x)
+  clause_true next (Mark a b ∷ claims) (inr h) w g = later (record { var = a; positive = b }) (literals_from at next claims) (clause_true next claims h w.1 g)
+  clause_true next (Says row ∷ claims) (inl x) w g = (0, record { var = next; positive = true }, (omega arith), refl, g.0.1 x)
+  clause_true next (Says row ∷ claims) (inr h) w g = later (record { var = next; positive = true }) (literals_from at (next + 1) claims) (clause_true (next + 1) claims h w.1 g.1)
+  clause_true next (First pair ∷ claims) (inl x) w g =
+      (0, record { var = at pair; positive = true }, (omega arith), refl, (at_variable (Exact f values) marks all (first_row pair) (at pair) whole w.0).1 x)
+  clause_true next (First pair ∷ claims) (inr h) w g = later (record { var = at pair; positive = true }) (literals_from at next claims) (clause_true next claims h w.1 g)
+
+  all_clauses : (next : ℕ) (clauses : List (List Claim)) → AllByRecursion (HasTrue mark values) clauses → AllByRecursion (AllByRecursion (IsNamed at marks all)) clauses
+      → AllByRecursion (Exact f values) (atoms_from next (rows_in clauses)) → AllByRecursion (MeetsClause f) (clauses_from at next clauses)
+  all_clauses next [] h w g = tt
+  all_clauses next (claims ∷ clauses) h w g =
+      let rows = subst (AllByRecursion (Exact f values)) (atoms-append next (flat_map mentioned claims) (rows_in clauses)) g in
+      let front = atoms_from next (flat_map mentioned claims) in
+      let back = atoms_from (next + length (flat_map mentioned claims)) (rows_in clauses) in (
+        clause_true next claims h.0 w.0 (each-left (Exact f values) front back rows),
+        all_clauses (next + length (flat_map mentioned claims)) clauses h.1 w.1 (each-right (Exact f values) front back rows),
+      )
+
+each_holds : (f : ℕ → Bool) (values : ℕ → Ratio) (atoms : List (ℕ × RowParts)) → AllByRecursion (Exact f values) atoms → AllByRecursion (λ a. f a.0 ≡ true → RowHolds a.1 values) atoms
+each_holds f values [] h = tt
+each_holds f values (a ∷ atoms) h = (h.0.0, each_holds f values atoms h.1)
 
 pub true_claims_meet : TrueClaimsMeet
-true_claims_meet marks clauses mark values w h =
-    let list = all_bits marks mark values clauses h in
-    let f : ℕ → Bool = λ v. cond (ltb v marks) (mark v) (get_or list (v - marks) false) in
-    let begins : (a : ℕ) → a < marks → f a ≡ mark a = λ a l. ap (λ b. cond b (mark a) (get_or list (a - marks) false)) (lt-ltb a marks l) in
-    let after : (j : ℕ) → j < length list → f (marks + j) ≡ get_or list j false = λ j l.
-    ap (λ b. cond b (mark (marks + j)) (get_or list (marks + j - marks) false)) (le-ltb (marks + j) marks (omega arith))
-    ∙ ap (λ k. get_or list k false) (let e : marks + j - marks ≡ j = omega arith in e) in
-    let g = agrees-from f marks list after in
+true_claims_meet at marks clauses mark values w h =
+    let rows = rows_in clauses in
+    let f : ℕ → Bool = chosen marks mark values rows in
+    let begins : (a : ℕ) → a < marks → f a ≡ mark a = λ a l. ap (λ b. cond b (mark a) (holds values (get_or rows (a - marks) no_row))) (lt-ltb a marks l) in
+    let exact = subst (λ k. AllByRecursion (Exact f values) (atoms_from k rows)) (let e : marks + length {A = RowParts} [] ≡ marks = omega arith in e) (all_exact marks mark values [] rows) in
     record {
       assignment = f;
       begins = begins;
       meets = record {
-        clauses = all_from (MeetsClause f) (clauses_from marks clauses) (all_clauses marks mark values f begins marks clauses h w g);
-        atoms = all_from (λ a. f a.0 ≡ true → RowHolds a.1 values) (atoms_from marks (rows_in clauses)) (all_rows marks mark values f begins marks clauses h g);
+        clauses = all_from (MeetsClause f) (clauses_from at marks clauses) (all_clauses at marks rows mark values f begins exact marks clauses h w exact);
+        atoms = all_from (λ a. f a.0 ≡ true → RowHolds a.1 values) (atoms_from marks rows) (each_holds f values (atoms_from marks rows) exact);
       };
+      exact = all_from (Exact f values) (atoms_from marks rows) exact;
     }

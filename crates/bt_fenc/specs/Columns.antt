@@ -9,6 +9,8 @@ use Rattle.bt_net.specs.declared.network.Edge.{Edge}
 use Rattle.bt_net.specs.Network.{Network, leaves, enters, is_input, is_output}
 use Rattle.bt_flow.specs.Ports.{numbers_where}
 use Rattle.bt_flow.specs.Properties.{is_last}
+use Rattle.bt_fenc.specs.declared.claim.Side.{Side}
+use Rattle.bt_fenc.specs.declared.claim.Side.TheVariants.{Out, In}
 
 -- the numbers of the edges that leave a splitter, in ascending order
 abbrev pub out_edges : Network → ℕ → List ℕ
@@ -17,6 +19,11 @@ out_edges n k = numbers_where (leaves k) 0 n.edges
 -- the numbers of the edges that enter a splitter, in ascending order
 abbrev pub in_edges : Network → ℕ → List ℕ
 in_edges n k = numbers_where (enters k) 0 n.edges
+
+-- the numbers of the edges at a side of a splitter, in ascending order
+abbrev pub edges_at : Network → Side → ℕ → List ℕ
+edges_at n Out k = out_edges n k
+edges_at n In k = in_edges n k
 
 -- the number of the edge of an input
 abbrev pub input_edge : Network → ℕ → ℕ
@@ -69,6 +76,10 @@ at_least column k = record { terms = plus column ∷ []; relation = AtLeast; bou
 -- a column is at most a whole number: its negative is at least the negative of that
 abbrev pub at_most : ℕ → ℕ → RowParts
 at_most column k = record { terms = minus column ∷ []; relation = AtLeast; bound = negated (whole k) }
+
+-- a column is below a whole number: its negative is above the negative of that
+abbrev pub below : ℕ → ℕ → RowParts
+below column k = record { terms = minus column ∷ []; relation = Above; bound = negated (whole k) }
 
 -- one column less another, the lower column first; nothing where they are one column
 abbrev pub less : ℕ → ℕ → List (ℕ × Ratio)

@@ -1,35 +1,46 @@
 -- The clauses that say that a state is admissible and steady, family by family.
 use Rattle.std.specs.List.{range_with_len}
-use Rattle.std.specs.Prelude.{ℕ, nat_lt, Bool, true, false, List, [], ◌∷◌, length, map, flat_map, if◌then◌else◌}
+use Rattle.std.specs.Prelude.{ℕ, nat_lt, Bool, true, false, List, [], ◌∷◌, ◌++◌, length, map, flat_map, if◌then◌else◌}
 use Rattle.bt_frac.specs.declared.row.Relation.TheVariants.{Equal}
 use Rattle.bt_net.specs.Network.{Network}
+use Rattle.bt_fenc.specs.declared.claim.Side.{Side}
+use Rattle.bt_fenc.specs.declared.claim.Side.TheVariants.{Out, In}
+use Rattle.bt_fenc.specs.declared.claim.Pair.{Pair}
+use Rattle.bt_fenc.specs.declared.claim.Pair.TheVariants.{Even}
 use Rattle.bt_fenc.specs.declared.claim.Claim.{Claim}
-use Rattle.bt_fenc.specs.declared.claim.Claim.TheVariants.{Mark, Says}
+use Rattle.bt_fenc.specs.declared.claim.Claim.TheVariants.{Mark, Says, First}
 use Rattle.bt_fenc.specs.declared.family.Family.{Family}
 use Rattle.bt_fenc.specs.declared.family.Family.TheVariants as of
 use Rattle.bt_fenc.specs.Columns.{out_edges, in_edges, input_edge, output_edge, cap_at, load_column, room_column, zero_row, at_least, at_most, not_below, in_less_out}
+use Rattle.bt_fenc.specs.Pairs.{pair_clause, even_pairs, full, loaded, filled}
 
 -- a column is from 0 to a cap
 abbrev pub range_clauses : ℕ → ℕ → List (List Claim)
 range_clauses column cap = (Says (at_least column 0) ∷ []) ∷ (Says (at_most column cap) ∷ []) ∷ []
 
--- an edge has the mark, or a flow at least that of another edge, or where its cap is less is full
-abbrev pub even_clause : Network → Bool → ℕ → ℕ → List Claim
-even_clause n mark x y =
-    Mark x mark ∷ Says (not_below x y) ∷ (if nat_lt (cap_at n x) (cap_at n y) then Says (at_least x (cap_at n x)) ∷ [] else [])
+-- the mark with which an edge at a side of a splitter needn't be even: of an out edge that it is backed, of an in edge
+-- that it is free
+abbrev pub excuse : Side → Bool
+excuse Out = true
+excuse In = false
+
+-- an edge has the mark, or a flow at least that of the other edge, or where its cap is less is full
+abbrev pub even_clause : Network → Side → ℕ → ℕ → ℕ → List Claim
+even_clause n side k x y =
+    Mark x (excuse side) ∷ First (Even side k x y) ∷ (if nat_lt (cap_at n x) (cap_at n y) then First (full n x) ∷ [] else [])
 
 -- of two edges each is even, unless it has the mark
-abbrev pub even_clauses : Network → Bool → List ℕ → List (List Claim)
-even_clauses n mark (a ∷ b ∷ []) = even_clause n mark a b ∷ even_clause n mark b a ∷ []
-even_clauses n mark edges = []
+abbrev pub even_clauses : Network → Side → ℕ → List ℕ → List (List Claim)
+even_clauses n side k (a ∷ b ∷ []) = even_clause n side k a b ∷ even_clause n side k b a ∷ []
+even_clauses n side k edges = []
 
 -- an in edge isn't backed, or an out edge is backed or full
 abbrev pub backing_clause : Network → ℕ → ℕ → List Claim
-backing_clause n a x = Mark a false ∷ Mark x true ∷ Says (at_least x (cap_at n x)) ∷ []
+backing_clause n a x = Mark a false ∷ Mark x true ∷ First (full n x) ∷ []
 
--- an edge's flow is at most the load or room in a column, and equals it unless the edge has the mark
-abbrev pub end_clauses : ℕ → ℕ → Bool → List (List Claim)
-end_clauses column a mark = (Says (not_below column a) ∷ []) ∷ (Mark a mark ∷ Says (not_below a column) ∷ []) ∷ []
+-- an edge's flow is at most the load or room in a column, and as the pair says at least that, unless the edge has the mark
+abbrev pub end_clauses : ℕ → ℕ → Bool → Pair → List (List Claim)
+end_clauses column a mark pair = (Says (not_below column a) ∷ []) ∷ (Mark a mark ∷ First pair ∷ []) ∷ []
 
 -- the clauses of a family at the place of an edge, an input, an output or a splitter
 abbrev pub clauses_at : Network → Family → ℕ → List (List Claim)
@@ -37,11 +48,16 @@ clauses_at n of.Flows a = range_clauses a (cap_at n a)
 clauses_at n of.Loads i = range_clauses (load_column n i) (cap_at n (input_edge n i))
 clauses_at n of.Rooms o = range_clauses (room_column n o) (cap_at n (output_edge n o))
 clauses_at n of.Conserve k = (Says (zero_row (in_less_out k 0 n.edges) Equal) ∷ []) ∷ []
-clauses_at n of.EvenOut k = even_clauses n true (out_edges n k)
-clauses_at n of.EvenIn k = even_clauses n false (in_edges n k)
+clauses_at n of.OutPairs k = map pair_clause (even_pairs Out k (out_edges n k))
+clauses_at n of.InPairs k = map pair_clause (even_pairs In k (in_edges n k))
+clauses_at n of.FullPairs a = pair_clause (full n a) ∷ []
+clauses_at n of.LoadPairs i = pair_clause (loaded n i) ∷ []
+clauses_at n of.RoomPairs o = pair_clause (filled n o) ∷ []
+clauses_at n of.EvenOut k = even_clauses n Out k (out_edges n k)
+clauses_at n of.EvenIn k = even_clauses n In k (in_edges n k)
 clauses_at n of.Backing k = flat_map (λ a. map (backing_clause n a) (out_edges n k)) (in_edges n k)
-clauses_at n of.Inputs i = end_clauses (load_column n i) (input_edge n i) true
-clauses_at n of.Outputs o = end_clauses (room_column n o) (output_edge n o) false
+clauses_at n of.Inputs i = end_clauses (load_column n i) (input_edge n i) true (loaded n i)
+clauses_at n of.Outputs o = end_clauses (room_column n o) (output_edge n o) false (filled n o)
 
 -- how many places a family has
 abbrev pub places : Network → Family → ℕ
@@ -49,6 +65,11 @@ places n of.Flows = length n.edges
 places n of.Loads = n.inputs
 places n of.Rooms = n.outputs
 places n of.Conserve = n.splitters
+places n of.OutPairs = n.splitters
+places n of.InPairs = n.splitters
+places n of.FullPairs = length n.edges
+places n of.LoadPairs = n.inputs
+places n of.RoomPairs = n.outputs
 places n of.EvenOut = n.splitters
 places n of.EvenIn = n.splitters
 places n of.Backing = n.splitters
@@ -59,6 +80,18 @@ places n of.Outputs = n.outputs
 abbrev pub family_clauses : Network → Family → List (List Claim)
 family_clauses n f = flat_map (clauses_at n f) (range_with_len 0 (places n f))
 
+-- the families of rows that no pair has
+abbrev pub bounds : List Family
+bounds = of.Flows ∷ of.Loads ∷ of.Rooms ∷ of.Conserve ∷ []
+
+-- the families of pairs
+abbrev pub pair_families : List Family
+pair_families = of.OutPairs ∷ of.InPairs ∷ of.FullPairs ∷ of.LoadPairs ∷ of.RoomPairs ∷ []
+
+-- the families that name pairs
+abbrev pub laws : List Family
+laws = of.EvenOut ∷ of.EvenIn ∷ of.Backing ∷ of.Inputs ∷ of.Outputs ∷ []
+
 -- the families in their order
 abbrev pub families : List Family
-families = of.Flows ∷ of.Loads ∷ of.Rooms ∷ of.Conserve ∷ of.EvenOut ∷ of.EvenIn ∷ of.Backing ∷ of.Inputs ∷ of.Outputs ∷ []
+families = bounds ++ pair_families ++ laws

@@ -1,17 +1,44 @@
 -- The flow formula of a network and a property, which the states that break the property meet.
-use Rattle.std.specs.Prelude.{length, List, ◌++◌, flat_map}
+use Rattle.std.specs.List.{range_with_len}
+use Rattle.std.specs.Prelude.{ℕ, ◌+◌, nat_lt, length, List, [], ◌∷◌, ◌++◌, flat_map, if◌then◌else◌}
 use Rattle.bt_net.specs.Network.{Network}
 use Rattle.bt_flow.specs.declared.property.Property.{Property}
 use Rattle.bt_cnf.specs.Formulas.{FormulaParts}
+use Rattle.bt_fenc.specs.declared.claim.Side.TheVariants.{Out, In}
+use Rattle.bt_fenc.specs.declared.claim.Pair.{Pair}
+use Rattle.bt_fenc.specs.declared.claim.Pair.TheVariants.{Even, Full, Loaded, Filled}
 use Rattle.bt_fenc.specs.declared.claim.Claim.{Claim}
-use Rattle.bt_fenc.specs.Families.{family_clauses, families}
+use Rattle.bt_fenc.specs.declared.family.Family.{Family}
+use Rattle.bt_fenc.specs.declared.family.Family.TheVariants as of
+use Rattle.bt_fenc.specs.Families.{clauses_at, family_clauses, bounds, families}
+use Rattle.bt_fenc.specs.Pairs.{pair_clause}
 use Rattle.bt_fenc.specs.Properties.{property_clauses}
-use Rattle.bt_fenc.specs.Numbering.{formula_of}
+use Rattle.bt_fenc.specs.Numbering.{rows_in, formula_of}
 
 -- the clauses of the network's laws, family by family, and then those of the property
 abbrev pub flow_clauses : Network → Property → List (List Claim)
 flow_clauses n p = flat_map (family_clauses n) families ++ property_clauses n p
 
+-- the clauses that stand before a place of a family, which has these families before it
+abbrev pub clauses_till : Network → List Family → Family → ℕ → List (List Claim)
+clauses_till n before f place = flat_map (family_clauses n) before ++ flat_map (clauses_at n f) (range_with_len 0 place)
+
+-- at a splitter the clause of the lower edge's pair stands before that of the higher edge's
+abbrev pub lower_first : Pair → ℕ → ℕ → List (List Claim)
+lower_first lower a b = if nat_lt a b then [] else pair_clause lower ∷ []
+
+-- the clauses that stand before that of a pair
+abbrev pub clauses_before : Network → Pair → List (List Claim)
+clauses_before n (Even Out k a b) = clauses_till n bounds of.OutPairs k ++ lower_first (Even Out k b a) a b
+clauses_before n (Even In k a b) = clauses_till n (bounds ++ of.OutPairs ∷ []) of.InPairs k ++ lower_first (Even In k b a) a b
+clauses_before n (Full a cap) = clauses_till n (bounds ++ of.OutPairs ∷ of.InPairs ∷ []) of.FullPairs a
+clauses_before n (Loaded i a column) = clauses_till n (bounds ++ of.OutPairs ∷ of.InPairs ∷ of.FullPairs ∷ []) of.LoadPairs i
+clauses_before n (Filled o a column) = clauses_till n (bounds ++ of.OutPairs ∷ of.InPairs ∷ of.FullPairs ∷ of.LoadPairs ∷ []) of.RoomPairs o
+
+-- the variable of a pair's first row: the marks and the rows that were mentioned before have those before it
+abbrev pub variable_of : Network → Pair → ℕ
+variable_of n pair = length n.edges + length (rows_in (clauses_before n pair))
+
 -- the flow formula: variable e is the mark of edge e, true where it is backed, and the rows follow
 abbrev pub flow_formula : Network → Property → FormulaParts
-flow_formula n p = formula_of (length n.edges) (flow_clauses n p)
+flow_formula n p = formula_of (variable_of n) (length n.edges) (flow_clauses n p)

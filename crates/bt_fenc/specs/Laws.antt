@@ -1,7 +1,7 @@
 -- What follows from claims that are true, the claims that are true of steady states and of states that
 -- break a property, and what follows from a log that refutes the flow formula.
-use Rattle.std.specs.Prelude.{◌≡◌, ℕ, ◌<◌, ◌⊎◌, Bool, List, [], ◌∷◌, ◌++◌, pos, length, flat_map, slice_index_or}
-use Rattle.std.specs.List.{AllByRecursion}
+use Rattle.std.specs.Prelude.{◌≡◌, ◌↔◌, ℕ, ◌<◌, ◌⊎◌, Bool, true, List, [], ◌∷◌, ◌++◌, pos, length, flat_map, slice_index_or}
+use Rattle.std.specs.List.{All, AllByRecursion}
 use Rattle.bt_frac.specs.Ratio.{Ratio}
 use Rattle.bt_frac.specs.Values.{RowHolds, AreValues}
 use Rattle.bt_net.specs.Network.{Network, IsNetwork}
@@ -12,35 +12,39 @@ use Rattle.bt_flow.specs.Properties.{IsAdmissible, Breaks, Holds}
 use Rattle.bt_cnf.specs.Meeting.{Meets}
 use Rattle.bt_log.specs.Logs.{Step}
 use Rattle.bt_log.specs.Refuting.{Refutes}
+use Rattle.bt_fenc.specs.declared.claim.Pair.{Pair}
 use Rattle.bt_fenc.specs.declared.claim.Claim.{Claim}
-use Rattle.bt_fenc.specs.declared.claim.Claim.TheVariants.{Mark, Says}
-use Rattle.bt_fenc.specs.Numbering.{formula_of}
-use Rattle.bt_fenc.specs.Within.{AreWithin}
+use Rattle.bt_fenc.specs.declared.claim.Claim.TheVariants.{Mark, Says, First}
+use Rattle.bt_fenc.specs.Pairs.{first_row}
+use Rattle.bt_fenc.specs.Numbering.{formula_of, AreNamed}
 use Rattle.bt_fenc.specs.Families.{family_clauses, families}
-use Rattle.bt_fenc.specs.FlowFormula.{flow_clauses, flow_formula}
+use Rattle.bt_fenc.specs.FlowFormula.{flow_clauses, flow_formula, variable_of}
 
--- the claim is true of marks and values: the edge has this mark, or the row holds
+-- the claim is true of marks and values: the edge has this mark, the row holds, or the first row of the pair
 abbrev pub IsTrueOf : (ℕ → Bool) → (ℕ → Ratio) → Claim → Type 0
 IsTrueOf mark values (Mark a backed) = mark a ≡ backed
 IsTrueOf mark values (Says row) = RowHolds row values
+IsTrueOf mark values (First pair) = RowHolds (first_row pair) values
 
 -- one of the claims is true of marks and values
 abbrev pub HasTrue : (ℕ → Bool) → (ℕ → Ratio) → List Claim → Type 0
 HasTrue mark values [] = ⊥
 HasTrue mark values (claim ∷ claims) = IsTrueOf mark values claim ⊎ HasTrue mark values claims
 
--- an assignment that begins with these marks meets the formula with the values
-pub record IsMetWith (marks : ℕ) (clauses : List (List Claim)) (mark : ℕ → Bool) (values : ℕ → Ratio)
+-- an assignment that begins with these marks meets the formula with the values, and makes each atom true exactly where
+-- its row holds
+pub record IsMetWith (at : Pair → ℕ) (marks : ℕ) (clauses : List (List Claim)) (mark : ℕ → Bool) (values : ℕ → Ratio)
     : Type 0 where
   pub assignment : ℕ → Bool
   pub begins : (a : ℕ) → a < marks → assignment a ≡ mark a
-  pub meets : Meets (formula_of marks clauses) assignment values
+  pub meets : Meets (formula_of at marks clauses) assignment values
+  pub exact : All (λ atom. (assignment atom.0 ≡ true) ↔ RowHolds atom.1 values) (formula_of at marks clauses).atoms
 
 -- where each clause has a claim that is true of marks and values, these give an assignment that meets the
 -- formula
 abbrev pub TrueClaimsMeet : Type 0
-TrueClaimsMeet = (marks : ℕ) (clauses : List (List Claim)) (mark : ℕ → Bool) (values : ℕ → Ratio)
-    → AreWithin marks clauses → AllByRecursion (HasTrue mark values) clauses → IsMetWith marks clauses mark values
+TrueClaimsMeet = (at : Pair → ℕ) (marks : ℕ) (clauses : List (List Claim)) (mark : ℕ → Bool) (values : ℕ → Ratio)
+    → AreNamed at marks clauses → AllByRecursion (HasTrue mark values) clauses → IsMetWith at marks clauses mark values
 
 -- the values of a state: its flows, loads and rooms in the order of columns, over its denominator
 abbrev pub values_of : Flows → ℕ → Ratio
@@ -50,12 +54,12 @@ values_of s column =
 -- the marks and values of each state that is admissible and steady meet the formula of the families' clauses
 abbrev pub SteadyMeets : Type 0
 SteadyMeets = (n : Network) → IsNetwork n → (s : Flows) → IsStateOf n s → IsAdmissible n s → IsSteady n s
-    → IsMetWith (length n.edges) (flat_map (family_clauses n) families) (backed_at s) (values_of s)
+    → IsMetWith (variable_of n) (length n.edges) (flat_map (family_clauses n) families) (backed_at s) (values_of s)
 
 -- the marks and values of each state that breaks a property meet the flow formula
 abbrev pub BreakingMeets : Type 0
 BreakingMeets = (n : Network) (p : Property) (s : Flows) → IsNetwork n → Breaks n p s
-    → AreValues (values_of s) × IsMetWith (length n.edges) (flow_clauses n p) (backed_at s) (values_of s)
+    → AreValues (values_of s) × IsMetWith (variable_of n) (length n.edges) (flow_clauses n p) (backed_at s) (values_of s)
 
 -- where a log refutes the flow formula of a network and a property, the network has the property
 abbrev pub RefutedHolds : Type 0

@@ -1,9 +1,9 @@
 pub mod Columns
+pub mod Pairs
 pub mod Families
 pub mod Properties
 pub mod FlowFormula
 pub mod Numbering
-pub mod Within
 pub mod Laws
 pub mod Solutions
 pub mod Sizes

@@ -2,3 +2,5 @@
 pub mod Listed
 pub mod Merging
 pub mod Adding
+pub mod Within
+pub mod Variables

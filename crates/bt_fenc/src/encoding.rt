@@ -1,14 +1,17 @@
 //! The flow formula of a network and a property.
-ghost use Rattle.std.specs.Prelude.{◌≡◌, ◌≤◌, length, OnOk, IfOk, flat_map};
+ghost use Rattle.std.specs.Prelude.{◌≡◌, OnOk, IfOk, flat_map};
 ghost use Rattle.bt_net.specs.Network.{IsNetwork};
 ghost use Rattle.bt_flow.specs.Ports.{ArePorts};
-ghost use Rattle.bt_fenc.specs.Families as families;
+ghost use Rattle.bt_fenc.specs.Families.{family_clauses};
 ghost use Rattle.bt_fenc.specs.FlowFormula.{flow_formula};
 ghost use Rattle.bt_fenc.specs.inner.Adding.{with_clauses};
+ghost use Rattle.bt_fenc.specs.inner.Variables.{at_in};
+ghost use Rattle.bt_fenc.specs.inner.Within.{AreWithin};
 
 use crate::families::{add_at, places};
-use crate::family::{FAMILIES, Family};
+use crate::family::{Family, LAWS, NAMELESS};
 use crate::properties::add_property;
+use crate::variables::PairVars;
 use bt_cnf::Formula;
 use bt_flow::{Ports, Property};
 use bt_net::Net;
@@ -19,47 +22,55 @@ fn write_family(
     alloc: Global,
     net: &Net,
     ports: &Ports,
+    pairs: &PairVars,
     formula: &mut Formula,
     family: Family,
 ) -> Result<(), AllocError>
     requires ports { ArePorts net.now ports.now }
-    requires marks { length net.now.edges ≤ formula.old.vars }
-    ensures { OnOk result (formula.new ≡ with_clauses formula.old (families.family_clauses net.now family)) }
+    requires within { AreWithin (at_in pairs.now) formula.old.vars (family_clauses net.now family) }
+    ensures { OnOk result (formula.new
+        ≡ with_clauses (at_in pairs.now) formula.old (family_clauses net.now family)) }
 {
     for place in 0..places(net, family) {
-        add_at(alloc, net, ports, formula, family, place)?;
+        add_at(alloc, net, ports, pairs, formula, family, place)?;
     }
     Ok(())
 }
 
-/// Adds the clauses of all families.
+/// Adds the clauses of families.
 fn write_families(
     alloc: Global,
     net: &Net,
     ports: &Ports,
+    pairs: &PairVars,
     formula: &mut Formula,
+    families: &[Family],
 ) -> Result<(), AllocError>
     requires ports { ArePorts net.now ports.now }
-    requires marks { length net.now.edges ≤ formula.old.vars }
-    ensures { OnOk result (formula.new ≡ with_clauses formula.old
-        (flat_map (families.family_clauses net.now) families.families)) }
+    requires within { AreWithin (at_in pairs.now) formula.old.vars
+        (flat_map (family_clauses net.now) families.now) }
+    ensures { OnOk result (formula.new
+        ≡ with_clauses (at_in pairs.now) formula.old (flat_map (family_clauses net.now) families.now)) }
 {
-    for family in FAMILIES {
-        write_family(alloc, net, ports, formula, family)?;
+    for family in families {
+        write_family(alloc, net, ports, pairs, formula, *family)?;
     }
     Ok(())
 }
 
 /// The flow formula of a network and a property. Its variables are the marks of the edges, true where
-/// an edge is backed, and then an atom for each mention of a row. The rows' columns are the flows of
-/// the edges, the loads of the inputs and the rooms of the outputs.
+/// an edge is backed, and then an atom for each mention of a row; the first row of a pair is one atom
+/// wherever it is mentioned. The rows' columns are the flows of the edges, the loads of the inputs and
+/// the rooms of the outputs.
 pub fn encode(alloc: Global, net: &Net, property: Property) -> Result<Formula, AllocError>
     ensures formula { IfOk result (λ formula. formula ≡ flow_formula net.now property) }
     ensures network { IsNetwork net.now }
 {
     let ports = Ports::of(net);
+    let pairs = PairVars::of(alloc, net, &ports)?;
     let mut formula = Formula::new(alloc, net.edges().len())?;
-    write_families(alloc, net, &ports, &mut formula)?;
-    add_property(alloc, net, &ports, &mut formula, property)?;
+    write_families(alloc, net, &ports, &pairs, &mut formula, &NAMELESS)?;
+    write_families(alloc, net, &ports, &pairs, &mut formula, &LAWS)?;
+    add_property(alloc, net, &ports, &pairs, &mut formula, property)?;
     Ok(formula)
 }

@@ -1,19 +1,22 @@
 //! The clauses that say that a state is admissible and steady.
-ghost use Rattle.std.specs.Prelude.{◌≡◌, ◌<◌, ◌≤◌, ◌-◌, ◌^◌, OnOk, IfOk, length};
+ghost use Rattle.std.specs.Prelude.{◌≡◌, ◌<◌, ◌-◌, ◌^◌, OnOk, IfOk, map};
 ghost use Rattle.bt_flow.specs.Ports.{ArePorts};
 ghost use Rattle.bt_frac.specs.declared.row.Relation.TheVariants as Relation;
 ghost use Rattle.bt_fenc.specs.Columns as columns;
 ghost use Rattle.bt_fenc.specs.Families as families;
-ghost use Rattle.bt_fenc.specs.Within.{AreWithin};
 ghost use Rattle.bt_fenc.specs.declared.family.Family.TheVariants as Family;
+ghost use Rattle.bt_fenc.specs.Pairs as of_pairs;
 ghost use Rattle.bt_fenc.specs.inner.Adding.{with_clauses};
+ghost use Rattle.bt_fenc.specs.inner.Variables.{at_in, HasColumns};
+ghost use Rattle.bt_fenc.specs.inner.Within.{AreWithin};
 
-use crate::claim::Claim;
+use crate::claim::{Claim, Pair, Side};
 use crate::ends::{cap_at, input_edge, load_column, numbers_of, output_edge, room_column};
 use crate::family::Family;
 use crate::numbering::{add_row, add_two};
 use crate::rows::{at_least, at_most, not_below, row_of_vec};
-use crate::splitters::{add_backing, add_even, merge};
+use crate::splitters::{add_backing, add_even, add_even_pairs, add_pair, merge};
+use crate::variables::{PairVars, port_at};
 use bt_cnf::Formula;
 use bt_flow::Ports;
 use bt_frac::{Frac, Relation, Row};
@@ -23,38 +26,43 @@ use std::alloc::{AllocError, Global};
 /// Adds that a column is from 0 to a cap.
 fn add_range(
     alloc: Global,
+    pairs: &PairVars,
     formula: &mut Formula,
     column: usize,
     cap: u32,
 ) -> Result<(), AllocError>
     requires { column < 2 ^ 64 - 1 }
-    ensures { OnOk result (formula.new ≡ with_clauses formula.old (families.range_clauses column cap)) }
+    ensures { OnOk result (formula.new
+        ≡ with_clauses (at_in pairs.now) formula.old (families.range_clauses column cap)) }
 {
     let least = at_least(alloc, column, 0)?;
-    add_row(formula, least)?;
+    add_row(formula, pairs, least)?;
     let most = at_most(alloc, column, cap)?;
-    add_row(formula, most)
+    add_row(formula, pairs, most)
 }
 
-/// Adds that an edge's flow is at most the load or room in a column, and equals it unless the edge has
-/// the mark.
+/// Adds that an edge's flow is at most the load or room in a column, and as the pair says at least that, unless
+/// the edge has the mark.
 fn add_end(
     alloc: Global,
+    pairs: &PairVars,
     formula: &mut Formula,
     column: usize,
     edge: usize,
     mark: bool,
+    pair: Pair,
 ) -> Result<(), AllocError>
     requires column { column < 2 ^ 64 - 1 }
     requires edge { edge < 2 ^ 64 - 1 }
-    requires within { AreWithin formula.old.vars (families.end_clauses column edge mark) }
-    ensures { OnOk result (formula.new ≡ with_clauses formula.old (families.end_clauses column edge mark)) }
+    requires within { AreWithin (at_in pairs.now) formula.old.vars
+        (families.end_clauses column edge mark pair) }
+    ensures { OnOk result (formula.new
+        ≡ with_clauses (at_in pairs.now) formula.old (families.end_clauses column edge mark pair)) }
 {
     let most = not_below(alloc, column, edge)?;
-    add_row(formula, most)?;
-    let least = not_below(alloc, edge, column)?;
-    let has_mark = Claim::Mark { edge, backed: mark };
-    add_two(formula, has_mark, Claim::Says(least))
+    add_row(formula, pairs, most)?;
+    let marked = Claim::Mark { edge, backed: mark };
+    add_two(formula, pairs, marked, Claim::First(pair))
 }
 
 /// The row that as much flows into a splitter as out of it.
@@ -75,16 +83,17 @@ fn add_conserve(
     alloc: Global,
     net: &Net,
     ports: &Ports,
+    pairs: &PairVars,
     formula: &mut Formula,
     splitter: usize,
 ) -> Result<(), AllocError>
     requires ports { ArePorts net.now ports.now }
     requires splitter { splitter < net.now.splitters }
     ensures { OnOk result (formula.new
-        ≡ with_clauses formula.old (families.clauses_at net.now Family.Conserve splitter)) }
+        ≡ with_clauses (at_in pairs.now) formula.old (families.clauses_at net.now Family.Conserve splitter)) }
 {
     let row = conserve_row(alloc, net, ports, splitter)?;
-    add_row(formula, row)
+    add_row(formula, pairs, row)
 }
 
 /// Adds that each in edge of a splitter isn't backed, or each out edge is backed or full.
@@ -92,18 +101,20 @@ fn add_backing_at(
     alloc: Global,
     net: &Net,
     ports: &Ports,
+    pairs: &PairVars,
     formula: &mut Formula,
     splitter: usize,
 ) -> Result<(), AllocError>
     requires ports { ArePorts net.now ports.now }
     requires splitter { splitter < net.now.splitters }
-    requires marks { length net.now.edges ≤ formula.old.vars }
+    requires within { AreWithin (at_in pairs.now) formula.old.vars
+        (families.clauses_at net.now Family.Backing splitter) }
     ensures { OnOk result (formula.new
-        ≡ with_clauses formula.old (families.clauses_at net.now Family.Backing splitter)) }
+        ≡ with_clauses (at_in pairs.now) formula.old (families.clauses_at net.now Family.Backing splitter)) }
 {
     let entering = numbers_of(alloc, ports.into[splitter])?;
     let leaving = numbers_of(alloc, ports.out_of[splitter])?;
-    add_backing(alloc, net, formula, &entering, &leaving)
+    add_backing(net, pairs, formula, &entering, &leaving)
 }
 
 /// Adds that the load of an input is from 0 to the cap of its edge.
@@ -111,17 +122,18 @@ fn add_load(
     alloc: Global,
     net: &Net,
     ports: &Ports,
+    pairs: &PairVars,
     formula: &mut Formula,
     input: usize,
 ) -> Result<(), AllocError>
     requires ports { ArePorts net.now ports.now }
     requires input { input < net.now.inputs }
     ensures { OnOk result (formula.new
-        ≡ with_clauses formula.old (families.clauses_at net.now Family.Loads input)) }
+        ≡ with_clauses (at_in pairs.now) formula.old (families.clauses_at net.now Family.Loads input)) }
 {
     let edge = input_edge(net, ports, input);
     let column = load_column(net, input);
-    add_range(alloc, formula, column, cap_at(net, edge))
+    add_range(alloc, pairs, formula, column, cap_at(net, edge))
 }
 
 /// Adds that the room of an output is from 0 to the cap of its edge.
@@ -129,17 +141,46 @@ fn add_room(
     alloc: Global,
     net: &Net,
     ports: &Ports,
+    pairs: &PairVars,
     formula: &mut Formula,
     output: usize,
 ) -> Result<(), AllocError>
     requires ports { ArePorts net.now ports.now }
     requires output { output < net.now.outputs }
     ensures { OnOk result (formula.new
-        ≡ with_clauses formula.old (families.clauses_at net.now Family.Rooms output)) }
+        ≡ with_clauses (at_in pairs.now) formula.old (families.clauses_at net.now Family.Rooms output)) }
 {
     let edge = output_edge(net, ports, output);
     let column = room_column(net, output);
-    add_range(alloc, formula, column, cap_at(net, edge))
+    add_range(alloc, pairs, formula, column, cap_at(net, edge))
+}
+
+/// The pair of an input.
+fn loaded(net: &Net, ports: &Ports, input: usize) -> Pair
+    requires ports { ArePorts net.now ports.now }
+    requires input { input < net.now.inputs }
+    ensures pair { result ≡ of_pairs.loaded net.now input }
+    ensures small { HasColumns result }
+{
+    Pair::Loaded {
+        input,
+        edge: input_edge(net, ports, input),
+        column: load_column(net, input),
+    }
+}
+
+/// The pair of an output.
+fn filled(net: &Net, ports: &Ports, output: usize) -> Pair
+    requires ports { ArePorts net.now ports.now }
+    requires output { output < net.now.outputs }
+    ensures pair { result ≡ of_pairs.filled net.now output }
+    ensures small { HasColumns result }
+{
+    Pair::Filled {
+        output,
+        edge: output_edge(net, ports, output),
+        column: room_column(net, output),
+    }
 }
 
 /// Adds that an input takes in at most its load, and all of it where its edge is free.
@@ -147,18 +188,21 @@ fn add_input(
     alloc: Global,
     net: &Net,
     ports: &Ports,
+    pairs: &PairVars,
     formula: &mut Formula,
     input: usize,
 ) -> Result<(), AllocError>
     requires ports { ArePorts net.now ports.now }
     requires input { input < net.now.inputs }
-    requires within { AreWithin formula.old.vars (families.clauses_at net.now Family.Inputs input) }
+    requires within { AreWithin (at_in pairs.now) formula.old.vars
+        (families.clauses_at net.now Family.Inputs input) }
     ensures { OnOk result (formula.new
-        ≡ with_clauses formula.old (families.clauses_at net.now Family.Inputs input)) }
+        ≡ with_clauses (at_in pairs.now) formula.old (families.clauses_at net.now Family.Inputs input)) }
 {
     let edge = input_edge(net, ports, input);
     let column = load_column(net, input);
-    add_end(alloc, formula, column, edge, true)
+    let pair = loaded(net, ports, input);
+    add_end(alloc, pairs, formula, column, edge, true, pair)
 }
 
 /// Adds that an output lets out at most its room, and fills it where its edge is backed.
@@ -166,18 +210,76 @@ fn add_output(
     alloc: Global,
     net: &Net,
     ports: &Ports,
+    pairs: &PairVars,
     formula: &mut Formula,
     output: usize,
 ) -> Result<(), AllocError>
     requires ports { ArePorts net.now ports.now }
     requires output { output < net.now.outputs }
-    requires within { AreWithin formula.old.vars (families.clauses_at net.now Family.Outputs output) }
+    requires within { AreWithin (at_in pairs.now) formula.old.vars
+        (families.clauses_at net.now Family.Outputs output) }
     ensures { OnOk result (formula.new
-        ≡ with_clauses formula.old (families.clauses_at net.now Family.Outputs output)) }
+        ≡ with_clauses (at_in pairs.now) formula.old (families.clauses_at net.now Family.Outputs output)) }
 {
     let edge = output_edge(net, ports, output);
     let column = room_column(net, output);
-    add_end(alloc, formula, column, edge, false)
+    let pair = filled(net, ports, output);
+    add_end(alloc, pairs, formula, column, edge, false, pair)
+}
+
+/// Adds the pairs of a side of a splitter.
+fn add_side_pairs(
+    alloc: Global,
+    net: &Net,
+    ports: &Ports,
+    pairs: &PairVars,
+    formula: &mut Formula,
+    side: Side,
+    splitter: usize,
+) -> Result<(), AllocError>
+    requires ports { ArePorts net.now ports.now }
+    requires splitter { splitter < net.now.splitters }
+    ensures { OnOk result (formula.new ≡ with_clauses (at_in pairs.now) formula.old (map of_pairs.pair_clause
+        (of_pairs.even_pairs side splitter (columns.edges_at net.now side splitter)))) }
+{
+    let port = port_at(net, ports, side, splitter);
+    add_even_pairs(alloc, pairs, formula, side, splitter, port)
+}
+
+/// Adds that each of two edges at a side of a splitter is even or full, or has a mark.
+fn add_side(
+    net: &Net,
+    ports: &Ports,
+    pairs: &PairVars,
+    formula: &mut Formula,
+    side: Side,
+    splitter: usize,
+) -> Result<(), AllocError>
+    requires ports { ArePorts net.now ports.now }
+    requires splitter { splitter < net.now.splitters }
+    requires within { AreWithin (at_in pairs.now) formula.old.vars
+        (families.even_clauses net.now side splitter (columns.edges_at net.now side splitter)) }
+    ensures { OnOk result (formula.new ≡ with_clauses (at_in pairs.now) formula.old
+        (families.even_clauses net.now side splitter (columns.edges_at net.now side splitter))) }
+{
+    let port = port_at(net, ports, side, splitter);
+    add_even(net, pairs, formula, side, splitter, port)
+}
+
+/// Adds that each edge is full or isn't.
+fn add_full_pair(
+    alloc: Global,
+    net: &Net,
+    pairs: &PairVars,
+    formula: &mut Formula,
+    edge: usize,
+) -> Result<(), AllocError>
+    requires { edge < 2 ^ 64 - 1 }
+    ensures { OnOk result (formula.new
+        ≡ with_clauses (at_in pairs.now) formula.old (families.clauses_at net.now Family.FullPairs edge)) }
+{
+    let cap = cap_at(net, edge);
+    add_pair(alloc, pairs, formula, Pair::Full { edge, cap })
 }
 
 /// Adds the clauses of a family at a place to a formula whose first variables are the marks of edges.
@@ -185,27 +287,33 @@ pub fn add_at(
     alloc: Global,
     net: &Net,
     ports: &Ports,
+    pairs: &PairVars,
     formula: &mut Formula,
     family: Family,
     place: usize,
 ) -> Result<(), AllocError>
     requires ports { ArePorts net.now ports.now }
     requires place { place < families.places net.now family }
-    requires marks { length net.now.edges ≤ formula.old.vars }
-    requires within { AreWithin formula.old.vars (families.clauses_at net.now family place) }
+    requires within { AreWithin (at_in pairs.now) formula.old.vars
+        (families.clauses_at net.now family place) }
     ensures { OnOk result (formula.new
-        ≡ with_clauses formula.old (families.clauses_at net.now family place)) }
+        ≡ with_clauses (at_in pairs.now) formula.old (families.clauses_at net.now family place)) }
 {
     match family {
-        Family::Flows => add_range(alloc, formula, place, cap_at(net, place)),
-        Family::Loads => add_load(alloc, net, ports, formula, place),
-        Family::Rooms => add_room(alloc, net, ports, formula, place),
-        Family::Conserve => add_conserve(alloc, net, ports, formula, place),
-        Family::EvenOut => add_even(alloc, net, formula, true, ports.out_of[place]),
-        Family::EvenIn => add_even(alloc, net, formula, false, ports.into[place]),
-        Family::Backing => add_backing_at(alloc, net, ports, formula, place),
-        Family::Inputs => add_input(alloc, net, ports, formula, place),
-        Family::Outputs => add_output(alloc, net, ports, formula, place),
+        Family::Flows => add_range(alloc, pairs, formula, place, cap_at(net, place)),
+        Family::Loads => add_load(alloc, net, ports, pairs, formula, place),
+        Family::Rooms => add_room(alloc, net, ports, pairs, formula, place),
+        Family::Conserve => add_conserve(alloc, net, ports, pairs, formula, place),
+        Family::OutPairs => add_side_pairs(alloc, net, ports, pairs, formula, Side::Out, place),
+        Family::InPairs => add_side_pairs(alloc, net, ports, pairs, formula, Side::In, place),
+        Family::FullPairs => add_full_pair(alloc, net, pairs, formula, place),
+        Family::LoadPairs => add_pair(alloc, pairs, formula, loaded(net, ports, place)),
+        Family::RoomPairs => add_pair(alloc, pairs, formula, filled(net, ports, place)),
+        Family::EvenOut => add_side(net, ports, pairs, formula, Side::Out, place),
+        Family::EvenIn => add_side(net, ports, pairs, formula, Side::In, place),
+        Family::Backing => add_backing_at(alloc, net, ports, pairs, formula, place),
+        Family::Inputs => add_input(alloc, net, ports, pairs, formula, place),
+        Family::Outputs => add_output(alloc, net, ports, pairs, formula, place),
     }
 }
 
@@ -214,11 +322,14 @@ pub fn places(net: &Net, family: Family) -> usize
     ensures { result ≡ families.places net.now family }
 {
     match family {
-        Family::Flows => net.edges().len(),
-        Family::Loads | Family::Inputs => net.inputs() as usize,
-        Family::Rooms | Family::Outputs => net.outputs() as usize,
-        Family::Conserve | Family::EvenOut | Family::EvenIn | Family::Backing => {
-            net.splitters() as usize
-        }
+        Family::Flows | Family::FullPairs => net.edges().len(),
+        Family::Loads | Family::LoadPairs | Family::Inputs => net.inputs() as usize,
+        Family::Rooms | Family::RoomPairs | Family::Outputs => net.outputs() as usize,
+        Family::Conserve
+        | Family::OutPairs
+        | Family::InPairs
+        | Family::EvenOut
+        | Family::EvenIn
+        | Family::Backing => net.splitters() as usize,
     }
 }

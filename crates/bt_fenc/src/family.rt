@@ -1,6 +1,6 @@
 //! The families of the clauses that say that a state is admissible and steady.
 
-/// A family of clauses: a law, or what makes a load or a room admissible.
+/// A family of clauses: pairs of a row and its opposite, a law, or what makes a load or a room admissible.
 #[derive(Clone, Copy)]
 pub enum Family {
     /// The flow of each edge is from 0 to its cap.
@@ -11,6 +11,16 @@ pub enum Family {
     Rooms,
     /// At each splitter as much flows in as out.
     Conserve,
+    /// At each splitter an out edge has at least the flow of the other, or less.
+    OutPairs,
+    /// At each splitter an in edge has at least the flow of the other, or less.
+    InPairs,
+    /// Each edge is full, or isn't.
+    FullPairs,
+    /// At each input the edge has at least the flow of the load, or less.
+    LoadPairs,
+    /// At each output the edge has at least the flow of the room, or less.
+    RoomPairs,
     /// At each splitter a free out edge is even or full.
     EvenOut,
     /// At each splitter a backed in edge is even or full.
@@ -23,12 +33,21 @@ pub enum Family {
     Outputs,
 }
 
-/// All families, in the order of their clauses.
-pub const FAMILIES: [Family; 9] = [
+/// The families that mention no pair by its name, in the order of their clauses.
+pub const NAMELESS: [Family; 9] = [
     Family::Flows,
     Family::Loads,
     Family::Rooms,
     Family::Conserve,
+    Family::OutPairs,
+    Family::InPairs,
+    Family::FullPairs,
+    Family::LoadPairs,
+    Family::RoomPairs,
+];
+
+/// The families after these, which name pairs.
+pub const LAWS: [Family; 5] = [
     Family::EvenOut,
     Family::EvenIn,
     Family::Backing,

@@ -13,6 +13,7 @@ mod properties;
 mod rows;
 mod solution;
 mod splitters;
+mod variables;
 
 pub use encoding::encode;
 pub use law::{

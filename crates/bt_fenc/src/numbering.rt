@@ -1,11 +1,14 @@
-//! The numbering of claims: each mention of a row becomes a variable of its own.
+//! The numbering of claims: each mention of a row becomes a variable of its own, and the first row of a pair
+//! keeps the variable that it has.
 ghost use Rattle.std.specs.Prelude.{◌≡◌, ◌<◌, ◌∷◌, [], OnOk, IfOk};
 ghost use Rattle.std.specs.List.{AllByRecursion};
 ghost use Rattle.bt_fenc.specs.declared.claim.Claim.TheVariants.{Says};
-ghost use Rattle.bt_fenc.specs.Within.{IsWithin};
+ghost use Rattle.bt_fenc.specs.inner.Within.{IsWithin};
 ghost use Rattle.bt_fenc.specs.inner.Adding.{IsAfter, with_clauses};
+ghost use Rattle.bt_fenc.specs.inner.Variables.{at_in};
 
-use crate::claim::Claim;
+use crate::claim::{Claim, Pair};
+use crate::variables::PairVars;
 use bt_cnf::{Formula, Lit, Var};
 use bt_frac::Row;
 use std::alloc::AllocError;
@@ -21,37 +24,53 @@ fn var_at(formula: &Formula, place: usize) -> Var
     }
 }
 
+/// The variable of the first row of a pair.
+fn first_var(formula: &Formula, pairs: &PairVars, pair: Pair) -> Var
+    requires { at_in pairs.now pair < formula.now.vars }
+    ensures { result ≡ at_in pairs.now pair }
+{
+    // It is below this number, so no sum overflows.
+    let _vars = formula.vars();
+    var_at(formula, pairs.at(pair))
+}
+
 /// The literal of a claim. A row that it mentions becomes a variable of its own.
-pub fn literal_of(formula: &mut Formula, claim: Claim) -> Result<Lit, AllocError>
-    requires { IsWithin formula.old.vars claim }
-    ensures { IfOk result (λ lit. IsAfter formula.old (claim ∷ []) formula.new (lit ∷ [])) }
+pub fn literal_of(formula: &mut Formula, pairs: &PairVars, claim: Claim) -> Result<Lit, AllocError>
+    requires { IsWithin (at_in pairs.now) formula.old.vars claim }
+    ensures { IfOk result (λ lit.
+        IsAfter (at_in pairs.now) formula.old (claim ∷ []) formula.new (lit ∷ [])) }
 {
     let (var, positive) = match claim {
         Claim::Mark { edge, backed } => (var_at(formula, edge), backed),
         Claim::Says(row) => (formula.add_atom(row)?, true),
+        Claim::First(pair) => (first_var(formula, pairs, pair), true),
     };
     Ok(Lit { var, positive })
 }
 
 /// Adds the clause that a row holds.
-pub fn add_row(formula: &mut Formula, row: Row) -> Result<(), AllocError>
-    ensures { OnOk result (formula.new ≡ with_clauses formula.old ((Says row ∷ []) ∷ [])) }
+pub fn add_row(formula: &mut Formula, pairs: &PairVars, row: Row) -> Result<(), AllocError>
+    ensures { OnOk result (formula.new
+        ≡ with_clauses (at_in pairs.now) formula.old ((Says row ∷ []) ∷ [])) }
 {
-    let var = formula.add_atom(row)?;
-    formula.add_clause(&[Lit {
-        var,
-        positive: true,
-    }])?;
+    let only = literal_of(formula, pairs, Claim::Says(row))?;
+    formula.add_clause(&[only])?;
     Ok(())
 }
 
 /// Adds a clause of two claims.
-pub fn add_two(formula: &mut Formula, first: Claim, second: Claim) -> Result<(), AllocError>
-    requires { AllByRecursion (IsWithin formula.old.vars) (first ∷ second ∷ []) }
-    ensures { OnOk result (formula.new ≡ with_clauses formula.old ((first ∷ second ∷ []) ∷ [])) }
+pub fn add_two(
+    formula: &mut Formula,
+    pairs: &PairVars,
+    first: Claim,
+    second: Claim,
+) -> Result<(), AllocError>
+    requires { AllByRecursion (IsWithin (at_in pairs.now) formula.old.vars) (first ∷ second ∷ []) }
+    ensures { OnOk result (formula.new
+        ≡ with_clauses (at_in pairs.now) formula.old ((first ∷ second ∷ []) ∷ [])) }
 {
-    let one = literal_of(formula, first)?;
-    let two = literal_of(formula, second)?;
+    let one = literal_of(formula, pairs, first)?;
+    let two = literal_of(formula, pairs, second)?;
     formula.add_clause(&[one, two])?;
     Ok(())
 }
@@ -59,16 +78,19 @@ pub fn add_two(formula: &mut Formula, first: Claim, second: Claim) -> Result<(),
 /// Adds a clause of three claims.
 pub fn add_three(
     formula: &mut Formula,
+    pairs: &PairVars,
     first: Claim,
     second: Claim,
     third: Claim,
 ) -> Result<(), AllocError>
-    requires { AllByRecursion (IsWithin formula.old.vars) (first ∷ second ∷ third ∷ []) }
-    ensures { OnOk result (formula.new ≡ with_clauses formula.old ((first ∷ second ∷ third ∷ []) ∷ [])) }
+    requires { AllByRecursion (IsWithin (at_in pairs.now) formula.old.vars)
+        (first ∷ second ∷ third ∷ []) }
+    ensures { OnOk result (formula.new
+        ≡ with_clauses (at_in pairs.now) formula.old ((first ∷ second ∷ third ∷ []) ∷ [])) }
 {
-    let one = literal_of(formula, first)?;
-    let two = literal_of(formula, second)?;
-    let three = literal_of(formula, third)?;
+    let one = literal_of(formula, pairs, first)?;
+    let two = literal_of(formula, pairs, second)?;
+    let three = literal_of(formula, pairs, third)?;
     formula.add_clause(&[one, two, three])?;
     Ok(())
 }

@@ -4,11 +4,13 @@ ghost use Rattle.bt_flow.specs.Ports.{ArePorts};
 ghost use Rattle.bt_fenc.specs.Columns as columns;
 ghost use Rattle.bt_fenc.specs.Properties as properties;
 ghost use Rattle.bt_fenc.specs.inner.Adding.{IsAfter, with_clauses};
+ghost use Rattle.bt_fenc.specs.inner.Variables.{at_in};
 
 use crate::claim::Claim;
 use crate::ends::{cap_at, input_edge, last_edges, load_column, output_edge, room_column};
 use crate::numbering::{add_row, literal_of};
 use crate::rows::{above, at_least, minus, plus, row_of_vec};
+use crate::variables::PairVars;
 use bt_cnf::{Formula, Lit};
 use bt_flow::{Ports, Property};
 use bt_frac::{Frac, Relation, Row};
@@ -20,15 +22,17 @@ fn add_loaded(
     alloc: Global,
     net: &Net,
     ports: &Ports,
+    pairs: &PairVars,
     formula: &mut Formula,
 ) -> Result<(), AllocError>
     requires { ArePorts net.now ports.now }
-    ensures { OnOk result (formula.new ≡ with_clauses formula.old (properties.loaded_clauses net.now)) }
+    ensures { OnOk result (formula.new
+        ≡ with_clauses (at_in pairs.now) formula.old (properties.loaded_clauses net.now)) }
 {
     for input in 0..net.inputs() as usize {
         let cap = cap_at(net, input_edge(net, ports, input));
         let full = at_least(alloc, load_column(net, input), cap)?;
-        add_row(formula, full)?;
+        add_row(formula, pairs, full)?;
     }
     Ok(())
 }
@@ -38,15 +42,17 @@ fn add_open(
     alloc: Global,
     net: &Net,
     ports: &Ports,
+    pairs: &PairVars,
     formula: &mut Formula,
 ) -> Result<(), AllocError>
     requires { ArePorts net.now ports.now }
-    ensures { OnOk result (formula.new ≡ with_clauses formula.old (properties.open_clauses net.now)) }
+    ensures { OnOk result (formula.new
+        ≡ with_clauses (at_in pairs.now) formula.old (properties.open_clauses net.now)) }
 {
     for output in 0..net.outputs() as usize {
         let cap = cap_at(net, output_edge(net, ports, output));
         let full = at_least(alloc, room_column(net, output), cap)?;
-        add_row(formula, full)?;
+        add_row(formula, pairs, full)?;
     }
     Ok(())
 }
@@ -81,32 +87,38 @@ fn output_edges(alloc: Global, net: &Net, ports: &Ports) -> Result<Vec<usize>, A
 /// variables.
 fn unequal_lits(
     alloc: Global,
+    pairs: &PairVars,
     formula: &mut Formula,
     edges: &[usize],
 ) -> Result<Vec<Lit>, AllocError>
     requires { All (λ a. a < 2 ^ 64 - 1) edges.now }
     ensures { IfOk result (λ lits.
-        IsAfter formula.old (properties.unequal_clause edges.now) formula.new lits.items) }
+        IsAfter (at_in pairs.now) formula.old (properties.unequal_clause edges.now) formula.new lits.items) }
 {
     let mut lits = Vec::new(alloc);
     if let [first, others @ ..] = edges {
         for other in others {
             let more = above(alloc, *first, *other)?;
-            lits.push(literal_of(formula, Claim::Says(more))?)?;
+            lits.push(literal_of(formula, pairs, Claim::Says(more))?)?;
             let less = above(alloc, *other, *first)?;
-            lits.push(literal_of(formula, Claim::Says(less))?)?;
+            lits.push(literal_of(formula, pairs, Claim::Says(less))?)?;
         }
     }
     Ok(lits)
 }
 
 /// Adds the clause that the flow of the first edge differs from that of another.
-fn add_unequal(alloc: Global, formula: &mut Formula, edges: &[usize]) -> Result<(), AllocError>
+fn add_unequal(
+    alloc: Global,
+    pairs: &PairVars,
+    formula: &mut Formula,
+    edges: &[usize],
+) -> Result<(), AllocError>
     requires { All (λ a. a < 2 ^ 64 - 1) edges.now }
     ensures { OnOk result (formula.new
-        ≡ with_clauses formula.old (properties.unequal_clause edges.now ∷ [])) }
+        ≡ with_clauses (at_in pairs.now) formula.old (properties.unequal_clause edges.now ∷ [])) }
 {
-    let lits = unequal_lits(alloc, formula, edges)?;
+    let lits = unequal_lits(alloc, pairs, formula, edges)?;
     formula.add_clause(&lits)?;
     Ok(())
 }
@@ -130,13 +142,19 @@ fn above_outputs(alloc: Global, net: &Net, first: usize, count: usize) -> Result
 }
 
 /// Adds that the sum of output flows is below that of loads, and below that of rooms.
-fn add_short(alloc: Global, net: &Net, formula: &mut Formula) -> Result<(), AllocError>
-    ensures { OnOk result (formula.new ≡ with_clauses formula.old (properties.short_clauses net.now)) }
+fn add_short(
+    alloc: Global,
+    net: &Net,
+    pairs: &PairVars,
+    formula: &mut Formula,
+) -> Result<(), AllocError>
+    ensures { OnOk result (formula.new
+        ≡ with_clauses (at_in pairs.now) formula.old (properties.short_clauses net.now)) }
 {
     let loads = above_outputs(alloc, net, load_column(net, 0), net.inputs() as usize)?;
-    add_row(formula, loads)?;
+    add_row(formula, pairs, loads)?;
     let rooms = above_outputs(alloc, net, room_column(net, 0), net.outputs() as usize)?;
-    add_row(formula, rooms)
+    add_row(formula, pairs, rooms)
 }
 
 /// Adds the clauses of a property.
@@ -144,29 +162,30 @@ pub fn add_property(
     alloc: Global,
     net: &Net,
     ports: &Ports,
+    pairs: &PairVars,
     formula: &mut Formula,
     property: Property,
 ) -> Result<(), AllocError>
     requires { ArePorts net.now ports.now }
     ensures { OnOk result (formula.new
-        ≡ with_clauses formula.old (properties.property_clauses net.now property)) }
+        ≡ with_clauses (at_in pairs.now) formula.old (properties.property_clauses net.now property)) }
 {
     match property {
         Property::Balanced => {
-            add_open(alloc, net, ports, formula)?;
+            add_open(alloc, net, ports, pairs, formula)?;
             let edges = output_edges(alloc, net, ports)?;
-            add_unequal(alloc, formula, &edges)
+            add_unequal(alloc, pairs, formula, &edges)
         }
         Property::DrawnEvenly => {
-            add_loaded(alloc, net, ports, formula)?;
+            add_loaded(alloc, net, ports, pairs, formula)?;
             let edges = input_edges(alloc, net, ports)?;
-            add_unequal(alloc, formula, &edges)
+            add_unequal(alloc, pairs, formula, &edges)
         }
-        Property::Unlimited => add_short(alloc, net, formula),
+        Property::Unlimited => add_short(alloc, net, pairs, formula),
         Property::Full => {
-            add_loaded(alloc, net, ports, formula)?;
-            add_open(alloc, net, ports, formula)?;
-            add_short(alloc, net, formula)
+            add_loaded(alloc, net, ports, pairs, formula)?;
+            add_open(alloc, net, ports, pairs, formula)?;
+            add_short(alloc, net, pairs, formula)
         }
     }
 }

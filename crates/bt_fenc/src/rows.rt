@@ -2,7 +2,10 @@
 ghost use Rattle.std.specs.Prelude.{◌≡◌, ◌<◌, ◌-◌, ◌^◌, IfOk};
 ghost use Rattle.bt_frac.specs.Rows.{HaveColumns};
 ghost use Rattle.bt_fenc.specs.Columns as columns;
+ghost use Rattle.bt_fenc.specs.Pairs as pairs;
+ghost use Rattle.bt_fenc.specs.inner.Variables as variables;
 
+use crate::claim::Pair;
 use bt_frac::{Frac, Relation, Row};
 use std::alloc::{AllocError, Global};
 
@@ -65,6 +68,15 @@ pub fn at_most(alloc: Global, column: usize, most: u32) -> Result<Row, AllocErro
     row_of(alloc, &[minus(column)], Relation::AtLeast, bound)
 }
 
+/// A column is below a whole number.
+fn below(alloc: Global, column: usize, end: u32) -> Result<Row, AllocError>
+    requires { column < 2 ^ 64 - 1 }
+    ensures { IfOk result (λ row. row ≡ columns.below column end) }
+{
+    let bound = Frac::whole(i64::from(end)).negate();
+    row_of(alloc, &[minus(column)], Relation::Above, bound)
+}
+
 /// One column less another is at least or above 0.
 fn less(alloc: Global, a: usize, b: usize, relation: Relation) -> Result<Row, AllocError>
     requires a { a < 2 ^ 64 - 1 }
@@ -97,4 +109,32 @@ pub fn above(alloc: Global, a: usize, b: usize) -> Result<Row, AllocError>
     ensures { IfOk result (λ row. row ≡ columns.above a b) }
 {
     less(alloc, a, b, Relation::Above)
+}
+
+/// The first row of a pair.
+pub fn first_row(alloc: Global, pair: Pair) -> Result<Row, AllocError>
+    requires { variables.HasColumns pair }
+    ensures { IfOk result (λ row. row ≡ pairs.first_row pair) }
+{
+    match pair {
+        Pair::Even { edge, other, .. } => not_below(alloc, edge, other),
+        Pair::Full { edge, cap } => at_least(alloc, edge, cap),
+        Pair::Loaded { edge, column, .. } | Pair::Filled { edge, column, .. } => {
+            not_below(alloc, edge, column)
+        }
+    }
+}
+
+/// The opposite of the first row of a pair.
+pub fn opposite_row(alloc: Global, pair: Pair) -> Result<Row, AllocError>
+    requires { variables.HasColumns pair }
+    ensures { IfOk result (λ row. row ≡ pairs.opposite_row pair) }
+{
+    match pair {
+        Pair::Even { edge, other, .. } => above(alloc, other, edge),
+        Pair::Full { edge, cap } => below(alloc, edge, cap),
+        Pair::Loaded { edge, column, .. } | Pair::Filled { edge, column, .. } => {
+            above(alloc, column, edge)
+        }
+    }
 }

@@ -1,81 +1,153 @@
 //! The clauses of a splitter.
-ghost use Rattle.std.specs.Prelude.{◌≡◌, ◌∷◌, [], ◌<◌, ◌-◌, ◌^◌, All, OnOk, IfOk, flat_map, map};
+ghost use Rattle.std.specs.Prelude.{◌≡◌, ◌∷◌, [], OnOk, IfOk, flat_map, map};
+ghost use Rattle.std.specs.List.{AllByRecursion};
 ghost use Rattle.bt_flow.specs.Ports.{numbers_of};
 ghost use Rattle.bt_fenc.specs.Families as families;
-ghost use Rattle.bt_fenc.specs.Within.{AreWithin};
+ghost use Rattle.bt_fenc.specs.Pairs.{pair_clause, even_pairs};
 ghost use Rattle.bt_fenc.specs.inner.Adding.{with_clauses};
 ghost use Rattle.bt_fenc.specs.inner.Merging.{merged};
+ghost use Rattle.bt_fenc.specs.inner.Variables.{at_in, HasColumns};
+ghost use Rattle.bt_fenc.specs.inner.Within.{IsWithin, AreWithin};
 
-use crate::claim::Claim;
+use crate::claim::{Claim, Pair, Side};
 use crate::ends::cap_at;
 use crate::numbering::{add_three, add_two};
-use crate::rows::{at_least, minus, not_below, plus};
+use crate::rows::{first_row, minus, opposite_row, plus};
+use crate::variables::PairVars;
 use bt_cnf::Formula;
 use bt_flow::Port;
 use bt_frac::Frac;
 use bt_net::Net;
 use std::alloc::{AllocError, Global};
 
-/// Adds the clause that an edge has a mark, or is even with another, or where its cap is less is full.
+/// The mark with which an edge at a side of a splitter needn't be even.
+fn excuse(side: Side) -> bool
+    ensures { result ≡ families.excuse side }
+{
+    match side {
+        Side::Out => true,
+        Side::In => false,
+    }
+}
+
+/// Adds the clause that an edge has a mark, or is even with the other, or where its cap is less is full.
 fn add_even_clause(
-    alloc: Global,
     net: &Net,
+    pairs: &PairVars,
     formula: &mut Formula,
-    mark: bool,
+    side: Side,
+    splitter: usize,
     edge: u16,
     other: u16,
 ) -> Result<(), AllocError>
-    requires { edge < formula.old.vars }
-    ensures { OnOk result (formula.new
-        ≡ with_clauses formula.old (families.even_clause net.now mark edge other ∷ [])) }
+    requires { AllByRecursion (IsWithin (at_in pairs.now) formula.old.vars)
+        (families.even_clause net.now side splitter edge other) }
+    ensures { OnOk result (formula.new ≡ with_clauses (at_in pairs.now) formula.old
+        (families.even_clause net.now side splitter edge other ∷ [])) }
 {
     let edge = edge as usize;
     let other = other as usize;
     let cap = cap_at(net, edge);
-    let row = not_below(alloc, edge, other)?;
-    let has_mark = Claim::Mark { edge, backed: mark };
+    let marked = Claim::Mark {
+        edge,
+        backed: excuse(side),
+    };
+    let even = Claim::First(Pair::Even {
+        side,
+        splitter,
+        edge,
+        other,
+    });
     if cap < cap_at(net, other) {
-        let full = at_least(alloc, edge, cap)?;
-        add_three(formula, has_mark, Claim::Says(row), Claim::Says(full))
+        let full = Claim::First(Pair::Full { edge, cap });
+        add_three(formula, pairs, marked, even, full)
     } else {
-        add_two(formula, has_mark, Claim::Says(row))
+        add_two(formula, pairs, marked, even)
     }
 }
 
-/// Adds that each of two edges of a port has a mark, or is even with the other or full.
+/// Adds that each of two edges at a side of a splitter has a mark, or is even with the other or full.
 pub fn add_even(
-    alloc: Global,
     net: &Net,
+    pairs: &PairVars,
     formula: &mut Formula,
-    mark: bool,
+    side: Side,
+    splitter: usize,
     port: Port,
 ) -> Result<(), AllocError>
-    requires { AreWithin formula.old.vars (families.even_clauses net.now mark (numbers_of port)) }
-    ensures { OnOk result (formula.new
-        ≡ with_clauses formula.old (families.even_clauses net.now mark (numbers_of port))) }
+    requires { AreWithin (at_in pairs.now) formula.old.vars
+        (families.even_clauses net.now side splitter (numbers_of port)) }
+    ensures { OnOk result (formula.new ≡ with_clauses (at_in pairs.now) formula.old
+        (families.even_clauses net.now side splitter (numbers_of port))) }
 {
     let Port::Two(first, second) = port else {
         return Ok(());
     };
-    add_even_clause(alloc, net, formula, mark, first, second)?;
-    add_even_clause(alloc, net, formula, mark, second, first)
+    add_even_clause(net, pairs, formula, side, splitter, first, second)?;
+    add_even_clause(net, pairs, formula, side, splitter, second, first)
+}
+
+/// Adds that of the two edges at a side of a splitter each has at least the flow of the other, or less.
+pub fn add_even_pairs(
+    alloc: Global,
+    pairs: &PairVars,
+    formula: &mut Formula,
+    side: Side,
+    splitter: usize,
+    port: Port,
+) -> Result<(), AllocError>
+    ensures { OnOk result (formula.new ≡ with_clauses (at_in pairs.now) formula.old
+        (map pair_clause (even_pairs side splitter (numbers_of port)))) }
+{
+    let Port::Two(lower, higher) = port else {
+        return Ok(());
+    };
+    let [lower, higher] = [lower as usize, higher as usize];
+    let first = Pair::Even {
+        side,
+        splitter,
+        edge: lower,
+        other: higher,
+    };
+    add_pair(alloc, pairs, formula, first)?;
+    let second = Pair::Even {
+        side,
+        splitter,
+        edge: higher,
+        other: lower,
+    };
+    add_pair(alloc, pairs, formula, second)
+}
+
+/// Adds the clause that the first row of a pair holds or its opposite.
+pub fn add_pair(
+    alloc: Global,
+    pairs: &PairVars,
+    formula: &mut Formula,
+    pair: Pair,
+) -> Result<(), AllocError>
+    requires { HasColumns pair }
+    ensures { OnOk result (formula.new
+        ≡ with_clauses (at_in pairs.now) formula.old (pair_clause pair ∷ [])) }
+{
+    let first = first_row(alloc, pair)?;
+    let opposite = opposite_row(alloc, pair)?;
+    add_two(formula, pairs, Claim::Says(first), Claim::Says(opposite))
 }
 
 /// Adds that an in edge isn't backed, or an out edge is backed or full.
 fn add_backing_of(
-    alloc: Global,
     net: &Net,
+    pairs: &PairVars,
     formula: &mut Formula,
     entering: usize,
     leaving: usize,
 ) -> Result<(), AllocError>
-    requires small { leaving < 2 ^ 64 - 1 }
-    requires entering { entering < formula.old.vars }
-    requires leaving { leaving < formula.old.vars }
-    ensures { OnOk result (formula.new
-        ≡ with_clauses formula.old (families.backing_clause net.now entering leaving ∷ [])) }
+    requires { AllByRecursion (IsWithin (at_in pairs.now) formula.old.vars)
+        (families.backing_clause net.now entering leaving) }
+    ensures { OnOk result (formula.new ≡ with_clauses (at_in pairs.now) formula.old
+        (families.backing_clause net.now entering leaving ∷ [])) }
 {
-    let full = at_least(alloc, leaving, cap_at(net, leaving))?;
     let free = Claim::Mark {
         edge: entering,
         backed: false,
@@ -84,45 +156,47 @@ fn add_backing_of(
         edge: leaving,
         backed: true,
     };
-    add_three(formula, free, backed, Claim::Says(full))
+    let full = Pair::Full {
+        edge: leaving,
+        cap: cap_at(net, leaving),
+    };
+    add_three(formula, pairs, free, backed, Claim::First(full))
 }
 
 /// Adds it for each in edge and each out edge.
 pub fn add_backing(
-    alloc: Global,
     net: &Net,
+    pairs: &PairVars,
     formula: &mut Formula,
     entering: &[usize],
     leaving: &[usize],
 ) -> Result<(), AllocError>
-    requires small { All (λ x. x < 2 ^ 64 - 1) leaving.now }
-    requires entering { All (λ a. a < formula.old.vars) entering.now }
-    requires leaving { All (λ x. x < formula.old.vars) leaving.now }
-    ensures { OnOk result (formula.new ≡ with_clauses formula.old
+    requires { AreWithin (at_in pairs.now) formula.old.vars
+        (flat_map (λ a. map (families.backing_clause net.now a) leaving.now) entering.now) }
+    ensures { OnOk result (formula.new ≡ with_clauses (at_in pairs.now) formula.old
         (flat_map (λ a. map (families.backing_clause net.now a) leaving.now) entering.now)) }
 {
     for edge in entering {
-        add_backing_at(alloc, net, formula, *edge, leaving)?;
+        add_backing_at(net, pairs, formula, *edge, leaving)?;
     }
     Ok(())
 }
 
 /// Adds it for an in edge and each out edge.
 fn add_backing_at(
-    alloc: Global,
     net: &Net,
+    pairs: &PairVars,
     formula: &mut Formula,
     entering: usize,
     leaving: &[usize],
 ) -> Result<(), AllocError>
-    requires small { All (λ x. x < 2 ^ 64 - 1) leaving.now }
-    requires entering { entering < formula.old.vars }
-    requires leaving { All (λ x. x < formula.old.vars) leaving.now }
-    ensures { OnOk result (formula.new
-        ≡ with_clauses formula.old (map (families.backing_clause net.now entering) leaving.now)) }
+    requires { AreWithin (at_in pairs.now) formula.old.vars
+        (map (families.backing_clause net.now entering) leaving.now) }
+    ensures { OnOk result (formula.new ≡ with_clauses (at_in pairs.now) formula.old
+        (map (families.backing_clause net.now entering) leaving.now)) }
 {
     for edge in leaving {
-        add_backing_of(alloc, net, formula, entering, *edge)?;
+        add_backing_of(net, pairs, formula, entering, *edge)?;
     }
     Ok(())
 }

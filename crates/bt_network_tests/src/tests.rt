@@ -10,6 +10,7 @@ mod net;
 mod parts;
 mod place;
 mod recover;
+mod simulate;
 mod states;
 
 use bt_flow::Property;

@@ -1,5 +1,6 @@
-//! The sizes of flow formulas, and the state of an assignment.
+//! The sizes of flow formulas, their clauses, and the state of an assignment.
 use super::{MIXED, ONE_BELT, SPLITTER, fields, net_of, number_of, property_named};
+use bt_cnf::{Formula, Lit};
 use bt_fenc::{encode, state_of};
 use bt_frac::Frac;
 use std::alloc::{AllocError, Global};
@@ -7,16 +8,63 @@ use std::test::Fail;
 
 /// A network, a property, and the numbers of clauses, variables and columns of their formula.
 const SIZES: &[&str] = &[
-    "one belt|unlimited|12|13|3",
-    "one belt|balanced|12|12|3",
-    "splitter|full|39|43|8",
-    "mixed|drawn-evenly|25|28|6",
+    "one belt|unlimited|15|17|3",
+    "one belt|balanced|15|16|3",
+    "splitter|full|51|55|8",
+    "mixed|drawn-evenly|33|36|6",
+    "loop|unlimited|57|61|8",
+];
+
+/// Two edges from a splitter to the next, and an edge from the last splitter to itself.
+const LOOP: &str =
+    "net 1 1 3\nedge i0 s0\nedge s0 s1\nedge s0 s1\nedge s1 s2\nedge s2 s2\nedge s2 o0\nend\n";
+
+/// A network, a property, the place of a clause, from 1, and the clause, whose variables are numbered from 1. These are
+/// all clauses of the one belt, and of the others those that name pairs.
+const CLAUSES: &[&str] = &[
+    "one belt|unlimited|1|2",
+    "one belt|unlimited|2|3",
+    "one belt|unlimited|3|4",
+    "one belt|unlimited|4|5",
+    "one belt|unlimited|5|6",
+    "one belt|unlimited|6|7",
+    "one belt|unlimited|7|8 9",
+    "one belt|unlimited|8|10 11",
+    "one belt|unlimited|9|12 13",
+    "one belt|unlimited|10|14",
+    "one belt|unlimited|11|1 10",
+    "one belt|unlimited|12|15",
+    "one belt|unlimited|13|-1 12",
+    "one belt|unlimited|14|16",
+    "one belt|unlimited|15|17",
+    "one belt|balanced|14|16",
+    "one belt|balanced|15|",
+    // The slower way out may be full.
+    "mixed|drawn-evenly|14|17 18",
+    "mixed|drawn-evenly|15|19 20",
+    "mixed|drawn-evenly|22|2 17 23",
+    "mixed|drawn-evenly|23|3 19",
+    "mixed|drawn-evenly|24|-1 2 23",
+    "mixed|drawn-evenly|25|-1 3 25",
+    "mixed|drawn-evenly|26|33",
+    "mixed|drawn-evenly|27|1 27",
+    "loop|unlimited|36|2 26",
+    "loop|unlimited|37|3 28",
+    "loop|unlimited|38|5 30",
+    "loop|unlimited|39|6 32",
+    "loop|unlimited|40|-2 34",
+    "loop|unlimited|41|-3 36",
+    "loop|unlimited|42|-4 38",
+    "loop|unlimited|43|-5 40",
+    "loop|unlimited|44|-1 2 44",
+    "loop|unlimited|51|-5 6 52",
 ];
 
 fn text_named(name: &str) -> &'static str {
     match name {
         "one belt" => ONE_BELT,
         "splitter" => SPLITTER,
+        "loop" => LOOP,
         _ => MIXED,
     }
 }
@@ -39,6 +87,47 @@ fn has_sizes(alloc: Global, row: &str) -> Result<bool, AllocError> {
 fn has_all_clauses(rt: HostRuntime) -> Result<(), Fail> {
     for row in SIZES {
         assert!(rt; has_sizes(rt.alloc(), row)?, "{row}");
+    }
+    Ok(())
+}
+
+/// Whether a literal is the one that a word numbers.
+fn is_literal(lit: &Lit, word: &str) -> bool {
+    match word.strip_prefix('-') {
+        Some(number) => !lit.positive && lit.var.place().saturating_add(1) == number_of(number),
+        None => lit.positive && lit.var.place().saturating_add(1) == number_of(word),
+    }
+}
+
+/// Whether a clause has these literals.
+fn has_literals(formula: &Formula, place: usize, words: &str) -> bool {
+    let Some(id) = formula.clause_at(place) else {
+        return false;
+    };
+    let mut lits = formula.clause(id).iter();
+    for word in words.split_whitespace() {
+        match lits.next() {
+            Some(lit) if is_literal(lit, word) => {}
+            _ => return false,
+        }
+    }
+    lits.next().is_none()
+}
+
+/// Whether a formula has the clause of a row.
+fn has_clause(alloc: Global, row: &str) -> Result<bool, AllocError> {
+    let [network, property, place, words, _] = fields(row, '|');
+    let Some(net) = net_of(alloc, text_named(network)) else {
+        return Ok(false);
+    };
+    let formula = encode(alloc, &net, property_named(property))?;
+    Ok(has_literals(&formula, number_of(place).saturating_sub(1), words))
+}
+
+#[test]
+fn has_these_clauses(rt: HostRuntime) -> Result<(), Fail> {
+    for row in CLAUSES {
+        assert!(rt; has_clause(rt.alloc(), row)?, "{row}");
     }
     Ok(())
 }

@@ -3,8 +3,9 @@ use Rattle.std.specs.List.{range_with_len}
 use Rattle.bt_fenc.specs.declared.claim.Claim.TheVariants.{Says}
 use Rattle.bt_fenc.specs.Columns.{at_least, load_column, cap_at, input_edge}
 use Rattle.bt_fenc.specs.inner.Adding.{with_clauses}
+use Rattle.bt_fenc.specs.inner.Variables.{at_in}
 use Rattle.bt_fenc.proofs.properties.add_loaded.Given as goal
 
 abbrev pub invariant-loop-input : goal.invariant-loop-input
 invariant-loop-input l =
-    l.formula ≡ with_clauses l.initial.formula (map (λ i. Says (at_least (load_column l.net i) (cap_at l.net (input_edge l.net i))) ∷ []) (range_with_len 0 l.input))
+    l.formula ≡ with_clauses (at_in l.pairs) l.initial.formula (map (λ i. Says (at_least (load_column l.net i) (cap_at l.net (input_edge l.net i))) ∷ []) (range_with_len 0 l.input))

@@ -3,8 +3,9 @@ use Rattle.std.specs.List.{range_with_len}
 use Rattle.bt_fenc.specs.declared.claim.Claim.TheVariants.{Says}
 use Rattle.bt_fenc.specs.Columns.{at_least, room_column, cap_at, output_edge}
 use Rattle.bt_fenc.specs.inner.Adding.{with_clauses}
+use Rattle.bt_fenc.specs.inner.Variables.{at_in}
 use Rattle.bt_fenc.proofs.properties.add_open.Given as goal
 
 abbrev pub invariant-loop-output : goal.invariant-loop-output
 invariant-loop-output l =
-    l.formula ≡ with_clauses l.initial.formula (map (λ i. Says (at_least (room_column l.net i) (cap_at l.net (output_edge l.net i))) ∷ []) (range_with_len 0 l.output))
+    l.formula ≡ with_clauses (at_in l.pairs) l.initial.formula (map (λ i. Says (at_least (room_column l.net i) (cap_at l.net (output_edge l.net i))) ∷ []) (range_with_len 0 l.output))

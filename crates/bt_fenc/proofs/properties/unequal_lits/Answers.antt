@@ -6,6 +6,7 @@ use Rattle.bt_fenc.specs.declared.claim.Claim.TheVariants.{Says}
 use Rattle.bt_fenc.specs.Columns.{above}
 use Rattle.bt_fenc.specs.Properties.{differ}
 use Rattle.bt_arena.proofs.Loops.{taken_more}
+use Rattle.bt_fenc.specs.inner.Variables.{at_in}
 use Rattle.bt_fenc.proofs.Numbers.{rows_added}
 use Rattle.bt_fenc.proofs.properties.unequal_lits.Goals as goal
 
@@ -20,5 +21,5 @@ loop-other-preserved c =
     ap {A = RowParts} {B = List Claim} (λ r. front ++ Says r ∷ Says c.in_ok-less.less ∷ []) c.in_ok-more.ensures
     ∙ ap {A = RowParts} {B = List Claim} (λ r. front ++ Says (above first (get_or others i 0)) ∷ Says r ∷ []) c.in_ok-less.ensures
     ∙ taken_more (differ first) others [] front _ i 0 c.loop-other-test.true refl refl in
-    rows_added c.args.formula.now c.loop-other.formula c.literal_of.new.formula c.literal_of-in-loop-other.new.formula front _ _ _ c.loop-other.lits.items c.push.new.self.items _ _ _
+    rows_added (at_in c.args.pairs.now) c.args.formula.now c.loop-other.formula c.literal_of.new.formula c.literal_of-in-loop-other.new.formula front _ _ _ c.loop-other.lits.items c.push.new.self.items _ _ _
     c.loop-other.invariant c.in_ok-literal_of.ensures c.in_ok-push.ensures.items c.in_ok-literal_of-2.ensures c.in_ok-push-2.ensures.items same

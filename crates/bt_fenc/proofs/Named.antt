@@ -1,0 +1,260 @@
+-- The edges and the pairs that the claims of the flow formula name are of the network, and the variable of each
+-- pair is that of its first row.
+use Rattle.std.proofs.Common.{◌≡◌, ℕ, ◌<◌, ◌≤◌, ◌+◌, ◌⊎◌, inl, inr, Bool, true, false, List, [], ◌∷◌, ◌++◌, length, map, cond, ltb, ap, sym, ◌∙◌, refl, subst, arith, zero, suc, append_assoc, append-nil}
+use Rattle.std.specs.List.{AllByRecursion, flat_map, range_with_len}
+use Rattle.std.proofs.lemmas.Bool.{lt-ltb, le-ltb}
+use Rattle.std.proofs.lemmas.Grind.{flat_map-append}
+use Rattle.bt_frac.specs.Rows.{RowParts}
+use Rattle.bt_net.specs.declared.network.Edge.{Edge}
+use Rattle.bt_net.specs.Network.{Network, IsNetwork, leaves, enters}
+use Rattle.bt_flow.specs.declared.property.Property.{Property}
+use Rattle.bt_flow.specs.declared.property.Property.TheVariants.{Balanced, DrawnEvenly, Unlimited, Full as FullProperty}
+use Rattle.bt_flow.specs.Ports.{numbers_where}
+use Rattle.bt_fenc.specs.declared.claim.Side.{Side}
+use Rattle.bt_fenc.specs.declared.claim.Side.TheVariants.{Out, In}
+use Rattle.bt_fenc.specs.declared.claim.Pair.{Pair}
+use Rattle.bt_fenc.specs.declared.claim.Pair.TheVariants.{Even, Full, Loaded, Filled}
+use Rattle.bt_fenc.specs.declared.claim.Claim.{Claim}
+use Rattle.bt_fenc.specs.declared.claim.Claim.TheVariants.{Mark, Says, First}
+use Rattle.bt_fenc.specs.declared.family.Family.{Family}
+use Rattle.bt_fenc.specs.declared.family.Family.TheVariants as of
+use Rattle.bt_fenc.specs.Columns.{input_edge, output_edge, input_edges, output_edges, in_edges, out_edges, edges_at, cap_at, load_column, room_column}
+use Rattle.bt_fenc.specs.Pairs.{first_row, opposite_row, pair_clause, even_pairs, full}
+use Rattle.bt_fenc.specs.Families.{clauses_at, places, family_clauses, bounds, pair_families, laws, families, even_clauses, backing_clause}
+use Rattle.bt_fenc.specs.Properties.{property_clauses, loaded_clauses, open_clauses, short_clauses, unequal_clause, differ}
+use Rattle.bt_fenc.specs.Numbering.{mentioned, rows_in, IsVariable, IsNamed, AreNamed}
+use Rattle.bt_fenc.specs.FlowFormula.{flow_clauses, clauses_till, lower_first, variable_of}
+use Rattle.bt_fenc.proofs.Withins.{each-append, each-three, each-flat_map, each-map, each-range, each_any, all_below, input_below, output_below}
+
+-- these two are the edges
+abbrev pub AreTwo : List ℕ → ℕ → ℕ → Type 0
+AreTwo edges a b = ((edges ≡ a ∷ b ∷ []) × (a < b)) ⊎ ((edges ≡ b ∷ a ∷ []) × (b < a))
+
+-- the pair is one of the network
+abbrev pub IsPair : Network → Pair → Type 0
+IsPair n (Even side k a b) = (k < n.splitters) × AreTwo (edges_at n side k) a b
+IsPair n (Full a cap) = (a < length n.edges) × (cap ≡ cap_at n a)
+IsPair n (Loaded i a column) = (i < n.inputs) × (a ≡ input_edge n i) × (column ≡ load_column n i)
+IsPair n (Filled o a column) = (o < n.outputs) × (a ≡ output_edge n o) × (column ≡ room_column n o)
+
+-- the edge or the pair that a claim names is one of the network
+abbrev pub IsOf : Network → Claim → Type 0
+IsOf n (Mark a backed) = a < length n.edges
+IsOf n (Says row) = Unit {0}
+IsOf n (First pair) = IsPair n pair
+
+abbrev pub AreOf : Network → List (List Claim) → Type 0
+AreOf n clauses = AllByRecursion (AllByRecursion (IsOf n)) clauses
+
+-- the families that name no pair
+abbrev pub nameless : List Family
+nameless = bounds ++ pair_families
+
+-- ---- the numbers of edges ascend
+
+not_lower : (p : Edge → Bool) (m : ℕ) (es : List Edge) → AllByRecursion (λ x. m ≤ x) (numbers_where p m es)
+not_lower p m [] = tt
+not_lower p m (e ∷ es) =
+    let rest = each_higher m (m + 1) (omega arith) (numbers_where p (m + 1) es) (not_lower p (m + 1) es) in
+    elim (p e) as (λ b. AllByRecursion (λ x. m ≤ x) (cond b (m ∷ numbers_where p (m + 1) es) (numbers_where p (m + 1) es))) [ true ↦ (omega arith, rest) | false ↦ rest ]
+  where
+    each_higher : (m k : ℕ) → m ≤ k → (xs : List ℕ) → AllByRecursion (λ x. k ≤ x) xs → AllByRecursion (λ x. m ≤ x) xs
+    each_higher m k l [] h = tt
+    each_higher m k l (x ∷ xs) h = ((let g = h.0 in omega (arith, g, l)), each_higher m k l xs h.1)
+
+ascend_by : (t : Bool) (m a b : ℕ) (numbers rest : List ℕ) → AllByRecursion (λ x. m + 1 ≤ x) numbers → (numbers ≡ a ∷ b ∷ rest → a < b) → cond t (m ∷ numbers) numbers ≡ a ∷ b ∷ rest → a < b
+ascend_by true m a b [] rest h again e = absurd (cc)
+ascend_by true m a b (x ∷ numbers) rest h again e =
+    let first : m ≡ a = cc in
+    let second : x ≡ b = cc in
+    let l = h.0 in
+    omega (arith, first, second, l)
+ascend_by false m a b numbers rest h again e = again e
+
+pub ascend : (p : Edge → Bool) (m a b : ℕ) (rest : List ℕ) (es : List Edge) → numbers_where p m es ≡ a ∷ b ∷ rest → a < b
+ascend p m a b rest [] e = absurd (cc)
+ascend p m a b rest (x ∷ es) e = ascend_by (p x) m a b (numbers_where p (m + 1) es) rest (not_lower p (m + 1) es) (ascend p (m + 1) a b rest es) e
+
+-- ---- the claims are of the network
+
+module _ (n : Network) (is : IsNetwork n) where
+  last_of : (t : Bool) (x : ℕ) → x < length n.edges → AllByRecursion (IsOf n) (cond t (First (full n x) ∷ []) [])
+  last_of true x l = ((l, refl), tt)
+  last_of false x l = tt
+
+  evens_of : (side : Side) (k : ℕ) → k < n.splitters → (edges : List ℕ) → edges ≡ edges_at n side k → AllByRecursion (λ x. x < length n.edges) edges
+      → ((a b : ℕ) → edges_at n side k ≡ a ∷ b ∷ [] → a < b) → AreOf n (even_clauses n side k edges)
+  evens_of side k l [] same h up = tt
+  evens_of side k l (a ∷ []) same h up = tt
+  evens_of side k l (a ∷ b ∷ []) same h up =
+      let is_two = sym same in
+      let less = up a b is_two in (
+        (h.0, ((l, inl (is_two, less)), last_of (ltb (cap_at n a) (cap_at n b)) a h.0)),
+        ((h.1.0, ((l, inr (is_two, less)), last_of (ltb (cap_at n b) (cap_at n a)) b h.1.0)), tt),
+      )
+  evens_of side k l (a ∷ b ∷ c ∷ edges) same h up = tt
+
+  pairs_of : (side : Side) (k : ℕ) (edges : List ℕ) → AreOf n (map pair_clause (even_pairs side k edges))
+  pairs_of side k edges = each-map _ (λ x. Unit {0}) pair_clause (even_pairs side k edges) (each_any (even_pairs side k edges)) (λ pair t. (tt, (tt, tt)))
+
+  pub at_of : (f : Family) (k : ℕ) → k < places n f → AreOf n (clauses_at n f k)
+  at_of of.Flows k l = ((tt, tt), ((tt, tt), tt))
+  at_of of.Loads k l = ((tt, tt), ((tt, tt), tt))
+  at_of of.Rooms k l = ((tt, tt), ((tt, tt), tt))
+  at_of of.Conserve k l = ((tt, tt), tt)
+  at_of of.OutPairs k l = pairs_of Out k (out_edges n k)
+  at_of of.InPairs k l = pairs_of In k (in_edges n k)
+  at_of of.FullPairs k l = ((tt, (tt, tt)), tt)
+  at_of of.LoadPairs k l = ((tt, (tt, tt)), tt)
+  at_of of.RoomPairs k l = ((tt, (tt, tt)), tt)
+  at_of of.EvenOut k l = evens_of Out k l (out_edges n k) refl (all_below n is (leaves k)) (λ a b e. ascend (leaves k) 0 a b [] n.edges e)
+  at_of of.EvenIn k l = evens_of In k l (in_edges n k) refl (all_below n is (enters k)) (λ a b e. ascend (enters k) 0 a b [] n.edges e)
+  at_of of.Backing k l =
+      each-flat_map _ _ _ (in_edges n k) (all_below n is (enters k))
+      (λ a l. each-map _ _ (backing_clause n a) (out_edges n k) (all_below n is (leaves k)) (λ x m. (l, (m, ((m, refl), tt)))))
+  at_of of.Inputs i l = ((tt, tt), ((input_below n is i, ((l, refl, refl), tt)), tt))
+  at_of of.Outputs o l = ((tt, tt), ((output_below n is o, ((l, refl, refl), tt)), tt))
+
+  family_of : (f : Family) → AreOf n (family_clauses n f)
+  family_of f =
+      each-flat_map _ (λ k. k < places n f) (clauses_at n f) (range_with_len 0 (places n f)) (each-range (λ k. k < places n f) 0 (places n f) (λ k l m. omega (arith, m)))
+      (λ k l. at_of f k l)
+
+  pub all_of : (fs : List Family) → AreOf n (flat_map (family_clauses n) fs)
+  all_of fs = each-flat_map (AllByRecursion (IsOf n)) (λ x. Unit {0}) (family_clauses n) fs (each_any fs) (λ f t. family_of f)
+
+  loaded_of : AreOf n (loaded_clauses n)
+  loaded_of = each-map _ (λ x. Unit {0}) _ (range_with_len 0 n.inputs) (each_any (range_with_len 0 n.inputs)) (λ i t. (tt, tt))
+
+  open_of : AreOf n (open_clauses n)
+  open_of = each-map _ (λ x. Unit {0}) _ (range_with_len 0 n.outputs) (each_any (range_with_len 0 n.outputs)) (λ o t. (tt, tt))
+
+  short_of : AreOf n (short_clauses n)
+  short_of = ((tt, tt), ((tt, tt), tt))
+
+  unequal_of : (edges : List ℕ) → AllByRecursion (IsOf n) (unequal_clause edges)
+  unequal_of [] = tt
+  unequal_of (first ∷ others) = each-flat_map _ (λ x. Unit {0}) (differ first) others (each_any others) (λ b t. (tt, (tt, tt)))
+
+  property_of : (p : Property) → AreOf n (property_clauses n p)
+  property_of Balanced = each-append (AllByRecursion (IsOf n)) (open_clauses n) (unequal_clause (output_edges n) ∷ []) open_of (unequal_of (output_edges n), tt)
+  property_of DrawnEvenly = each-append (AllByRecursion (IsOf n)) (loaded_clauses n) (unequal_clause (input_edges n) ∷ []) loaded_of (unequal_of (input_edges n), tt)
+  property_of Unlimited = short_of
+  property_of FullProperty = each-three (AllByRecursion (IsOf n)) (loaded_clauses n) (open_clauses n) (short_clauses n) loaded_of open_of short_of
+
+  pub flow_of : (p : Property) → AreOf n (flow_clauses n p)
+  flow_of p = each-append (AllByRecursion (IsOf n)) (flat_map (family_clauses n) families) (property_clauses n p) (all_of families) (property_of p)
+
+-- ---- the place of a pair's clause
+
+clause_stands : (marks : ℕ) (clauses before after : List (List Claim)) (pair : Pair) → clauses ≡ before ++ pair_clause pair ∷ after
+    → IsVariable marks (rows_in clauses) (first_row pair) (marks + length (rows_in before))
+clause_stands marks clauses before after pair e =
+    record { before = rows_in before; after = opposite_row pair ∷ rows_in after; split = ap rows_in e ∙ flat_map-append (flat_map mentioned) before (pair_clause pair ∷ after); place = refl }
+
+range_split : (a k m : ℕ) → k < m → (rest : List ℕ) × (range_with_len a m ≡ range_with_len a k ++ (a + k) ∷ rest)
+range_split a k zero l = absurd (omega arith)
+range_split a zero (suc m) l = (range_with_len (a + 1) m, ap (λ x. x ∷ range_with_len (a + 1) m) (let z : a ≡ a + 0 = omega arith in z))
+range_split a (suc k) (suc m) l =
+    let again = range_split (a + 1) k m (omega arith) in
+    (again.0, ap (λ xs. a ∷ xs) (again.1 ∙ ap (λ x. range_with_len (a + 1) k ++ x ∷ again.0) (let z : a + 1 + k ≡ a + suc k = omega arith in z)))
+
+regroup : {X : Type 0} (a b c r z : List X) → a ++ (b ++ (c ++ r) ++ z) ≡ (a ++ b) ++ (c ++ (r ++ z))
+regroup a b c r z = simp append_assoc
+
+module _ (n : Network) where
+  -- the clauses at a place stand after those before it
+  split_at : (before after : List Family) (f : Family) (k : ℕ) → k < places n f
+      → (rest : List (List Claim)) × (flat_map (family_clauses n) (before ++ f ∷ after) ≡ clauses_till n before f k ++ (clauses_at n f k ++ rest))
+  split_at before after f k l =
+      let r = range_split 0 k (places n f) l in
+      let front = flat_map (clauses_at n f) (range_with_len 0 k) in
+      let back = flat_map (clauses_at n f) r.0 in
+      let whole : family_clauses n f ≡ front ++ (clauses_at n f k ++ back) = ap (flat_map (clauses_at n f)) (r.1 ∙ ap (λ x. range_with_len 0 k ++ x ∷ r.0) (let z : 0 + k ≡ k = omega arith in z))
+      ∙ flat_map-append (clauses_at n f) (range_with_len 0 k) (k ∷ r.0) in (
+        back ++ flat_map (family_clauses n) after,
+        flat_map-append (family_clauses n) before (f ∷ after)
+            ∙ ap (λ c. flat_map (family_clauses n) before ++ (c ++ flat_map (family_clauses n) after)) whole
+            ∙ regroup (flat_map (family_clauses n) before) front (clauses_at n f k) back (flat_map (family_clauses n) after),
+      )
+
+  even_stands : (side : Side) (k a b : ℕ) (clauses till rest : List (List Claim)) (edges : List ℕ) → clauses ≡ till ++ (map pair_clause (even_pairs side k edges) ++ rest) → AreTwo edges a b
+      → IsVariable (length n.edges) (rows_in clauses) (first_row (Even side k a b)) (length n.edges + length (rows_in (till ++ lower_first (Even side k b a) a b)))
+  even_stands side k a b clauses till rest edges e (inl (two, less)) =
+      let pair = Even side k a b in
+      let other = Even side k b a in
+      let none : lower_first other a b ≡ [] = ap (λ t. cond t [] (pair_clause other ∷ [])) (lt-ltb a b less) in
+      clause_stands (length n.edges) clauses (till ++ lower_first other a b) (pair_clause other ∷ rest) pair
+      (e ∙ ap (λ l. till ++ (map pair_clause (even_pairs side k l) ++ rest)) two ∙ ap (λ l. l ++ pair_clause pair ∷ pair_clause other ∷ rest) (sym (ap (λ l. till ++ l) none ∙ append-nil till)))
+  even_stands side k a b clauses till rest edges e (inr (two, less)) =
+      let pair = Even side k a b in
+      let other = Even side k b a in
+      let one : lower_first other a b ≡ pair_clause other ∷ [] = ap (λ t. cond t [] (pair_clause other ∷ [])) (le-ltb a b (omega (arith, less))) in
+      clause_stands (length n.edges) clauses (till ++ lower_first other a b) rest pair
+      (e ∙ ap (λ l. till ++ (map pair_clause (even_pairs side k l) ++ rest)) two ∙ sym (append_assoc till (pair_clause other ∷ []) (pair_clause pair ∷ rest))
+      ∙ ap (λ l. (till ++ l) ++ pair_clause pair ∷ rest) (sym one))
+
+  pub pair_stands : (pair : Pair) → IsPair n pair → IsVariable (length n.edges) (rows_in (flat_map (family_clauses n) nameless)) (first_row pair) (variable_of n pair)
+  pair_stands (Even Out k a b) h =
+      let at = split_at bounds (of.InPairs ∷ of.FullPairs ∷ of.LoadPairs ∷ of.RoomPairs ∷ []) of.OutPairs k h.0 in
+      even_stands Out k a b _ (clauses_till n bounds of.OutPairs k) at.0 (out_edges n k) at.1 h.1
+  pair_stands (Even In k a b) h =
+      let before = bounds ++ of.OutPairs ∷ [] in
+      let at = split_at before (of.FullPairs ∷ of.LoadPairs ∷ of.RoomPairs ∷ []) of.InPairs k h.0 in
+      even_stands In k a b _ (clauses_till n before of.InPairs k) at.0 (in_edges n k) at.1 h.1
+  pair_stands (Full a cap) h =
+      let before = bounds ++ of.OutPairs ∷ of.InPairs ∷ [] in
+      let at = split_at before (of.LoadPairs ∷ of.RoomPairs ∷ []) of.FullPairs a h.0 in
+      let till = clauses_till n before of.FullPairs a in
+      clause_stands (length n.edges) _ till at.0 (Full a cap) (at.1 ∙ ap (λ c. till ++ pair_clause (Full a c) ∷ at.0) (sym h.1))
+  pair_stands (Loaded i a column) h =
+      let before = bounds ++ of.OutPairs ∷ of.InPairs ∷ of.FullPairs ∷ [] in
+      let at = split_at before (of.RoomPairs ∷ []) of.LoadPairs i h.0 in
+      let till = clauses_till n before of.LoadPairs i in
+      clause_stands (length n.edges) _ till at.0 (Loaded i a column)
+      (at.1 ∙ ap (λ x. till ++ pair_clause (Loaded i x (load_column n i)) ∷ at.0) (sym h.1) ∙ ap (λ x. till ++ pair_clause (Loaded i a x) ∷ at.0) (sym h.2))
+  pair_stands (Filled o a column) h =
+      let before = bounds ++ of.OutPairs ∷ of.InPairs ∷ of.FullPairs ∷ of.LoadPairs ∷ [] in
+      let at = split_at before [] of.RoomPairs o h.0 in
+      let till = clauses_till n before of.RoomPairs o in
+      clause_stands (length n.edges) _ till at.0 (Filled o a column)
+      (at.1 ∙ ap (λ x. till ++ pair_clause (Filled o x (room_column n o)) ∷ at.0) (sym h.1) ∙ ap (λ x. till ++ pair_clause (Filled o a x) ∷ at.0) (sym h.2))
+
+-- ---- so each claim's variable is right, among more rows too
+
+more_rows : (first : ℕ) (rows more : List RowParts) (row : RowParts) (var : ℕ) → IsVariable first rows row var → IsVariable first (rows ++ more) row var
+more_rows first rows more row var h =
+    record { before = h.before; after = h.after ++ more; split = ap (λ r. r ++ more) h.split ∙ append_assoc h.before (row ∷ h.after) more; place = h.place }
+
+module _ (n : Network) where
+  claim_named : (more : List RowParts) (claim : Claim) → IsOf n claim → IsNamed (variable_of n) (length n.edges) (rows_in (flat_map (family_clauses n) nameless) ++ more) claim
+  claim_named more (Mark a backed) h = h
+  claim_named more (Says row) h = tt
+  claim_named more (First pair) h = more_rows (length n.edges) (rows_in (flat_map (family_clauses n) nameless)) more (first_row pair) (variable_of n pair) (pair_stands n pair h)
+
+  claims_named : (more : List RowParts) (claims : List Claim) → AllByRecursion (IsOf n) claims
+      → AllByRecursion (IsNamed (variable_of n) (length n.edges) (rows_in (flat_map (family_clauses n) nameless) ++ more)) claims
+  claims_named more [] h = tt
+  claims_named more (claim ∷ claims) h = (claim_named more claim h.0, claims_named more claims h.1)
+
+  all_named : (more : List RowParts) (clauses : List (List Claim)) → AreOf n clauses
+      → AllByRecursion (AllByRecursion (IsNamed (variable_of n) (length n.edges) (rows_in (flat_map (family_clauses n) nameless) ++ more))) clauses
+  all_named more [] h = tt
+  all_named more (claims ∷ clauses) h = (claims_named more claims h.0, all_named more clauses h.1)
+
+  -- clauses of which those of the nameless families are the first
+  after_nameless : (clauses more : List (List Claim)) → flat_map (family_clauses n) nameless ++ more ≡ clauses → AreOf n clauses → AreNamed (variable_of n) (length n.edges) clauses
+  after_nameless clauses more e h =
+      subst (λ rows. AllByRecursion (AllByRecursion (IsNamed (variable_of n) (length n.edges) rows)) clauses)
+      (sym (flat_map-append (flat_map mentioned) (flat_map (family_clauses n) nameless) more) ∙ ap rows_in e) (all_named (rows_in more) clauses h)
+
+pub families_named : (n : Network) → IsNetwork n → AreNamed (variable_of n) (length n.edges) (flat_map (family_clauses n) families)
+families_named n is =
+    after_nameless n (flat_map (family_clauses n) families) (flat_map (family_clauses n) laws) (sym (flat_map-append (family_clauses n) nameless laws)) (all_of n is families)
+
+pub flow_named : (n : Network) → IsNetwork n → (p : Property) → AreNamed (variable_of n) (length n.edges) (flow_clauses n p)
+flow_named n is p =
+    after_nameless n (flow_clauses n p) (flat_map (family_clauses n) laws ++ property_clauses n p)
+    (sym (append_assoc (flat_map (family_clauses n) nameless) (flat_map (family_clauses n) laws) (property_clauses n p))
+    ∙ ap (λ c. c ++ property_clauses n p) (sym (flat_map-append (family_clauses n) nameless laws)))
+    (flow_of n is p)

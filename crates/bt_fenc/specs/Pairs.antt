@@ -1,0 +1,45 @@
+-- Pairs: a row and its opposite. The order of fractions is total, so one of the two holds of all values.
+use Rattle.std.specs.Prelude.{ℕ, List, [], ◌∷◌}
+use Rattle.bt_frac.specs.Rows.{RowParts}
+use Rattle.bt_net.specs.Network.{Network}
+use Rattle.bt_fenc.specs.declared.claim.Side.{Side}
+use Rattle.bt_fenc.specs.declared.claim.Pair.{Pair}
+use Rattle.bt_fenc.specs.declared.claim.Pair.TheVariants.{Even, Full, Loaded, Filled}
+use Rattle.bt_fenc.specs.declared.claim.Claim.{Claim}
+use Rattle.bt_fenc.specs.declared.claim.Claim.TheVariants.{Says}
+use Rattle.bt_fenc.specs.Columns.{input_edge, output_edge, cap_at, load_column, room_column, at_least, below, not_below, above}
+
+-- the first row of a pair: a flow is at least that of another edge, the edge's cap, the load or the room
+abbrev pub first_row : Pair → RowParts
+first_row (Even side k a b) = not_below a b
+first_row (Full a cap) = at_least a cap
+first_row (Loaded i a column) = not_below a column
+first_row (Filled o a column) = not_below a column
+
+-- its opposite: the flow is below that
+abbrev pub opposite_row : Pair → RowParts
+opposite_row (Even side k a b) = above b a
+opposite_row (Full a cap) = below a cap
+opposite_row (Loaded i a column) = above column a
+opposite_row (Filled o a column) = above column a
+
+-- the first row or its opposite, each a variable of its own
+abbrev pub pair_clause : Pair → List Claim
+pair_clause pair = Says (first_row pair) ∷ Says (opposite_row pair) ∷ []
+
+-- of two edges at a side of a splitter each with the other
+abbrev pub even_pairs : Side → ℕ → List ℕ → List Pair
+even_pairs side k (a ∷ b ∷ []) = Even side k a b ∷ Even side k b a ∷ []
+even_pairs side k edges = []
+
+-- an edge is full
+abbrev pub full : Network → ℕ → Pair
+full n a = Full a (cap_at n a)
+
+-- the edge of an input has all of the load
+abbrev pub loaded : Network → ℕ → Pair
+loaded n i = Loaded i (input_edge n i) (load_column n i)
+
+-- the edge of an output has all of the room
+abbrev pub filled : Network → ℕ → Pair
+filled n o = Filled o (output_edge n o) (room_column n o)
