@@ -20,6 +20,7 @@ mod written;
 
 pub use check::check_log;
 pub use fault::{Cause, CertFault};
-pub use law::{printed_is_certificate, printed_is_read, text_tells_log};
+pub use law::{numbers_are, printed_is_certificate, printed_is_read, text_tells_log};
+pub use reading::FIRST_LINE;
 pub use std::alloc::AllocError as Memory;
-pub use written::WrittenLit;
+pub use written::{MOST_NUMBER, WrittenLit};

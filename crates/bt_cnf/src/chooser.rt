@@ -2,6 +2,7 @@
 ghost use Rattle.std.specs.Prelude.{◌≡◌, ◌<◌, ℕ, List, [], ◌∷◌, length, OnOk, OnErr};
 ghost use Rattle.std.specs.declared.option.Option.{Option};
 ghost use Rattle.bt_cnf.specs.Choosing.{Ascends, Gains};
+ghost use Rattle.bt_cnf.specs.declared.chooser.Pick.{Pick};
 
 use crate::literal::{Lit, Var};
 use std::alloc::AllocError;
@@ -20,11 +21,15 @@ pub trait Chooser: Drop {
     /// The lengths of the clauses that it was told, where it tells them. Whether it does never changes.
     ghost told_lengths: { Self → Option (List ℕ) };
 
+    /// What it may pick among unset variables. Where nothing is said, it may pick any.
+    ghost may_pick: { Self → List ℕ → Pick → Type 0 } = { λ _ _ _. Unit {0} };
+
     /// Chooses among the unset variables, of which there is at least one, and which ascend.
     fn pick(&mut self, unset: &[Var]) -> Pick
         requires some { 0 < length unset.now }
         requires ascending { Ascends unset.now }
         ensures in_range { result.place < length unset.now }
+        ensures picks { may_pick self.old unset.now result }
         ensures same { told_lengths self.new ≡ told_lengths self.old };
 
     /// Is told of a clause that was learnt. A chooser that grows keeps its own allocator.
@@ -37,6 +42,8 @@ pub trait Chooser: Drop {
 // A box asks and tells the chooser in it.
 impl Chooser for Box<dyn Chooser> {
     ghost told_lengths = { λ b. (Chooser-box b).told_lengths b.value };
+
+    ghost may_pick = { λ b. (Chooser-box b).may_pick b.value };
 
     fn pick(&mut self, unset: &[Var]) -> Pick {
         (**self).pick(unset)

@@ -15,13 +15,13 @@ use Rattle.bt_sat.specs.Answering.{AddsLemma, GivesNext, Says}
 use Rattle.bt_sat.specs.Serving.{IsFair}
 use Rattle.bt_sat.specs.Solving.{AreFresh, AreNonempty, EndsRefuted, EndsSpent, IsLearnt, IsLemmaOf, IsModel, IsSoundLog, IsSpent, KeepsModel, LacksMemory, Searches, Standing}
 use Rattle.bt_sat.specs.declared.kernel.Stage.{Stage}
-use Rattle.bt_sat.specs.declared.kernel.Stage.TheVariants.{Running, Complete, Refuted, Full, Lost}
+use Rattle.bt_sat.specs.declared.kernel.Stage.TheVariants.{Running, Complete, Refuted, Spent, Lost}
 use Rattle.bt_sat.specs.declared.known.Known.{Known}
 use Rattle.bt_sat.specs.declared.progress.Progress.{Progress}
 use Rattle.bt_sat.specs.declared.solver.Answer.{Answer}
 use Rattle.bt_sat.specs.declared.solver.Answer.TheVariants as answer
 use Rattle.bt_sat.specs.inner.Choices.{IsComplete}
-use Rattle.bt_sat.specs.inner.Hunting.{IsFull, IsRefuted}
+use Rattle.bt_sat.specs.inner.Hunting.{HasSpent, IsRefuted}
 use Rattle.bt_sat.specs.inner.Kernels.{AddsTo, AnswersBy, Comes, MayGoOn, StandsAt, model_of, parts_of, stage_after}
 use Rattle.bt_sat.specs.inner.Progressing.{IsLogged, IsNextStep}
 use Rattle.bt_sat.specs.inner.Truths.{IsFalseIn}
@@ -83,7 +83,7 @@ few_steps known limit is full =
     subst (λ n. n < 3 ^ known.formula.vars) full (fresh_steps_are_few known.formula known.log.steps is.formula is.valid is.fresh is.nonempty)
 
 -- one more step would be more than the limit says
-full_spent : (p : Progress) (stage : Stage) → IsFull p → IsSpent (parts_of p stage)
+full_spent : (p : Progress) (stage : Stage) → HasSpent p → IsSpent (parts_of p stage)
 full_spent p stage is = record {
   full = is.full;
   few = few_steps p.known p.limit is.logged is.full;
@@ -96,7 +96,7 @@ full_spent p stage is = record {
 comes_sound : (p : Progress) (answer : Answer) → Comes p answer → IsSoundLog (parts_of p (stage_after answer))
 comes_sound p (answer.Model model) comes = logged_sound p Complete comes.0.running.logged
 comes_sound p answer.Refuted comes = refuted_sound p comes Refuted
-comes_sound p answer.Spent comes = logged_sound p Full comes.logged
+comes_sound p answer.Spent comes = logged_sound p Spent comes.logged
 
 comes_says : (p : Progress) (answer : Answer) → Comes p answer → Says (parts_of p (stage_after answer)) answer
 comes_says p (answer.Model model) comes = (
@@ -104,7 +104,7 @@ comes_says p (answer.Model model) comes = (
   subst (IsModel (parts_of p Complete)) (sym comes.1) (complete_model p (parts_of p Complete) comes.0 refl refl),
 )
 comes_says p answer.Refuted comes = (refl, refutes p comes)
-comes_says p answer.Spent comes = (refl, full_spent p Full comes)
+comes_says p answer.Spent comes = (refl, full_spent p Spent comes)
 
 -- an answer that was searched for
 pub gives : (old new : Progress) (was : Stage) (waiting left : List (Option (List ℕ))) (answer : Answer) → MayGoOn (parts_of old was).standing → AnswersBy old waiting new left answer
@@ -140,11 +140,11 @@ again_refuted p stage waiting at stands fair =
     let is : IsRefuted p = subst (StandsAt p) at stands in
     subst (λ s. GivesNext (parts_of p s) waiting (parts_of p s) waiting answer.Refuted) (sym at) (again p Refuted waiting answer.Refuted fair (refuted_sound p is Refuted) (refl, refutes p is))
 
-pub again_spent : (p : Progress) (stage : Stage) (waiting : List (Option (List ℕ))) → stage ≡ Full → StandsAt p stage → IsFair p.served (length waiting)
+pub again_spent : (p : Progress) (stage : Stage) (waiting : List (Option (List ℕ))) → stage ≡ Spent → StandsAt p stage → IsFair p.served (length waiting)
     → GivesNext (parts_of p stage) waiting (parts_of p stage) waiting answer.Spent
 again_spent p stage waiting at stands fair =
-    let is : IsFull p = subst (StandsAt p) at stands in
-    subst (λ s. GivesNext (parts_of p s) waiting (parts_of p s) waiting answer.Spent) (sym at) (again p Full waiting answer.Spent fair (logged_sound p Full is.logged) (refl, full_spent p Full is))
+    let is : HasSpent p = subst (StandsAt p) at stands in
+    subst (λ s. GivesNext (parts_of p s) waiting (parts_of p s) waiting answer.Spent) (sym at) (again p Spent waiting answer.Spent fair (logged_sound p Spent is.logged) (refl, full_spent p Spent is))
 
 -- what is known where a lemma comes
 pub record MeetsLemma (p : Progress) (lits : List Lit) (weights : List Ratio) : Type 0 where
@@ -174,7 +174,7 @@ meets_lemma p Complete lits weights stands of =
 meets_lemma p Refuted lits weights stands of =
     let no_model : EndsRefuted ≡ KeepsModel of.model = of.keeps in
     cc
-meets_lemma p Full lits weights stands of =
+meets_lemma p Spent lits weights stands of =
     let no_model : EndsSpent ≡ KeepsModel of.model = of.keeps in
     cc
 meets_lemma p Lost lits weights stands of =

@@ -1,6 +1,7 @@
 -- The search, from conflict to conflict.
-use Rattle.std.proofs.Common.{◌≡◌, ℕ, ◌≤◌, ◌<◌, ◌+◌, inl, inr, arith, List, [], ◌∷◌, ◌++◌, length, map, sym, subst, refl, ap, ◌∙◌, Option, Some, length-append, append-nil, append_assoc, vec_len}
+use Rattle.std.proofs.Common.{◌≡◌, ℕ, ◌≤◌, ◌<◌, ◌+◌, inl, inr, arith, List, [], ◌∷◌, ◌++◌, length, map, sym, subst, refl, ap, ◌∙◌, Option, None, Some, length-append, append-nil, append_assoc, vec_len}
 use Rattle.std.specs.Global.{Vec}
+use Rattle.std.specs.List.{All}
 use Rattle.std.proofs.lemmas.List.{length-map, map-append}
 use Rattle.std.proofs.lemmas.List.Elements.{All-nil, All-push}
 use Rattle.bt_cnf.specs.declared.literal.Lit.{Lit}
@@ -15,20 +16,30 @@ use Rattle.bt_sat.specs.declared.progress.Progress.{Progress}
 use Rattle.bt_sat.specs.declared.search.Search.{Search}
 use Rattle.bt_sat.specs.inner.Choices.{KeepsLog}
 use Rattle.bt_sat.specs.inner.Hunting.{Finds, HuntsOn, Meets, StepsOn}
-use Rattle.bt_sat.specs.inner.Levels.{GoesBack, IsHeld, IsReady}
-use Rattle.bt_sat.specs.inner.Progressing.{KeepsFormula}
+use Rattle.bt_sat.specs.inner.Levels.{GoesBack, IsHeld, IsOrdered, IsReady}
+use Rattle.bt_sat.specs.inner.Progressing.{KeepsFormula, Stands}
 use Rattle.bt_sat.proofs.Leveled
 use Rattle.bt_sat.proofs.Served.{served_next, served_none}
 use Rattle.bt_sat.proofs.Visiting.{all_more}
 
 -- the search goes back to a level that it has
-pub ready_back : (all : List (List Lit)) (settled level : ℕ) (old new : Search) → IsReady all settled old → GoesBack level old new → level < length old.starts.items
+pub ready_back : (all : List (List Lit)) (level : ℕ) (old new : Search) → IsOrdered all old → All (IsHeld old) all → GoesBack level old new → level < length old.starts.items
     → IsReady all (length new.assignment.trail.items) new
-ready_back all settled level old new ready back known = record {
-  ordered = Leveled.back_ordered all old new level ready.ordered back;
-  held = all_more (IsHeld old) (IsHeld new) all (Leveled.back_held all old new level ready.ordered back) ready.held;
-  settles = Leveled.back_settled all old new level ready.ordered back known;
+ready_back all level old new ordered held back known = record {
+  ordered = Leveled.back_ordered all old new level ordered back;
+  held = all_more (IsHeld old) (IsHeld new) all (Leveled.back_held all old new level ordered back) held;
+  settles = Leveled.back_settled all old new level ordered back known;
 }
+
+-- the trail is in order, whether a clause is false or not
+pub stands_ordered : (all : List (List Lit)) (settled : ℕ) (s : Search) (conflict : Option ℕ) → Stands all settled s conflict → IsOrdered all s
+stands_ordered all settled s None stands = stands.ordered
+stands_ordered all settled s (Some conflict) stands = stands.ordered
+
+-- all clauses are kept where something was chosen
+pub stands_held : (all : List (List Lit)) (settled : ℕ) (s : Search) (conflict : Option ℕ) → Stands all settled s conflict → 0 < length s.starts.items → All (IsHeld s) all
+stands_held all settled s None stands some = stands.held
+stands_held all settled s (Some conflict) stands some = stands.held some
 
 -- the log is of the same formula still
 pub kept_next : (old mid new : Progress) → KeepsFormula old mid → KeepsFormula mid new → KeepsFormula old new

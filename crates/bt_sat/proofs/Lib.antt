@@ -2,6 +2,7 @@ pub mod Adding
 pub mod Admitted
 pub mod Adopted
 pub mod Advancing
+pub mod Ascending
 pub mod Asserted
 pub mod Attended
 pub mod Back
@@ -29,6 +30,7 @@ pub mod Picking
 pub mod Reasoning
 pub mod Retreated
 pub mod Roots
+pub mod Scores
 pub mod Served
 pub mod Settled
 pub mod Taken

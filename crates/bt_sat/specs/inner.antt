@@ -19,6 +19,7 @@ pub mod Progressing
 pub mod Propagating
 pub mod Reasons
 pub mod Roots
+pub mod Standings
 pub mod Telling
 pub mod Truths
 pub mod Visits

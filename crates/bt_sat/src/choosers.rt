@@ -1,6 +1,8 @@
 //! Three choosers, none of which tells a list.
-ghost use Rattle.std.specs.Prelude.{◌≡◌, ◌<◌, ◌-◌, ◌+◌, [], ◌∷◌, None, length, false, true, OnOk, OnErr};
-ghost use Rattle.bt_cnf.specs.Choosing.{Ascends, Gains};
+ghost use Rattle.std.specs.Prelude.{◌≡◌, ◌<◌, Contains, IfNone, IfSome, None, OnOk, Some, length, slice_get};
+ghost use Rattle.bt_cnf.specs.Choosing.{Ascends};
+ghost use Rattle.bt_sat.specs.Picks.{PicksHighest, PicksLowest, PicksRecent};
+ghost use Rattle.bt_sat.specs.inner.Choices.{IsFirstUnset};
 
 use bt_cnf::{Chooser, Lit, Pick, Var};
 use std::alloc::{AllocError, Global};
@@ -46,6 +48,8 @@ impl Recent {
 impl Chooser for Lowest {
     ghost told_lengths = { λ _. None };
 
+    ghost may_pick = { λ _. PicksLowest };
+
     fn pick(&mut self, _unset: &[Var]) -> Pick {
         Pick {
             place: 0,
@@ -60,6 +64,8 @@ impl Chooser for Lowest {
 
 impl Chooser for Highest {
     ghost told_lengths = { λ _. None };
+
+    ghost may_pick = { λ _. PicksHighest };
 
     fn pick(&mut self, unset: &[Var]) -> Pick {
         Pick {
@@ -76,29 +82,52 @@ impl Chooser for Highest {
 impl Chooser for Recent {
     ghost told_lengths = { λ _. None };
 
-    fn pick(&mut self, unset: &[Var]) -> Pick {
-        let place = first_unset(&self.clause, unset);
+    ghost may_pick = { λ r. PicksRecent r.clause.items };
+
+    fn pick(&mut self, unset: &[Var]) -> Pick
+        requires some { 0 < length unset.now }
+        requires ascending { Ascends unset.now }
+        ensures in_range { result.place < length unset.now }
+        ensures picks { PicksRecent self.old.clause.items unset.now result }
+        ensures keeps { self.new ≡ self.old }
+    {
         Pick {
-            place,
+            place: first_unset(&self.clause, unset),
             positive: false,
         }
     }
 
-    fn told(&mut self, clause: &[Lit]) -> Result<(), AllocError> {
+    fn told(&mut self, clause: &[Lit]) -> Result<(), AllocError>
+        ensures { OnOk result (self.new.clause.items ≡ clause.now) }
+    {
         self.clause.clear();
         self.clause.extend_from_slice(clause)?;
         Ok(())
     }
 }
 
-// The place among the unset variables of the first one that a literal has, or 0.
+/// The place of a variable among unset ones, where it is one of them.
+fn place_of(unset: &[Var], var: Var) -> Option<usize>
+    requires { Ascends unset.now }
+    ensures some { IfSome result (λ place. slice_get unset.now place ≡ Some var) }
+    ensures none { IfNone result (Contains unset.now var → ⊥) }
+{
+    let place = unset.partition_point(|other| other.place() < var.place());
+    if place < unset.len() && unset[place] == var {
+        return Some(place);
+    }
+    None
+}
+
+/// The place among the unset variables of the first one that a literal has, or 0.
 fn first_unset(clause: &[Lit], unset: &[Var]) -> usize
-    requires { 0 < length unset.now }
-    ensures { result < length unset.now }
+    requires some { 0 < length unset.now }
+    requires ascending { Ascends unset.now }
+    ensures inside { result < length unset.now }
+    ensures first { IsFirstUnset clause.now unset.now result }
 {
     for lit in clause {
-        let place = unset.partition_point(|var| var.place() < lit.var.place());
-        if place < unset.len() && unset[place] == lit.var {
+        if let Some(place) = place_of(unset, lit.var) {
             return place;
         }
     }

@@ -1,6 +1,7 @@
 //! Choosing what to set next.
 ghost use Rattle.std.specs.Prelude.{◌≡◌, ◌<◌, length, map, OnOk, IfOk, None, vec_len};
 ghost use Rattle.bt_cnf.specs.Choosing.{Ascends};
+ghost use Rattle.bt_sat.specs.Picks.{AsksFirst};
 ghost use Rattle.bt_sat.specs.inner.Choices.{BeginsLevel, Decides, ListsUnset};
 ghost use Rattle.bt_sat.specs.inner.Progressing.{IsRunning, KeepsFormula};
 
@@ -10,11 +11,13 @@ use crate::search::Search;
 use bt_cnf::{Chooser, Lit, Pick, Var};
 use std::alloc::AllocError;
 
-/// Asks the chooser that serves. Where there is none, the lowest variable is set to false.
-fn ask<C: Chooser>(choosers: &mut Vec<C>, unset: &[Var]) -> Pick
+/// Asks the first chooser, which is the one that serves. Where there is none, the lowest variable is set to
+/// false.
+pub fn ask<C: Chooser>(choosers: &mut Vec<C>, unset: &[Var]) -> Pick
     requires some { 0 < length unset.now }
     requires ascending { Ascends unset.now }
     ensures in_range { result.place < length unset.now }
+    ensures asks { AsksFirst C.may_pick choosers.old.items unset.now result }
     ensures same { map C.told_lengths choosers.new.items ≡ map C.told_lengths choosers.old.items }
     ensures count { vec_len choosers.new ≡ vec_len choosers.old }
 {

@@ -22,15 +22,15 @@ pub enum Found {
     Spent,
 }
 
-/// Goes back to what was true before the first choice.
-fn restart(progress: &mut Progress)
-    requires running { IsRunning progress.old }
-    requires none { progress.old.conflict ≡ None }
+/// Goes back to what was true before the first choice. There no clause is known to be false.
+pub fn restart(progress: &mut Progress)
+    requires { IsRunning progress.old }
     ensures { Restarts progress.old progress.new }
 {
     if progress.search.starts.len() > 0 {
         go_back(&mut progress.search, 0);
         progress.settled = progress.search.assignment.trail.len();
+        progress.conflict = None;
     }
 }
 
@@ -61,7 +61,7 @@ fn meet<C: Chooser>(
             progress.served = tell(choosers, served, &progress.lesson.lits)?;
             Ok(Some(Found::Refuted))
         }
-        Taught::Lacks => Ok(Some(Found::Spent)),
+        Taught::Spent => Ok(Some(Found::Spent)),
     }
 }
 

@@ -25,7 +25,7 @@ pub enum Stage {
     /// The log refutes the formula.
     Refuted,
     /// The log has no room for one more step.
-    Full,
+    Spent,
     /// Memory ran out.
     Lost,
 }
@@ -56,7 +56,7 @@ fn stage_of(answer: &Answer) -> Stage
     match answer {
         Answer::Model(_) => Stage::Complete,
         Answer::Refuted => Stage::Refuted,
-        Answer::Spent => Stage::Full,
+        Answer::Spent => Stage::Spent,
     }
 }
 
@@ -105,7 +105,7 @@ impl Kernel {
         match self.stage {
             Stage::Running | Stage::Complete => self.go_on(choosers),
             Stage::Refuted => Ok(Answer::Refuted),
-            Stage::Full => Ok(Answer::Spent),
+            Stage::Spent => Ok(Answer::Spent),
             Stage::Lost => Err(AllocError),
         }
     }

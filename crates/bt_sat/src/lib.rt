@@ -1,6 +1,7 @@
 //! A search for models of formulas that learns clauses, and the choosers that it comes with.
 #![tactic(auto)]
 
+mod active;
 mod agenda;
 mod analysis;
 mod assignment;
@@ -27,7 +28,9 @@ mod unset;
 mod watched;
 mod watchers;
 
+pub use active::{Active, FIRST_BUMP, MOST_BUMP, MOST_SCORE};
 pub use choosers::{Highest, Lowest, Recent};
+pub use choosing::ask;
 pub use law::{fresh_steps_are_few, only_empty_after_conflict, settled_is_open};
 pub use solver::{Added, Answer, EPOCH_STEPS, Solver};
 pub use std::alloc::AllocError as Memory;

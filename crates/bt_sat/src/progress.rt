@@ -34,7 +34,7 @@ pub enum Taught {
     /// The empty clause was learnt.
     Refutes,
     /// The log has no room for the clause that would be learnt.
-    Lacks,
+    Spent,
 }
 
 /// Lets follow what follows.
@@ -65,7 +65,7 @@ pub fn learn(progress: &mut Progress, conflict: usize) -> Result<Taught, AllocEr
         conflict,
     )?;
     if progress.known.log.len() as u64 == progress.limit {
-        return Ok(Taught::Lacks);
+        return Ok(Taught::Spent);
     }
     let hints = &progress.lesson.analysis.hints;
     if progress.lesson.lits.is_empty() {

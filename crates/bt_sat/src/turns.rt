@@ -8,7 +8,7 @@ ghost use Rattle.bt_sat.specs.inner.Kernels.{AddsTo, AnswersBy, model_of, value_
 ghost use Rattle.bt_sat.specs.inner.Progressing.{HasRoom, IsNextStep, IsRunning, KeepsFormula};
 ghost use Rattle.bt_sat.specs.inner.Truths.{IsFalseIn};
 
-use crate::hunt::{Found, hunt};
+use crate::hunt::{Found, hunt, restart};
 use crate::lemmas::take_lemma;
 use crate::progress::Progress;
 use crate::serving::tell;
@@ -60,7 +60,8 @@ pub fn answer<C: Chooser>(
     }
 }
 
-/// Adds a lemma whose literals are all false, and tells the chooser that serves.
+/// Adds a lemma whose literals are all false, tells the chooser that serves, and restarts where its epoch
+/// ends.
 pub fn add<C: Chooser>(
     progress: &mut Progress,
     choosers: &mut Vec<C>,
@@ -80,5 +81,8 @@ pub fn add<C: Chooser>(
     let served = progress.served;
     take_lemma(progress, lits, weights)?;
     progress.served = tell(choosers, served, lits)?;
+    if progress.served <= served {
+        restart(progress);
+    }
     Ok(())
 }

@@ -1,5 +1,5 @@
 -- Choosing what to set next.
-use Rattle.std.specs.Prelude.{◌≡◌, ◌⊎◌, ◌<◌, ◌≤◌, ℕ, Bool, true, false, List, [], ◌∷◌, ◌++◌, Option, Some, None, length, slice_index_or, Contains}
+use Rattle.std.specs.Prelude.{◌≡◌, ◌⊎◌, ◌<◌, ◌≤◌, ℕ, Bool, true, false, List, [], ◌∷◌, ◌++◌, Option, Some, None, length, slice_get, slice_index_or, Contains}
 use Rattle.std.specs.List.{All}
 use Rattle.std.specs.Option.{is_none}
 use Rattle.bt_cnf.specs.Choosing.{Ascends}
@@ -82,3 +82,9 @@ Decides old new false = KeepsLog old new × IsComplete new
 abbrev pub Descends : Progress → Progress → Option ℕ → Type 0
 Descends old new (Some conflict) = KeepsLog old new × IsRunning new × (new.conflict ≡ Some conflict)
 Descends old new None = KeepsLog old new × IsComplete new
+
+-- the variable at this place is the first of the clause's variables that is among those without a value; or none of them
+-- is, and the place is the first
+abbrev pub IsFirstUnset : List Lit → List ℕ → ℕ → Type 0
+IsFirstUnset [] unset place = place ≡ 0
+IsFirstUnset (l ∷ clause) unset place = (slice_get unset place ≡ Some l.var) ⊎ ((Contains unset l.var → ⊥) × IsFirstUnset clause unset place)

@@ -33,7 +33,7 @@ pub record IsRefuted (p : Progress) : Type 0 where
   pub next : IsNextStep before (Learnt [] hints)
 
 -- the log has no room for one more step
-pub record IsFull (p : Progress) : Type 0 where
+pub record HasSpent (p : Progress) : Type 0 where
   pub logged : IsLogged p.known p.limit
   pub full : length p.known.log.steps ≡ p.limit
   pub step : Step
@@ -43,7 +43,7 @@ pub record IsFull (p : Progress) : Type 0 where
 abbrev pub Finds : Progress → Found → Type 0
 Finds p Model = IsComplete p
 Finds p Refuted = IsRefuted p
-Finds p Spent = IsFull p
+Finds p Spent = HasSpent p
 
 -- one learnt step was added, of which the choosers were told
 pub record StepsOn (old : Progress) (waiting : List (Option (List ℕ))) (new : Progress) (left : List (Option (List ℕ))) : Type 0 where
@@ -59,7 +59,7 @@ abbrev pub Meets : Progress → List (Option (List ℕ)) → Progress → List (
 Meets old waiting new left None = StepsOn old waiting new left × IsRunning new
 Meets old waiting new left (Some Model) = ⊥
 Meets old waiting new left (Some Refuted) = StepsOn old waiting new left × IsRefuted new
-Meets old waiting new left (Some Spent) = KeepsLog old new × (left ≡ waiting) × IsFull new
+Meets old waiting new left (Some Spent) = KeepsLog old new × (left ≡ waiting) × HasSpent new
 
 -- what comes of the search
 abbrev pub Hunts : Progress → List (Option (List ℕ)) → Progress → List (Option (List ℕ)) → Found → Type 0

@@ -8,9 +8,9 @@ use Rattle.bt_sat.specs.declared.progress.Progress.{Progress}
 use Rattle.bt_sat.specs.declared.solver.Answer.{Answer}
 use Rattle.bt_sat.specs.declared.solver.Answer.TheVariants as answer
 use Rattle.bt_sat.specs.declared.kernel.Stage.{Stage}
-use Rattle.bt_sat.specs.declared.kernel.Stage.TheVariants.{Running, Complete, Refuted, Full, Lost}
+use Rattle.bt_sat.specs.declared.kernel.Stage.TheVariants.{Running, Complete, Refuted, Spent, Lost}
 use Rattle.bt_sat.specs.inner.Choices.{IsComplete}
-use Rattle.bt_sat.specs.inner.Hunting.{HuntsOn, IsFull, IsRefuted}
+use Rattle.bt_sat.specs.inner.Hunting.{HuntsOn, HasSpent, IsRefuted}
 use Rattle.bt_sat.specs.inner.Progressing.{IsRunning, LogsStep}
 use Rattle.bt_sat.specs.inner.Telling.{Tells}
 
@@ -28,7 +28,7 @@ abbrev pub standing_of : Stage → List (Option Bool) → Standing
 standing_of Running values = Searches
 standing_of Complete values = KeepsModel (model_of values)
 standing_of Refuted values = EndsRefuted
-standing_of Full values = EndsSpent
+standing_of Spent values = EndsSpent
 standing_of Lost values = LacksMemory
 
 -- what callers see of a search
@@ -46,7 +46,7 @@ abbrev pub StandsAt : Progress → Stage → Type 0
 StandsAt p Running = IsRunning p × (p.served ≤ length p.known.log.steps)
 StandsAt p Complete = IsComplete p × (p.served ≤ length p.known.log.steps)
 StandsAt p Refuted = IsRefuted p
-StandsAt p Full = IsFull p
+StandsAt p Spent = HasSpent p
 StandsAt p Lost = Unit {0}
 
 -- the log follows the formula, and the search is where its stage says
@@ -58,7 +58,7 @@ pub record IsSound (p : Progress) (stage : Stage) : Type 0 where
 abbrev pub Comes : Progress → Answer → Type 0
 Comes p (answer.Model model) = IsComplete p × (model.items ≡ model_of p.search.assignment.values)
 Comes p answer.Refuted = IsRefuted p
-Comes p answer.Spent = IsFull p
+Comes p answer.Spent = HasSpent p
 
 -- learnt steps were added, and the answer holds
 abbrev pub AnswersBy : Progress → List (Option (List ℕ)) → Progress → List (Option (List ℕ)) → Answer → Type 0
@@ -68,7 +68,7 @@ AnswersBy old waiting new left answer = HuntsOn old waiting new left × Comes ne
 abbrev pub stage_after : Answer → Stage
 stage_after (answer.Model model) = Complete
 stage_after answer.Refuted = Refuted
-stage_after answer.Spent = Full
+stage_after answer.Spent = Spent
 
 -- the search has not come to its end
 abbrev pub MayGoOn : Standing → Type 0

@@ -9,7 +9,7 @@ use Rattle.bt_sat.specs.Solving.{AreFresh, AreNonempty}
 use Rattle.bt_sat.specs.declared.known.Known.{Known}
 use Rattle.bt_sat.specs.declared.progress.Progress.{Progress}
 use Rattle.bt_sat.specs.declared.progress.Taught.{Taught}
-use Rattle.bt_sat.specs.declared.progress.Taught.TheVariants.{Goes, Refutes, Lacks}
+use Rattle.bt_sat.specs.declared.progress.Taught.TheVariants.{Goes, Refutes, Spent}
 use Rattle.bt_sat.specs.declared.search.Search.{Search}
 use Rattle.bt_sat.specs.inner.Known.{clauses_in}
 use Rattle.bt_sat.specs.inner.Levels.{IsReady, IsInConflict}
@@ -59,7 +59,7 @@ Teaches old new Goes =
 Teaches old new Refutes =
     (new.limit ≡ old.limit) × (new.served ≡ old.served) × HasRoom old × (new.lesson.lits.items ≡ [])
     × ((hints : List ℕ) × LogsStep old.known new.known (Learnt [] hints) × IsNextStep old.known (Learnt [] hints))
-Teaches old new Lacks =
+Teaches old new Spent =
     (new.known ≡ old.known) × (new.limit ≡ old.limit) × (new.served ≡ old.served) × (length old.known.log.steps ≡ old.limit)
     × ((step : Step) × IsNextStep old.known step)
 
