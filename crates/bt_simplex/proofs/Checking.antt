@@ -1,5 +1,6 @@
 -- What a check answers, by where its run ends.
-use Rattle.std.proofs.Common.{◌≡◌, ℕ, ◌≤◌, length, ap, sym, ◌∙◌, subst}
+use Rattle.std.proofs.Common.{◌≡◌, ℕ, ◌<◌, ◌≤◌, length, ap, sym, ◌∙◌, subst}
+use Rattle.bt_simplex.specs.Counting.{most_bases}
 use Rattle.bt_simplex.specs.SolvedForms.{Slots}
 use Rattle.bt_simplex.specs.Tableaus.{TableauParts, IsTableau}
 use Rattle.bt_simplex.specs.Turns.{IsMet, IsStuckAt, Follows}
@@ -15,6 +16,7 @@ use Rattle.bt_simplex.specs.declared.running.End.TheVariants.{Met, Stuck, Pivots
 use Rattle.bt_simplex.specs.inner.Bases.{with_slots}
 use Rattle.bt_simplex.specs.inner.Checking.{IsWideFor}
 use Rattle.bt_simplex.specs.inner.Runs.{IsEnd, IsRun}
+use Rattle.bt_simplex.proofs.FewTurns.{few_turns}
 
 module _ (pivots : ℕ) (t : TableauParts) (start : Slots) (run : Run) (start_is : start ≡ t.slots) (is : IsRun pivots t start run) where
   follows : Follows t run.turns.items is.last
@@ -65,11 +67,12 @@ module _ (pivots : ℕ) (t : TableauParts) (start : Slots) (run : Run) (start_is
   pub run_wide : (cause : Cause) → run.end ≡ TooWide cause → (answer : Wide) → IsWideFor t run.turns.items run.basis cause answer → IsWideCheck pivots t answer
   run_wide cause e answer = wide cause answer (ends (TooWide cause) e)
 
-  pub pivots_answer : run.end ≡ Pivots → (trail : Trail) → StartsAt t trail → trail.turns.items ≡ run.turns.items → IsPivots pivots t trail
-  pivots_answer e trail starts same =
+  pub pivots_answer : IsTableau t → run.end ≡ Pivots → (trail : Trail) → StartsAt t trail → trail.turns.items ≡ run.turns.items → IsPivots pivots t trail
+  pivots_answer tableau e trail starts same =
       let h = ends Pivots e in
       record {
         starts = starts;
+        few = subst (λ n. n < most_bases t.columns t.rows) h.0 (few_turns t run.turns.items is.last tableau follows);
         goes_on = record {
           many = ap length same ∙ h.0;
           last = is.last;

@@ -282,7 +282,7 @@ stands_told t p terms row point above slot is_bound same told =
     )
 
 -- two points aren't each less than the other
-never_both : (a b : Delta) → IsLessDelta a b → IsLessDelta b a → ⊥
+pub never_both : (a b : Delta) → IsLessDelta a b → IsLessDelta b a → ⊥
 never_both a b (inl h) (inl k) = never (a.value.over *ℤ pos b.value.under) (b.value.over *ℤ pos a.value.under) h k
   where
     never : (x y : ℤ) → x <ℤ y → y <ℤ x → ⊥

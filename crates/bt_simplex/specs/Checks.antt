@@ -1,5 +1,5 @@
 -- What a check of a tableau answers.
-use Rattle.std.specs.Prelude.{◌≡◌, ℕ, ◌+◌, ◌≤◌, List, [], ◌∷◌, length, Bool, true, false, slice_index_or}
+use Rattle.std.specs.Prelude.{◌≡◌, ℕ, ◌+◌, ◌<◌, ◌≤◌, List, [], ◌∷◌, length, Bool, true, false, slice_index_or}
 use Rattle.std.specs.List.{All}
 use Rattle.bt_frac.specs.Ratio.{Ratio}
 use Rattle.bt_frac.specs.Columns.{AreColumnsFrom}
@@ -7,6 +7,7 @@ use Rattle.bt_frac.specs.Rows.{columns_of}
 use Rattle.bt_frac.specs.Values.{value_in, RowHolds}
 use Rattle.bt_lin.specs.Farkas.{IsFarkas}
 use Rattle.bt_lin.specs.WeightedRows.{empty_row}
+use Rattle.bt_simplex.specs.Counting.{most_bases}
 use Rattle.bt_simplex.specs.SolvedForms.{basis_of}
 use Rattle.bt_simplex.specs.Tableaus.{TableauParts}
 use Rattle.bt_simplex.specs.Turns.{IsMet, IsStuckAt, Follows}
@@ -46,9 +47,10 @@ pub record StartsAt (t : TableauParts) (trail : Trail) : Type 0 where
   pub start : trail.start.items ≡ basis_of t.slots
   pub bound : trail.bound.items ≡ bound_from 0 t.bound
 
--- the trail has so many turns of Bland's rule, and the basis that they lead to isn't final
+-- the trail has so many turns of Bland's rule, which are fewer than there are bases, and the basis that they lead to isn't final
 pub record IsPivots (pivots : ℕ) (t : TableauParts) (trail : Trail) : Type 0 where
   pub starts : StartsAt t trail
+  pub few : pivots < most_bases t.columns t.rows
   pub goes_on : GoesOn pivots t trail.turns.items
 
 -- the operation and what it was for

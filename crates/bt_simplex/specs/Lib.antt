@@ -1,6 +1,7 @@
 pub mod Causes
 pub mod Checks
 pub mod Classes
+pub mod Counting
 pub mod Laws
 pub mod Lines
 pub mod Points

@@ -24,7 +24,7 @@ mod turning;
 mod workspace;
 
 pub use answers::{Check, Operation, Trail, Wide, WidePlace};
-pub use law::one_solved_form;
+pub use law::{ascending_lists_are_few, no_basis_comes_back, one_solved_form};
 pub use starting::are_over;
 pub use std::alloc::AllocError as Memory;
 pub use tableau::{Tableau, Turn};
