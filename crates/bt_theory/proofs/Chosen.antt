@@ -47,16 +47,21 @@ more_settled model chosen more lits grows h =
 pub all_settled : (model chosen more : List Bool) (clauses : List (List Lit)) → IsWithin more chosen → All (HasSettled model chosen) clauses → All (HasSettled model more) clauses
 all_settled model chosen more clauses grows h = λ k d l. more_settled model chosen more (get_or clauses k d) grows (h k d l)
 
+-- what holds of the clauses before a place holds of one more
+pub one_more : (P : List Lit → Type 0) (clauses : List (List Lit)) (place id : ℕ) (clause : List Lit) → slice_get clauses id ≡ Some clause → id ≡ place → All P (take place clauses) → P clause
+    → All P (take (place + 1) clauses)
+one_more P clauses place id clause at same h here =
+    let got = get_or_from_slice_get clauses id clause clause at in
+    let l : place < length clauses = subst (λ k. k < length clauses) same (slice_get_within clauses id clause at) in
+    All-more P clauses place clause l h (subst P (sym (ap (λ k. get_or clauses k clause) (sym same) ∙ got)) here)
+
 -- one more clause is settled
 pub chosen_more : (model chosen more : List Bool) (clauses : List (List Lit)) (place id : ℕ) (clause : List Lit) → slice_get clauses id ≡ Some clause → id ≡ place
     → IsChosen model chosen (take place clauses) → length more ≡ length chosen → IsWithin model more → IsWithin more chosen → HasSettled model more clause
     → IsChosen model more (take (place + 1) clauses)
 chosen_more model chosen more clauses place id clause at same h size within grows settled =
-    let got = get_or_from_slice_get clauses id clause clause at in
-    let l : place < length clauses = subst (λ k. k < length clauses) same (slice_get_within clauses id clause at) in
     record {
       size = size ∙ h.size;
       within = within;
-      settled = All-more (HasSettled model more) clauses place clause l (all_settled model chosen more (take place clauses) grows h.settled)
-          (subst (HasSettled model more) (sym (ap (λ k. get_or clauses k clause) (sym same) ∙ got)) settled);
+      settled = one_more (HasSettled model more) clauses place id clause at same (all_settled model chosen more (take place clauses) grows h.settled) settled;
     }

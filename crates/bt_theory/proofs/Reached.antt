@@ -1,6 +1,7 @@
 -- Turns of Bland's rule lead from reachable bases to reachable ones.
 use Rattle.std.proofs.Common.{◌≡◌, ℕ, Bool, List, [], ◌∷◌, map, ap, sym, ◌∙◌, refl, subst}
 use Rattle.std.specs.List.{All}
+use Rattle.bt_cnf.specs.Assignments.{truth_in}
 use Rattle.bt_cnf.specs.Formulas.{FormulaParts}
 use Rattle.bt_cnf.specs.Meeting.{MeetsClause}
 use Rattle.bt_simplex.specs.SolvedForms.{IsSolvedForm, basis_of}
@@ -38,3 +39,12 @@ module _ (f : FormulaParts) where
         guided = record { assignment = assignment; meets = meets; bound = refl };
         reachable = reach;
       })
+
+-- what a tableau of the formula is doesn't depend on which rows are bound
+pub table_bound : (f : FormulaParts) (t t' : TableauParts) (bound : List Bool) → t' ≡ record t { bound = bound } → IsTableauOf f t → IsTableauOf f t'
+table_bound f t t' bound e table = subst (IsTableauOf f) (sym e) (record { rows = table.rows; columns = table.columns; solved = table.solved })
+
+-- the rows that are bound are those of the assignment that was lent
+pub bound_for : (t t' : TableauParts) (atoms : List ℕ) (chosen lent : List Bool) → lent ≡ chosen → t' ≡ record t { bound = map (truth_in lent) atoms }
+    → t' ≡ record t { bound = map (truth_in chosen) atoms }
+bound_for t t' atoms chosen lent e h = h ∙ ap (λ list. record t { bound = map (truth_in list) atoms }) e

@@ -1,7 +1,7 @@
 -- What one round comes to.
 use Rattle.std.proofs.Common.{◌≡◌, ℕ, ◌<◌, Bool, true, false, List, [], ◌∷◌, ◌++◌, length, get_or, map, Option, Some, None, ap, sym, ◌∙◌, refl, subst, arith, length-append}
 use Rattle.std.specs.Prelude.{Contains, Ok}
-use Rattle.std.specs.List.{All, AllZip, zip}
+use Rattle.std.specs.List.{All, Any, AllZip}
 use Rattle.std.proofs.lemmas.Bool.{false≢true}
 use Rattle.std.proofs.lemmas.List.{length-map, get_or-map}
 use Rattle.std.proofs.lemmas.List.Elements.{All-nil, All-cons, All-head, All-tail, All-append, All-map, All-contains, All-weaker, Contains-get_or, Contains-append_left}
@@ -19,19 +19,22 @@ use Rattle.bt_sat.specs.Solving.{SolverParts, IsLearnt, GoesOnBy, IsSoundLog, Is
 use Rattle.bt_sat.specs.Answering.{GivesNext}
 use Rattle.bt_sat.specs.declared.solver.Answer.{Answer}
 use Rattle.bt_sat.specs.declared.solver.Answer.TheVariants as answer
-use Rattle.bt_sat.specs.declared.solver.Added.TheVariants as added
 use Rattle.bt_simplex.specs.SolvedForms.{basis_of}
+use Rattle.bt_simplex.specs.Weights.{weighted_rows}
 use Rattle.bt_simplex.specs.Tableaus.{TableauParts}
+use Rattle.bt_simplex.specs.Runs.{LeadsTo}
 use Rattle.bt_simplex.specs.Checks.{IsBound, MeetsBoundRows, RefutesBoundRows}
 use Rattle.bt_theory.specs.Reaching.{atom_rows, atom_vars, IsTableauOf, IsReachable, IsReached}
-use Rattle.bt_theory.specs.Outcomes.{FitsLemma, Fits, IsSound, IsUsedUp}
+use Rattle.bt_theory.specs.Outcomes.{IsSolution, FitsLemma, Fits, IsSound, IsUsedUp}
 use Rattle.bt_theory.specs.inner.Choosing.{IsChosen}
-use Rattle.bt_theory.specs.inner.Rounds.{negations, weights_of, IsReady, HasModel, MakesLemma, IsLemmaAdded, IsEnd, IsRound}
+use Rattle.bt_theory.specs.inner.Rounds.{IsReady, HasModel, HasChosen, MakesLemma, IsLemmaLearnt, IsEnd, IsRound}
+use Rattle.bt_theory.specs.inner.Scopes.{negations, IsConflictOf, AreAtoms, IsScopeOf, IsConflict, IsConflictIn}
+use Rattle.bt_theory.specs.declared.lemma.Conflict.{Conflict}
 use Rattle.bt_theory.specs.declared.round.End.{End}
 use Rattle.bt_theory.specs.declared.round.End.TheVariants as end
 use Rattle.bt_theory.proofs.Truths.{below_true}
 use Rattle.bt_theory.proofs.Chosen.{chosen_meets}
-use Rattle.bt_theory.proofs.Reached.{bound_reached}
+use Rattle.bt_theory.proofs.Reached.{reached_on, bound_reached}
 
 -- what holds of all of a list holds of all of its front
 pub all_front : {X : Type 0} (P : X → Type 0) (xs ys : List X) → All P (xs ++ ys) → All P xs
@@ -102,119 +105,158 @@ row_at f k d l = get_or-map (λ a. a.1) f.atoms k d empty_row l
 var_at : (f : FormulaParts) (k : ℕ) (d : ℕ × RowParts) → k < length f.atoms → get_or (atom_vars f) k 0 ≡ (get_or f.atoms k d).0
 var_at f k d l = get_or-map (λ a. a.0) f.atoms k d 0 l
 
+-- the formula's atoms with their rows
+pub all_atoms : (f : FormulaParts) → AreAtoms f (atom_vars f) (atom_rows f)
+all_atoms f =
+    record {
+      paired = length-map f.atoms (λ a. a.0) ∙ sym (length-map f.atoms (λ a. a.1));
+      have = λ k l.
+          let d : ℕ × RowParts = (0, empty_row) in
+          let within : k < length f.atoms = (let long = length-map f.atoms (λ a. a.0) in omega (arith, l, long)) in
+          let p = get_or f.atoms k d in
+          subst (λ v. Contains f.atoms (v, get_or (atom_rows f) k empty_row)) (sym (var_at f k d within))
+          (subst (λ r. Contains f.atoms (p.0, r)) (sym (row_at f k d within)) (Contains-get_or f.atoms k d within));
+    }
+
+-- ---- a solution
+
+module _ (f : FormulaParts) (t : TableauParts) (chosen : List Bool) (table : IsTableauOf f t) (bound_are : t.bound ≡ map (truth_in chosen) (atom_vars f))
+    (meets : All (MeetsClause (truth_in chosen)) f.clauses) where
+  count : length (atom_vars f) ≡ length f.atoms
+  count = length-map f.atoms (λ a. a.0)
+
+  is_chosen : (row : ℕ) → row < length f.atoms → get_or t.bound row false ≡ truth_in chosen (get_or (atom_vars f) row 0)
+  is_chosen row l = ap (λ b. get_or b row false) bound_are ∙ get_or-map (truth_in chosen) (atom_vars f) row 0 false (omega (arith, l, count))
+
+  values_meet : (values : List Ratio) → MeetsBoundRows t values → Meets f (truth_in chosen) (value_in values)
+  values_meet values holds =
+      record {
+        clauses = meets;
+        atoms = λ k d l h.
+            let is_bound = is_chosen k l ∙ ap (truth_in chosen) (var_at f k d l) ∙ h in
+            subst (λ r. RowHolds r (value_in values)) (ap (λ rows. get_or rows k empty_row) table.rows ∙ row_at f k d l) (holds.holds k is_bound);
+      }
+
+  pub solves : (values : List Ratio) → length chosen ≡ f.vars → MeetsBoundRows t values → IsSolution f values chosen
+  solves values size holds = record { columns = holds.columns ∙ table.columns; variables = size; meets = values_meet values holds }
+
+-- ---- a conflict
+
+module _ (atoms : List ℕ) (t : TableauParts) (chosen : List Bool) (bound_are : t.bound ≡ map (truth_in chosen) atoms) (weighed : List (ℕ × Ratio)) (refutes : RefutesBoundRows t weighed) where
+  -- a row that is bound is that of an atom which is chosen
+  bound_row : (row : ℕ) → IsBound t row → row < length atoms
+  bound_row row h =
+      let l = below_true t.bound row h in
+      let long = ap length bound_are ∙ length-map atoms (truth_in chosen) in
+      omega (arith, l, long)
+
+  row_chosen : (row : ℕ) → IsBound t row → truth_in chosen (get_or atoms row 0) ≡ true
+  row_chosen row h = sym (ap (λ b. get_or b row false) bound_are ∙ get_or-map (truth_in chosen) atoms row 0 false (bound_row row h)) ∙ h
+
+  pub rows_below : All (λ w. w.0 < length atoms) weighed
+  rows_below = λ k d l. bound_row (get_or weighed k d).0 (refutes.bound k d l)
+
+  pub conflict_in : (conflict : Conflict) (rows : List RowParts) → t.rows ≡ rows → IsConflictOf atoms weighed conflict → IsConflictIn chosen conflict (atoms, rows)
+  conflict_in conflict rows same is =
+      record {
+        weighed = weighed;
+        below = rows_below;
+        is = is;
+        holds = λ k d l. row_chosen (get_or weighed k d).0 (refutes.bound k d l);
+        accepted = subst (λ r. IsFarkas (weighted_rows r weighed) (Ok true)) same refutes.accepted;
+      }
+
 -- the negation of a place's atom negates its row
-negates : (f : FormulaParts) (k : ℕ) → k < length f.atoms → NegatesAtom f (record { var = get_or (atom_vars f) k 0; positive = false }) (get_or (atom_rows f) k empty_row)
-negates f k l =
-    let d : ℕ × RowParts = (0, empty_row) in
-    let p = get_or f.atoms k d in (
-      refl,
-      subst (λ v. Contains f.atoms (v, get_or (atom_rows f) k empty_row)) (sym (var_at f k d l))
-          (subst (λ r. Contains f.atoms (p.0, r)) (sym (row_at f k d l)) (Contains-get_or f.atoms k d l)),
-    )
+all_negate : (f : FormulaParts) (atoms : List ℕ) (rows : List RowParts) (weighed : List (ℕ × Ratio)) → AreAtoms f atoms rows → All (λ w. w.0 < length atoms) weighed
+    → AllZip (NegatesAtom f) (negations atoms weighed) (picked rows (map (λ w. w.0) weighed))
+all_negate f atoms rows [] are h = tt
+all_negate f atoms rows (w ∷ weighed) are h =
+    ((refl, are.have w.0 (All-head (λ v. v.0 < length atoms) w weighed h)), all_negate f atoms rows weighed are (All-tail (λ v. v.0 < length atoms) w weighed h))
 
-all_negate : (f : FormulaParts) (weighed : List (ℕ × Ratio)) → All (λ w. w.0 < length f.atoms) weighed
-    → AllZip (NegatesAtom f) (negations (atom_vars f) weighed) (picked (atom_rows f) (map (λ w. w.0) weighed))
-all_negate f [] h = tt
-all_negate f (w ∷ weighed) h = (negates f w.0 (All-head (λ v. v.0 < length f.atoms) w weighed h), all_negate f weighed (All-tail (λ v. v.0 < length f.atoms) w weighed h))
+-- a conflict among atoms of the formula is one of the formula
+pub conflict_is : (f : FormulaParts) (chosen : List Bool) (conflict : Conflict) (atoms : List ℕ) (rows : List RowParts) → AreAtoms f atoms rows → IsConflictIn chosen conflict (atoms, rows)
+    → IsConflict f chosen conflict
+conflict_is f chosen conflict atoms rows are found =
+    record {
+      fits = subst (λ lits. FitsLemma f lits conflict.weights.items) (sym found.is.0)
+          (subst (FitsLemma f (negations atoms found.weighed)) (sym found.is.1)
+          (record { rows = picked rows (map (λ w. w.0) found.weighed); negated = all_negate f atoms rows found.weighed are found.below; accepted = found.accepted }));
+      counted = ap length found.is.1 ∙ length-map found.weighed (λ w. w.1)
+          ∙ sym (ap length found.is.0 ∙ length-map found.weighed (λ w. record { var = get_or atoms w.0 0; positive = false }));
+      unmet = subst (All (λ l. (l.positive ≡ false) × (truth_in chosen l.var ≡ true))) (sym found.is.0)
+          (All-map (λ l. (l.positive ≡ false) × (truth_in chosen l.var ≡ true)) (λ w. record { var = get_or atoms w.0 0; positive = false }) found.weighed
+          (λ k d l. (refl, found.holds k d l)));
+    }
 
-module _ (s : SolverParts) (t0 t1 : TableauParts) (model chosen : List Bool) (atoms : List ℕ) (pivots : ℕ) (ready : IsReady s t0) (atoms_are : atoms ≡ atom_vars s.formula)
-    (has : HasModel s model) (chose : IsChosen model chosen s.formula.clauses) (bound_is : t1 ≡ record t0 { bound = map (truth_in chosen) atoms }) where
+-- a conflict in one of the scopes
+pub conflict_among : (f : FormulaParts) (chosen : List Bool) (conflict : Conflict) (scopes : List (List ℕ × List RowParts)) → All (IsScopeOf f) scopes → Any (IsConflictIn chosen conflict) scopes
+    → IsConflict f chosen conflict
+conflict_among f chosen conflict scopes are (k, parts, l, at, found) =
+    conflict_is f chosen conflict parts.0 parts.1 (subst (IsScopeOf f) at (are k parts l)) found
+
+-- ---- all rows
+
+module _ (s : SolverParts) (t0 t1 : TableauParts) (chosen : List Bool) (atoms : List ℕ) (pivots : ℕ) (ready : IsReady s t0) (atoms_are : atoms ≡ atom_vars s.formula)
+    (of_model : HasChosen s chosen) (bound_is : t1 ≡ record t0 { bound = map (truth_in chosen) atoms }) where
   meets : All (MeetsClause (truth_in chosen)) s.formula.clauses
-  meets = chosen_meets model chosen s.formula.clauses chose
+  meets = chosen_meets of_model.model chosen s.formula.clauses of_model.chose
 
   pub reached : IsReached s.formula t1
   reached =
       bound_reached s.formula t0 t1 (truth_in chosen) (bound_is ∙ ap (λ vars. record t0 { bound = map (truth_in chosen) vars }) atoms_are) meets ready.tableau ready.reachable
 
-  rows_are : t1.rows ≡ atom_rows s.formula
-  rows_are = reached.tableau.rows
-
   bound_are : t1.bound ≡ map (truth_in chosen) (atom_vars s.formula)
-  bound_are = ap (λ x. x.bound) bound_is ∙ ap (map (truth_in chosen)) atoms_are
+  bound_are = ap (λ (x : TableauParts). x.bound) bound_is ∙ ap (map (truth_in chosen)) atoms_are
 
-  count : length (atom_vars s.formula) ≡ length s.formula.atoms
-  count = length-map s.formula.atoms (λ a. a.0)
+  pub solves_all : (values : List Ratio) → MeetsBoundRows t1 values → IsSolution s.formula values chosen
+  solves_all values holds = solves s.formula t1 chosen reached.tableau bound_are meets values (of_model.chose.size ∙ of_model.has.is_model.size) holds
 
-  -- a row that is bound is that of an atom which is chosen
-  bound_row : (row : ℕ) → IsBound t1 row → row < length s.formula.atoms
-  bound_row row h =
-      let l = below_true t1.bound row h in
-      let long = ap length bound_are ∙ length-map (atom_vars s.formula) (truth_in chosen) in
-      omega (arith, l, long, count)
+  pub ready_after : (t2 : TableauParts) → LeadsTo pivots t1 t2 → IsReady s t2
+  ready_after t2 leads = let at = reached_on s.formula pivots t1 t2 reached leads in record { tableau = at.0; reachable = at.1; fits = ready.fits }
 
-  is_chosen : (row : ℕ) → row < length s.formula.atoms → get_or t1.bound row false ≡ truth_in chosen (get_or (atom_vars s.formula) row 0)
-  is_chosen row l = ap (λ b. get_or b row false) bound_are ∙ get_or-map (truth_in chosen) (atom_vars s.formula) row 0 false (omega (arith, l, count))
+  pub rows_of_atoms : (weighed : List (ℕ × Ratio)) → RefutesBoundRows t1 weighed → All (λ w. w.0 < length atoms) weighed
+  rows_of_atoms weighed refutes = rows_below atoms t1 chosen (ap (λ (x : TableauParts). x.bound) bound_is) weighed refutes
 
-  pub values_meet : (values : List Ratio) → MeetsBoundRows t1 values → Meets s.formula (truth_in chosen) (value_in values)
-  values_meet values holds =
+  pub conflict_all : (weighed : List (ℕ × Ratio)) (conflict : Conflict) → RefutesBoundRows t1 weighed → IsConflictOf atoms weighed conflict → IsConflict s.formula chosen conflict
+  conflict_all weighed conflict refutes is =
+      conflict_is s.formula chosen conflict (atom_vars s.formula) (atom_rows s.formula) (all_atoms s.formula)
+      (conflict_in (atom_vars s.formula) t1 chosen bound_are weighed refutes conflict (atom_rows s.formula) reached.tableau.rows
+      (subst (λ vars. IsConflictOf vars weighed conflict) atoms_are is))
+
+-- ---- its lemma
+
+pub makes_lemma : (s : SolverParts) (chosen : List Bool) (conflict : Conflict) → HasChosen s chosen → IsConflict s.formula chosen conflict → MakesLemma s conflict
+makes_lemma s chosen conflict of_model is low =
+    record {
+      model = of_model.model;
+      keeps = of_model.has.keeps;
+      unmet = All-weaker (λ l. (l.positive ≡ false) × (truth_in chosen l.var ≡ true)) (λ l. IsTrueUnder (truth_in of_model.model) l → ⊥)
+          (λ l (negative, holds) met. false≢true (sym (met ∙ negative) ∙ of_model.chose.within l.var holds)) conflict.lits.items is.unmet;
+      valid = record { rows = is.fits.rows; negated = is.fits.negated; counted = is.counted; fractions = low; false_sum = is.fits.accepted.1.0 refl };
+    }
+
+-- a round that ends without a step
+pub ends_round : (pivots : ℕ) (s : SolverParts) (t : TableauParts) (e : End) → IsEnd pivots s e → IsRound pivots s s t (Some e)
+ends_round pivots s t e says = record { formula = refl; limit = refl; says = says }
+
+module _ (pivots : ℕ) (s s' : SolverParts) (t : TableauParts) (chosen : List Bool) (conflict : Conflict) (ready : IsReady s t) (of_model : HasChosen s chosen)
+    (is : IsConflict s.formula chosen conflict) where
+  pub learnt_round : (said : Option End) → IsLemmaLearnt s s' conflict said → IsRound pivots s s' t said
+  learnt_round None (goes, sound) =
+      let step = Lemma conflict.lits.items conflict.weights.items in
+      let more = ap length goes.steps ∙ length-append s.steps (step ∷ []) in
       record {
-        clauses = meets;
-        atoms = λ k d l h.
-            let is_bound = is_chosen k l ∙ ap (truth_in chosen) (var_at s.formula k d l) ∙ h in
-            subst (λ r. RowHolds r (value_in values)) (ap (λ rows. get_or rows k empty_row) rows_are ∙ row_at s.formula k d l) (holds.holds k is_bound);
+        formula = goes.formula;
+        limit = goes.limit;
+        says = (
+          ready_on s s' t (step ∷ []) goes ready.tableau ready.reachable ready.fits (All-cons (Fits s.formula) step [] is.fits (All-nil (Fits s.formula))),
+          (let l : length s.steps < length s'.steps = omega (arith, more) in l),
+          sound.within,
+        );
       }
-
-  pub sat_round : (t2 : TableauParts) (e : End) → IsEnd pivots s e → IsRound pivots s s t2 (Some e)
-  sat_round t2 e says = record { formula = refl; limit = refl; says = says }
-
-  module _ (weighed : List (ℕ × Ratio)) (refutes : RefutesBoundRows t1 weighed) where
-    below : All (λ w. w.0 < length s.formula.atoms) weighed
-    below = λ k d l. bound_row (get_or weighed k d).0 (refutes.bound k d l)
-
-    pub rows_below : All (λ w. w.0 < length atoms) weighed
-    rows_below = λ k d l. subst (λ vars. (get_or weighed k d).0 < length vars) (sym atoms_are) (let b = below k d l in omega (arith, b, count))
-
-    abbrev pub Rows : List RowParts
-    Rows = picked (atom_rows s.formula) (map (λ w. w.0) weighed)
-
-    accepted : IsFarkas (zip Rows (weights_of weighed)) (Ok true)
-    accepted = subst (λ rows. IsFarkas (zip (picked rows (map (λ w. w.0) weighed)) (weights_of weighed)) (Ok true)) rows_are refutes.accepted
-
-    pub fits_lemma : FitsLemma s.formula (negations atoms weighed) (weights_of weighed)
-    fits_lemma =
-        subst (λ vars. FitsLemma s.formula (negations vars weighed) (weights_of weighed)) (sym atoms_are)
-        (record { rows = Rows; negated = all_negate s.formula weighed below; accepted = accepted })
-
-    valid : All IsLowest (weights_of weighed) → IsValidLemma s.formula (negations (atom_vars s.formula) weighed) (weights_of weighed)
-    valid low =
-        record {
-          rows = Rows;
-          negated = all_negate s.formula weighed below;
-          counted = length-map weighed (λ w. w.1) ∙ sym (length-map weighed (λ w. record { var = get_or (atom_vars s.formula) w.0 0; positive = false }));
-          fractions = low;
-          false_sum = accepted.1.0 refl;
-        }
-
-    -- the atoms that are negated are true in the model
-    unmet : All (λ l. IsTrueUnder (truth_in model) l → ⊥) (negations (atom_vars s.formula) weighed)
-    unmet =
-        All-map (λ l. IsTrueUnder (truth_in model) l → ⊥) (λ w. record { var = get_or (atom_vars s.formula) w.0 0; positive = false }) weighed
-        (λ k d l h.
-        let row = (get_or weighed k d).0 in
-        let t = chose.within (get_or (atom_vars s.formula) row 0) (sym (is_chosen row (below k d l)) ∙ refutes.bound k d l) in
-        false≢true (sym h ∙ t))
-
-    pub makes_lemma : MakesLemma s atoms weighed
-    makes_lemma low =
-        subst (λ vars. IsLemmaOf s (negations vars weighed) (weights_of weighed)) (sym atoms_are)
-        (record { model = model; keeps = has.keeps; unmet = unmet; valid = valid low })
-
-    pub kept_round : (t2 : TableauParts) (s' : SolverParts) → IsTableauOf s.formula t2 × IsReachable s.formula (basis_of t2.slots) → IsLemmaAdded s s' atoms weighed added.Kept
-        → IsRound pivots s s' t2 None
-    kept_round t2 s' at added =
-        let goes = added.0 in
-        let step = Lemma (negations atoms weighed) (weights_of weighed) in
-        let more = ap length goes.steps ∙ length-append s.steps (step ∷ []) in
-        record {
-          formula = goes.formula;
-          limit = goes.limit;
-          says = (
-            ready_on s s' t2 (step ∷ []) goes at.0 at.1 ready.fits (All-cons (Fits s.formula) step [] fits_lemma (All-nil (Fits s.formula))),
-            (let l : length s.steps < length s'.steps = omega (arith, more) in l),
-            added.1.within,
-          );
-        }
-
-    pub lemma_spent : (t2 : TableauParts) (s' : SolverParts) → IsLemmaAdded s s' atoms weighed added.Spent → IsRound pivots s s' t2 (Some end.Spent)
-    lemma_spent t2 s' added =
-        subst (λ x. IsRound pivots s x t2 (Some end.Spent)) (sym added.0) (sat_round t2 end.Spent (used_up s has.sound ready.fits added.1))
+  learnt_round (Some end.Spent) (same, spent) =
+      subst (λ x. IsRound pivots s x t (Some end.Spent)) (sym same) (ends_round pivots s t end.Spent (used_up s of_model.has.sound ready.fits spent))
+  learnt_round (Some end.Refuted) h = absurd h
+  learnt_round (Some (end.Sat solution)) h = absurd h
+  learnt_round (Some (end.Pivots trail)) h = absurd h
+  learnt_round (Some (end.Wide wide)) h = absurd h

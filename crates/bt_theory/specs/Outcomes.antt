@@ -1,5 +1,5 @@
 -- What is right to say of a formula that is decided within limits.
-use Rattle.std.specs.Prelude.{◌≡◌, ◌<◌, ◌≤◌, ◌^◌, ℕ, List, [], ◌∷◌, ◌++◌, length, map, true, Ok}
+use Rattle.std.specs.Prelude.{◌≡◌, ◌<◌, ◌≤◌, ◌^◌, ℕ, Bool, List, [], ◌∷◌, ◌++◌, length, map, true, Ok}
 use Rattle.std.specs.List.{All, AllZip, zip}
 use Rattle.bt_frac.specs.Ratio.{Ratio}
 use Rattle.bt_frac.specs.Rows.{RowParts}
@@ -20,8 +20,16 @@ use Rattle.bt_simplex.specs.declared.answers.Trail.{Trail}
 use Rattle.bt_simplex.specs.declared.answers.Wide as wide
 use Rattle.bt_theory.specs.declared.outcome.Limits.{Limits}
 use Rattle.bt_theory.specs.declared.outcome.Outcome.{Outcome}
-use Rattle.bt_theory.specs.declared.outcome.Outcome.TheVariants.{Sat, Refuted, Spent, Pivots, Wide}
-use Rattle.bt_theory.specs.Reaching.{IsReached}
+use Rattle.bt_theory.specs.declared.outcome.Outcome.TheVariants as outcome
+use Rattle.bt_theory.specs.declared.outcome.GaveUp.{GaveUp}
+use Rattle.bt_theory.specs.declared.outcome.GaveUp.TheVariants.{Spent, Pivots, Wide}
+use Rattle.bt_theory.specs.Reaching.{columns_of, IsReached}
+
+-- each column has a value and each variable a truth value, and together they meet the formula
+pub record IsSolution (f : FormulaParts) (values : List Ratio) (assignment : List Bool) : Type 0 where
+  pub columns : length values ≡ columns_of f
+  pub variables : length assignment ≡ f.vars
+  pub meets : Meets f (truth_in assignment) (value_in values)
 
 -- the rows of a lemma's atoms with its weights add up to a row that no values meet, and each product and sum fits
 pub record FitsLemma (f : FormulaParts) (lits : List Lit) (weights : List Ratio) : Type 0 where
@@ -58,7 +66,8 @@ pub record IsUsedUp (f : FormulaParts) (limit : ℕ) (steps : List Step) : Type 
   pub valid : IsValidStep f (f.clauses ++ map clause_of steps) more
   pub fresh : IsFreshStep (f.clauses ++ map clause_of steps) more
 
--- the trail begins at a reachable basis of the formula's rows, has so many turns, and ends at a basis that isn't final
+-- the trail begins at a reachable basis of the formula's rows, has so many turns, which are fewer than there are bases, and
+-- ends at a basis that isn't final
 pub record TurnsOn (f : FormulaParts) (pivots : ℕ) (trail : Trail) : Type 0 where
   pub tableau : TableauParts
   pub reached : IsReached f tableau
@@ -70,10 +79,18 @@ pub record IsTooWide (f : FormulaParts) (pivots : ℕ) (at : wide.Wide) : Type 0
   pub reached : IsReached f tableau
   pub wide : IsWideCheck pivots tableau at
 
+-- it is right to give up: the log is used up, or the turns for one assignment are, or a number leaves 128 bits
+abbrev pub IsGivenUp : FormulaParts → Limits → GaveUp → Type 0
+IsGivenUp f limits (Spent log) = IsUsedUp f limits.learnt log.steps
+IsGivenUp f limits (Pivots trail) = TurnsOn f limits.pivots trail
+IsGivenUp f limits (Wide at) = IsTooWide f limits.pivots at
+
+-- each is the place of a row among the formula's rows
+abbrev pub AreRowsOf : FormulaParts → List ℕ → Type 0
+AreRowsOf f rows = All (λ row. row < length f.atoms) rows
+
 -- what is right to say of a formula within limits
 abbrev pub IsOutcome : FormulaParts → Limits → Outcome → Type 0
-IsOutcome f limits (Sat values assignment) = Meets f (truth_in assignment.items) (value_in values.items)
-IsOutcome f limits (Refuted log) = IsRefutation f log.steps × (length log.steps ≤ limits.learnt)
-IsOutcome f limits (Spent log) = IsUsedUp f limits.learnt log.steps
-IsOutcome f limits (Pivots trail) = TurnsOn f limits.pivots trail
-IsOutcome f limits (Wide at) = IsTooWide f limits.pivots at
+IsOutcome f limits (outcome.Sat values assignment) = IsSolution f values.items assignment.items
+IsOutcome f limits (outcome.Refuted log) = IsRefutation f log.steps × (length log.steps ≤ limits.learnt)
+IsOutcome f limits (outcome.GaveUp cause) = IsGivenUp f limits cause

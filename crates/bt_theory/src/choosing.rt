@@ -87,6 +87,33 @@ fn settle(lits: &[Lit], model: &[bool], chosen: &mut [bool])
     }
 }
 
+/// Whether an assignment gives a clause a true literal.
+fn is_met(lits: &[Lit], assignment: &[bool]) -> bool
+    ensures { IsTrue result → MeetsClause (truth_in assignment.now) lits.now }
+{
+    for lit in lits {
+        if holds(*lit, assignment) {
+            return true;
+        }
+    }
+    false
+}
+
+/// Whether an assignment gives each clause of the formula a true literal.
+pub fn meets_clauses(formula: &Formula, assignment: &[bool]) -> bool
+    ensures { IsTrue result → All (MeetsClause (truth_in assignment.now)) formula.now.clauses }
+{
+    for place in 0..formula.clauses() {
+        let Some(id) = formula.clause_at(place) else {
+            unreachable!()
+        };
+        if !is_met(formula.clause(id), assignment) {
+            return false;
+        }
+    }
+    true
+}
+
 /// An assignment within a model that gives each clause of the formula a true literal: what isn't among the
 /// atoms is as in the model, and of the atoms those are true that some clause needs.
 pub fn choose(

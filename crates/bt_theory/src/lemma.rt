@@ -1,14 +1,38 @@
-//! Lemmas: clauses that say that not all rows of a false sum hold.
+//! Conflicts: rows that add up to one that no values meet. The clause that says that not all of them hold is
+//! a lemma.
 ghost use Rattle.std.specs.Prelude.{◌≡◌, ◌<◌, length, map, IfOk};
 ghost use Rattle.std.specs.List.{All};
-ghost use Rattle.bt_theory.specs.inner.Rounds.{negations, weights_of};
+ghost use Rattle.bt_theory.specs.inner.Scopes.{IsConflictOf, negations, weights_of};
 
 use bt_cnf::{Lit, Var};
 use bt_frac::Frac;
 use std::alloc::{AllocError, Global};
 
+/// Atoms that aren't all true of any values.
+#[derive(Drop)]
+pub struct Conflict {
+    /// The negation of each.
+    pub lits: Vec<Lit>,
+    /// The weight of each one's row in a sum that no values meet.
+    pub weights: Vec<Frac>,
+}
+
+/// The conflict of the weighed rows, which are those of these atoms.
+pub fn conflict_of(
+    alloc: Global,
+    atoms: &[Var],
+    weighed: &[(usize, Frac)],
+) -> Result<Conflict, AllocError>
+    requires { All (λ w. w.0 < length atoms.now) weighed.now }
+    ensures { IfOk result (IsConflictOf atoms.now weighed.now) }
+{
+    let lits = negations(alloc, atoms, weighed)?;
+    let weights = weights_of(alloc, weighed)?;
+    Ok(Conflict { lits, weights })
+}
+
 /// The negations of the atoms that have the weighed rows.
-pub fn negations(
+fn negations(
     alloc: Global,
     atoms: &[Var],
     weighed: &[(usize, Frac)],
@@ -27,7 +51,7 @@ pub fn negations(
 }
 
 /// The weights.
-pub fn weights_of(alloc: Global, weighed: &[(usize, Frac)]) -> Result<Vec<Frac>, AllocError>
+fn weights_of(alloc: Global, weighed: &[(usize, Frac)]) -> Result<Vec<Frac>, AllocError>
     ensures { IfOk result (λ weights. weights.items ≡ weights_of weighed.now) }
 {
     let mut weights = Vec::new(alloc);

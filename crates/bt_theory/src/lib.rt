@@ -4,11 +4,13 @@
 
 mod binding;
 mod choosing;
+mod guessing;
 mod lemma;
 mod outcome;
 mod round;
+mod scope;
 mod solving;
 
-pub use outcome::{Limits, Outcome};
+pub use outcome::{GaveUp, Limits, Outcome};
 pub use solving::solve;
 pub use std::alloc::AllocError as Memory;

@@ -15,13 +15,28 @@ pub struct Limits {
 /// What deciding a formula comes to.
 #[derive(Drop)]
 pub enum Outcome {
-    /// The assignment and the values of the columns meet the formula.
+    /// The assignment, of a truth value for each variable, and the values, one for each column, meet the
+    /// formula.
     Sat {
         values: Vec<Frac>,
         assignment: Vec<bool>,
     },
     /// The log refutes the formula.
     Refuted(Log),
+    /// Neither is found within the limits and 128 bits.
+    GaveUp(GaveUp),
+}
+
+/// An assignment, of a truth value for each variable, and values, one for each column, that meet a formula.
+#[derive(Drop)]
+pub struct Solution {
+    pub values: Vec<Frac>,
+    pub assignment: Vec<bool>,
+}
+
+/// Why deciding a formula was given up.
+#[derive(Drop)]
+pub enum GaveUp {
     /// The log has as many steps as it may, and one more is needed.
     Spent(Log),
     /// The turns for one assignment were as many as they may be, and the basis isn't final.

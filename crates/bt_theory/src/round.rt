@@ -1,13 +1,16 @@
 //! One round of a search: a model is asked for, and the rows of the atoms that are chosen within it are
-//! checked.
-ghost use Rattle.std.specs.Prelude.{◌≡◌, ◌<◌, IfOk, length};
+//! checked, those of each scope first.
+ghost use Rattle.std.specs.Prelude.{◌≡◌, IfOk, map};
 ghost use Rattle.std.specs.List.{All};
 ghost use Rattle.bt_theory.specs.Reaching.{atom_vars};
-ghost use Rattle.bt_theory.specs.inner.Rounds.{IsReady, HasModel, IsRound, MakesLemma, IsLemmaAdded};
+ghost use Rattle.bt_theory.specs.inner.Scopes.{IsScopeOf, parts_of};
+ghost use Rattle.bt_theory.specs.inner.Rounds.{IsReady, HasModel, HasChosen, IsRound, MakesLemma, IsLemmaLearnt};
 
 use crate::binding::bind;
 use crate::choosing::choose;
-use crate::lemma::{negations, weights_of};
+use crate::lemma::{Conflict, conflict_of};
+use crate::outcome::Solution;
+use crate::scope::{Scope, first_conflict};
 use bt_cnf::{Chooser, Var};
 use bt_frac::Frac;
 use bt_sat::{Added, Answer, Solver};
@@ -17,11 +20,8 @@ use std::alloc::{AllocError, Global};
 /// How a search ends. The log stays with the solver.
 #[derive(Drop)]
 pub enum End {
-    /// The assignment and the values meet the formula.
-    Sat {
-        values: Vec<Frac>,
-        assignment: Vec<bool>,
-    },
+    /// The formula is met.
+    Sat(Solution),
     /// The log refutes the formula.
     Refuted,
     /// The log has as many steps as it may, and one more is needed.
@@ -36,18 +36,21 @@ pub enum End {
 pub fn round<C: Chooser>(
     alloc: Global,
     solver: &mut Solver<C>,
+    scopes: &mut [Scope],
     tableau: &mut Tableau,
     atoms: &[Var],
     pivots: u64,
 ) -> Result<Option<End>, AllocError>
     requires ready { IsReady solver.old.kernel tableau.old }
     requires atoms { atoms.now ≡ atom_vars solver.old.kernel.formula }
-    ensures { IfOk result (IsRound pivots solver.old.kernel solver.new.kernel tableau.new) }
+    requires scopes { All (IsScopeOf solver.old.kernel.formula) (map parts_of scopes.old) }
+    ensures round { IfOk result (IsRound pivots solver.old.kernel solver.new.kernel tableau.new) }
+    ensures scopes { IfOk result (λ said. map parts_of scopes.new ≡ map parts_of scopes.old) }
 {
     match solver.next_model()? {
         Answer::Refuted => Ok(Some(End::Refuted)),
         Answer::Spent => Ok(Some(End::Spent)),
-        Answer::Model(model) => try_model(alloc, solver, tableau, atoms, &model, pivots),
+        Answer::Model(model) => try_model(alloc, solver, scopes, tableau, atoms, &model, pivots),
     }
 }
 
@@ -55,6 +58,7 @@ pub fn round<C: Chooser>(
 fn try_model<C: Chooser>(
     alloc: Global,
     solver: &mut Solver<C>,
+    scopes: &mut [Scope],
     tableau: &mut Tableau,
     atoms: &[Var],
     model: &[bool],
@@ -62,39 +66,53 @@ fn try_model<C: Chooser>(
 ) -> Result<Option<End>, AllocError>
     requires ready { IsReady solver.old.kernel tableau.old }
     requires atoms { atoms.now ≡ atom_vars solver.old.kernel.formula }
+    requires scopes { All (IsScopeOf solver.old.kernel.formula) (map parts_of scopes.old) }
     requires model { HasModel solver.old.kernel model.now }
-    ensures { IfOk result (IsRound pivots solver.old.kernel solver.new.kernel tableau.new) }
+    ensures round { IfOk result (IsRound pivots solver.old.kernel solver.new.kernel tableau.new) }
+    ensures scopes { IfOk result (λ said. map parts_of scopes.new ≡ map parts_of scopes.old) }
 {
     let chosen = choose(alloc, solver.formula(), atoms, model)?;
+    match first_conflict(alloc, scopes, &chosen, pivots)? {
+        Some(conflict) => learn(solver, &conflict),
+        None => try_all(alloc, solver, tableau, atoms, chosen, pivots),
+    }
+}
+
+/// Checks all rows whose atoms are chosen.
+fn try_all<C: Chooser>(
+    alloc: Global,
+    solver: &mut Solver<C>,
+    tableau: &mut Tableau,
+    atoms: &[Var],
+    chosen: Vec<bool>,
+    pivots: u64,
+) -> Result<Option<End>, AllocError>
+    requires ready { IsReady solver.old.kernel tableau.old }
+    requires atoms { atoms.now ≡ atom_vars solver.old.kernel.formula }
+    requires chosen { HasChosen solver.old.kernel chosen.items }
+    ensures { IfOk result (IsRound pivots solver.old.kernel solver.new.kernel tableau.new) }
+{
     bind(tableau, atoms, &chosen);
     match tableau.check(alloc, pivots)? {
-        Check::Sat(values) => Ok(Some(End::Sat {
+        Check::Sat(values) => Ok(Some(End::Sat(Solution {
             values,
             assignment: chosen,
-        })),
-        Check::Unsat(weighed) => match learn(alloc, solver, atoms, &weighed)? {
-            Added::Kept => Ok(None),
-            Added::Spent => Ok(Some(End::Spent)),
-        },
+        }))),
+        Check::Unsat(weighed) => learn(solver, &conflict_of(alloc, atoms, &weighed)?),
         Check::Pivots(trail) => Ok(Some(End::Pivots(trail))),
         Check::Wide(wide) => Ok(Some(End::Wide(wide))),
     }
 }
 
-/// Adds the lemma of weighed rows that no values meet.
-fn learn<C: Chooser>(
-    alloc: Global,
-    solver: &mut Solver<C>,
-    atoms: &[Var],
-    weighed: &[(usize, Frac)],
-) -> Result<Added, AllocError>
-    requires rows { All (λ w. w.0 < length atoms.now) weighed.now }
-    requires lemma { MakesLemma solver.old.kernel atoms.now weighed.now }
-    ensures { IfOk result (IsLemmaAdded solver.old.kernel solver.new.kernel atoms.now weighed.now) }
+/// Adds the lemma of a conflict.
+fn learn<C: Chooser>(solver: &mut Solver<C>, conflict: &Conflict) -> Result<Option<End>, AllocError>
+    requires { MakesLemma solver.old.kernel conflict.now }
+    ensures { IfOk result (IsLemmaLearnt solver.old.kernel solver.new.kernel conflict.now) }
 {
-    let lits = negations(alloc, atoms, weighed)?;
-    let weights = weights_of(alloc, weighed)?;
     // A fraction is in lowest terms by its type, and a list of them by this call.
-    Frac::all_known(&weights);
-    solver.add_lemma(&lits, &weights)
+    Frac::all_known(&conflict.weights);
+    match solver.add_lemma(&conflict.lits, &conflict.weights)? {
+        Added::Kept => Ok(None),
+        Added::Spent => Ok(Some(End::Spent)),
+    }
 }

@@ -1,31 +1,20 @@
 -- One round of a search: a model, what is chosen of it, and what the tableau says of the rows that are bound.
-use Rattle.std.specs.Prelude.{◌≡◌, ℕ, ◌<◌, ◌≤◌, Bool, false, List, [], ◌∷◌, length, map, slice_index_or, Option, Some, None}
+use Rattle.std.specs.Prelude.{◌≡◌, ℕ, ◌<◌, ◌≤◌, Bool, List, [], ◌∷◌, length, Option, Some, None}
 use Rattle.std.specs.List.{All}
-use Rattle.bt_frac.specs.Ratio.{Ratio, IsLowest}
-use Rattle.bt_frac.specs.Values.{value_in}
-use Rattle.bt_cnf.specs.Assignments.{truth_in}
+use Rattle.bt_frac.specs.Ratio.{IsLowest}
 use Rattle.bt_cnf.specs.Formulas.{FormulaParts}
-use Rattle.bt_cnf.specs.Meeting.{Meets}
-use Rattle.bt_cnf.specs.declared.literal.Lit.{Lit}
 use Rattle.bt_log.specs.Logs.{Lemma, LogParts}
 use Rattle.bt_sat.specs.Solving.{SolverParts, KeepsModel, IsModel, IsSoundLog, IsSpent, IsLemmaOf, GoesOnBy}
-use Rattle.bt_sat.specs.declared.solver.Added.{Added}
-use Rattle.bt_sat.specs.declared.solver.Added.TheVariants as added
 use Rattle.bt_simplex.specs.SolvedForms.{basis_of}
 use Rattle.bt_simplex.specs.Tableaus.{TableauParts, positions_from}
 use Rattle.bt_theory.specs.Reaching.{atom_rows, columns_of, IsTableauOf, IsReachable}
-use Rattle.bt_theory.specs.Outcomes.{Fits, IsRefutation, IsUsedUp, TurnsOn, IsTooWide, IsOutcome}
+use Rattle.bt_theory.specs.Outcomes.{IsSolution, Fits, IsRefutation, IsUsedUp, TurnsOn, IsTooWide, IsOutcome}
+use Rattle.bt_theory.specs.declared.lemma.Conflict.{Conflict}
 use Rattle.bt_theory.specs.declared.outcome.Outcome.{Outcome}
+use Rattle.bt_theory.specs.declared.outcome.Solution.{Solution}
+use Rattle.bt_theory.specs.inner.Choosing.{IsChosen}
 use Rattle.bt_theory.specs.declared.round.End.{End}
 use Rattle.bt_theory.specs.declared.round.End.TheVariants as end
-
--- the negations of the variables that have the weighed rows
-abbrev pub negations : List ℕ → List (ℕ × Ratio) → List Lit
-negations atoms weighed = map (λ w. record { var = slice_index_or atoms w.0 0; positive = false }) weighed
-
--- the weights
-abbrev pub weights_of : List (ℕ × Ratio) → List Ratio
-weights_of weighed = map (λ w. w.1) weighed
 
 -- the first tableau of a formula
 pub record IsFirst (f : FormulaParts) (t : TableauParts) : Type 0 where
@@ -44,22 +33,33 @@ pub record HasModel (s : SolverParts) (model : List Bool) : Type 0 where
   pub is_model : IsModel s model
   pub sound : IsSoundLog s
 
--- the weighed rows make a lemma, where the weights are fractions in lowest terms
-abbrev pub MakesLemma : SolverParts → List ℕ → List (ℕ × Ratio) → Type 0
-MakesLemma s atoms weighed = All IsLowest (weights_of weighed) → IsLemmaOf s (negations atoms weighed) (weights_of weighed)
+-- so much is chosen of the model that the search keeps
+pub record HasChosen (s : SolverParts) (chosen : List Bool) : Type 0 where
+  pub model : List Bool
+  pub has : HasModel s model
+  pub chose : IsChosen model chosen s.formula.clauses
 
--- what became of the lemma of the weighed rows
-abbrev pub IsLemmaAdded : SolverParts → SolverParts → List ℕ → List (ℕ × Ratio) → Added → Type 0
-IsLemmaAdded old new atoms weighed added.Kept = GoesOnBy (Lemma (negations atoms weighed) (weights_of weighed) ∷ []) old new × IsSoundLog new
-IsLemmaAdded old new atoms weighed added.Spent = (new ≡ old) × IsSpent old
+-- the conflict makes a lemma, where the weights are fractions in lowest terms
+abbrev pub MakesLemma : SolverParts → Conflict → Type 0
+MakesLemma s conflict = All IsLowest conflict.weights.items → IsLemmaOf s conflict.lits.items conflict.weights.items
+
+-- the solution is one of the formula
+abbrev pub Solves : FormulaParts → Solution → Type 0
+Solves f solution = IsSolution f solution.values.items solution.assignment.items
 
 -- what is right to say at the end of a search
 abbrev pub IsEnd : ℕ → SolverParts → End → Type 0
-IsEnd pivots s (end.Sat values assignment) = Meets s.formula (truth_in assignment.items) (value_in values.items)
+IsEnd pivots s (end.Sat solution) = Solves s.formula solution
 IsEnd pivots s end.Refuted = IsRefutation s.formula s.steps × (length s.steps ≤ s.limit)
 IsEnd pivots s end.Spent = IsUsedUp s.formula s.limit s.steps
 IsEnd pivots s (end.Pivots trail) = TurnsOn s.formula pivots trail
 IsEnd pivots s (end.Wide at) = IsTooWide s.formula pivots at
+
+-- what became of the lemma of the conflict: it was added, or the log is full
+abbrev pub IsLemmaLearnt : SolverParts → SolverParts → Conflict → Option End → Type 0
+IsLemmaLearnt old new conflict None = GoesOnBy (Lemma conflict.lits.items conflict.weights.items ∷ []) old new × IsSoundLog new
+IsLemmaLearnt old new conflict (Some end.Spent) = (new ≡ old) × IsSpent old
+IsLemmaLearnt old new conflict (Some other) = ⊥
 
 -- the search may go on, with more steps, or it is at an end
 abbrev pub GoesOnOrEnds : ℕ → SolverParts → SolverParts → TableauParts → Option End → Type 0

@@ -1,5 +1,5 @@
 use Rattle.std.proofs.Common.{◌≡◌, take}
-use Rattle.bt_theory.specs.inner.Rounds.{negations}
+use Rattle.bt_theory.specs.inner.Scopes.{negations}
 use Rattle.bt_theory.proofs.lemma.negations.Given as goal
 
 abbrev pub invariant-loop-row : goal.invariant-loop-row

@@ -1,5 +1,5 @@
 use Rattle.std.proofs.Common.{◌≡◌, take}
-use Rattle.bt_theory.specs.inner.Rounds.{weights_of}
+use Rattle.bt_theory.specs.inner.Scopes.{weights_of}
 use Rattle.bt_theory.proofs.lemma.weights_of.Given as goal
 
 abbrev pub invariant-loop-weight : goal.invariant-loop-weight

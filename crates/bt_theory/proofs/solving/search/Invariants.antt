@@ -1,14 +1,15 @@
-use Rattle.std.proofs.Common.{◌≡◌, ◌-◌, length}
-use Rattle.bt_theory.specs.Reaching.{atom_vars}
+use Rattle.std.proofs.Common.{◌≡◌, ◌-◌, length, map}
+use Rattle.std.specs.List.{All}
 use Rattle.bt_theory.specs.inner.Rounds.{IsReady}
-use Rattle.bt_theory.proofs.solving.solve.Given as goal
+use Rattle.bt_theory.specs.inner.Scopes.{IsScopeOf, parts_of}
+use Rattle.bt_theory.proofs.solving.search.Given as goal
 
 abbrev pub invariant-loop-solver : goal.invariant-loop-solver
 invariant-loop-solver g l = record {
   formula : l.solver.kernel.formula ≡ l.fn.formula;
   limit : l.solver.kernel.limit ≡ l.limits.learnt;
   ready : IsReady l.solver.kernel l.tableau;
-  atoms : l.atoms.items ≡ atom_vars l.fn.formula;
+  scopes : All (IsScopeOf l.fn.formula) (map parts_of l.scopes.items);
 }
 
 abbrev pub decreases-loop-solver : goal.decreases-loop-solver

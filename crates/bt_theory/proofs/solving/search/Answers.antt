@@ -1,4 +1,6 @@
-use Rattle.std.proofs.Common.{◌≡◌, ℕ, sym, subst, ap, ◌∙◌, Some}
+use Rattle.std.proofs.Common.{◌≡◌, ℕ, List, map, sym, subst, ap, ◌∙◌, Some}
+use Rattle.std.specs.List.{All}
+use Rattle.std.proofs.lemmas.List.{with_items_is}
 use Rattle.std.proofs.lemmas.List.Elements.{All-nil}
 use Rattle.bt_sat.specs.Solving.{SolverParts, begun}
 use Rattle.bt_simplex.specs.Tableaus.{TableauParts}
@@ -9,8 +11,10 @@ use Rattle.bt_cnf.specs.Formulas.{FormulaParts}
 use Rattle.bt_log.specs.Logs.{LogParts}
 use Rattle.bt_theory.specs.Reaching.{IsReachable, begins}
 use Rattle.bt_theory.specs.Outcomes.{Fits, IsOutcome}
-use Rattle.bt_theory.specs.inner.Rounds.{IsFirst, IsReady, IsRound, Tells}
-use Rattle.bt_theory.proofs.solving.solve.Goals as goal
+use Rattle.bt_theory.specs.inner.Rounds.{IsFirst, IsReady, GoesOnOrEnds, IsRound, Tells}
+use Rattle.bt_theory.specs.inner.Scopes.{IsScopeOf, parts_of}
+use Rattle.bt_theory.specs.declared.scope.Scope.{Scope}
+use Rattle.bt_theory.proofs.solving.search.Goals as goal
 
 -- a search that begins is ready
 first_ready : (f : FormulaParts) (s : SolverParts) (limit : ℕ) (t : TableauParts) → s ≡ begun f limit → IsFirst f t → IsReady s t
@@ -32,13 +36,34 @@ loop-solver-init g c =
       formula = ap (λ x. x.formula) e;
       limit = ap (λ x. x.limit) e;
       ready = first_ready c.args.formula s c.args.limits.learnt c.in_ok-tableau.tableau e c.in_ok-tableau.ensures;
-      atoms = c.in_ok-atoms.ensures;
+      scopes = c.requires.scopes;
     }
 
 pub returns-in-Some : goal.returns-in-Some
 returns-in-Some g c =
     let old = c.loop-solver.solver.kernel in
     let new = c.round.new.solver.kernel in
-    let round = subst (IsRound c.args.limits.pivots old new c.round.new.tableau) c.in-Some.is c.in_ok-said.ensures in
+    let round = subst (IsRound c.args.limits.pivots old new c.round.new.tableau) c.in-Some.is c.in_ok-said.ensures.round in
     said_of c.args.formula c.args.limits old new c.round.new.tableau c.in-Some.end c.into_log.result c.outcome.result c.loop-solver.invariant.formula c.loop-solver.invariant.limit round
     (sym (ap (λ l. l.steps) c.into_log.ensures)) c.outcome.ensures
+
+pub round-requires-clause-scopes : goal.round-requires-clause-scopes
+round-requires-clause-scopes g c =
+    subst (λ f. All (IsScopeOf f) (map parts_of c.deref_mut.result.now)) (sym c.loop-solver.invariant.formula)
+    (subst (λ (list : List Scope). All (IsScopeOf c.args.formula) (map parts_of list)) (sym c.deref_mut.ensures.value) c.loop-solver.invariant.scopes)
+
+pub loop-solver-preserved : goal.loop-solver-preserved
+loop-solver-preserved g c =
+    let old = c.loop-solver.solver.kernel in
+    let new = c.round.new.solver.kernel in
+    let t = c.round.new.tableau in
+    let round = c.in_ok-said.ensures.round in
+    record {
+      formula = round.formula ∙ c.loop-solver.invariant.formula;
+      limit = round.limit ∙ c.loop-solver.invariant.limit;
+      ready = (subst (GoesOnOrEnds c.args.limits.pivots old new t) c.in_default.is round.says).0;
+      scopes =
+          subst (All (IsScopeOf c.args.formula))
+          (sym (ap (map parts_of) (with_items_is c.loop-solver.scopes c.round.new.scopes (c.round.auto.scopes ∙ c.deref_mut.ensures.len)) ∙ c.in_ok-said.ensures.scopes
+          ∙ ap (map parts_of) c.deref_mut.ensures.value)) c.loop-solver.invariant.scopes;
+    }

@@ -1,0 +1,118 @@
+-- Some of a formula's rows, with their variables, and tableaus of them.
+use Rattle.std.proofs.Common.{◌≡◌, ℕ, ◌<◌, ◌+◌, inl, inr, Bool, Option, Some, List, [], ◌∷◌, ◌++◌, length, get_or, map, ap, sym, ◌∙◌, refl, subst, arith}
+use Rattle.std.specs.Prelude.{Contains, IfSome}
+use Rattle.std.specs.List.{All, Any}
+use Rattle.std.proofs.Math.ListN.{set}
+use Rattle.std.proofs.lemmas.Bool.{cases_lt}
+use Rattle.std.proofs.lemmas.List.{length-map, get_or-map, length_push, get_or_append_left, get_or_push, get_or_default, map-set, set-get_or}
+use Rattle.std.proofs.lemmas.List.Elements.{All-contains, Contains-get_or}
+use Rattle.std.proofs.lemmas.Option.{IfSome_then}
+use Rattle.bt_frac.specs.Ratio.{Ratio}
+use Rattle.bt_frac.specs.Rows.{RowParts, IsRowOf}
+use Rattle.bt_frac.specs.declared.row.Relation.{Relation}
+use Rattle.bt_lin.specs.WeightedRows.{empty_row}
+use Rattle.bt_cnf.specs.Formulas.{FormulaParts}
+use Rattle.bt_simplex.specs.Tableaus.{TableauParts, AreOverColumns}
+use Rattle.bt_simplex.specs.Turns.{Follows}
+use Rattle.bt_simplex.specs.Checks.{IsCheck}
+use Rattle.bt_simplex.specs.declared.tableau.Turn.{Turn}
+use Rattle.bt_simplex.specs.declared.answers.Check.{Check}
+use Rattle.bt_simplex.specs.declared.answers.Check.TheVariants as check
+use Rattle.bt_theory.specs.Reaching.{atom_rows, atom_vars, columns_of}
+use Rattle.bt_theory.specs.inner.Scopes.{AreAtoms, IsPaired, IsConflictIn, parts_of}
+use Rattle.bt_theory.specs.declared.lemma.Conflict.{Conflict}
+use Rattle.bt_theory.specs.declared.scope.Scope.{Scope}
+use Rattle.bt_theory.proofs.Columns.{over_end}
+
+pub atoms_none : (f : FormulaParts) → AreAtoms f [] []
+atoms_none f = record { paired = refl; have = λ k l. absurd (omega (arith, l)) }
+
+-- one more variable with its row
+pub atoms_more : (f : FormulaParts) (atoms : List ℕ) (rows : List RowParts) (v : ℕ) (r : RowParts) → AreAtoms f atoms rows → Contains f.atoms (v, r)
+    → AreAtoms f (atoms ++ v ∷ []) (rows ++ r ∷ [])
+atoms_more f atoms rows v r are at =
+    record {
+      paired = length_push atoms v ∙ ap (λ n. n + 1) are.paired ∙ sym (length_push rows r);
+      have = λ k l.
+          elim (cases_lt k (length atoms)) [
+            | inl before ↦
+                let within : k < length rows = (let p = are.paired in omega (arith, before, p)) in
+                subst (λ x. Contains f.atoms (x, get_or (rows ++ r ∷ []) k empty_row)) (sym (get_or_append_left atoms (v ∷ []) 0 k before))
+                (subst (λ y. Contains f.atoms (get_or atoms k 0, y)) (sym (get_or_append_left rows (r ∷ []) empty_row k within)) (are.have k before))
+            | inr after ↦
+                let long = length_push atoms v in
+                let here : length atoms ≡ k = omega (arith, l, long, after) in
+                subst (λ x. Contains f.atoms (x, get_or (rows ++ r ∷ []) k empty_row)) (sym (get_or_push atoms v 0 k here))
+                (subst (λ y. Contains f.atoms (v, y)) (sym (get_or_push rows r empty_row k (sym are.paired ∙ here))) at)
+          ];
+    }
+
+contains_row : (f : FormulaParts) (a : ℕ × RowParts) → Contains f.atoms a → Contains (atom_rows f) a.1
+contains_row f a (k, l, at) =
+    (k, (let long = length-map f.atoms (λ (x : ℕ × RowParts). x.1) in omega (arith, l, long)), get_or-map (λ (x : ℕ × RowParts). x.1) f.atoms k a a.1 l ∙ ap (λ (x : ℕ × RowParts). x.1) at)
+
+-- rows of the formula are over its columns
+pub over_columns : (f : FormulaParts) (atoms : List ℕ) (rows : List RowParts) → AreAtoms f atoms rows → AreOverColumns (columns_of f) rows
+over_columns f atoms rows are = λ k d l.
+    let within : k < length atoms = (let p = are.paired in omega (arith, l, p)) in
+    let row = get_or rows k empty_row in
+    let IsOver : RowParts → Type 0 = λ r. All (λ t. t.0 < columns_of f) r.terms in
+    subst IsOver (get_or_default rows k empty_row d l) (All-contains IsOver (atom_rows f) row (over_end (atom_rows f)) (contains_row f (get_or atoms k 0, row) (are.have k within)))
+
+-- turns change no row
+rows_stay : (turns : List Turn) (t t' : TableauParts) → Follows t turns t' → t'.rows ≡ t.rows
+rows_stay [] t t' e = ap (λ (x : TableauParts). x.rows) (sym e)
+rows_stay (turn ∷ turns) t t' (between, bland, turned, rest) = rows_stay turns between t' rest ∙ ap (λ (x : TableauParts). x.rows) turned.stays
+
+-- nor does a check
+pub check_rows : (pivots : ℕ) (t t' : TableauParts) (said : Check) → IsCheck pivots t t' said → t'.rows ≡ t.rows
+check_rows pivots t t' (check.Sat values) h = rows_stay h.0.turns t t' h.0.follows
+check_rows pivots t t' (check.Unsat weights) h = rows_stay h.0.turns t t' h.0.follows
+check_rows pivots t t' (check.Pivots trail) h = ap (λ (x : TableauParts). x.rows) h.0
+check_rows pivots t t' (check.Wide wide) h = ap (λ (x : TableauParts). x.rows) h.0
+
+-- the parts of a list are the same after one of it is replaced by one of the same part
+pub map_same : {A B : Type 0} (g : A → B) (xs : List A) (i : ℕ) (old new : A) → get_or xs i old ≡ old → g new ≡ g old → map g (set xs i new) ≡ map g xs
+map_same g xs i old new at same =
+    map-set g xs i new ∙ ap (λ y. set (map g xs) i y) same ∙ sym (map-set g xs i old) ∙ ap (map g) (ap (λ y. set xs i y) (sym at) ∙ set-get_or xs i old)
+
+-- a scope among those whose parts are known
+module _ (scopes : List Scope) (parts : List (List ℕ × List RowParts)) (i : ℕ) (scope : Scope) (same : map parts_of scopes ≡ parts) (l : i < length scopes) (at : get_or scopes i scope ≡ scope) where
+  within : i < length (map parts_of scopes)
+  within = let long = length-map scopes parts_of in omega (arith, l, long)
+
+  part_at : get_or (map parts_of scopes) i (parts_of scope) ≡ parts_of scope
+  part_at = get_or-map parts_of scopes i scope (parts_of scope) l ∙ ap parts_of at
+
+  pub paired_at : All IsPaired parts → IsPaired (parts_of scope)
+  paired_at all = subst IsPaired part_at (subst (All IsPaired) (sym same) all i (parts_of scope) within)
+
+  pub found_among : (assignment : List Bool) (found : Option Conflict) → IfSome found (λ conflict. IsConflictIn assignment conflict (parts_of scope))
+      → IfSome found (λ conflict. Any (IsConflictIn assignment conflict) parts)
+  found_among assignment found h =
+      IfSome_then found h (λ conflict is. subst (Any (IsConflictIn assignment conflict)) same (i, parts_of scope, within, part_at, is))
+
+  pub same_after : (new : Scope) → parts_of new ≡ parts_of scope → map parts_of (set scopes i new) ≡ parts
+  same_after new e = map_same parts_of scopes i scope new at e ∙ same
+
+-- the same row, made once more of its parts
+pub row_again : (row copy : RowParts) (terms : List (ℕ × Ratio)) (relation : Relation) (bound : Ratio) (made : Option RowParts) → terms ≡ row.terms → relation ≡ row.relation → bound ≡ row.bound
+    → made ≡ Some copy → IsRowOf (record { terms = terms; relation = relation; bound = bound }) made → copy ≡ row
+row_again row copy terms relation bound made e f g at is =
+    let by_terms : List (ℕ × Ratio) → RowParts = λ x. record { terms = x; relation = relation; bound = bound } in
+    let by_relation : Relation → RowParts = λ x. record { terms = row.terms; relation = x; bound = bound } in
+    let by_bound : Ratio → RowParts = λ x. record { terms = row.terms; relation = row.relation; bound = x } in
+    (subst (IsRowOf (record { terms = terms; relation = relation; bound = bound })) at is).1 ∙ ap by_terms e ∙ ap by_relation f ∙ ap by_bound g
+
+-- the variable and the row at one place
+pub one_picked : (f : FormulaParts) (all : List RowParts) (atoms : List ℕ) (place : ℕ) (row : RowParts) (v : ℕ) → all ≡ atom_rows f → atoms ≡ atom_vars f → place < length f.atoms
+    → row ≡ get_or all place row → v ≡ get_or atoms place v → Contains f.atoms (v, row)
+one_picked f all atoms place row v all_are atoms_are l row_at var_at =
+    let d : ℕ × RowParts = (v, row) in
+    let row_is : row ≡ (get_or f.atoms place d).1 = row_at ∙ ap (λ rows. get_or rows place row) all_are ∙ get_or-map (λ (x : ℕ × RowParts). x.1) f.atoms place d row l in
+    let var_is : v ≡ (get_or f.atoms place d).0 = var_at ∙ ap (λ vars. get_or vars place v) atoms_are ∙ get_or-map (λ (x : ℕ × RowParts). x.0) f.atoms place d v l in
+    subst (λ x. Contains f.atoms (x, row)) (sym var_is)
+    (subst (λ y. Contains f.atoms ((get_or f.atoms place d).0, y)) (sym row_is) (Contains-get_or f.atoms place d l))
+
+pub same_atoms : (f : FormulaParts) (vars now : List ℕ) (rows rows_now : List RowParts) → now ≡ vars → rows_now ≡ rows → AreAtoms f vars rows → AreAtoms f now rows_now
+same_atoms f vars now rows rows_now e g are = subst (λ x. AreAtoms f x rows_now) (sym e) (subst (λ y. AreAtoms f vars y) (sym g) are)

@@ -1,0 +1,159 @@
+//! Scopes: tableaus of some of a formula's rows. Of a model they are asked before the tableau of all rows.
+ghost use Rattle.std.specs.Prelude.{◌≡◌, ◌<◌, length, map, IfOk, IfSome};
+ghost use Rattle.std.specs.List.{All, Any};
+ghost use Rattle.bt_theory.specs.Reaching.{atom_vars};
+ghost use Rattle.bt_theory.specs.Outcomes.{AreRowsOf};
+ghost use Rattle.bt_theory.specs.inner.Scopes.{AreAtoms, IsConflictIn, IsScopeOf, parts_of, IsPaired};
+
+use crate::binding::bind;
+use crate::choosing::is_true;
+use crate::lemma::{Conflict, conflict_of};
+use bt_cnf::{Formula, Var};
+use bt_frac::Row;
+use bt_simplex::{Check, Tableau};
+use std::alloc::{AllocError, Global};
+
+/// A tableau of some of a formula's rows.
+#[derive(Drop)]
+pub struct Scope {
+    /// The variables of the rows, in their order.
+    atoms: Vec<Var>,
+    tableau: Tableau,
+    /// For each row whether it was bound when values were found last.
+    passed: Vec<bool>,
+}
+
+/// Some of a formula's rows, with their variables.
+#[derive(Drop)]
+struct Picked {
+    atoms: Vec<Var>,
+    rows: Vec<Row>,
+}
+
+/// The scopes of lists of rows, which are named by their places among the formula's rows.
+pub fn scopes_of(
+    alloc: Global,
+    formula: &Formula,
+    atoms: &[Var],
+    lists: &[Vec<usize>],
+) -> Result<Vec<Scope>, AllocError>
+    requires atoms { atoms.now ≡ atom_vars formula.now }
+    requires rows { All (λ list. AreRowsOf formula.now list.items) lists.now }
+    ensures { IfOk result (λ scopes. All (IsScopeOf formula.now) (map parts_of scopes.items)) }
+{
+    let mut scopes = Vec::new(alloc);
+    for list in lists {
+        scopes.push(scope_of(alloc, formula, atoms, list)?)?;
+    }
+    Ok(scopes)
+}
+
+fn scope_of(
+    alloc: Global,
+    formula: &Formula,
+    atoms: &[Var],
+    list: &[usize],
+) -> Result<Scope, AllocError>
+    requires atoms { atoms.now ≡ atom_vars formula.now }
+    requires rows { AreRowsOf formula.now list.now }
+    ensures { IfOk result (λ scope. IsScopeOf formula.now (parts_of scope)) }
+{
+    let picked = rows_at(alloc, formula, atoms, list)?;
+    let tableau = Tableau::new(alloc, &picked.rows, formula.columns())?;
+    let passed = vec![in alloc; false; picked.rows.len()]?;
+    Ok(Scope {
+        atoms: picked.atoms,
+        tableau,
+        passed,
+    })
+}
+
+/// The rows of a list, with their variables.
+fn rows_at(
+    alloc: Global,
+    formula: &Formula,
+    atoms: &[Var],
+    list: &[usize],
+) -> Result<Picked, AllocError>
+    requires atoms { atoms.now ≡ atom_vars formula.now }
+    requires rows { AreRowsOf formula.now list.now }
+    ensures { IfOk result (λ picked. AreAtoms formula.now picked.atoms.items picked.rows.items) }
+{
+    let mut vars = Vec::new(alloc);
+    let mut rows = Vec::new(alloc);
+    let all = formula.rows();
+    for place in list {
+        let row = &all[*place];
+        if let Some(copy) = Row::new(alloc, row.terms(), row.relation(), row.bound())? {
+            vars.push(atoms[*place])?;
+            rows.push(copy)?;
+        }
+    }
+    Ok(Picked { atoms: vars, rows })
+}
+
+/// The conflict of the first scope that has one with an assignment, where one is found within so many
+/// turns.
+pub fn first_conflict(
+    alloc: Global,
+    scopes: &mut [Scope],
+    assignment: &[bool],
+    pivots: u64,
+) -> Result<Option<Conflict>, AllocError>
+    requires { All IsPaired (map parts_of scopes.old) }
+    ensures same { IfOk result (λ found. map parts_of scopes.new ≡ map parts_of scopes.old) }
+    ensures found { IfOk result (λ found. IfSome found (λ conflict.
+        Any (IsConflictIn assignment.now conflict) (map parts_of scopes.old))) }
+{
+    for place in 0..scopes.len() {
+        let found = scopes[place].conflict(alloc, assignment, pivots)?;
+        if found.is_some() {
+            return Ok(found);
+        }
+    }
+    Ok(None)
+}
+
+impl Scope {
+    /// The conflict of the rows whose atoms are true, where one is found within so many turns. None too
+    /// where all of these were bound when values were found last.
+    fn conflict(
+        &mut self,
+        alloc: Global,
+        assignment: &[bool],
+        pivots: u64,
+    ) -> Result<Option<Conflict>, AllocError>
+        requires { IsPaired (parts_of self.old) }
+        ensures same { IfOk result (λ found. parts_of self.new ≡ parts_of self.old) }
+        ensures found { IfOk result (λ found. IfSome found (λ conflict.
+            IsConflictIn assignment.now conflict (parts_of self.old))) }
+    {
+        if self.has_passed(assignment) {
+            return Ok(None);
+        }
+        bind(&mut self.tableau, &self.atoms, assignment);
+        match self.tableau.check(alloc, pivots)? {
+            Check::Unsat(weighed) => Ok(Some(conflict_of(alloc, &self.atoms, &weighed)?)),
+            Check::Sat(_) => {
+                note(&mut self.passed, &self.atoms, assignment);
+                Ok(None)
+            }
+            Check::Pivots(_) | Check::Wide(_) => Ok(None),
+        }
+    }
+
+    /// Whether all rows whose atoms are true were bound when values were found last.
+    fn has_passed(&self, assignment: &[bool]) -> bool {
+        self.atoms.iter().zip(&self.passed).all(|(var, passed)| *passed
+            || !is_true(assignment, var.place()))
+    }
+}
+
+/// Notes which atoms are true.
+fn note(passed: &mut [bool], atoms: &[Var], assignment: &[bool]) {
+    for (row, var) in atoms.iter().enumerate() {
+        if row < passed.len() {
+            passed[row] = is_true(assignment, var.place());
+        }
+    }
+}
