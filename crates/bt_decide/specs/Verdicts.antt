@@ -6,15 +6,13 @@ use Rattle.bt_flow.specs.States.{AreLowest, IsTrueOf}
 use Rattle.bt_flow.specs.Properties.{Holds, Breaks}
 use Rattle.bt_fenc.specs.FlowFormula.{flow_formula}
 use Rattle.bt_theory.specs.declared.outcome.Limits.{Limits}
-use Rattle.bt_theory.specs.Outcomes.{IsRefutation, IsUsedUp, TurnsOn, IsTooWide}
+use Rattle.bt_theory.specs.Outcomes.{IsRefutation, IsGivenUp}
 use Rattle.bt_decide.specs.declared.verdict.Verdict.{Verdict}
-use Rattle.bt_decide.specs.declared.verdict.Verdict.TheVariants.{Yes, No, Spent, Pivots, Wide}
+use Rattle.bt_decide.specs.declared.verdict.Verdict.TheVariants.{Yes, No, GaveUp}
 
 -- what is right to say: the network has the property, and the log refutes its flow formula; or the state, whose
--- fractions are in lowest terms, breaks the property; or a limit is reached, or a number leaves 128 bits, in deciding the flow formula
+-- fractions are in lowest terms, breaks the property; or deciding the flow formula is rightly given up
 abbrev pub IsVerdict : Network → Property → Limits → Verdict → Type 0
 IsVerdict n p limits (Yes log) = Holds n p × IsRefutation (flow_formula n p) log.steps × (length log.steps ≤ limits.learnt)
 IsVerdict n p limits (No state) = IsTrueOf n state (Breaks n p) × AreLowest state
-IsVerdict n p limits (Spent log) = IsUsedUp (flow_formula n p) limits.learnt log.steps
-IsVerdict n p limits (Pivots trail) = TurnsOn (flow_formula n p) limits.pivots trail
-IsVerdict n p limits (Wide at) = IsTooWide (flow_formula n p) limits.pivots at
+IsVerdict n p limits (GaveUp cause) = IsGivenUp (flow_formula n p) limits cause

@@ -1,7 +1,10 @@
 //! Deciding a property of a network by its flow formula.
 ghost use Rattle.std.specs.Prelude.{◌≡◌, IfOk};
 ghost use Rattle.bt_decide.specs.Verdicts.{IsVerdict};
+ghost use Rattle.bt_decide.specs.inner.Outcomes.{IsVerdictOf};
 
+use crate::guessing::guesses_of;
+use crate::scopes::scopes_of;
 use crate::verdict::Verdict;
 use bt_cnf::Chooser;
 use bt_fenc::{encode, state_of};
@@ -10,8 +13,8 @@ use bt_net::Net;
 use bt_theory::{Limits, Outcome, solve};
 use std::alloc::{AllocError, Global};
 
-/// Decides within limits whether every steady state of a network has a property. The choosers steer the
-/// search, which is right whatever they answer.
+/// Decides within limits whether every steady state of a network has a property. Simulations that seem to
+/// break it are tried before the search. The choosers steer the search, which is right whatever they answer.
 pub fn decide<C: Chooser>(
     alloc: Global,
     net: &Net,
@@ -22,14 +25,23 @@ pub fn decide<C: Chooser>(
     ensures { IfOk result (IsVerdict net.now property limits) }
 {
     let formula = encode(alloc, net, property)?;
-    match solve(alloc, formula, choosers, limits)? {
+    let scopes = scopes_of(alloc, net, property, formula.rows())?;
+    let guesses = guesses_of(alloc, net, property, &formula)?;
+    let outcome = solve(alloc, formula, &scopes, &guesses, choosers, limits)?;
+    let verdict = verdict_of(alloc, net, outcome)?;
+    Ok(verdict)
+}
+
+/// The verdict on a property of the network, of what deciding its flow formula came to.
+fn verdict_of(alloc: Global, net: &Net, outcome: Outcome) -> Result<Verdict, AllocError>
+    ensures { IfOk result (IsVerdictOf net.now outcome) }
+{
+    match outcome {
         Outcome::Sat { values, assignment } => {
             let state = state_of(alloc, net, &values, &assignment)?;
             Ok(Verdict::No(state))
         }
         Outcome::Refuted(log) => Ok(Verdict::Yes(log)),
-        Outcome::Spent(log) => Ok(Verdict::Spent(log)),
-        Outcome::Pivots(trail) => Ok(Verdict::Pivots(trail)),
-        Outcome::Wide(wide) => Ok(Verdict::Wide(wide)),
+        Outcome::GaveUp(cause) => Ok(Verdict::GaveUp(cause)),
     }
 }

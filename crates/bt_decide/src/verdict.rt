@@ -1,7 +1,7 @@
 //! What deciding a property of a network comes to.
 use bt_flow::State;
 use bt_log::Log;
-use bt_simplex::{Trail, Wide};
+use bt_theory::GaveUp;
 
 /// What deciding a property of a network comes to.
 #[derive(Drop)]
@@ -10,10 +10,6 @@ pub enum Verdict {
     Yes(Log),
     /// The state breaks the property.
     No(State),
-    /// The log has as many steps as it may, and one more is needed.
-    Spent(Log),
-    /// The turns for one assignment were as many as they may be, and the basis isn't final.
-    Pivots(Trail),
-    /// A number that the turns ask for leaves 128 bits.
-    Wide(Wide),
+    /// Neither is found within the limits and 128 bits.
+    GaveUp(GaveUp),
 }

@@ -1,38 +1,18 @@
-use Rattle.std.proofs.Common.{List, Bool, sym, subst, ◌≡◌}
-use Rattle.bt_frac.specs.Ratio.{Ratio}
-use Rattle.bt_frac.specs.Values.{value_in}
-use Rattle.bt_net.specs.Network.{Network}
-use Rattle.bt_flow.specs.declared.property.Property.{Property}
-use Rattle.bt_flow.specs.States.{Fractions, IsTrueOf}
-use Rattle.bt_flow.specs.Properties.{Breaks}
-use Rattle.bt_cnf.specs.Assignments.{truth_in}
-use Rattle.bt_cnf.specs.Meeting.{Meets}
-use Rattle.bt_fenc.specs.FlowFormula.{flow_formula}
-use Rattle.bt_fenc.specs.Solutions.{BreaksWhatIsMet}
-use Rattle.bt_fenc.proofs.Refuted.{refuted_holds}
-use Rattle.bt_theory.specs.Outcomes.{IsOutcome}
+use Rattle.std.proofs.Common.{ℕ, ◌<◌, List, Vec, Global, length, ap, sym, ◌∙◌, subst}
+use Rattle.std.specs.List.{All}
+use Rattle.std.proofs.lemmas.List.{length-map}
+use Rattle.bt_frac.specs.Rows.{RowParts}
+use Rattle.bt_theory.specs.Outcomes.{AreRowsOf, IsOutcome}
 use Rattle.bt_decide.proofs.deciding.decide.Goals as goal
 
--- the values that meet the formula are those that were lent to form the state
-breaks_met : (n : Network) (p : Property) (state : Fractions) (values lent_values : List Ratio) (truths lent_truths : List Bool) → lent_values ≡ values → lent_truths ≡ truths
-    → Meets (flow_formula n p) (truth_in truths) (value_in values) → BreaksWhatIsMet n (truth_in lent_truths) (value_in lent_values) state → IsTrueOf n state (Breaks n p)
-breaks_met n p state values lent_values truths lent_truths e f met breaks =
-    breaks p (subst (λ vs. Meets (flow_formula n p) (truth_in lent_truths) (value_in vs)) (sym e) (subst (λ ts. Meets (flow_formula n p) (truth_in ts) (value_in values)) (sym f) met))
+pub solve-requires : goal.solve-requires
+solve-requires g c =
+    let f = c.in_ok-formula.formula in
+    let many = ap length c.rows.ensures.value ∙ length-map f.atoms (λ (a : ℕ × RowParts). a.1) in
+    subst (λ (lists : List (Vec ℕ Global)). All (λ (list : Vec ℕ Global). AreRowsOf f list.items) lists) (sym c.deref.ensures.value)
+    (subst (λ n. All (λ (list : Vec ℕ Global). All (λ place. place < n) list.items) c.in_ok-scopes.scopes.items) many c.in_ok-scopes.ensures)
 
-pub returns-in_ok-state-in-Sat : goal.returns-in_ok-state-in-Sat
-returns-in_ok-state-in-Sat g c =
-    let n = c.args.net.now in
-    let p = c.args.property in
-    let outcome = subst (λ f. IsOutcome f c.args.limits c.in_ok-values.field-0) c.in_ok-formula.ensures.formula c.in_ok-values.ensures in (
-      breaks_met n p c.in_ok-state-in-Sat.state c.in-Sat.values.items c.deref.result.now c.in-Sat.assignment.items c.deref-in-Sat.result.now c.deref.ensures.value c.deref-in-Sat.ensures.value
-          (subst (IsOutcome (flow_formula n p) c.args.limits) c.in-Sat.is outcome) c.in_ok-state-in-Sat.ensures.breaks,
-      c.in_ok-state-in-Sat.ensures.lowest,
-    )
-
-pub returns-in-Refuted : goal.returns-in-Refuted
-returns-in-Refuted g c =
-    let n = c.args.net.now in
-    let p = c.args.property in
-    let outcome = subst (λ f. IsOutcome f c.args.limits c.in_ok-values.field-0) c.in_ok-formula.ensures.formula c.in_ok-values.ensures in
-    let refutes = subst (IsOutcome (flow_formula n p) c.args.limits) c.in-Refuted.is outcome in
-    (refuted_holds n p c.in-Refuted.log.steps c.in_ok-formula.ensures.network refutes.0.refutes, refutes.0, refutes.1)
+pub returns : goal.returns
+returns g c =
+    c.in_ok-verdict.ensures c.args.property c.args.limits c.in_ok-formula.ensures.network
+    (subst (λ f. IsOutcome f c.args.limits c.in_ok-outcome.outcome) c.in_ok-formula.ensures.formula c.in_ok-outcome.ensures)

@@ -1,0 +1,13 @@
+-- What deciding a flow formula comes to, told of its network and property.
+use Rattle.bt_net.specs.Network.{Network, IsNetwork}
+use Rattle.bt_flow.specs.declared.property.Property.{Property}
+use Rattle.bt_fenc.specs.FlowFormula.{flow_formula}
+use Rattle.bt_theory.specs.declared.outcome.Limits.{Limits}
+use Rattle.bt_theory.specs.declared.outcome.Outcome.{Outcome}
+use Rattle.bt_theory.specs.Outcomes.{IsOutcome}
+use Rattle.bt_decide.specs.declared.verdict.Verdict.{Verdict}
+use Rattle.bt_decide.specs.Verdicts.{IsVerdict}
+
+-- the verdict is right of each property whose flow formula has this outcome
+abbrev pub IsVerdictOf : Network → Outcome → Verdict → Type 0
+IsVerdictOf n outcome verdict = (p : Property) (limits : Limits) → IsNetwork n → IsOutcome (flow_formula n p) limits outcome → IsVerdict n p limits verdict

@@ -1,0 +1,117 @@
+//! Guesses: assignments of a flow formula from simulations that break the property. They are tried before
+//! the search, and nothing rests on them.
+ghost use Rattle.std.specs.Prelude.{◌≡◌, IfOk, All, length};
+
+use bt_cnf::Formula;
+use bt_flow::Property;
+use bt_frac::{Frac, Relation, Row};
+use bt_net::Net;
+use bt_simulate::{Case, Found, UNIT, breaking};
+use std::alloc::{AllocError, Global};
+
+/// By how much the sides of a row may differ that a simulation shows as equal, in parts of `UNIT`.
+const TOLERANCE: i128 = 1024;
+
+/// Assignments that are likely to meet the flow formula of a network and a property, those first that were
+/// found first: the marks are those of a simulation, and an atom is true where its row holds there but for
+/// little. Of a row and its strict opposite one is true.
+pub fn guesses_of(
+    alloc: Global,
+    net: &Net,
+    property: Property,
+    formula: &Formula,
+) -> Result<Vec<Vec<bool>>, AllocError>
+    ensures { IfOk result (λ guesses. All (λ guess. length guess.items ≡ formula.now.vars) guesses.items) }
+{
+    let mut guesses = Vec::new(alloc);
+    let shown = breaking(alloc, net, property)?;
+    for found in &shown {
+        guesses.push(guess_of(alloc, formula, found)?)?;
+    }
+    Ok(guesses)
+}
+
+/// The assignment that a simulation shows.
+fn guess_of(alloc: Global, formula: &Formula, found: &Found) -> Result<Vec<bool>, AllocError>
+    ensures { IfOk result (λ guess. length guess.items ≡ formula.now.vars) }
+{
+    let mut guess = Vec::new(alloc);
+    for place in 0..formula.vars() {
+        guess.push(truth_of(formula, found, place))?;
+    }
+    Ok(guess)
+}
+
+/// Whether the variable at a place is true: the mark of an edge, or an atom.
+fn truth_of(formula: &Formula, found: &Found, place: usize) -> bool {
+    match row_at(formula, place) {
+        Some(row) => holds(row, found),
+        None => is_backed(found, place),
+    }
+}
+
+/// The row of the variable at a place, where it is an atom.
+fn row_at(formula: &Formula, place: usize) -> Option<&Row> {
+    let var = formula.var_at(place)?;
+    let row = formula.row_of(var)?;
+    formula.rows().get(row)
+}
+
+/// Whether the edge with a number is backed.
+fn is_backed(found: &Found, edge: usize) -> bool {
+    match found.simulated.backed.get(edge) {
+        Some(backed) => *backed,
+        None => false,
+    }
+}
+
+/// Whether a row holds, but for little.
+fn holds(row: &Row, found: &Found) -> bool {
+    let excess = excess(row, found);
+    match row.relation() {
+        Relation::AtLeast => excess >= -TOLERANCE,
+        Relation::Above => excess > TOLERANCE,
+        Relation::Equal => excess >= -TOLERANCE && excess <= TOLERANCE,
+    }
+}
+
+/// By how much the sum of a row is above its bound, in parts of `UNIT`.
+fn excess(row: &Row, found: &Found) -> i128 {
+    let mut sum: i128 = 0;
+    for (column, coefficient) in row.terms() {
+        sum = sum.saturating_add(product(coefficient, value_at(found, *column)));
+    }
+    sum.saturating_sub(product(&row.bound(), UNIT))
+}
+
+/// A fraction of an amount, cut to a whole number, and to one of 128 bits where it doesn't fit.
+fn product(fraction: &Frac, amount: u32) -> i128 {
+    fraction.numerator().saturating_mul(i128::from(amount)) / fraction.denominator()
+}
+
+/// The value of a column: a flow, a load or a room.
+fn value_at(found: &Found, column: usize) -> u32 {
+    let flows = &found.simulated.flows;
+    if column < flows.len() {
+        flows[column]
+    } else {
+        end_value_at(&found.case, column - flows.len())
+    }
+}
+
+/// The load of an input or, in the numbers behind these, the room of an output.
+fn end_value_at(case: &Case, end: usize) -> u32 {
+    if end < case.loads.len() {
+        case.loads[end]
+    } else {
+        room_at(&case.rooms, end - case.loads.len())
+    }
+}
+
+/// The room of the output with a number, or 0 past the end.
+fn room_at(rooms: &[u32], output: usize) -> u32 {
+    match rooms.get(output) {
+        Some(room) => *room,
+        None => 0,
+    }
+}

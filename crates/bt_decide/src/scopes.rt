@@ -1,0 +1,170 @@
+//! The scopes of a flow formula: for each splitter the rows that speak of its edges alone.
+//!
+//! What a search refutes is mostly refuted at one splitter, so these rows are worth asking before all. A proof by
+//! hand goes from the outputs back, splitter by splitter, and so do the scopes.
+ghost use Rattle.std.specs.Prelude.{ℕ, ◌<◌, length, IfOk, OnOk};
+ghost use Rattle.std.specs.List.{All};
+ghost use Rattle.bt_decide.specs.inner.Places.{AreBelow};
+
+use crate::distances::ranked_splitters;
+use bt_flow::{Property, Role};
+use bt_frac::{Frac, Row};
+use bt_net::{Edge, Net};
+use std::alloc::{AllocError, Global};
+use std::mem::replace;
+
+/// The splitters at the two ends of an edge.
+#[derive(Clone, Copy, PartialEq, Eq)]
+struct Sides {
+    start: Option<u32>,
+    target: Option<u32>,
+}
+
+impl Sides {
+    const NONE: Sides = Sides {
+        start: None,
+        target: None,
+    };
+
+    fn of(edge: &Edge) -> Sides {
+        Sides {
+            start: Role::OutOf.number_in(edge),
+            target: Role::Into.number_in(edge),
+        }
+    }
+
+    /// The splitters that are among those of both.
+    fn common(self, other: Sides) -> Sides {
+        Sides {
+            start: other.with(self.start),
+            target: other.with(self.target),
+        }
+    }
+
+    /// The splitter, where it is one of these.
+    fn with(self, splitter: Option<u32>) -> Option<u32> {
+        if splitter == self.start || splitter == self.target {
+            splitter
+        } else {
+            None
+        }
+    }
+}
+
+/// The scopes of the rows of a network's flow formula, as lists of their places. Each splitter has one: the rows
+/// whose columns are all flows of its edges, or the load or the room at one of these. The splitters nearest to the
+/// outputs come first, and for `drawn-evenly` the farthest.
+pub fn scopes_of(
+    alloc: Global,
+    net: &Net,
+    property: Property,
+    rows: &[Row],
+) -> Result<Vec<Vec<usize>>, AllocError>
+    ensures { IfOk result (λ scopes. All (λ scope. AreBelow (length rows.now) scope.items) scopes.items) }
+{
+    let mut lists = lists_of(alloc, net, rows)?;
+    let order = ranked_splitters(alloc, net, property == Property::DrawnEvenly)?;
+    in_order(alloc, &mut lists, &order)
+}
+
+/// The lists in this order. A list that it names once more is empty there.
+fn in_order(
+    alloc: Global,
+    lists: &mut [Vec<usize>],
+    order: &[usize],
+) -> Result<Vec<Vec<usize>>, AllocError>
+    ensures { (end : ℕ) → All (λ list. AreBelow end list.items) lists.old
+        → IfOk result (λ scopes. All (λ list. AreBelow end list.items) scopes.items) }
+{
+    let mut scopes = Vec::new(alloc);
+    for splitter in order {
+        if *splitter < lists.len() {
+            scopes.push(replace(&mut lists[*splitter], Vec::new(alloc)))?;
+        }
+    }
+    Ok(scopes)
+}
+
+/// For each splitter the rows that speak of its edges alone.
+fn lists_of(alloc: Global, net: &Net, rows: &[Row]) -> Result<Vec<Vec<usize>>, AllocError>
+    ensures { IfOk result (λ lists. All (λ list. AreBelow (length rows.now) list.items) lists.items) }
+{
+    let columns = columns_of(alloc, net)?;
+    let mut lists = empty_lists(alloc, net.splitters())?;
+    for (place, row) in rows.iter().enumerate() {
+        let sides = sides_of(&columns, row.terms());
+        add(&mut lists, sides.start, place)?;
+        if sides.target != sides.start {
+            add(&mut lists, sides.target, place)?;
+        }
+    }
+    Ok(lists)
+}
+
+/// So many lists without rows.
+pub fn empty_lists(alloc: Global, count: u32) -> Result<Vec<Vec<usize>>, AllocError>
+    ensures { (end : ℕ) → IfOk result (λ lists. All (λ list. AreBelow end list.items) lists.items) }
+{
+    let mut lists = Vec::new(alloc);
+    for _ in 0..count {
+        lists.push(Vec::new(alloc))?;
+    }
+    Ok(lists)
+}
+
+/// Adds a number to a splitter's list, where there is one.
+pub fn add(lists: &mut [Vec<usize>], splitter: Option<u32>, number: usize) -> Result<(), AllocError>
+    ensures { (end : ℕ) → All (λ list. AreBelow end list.items) lists.old → number < end
+        → OnOk result (All (λ list. AreBelow end list.items) lists.new) }
+{
+    let Some(splitter) = splitter else {
+        return Ok(());
+    };
+    let splitter = splitter as usize;
+    if splitter < lists.len() {
+        lists[splitter].push(number)?;
+    }
+    Ok(())
+}
+
+/// For each column the sides of the edge whose flow it is, or of which it is the load or the room.
+fn columns_of(alloc: Global, net: &Net) -> Result<Vec<Sides>, AllocError> {
+    let mut columns = Vec::new(alloc);
+    let mut loads = vec![in alloc; Sides::NONE; net.inputs() as usize]?;
+    let mut rooms = vec![in alloc; Sides::NONE; net.outputs() as usize]?;
+    for edge in net.edges() {
+        let sides = Sides::of(edge);
+        columns.push(sides)?;
+        put(&mut loads, Role::FromInput.number_in(edge), sides);
+        put(&mut rooms, Role::ToOutput.number_in(edge), sides);
+    }
+    columns.extend_from_slice(&loads)?;
+    columns.extend_from_slice(&rooms)?;
+    Ok(columns)
+}
+
+/// Puts the sides at a number, where there is one.
+fn put(all: &mut [Sides], number: Option<u32>, sides: Sides) {
+    if let Some(number) = number {
+        let place = number as usize;
+        if place < all.len() {
+            all[place] = sides;
+        }
+    }
+}
+
+/// The splitters of whose edges all terms speak.
+fn sides_of(columns: &[Sides], terms: &[(usize, Frac)]) -> Sides {
+    let mut sides = match terms.first() {
+        Some((column, _)) => sides_at(columns, *column),
+        None => Sides::NONE,
+    };
+    for (column, _) in terms {
+        sides = sides.common(sides_at(columns, *column));
+    }
+    sides
+}
+
+fn sides_at(columns: &[Sides], column: usize) -> Sides {
+    columns.get(column).copied().unwrap_or(Sides::NONE)
+}
