@@ -2,3 +2,7 @@ pub mod Lines
 pub mod Made
 pub mod Rows
 pub mod Wired
+pub mod TwoFlows
+pub mod Placed
+pub mod Stages
+pub mod Balanced

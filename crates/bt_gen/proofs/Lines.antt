@@ -8,13 +8,13 @@ use Rattle.bt_gen.specs.Butterfly.{HasLine, place_with_line}
 
 module _ (w : ℕ) (positive : 0 < w) where
   -- the quotient and the rest of a lesser line
-  of_lesser : (q r : ℕ) → r < w → ((q * (w + w) + r) / (w + w) ≡ q) × ((q * (w + w) + r) % w ≡ r)
+  pub of_lesser : (q r : ℕ) → r < w → ((q * (w + w) + r) / (w + w) ≡ q) × ((q * (w + w) + r) % w ≡ r)
   of_lesser q r small =
       let e : q * (w + w) + r ≡ (q + q) * w + r = omega arith in
       (div-mul-add q (w + w) r (omega arith), rw e (mod-mul-add (q + q) w r small))
 
   -- those of a greater line
-  of_greater : (q r : ℕ) → r < w → ((q * (w + w) + r + w) / (w + w) ≡ q) × ((q * (w + w) + r + w) % w ≡ r)
+  pub of_greater : (q r : ℕ) → r < w → ((q * (w + w) + r + w) / (w + w) ≡ q) × ((q * (w + w) + r + w) % w ≡ r)
   of_greater q r small =
       let e : q * (w + w) + r + w ≡ (q + q + 1) * w + r = omega arith in
       let f : q * (w + w) + r + w ≡ q * (w + w) + (r + w) = omega arith in
@@ -49,7 +49,7 @@ module _ (w : ℕ) (positive : 0 < w) where
       let rest : p % w ≡ l % w = rw is (mod-mul-add (l / (w + w)) w (l % w) (mod_below l w positive)) in
       rw (quotient, rest) (lesser_or_greater (l / (w + w)) (l % (w + w)) l (sym (div-add-mod' l (w + w))) (mod_below l (w + w) (omega arith)))
 
-double : (stage : ℕ) → 2 ^ (stage + 1) ≡ 2 ^ stage + 2 ^ stage
+pub double : (stage : ℕ) → 2 ^ (stage + 1) ≡ 2 ^ stage + 2 ^ stage
 double stage = omega (arith, pow_more 2 stage)
 
 -- each line is that of one splitter of a stage

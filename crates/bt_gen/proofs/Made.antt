@@ -8,7 +8,7 @@ use Rattle.bt_gen.specs.declared.fault.GenFault.{GenFault}
 use Rattle.bt_gen.specs.declared.fault.GenFault.TheVariants.{Order, Memory}
 use Rattle.bt_gen.specs.Orders.{IsGenerated}
 
-one_made : (most : ℕ) (made : ℕ → Network) (order : ℕ) → HasOneAnswer (IsGenerated most made order)
+pub one_made : (most : ℕ) (made : ℕ → Network) (order : ℕ) → HasOneAnswer (IsGenerated most made order)
 one_made most made order (Ok m) (Ok n) p q = ap Ok (p.1 ∙ sym q.1)
 one_made most made order (Ok m) (Err (Order k)) p q = absurd (q.0 p.0)
 one_made most made order (Ok m) (Err Memory) p q = absurd q

@@ -6,8 +6,8 @@ use Rattle.std.proofs.lemmas.List.{append-nil}
 use Rattle.std.proofs.lemmas.List.Concat.{flat_map-append}
 use Rattle.std.proofs.lemmas.List.FromFn.{map-range_with_len_more}
 
--- a power of at most 6 is at most 64
-pub power_small : (e : ℕ) → e ≤ 6 → 2 ^ e ≤ 64
+-- a power of at most 7 is at most 128
+pub power_small : (e : ℕ) → e ≤ 7 → 2 ^ e ≤ 128
 power_small e small = pow-le-pow_right {n = 2} (omega arith) small
 
 -- two small factors have a small product

@@ -1,6 +1,8 @@
 //! Butterflies: stages in which each splitter joins two lines that lie a power of two apart.
 ghost use Rattle.std.specs.Prelude.{◌≡◌, ◌↔◌, ◌^◌, ◌*◌, ◌+◌, ◌<◌, ◌≤◌, ◌++◌, ℕ, IfOk, OnOk};
 ghost use Rattle.bt_answers.specs.Answers.{Answers};
+ghost use Rattle.bt_flow.specs.declared.property.Property.TheVariants.{Balanced};
+ghost use Rattle.bt_flow.specs.Properties.{Holds};
 ghost use Rattle.bt_gen.specs.Butterfly.{number, lesser_line, greater_line, HasLine, place_with_line};
 ghost use Rattle.bt_gen.specs.Butterfly.{leads_to, input_edge, input_edges, out_edges, stage_edges};
 ghost use Rattle.bt_gen.specs.Butterfly.{butterfly_edges, butterfly_net};
@@ -12,14 +14,19 @@ use bt_net::{Edge, Net, Start, Target};
 use std::alloc::{AllocError, Global};
 
 /// The most stages of a butterfly, which has at least one.
-pub const MOST_STAGES: u32 = 5;
+pub const MOST_STAGES: u32 = 7;
 
 /// The butterfly of this order, from 1 to `MOST_STAGES`: 2^order inputs and outputs, and `order` stages
 /// of 2^(order - 1) splitters. In each stage each line goes through one splitter, and splitter `place`
 /// of stage `stage` has the number `stage * 2^(order - 1) + place`. `Order` exactly where the order is
 /// none of these.
+///
+/// It is balanced: where no output is blocked, all outputs carry the same. From the outputs back, a backed
+/// edge is full, so each splitter divides evenly; and from the inputs on, the lines of a block carry the
+/// same behind the stage that has joined them.
 pub fn butterfly(alloc: Global, order: u32) -> Result<Net, GenFault>
-    ensures { Answers GenFault.Memory (IsGenerated MOST_STAGES butterfly_net order) result }
+    ensures answers { Answers GenFault.Memory (IsGenerated MOST_STAGES butterfly_net order) result }
+    ensures balanced { IfOk result (λ net. Holds net Balanced) }
 {
     if order < 1 || order > MOST_STAGES {
         return Err(GenFault::Order(order));
@@ -77,7 +84,7 @@ fn push_stage(edges: &mut Vec<Edge>, order: u32, stage: u32) -> Result<(), Alloc
 fn out_edges(order: u32, stage: u32, place: u32) -> [Edge; 2]
     requires order { IsOrder MOST_STAGES order }
     requires stage { stage < order }
-    requires place { place < 64 }
+    requires place { place < 128 }
     ensures { result ≡ out_edges order stage place }
 {
     let from = Start::Split(number(order, stage, place));
@@ -94,7 +101,7 @@ fn out_edges(order: u32, stage: u32, place: u32) -> [Edge; 2]
 fn leads_to(order: u32, stage: u32, line: u32, output: u32) -> Target
     requires order { IsOrder MOST_STAGES order }
     requires stage { stage < order }
-    requires line { line < 5000 }
+    requires line { line < 20000 }
     ensures { result ≡ leads_to order stage line output }
 {
     let next = stage + 1;
@@ -109,7 +116,7 @@ fn leads_to(order: u32, stage: u32, line: u32, output: u32) -> Target
 fn number(order: u32, stage: u32, place: u32) -> u32
     requires order { IsOrder MOST_STAGES order }
     requires stage { stage < order }
-    requires place { place < 1000000 }
+    requires place { place < 3000000 }
     ensures { result ≡ number order stage place }
 {
     stage * power(order - 1) + place
@@ -117,10 +124,10 @@ fn number(order: u32, stage: u32, place: u32) -> u32
 
 /// The lesser line of a splitter.
 fn lesser_line(stage: u32, place: u32) -> u32
-    requires stage { stage < 5 }
-    requires place { place < 64 }
+    requires stage { stage < 7 }
+    requires place { place < 128 }
     ensures line { result ≡ lesser_line stage place }
-    ensures small { result < 4200 }
+    ensures small { result < 17000 }
 {
     let apart = power(stage);
     place / apart * power(stage + 1) + place % apart
@@ -128,10 +135,10 @@ fn lesser_line(stage: u32, place: u32) -> u32
 
 /// The place of the splitter of a stage that has this line.
 fn place_with_line(stage: u32, line: u32) -> u32
-    requires stage { stage < 5 }
-    requires line { line < 5000 }
+    requires stage { stage < 7 }
+    requires line { line < 20000 }
     ensures place { result ≡ place_with_line stage line }
-    ensures small { result < 1000000 }
+    ensures small { result < 3000000 }
 {
     let apart = power(stage);
     line / power(stage + 1) * apart + line % apart

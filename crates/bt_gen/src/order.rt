@@ -20,10 +20,10 @@ pub fn edge(start: Start, target: Target) -> Edge
 
 /// Two to this power.
 pub fn power(exponent: u32) -> u32
-    requires { exponent ≤ 6 }
+    requires { exponent ≤ 7 }
     ensures power { result ≡ 2 ^ exponent }
     ensures positive { 1 ≤ result }
-    ensures small { result ≤ 64 }
+    ensures small { result ≤ 128 }
 {
     1 << exponent
 }
