@@ -3,6 +3,7 @@
 
 mod blueprint;
 mod fault;
+mod law;
 mod member;
 mod name;
 mod piece;
@@ -10,4 +11,5 @@ mod shift;
 
 pub use blueprint::{MOST_ENTITIES, parts_of};
 pub use fault::{EntityFault, EntityName, Member};
+pub use law::limits_are;
 pub use std::alloc::AllocError as Memory;

@@ -25,4 +25,4 @@ pub use property::Property;
 pub use reading::{one_state, read_state};
 pub use state::State;
 pub use std::alloc::AllocError as Memory;
-pub use theorems::{equal_caps_even, has_flows, holds_exactly};
+pub use theorems::{equal_caps_even, has_flows, holds_exactly, tests_are};

@@ -1,10 +1,12 @@
 //! What is true of every network and every state.
-ghost use Rattle.std.specs.Prelude.{ℕ, ◌↔◌};
+ghost use Rattle.std.specs.Prelude.{◌≡◌, ℕ, ◌↔◌};
 ghost use Rattle.bt_net.specs.Network.{Network};
 ghost use Rattle.bt_flow.specs.declared.property.Property.{Property};
 ghost use Rattle.bt_flow.specs.States.{Flows, Fractions, AreLowest, StandsFor, Fits};
 ghost use Rattle.bt_flow.specs.EqualCaps.{EqualCapsEven};
 ghost use Rattle.bt_flow.specs.Properties.{Holds, Breaks};
+
+use crate::judgement::{FIRST_LAW, LAST_LAW, LAST_TEST};
 
 /// Fractions in lowest terms that fit a network stand for whole numbers over one denominator, so what
 /// is said of each of these is said of the fractions.
@@ -21,4 +23,11 @@ pub fn equal_caps_even()
 /// A network has a property exactly where no state breaks it.
 pub fn holds_exactly()
     ensures { (n : Network) (p : Property) → Holds n p ↔ ((s : Flows) → Breaks n p s → ⊥) }
+{}
+
+/// The places of the first law, the last law and the last test in the list of tests, as numbers.
+pub fn tests_are()
+    ensures first { FIRST_LAW ≡ 2 }
+    ensures last { LAST_LAW ≡ 8 }
+    ensures conclusion { LAST_TEST ≡ 9 }
 {}

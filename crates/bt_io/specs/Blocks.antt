@@ -18,13 +18,13 @@ pub record TakesPiece (source : Passage) (before after : List ℕ) : Type 0 wher
   pub behind : after ≡ before ++ piece
   pub some : 0 < length piece
 
--- what one read did: a piece stands behind the bytes so far, which are within the limit; or the source had ended; or it failed, or memory ran out, and nothing was taken; or with this piece one byte past the limit was taken
+-- what one read did: a piece stands behind the bytes so far, which are within the limit; or the source had ended; or it failed, or memory ran out, and nothing was taken and the bytes stayed; or with this piece one byte past the limit was taken
 abbrev pub IsReadOn : ℕ → Passage → List ℕ → List ℕ → Result Bool ReadAll → Type 0
 IsReadOn limit source before after (Ok true) = TakesPiece source before after × (length after ≤ limit)
 IsReadOn limit source before after (Ok false) = TakesNothing source × IsAtEnd source.after × (after ≡ before)
-IsReadOn limit source before after (Err ReadFault) = HasFault source × TakesNothing source
+IsReadOn limit source before after (Err ReadFault) = HasFault source × TakesNothing source × (after ≡ before)
 IsReadOn limit source before after (Err TooLong) = TakesPiece source before after × (length after ≡ limit + 1)
-IsReadOn limit source before after (Err Memory) = TakesNothing source
+IsReadOn limit source before after (Err Memory) = TakesNothing source × (after ≡ before)
 
 -- a source was read on, and its count of faults has not fallen
 pub record ReadsOn (limit : ℕ) (source : Passage) (before after : List ℕ) (result : Result Bool ReadAll) : Type 0 where

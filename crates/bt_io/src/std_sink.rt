@@ -1,6 +1,7 @@
 //! The writers of std as sinks, whose faults are counted.
 ghost use Rattle.std.specs.Prelude.{◌≡◌, OnOk, OnErr};
 ghost use Rattle.std.specs.Io.{WritesAtMost};
+ghost use Rattle.std.specs.Io.KnownBytes.{Keeps};
 ghost use Rattle.bt_io.specs.Bytes.{TakesSome};
 ghost use Rattle.bt_io.specs.Causes.{HasCause, next_count};
 ghost use Rattle.bt_io.specs.Streams.{StreamAppends};
@@ -36,9 +37,10 @@ impl<W: Write> StdSink<W> {
         StdSink { output, faults: 0 }
     }
 
-    /// Has the writer pass on what it keeps back, as one with a buffer does. The count rises where that
-    /// fails, and only there.
+    /// Has the writer pass on what it keeps back, as one with a buffer does. The bytes that it holds stay.
+    /// The count rises where that fails, and only there.
     pub fn flush(&mut self) -> Result<(), WriteFault>
+        ensures held { Keeps (W.contents self.old.stream) (W.contents self.new.stream) }
         ensures counted { OnErr result (self.new.faults ≡ next_count self.old.faults) }
         ensures uncounted { OnOk result (self.new.faults ≡ self.old.faults) }
     {

@@ -16,7 +16,7 @@ mod tree;
 
 pub use decimal::Decimal;
 pub use fault::JsonFault;
-pub use law::longer_is_read;
+pub use law::{limits_are, longer_is_read};
 pub use limits::{MOST_EXPONENT, MOST_HALVES, MOST_LEVELS};
 pub use reader::read;
 pub use std::alloc::AllocError as Memory;

@@ -4,6 +4,8 @@ ghost use Rattle.bt_parts.specs.declared.part.Part.{Part};
 ghost use Rattle.bt_net.specs.Network.{Network};
 ghost use Rattle.bt_model.specs.Shown.{Naming, Shows, IsNumbered};
 
+use crate::request::{MOST_ACROSS, MOST_REQUESTED};
+
 /// A layout shows the network that is numbered for it, under the numbering as naming.
 pub fn numbered_shows()
     ensures { (parts : List Part) (net : Network) (naming : Naming)
@@ -16,4 +18,10 @@ pub fn one_network()
         → IsNumbered parts m a → IsNumbered parts n b → m ≡ n }
     ensures naming { (parts : List Part) (m n : Network) (a b : Naming)
         → IsNumbered parts m a → IsNumbered parts n b → a ≡ b }
+{}
+
+/// The limits of a request, as numbers.
+pub fn limits_are()
+    ensures across { MOST_ACROSS ≡ 16 }
+    ensures requested { MOST_REQUESTED ≡ 128 }
 {}

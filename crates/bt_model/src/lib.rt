@@ -12,7 +12,7 @@ mod ringing;
 
 pub use fault::RequestFault;
 pub use giving::{hands, pair};
-pub use laws::{numbered_shows, one_network};
+pub use laws::{limits_are, numbered_shows, one_network};
 pub use plain::is_kind;
 pub use request::{MOST_ACROSS, MOST_REQUESTED, Request};
 pub use ringing::ring;

@@ -5,6 +5,8 @@ ghost use Rattle.bt_net.specs.NetText.{BeginsWithNet};
 ghost use Rattle.bt_net.specs.Readings.{IsNetRead, IsPlainRead, PrintedIsRead, PrintedIsPlain};
 ghost use Rattle.bt_net.specs.Longer.{Stays, StaysRefused};
 
+use crate::network::{MOST_CAP, MOST_OF_EACH, NO_COORDINATE};
+
 /// Bytes begin with the text of one network at most, and what follows it is one.
 pub fn one_net()
     ensures { (bytes : List ℕ) (m n : Network) (r s : List ℕ) → IsNetwork m → IsNetwork n
@@ -24,4 +26,11 @@ pub fn longer_is_read()
     ensures plain { Stays IsPlainRead }
     ensures refused { StaysRefused IsNetRead }
     ensures plainly_refused { StaysRefused IsPlainRead }
+{}
+
+/// The limits of a network and of its text, as numbers.
+pub fn limits_are()
+    ensures each { MOST_OF_EACH ≡ 2048 }
+    ensures cap { MOST_CAP ≡ 4 }
+    ensures coordinate { NO_COORDINATE ≡ 1000000000 }
 {}

@@ -14,7 +14,7 @@ mod wiring;
 mod words;
 
 pub use fault::NetFault;
-pub use law::{longer_is_read, one_net, printed_is_read};
+pub use law::{limits_are, longer_is_read, one_net, printed_is_read};
 pub use net::Net;
 pub use network::{Block, Edge, End, MOST_CAP, MOST_OF_EACH, NO_COORDINATE, Pin, Start, Target};
 pub use printing::print;

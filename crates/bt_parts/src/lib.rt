@@ -3,10 +3,12 @@
 #![tactic(auto)]
 
 mod handing;
+mod law;
 mod part;
 mod piece;
 
 pub use handing::{accepts, side};
+pub use law::limits_are;
 pub use part::{
     Cell, Dir, Kind, MOST_COORDINATE, Part, Rect, Side, Tier, back, cells_of, front, inside,
 };

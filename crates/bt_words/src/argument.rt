@@ -14,7 +14,7 @@ use bt_text::{after_word, split_once};
 pub const MOST_ORDER: u32 = 999_999_999;
 
 /// The most steps to which `--learnt` may limit a log.
-pub const MOST_LEARNT: u64 = 1_000_000;
+pub const MOST_LEARNT: u64 = 1_000_000_000;
 
 /// The most turns to which `--pivots` may limit the solving of rows.
 pub const MOST_PIVOTS: u64 = 100_000;

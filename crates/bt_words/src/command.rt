@@ -15,7 +15,7 @@ use bt_theory::Limits;
 pub const USUAL_LEARNT: u64 = 100_000;
 
 /// The most turns of one call, where the words don't say.
-pub const USUAL_PIVOTS: u64 = 10_000;
+pub const USUAL_PIVOTS: u64 = 100_000;
 
 /// The kinds of networks that are made.
 #[derive(Clone, Copy, PartialEq, Eq)]

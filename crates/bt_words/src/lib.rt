@@ -8,9 +8,11 @@ mod argument;
 mod command;
 mod given;
 mod grid;
+mod law;
 mod number;
 mod verb;
 
 pub use argument::{MOST_LEARNT, MOST_ORDER, MOST_PIVOTS};
 pub use bt_theory::Limits;
 pub use command::{Command, Family, USUAL_LEARNT, USUAL_PIVOTS, command_of, one_command};
+pub use law::limits_are;
