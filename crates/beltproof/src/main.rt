@@ -3,8 +3,8 @@
 
 use bt_cnf::Chooser;
 use bt_io::{StdSink, StdSource};
-use bt_sat::{Highest, Lowest, Recent};
-use bt_top::{NO_MEMORY, WRITE_FAULT, run};
+use bt_sat::{Active, Highest, Lowest, Recent};
+use bt_top::{Choosers, NO_MEMORY, WRITE_FAULT, run};
 use std::alloc::AllocError;
 use std::env;
 use std::io::{BufWriter, ErrorKind};
@@ -27,14 +27,19 @@ fn words_of(rt: &HostRuntime) -> Option<Vec<String>> {
     Some(words)
 }
 
-/// Runs the program over the words, with three choosers in turn. What it writes is gathered into large
-/// writes, since a log has hundreds of thousands of words; so the last of it is passed on at the end.
+/// Runs the program over the words. One chooser steers decisions, by the activity of variables, and three in turn steer
+/// the search for layouts. What is written is gathered into large writes, since a log has hundreds of thousands of
+/// words; so the last of it is passed on at the end.
 fn status(rt: &HostRuntime, words: &[String]) -> Result<u8, AllocError> {
     let alloc = rt.alloc();
+    let active: Box<dyn Chooser> = Box::new(alloc, Active::new(alloc)?)?;
     let lowest: Box<dyn Chooser> = Box::new(alloc, Lowest::new())?;
     let recent: Box<dyn Chooser> = Box::new(alloc, Recent::new(alloc)?)?;
     let highest: Box<dyn Chooser> = Box::new(alloc, Highest::new())?;
-    let choosers = vec![in alloc; lowest, recent, highest]?;
+    let choosers = Choosers {
+        decisions: vec![in alloc; active]?,
+        layouts: vec![in alloc; lowest, recent, highest]?,
+    };
     let mut source = StdSource::new(rt.stdin());
     let Ok(output) = BufWriter::new(alloc, rt.stdout()) else {
         return Ok(NO_MEMORY);

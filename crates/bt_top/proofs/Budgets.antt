@@ -1,5 +1,5 @@
--- Budgets of steps that no search uses up.
-use Rattle.std.proofs.Common.{◌≡◌, ◌≢◌, ◌⊎◌, ℕ, Bool, true, false, List, Result, Ok, Err, inl, inr, ap, sym, subst, ◌∙◌, arith}
+-- Budgets of steps and of turns that no search uses up.
+use Rattle.std.proofs.Common.{◌≡◌, ◌≢◌, ◌≤◌, ◌⊎◌, ℕ, Bool, true, false, List, Result, Ok, Err, inl, inr, ap, sym, subst, ◌∙◌, arith}
 use Rattle.bt_io.specs.Passages.{Passage}
 use Rattle.bt_io.specs.declared.fault.WriteFault.{WriteFault}
 use Rattle.bt_cnf.specs.Formulas.{FormulaParts}
@@ -10,8 +10,14 @@ use Rattle.bt_net.specs.Network.{Network}
 use Rattle.bt_flow.specs.declared.property.Property.{Property}
 use Rattle.bt_flow.specs.declared.property.Property.TheVariants.{Balanced}
 use Rattle.bt_fenc.specs.FlowFormula.{flow_formula}
-use Rattle.bt_theory.specs.Outcomes.{IsUsedUp}
+use Rattle.bt_simplex.specs.Counting.{most_bases}
+use Rattle.bt_simplex.specs.declared.answers.Trail.{Trail}
+use Rattle.bt_theory.specs.Reaching.{atom_rows, columns_of}
+use Rattle.bt_theory.specs.Outcomes.{IsUsedUp, IsGivenUp, TurnsOn}
+use Rattle.bt_theory.specs.declared.outcome.GaveUp.{GaveUp}
+use Rattle.bt_theory.specs.declared.outcome.GaveUp.TheVariants as gave
 use Rattle.bt_theory.specs.declared.outcome.Limits.{Limits}
+use Rattle.bt_gen.specs.Chain.{chain_net}
 use Rattle.bt_gen.specs.declared.fault.GenFault.{GenFault}
 use Rattle.bt_gen.specs.declared.fault.GenFault.TheVariants as gen
 use Rattle.bt_decide.specs.declared.verdict.Verdict.{Verdict}
@@ -22,8 +28,11 @@ use Rattle.bt_layout.specs.declared.outcome.Layout.TheVariants as layout
 use Rattle.bt_layout.specs.Layouts.{IsLayout}
 use Rattle.bt_model.specs.Requests.{LayoutRequest}
 use Rattle.bt_place.specs.PlaceFormula.{place_formula}
+use Rattle.bt_words.specs.declared.command.Command.{Command}
+use Rattle.bt_words.specs.Commands.{IsCommand}
 use Rattle.bt_words.specs.declared.command.Command.TheVariants.{FlowCheck, Recover, Check, Decide, Make, Layout, CheckLayout}
 use Rattle.bt_words.specs.declared.command.Family.{Family}
+use Rattle.bt_words.specs.declared.command.Family.TheVariants.{Butterfly, Chain}
 use Rattle.bt_top.specs.declared.answer.Answer.{Answer}
 use Rattle.bt_top.specs.declared.answer.Answer.TheVariants as answer
 use Rattle.bt_top.specs.declared.fault.DesignFault.{DesignFault}
@@ -31,10 +40,12 @@ use Rattle.bt_top.specs.declared.fault.DesignFault.TheVariants as design
 use Rattle.bt_top.specs.declared.refusal.Refusal.TheVariants as refusal
 use Rattle.bt_top.specs.declared.program.TheConstants.{READ_FAULT, NO_MEMORY}
 use Rattle.bt_top.specs.Answering.{IsRightTo}
-use Rattle.bt_top.specs.Answers.{status_of}
-use Rattle.bt_top.specs.Budgets.{IsAmple, HasAmple, AmpleIsNeverSpent, AmpleNeverEndsSpent}
+use Rattle.bt_top.specs.Answers.{status_of, gave_up_status}
+use Rattle.bt_top.specs.Budgets.{IsAmple, HasAmple, AmpleIsNeverSpent, AmpleNeverEndsSpent, IsAmpleOfTurns, HasAmpleTurns, AmpleTurnsAreNeverMade, AmpleTurnsNeverEndMade}
 use Rattle.bt_top.specs.Deciding.{verdict_told}
-use Rattle.bt_top.specs.Endings.{IsTold, status_after}
+use Rattle.bt_top.specs.Alone.{IsLoneNet}
+use Rattle.bt_top.specs.Endings.{IsTold, status_after, Ends}
+use Rattle.bt_top.specs.Inputs.{IsInput}
 use Rattle.bt_top.specs.LayingOut.{layout_told}
 use Rattle.bt_top.specs.Making.{made_of, gen_told, balance_told}
 use Rattle.bt_top.specs.Replies.{Reply, design_told}
@@ -43,99 +54,151 @@ use Rattle.bt_top.proofs.InTurns.{same_value, not_both}
 use Rattle.bt_top.proofs.OneAnswer.{one_lone_net}
 use Rattle.bt_top.proofs.OneRequest.{one_lone_request}
 
--- a reply that tells no answer with that status
-abbrev NeverSpent : Reply → Type 0
-NeverSpent reply = (a : Answer) → reply ≡ Ok a → status_of a ≢ 4
-
--- an answer with another status
-other_status : (b : Answer) → status_of b ≢ 4 → NeverSpent (Ok b)
-other_status b other a e spent = other (ap status_of (same_value b a e) ∙ spent)
-
 -- the steps of an ample budget are never used up
 never_used_up : (f : FormulaParts) (learnt : ℕ) (steps : List Step) → IsAmple f learnt → IsUsedUp f learnt steps → ⊥
 never_used_up f learnt steps ample used = omega (arith, ample, used.few)
 
-design_never : (fault : DesignFault) → NeverSpent (design_told fault)
-design_never (design.Refused r) = other_status (answer.Refused r) (λ e. omega (arith, e))
-design_never design.Memory = λ a e. absurd (not_both a _ (sym e))
+-- the turns of an ample budget are never all made
+never_all_made : (f : FormulaParts) (pivots : ℕ) (trail : Trail) → IsAmpleOfTurns f pivots → TurnsOn f pivots trail → ⊥
+never_all_made f pivots trail ample turned =
+    let bases : most_bases turned.tableau.columns turned.tableau.rows ≡ most_bases (columns_of f) (atom_rows f) =
+    ap (λ n. most_bases n turned.tableau.rows) turned.reached.tableau.columns ∙ ap (λ rows. most_bases (columns_of f) rows) turned.reached.tableau.rows in
+    omega (arith, ample, turned.turned.few, bases)
 
--- ---- decide
+-- a status above those of verdicts and refusals, which a search that is given up may have
+module _ (due : ℕ) (high : 4 ≤ due) where
+  -- a reply that tells no answer with that status
+  abbrev IsOther : Reply → Type 0
+  IsOther reply = (a : Answer) → reply ≡ Ok a → status_of a ≢ due
 
-verdict_never : (n : Network) (p : Property) (limits : Limits) (v : Verdict) → IsAmple (flow_formula n p) limits.learnt → IsVerdict n p limits v
-    → NeverSpent (Ok (verdict_told p v))
-verdict_never n p limits (verdict.Yes log) ample is = other_status (answer.Proved p log) (λ e. omega (arith, e))
-verdict_never n p limits (verdict.No state) ample is = other_status (answer.Broken p state) (λ e. omega (arith, e))
-verdict_never n p limits (verdict.Spent log) ample is = absurd (never_used_up (flow_formula n p) limits.learnt log.steps ample is)
-verdict_never n p limits (verdict.Pivots trail) ample is = other_status (answer.Pivots trail) (λ e. omega (arith, e))
-verdict_never n p limits (verdict.Wide wide) ample is = other_status (answer.Wide wide) (λ e. omega (arith, e))
+  -- an answer with another status
+  other_status : (b : Answer) → status_of b ≢ due → IsOther (Ok b)
+  other_status b other a e is = other (ap status_of (same_value b a e) ∙ is)
 
-decide_never : (p : Property) (limits : Limits) (bytes : List ℕ) (a : Answer) → HasAmple (Decide p limits) bytes → IsRightTo (Decide p limits) bytes (Ok a) → status_of a ≢ 4
-decide_never p limits bytes a ample (stopped fault h e) = design_never fault a (sym e)
-decide_never p limits bytes a (n, alone, ample) (went_on m h (v, is, e)) =
-    let same = same_value m n (one_lone_net bytes (Ok m) (Ok n) h alone) in
-    verdict_never m p limits v (subst (λ x. IsAmple (flow_formula x p) limits.learnt) (sym same) ample) is a (sym e)
+  -- no search over the formula within the limits is given up with that status
+  abbrev NeverGivesUp : FormulaParts → Limits → Type 0
+  NeverGivesUp f limits = (cause : GaveUp) → IsGivenUp f limits cause → gave_up_status cause ≢ due
 
--- ---- make
+  design_other : (fault : DesignFault) → IsOther (design_told fault)
+  design_other (design.Refused r) = other_status (answer.Refused r) (λ e. omega (arith, e, high))
+  design_other design.Memory = λ a e. absurd (not_both a _ (sym e))
 
-made_never : (family : Family) (order : ℕ) (n : Network) (balanced : Bool) → NeverSpent (Ok (made_of family order n balanced))
-made_never family order n true = other_status (made_of family order n true) (λ e. omega (arith, e))
-made_never family order n false = other_status (made_of family order n false) (λ e. omega (arith, e))
+  verdict_other : (n : Network) (p : Property) (limits : Limits) (v : Verdict) → NeverGivesUp (flow_formula n p) limits → IsVerdict n p limits v → IsOther (Ok (verdict_told p v))
+  verdict_other n p limits (verdict.Yes log) never is = other_status (answer.Proved p log) (λ e. omega (arith, e, high))
+  verdict_other n p limits (verdict.No state) never is = other_status (answer.Broken p state) (λ e. omega (arith, e, high))
+  verdict_other n p limits (verdict.GaveUp cause) never is = other_status (answer.GaveUp cause) (never cause is)
 
-balance_never : (family : Family) (order : ℕ) (n : Network) (limits : Limits) (v : Verdict) → IsAmple (flow_formula n Balanced) limits.learnt → IsVerdict n Balanced limits v
-    → NeverSpent (Ok (balance_told family order n v))
-balance_never family order n limits (verdict.Yes log) ample is = made_never family order n true
-balance_never family order n limits (verdict.No state) ample is = made_never family order n false
-balance_never family order n limits (verdict.Spent log) ample is = absurd (never_used_up (flow_formula n Balanced) limits.learnt log.steps ample is)
-balance_never family order n limits (verdict.Pivots trail) ample is = other_status (answer.Pivots trail) (λ e. omega (arith, e))
-balance_never family order n limits (verdict.Wide wide) ample is = other_status (answer.Wide wide) (λ e. omega (arith, e))
+  pub decide_other : (p : Property) (limits : Limits) (bytes : List ℕ) (n : Network) (a : Answer) → IsLoneNet bytes (Ok n) → NeverGivesUp (flow_formula n p) limits
+      → IsRightTo (Decide p limits) bytes (Ok a) → status_of a ≢ due
+  decide_other p limits bytes n a alone never (stopped fault h e) = design_other fault a (sym e)
+  decide_other p limits bytes n a alone never (went_on m h (v, is, e)) =
+      let same = same_value m n (one_lone_net bytes (Ok m) (Ok n) h alone) in
+      verdict_other m p limits v (subst (λ x. NeverGivesUp (flow_formula x p) limits) (sym same) never) is a (sym e)
 
-gen_never : (fault : GenFault) → NeverSpent (gen_told fault)
-gen_never (gen.Order order) = other_status (answer.Refused (refusal.Order order)) (λ e. omega (arith, e))
-gen_never gen.Memory = λ a e. absurd (not_both a _ (sym e))
+  made_other : (family : Family) (order : ℕ) (n : Network) (balanced : Bool) → IsOther (Ok (made_of family order n balanced))
+  made_other family order n true = other_status (made_of family order n true) (λ e. omega (arith, e, high))
+  made_other family order n false = other_status (made_of family order n false) (λ e. omega (arith, e, high))
 
-make_never : (family : Family) (order : ℕ) (limits : Limits) (bytes : List ℕ) (a : Answer) → HasAmple (Make family order limits) bytes
-    → IsRightTo (Make family order limits) bytes (Ok a) → status_of a ≢ 4
-make_never family order limits bytes a ample (stopped fault h e) = gen_never fault a (sym e)
-make_never family order limits bytes a ample (went_on n h (v, is, e)) =
-    balance_never family order n limits v (subst (λ x. IsAmple (flow_formula x Balanced) limits.learnt) (sym h.1) ample) is a (sym e)
+  balance_other : (order : ℕ) (n : Network) (limits : Limits) (v : Verdict) → NeverGivesUp (flow_formula n Balanced) limits → IsVerdict n Balanced limits v
+      → IsOther (Ok (balance_told order n v))
+  balance_other order n limits (verdict.Yes log) never is = made_other Chain order n true
+  balance_other order n limits (verdict.No state) never is = made_other Chain order n false
+  balance_other order n limits (verdict.GaveUp cause) never is = other_status (answer.GaveUp cause) (never cause is)
 
--- ---- layout
+  gen_other : (fault : GenFault) → IsOther (gen_told fault)
+  gen_other (gen.Order order) = other_status (answer.Refused (refusal.Order order)) (λ e. omega (arith, e, high))
+  gen_other gen.Memory = λ a e. absurd (not_both a _ (sym e))
 
-layout_never : (r : LayoutRequest) (learnt : ℕ) (found : ALayout) → IsAmple (place_formula r) learnt → IsLayout r learnt found → NeverSpent (Ok (layout_told found))
-layout_never r learnt (layout.Found parts) ample is = other_status (answer.LaidOut parts) (λ e. omega (arith, e))
-layout_never r learnt (layout.Nowhere log) ample is = other_status (answer.Nowhere log) (λ e. omega (arith, e))
+  pub butterfly_other : (order : ℕ) (limits : Limits) (bytes : List ℕ) (a : Answer) → IsRightTo (Make Butterfly order limits) bytes (Ok a) → status_of a ≢ due
+  butterfly_other order limits bytes a (stopped fault h e) = gen_other fault a (sym e)
+  butterfly_other order limits bytes a (went_on n h (holds, e)) = made_other Butterfly order n true a (sym e)
+
+  pub chain_other : (order : ℕ) (limits : Limits) (bytes : List ℕ) (a : Answer) → NeverGivesUp (flow_formula (chain_net order) Balanced) limits
+      → IsRightTo (Make Chain order limits) bytes (Ok a) → status_of a ≢ due
+  chain_other order limits bytes a never (stopped fault h e) = gen_other fault a (sym e)
+  chain_other order limits bytes a never (went_on n h (v, is, e)) =
+      balance_other order n limits v (subst (λ x. NeverGivesUp (flow_formula x Balanced) limits) (sym h.1) never) is a (sym e)
+
+-- ---- steps
+
+high_four : 4 ≤ 4
+high_four = omega arith
+
+-- a search with ample steps is given up for another cause
+steps_never : (f : FormulaParts) (limits : Limits) → IsAmple f limits.learnt → (cause : GaveUp) → IsGivenUp f limits cause → gave_up_status cause ≢ 4
+steps_never f limits ample (gave.Spent log) is = absurd (never_used_up f limits.learnt log.steps ample is)
+steps_never f limits ample (gave.Pivots trail) is = λ e. omega (arith, e)
+steps_never f limits ample (gave.Wide wide) is = λ e. omega (arith, e)
+
+layout_never : (r : LayoutRequest) (learnt : ℕ) (found : ALayout) → IsAmple (place_formula r) learnt → IsLayout r learnt found → IsOther 4 high_four (Ok (layout_told found))
+layout_never r learnt (layout.Found parts) ample is = other_status 4 high_four (answer.LaidOut parts) (λ e. omega (arith, e))
+layout_never r learnt (layout.Nowhere log) ample is = other_status 4 high_four (answer.Nowhere log) (λ e. omega (arith, e))
 layout_never r learnt (layout.Spent log) ample is = absurd (never_used_up (place_formula r) learnt log.steps ample is)
 
 lay_never : (rect : Rect) (tier : Tier) (learnt : ℕ) (bytes : List ℕ) (a : Answer) → HasAmple (Layout rect tier learnt) bytes
     → IsRightTo (Layout rect tier learnt) bytes (Ok a) → status_of a ≢ 4
-lay_never rect tier learnt bytes a ample (stopped fault h e) = design_never fault a (sym e)
+lay_never rect tier learnt bytes a ample (stopped fault h e) = design_other 4 high_four fault a (sym e)
 lay_never rect tier learnt bytes a (r, alone, ample) (went_on s h (found, is, again, e)) =
     let same = same_value s r (one_lone_request rect tier bytes (Ok s) (Ok r) h alone) in
     layout_never s learnt found (subst (λ x. IsAmple (place_formula x) learnt) (sym same) ample) is a (sym e)
-
--- ---- all
 
 pub ample_is_never_spent : AmpleIsNeverSpent
 ample_is_never_spent (FlowCheck p) bytes a ample h = absurd ample
 ample_is_never_spent Recover bytes a ample h = absurd ample
 ample_is_never_spent (Check p) bytes a ample h = absurd ample
-ample_is_never_spent (Decide p limits) bytes a ample h = decide_never p limits bytes a ample h
-ample_is_never_spent (Make family order limits) bytes a ample h = make_never family order limits bytes a ample h
+ample_is_never_spent (Decide p limits) bytes a (n, alone, ample) h = decide_other 4 high_four p limits bytes n a alone (steps_never (flow_formula n p) limits ample) h
+ample_is_never_spent (Make Butterfly order limits) bytes a ample h = butterfly_other 4 high_four order limits bytes a h
+ample_is_never_spent (Make Chain order limits) bytes a ample h = chain_other 4 high_four order limits bytes a (steps_never (flow_formula (chain_net order) Balanced) limits ample) h
 ample_is_never_spent (Layout rect tier learnt) bytes a ample h = lay_never rect tier learnt bytes a ample h
 ample_is_never_spent (CheckLayout rect tier) bytes a ample h = absurd ample
 
--- what is told has that status only where the answer has it
-told_status : (a : Answer) (sink : Passage) (status : ℕ) → IsTold a sink status → status ≡ 4 → status_of a ≡ 4
-told_status a sink status (written, text, is) spent = by written is
-  where
-    by : (written : Result (Unit {0}) WriteFault) → status ≡ status_after (status_of a) written → status_of a ≡ 4
-    by (Ok done) is = sym is ∙ spent
-    by (Err fault) is = absurd (omega (arith, is, spent))
+-- ---- turns
 
-pub ample_never_ends_spent : AmpleNeverEndsSpent
-ample_never_ends_spent words source sink status command bytes ends is told ample spent = by (ends.complete command bytes is told)
+high_ten : 4 ≤ 10
+high_ten = omega arith
+
+-- a search with ample turns is given up for another cause
+turns_never : (f : FormulaParts) (limits : Limits) → IsAmpleOfTurns f limits.pivots → (cause : GaveUp) → IsGivenUp f limits cause → gave_up_status cause ≢ 10
+turns_never f limits ample (gave.Spent log) is = λ e. omega (arith, e)
+turns_never f limits ample (gave.Pivots trail) is = absurd (never_all_made f limits.pivots trail ample is)
+turns_never f limits ample (gave.Wide wide) is = λ e. omega (arith, e)
+
+pub ample_turns_are_never_made : AmpleTurnsAreNeverMade
+ample_turns_are_never_made (FlowCheck p) bytes a ample h = absurd ample
+ample_turns_are_never_made Recover bytes a ample h = absurd ample
+ample_turns_are_never_made (Check p) bytes a ample h = absurd ample
+ample_turns_are_never_made (Decide p limits) bytes a (n, alone, ample) h = decide_other 10 high_ten p limits bytes n a alone (turns_never (flow_formula n p) limits ample) h
+ample_turns_are_never_made (Make Butterfly order limits) bytes a ample h = butterfly_other 10 high_ten order limits bytes a h
+ample_turns_are_never_made (Make Chain order limits) bytes a ample h = chain_other 10 high_ten order limits bytes a (turns_never (flow_formula (chain_net order) Balanced) limits ample) h
+ample_turns_are_never_made (Layout rect tier learnt) bytes a ample h = absurd ample
+ample_turns_are_never_made (CheckLayout rect tier) bytes a ample h = absurd ample
+
+-- ---- how the program ends
+
+-- what is told has a status of that kind only where the answer has it
+told_status : (due : ℕ) (a : Answer) (sink : Passage) (status : ℕ) → due ≢ 7 → IsTold a sink status → status ≡ due → status_of a ≡ due
+told_status due a sink status other (written, text, is) spent = by written is
+  where
+    by : (written : Result (Unit {0}) WriteFault) → status ≡ status_after (status_of a) written → status_of a ≡ due
+    by (Ok done) is = sym is ∙ spent
+    by (Err fault) is = absurd (other (sym spent ∙ is))
+
+-- it ends with such a status only by a right answer that has it
+ends_by : (due : ℕ) (words : List (List ℕ)) (source sink : Passage) (status : ℕ) (command : Command) (bytes : List ℕ) → due ≢ 6 → due ≢ 7 → due ≢ 8 → Ends words source sink status
+    → IsCommand command words → IsInput command source bytes → ((a : Answer) → IsRightTo command bytes (Ok a) → status_of a ≢ due) → status ≢ due
+ends_by due words source sink status command bytes six seven eight ends is told never spent = by (ends.complete command bytes is told)
   where
     by : ((a : Answer) × IsRightTo command bytes (Ok a) × IsTold a sink status) ⊎ (status ≡ READ_FAULT) ⊎ (status ≡ NO_MEMORY) → ⊥
-    by (inl (a, right, was)) = ample_is_never_spent command bytes a ample right (told_status a sink status was spent)
-    by (inr (inl fault)) = omega (arith, fault, spent)
-    by (inr (inr none)) = omega (arith, none, spent)
+    by (inl (a, right, was)) = never a right (told_status due a sink status seven was spent)
+    by (inr (inl fault)) = six (sym spent ∙ fault)
+    by (inr (inr none)) = eight (sym spent ∙ none)
+
+pub ample_never_ends_spent : AmpleNeverEndsSpent
+ample_never_ends_spent words source sink status command bytes ends is told ample =
+    ends_by 4 words source sink status command bytes (λ e. omega (arith, e)) (λ e. omega (arith, e)) (λ e. omega (arith, e)) ends is told
+    (λ a right. ample_is_never_spent command bytes a ample right)
+
+pub ample_turns_never_end_made : AmpleTurnsNeverEndMade
+ample_turns_never_end_made words source sink status command bytes ends is told ample =
+    ends_by 10 words source sink status command bytes (λ e. omega (arith, e)) (λ e. omega (arith, e)) (λ e. omega (arith, e)) ends is told
+    (λ a right. ample_turns_are_never_made command bytes a ample right)

@@ -10,13 +10,13 @@ use Rattle.bt_words.proofs.OneCommand.{same_command}
 use Rattle.bt_top.specs.declared.answer.Answer.{Answer}
 use Rattle.bt_top.specs.declared.answer.Answer.TheVariants as answer
 use Rattle.bt_top.specs.declared.program.TheConstants.{READ_FAULT, NO_MEMORY}
-use Rattle.bt_top.specs.Answering.{IsRightTo, HasOneRight}
+use Rattle.bt_top.specs.Answering.{IsRightTo, IsOnly}
 use Rattle.bt_top.specs.Inputs.{IsUntouched, IsInput, ReadsInput}
 use Rattle.bt_top.specs.Endings.{IsRight, no_command, too_long, to_bytes, IsTold, IsEnding, told, read_fault, no_memory, Ends}
 use Rattle.bt_top.specs.inner.Telling.{IsAnswered, IsAnsweredTo, IsToldUnlessMemory, IsLineTold}
 use Rattle.bt_top.proofs.InTurns.{same_value}
 use Rattle.bt_top.proofs.InputsTold.{read_before, input_told, not_too_long}
-use Rattle.bt_top.proofs.OneAnswer.{one_right_to}
+use Rattle.bt_top.proofs.OneAnswer.{only_right}
 
 -- what a command answered is answered to its words
 pub to_words : (words : List (List ℕ)) (command : Command) (source : Passage) (r : Result Answer ReadAll) → IsCommand command words
@@ -67,9 +67,9 @@ ends words source sink status ending = record {
     complete (no_memory d v r u s) c bytes w is = inr (inr s)
 
     only : IsEnding words source sink status → (c : Command) (bytes : List ℕ) (b : Answer) → IsCommand c words → IsInput c source bytes
-        → HasOneRight c → IsRightTo c bytes (Ok b) → IsTold b sink status ⊎ (status ≡ READ_FAULT) ⊎ (status ≡ NO_MEMORY)
+        → IsOnly c b → IsRightTo c bytes (Ok b) → IsTold b sink status ⊎ (status ≡ READ_FAULT) ⊎ (status ≡ NO_MEMORY)
     only (told a right t) c bytes b w is once h =
-        let same = same_value a b (one_right_to c bytes once (Ok a) (Ok b) (right_to_input words source a c bytes w is right) h) in
+        let same = only_right c bytes a b once (right_to_input words source a c bytes w is right) h in
         inl (subst (λ x. IsTold x sink status) same t)
     only (read_fault d v r u s) c bytes b w is once h = inr (inl s)
     only (no_memory d v r u s) c bytes b w is once h = inr (inr s)

@@ -134,7 +134,7 @@ module _ {S : Type 0} (left : S → Option (List ℕ)) (faults : S → ℕ) (fir
     read = (after, piece_taken r.read.0, r.read.1);
     count = omega (arith, r.count, count);
   }
-  stopped_left Right Memory r = record { read = (bytes, nothing r.read, few); count = omega (arith, r.count, count) }
+  stopped_left Right Memory r = record { read = (bytes, nothing r.read.0, few); count = omega (arith, r.count, count) }
 
 -- what was read is no more than what may be read before memory runs out
 pub memory_left : (limit : ℕ) (source : Passage) (bytes : List ℕ) → Consumes source.before source.after bytes → length bytes ≤ limit → source.faults ≤ source.faults_after

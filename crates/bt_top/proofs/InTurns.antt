@@ -7,7 +7,7 @@ use Rattle.bt_top.specs.Steps.{InTurn, stopped, went_on}
 pub same_value : {A E : Type 0} (v w : A) → ◌≡◌ {A = Result A E} (Ok v) (Ok w) → v ≡ w
 same_value v w e = cc
 
-same_fault : {A E : Type 0} (e f : E) → ◌≡◌ {A = Result A E} (Err e) (Err f) → e ≡ f
+pub same_fault : {A E : Type 0} (e f : E) → ◌≡◌ {A = Result A E} (Err e) (Err f) → e ≡ f
 same_fault e f i = cc
 
 pub not_both : {A E : Type 0} (v : A) (e : E) → ◌≡◌ {A = Result A E} (Ok v) (Err e) → ⊥

@@ -1,5 +1,5 @@
 -- A command has one answer to the bytes of its input.
-use Rattle.std.proofs.Common.{ℕ, List, drop, inl, inr, ap, sym, subst, ◌∙◌, Ok}
+use Rattle.std.proofs.Common.{◌≡◌, ◌≢◌, ℕ, List, drop, inl, inr, ap, sym, subst, ◌∙◌, Result, Ok, Err, arith}
 use Rattle.bt_answers.specs.Answers.{HasOneAnswer}
 use Rattle.bt_text.proofs.FirstLines.{IsFirstLine-unique}
 use Rattle.bt_net.specs.Network.{Network, IsNetwork}
@@ -19,21 +19,38 @@ use Rattle.bt_flow.proofs.OneAnswer.{one_breaking_answer}
 use Rattle.bt_flow.proofs.StateTexts.{one_state_read}
 use Rattle.bt_top.specs.declared.answer.Answer.{Answer}
 use Rattle.bt_top.specs.declared.answer.Answer.TheVariants as answer
-use Rattle.bt_words.specs.declared.command.Command.{Command}
 use Rattle.bt_words.specs.declared.command.Command.TheVariants.{FlowCheck, Recover, Check, Decide, Make, Layout, CheckLayout}
+use Rattle.bt_words.specs.declared.command.Family.TheVariants.{Butterfly, Chain}
+use Rattle.bt_theory.specs.declared.outcome.GaveUp.{GaveUp}
+use Rattle.bt_theory.specs.declared.outcome.GaveUp.TheVariants as gave
+use Rattle.bt_decide.specs.declared.verdict.Verdict.{Verdict}
+use Rattle.bt_decide.specs.declared.verdict.Verdict.TheVariants as verdict
+use Rattle.bt_layout.specs.declared.outcome.Layout.{Layout as ALayout}
+use Rattle.bt_layout.specs.declared.outcome.Layout.TheVariants as layout
+use Rattle.bt_gen.specs.declared.butterflies.TheConstants.{MOST_STAGES}
+use Rattle.bt_gen.specs.declared.chains.TheConstants.{MOST_IN_CHAIN}
+use Rattle.bt_gen.specs.Butterfly.{butterfly_net}
+use Rattle.bt_gen.specs.Chain.{chain_net}
+use Rattle.bt_gen.specs.Orders.{IsGenerated}
+use Rattle.bt_gen.proofs.Made.{one_made}
 use Rattle.bt_top.specs.Designs.{IsDesign}
 use Rattle.bt_top.specs.Certificates.{cert_told, IsYesChecked, IsTextChecked, IsCertificateChecked, IsCertified}
 use Rattle.bt_top.specs.Alone.{IsLoneNet}
-use Rattle.bt_top.specs.Answering.{IsRightTo, HasOneRight}
+use Rattle.bt_top.specs.Answering.{OneRightAnswer}
+use Rattle.bt_top.specs.Answers.{status_of}
+use Rattle.bt_top.specs.Deciding.{IsDecided, verdict_told}
+use Rattle.bt_top.specs.LayingOut.{IsLaidOut, layout_told}
+use Rattle.bt_top.specs.Making.{IsSaidBalanced, IsBalanceDecided, balance_told, gen_told}
 use Rattle.bt_top.specs.NoneCertificates.{IsNoneChecked, IsNoneTextChecked, IsNoneCertificateChecked, IsLayoutChecked}
 use Rattle.bt_top.specs.Recovering.{IsRecoveredFrom}
-use Rattle.bt_top.specs.Requested.{IsFrontRequest}
-use Rattle.bt_top.specs.Replies.{design_told}
+use Rattle.bt_top.specs.Requested.{IsFrontRequest, IsLoneRequest}
+use Rattle.bt_top.specs.Replies.{Reply, design_told}
 use Rattle.bt_top.specs.States.{verdict, state_told, IsJudged, IsStateJudged, IsStateChecked, IsChecked}
+use Rattle.bt_top.specs.Steps.{InTurn, stopped, went_on}
 use Rattle.bt_top.proofs.Blanks.{one_rest}
-use Rattle.bt_top.proofs.InTurns.{one_in_turn, one_in_turn_of}
+use Rattle.bt_top.proofs.InTurns.{one_in_turn, one_in_turn_of, same_value, same_fault, not_both}
 use Rattle.bt_top.proofs.OneDesign.{one_design, design_network}
-use Rattle.bt_top.proofs.OneRequest.{one_front_request, front_request}
+use Rattle.bt_top.proofs.OneRequest.{one_front_request, one_lone_request, front_request}
 use Rattle.bt_top.proofs.StandingAlone.{one_alone}
 
 -- ---- flow-check
@@ -107,14 +124,58 @@ one_layout_checked rect tier bytes =
     one_in_turn_of (IsFrontRequest rect tier bytes) design_told _ (one_front_request rect tier bytes)
     (λ found is. one_none_certificate found.0 (front_request rect tier bytes found is) (drop found.1 bytes))
 
+-- ---- what is refused
+
+-- where the first of two steps has one answer, and no answer of the second is a refusal, a refusal is the one answer
+refused_only : {A E : Type 0} (First : Result A E → Type 0) (refused : E → Reply) (Second : A → Reply → Type 0) → HasOneAnswer First
+    → ((value : A) (c : Answer) → Second value (Ok c) → status_of c ≢ 3) → (a b : Answer) → status_of b ≡ 3
+    → InTurn First refused Second (Ok a) → InTurn First refused Second (Ok b) → a ≡ b
+refused_only First refused Second one other a b is (stopped e h i) (stopped f k j) = same_value a b (i ∙ ap refused (same_fault e f (one (Err e) (Err f) h k)) ∙ sym j)
+refused_only First refused Second one other a b is (went_on v h i) (stopped f k j) = absurd (not_both v f (one (Ok v) (Err f) h k))
+refused_only First refused Second one other a b is h (went_on v k j) = absurd (other v b j is)
+
+-- an answer with another status than this one
+apart : (c d : Answer) → ◌≡◌ {A = Reply} (Ok c) (Ok d) → status_of d ≢ 3 → status_of c ≢ 3
+apart c d e other is = other (sym (ap status_of (same_value c d e)) ∙ is)
+
+gave_up_apart : (cause : GaveUp) → status_of (answer.GaveUp cause) ≢ 3
+gave_up_apart (gave.Spent log) is = omega (arith, is)
+gave_up_apart (gave.Pivots trail) is = omega (arith, is)
+gave_up_apart (gave.Wide wide) is = omega (arith, is)
+
+verdict_apart : (p : Property) (v : Verdict) → status_of (verdict_told p v) ≢ 3
+verdict_apart p (verdict.Yes log) is = omega (arith, is)
+verdict_apart p (verdict.No state) is = omega (arith, is)
+verdict_apart p (verdict.GaveUp cause) is = gave_up_apart cause is
+
+balance_apart : (order : ℕ) (n : Network) (v : Verdict) → status_of (balance_told order n v) ≢ 3
+balance_apart order n (verdict.Yes log) is = omega (arith, is)
+balance_apart order n (verdict.No state) is = omega (arith, is)
+balance_apart order n (verdict.GaveUp cause) is = gave_up_apart cause is
+
+layout_apart : (found : ALayout) → status_of (layout_told found) ≢ 3
+layout_apart (layout.Found parts) is = omega (arith, is)
+layout_apart (layout.Nowhere log) is = omega (arith, is)
+layout_apart (layout.Spent log) is = omega (arith, is)
+
+-- ---- make
+
+one_butterfly : (order : ℕ) → HasOneAnswer (InTurn (IsGenerated MOST_STAGES butterfly_net order) gen_told (IsSaidBalanced order))
+one_butterfly order = one_in_turn (IsGenerated MOST_STAGES butterfly_net order) gen_told (IsSaidBalanced order) (one_made MOST_STAGES butterfly_net order) (λ n a b h k. h.1 ∙ sym k.1)
+
 -- ---- all
 
--- two right answers of a command that has one to the same bytes are equal
-pub one_right_to : (command : Command) (bytes : List ℕ) → HasOneRight command → HasOneAnswer (IsRightTo command bytes)
-one_right_to (FlowCheck p) bytes once = one_checked p bytes
-one_right_to Recover bytes once = one_recovered bytes
-one_right_to (Check p) bytes once = one_certified p bytes
-one_right_to (Decide p limits) bytes once = absurd once
-one_right_to (Make family order limits) bytes once = absurd once
-one_right_to (Layout rect tier learnt) bytes once = absurd once
-one_right_to (CheckLayout rect tier) bytes once = one_layout_checked rect tier bytes
+-- the one right answer is equal to each right answer
+pub only_right : OneRightAnswer
+only_right (FlowCheck p) bytes a b only h k = same_value a b (one_checked p bytes (Ok a) (Ok b) h k)
+only_right Recover bytes a b only h k = same_value a b (one_recovered bytes (Ok a) (Ok b) h k)
+only_right (Check p) bytes a b only h k = same_value a b (one_certified p bytes (Ok a) (Ok b) h k)
+only_right (Decide p limits) bytes a b only h k =
+    refused_only (IsLoneNet bytes) design_told (λ n. IsDecided n p limits) (one_lone_net bytes) (λ n c d. apart c (verdict_told p d.0) d.2 (verdict_apart p d.0)) a b only h k
+only_right (Make Butterfly order limits) bytes a b only h k = same_value a b (one_butterfly order (Ok a) (Ok b) h k)
+only_right (Make Chain order limits) bytes a b only h k =
+    refused_only (IsGenerated MOST_IN_CHAIN chain_net order) gen_told (IsBalanceDecided order limits) (one_made MOST_IN_CHAIN chain_net order)
+    (λ n c d. apart c (balance_told order n d.0) d.2 (balance_apart order n d.0)) a b only h k
+only_right (Layout rect tier learnt) bytes a b only h k =
+    refused_only (IsLoneRequest rect tier bytes) design_told (IsLaidOut learnt) (one_lone_request rect tier bytes) (λ r c d. apart c (layout_told d.0) d.3 (layout_apart d.0)) a b only h k
+only_right (CheckLayout rect tier) bytes a b only h k = same_value a b (one_layout_checked rect tier bytes (Ok a) (Ok b) h k)

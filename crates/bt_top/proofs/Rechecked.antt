@@ -59,16 +59,12 @@ followed bytes text n starts lone =
 told_yes : (p : Property) (v : Verdict) (log : Log) → answer.Proved p log ≡ verdict_told p v → v ≡ verdict.Yes log
 told_yes p (verdict.Yes found) log e = cc
 told_yes p (verdict.No state) log e = cc
-told_yes p (verdict.Spent found) log e = cc
-told_yes p (verdict.Pivots trail) log e = cc
-told_yes p (verdict.Wide wide) log e = cc
+told_yes p (verdict.GaveUp cause) log e = cc
 
 told_no : (p : Property) (v : Verdict) (state : Fractions) → answer.Broken p state ≡ verdict_told p v → v ≡ verdict.No state
 told_no p (verdict.Yes found) state e = cc
 told_no p (verdict.No found) state e = cc
-told_no p (verdict.Spent found) state e = cc
-told_no p (verdict.Pivots trail) state e = cc
-told_no p (verdict.Wide wide) state e = cc
+told_no p (verdict.GaveUp cause) state e = cc
 
 yes_lacks : (p : Property) → Lacks 10 (codes "yes " ++ property_name p)
 yes_lacks Balanced = lacks 10 (codes "yes balanced") refl

@@ -1,7 +1,10 @@
 -- What a command answers to the bytes of its input.
-use Rattle.std.specs.Prelude.{ℕ, List}
+use Rattle.std.specs.Prelude.{◌≡◌, ℕ, List, Ok}
 use Rattle.bt_words.specs.declared.command.Command.{Command}
 use Rattle.bt_words.specs.declared.command.Command.TheVariants.{FlowCheck, Recover, Check, Decide, Make, Layout, CheckLayout}
+use Rattle.bt_words.specs.declared.command.Family.TheVariants.{Butterfly, Chain}
+use Rattle.bt_top.specs.declared.answer.Answer.{Answer}
+use Rattle.bt_top.specs.Answers.{status_of}
 use Rattle.bt_top.specs.Certificates.{IsCertified}
 use Rattle.bt_top.specs.Deciding.{IsDecidedFrom}
 use Rattle.bt_top.specs.LayingOut.{IsLaidOutFrom}
@@ -21,12 +24,17 @@ IsRightTo (Make family order limits) bytes = IsMade family order limits
 IsRightTo (Layout rect tier learnt) bytes = IsLaidOutFrom rect tier learnt bytes
 IsRightTo (CheckLayout rect tier) bytes = IsLayoutChecked rect tier bytes
 
--- the command has one right answer to each input; of `decide`, `make` and `layout` several may be right, with other evidence
-abbrev pub HasOneRight : Command → Type 0
-HasOneRight (FlowCheck p) = Unit {0}
-HasOneRight Recover = Unit {0}
-HasOneRight (Check p) = Unit {0}
-HasOneRight (Decide p limits) = ⊥
-HasOneRight (Make family order limits) = ⊥
-HasOneRight (Layout rect tier learnt) = ⊥
-HasOneRight (CheckLayout rect tier) = Unit {0}
+-- where it is right, it is the one right answer: what is refused has no other answer, and of most commands nothing has; of `decide`, `make` of a chain and `layout` others may be right, with other evidence
+abbrev pub IsOnly : Command → Answer → Type 0
+IsOnly (FlowCheck p) a = Unit {0}
+IsOnly Recover a = Unit {0}
+IsOnly (Check p) a = Unit {0}
+IsOnly (Decide p limits) a = status_of a ≡ 3
+IsOnly (Make Butterfly order limits) a = Unit {0}
+IsOnly (Make Chain order limits) a = status_of a ≡ 3
+IsOnly (Layout rect tier learnt) a = status_of a ≡ 3
+IsOnly (CheckLayout rect tier) a = Unit {0}
+
+-- an answer that is the one right answer is equal to each right answer
+abbrev pub OneRightAnswer : Type 0
+OneRightAnswer = (command : Command) (bytes : List ℕ) (a b : Answer) → IsOnly command b → IsRightTo command bytes (Ok a) → IsRightTo command bytes (Ok b) → a ≡ b

@@ -8,18 +8,26 @@ use Rattle.bt_flow.specs.Names.{property_name, test_name}
 use Rattle.bt_flow.specs.StateText.{printed_state}
 use Rattle.bt_log.specs.Logs.{Step}
 use Rattle.bt_log.specs.LogText.{log_text}
+use Rattle.bt_theory.specs.declared.outcome.GaveUp as gave
+use Rattle.bt_theory.specs.declared.outcome.GaveUp.TheVariants.{Spent, Pivots, Wide}
 use Rattle.bt_trail.specs.TrailText.{pivots_text, wide_text}
 use Rattle.bt_write.specs.Written.{blueprint_text}
 use Rattle.bt_words.specs.declared.command.Family.{Family}
 use Rattle.bt_words.specs.declared.command.Family.TheVariants.{Butterfly, Chain}
 use Rattle.bt_top.specs.declared.making.Made as making
 use Rattle.bt_top.specs.declared.answer.Answer.{Answer}
-use Rattle.bt_top.specs.declared.answer.Answer.TheVariants.{Breaks, Yes, No, Recovered, Proved, Broken, Spent, Pivots, Wide, Made, LaidOut, Nowhere, NoLayout, Usage, Refused, WideState, CertLine, BadStep, NoVerdict, CertWide, NotBreaking, TooLong}
+use Rattle.bt_top.specs.declared.answer.Answer.TheVariants.{Breaks, Yes, No, Recovered, Proved, Broken, GaveUp, Made, LaidOut, Nowhere, NoLayout, Usage, Refused, WideState, CertLine, BadStep, NoVerdict, CertWide, NotBreaking, TooLong}
 use Rattle.bt_top.specs.Refusals.{refusal_text}
 
 -- the status of a network that was made: 0 where it is balanced, and 1 where it isn't
 abbrev pub made_status : making.Made → ℕ
 made_status made = if made.balanced then 0 else 1
+
+-- the status where a search was given up
+abbrev pub gave_up_status : gave.GaveUp → ℕ
+gave_up_status (Spent log) = 4
+gave_up_status (Wide wide) = 5
+gave_up_status (Pivots trail) = 10
 
 -- the status of an answer
 abbrev pub status_of : Answer → ℕ
@@ -29,9 +37,7 @@ status_of (No p) = 1
 status_of (Recovered n) = 0
 status_of (Proved p log) = 0
 status_of (Broken p state) = 1
-status_of (Spent log) = 4
-status_of (Pivots trail) = 10
-status_of (Wide wide) = 5
+status_of (GaveUp cause) = gave_up_status cause
 status_of (Made made) = made_status made
 status_of (LaidOut parts) = 0
 status_of (Nowhere log) = 1
@@ -77,6 +83,12 @@ proved_text p steps = line (codes "yes " ++ property_name p) ++ log_text steps
 abbrev pub spent_text : List Step → List ℕ
 spent_text steps = line (codes "spent " ++ decimal (length steps)) ++ log_text steps
 
+-- the text where a search was given up
+abbrev pub gave_up_text : gave.GaveUp → List ℕ
+gave_up_text (Spent log) = spent_text log.steps
+gave_up_text (Wide wide) = wide_text wide
+gave_up_text (Pivots trail) = pivots_text trail
+
 -- the word of a certificate that no layout lays a request
 abbrev pub none_word : List ℕ
 none_word = codes "none"
@@ -93,9 +105,7 @@ text_of (No p) = line (codes "no " ++ property_name p)
 text_of (Recovered n) = net_text n
 text_of (Proved p log) = proved_text p log.steps
 text_of (Broken p state) = printed_state p state
-text_of (Spent log) = spent_text log.steps
-text_of (Pivots trail) = pivots_text trail
-text_of (Wide wide) = wide_text wide
+text_of (GaveUp cause) = gave_up_text cause
 text_of (Made made) = made_text made
 text_of (LaidOut parts) = blueprint_text parts.items
 text_of (Nowhere log) = nowhere_text log.steps

@@ -1,14 +1,18 @@
--- Budgets of steps that no search uses up.
+-- Budgets of steps and of turns that no search uses up.
 use Rattle.std.specs.Prelude.{◌≢◌, ◌≤◌, ◌^◌, ℕ, List, Ok}
 use Rattle.bt_io.specs.Passages.{Passage}
 use Rattle.bt_flow.specs.declared.property.Property.TheVariants.{Balanced}
 use Rattle.bt_net.specs.Network.{Network}
 use Rattle.bt_cnf.specs.Formulas.{FormulaParts}
 use Rattle.bt_fenc.specs.FlowFormula.{flow_formula}
+use Rattle.bt_gen.specs.Chain.{chain_net}
+use Rattle.bt_simplex.specs.Counting.{most_bases}
+use Rattle.bt_theory.specs.Reaching.{atom_rows, columns_of}
 use Rattle.bt_model.specs.Requests.{LayoutRequest}
 use Rattle.bt_place.specs.PlaceFormula.{place_formula}
 use Rattle.bt_words.specs.declared.command.Command.{Command}
 use Rattle.bt_words.specs.declared.command.Command.TheVariants.{Decide, Make, Layout}
+use Rattle.bt_words.specs.declared.command.Family.TheVariants.{Butterfly, Chain}
 use Rattle.bt_words.specs.Commands.{IsCommand}
 use Rattle.bt_top.specs.declared.answer.Answer.{Answer}
 use Rattle.bt_top.specs.Alone.{IsLoneNet}
@@ -16,17 +20,17 @@ use Rattle.bt_top.specs.Answering.{IsRightTo}
 use Rattle.bt_top.specs.Answers.{status_of}
 use Rattle.bt_top.specs.Endings.{Ends}
 use Rattle.bt_top.specs.Inputs.{IsInput}
-use Rattle.bt_top.specs.Making.{net_of}
 use Rattle.bt_top.specs.Requested.{IsLoneRequest}
 
 -- so many steps may be logged in deciding the formula: 3 ^ v or more, where it has v variables
 abbrev pub IsAmple : FormulaParts → ℕ → Type 0
 IsAmple f learnt = 3 ^ f.vars ≤ learnt
 
--- the command may log that many steps of the formula that it decides: the flow formula of the design's network or of the network that is made, or the placement formula of the request
+-- the command may log that many steps of the formula that it decides: the flow formula of the design's network or of the chain that is made, or the placement formula of the request; a butterfly takes none
 abbrev pub HasAmple : Command → List ℕ → Type 0
 HasAmple (Decide p limits) bytes = (n : Network) × IsLoneNet bytes (Ok n) × IsAmple (flow_formula n p) limits.learnt
-HasAmple (Make family order limits) bytes = IsAmple (flow_formula (net_of family order) Balanced) limits.learnt
+HasAmple (Make Butterfly order limits) bytes = Unit {0}
+HasAmple (Make Chain order limits) bytes = IsAmple (flow_formula (chain_net order) Balanced) limits.learnt
 HasAmple (Layout rect tier learnt) bytes = (r : LayoutRequest) × IsLoneRequest rect tier bytes (Ok r) × IsAmple (place_formula r) learnt
 HasAmple other bytes = ⊥
 
@@ -38,3 +42,23 @@ AmpleIsNeverSpent = (command : Command) (bytes : List ℕ) (a : Answer) → HasA
 abbrev pub AmpleNeverEndsSpent : Type 0
 AmpleNeverEndsSpent = (words : List (List ℕ)) (source sink : Passage) (status : ℕ) (command : Command) (bytes : List ℕ) → Ends words source sink status
     → IsCommand command words → IsInput command source bytes → HasAmple command bytes → status ≢ 4
+
+-- so many turns may be made for one choice of the formula's rows: as many as there are bases, or more
+abbrev pub IsAmpleOfTurns : FormulaParts → ℕ → Type 0
+IsAmpleOfTurns f pivots = most_bases (columns_of f) (atom_rows f) ≤ pivots
+
+-- the command may make that many turns of the formula that it decides: the flow formula of the design's network or of the chain that is made; a butterfly takes none
+abbrev pub HasAmpleTurns : Command → List ℕ → Type 0
+HasAmpleTurns (Decide p limits) bytes = (n : Network) × IsLoneNet bytes (Ok n) × IsAmpleOfTurns (flow_formula n p) limits.pivots
+HasAmpleTurns (Make Butterfly order limits) bytes = Unit {0}
+HasAmpleTurns (Make Chain order limits) bytes = IsAmpleOfTurns (flow_formula (chain_net order) Balanced) limits.pivots
+HasAmpleTurns other bytes = ⊥
+
+-- then no answer whose status says that the turns are made is right
+abbrev pub AmpleTurnsAreNeverMade : Type 0
+AmpleTurnsAreNeverMade = (command : Command) (bytes : List ℕ) (a : Answer) → HasAmpleTurns command bytes → IsRightTo command bytes (Ok a) → status_of a ≢ 10
+
+-- and the program doesn't end with that status, where its source tells the command's input
+abbrev pub AmpleTurnsNeverEndMade : Type 0
+AmpleTurnsNeverEndMade = (words : List (List ℕ)) (source sink : Passage) (status : ℕ) (command : Command) (bytes : List ℕ) → Ends words source sink status
+    → IsCommand command words → IsInput command source bytes → HasAmpleTurns command bytes → status ≢ 10

@@ -4,7 +4,7 @@ use Rattle.bt_net.specs.Network.{Network}
 use Rattle.bt_flow.specs.declared.property.Property.{Property}
 use Rattle.bt_theory.specs.declared.outcome.Limits.{Limits}
 use Rattle.bt_decide.specs.declared.verdict.Verdict.{Verdict}
-use Rattle.bt_decide.specs.declared.verdict.Verdict.TheVariants.{Yes, No, Spent, Pivots, Wide}
+use Rattle.bt_decide.specs.declared.verdict.Verdict.TheVariants.{Yes, No, GaveUp}
 use Rattle.bt_decide.specs.Verdicts.{IsVerdict}
 use Rattle.bt_top.specs.declared.answer.Answer.{Answer}
 use Rattle.bt_top.specs.declared.answer.Answer.TheVariants as answer
@@ -16,9 +16,7 @@ use Rattle.bt_top.specs.Steps.{InTurn}
 abbrev pub verdict_told : Property → Verdict → Answer
 verdict_told p (Yes log) = answer.Proved p log
 verdict_told p (No state) = answer.Broken p state
-verdict_told p (Spent log) = answer.Spent log
-verdict_told p (Pivots trail) = answer.Pivots trail
-verdict_told p (Wide wide) = answer.Wide wide
+verdict_told p (GaveUp cause) = answer.GaveUp cause
 
 -- what is answered to a network: a verdict that is right of it and the property, within the limits
 abbrev pub IsDecided : Network → Property → Limits → Reply → Type 0

@@ -11,7 +11,7 @@ use Rattle.bt_top.specs.declared.answer.Answer.TheVariants as answer
 use Rattle.bt_top.specs.declared.program.TheConstants.{READ_FAULT, WRITE_FAULT, NO_MEMORY}
 use Rattle.bt_top.specs.Answers.{status_of, text_of}
 use Rattle.bt_top.specs.Inputs.{IsUntouched, IsInput, ReadsInput}
-use Rattle.bt_top.specs.Answering.{IsRightTo, HasOneRight}
+use Rattle.bt_top.specs.Answering.{IsRightTo, IsOnly}
 
 -- a right answer to the words and to what was read of the source
 pub data IsRight (words : List (List ℕ)) (source : Passage) (a : Answer) : Type 0 where
@@ -45,10 +45,10 @@ pub data IsEnding (words : List (List ℕ)) (source sink : Passage) (status : �
   no_memory : (command : Command) → IsCommand command words → ReadsInput command source (Err Memory)
       → IsUntouched sink → status ≡ NO_MEMORY → IsEnding words source sink status
 
--- how the program ends: in one of these ways; and where the source tells the command's input, within its limit, a right answer to that is told, and of a command with one right answer that one, but where the source fails or memory runs out
+-- how the program ends: in one of these ways; and where the source tells the command's input, within its limit, a right answer to that is told, and where there is one right answer that one, but where the source fails or memory runs out
 pub record Ends (words : List (List ℕ)) (source sink : Passage) (status : ℕ) : Type 0 where
   pub ending : IsEnding words source sink status
   pub complete : (command : Command) (bytes : List ℕ) → IsCommand command words → IsInput command source bytes
       → ((a : Answer) × IsRightTo command bytes (Ok a) × IsTold a sink status) ⊎ (status ≡ READ_FAULT) ⊎ (status ≡ NO_MEMORY)
-  pub only : (command : Command) (bytes : List ℕ) (a : Answer) → IsCommand command words → IsInput command source bytes → HasOneRight command
+  pub only : (command : Command) (bytes : List ℕ) (a : Answer) → IsCommand command words → IsInput command source bytes → IsOnly command a
       → IsRightTo command bytes (Ok a) → IsTold a sink status ⊎ (status ≡ READ_FAULT) ⊎ (status ≡ NO_MEMORY)

@@ -4,6 +4,7 @@ use Rattle.bt_parts.specs.declared.part.Rect.{Rect}
 use Rattle.bt_parts.specs.declared.part.Tier.{Tier}
 use Rattle.bt_model.specs.Requests.{LayoutRequest}
 use Rattle.bt_write.specs.ReadBack.{IsReadBack}
+use Rattle.bt_theory.specs.declared.outcome.GaveUp.TheVariants as gave
 use Rattle.bt_layout.specs.declared.outcome.Layout.{Layout}
 use Rattle.bt_layout.specs.declared.outcome.Layout.TheVariants.{Found, Nowhere, Spent}
 use Rattle.bt_layout.specs.Layouts.{IsLayout}
@@ -17,7 +18,7 @@ use Rattle.bt_top.specs.Steps.{InTurn}
 abbrev pub layout_told : Layout → Answer
 layout_told (Found parts) = answer.LaidOut parts
 layout_told (Nowhere log) = answer.Nowhere log
-layout_told (Spent log) = answer.Spent log
+layout_told (Spent log) = answer.GaveUp (gave.Spent log)
 
 -- the blueprint that is written of parts that are found is read as these parts
 abbrev pub IsFoundAgain : Layout → Type 0

@@ -2,6 +2,7 @@
 use Rattle.std.specs.Prelude.{◌≡◌, ℕ, Bool, true, false, length, Ok, Err, alloc_error}
 use Rattle.bt_net.specs.Network.{Network}
 use Rattle.bt_flow.specs.declared.property.Property.TheVariants.{Balanced}
+use Rattle.bt_flow.specs.Properties.{Holds}
 use Rattle.bt_gen.specs.declared.fault.GenFault.{GenFault}
 use Rattle.bt_gen.specs.declared.fault.GenFault.TheVariants.{Order, Memory}
 use Rattle.bt_gen.specs.declared.butterflies.TheConstants.{MOST_STAGES}
@@ -11,7 +12,7 @@ use Rattle.bt_gen.specs.Chain.{chain_net}
 use Rattle.bt_gen.specs.Orders.{IsGenerated}
 use Rattle.bt_theory.specs.declared.outcome.Limits.{Limits}
 use Rattle.bt_decide.specs.declared.verdict.Verdict.{Verdict}
-use Rattle.bt_decide.specs.declared.verdict.Verdict.TheVariants.{Yes, No, Spent, Pivots, Wide}
+use Rattle.bt_decide.specs.declared.verdict.Verdict.TheVariants.{Yes, No, GaveUp}
 use Rattle.bt_decide.specs.Verdicts.{IsVerdict}
 use Rattle.bt_words.specs.declared.command.Family.{Family}
 use Rattle.bt_words.specs.declared.command.Family.TheVariants.{Butterfly, Chain}
@@ -21,39 +22,31 @@ use Rattle.bt_top.specs.declared.refusal.Refusal.TheVariants as refusal
 use Rattle.bt_top.specs.Replies.{Reply}
 use Rattle.bt_top.specs.Steps.{InTurn}
 
--- the greatest order of a kind of network
-abbrev pub most_of : Family → ℕ
-most_of Butterfly = MOST_STAGES
-most_of Chain = MOST_IN_CHAIN
-
--- the network of a kind and an order
-abbrev pub net_of : Family → ℕ → Network
-net_of Butterfly order = butterfly_net order
-net_of Chain order = chain_net order
-
 -- what is said of a network that was made
 abbrev pub made_of : Family → ℕ → Network → Bool → Answer
 made_of family order n balanced =
     answer.Made (record { family = family; order = order; edges = length n.edges; outputs = n.outputs; balanced = balanced })
 
--- what is answered to a verdict on the balance of a network that was made
-abbrev pub balance_told : Family → ℕ → Network → Verdict → Answer
-balance_told family order n (Yes log) = made_of family order n true
-balance_told family order n (No state) = made_of family order n false
-balance_told family order n (Spent log) = answer.Spent log
-balance_told family order n (Pivots trail) = answer.Pivots trail
-balance_told family order n (Wide wide) = answer.Wide wide
+-- what is answered to a verdict on the balance of a chain
+abbrev pub balance_told : ℕ → Network → Verdict → Answer
+balance_told order n (Yes log) = made_of Chain order n true
+balance_told order n (No state) = made_of Chain order n false
+balance_told order n (GaveUp cause) = answer.GaveUp cause
 
 -- the refusal of an order
 abbrev pub gen_told : GenFault → Reply
 gen_told (Order order) = Ok (answer.Refused (refusal.Order order))
 gen_told Memory = Err alloc_error
 
--- what is answered to a network that was made: a verdict that is right of its balance, within the limits
-abbrev pub IsBalanceDecided : Family → ℕ → Limits → Network → Reply → Type 0
-IsBalanceDecided family order limits n reply =
-    (verdict : Verdict) × IsVerdict n Balanced limits verdict × (reply ≡ Ok (balance_told family order n verdict))
+-- what is answered to a butterfly: that it is balanced, which each one is
+abbrev pub IsSaidBalanced : ℕ → Network → Reply → Type 0
+IsSaidBalanced order n reply = Holds n Balanced × (reply ≡ Ok (made_of Butterfly order n true))
+
+-- what is answered to a chain: a verdict that is right of its balance, within the limits
+abbrev pub IsBalanceDecided : ℕ → Limits → Network → Reply → Type 0
+IsBalanceDecided order limits n reply = (verdict : Verdict) × IsVerdict n Balanced limits verdict × (reply ≡ Ok (balance_told order n verdict))
 
 -- what `make` answers: what is answered to the network of this kind and order, or that the order is none
 abbrev pub IsMade : Family → ℕ → Limits → Reply → Type 0
-IsMade family order limits = InTurn (IsGenerated (most_of family) (net_of family) order) gen_told (IsBalanceDecided family order limits)
+IsMade Butterfly order limits = InTurn (IsGenerated MOST_STAGES butterfly_net order) gen_told (IsSaidBalanced order)
+IsMade Chain order limits = InTurn (IsGenerated MOST_IN_CHAIN chain_net order) gen_told (IsBalanceDecided order limits)

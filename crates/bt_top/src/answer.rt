@@ -1,6 +1,6 @@
 //! The answers of the program. Each has a status and a text.
 ghost use Rattle.std.specs.Prelude.{◌≡◌};
-ghost use Rattle.bt_top.specs.Answers.{status_of};
+ghost use Rattle.bt_top.specs.Answers.{gave_up_status, status_of};
 ghost use Rattle.bt_top.specs.Replies.{design_told};
 
 use crate::fault::DesignFault;
@@ -11,7 +11,7 @@ use bt_flow::{Property, State, Test};
 use bt_log::Log;
 use bt_net::Net;
 use bt_parts::Part;
-use bt_simplex::{Trail, Wide};
+use bt_theory::GaveUp;
 use std::alloc::AllocError;
 
 /// What a command answers, once its words and its input are known.
@@ -29,12 +29,8 @@ pub enum Answer {
     Proved(Property, Log),
     /// The state of the design's network breaks the property.
     Broken(Property, State),
-    /// The log has as many steps as it may, and one more is needed.
-    Spent(Log),
-    /// The turns for one assignment were as many as they may be.
-    Pivots(Trail),
-    /// A number that the turns ask for leaves 128 bits.
-    Wide(Wide),
+    /// The search was given up.
+    GaveUp(GaveUp),
     /// Whether a network that was made is balanced.
     Made(Made),
     /// The parts lay the request.
@@ -78,16 +74,26 @@ impl Answer {
             Answer::Made(made) => made.status(),
             Answer::Usage => 2,
             Answer::Refused(_) => 3,
-            Answer::Spent(_) => 4,
-            Answer::WideState(..) | Answer::Wide(_) => 5,
+            Answer::GaveUp(cause) => gave_up_status(cause),
+            Answer::WideState(..) => 5,
             Answer::CertLine(_)
             | Answer::BadStep(..)
             | Answer::NoVerdict
             | Answer::CertWide(..)
             | Answer::NotBreaking(..) => 9,
-            Answer::Pivots(_) => 10,
             Answer::TooLong => 11,
         }
+    }
+}
+
+/// The status where a search was given up.
+fn gave_up_status(cause: &GaveUp) -> u8
+    ensures { result ≡ gave_up_status cause.now }
+{
+    match cause {
+        GaveUp::Spent(_) => 4,
+        GaveUp::Wide(_) => 5,
+        GaveUp::Pivots(_) => 10,
     }
 }
 

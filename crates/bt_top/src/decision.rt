@@ -51,8 +51,6 @@ fn verdict_told(property: Property, verdict: Verdict) -> Answer
     match verdict {
         Verdict::Yes(log) => Answer::Proved(property, log),
         Verdict::No(state) => Answer::Broken(property, state),
-        Verdict::Spent(log) => Answer::Spent(log),
-        Verdict::Pivots(trail) => Answer::Pivots(trail),
-        Verdict::Wide(wide) => Answer::Wide(wide),
+        Verdict::GaveUp(cause) => Answer::GaveUp(cause),
     }
 }

@@ -1,14 +1,26 @@
 //! Laws of what the commands answer, as contracts of functions that do nothing.
+ghost use Rattle.std.specs.Prelude.{◌≡◌};
+ghost use Rattle.bt_top.specs.Answering.{OneRightAnswer};
 ghost use Rattle.bt_top.specs.Budgets.{AmpleIsNeverSpent, AmpleNeverEndsSpent};
+ghost use Rattle.bt_top.specs.Budgets.{AmpleTurnsAreNeverMade, AmpleTurnsNeverEndMade};
 ghost use Rattle.bt_top.specs.Longer.{DesignStays, RefusalStays};
 ghost use Rattle.bt_top.specs.Rechecking.{ProofIsChecked, StateIsChecked};
 ghost use Rattle.bt_top.specs.RecheckingLayouts.{NoneIsChecked};
+
+use crate::input::{MOST_CHECKED, MOST_OF_DESIGN};
+use crate::program::{NO_MEMORY, READ_FAULT, WRITE_FAULT};
 
 /// What is read of the design at the front of bytes is read of longer ones that begin with them, where it
 /// doesn't rest on where the bytes end.
 pub fn longer_is_read()
     ensures design { DesignStays }
     ensures refused { RefusalStays }
+{}
+
+/// A command has one right answer to each input, but `decide`, `make` of a chain and `layout`, where others may be right,
+/// with other evidence; and what they refuse has no other answer either.
+pub fn one_right_answer()
+    ensures { OneRightAnswer }
 {}
 
 /// `check` says yes to a design with the proof that `decide` writes of it, and no to a design with the
@@ -28,4 +40,20 @@ pub fn laid_out_is_checked()
 pub fn ample_is_never_spent()
     ensures answers { AmpleIsNeverSpent }
     ensures endings { AmpleNeverEndsSpent }
+{}
+
+/// Where `--pivots` is at least the number of bases of the formula that `decide` or `make` decides, no right answer is that
+/// the turns are as many as they may be, and the program doesn't end with that status.
+pub fn ample_turns_are_never_made()
+    ensures answers { AmpleTurnsAreNeverMade }
+    ensures endings { AmpleTurnsNeverEndMade }
+{}
+
+/// The statuses of faults, and the most bytes that commands read, as numbers.
+pub fn numbers_are()
+    ensures read_fault { READ_FAULT ≡ 6 }
+    ensures write_fault { WRITE_FAULT ≡ 7 }
+    ensures no_memory { NO_MEMORY ≡ 8 }
+    ensures checked { MOST_CHECKED ≡ 1073741824 }
+    ensures of_design { MOST_OF_DESIGN ≡ 16777216 }
 {}

@@ -10,6 +10,7 @@ use bt_cnf::Chooser;
 use bt_layout::{Layout, layout};
 use bt_model::Request;
 use bt_parts::{Rect, Tier};
+use bt_theory::GaveUp;
 use std::alloc::{AllocError, Global};
 
 /// The answer of `layout` to the bytes of its input.
@@ -53,6 +54,6 @@ fn layout_told(found: Layout) -> Answer
     match found {
         Layout::Found(parts) => Answer::LaidOut(parts),
         Layout::Nowhere(log) => Answer::Nowhere(log),
-        Layout::Spent(log) => Answer::Spent(log),
+        Layout::Spent(log) => Answer::GaveUp(GaveUp::Spent(log)),
     }
 }

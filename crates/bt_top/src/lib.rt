@@ -10,6 +10,7 @@ mod alone;
 mod answer;
 mod blocks;
 mod certificate;
+mod choosers;
 mod claim;
 mod decision;
 mod design;
@@ -31,8 +32,12 @@ mod request;
 mod text;
 
 pub use answer::Answer;
+pub use choosers::Choosers;
 pub use input::{MOST_CHECKED, MOST_OF_DESIGN};
-pub use law::{ample_is_never_spent, decided_is_checked, laid_out_is_checked, longer_is_read};
+pub use law::{
+    ample_is_never_spent, ample_turns_are_never_made, decided_is_checked, laid_out_is_checked,
+    longer_is_read, numbers_are, one_right_answer,
+};
 pub use making::Made;
 pub use none_certificate::none_is_accepted;
 pub use program::{NO_MEMORY, READ_FAULT, WRITE_FAULT, run};

@@ -1,16 +1,19 @@
 //! `make`: whether a network that is made by a rule is balanced.
 ghost use Rattle.std.specs.Prelude.{◌≡◌, alloc_error};
 ghost use Rattle.bt_answers.specs.Answers.{UnlessMemory};
+ghost use Rattle.bt_gen.specs.Butterfly.{butterfly_net};
+ghost use Rattle.bt_gen.specs.Chain.{chain_net};
 ghost use Rattle.bt_gen.specs.Orders.{IsGenerated};
 ghost use Rattle.bt_top.specs.Answers.{made_status};
-ghost use Rattle.bt_top.specs.Making.{IsMade, IsBalanceDecided, balance_told, gen_told, made_of, most_of, net_of};
+ghost use Rattle.bt_top.specs.Making.{IsMade, IsBalanceDecided, IsSaidBalanced, balance_told, gen_told, made_of};
+ghost use Rattle.bt_top.specs.Steps.{InTurn};
 
 use crate::answer::Answer;
 use crate::refusal::Refusal;
 use bt_cnf::Chooser;
 use bt_decide::{Verdict, decide};
 use bt_flow::Property;
-use bt_gen::{GenFault, butterfly, chain};
+use bt_gen::{GenFault, MOST_IN_CHAIN, MOST_STAGES, butterfly, chain};
 use bt_net::Net;
 use bt_theory::Limits;
 use bt_words::Family;
@@ -37,7 +40,7 @@ impl Made {
     }
 }
 
-/// The answer of `make` to a kind of network and an order.
+/// The answer of `make` to a kind of network and an order. Each butterfly is balanced, so none is searched.
 pub fn make(
     alloc: Global,
     family: Family,
@@ -47,19 +50,36 @@ pub fn make(
 ) -> Result<Answer, AllocError>
     ensures { UnlessMemory alloc_error (IsMade family order limits) result }
 {
-    match generated(alloc, family, order) {
-        Ok(net) => balance_of(alloc, family, order, limits, &net, choosers),
+    match family {
+        Family::Butterfly => butterfly_made(alloc, order),
+        Family::Chain => chain_made(alloc, order, limits, choosers),
+    }
+}
+
+/// The answer to a butterfly.
+fn butterfly_made(alloc: Global, order: u32) -> Result<Answer, AllocError>
+    ensures { UnlessMemory alloc_error
+        (InTurn (IsGenerated MOST_STAGES butterfly_net order) gen_told (IsSaidBalanced order)) result }
+{
+    match butterfly(alloc, order) {
+        Ok(net) => Ok(made_of(Family::Butterfly, order, &net, true)),
         Err(fault) => ungenerated(fault),
     }
 }
 
-/// The network of this kind and order.
-fn generated(alloc: Global, family: Family, order: u32) -> Result<Net, GenFault>
-    ensures { UnlessMemory GenFault.Memory (IsGenerated (most_of family) (net_of family) order) result }
+/// The answer to a chain.
+fn chain_made(
+    alloc: Global,
+    order: u32,
+    limits: Limits,
+    choosers: Vec<Box<dyn Chooser>>,
+) -> Result<Answer, AllocError>
+    ensures { UnlessMemory alloc_error
+        (InTurn (IsGenerated MOST_IN_CHAIN chain_net order) gen_told (IsBalanceDecided order limits)) result }
 {
-    match family {
-        Family::Butterfly => butterfly(alloc, order),
-        Family::Chain => chain(alloc, order),
+    match chain(alloc, order) {
+        Ok(net) => balance_of(alloc, order, limits, &net, choosers),
+        Err(fault) => ungenerated(fault),
     }
 }
 
@@ -73,33 +93,30 @@ fn ungenerated(fault: GenFault) -> Result<Answer, AllocError>
     }
 }
 
-/// The answer to a network that was made.
+/// The answer to a chain that was made.
 fn balance_of(
     alloc: Global,
-    family: Family,
     order: u32,
     limits: Limits,
     net: &Net,
     choosers: Vec<Box<dyn Chooser>>,
 ) -> Result<Answer, AllocError>
-    ensures { UnlessMemory alloc_error (IsBalanceDecided family order limits net.now) result }
+    ensures { UnlessMemory alloc_error (IsBalanceDecided order limits net.now) result }
 {
     match decide(alloc, net, Property::Balanced, limits, choosers) {
-        Ok(verdict) => Ok(balance_told(family, order, net, verdict)),
+        Ok(verdict) => Ok(balance_told(order, net, verdict)),
         Err(_) => Err(AllocError),
     }
 }
 
-/// What is answered to a verdict on the balance of a network that was made.
-fn balance_told(family: Family, order: u32, net: &Net, verdict: Verdict) -> Answer
-    ensures { result ≡ balance_told family order net.now verdict }
+/// What is answered to a verdict on the balance of a chain.
+fn balance_told(order: u32, net: &Net, verdict: Verdict) -> Answer
+    ensures { result ≡ balance_told order net.now verdict }
 {
     match verdict {
-        Verdict::Yes(_) => made_of(family, order, net, true),
-        Verdict::No(_) => made_of(family, order, net, false),
-        Verdict::Spent(log) => Answer::Spent(log),
-        Verdict::Pivots(trail) => Answer::Pivots(trail),
-        Verdict::Wide(wide) => Answer::Wide(wide),
+        Verdict::Yes(_) => made_of(Family::Chain, order, net, true),
+        Verdict::No(_) => made_of(Family::Chain, order, net, false),
+        Verdict::GaveUp(cause) => Answer::GaveUp(cause),
     }
 }
 

@@ -2,12 +2,14 @@
 ghost use Rattle.bt_io.specs.Bytes.{WritesText};
 ghost use Rattle.bt_io.specs.Passages.{passage};
 ghost use Rattle.std.specs.Prelude.{◌≡◌};
-ghost use Rattle.bt_top.specs.Answers.{balance_word, family_name, made_text, nowhere_text, proved_text, spent_text};
+ghost use Rattle.bt_top.specs.Answers.{balance_word, family_name, gave_up_text, made_text, nowhere_text, proved_text, spent_text};
 
 use crate::making::Made;
 use bt_flow::Property;
 use bt_io::{Sink, WriteFault, write_all_of, write_pieces};
 use bt_log::Log;
+use bt_theory::GaveUp;
+use bt_trail::{print_pivots, print_wide};
 use bt_words::Family;
 use itoa::Buffer;
 
@@ -28,8 +30,19 @@ pub fn print_nowhere<K: Sink>(log: &Log, sink: &mut K) -> Result<(), WriteFault>
     log.print(sink)
 }
 
+/// Writes why a search was given up.
+pub fn print_gave_up<K: Sink>(cause: &GaveUp, sink: &mut K) -> Result<(), WriteFault>
+    ensures { WritesText (passage K.held K.faults sink.old sink.new) (gave_up_text cause.now) result }
+{
+    match cause {
+        GaveUp::Spent(log) => print_spent(log, sink),
+        GaveUp::Pivots(trail) => print_pivots(trail, sink),
+        GaveUp::Wide(wide) => print_wide(wide, sink),
+    }
+}
+
 /// Writes a log that is used up.
-pub fn print_spent<K: Sink>(log: &Log, sink: &mut K) -> Result<(), WriteFault>
+fn print_spent<K: Sink>(log: &Log, sink: &mut K) -> Result<(), WriteFault>
     ensures { WritesText (passage K.held K.faults sink.old sink.new) (spent_text log.now.steps) result }
 {
     let mut steps = Buffer::new();

@@ -14,6 +14,7 @@ ghost use Rattle.bt_top.specs.inner.Telling.{IsAnswered, IsAnsweredTo, IsPrinted
 use crate::answer::Answer;
 use crate::blocks::checked_from;
 use crate::certificate::certified;
+use crate::choosers::Choosers;
 use crate::claim::Claim;
 use crate::decision::decided;
 use crate::flow_check::check;
@@ -21,14 +22,12 @@ use crate::input::read_input;
 use crate::laying::laid_out;
 use crate::making::make;
 use crate::none_certificate::layout_checked;
-use crate::printing::{print_made, print_nowhere, print_proof, print_spent};
+use crate::printing::{print_gave_up, print_made, print_nowhere, print_proof};
 use crate::recover::recovered;
 use crate::text::text_of_answer;
-use bt_cnf::Chooser;
 use bt_flow::print_state;
 use bt_io::{ReadAll, Sink, Source, WriteFault, write_all_of};
 use bt_net::print;
-use bt_trail::{print_pivots, print_wide};
 use bt_words::{Command, command_of};
 use std::alloc::{AllocError, Global};
 
@@ -42,8 +41,8 @@ pub const WRITE_FAULT: u8 = 7;
 pub const NO_MEMORY: u8 = 8;
 
 /// Does all that the program does: reads the words and the source, writes the answer's text to the sink,
-/// and gives the status. The words exclude the program's name. The choosers steer a search, in turns;
-/// what they answer never changes whether the program's answer is right.
+/// and gives the status. The words exclude the program's name. The choosers steer a search; what
+/// they answer never changes whether the program's answer is right.
 ///
 /// Where the words are no command, or are one that reads nothing, the source is as it was.
 pub fn run<S: Source, K: Sink>(
@@ -51,7 +50,7 @@ pub fn run<S: Source, K: Sink>(
     words: &[String],
     source: &mut S,
     sink: &mut K,
-    choosers: Vec<Box<dyn Chooser>>,
+    choosers: Choosers,
 ) -> u8
     ensures ends { Ends (map string_bytes words.now)
         (passage S.left S.faults source.old source.new) (passage K.held K.faults sink.old sink.new) result }
@@ -70,7 +69,7 @@ fn answer_to<S: Source>(
     alloc: Global,
     words: &[String],
     source: &mut S,
-    choosers: Vec<Box<dyn Chooser>>,
+    choosers: Choosers,
 ) -> Result<Answer, ReadAll>
     ensures answer { IsAnsweredTo (map string_bytes words.now)
         (passage S.left S.faults source.old source.new) result }
@@ -87,7 +86,7 @@ fn answer_of<S: Source>(
     alloc: Global,
     command: Command,
     source: &mut S,
-    choosers: Vec<Box<dyn Chooser>>,
+    choosers: Choosers,
 ) -> Result<Answer, ReadAll>
     requires { HasGrid command }
     ensures answer { IsAnswered command (passage S.left S.faults source.old source.new) result }
@@ -107,7 +106,7 @@ fn whole_answer<S: Source>(
     alloc: Global,
     command: Command,
     source: &mut S,
-    choosers: Vec<Box<dyn Chooser>>,
+    choosers: Choosers,
 ) -> Result<Answer, ReadAll>
     requires { HasGrid command }
     ensures answer { IsAnswered command (passage S.left S.faults source.old source.new) result }
@@ -127,7 +126,7 @@ fn right_answer(
     alloc: Global,
     command: Command,
     bytes: &[u8],
-    choosers: Vec<Box<dyn Chooser>>,
+    choosers: Choosers,
 ) -> Result<Answer, AllocError>
     requires grid { HasGrid command }
     requires short { length bytes.now ≤ input_limit command }
@@ -137,10 +136,14 @@ fn right_answer(
         Command::FlowCheck(property) => check(alloc, property, bytes),
         Command::Recover => recovered(alloc, bytes),
         Command::Check(property) => certified(alloc, property, bytes),
-        Command::Decide(property, limits) => decided(alloc, property, limits, bytes, choosers),
-        Command::Make(family, order, limits) => make(alloc, family, order, limits, choosers),
+        Command::Decide(property, limits) => {
+            decided(alloc, property, limits, bytes, choosers.decisions)
+        }
+        Command::Make(family, order, limits) => {
+            make(alloc, family, order, limits, choosers.decisions)
+        }
         Command::Layout(rect, tier, learnt) => {
-            laid_out(alloc, rect, tier, learnt, bytes, choosers)
+            laid_out(alloc, rect, tier, learnt, bytes, choosers.layouts)
         }
         Command::CheckLayout(rect, tier) => layout_checked(alloc, rect, tier, bytes),
     }
@@ -164,9 +167,7 @@ fn print_lines<K: Sink>(answer: &Answer, sink: &mut K) -> Option<Result<(), Writ
         Answer::Recovered(net) => print(net, sink),
         Answer::Proved(property, log) => print_proof(*property, log, sink),
         Answer::Broken(property, state) => print_state(state, *property, sink),
-        Answer::Spent(log) => print_spent(log, sink),
-        Answer::Pivots(trail) => print_pivots(trail, sink),
-        Answer::Wide(wide) => print_wide(wide, sink),
+        Answer::GaveUp(cause) => print_gave_up(cause, sink),
         Answer::Made(made) => print_made(made, sink),
         Answer::Nowhere(log) => print_nowhere(log, sink),
         Answer::Usage => write_all_of(sink, b"usage\n"),

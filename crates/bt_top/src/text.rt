@@ -99,9 +99,7 @@ fn answer_line(answer: &Answer) -> Line
         Answer::Recovered(_)
         | Answer::Proved(..)
         | Answer::Broken(..)
-        | Answer::Spent(_)
-        | Answer::Pivots(_)
-        | Answer::Wide(_)
+        | Answer::GaveUp(_)
         | Answer::Made(_)
         | Answer::LaidOut(_)
         | Answer::Nowhere(_) => Line("", Detail::Nothing),

@@ -15,8 +15,8 @@ mod states;
 
 use bt_cnf::Chooser;
 use bt_io::{MemSink, MemSource};
-use bt_sat::Recent;
-use bt_top::run;
+use bt_sat::{Active, Recent};
+use bt_top::{Choosers, run};
 use inputs::input_of;
 use std::alloc::{AllocError, Global};
 use std::process::Abort;
@@ -82,7 +82,7 @@ fn answer_by(
     words: &str,
     input: Vec<u8>,
     streams: Streams,
-    choosers: Vec<Box<dyn Chooser>>,
+    choosers: Choosers,
 ) -> Result<(u8, Vec<u8>), AllocError> {
     let words = words_of(alloc, words)?;
     let most = streams.most.max(1);
@@ -104,8 +104,13 @@ fn answer(
     input: Vec<u8>,
     streams: Streams,
 ) -> Result<(u8, Vec<u8>), AllocError> {
+    let active: Box<dyn Chooser> = Box::new(alloc, Active::new(alloc)?)?;
     let recent: Box<dyn Chooser> = Box::new(alloc, Recent::new(alloc)?)?;
-    answer_by(alloc, words, input, streams, vec![in alloc; recent]?)
+    let choosers = Choosers {
+        decisions: vec![in alloc; active]?,
+        layouts: vec![in alloc; recent]?,
+    };
+    answer_by(alloc, words, input, streams, choosers)
 }
 
 /// Whether a row's words and input are answered with its status and its text.

@@ -16,7 +16,7 @@ decide full|decide full - -
 decide balanced --learnt 0 --pivots 0|decide balanced 0 0
 decide --pivots=0 --learnt=0 balanced|decide balanced 0 0
 decide --learnt 0 balanced --pivots=0|decide balanced 0 0
-decide --pivots 100000 full --learnt 1000000|decide full 1000000 100000
+decide --pivots 100000 full --learnt 1000000000|decide full 1000000000 100000
 decide full --learnt=7|decide full 7 -
 decide --pivots 10 full|decide full - 10
 make 2|make butterfly - - 2
@@ -24,11 +24,11 @@ make 2 --chain|make chain - - 2
 make --chain 0|make chain - - 0
 make 999999999|make butterfly - - 999999999
 make --learnt=0 16 --chain --pivots 0|make chain 0 0 16
-make --learnt 1000000 --pivots 100000 1|make butterfly 1000000 100000 1
+make --learnt 1000000000 --pivots 100000 1|make butterfly 1000000000 100000 1
 layout --grid 5x8|layout basic 5 8 -
 layout --grid=5x8|layout basic 5 8 -
 layout --grid 16x16 --tier basic --learnt 0|layout basic 16 16 0
-layout --learnt=1000000 --tier=turbo --grid=1x16|layout turbo 1 16 1000000
+layout --learnt=1000000000 --tier=turbo --grid=1x16|layout turbo 1 16 1000000000
 layout --tier fast --grid 16x1|layout fast 16 1 -
 layout --tier=express --learnt 7 --grid 2x3|layout express 2 3 7
 check-layout --grid 5x8|check-layout basic 5 8
@@ -67,7 +67,7 @@ decide --learnt --pivots balanced|none
 decide balanced --learnt 01|none
 decide balanced --learnt=+1|none
 decide balanced --learnt=1=2|none
-decide balanced --learnt=1000001|none
+decide balanced --learnt=1000000001|none
 decide balanced --pivots 100001|none
 decide balanced --pivots 99999999999999999999999999999999999999999|none
 decide balanced --learnt 1 --learnt 1|none
@@ -110,7 +110,7 @@ layout --grid 5x8 --tier|none
 layout --grid 5x8 --tier Basic|none
 layout --grid 5x8 --tier yellow|none
 layout --grid 5x8 --tier fast --tier fast|none
-layout --grid 5x8 --learnt 1000001|none
+layout --grid 5x8 --learnt 1000000001|none
 layout --grid 5x8 --pivots 1|none
 layout --grid 5x8 --chain|none
 layout --grid 5x8 balanced|none

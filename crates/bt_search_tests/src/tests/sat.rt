@@ -4,7 +4,7 @@ ghost use Rattle.bt_cnf.specs.Formulas.{LitsBelow};
 
 use super::{fields, number_of};
 use bt_cnf::{Chooser, Formula, Lit, Pick, Var};
-use bt_sat::{Answer, Highest, Lowest, Recent, Solver};
+use bt_sat::{Active, Answer, Highest, Lowest, Recent, Solver};
 use std::alloc::{AllocError, Global};
 use std::test::Fail;
 
@@ -133,7 +133,7 @@ fn is_right_by<C: Chooser>(
     is_right(&mut solver, wanted)
 }
 
-/// Whether searches without a chooser and with one of two choosers answer right.
+/// Whether searches without a chooser and with one of three choosers answer right.
 fn are_right(alloc: Global, seed: u64, vars: usize) -> Result<bool, AllocError>
     requires some { 0 < vars }
     requires few { vars < 9 }
@@ -141,10 +141,12 @@ fn are_right(alloc: Global, seed: u64, vars: usize) -> Result<bool, AllocError>
     let none: Vec<Lowest> = Vec::new(alloc);
     let highest = vec![in alloc; Highest::new()]?;
     let recent = vec![in alloc; Recent::new(alloc)?]?;
+    let active = vec![in alloc; Active::new(alloc)?]?;
     Ok(
         is_right_by(alloc, seed, vars, none)?
             && is_right_by(alloc, seed, vars, highest)?
-            && is_right_by(alloc, seed, vars, recent)?,
+            && is_right_by(alloc, seed, vars, recent)?
+            && is_right_by(alloc, seed, vars, active)?,
     )
 }
 

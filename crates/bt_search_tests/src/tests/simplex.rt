@@ -30,12 +30,46 @@ const WIDE: &[&str] = &[
     ">= 1/12157665459056928801 1|>= -1/1267650600228229401496703205376 -1|lemma|add|1 1",
 ];
 
-/// A tableau of rows over one column, all of which are bound.
-fn bound_tableau(alloc: Global, rows: &[Row]) -> Result<Option<Tableau>, AllocError> {
-    if !are_over(rows, 1) {
+/// Six rows over two columns. The turns go round where of the positions that can enter the greatest does.
+const MET_BY_THE_LEAST_TO_ENTER: &[&str] = &[
+    ">= -2 -2 -2",
+    ">= 0 2",
+    ">= 0 -2 -3",
+    ">= 1 -3 -3",
+    ">= 2 2 -3",
+    ">= 2 1",
+];
+
+/// Six rows over two columns. The turns go round where of the positions that fail the greatest leaves.
+const MET_BY_THE_LEAST_TO_LEAVE: &[&str] = &[
+    ">= 2 3 2",
+    ">= 2 0 -1",
+    ">= 0 3 1",
+    ">= 1 1 -1",
+    ">= -1 2 1",
+    ">= 2 2 -3",
+];
+
+/// The same of rows that no values meet.
+const REFUTED_BY_THE_LEAST_TO_LEAVE: &[&str] = &[
+    ">= 1 1",
+    ">= 2 1 -2",
+    ">= 2 -3 1",
+    ">= 1 -1 -1",
+    ">= 0 -3 -2",
+    ">= -1 2 -1",
+];
+
+/// A tableau of rows over so many columns, all of which are bound.
+fn bound_tableau(
+    alloc: Global,
+    rows: &[Row],
+    columns: usize,
+) -> Result<Option<Tableau>, AllocError> {
+    if !are_over(rows, columns) {
         return Ok(None);
     }
-    let mut tableau = Tableau::new(alloc, rows, 1)?;
+    let mut tableau = Tableau::new(alloc, rows, columns)?;
     for row in 0..rows.len() {
         bind(&mut tableau, row, true);
     }
@@ -75,7 +109,7 @@ fn is_taken(alloc: Global, tableau: &mut Tableau, row: &str) -> Result<bool, All
 /// Whether the tableau of two rows takes the turns that it may take, one after the other.
 fn are_taken(alloc: Global) -> Result<bool, AllocError> {
     let rows = rows_of(alloc, &["> 0 1", ">= -1 -1"])?;
-    let Some(mut tableau) = bound_tableau(alloc, &rows)? else {
+    let Some(mut tableau) = bound_tableau(alloc, &rows, 1)? else {
         return Ok(false);
     };
     for row in TURNS {
@@ -143,7 +177,7 @@ fn checked(
 fn is_answered(alloc: Global, row: &str) -> Result<bool, AllocError> {
     let [first, second, letters, ..] = fields(row, '|');
     let rows = rows_of(alloc, &[first, second])?;
-    let Some(mut tableau) = bound_tableau(alloc, &rows)? else {
+    let Some(mut tableau) = bound_tableau(alloc, &rows, 1)? else {
         return Ok(false);
     };
     for (place, letter) in letters.bytes().enumerate() {
@@ -153,6 +187,20 @@ fn is_answered(alloc: Global, row: &str) -> Result<bool, AllocError> {
         }
     }
     Ok(true)
+}
+
+/// Whether a check of all these rows over two columns ends within ten turns, with values where it is told so, and else
+/// without.
+fn ends(alloc: Global, fields: &[&str], has_values: bool) -> Result<bool, AllocError> {
+    let rows = rows_of(alloc, fields)?;
+    let Some(mut tableau) = bound_tableau(alloc, &rows, 2)? else {
+        return Ok(false);
+    };
+    match tableau.check(alloc, 10)? {
+        Check::Sat(values) => Ok(has_values && meet(&rows, &values)),
+        Check::Unsat(_) => Ok(!has_values),
+        Check::Pivots(_) | Check::Wide(_) => Ok(false),
+    }
 }
 
 fn place_named(name: &str) -> WidePlace {
@@ -173,7 +221,7 @@ fn operation_named(name: &str) -> Operation {
 
 /// Where a check of all rows meets a number that doesn't fit.
 fn wide_of(alloc: Global, rows: &[Row]) -> Result<Option<Wide>, AllocError> {
-    let Some(mut tableau) = bound_tableau(alloc, rows)? else {
+    let Some(mut tableau) = bound_tableau(alloc, rows, 1)? else {
         return Ok(None);
     };
     match tableau.check(alloc, 10)? {
@@ -211,5 +259,13 @@ fn answers(rt: HostRuntime) -> Result<(), Fail> {
     for row in WIDE {
         assert!(rt; is_wide(rt.alloc(), row)?, "{row}");
     }
+    Ok(())
+}
+
+#[test]
+fn rounds(rt: HostRuntime) -> Result<(), Fail> {
+    assert!(rt; ends(rt.alloc(), MET_BY_THE_LEAST_TO_ENTER, true)?);
+    assert!(rt; ends(rt.alloc(), MET_BY_THE_LEAST_TO_LEAVE, true)?);
+    assert!(rt; ends(rt.alloc(), REFUTED_BY_THE_LEAST_TO_LEAVE, false)?);
     Ok(())
 }

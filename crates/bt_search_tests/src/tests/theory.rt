@@ -1,23 +1,52 @@
-//! What formulas with rows come to within limits.
+//! What formulas with rows come to within limits, with scopes and with guesses.
 use super::{add_clause, fields, number_of, row_of};
 use bt_cnf::{Chooser, Formula};
-use bt_theory::{Limits, Outcome, solve};
+use bt_theory::{GaveUp, Limits, Outcome, solve};
 use std::alloc::{AllocError, Global};
 use std::test::Fail;
 
-/// The clauses of a formula whose first variable says that the column is at least 1 and the second that it is at most 0, the
-/// most steps, the most turns, and the outcome.
+/// The rows of the first variables: that the first column is at least 1, that it is at most 0, and one whose check alone asks
+/// for a number that leaves 128 bits.
+const ROWS: &[&str] = &[
+    ">= 1 1",
+    ">= 0 -1",
+    ">= 1 1/1267650600228229401496703205376 1267650600228229401496703205376",
+];
+
+/// The clauses of a formula, scopes as lists of places of rows, of which `-` is empty, guesses as 1 or 0 for each variable,
+/// of which `-` is empty, the most steps and turns, and the outcome.
 const CASES: &[&str] = &[
-    "1|9|9|sat",
-    "1,2|9|9|refuted",
-    "1,2|0|9|spent",
-    "1|9|0|pivots",
-    "1,2|2|9|refuted",
+    "1|||9 9|sat",
+    "1,2|||9 9|refuted",
+    "1,2|||0 9|spent",
+    "1|||9 0|pivots",
+    "1,2|||2 9|refuted",
+    "3|||9 9|wide",
+    "1,2|0 1||9 9|refuted",
+    "1,2|-||9 9|refuted",
+    "1,2|0 0 1 1||9 9|refuted",
+    "1,2|0 1,0 1,-||9 9|refuted",
+    "1,2|0 1||0 9|spent",
+    "1,2|0 1||9 0|pivots",
+    "1,2|1,0||9 9|refuted",
+    "1|0 1,1||9 9|sat",
+    "3|2||9 9|wide",
+    "1,2,3|2||9 9|refuted",
+    "1 2,1 -2|||0 9|spent",
+    "1 2,1 -2||100|0 9|sat",
+    "1 2,1 -2||010 100|0 9|sat",
+    "1 2,1 -2||1|0 9|sat",
+    "1 2,1 -2||10000|0 9|sat",
+    "1 2,1 -2||- 01|0 9|spent",
+    "1 2,1 -2||100|0 0|spent",
+    "1,2||110|9 9|refuted",
+    "1 3,1 -3||101|9 9|sat",
+    "1 2,1 -2|0 1|000|9 9|sat",
 ];
 
 fn formula_of(alloc: Global, clauses: &str) -> Result<Formula, AllocError> {
     let mut formula = Formula::new(alloc, 0)?;
-    for row in [">= 1 1", ">= 0 -1"] {
+    for row in ROWS {
         if let Some(row) = row_of(alloc, row)? {
             formula.add_atom(row)?;
         }
@@ -28,26 +57,76 @@ fn formula_of(alloc: Global, clauses: &str) -> Result<Formula, AllocError> {
     Ok(formula)
 }
 
-/// What an outcome is: an assignment, a refutation, a spent log, too many turns or a number that is too wide.
+/// The places of a scope, as far as there is a row.
+fn scope_of(alloc: Global, text: &str, end: usize) -> Result<Vec<usize>, AllocError> {
+    let mut scope = Vec::new(alloc);
+    if text != "-" {
+        for word in text.split(' ') {
+            let place = number_of(word);
+            if place < end {
+                scope.push(place)?;
+            }
+        }
+    }
+    Ok(scope)
+}
+
+fn scopes_of(alloc: Global, text: &str, end: usize) -> Result<Vec<Vec<usize>>, AllocError> {
+    let mut scopes = Vec::new(alloc);
+    if !text.is_empty() {
+        for scope in text.split(',') {
+            scopes.push(scope_of(alloc, scope, end)?)?;
+        }
+    }
+    Ok(scopes)
+}
+
+fn guess_of(alloc: Global, text: &str) -> Result<Vec<bool>, AllocError> {
+    let mut guess = Vec::new(alloc);
+    if text != "-" {
+        for value in text.as_bytes() {
+            guess.push(*value == b'1')?;
+        }
+    }
+    Ok(guess)
+}
+
+fn guesses_of(alloc: Global, text: &str) -> Result<Vec<Vec<bool>>, AllocError> {
+    let mut guesses = Vec::new(alloc);
+    if !text.is_empty() {
+        for guess in text.split(' ') {
+            guesses.push(guess_of(alloc, guess)?)?;
+        }
+    }
+    Ok(guesses)
+}
+
+/// What an outcome is: an assignment with values, one for each variable and column, a refutation, a spent log, too many turns
+/// or a number that is too wide.
 fn name_of(outcome: &Outcome) -> &'static str {
     match outcome {
-        Outcome::Sat { .. } => "sat",
+        Outcome::Sat { values, assignment } if values.len() == 2 && assignment.len() == 3 => "sat",
+        Outcome::Sat { .. } => "short",
         Outcome::Refuted(_) => "refuted",
-        Outcome::Spent(_) => "spent",
-        Outcome::Pivots(_) => "pivots",
-        Outcome::Wide(_) => "wide",
+        Outcome::GaveUp(GaveUp::Spent(_)) => "spent",
+        Outcome::GaveUp(GaveUp::Pivots(_)) => "pivots",
+        Outcome::GaveUp(GaveUp::Wide(_)) => "wide",
     }
 }
 
 /// Whether a formula comes to what a row says.
 fn is_outcome(alloc: Global, row: &str) -> Result<bool, AllocError> {
-    let [clauses, learnt, pivots, name, ..] = fields(row, '|');
+    let [clauses, scopes, guesses, limits, name] = fields(row, '|');
+    let [learnt, pivots, ..] = fields(limits, ' ');
     let choosers: Vec<Box<dyn Chooser>> = Vec::new(alloc);
     let limits = Limits {
         learnt: number_of(learnt) as u64,
         pivots: number_of(pivots) as u64,
     };
-    let outcome = solve(alloc, formula_of(alloc, clauses)?, choosers, limits)?;
+    let formula = formula_of(alloc, clauses)?;
+    let scopes = scopes_of(alloc, scopes, formula.rows().len())?;
+    let guesses = guesses_of(alloc, guesses)?;
+    let outcome = solve(alloc, formula, &scopes, &guesses, choosers, limits)?;
     Ok(name_of(&outcome) == name)
 }
 

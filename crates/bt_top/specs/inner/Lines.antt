@@ -2,7 +2,7 @@
 use Rattle.std.specs.Prelude.{ℕ, List, [], ◌++◌, codes, decimal}
 use Rattle.bt_net.specs.NetText.{line}
 use Rattle.bt_top.specs.declared.answer.Answer.{Answer}
-use Rattle.bt_top.specs.declared.answer.Answer.TheVariants.{Recovered, Proved, Broken, Spent, Pivots, Wide, Made, LaidOut, Nowhere, CertLine, BadStep, NoVerdict, CertWide}
+use Rattle.bt_top.specs.declared.answer.Answer.TheVariants.{Recovered, Proved, Broken, GaveUp, Made, LaidOut, Nowhere, CertLine, BadStep, NoVerdict, CertWide}
 use Rattle.bt_top.specs.declared.text.Detail.{Detail}
 use Rattle.bt_top.specs.declared.text.Detail.TheVariants.{Nothing, Name, Number, Numbers, ThreeNumbers, NameAndNumber, NumberAndName}
 use Rattle.bt_top.specs.declared.text.Line.{Line}
@@ -26,9 +26,7 @@ abbrev pub IsLine : Answer → Type 0
 IsLine (Recovered n) = ⊥
 IsLine (Proved p log) = ⊥
 IsLine (Broken p state) = ⊥
-IsLine (Spent log) = ⊥
-IsLine (Pivots trail) = ⊥
-IsLine (Wide wide) = ⊥
+IsLine (GaveUp cause) = ⊥
 IsLine (Made made) = ⊥
 IsLine (Nowhere log) = ⊥
 IsLine other = Unit {0}

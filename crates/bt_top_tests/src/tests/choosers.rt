@@ -3,6 +3,7 @@ ghost use Rattle.std.specs.Prelude.{Some};
 
 use super::{answer_by, fields, input_of, is_status, smooth};
 use bt_cnf::{Chooser, Lit, Pick, Var};
+use bt_top::Choosers;
 use std::alloc::{AllocError, Global};
 use std::cell::Cell;
 use std::rc::Rc;
@@ -81,6 +82,16 @@ const STEERED: &[&str] = &[
     "layout --grid 2x3|net 2 2 1\nedge i0 s0\nedge i1 s0\nedge s0 o0\nedge s0 o1\nend\n|0|{\"blueprint\":",
 ];
 
+/// A chooser that was told nothing yet.
+fn untold(alloc: Global, steering: Steering, asked: &Rc<Cell<u64>>) -> Result<Odd, AllocError> {
+    Ok(Odd {
+        steering,
+        asked: asked.clone()?,
+        lits: Vec::new(alloc),
+        lengths: Vec::new(alloc),
+    })
+}
+
 /// The status and the text with which words and an input are answered, where this one steers.
 fn steered(
     alloc: Global,
@@ -89,18 +100,13 @@ fn steered(
     steering: Steering,
     asked: &Rc<Cell<u64>>,
 ) -> Result<(u8, Vec<u8>), AllocError> {
-    let mut choosers: Vec<Box<dyn Chooser>> = Vec::new(alloc);
+    let mut decisions: Vec<Box<dyn Chooser>> = Vec::new(alloc);
+    let mut layouts: Vec<Box<dyn Chooser>> = Vec::new(alloc);
     if steering != Steering::Nobody {
-        choosers.push(Box::new(
-            alloc,
-            Odd {
-                steering,
-                asked: asked.clone()?,
-                lits: Vec::new(alloc),
-                lengths: Vec::new(alloc),
-            },
-        )?)?;
+        decisions.push(Box::new(alloc, untold(alloc, steering, asked)?)?)?;
+        layouts.push(Box::new(alloc, untold(alloc, steering, asked)?)?)?;
     }
+    let choosers = Choosers { decisions, layouts };
     answer_by(alloc, words, input, smooth(1000), choosers)
 }
 

@@ -48,7 +48,7 @@ const CASES: &[&str] = &[
     "decide balanced --learnt 0|net 4 4 4\nedge i0 s0\nedge i1 s0\nedge i2 s1\nedge i3 s1\nedge s0 s2\n\
      edge s0 s3\nedge s1 s2\nedge s1 s3\nedge s2 o0\nedge s2 o1\nedge s3 o2\nedge s3 o3\nend\n\
      |4|spent 0\nend\n",
-    "make 2 --learnt=0||4|spent 0\nend\n",
+    "make 2 --learnt=0||0|butterfly 2\nedges 12\noutputs 4\nyes balanced\n",
     "decide balanced full|net 1 1 0\nedge i0 o0\nend\n|2|usage\n",
     "decide balanced --learnt 01|net 1 1 0\nedge i0 o0\nend\n|2|usage\n",
     "make 02|net 1 1 0\nedge i0 o0\nend\n|2|usage\n",
@@ -58,7 +58,10 @@ const CASES: &[&str] = &[
     "make 2|no input is read|0|butterfly 2\nedges 12\noutputs 4\nyes balanced\n",
     "make 2 --chain||1|chain 2\nedges 5\noutputs 3\nno balanced\n",
     "make --chain 16||1|chain 16\nedges 33\noutputs 17\nno balanced\n",
-    "make 6||3|refused 43 Order 6\n",
+    "make 6||0|butterfly 6\nedges 448\noutputs 64\nyes balanced\n",
+    "make 7 --learnt 0 --pivots 0||0|butterfly 7\nedges 1024\noutputs 128\nyes balanced\n",
+    "make 8||3|refused 43 Order 8\n",
+    "make --chain 65||3|refused 43 Order 65\n",
     "make 0 --chain --pivots 0||3|refused 43 Order 0\n",
 ];
 

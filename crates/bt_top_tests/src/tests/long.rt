@@ -3,7 +3,7 @@ ghost use Rattle.std.specs.Prelude.{None};
 
 use super::{SINK_ROOM, fields, is_status, number_of, words_of};
 use bt_io::{Failed, MemSink, Source};
-use bt_top::run;
+use bt_top::{Choosers, run};
 use std::alloc::{AllocError, Global};
 use std::test::Fail;
 
@@ -67,7 +67,11 @@ fn is_answered(alloc: Global, row: &str) -> Result<bool, AllocError> {
         faults: 0,
     };
     let mut sink = MemSink::new(alloc, SINK_ROOM, Vec::new(alloc), 1000)?;
-    let given = run(alloc, &words, &mut source, &mut sink, Vec::new(alloc));
+    let choosers = Choosers {
+        decisions: Vec::new(alloc),
+        layouts: Vec::new(alloc),
+    };
+    let given = run(alloc, &words, &mut source, &mut sink, choosers);
     Ok(is_status(given, status) && sink.held() == told.as_bytes())
 }
 

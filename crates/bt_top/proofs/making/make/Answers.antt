@@ -1,16 +1,12 @@
-use Rattle.std.proofs.Common.{refl, alloc_error}
-use Rattle.bt_gen.specs.declared.fault.GenFault.TheVariants.{Memory}
-use Rattle.bt_gen.specs.Orders.{IsGenerated}
-use Rattle.bt_top.specs.Making.{IsBalanceDecided, gen_told, most_of, net_of}
-use Rattle.bt_top.proofs.InTurns.{stops, went}
+use Rattle.std.proofs.Common.{sym, subst, alloc_error}
+use Rattle.bt_answers.specs.Answers.{UnlessMemory}
+use Rattle.bt_top.specs.Making.{IsMade}
 use Rattle.bt_top.proofs.making.make.Goals as goal
 
-pub returns-in-Ok : goal.returns-in-Ok
-returns-in-Ok g c =
-    went alloc_error (IsGenerated (most_of c.args.family) (net_of c.args.family) c.args.order) gen_told (IsBalanceDecided c.args.family c.args.order c.args.limits) c.in-Ok.net
-    c.balance_of.result c.in-Ok.ensures c.balance_of.ensures
+pub returns-in-Butterfly : goal.returns-in-Butterfly
+returns-in-Butterfly g c =
+    subst (λ family. UnlessMemory alloc_error (IsMade family c.args.order c.args.limits) c.butterfly_made.result) (sym c.in-Butterfly.is) c.butterfly_made.ensures
 
-pub returns-in-Err : goal.returns-in-Err
-returns-in-Err g c =
-    stops Memory alloc_error (IsGenerated (most_of c.args.family) (net_of c.args.family) c.args.order) gen_told (IsBalanceDecided c.args.family c.args.order c.args.limits) c.in-Err.fault
-    c.ungenerated.result refl c.in-Err.ensures c.ungenerated.ensures
+pub returns-in-Chain : goal.returns-in-Chain
+returns-in-Chain g c =
+    subst (λ family. UnlessMemory alloc_error (IsMade family c.args.order c.args.limits) c.chain_made.result) (sym c.in-Chain.is) c.chain_made.ensures
