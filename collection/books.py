@@ -1,0 +1,160 @@
+"""Blueprint books: the text of each design in a book, byte for byte, with its place there.
+
+A book is walked member by member, without recursion, so that its depth is no matter; each other value is passed over
+by the standard library's reader. So each design's text stays what it was, faults and all, for the program to judge."""
+
+import json
+import re
+from dataclasses import dataclass, field
+
+MOST_NESTED = 100_000
+"""How many books stand in one another at most."""
+
+BLANKS = re.compile(r"[ \t\n\r]*")
+DECODER = json.JSONDecoder(strict=False)
+
+
+class Fault(Exception):
+    """What is wrong with a book's text, in words."""
+
+
+@dataclass
+class Book:
+    """A book, or an entry of one: where it stands and what it is called."""
+
+    parent: "Book | None"
+    number: int
+    label: str | None = None
+
+    def above(self):
+        """The books that this one stands in, from the outermost on, and itself."""
+        line, book = [], self
+        while book is not None:
+            line.append(book)
+            book = book.parent
+        return line[::-1]
+
+
+@dataclass
+class Entry:
+    """What stands in a book, or alone, and is no book: its text, and its own label."""
+
+    book: Book | None
+    number: int
+    text: str
+    label: str | None
+
+    def path(self):
+        """The labels of the books around it, but for the outermost, and its own; where one has none, its number."""
+        books = self.book.above()[1:] if self.book else []
+        return [it.label or str(it.number) for it in [*books, self]]
+
+    def place(self):
+        """The numbers of the books around it and its own."""
+        books = self.book.above()[1:] if self.book else []
+        return [it.number for it in [*books, self]] if self.book else []
+
+    def title(self):
+        """The label of the outermost book."""
+        return self.book.above()[0].label if self.book else None
+
+
+@dataclass
+class Reader:
+    """A place in a text of JSON."""
+
+    text: str
+    at: int = 0
+    found: list = field(default_factory=list)
+
+    def sign(self):
+        """The next character that isn't blank."""
+        self.at = BLANKS.match(self.text, self.at).end()
+        return self.text[self.at : self.at + 1]
+
+    def expect(self, sign):
+        if self.sign() != sign:
+            raise Fault(f"the text is damaged at character {self.at}: {sign} is expected there")
+        self.at += 1
+
+    def value(self):
+        """The value that stands here; the reader goes past it."""
+        self.sign()
+        try:
+            value, self.at = DECODER.raw_decode(self.text, self.at)
+        except RecursionError:
+            raise Fault(f"the value at character {self.at} is nested too deep") from None
+        except ValueError as fault:
+            raise Fault(f"the text is damaged in the value at character {self.at} ({fault})") from None
+        return value
+
+    def parts(self, opening, closing):
+        """Stops at each item of the list or object that stands here; who asks goes past the item."""
+        self.expect(opening)
+        if self.sign() != closing:
+            yield
+            while self.sign() != closing:
+                self.expect(",")
+                yield
+        self.expect(closing)
+
+    def members(self):
+        """The name of each member of the object that stands here; who asks goes past the value."""
+        for _ in self.parts("{", "}"):
+            name = self.value()
+            self.expect(":")
+            yield name
+
+
+def label_of(value):
+    label = value.get("label") if isinstance(value, dict) else None
+    return label if isinstance(label, str) and label.strip() else None
+
+
+def entry(reader, book, number, depth):
+    """Reads one entry: a design, a book, or what is neither."""
+    reader.sign()
+    start, label, held = reader.at, None, False
+    if reader.sign() != "{":
+        reader.value()
+    else:
+        for name in reader.members():
+            if name == "blueprint_book" and reader.sign() == "{":
+                held = True
+                yield pages(reader, Book(book, number), depth + 1)
+            else:
+                label = label_of(reader.value()) or label
+    if not held:
+        reader.found.append(Entry(book, number, reader.text[start : reader.at], label))
+
+
+def pages(reader, book, depth):
+    """Reads a book: its label, and its entries."""
+    if depth > MOST_NESTED:
+        raise Fault(f"more than {MOST_NESTED} books stand in one another")
+    for name in reader.members():
+        if name == "blueprints" and reader.sign() == "[":
+            for number, _ in enumerate(reader.parts("[", "]"), 1):
+                yield entry(reader, book, number, depth)
+        else:
+            value = reader.value()
+            if name == "label" and isinstance(value, str) and value.strip():
+                book.label = value
+
+
+def entries(text):
+    """The entries of a text of JSON, and what is wrong with the text, or None. Those before the fault are told too."""
+    reader = Reader(text)
+    open_tasks = [entry(reader, None, 1, 0)]
+    try:
+        while open_tasks:
+            inner = next(open_tasks[-1], None)
+            if inner is None:
+                open_tasks.pop()
+            else:
+                open_tasks.append(inner)
+        if reader.sign():
+            raise Fault(f"more follows at character {reader.at}, where the text's value ends")
+    except Fault as fault:
+        return reader.found, str(fault)
+    return reader.found, None

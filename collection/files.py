@@ -1,0 +1,79 @@
+"""Files that are whole or not there: each is written under another name beside its own, and then renamed."""
+
+import hashlib
+import os
+import re
+import tempfile
+import unicodedata
+from contextlib import contextmanager
+from pathlib import Path
+
+LONGEST_NAME = 80
+"""How many characters a folder's name has at most, without the number that tells it from others."""
+
+UNDONE = ".part"
+BLOCK = 1 << 20
+
+
+@contextmanager
+def replacing(path, synced=False):
+    """A new file that takes this path's place once all is written; where that fails, nothing is left of it. Where it is
+    synced, it is on the disk before."""
+    path = Path(path)
+    path.parent.mkdir(parents=True, exist_ok=True)
+    handle, other = tempfile.mkstemp(prefix="." + path.name[:40], suffix=UNDONE, dir=path.parent)
+    try:
+        with os.fdopen(handle, "wb") as file:
+            yield file
+            file.flush()
+            if synced:
+                os.fsync(file.fileno())
+        os.chmod(other, 0o644)
+        os.replace(other, path)
+    except BaseException:
+        Path(other).unlink(missing_ok=True)
+        raise
+
+
+def write(path, data):
+    with replacing(path) as file:
+        file.write(data.encode() if isinstance(data, str) else data)
+
+
+def digest(data):
+    return hashlib.sha256(data).hexdigest()
+
+
+def digest_of_file(path):
+    """A file's digest, or None where it can't be read."""
+    found = hashlib.sha256()
+    try:
+        with open(path, "rb") as file:
+            while block := file.read(BLOCK):
+                found.update(block)
+    except OSError:
+        return None
+    return found.hexdigest()
+
+
+def plain(text):
+    """The text without characters that steer what shows it: each of these as its number."""
+    steering = ("Cc", "Cf", "Cs", "Co", "Cn", "Zl", "Zp")
+    return "".join(f"\\u{ord(it):04x}" if unicodedata.category(it) in steering else it for it in text)
+
+
+def slug(name):
+    """A folder's name for a design of this name: letters, digits and dashes alone."""
+    flat = "".join(it for it in unicodedata.normalize("NFKD", name) if not unicodedata.combining(it))
+    word = re.sub(r"[^A-Za-z0-9]+", "-", flat).strip("-").lower()[:LONGEST_NAME].strip("-")
+    return word or "design"
+
+
+def free_name(name, taken):
+    """The folder's name, with a number where it is taken."""
+    word, count = slug(name), 1
+    found = word
+    while found in taken:
+        count += 1
+        found = f"{word}-{count}"
+    return found

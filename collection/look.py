@@ -1,0 +1,154 @@
+"""Opens a report in Chromium, takes pictures of it, and checks that sorting and search work.
+
+    python3 -m collection.look REPORT PICTURES
+
+It stands outside the merge gate, and wants the command chromium. The browser is led by the DevTools protocol over a
+pipe: messages of JSON, each ended by a zero byte. It exits with 1 where a check fails, and tells which."""
+
+import base64
+import json
+import os
+import subprocess
+import sys
+import tempfile
+from pathlib import Path
+
+WIDE, NARROW = (1280, 900), (390, 844)
+LONGEST_PICTURE = 12000
+WORDS = (
+    "exec chromium --headless --no-sandbox --disable-gpu --hide-scrollbars --remote-debugging-pipe --user-data-dir={} "
+    "3<&{} 4>&{}"
+)
+
+
+class Browser:
+    """A page in a browser without a window."""
+
+    def __init__(self, folder):
+        reads, self.writes = os.pipe()
+        self.reads, writes = os.pipe()
+        command = WORDS.format(folder, reads, writes)
+        self.process = subprocess.Popen(["bash", "-c", command], pass_fds=[reads, writes], stderr=subprocess.DEVNULL)
+        os.close(reads)
+        os.close(writes)
+        self.number, self.rest, self.session, self.events = 0, b"", None, []
+        target = self.ask("Target.createTarget", url="about:blank")["targetId"]
+        self.session = self.ask("Target.attachToTarget", targetId=target, flatten=True)["sessionId"]
+        self.ask("Page.enable")
+
+    def message(self):
+        while b"\0" not in self.rest:
+            block = os.read(self.reads, 1 << 20)
+            if not block:
+                raise SystemExit("the browser has ended")
+            self.rest += block
+        text, _, self.rest = self.rest.partition(b"\0")
+        return json.loads(text)
+
+    def ask(self, method, **params):
+        self.number += 1
+        asked = {"id": self.number, "method": method, "params": params}
+        if self.session:
+            asked["sessionId"] = self.session
+        text = json.dumps(asked).encode() + b"\0"
+        while text:
+            text = text[os.write(self.writes, text) :]
+        while (told := self.message()).get("id") != self.number:
+            self.events.append(told.get("method"))
+        if "error" in told:
+            raise SystemExit(f"{method}: {told['error']['message']}")
+        return told["result"]
+
+    def open(self, address):
+        self.events.clear()
+        self.ask("Page.navigate", url="about:blank")
+        self.ask("Page.navigate", url=address)
+        while self.value("document.readyState") != "complete" or self.value("location.href") == "about:blank":
+            pass
+
+    def value(self, script):
+        told = self.ask("Runtime.evaluate", expression=script, returnByValue=True)
+        if "exceptionDetails" in told:
+            raise SystemExit(f"{script}: {told['exceptionDetails']['text']}")
+        return told["result"].get("value")
+
+    def size(self, width, height, narrow=False):
+        screen = {"width": width, "height": height, "deviceScaleFactor": 2 if narrow else 1, "mobile": narrow}
+        self.ask("Emulation.setDeviceMetricsOverride", **screen)
+
+    def theme(self, name):
+        self.ask("Emulation.setEmulatedMedia", features=[{"name": "prefers-color-scheme", "value": name}])
+
+    def picture(self, path):
+        height = min(LONGEST_PICTURE, self.value("document.documentElement.scrollHeight"))
+        width = self.value("document.documentElement.clientWidth")
+        clip = {"x": 0, "y": 0, "width": width, "height": height, "scale": 1}
+        data = self.ask("Page.captureScreenshot", clip=clip, captureBeyondViewport=True)["data"]
+        Path(path).write_bytes(base64.b64decode(data))
+
+
+def checks(browser, address):
+    """What is wrong with the page's sorting, search and layout, in words."""
+    browser.size(*WIDE)
+    browser.open(address)
+    rows = "[...document.querySelectorAll('#designs tbody tr')]"
+    column = f"{rows}.map((it) => Number(it.cells[2].dataset.sort))"
+    button = "document.querySelectorAll('#designs thead button')[2]"
+    browser.value(f"{button}.click()")
+    if browser.value(column) != sorted(browser.value(column)):
+        yield "the splitters aren't sorted upwards"
+    browser.value(f"{button}.click()")
+    if browser.value(column) != sorted(browser.value(column), reverse=True):
+        yield "the splitters aren't sorted downwards"
+    if browser.value("document.querySelectorAll('[aria-sort]').length") != 1:
+        yield "the sorted column isn't told"
+    all_rows = browser.value(f"{rows}.length")
+    for words in ("unlimited:no", "no such words anywhere", ""):
+        browser.value(f"document.getElementById('words').value = '{words}'")
+        browser.value("document.getElementById('words').dispatchEvent(new Event('input'))")
+        left = browser.value(f"{rows}.filter((it) => it.getClientRects().length).length")
+        has = f"'{words}'.split(' ').every((word) => it.dataset.words.includes(word))"
+        expected = browser.value(f"{rows}.filter((it) => {has}).length")
+        if left != expected or (words == "" and left != all_rows):
+            yield f"the search for {words!r} leaves {left} rows, and not {expected}"
+    if browser.value("performance.getEntriesByType('resource').length"):
+        yield "the page loads something"
+    for width in (320, NARROW[0], WIDE[0]):
+        browser.size(width, 800)
+        for name in ["all", *browser.value("[...document.querySelectorAll('.page')].map((it) => it.id)")]:
+            browser.value(f"location.hash = '{name}'")
+            if browser.value("document.documentElement.scrollWidth") > width:
+                yield f"{name} is wider than a screen of {width}"
+    browser.ask("Emulation.setScriptExecutionDisabled", value=True)
+    browser.open(address)
+    browser.ask("Emulation.setScriptExecutionDisabled", value=False)
+    if not browser.value(f"{rows}.length === {all_rows} && document.getElementById('words').closest('p').hidden"):
+        yield "without scripts the table isn't whole"
+
+
+def main(report, pictures):
+    address = Path(report, "index.html").resolve().as_uri()
+    Path(pictures).mkdir(parents=True, exist_ok=True)
+    with tempfile.TemporaryDirectory(ignore_cleanup_errors=True) as folder:
+        browser = Browser(folder)
+        try:
+            wrong = list(checks(browser, address))
+            for theme in ("light", "dark"):
+                browser.theme(theme)
+                for word, size in (("wide", WIDE), ("narrow", NARROW)):
+                    browser.size(*size, word == "narrow")
+                    browser.open(address)
+                    names = browser.value("[...document.querySelectorAll('.page')].map((it) => it.id)")
+                    browser.picture(Path(pictures, f"all-{word}-{theme}.png"))
+                    for name in names:
+                        browser.value(f"location.hash = '{name}'")
+                        browser.picture(Path(pictures, f"{name}-{word}-{theme}.png"))
+        finally:
+            browser.process.terminate()
+            browser.process.wait()
+    print("\n".join(wrong) or "sorting, search and widths are right")
+    return bool(wrong)
+
+
+if __name__ == "__main__":
+    sys.exit(main(*sys.argv[1:]))

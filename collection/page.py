@@ -1,0 +1,295 @@
+"""The page of a report: one file that needs neither scripts nor a network."""
+
+from collections import Counter
+from html import escape
+from pathlib import Path
+
+from . import files, states, strings
+from .picture import flows
+from .rows import LABELS
+from .states import PROMISES, PROPERTIES
+from .work import NETWORK, SETTLED
+
+HERE = Path(__file__).resolve().parent
+SIGNS = {"yes": "✓", "no": "✕"}
+PIXELS, MOST_PIXELS, PLENTY = 34, 46, 420
+"""How wide a cell is on a large screen: more where the whole picture is small."""
+LEAST_PIXELS = 15
+"""How wide it is at least; a picture that doesn't fit then is moved to and fro."""
+WIDEST_BESIDE = 20
+"""So many cells wide a picture is at most that stands beside what is told of it."""
+THUMB = 60
+"""How wide and how high the small picture in the table is at most."""
+COLUMNS = ("design", "ends", "splitters", "cells", "tiers", *PROPERTIES, "seconds")
+
+
+def element(name, *content, **members):
+    """An element of HTML; its content is HTML already, the values of its members are not."""
+    told = "".join(
+        f' {key.rstrip("_").replace("_", "-")}="{escape(str(value))}"' for key, value in members.items() if value != ""
+    )
+    return f"<{name}{told}>{''.join(map(str, content))}</{name}>"
+
+
+def shown(text):
+    """A text that others wrote, as HTML."""
+    return f"<bdi>{escape(files.plain(text))}</bdi>"
+
+
+def count(number, word):
+    return f"{number} {word}{'' if number == 1 else 's'}"
+
+
+def badge(told, prop=""):
+    """A verdict."""
+    verdict = told["verdict"]
+    kind = verdict if verdict in SIGNS else "withheld"
+    title = f"{prop}: {told.get('why') or verdict}" if prop else ""
+    return element("span", f"{SIGNS.get(verdict, '–')} {LABELS[verdict]}", class_=f"verdict {kind}", title=title)
+
+
+def note(*content):
+    return element("span", *content, class_="note")
+
+
+def tier_mark(tier):
+    return element("span", tier, class_=f"tier {tier}")
+
+
+def spent_time(seconds):
+    return f"{seconds:.2f} s" if seconds >= 0.01 else "under 0.01 s"
+
+
+def figure(picture, content, label):
+    """A picture that is as wide as it needs, and can be moved where the screen is narrower."""
+    width = picture.box[2]
+    pixels = min(MOST_PIXELS, max(PIXELS, PLENTY // width))
+    style = f"max-width:{width * pixels}px;min-width:{width * LEAST_PIXELS}px"
+    drawn = element("svg", content, role="img", aria_label=label, viewBox=picture.view(), style=style)
+    return element("div", drawn, class_="plane", tabindex=0, role="group", aria_label=label)
+
+
+def thumb(row):
+    """The small picture of a design."""
+    picture, _ = row.picture
+    if picture is None:
+        return element("span", "–" if row.found.text is None or row.found.is_json() else "net", class_="thumb none")
+    width, height = map(float, picture.view().split()[2:])
+    scale = THUMB / max(width, height)
+    size = {"width": round(width * scale), "height": round(height * scale)}
+    drawn = f'<use href="#p-{row.id()}"/>'
+    return element("span", element("svg", drawn, aria_hidden="true", viewBox=picture.view(), **size), class_="thumb")
+
+
+def where(row, alone):
+    """Where a design stands: the books around it, its place there, and the file where there are several."""
+    told = [row.found.books.replace("/", " / "), row.found.place, "" if alone else row.found.source]
+    return note(shown(", ".join(filter(None, told)) or row.found.source))
+
+
+def who(row, alone):
+    """A design's name with its small picture, leading to its page."""
+    first = row.same_as or row
+    name = shown(row.found.label())
+    if row.folder:
+        name = element("a", name, href=f"#{first.id()}")
+    same = note(f"the same design as {shown(first.found.name)}") if row.same_as else ""
+    return element("div", thumb(first), element("div", name, same, where(row, alone)), class_="who")
+
+
+def table_row(row, alone):
+    """A design's row of the table; whether all are from one file."""
+    net, size, order = row.net, row.size(), list(LABELS)
+    seconds = sum(row.answer(prop).get("seconds", 0) for prop in PROPERTIES)
+    cells = [
+        (f"{net.inputs} → {net.outputs}", net.inputs * 10000 + net.outputs),
+        (net.splitters, net.splitters),
+        (f"{size[0]} × {size[1]}", size[0] * size[1]) if size else ("–", -1),
+        (" ".join(map(tier_mark, row.tiers())) or "–", " ".join(row.tiers())),
+        *((badge(row.answer(prop), prop), order.index(row.answer(prop)["verdict"])) for prop in PROPERTIES),
+        (f"{seconds:.1f}", seconds),
+    ]
+    words = [row.found.name, row.found.source, f"{net.inputs} to {net.outputs}", *row.tiers()]
+    words += [f"{prop}:{row.answer(prop)['verdict']}" for prop in PROPERTIES]
+    head = element("th", who(row, alone), scope="row", data_sort=files.plain(row.found.name).lower())
+    rest = (
+        element("td", content, data_label=label, data_sort=sort) for label, (content, sort) in zip(COLUMNS[1:], cells)
+    )
+    return element("tr", head, *rest, data_words=files.plain(" ".join(words)).lower())
+
+
+def refused_row(row, alone):
+    """A row for what has no network; whether all are from one file."""
+    reason = row.reason() or "not read yet"
+    words = f"{row.found.name} {row.found.source} {reason}"
+    head = element("th", who(row, alone), scope="row")
+    return element("tr", head, element("td", shown(reason)), data_words=files.plain(words).lower())
+
+
+def facts(row):
+    """What the design is made of."""
+    told, net, size, (parts, _) = [], row.net, row.size(), row.design
+    if net:
+        kinds = ((net.inputs, "input"), (net.outputs, "output"), (net.splitters, "splitter"), (len(net.edges), "edge"))
+        told.append(("Network", ", ".join(count(*it) for it in kinds)))
+    if size:
+        told.append(("Cells", f"{size[0]} × {size[1]}"))
+    for tier, kinds in row.tiers().items():
+        under = kinds["entrance"] + kinds["exit"]
+        words = ((kinds["belt"], "belt"), (under, "underground end"), (kinds["splitter"], "splitter"))
+        told.append(("Parts", f"{tier_mark(tier)} {', '.join(count(*it) for it in words if it[0])}"))
+    if parts and parts.strangers:
+        names = Counter(it.name for it in parts.strangers)
+        told.append(("Others", ", ".join(f"{number} × {shown(name)}" for name, number in names.items())))
+    told.append(("From", shown(row.found.source + (f", place {row.found.place}" if row.found.place else ""))))
+    kept = [row.found.file(), *([NETWORK] if net else [])]
+    told.append(("Files", ", ".join(element("a", name, href=f"designs/{row.id()}/{name}") for name in kept)))
+    told.append(("Digest", element("code", row.found.digest()[:16])))
+    lines = (element("div", element("dt", key), element("dd", value)) for key, value in told)
+    return element("dl", *lines, class_="facts")
+
+
+def about(row, told):
+    """What there is to a verdict: the file that shows it, or why there is none."""
+    why = shown(told["why"]) if told.get("why") else ""
+    if not told.get("file"):
+        return why
+    breaks = told["file"].startswith("not")
+    what = "breaking state" if breaks else f"certificate of {count(told['steps'], 'step')}"
+    link = element("a", what, href=f"designs/{row.id()}/{told['file']}")
+    return link + (", accepted" if told["verdict"] in SETTLED else f". {why}")
+
+
+def verdicts(row):
+    """The verdicts on a design."""
+    lines = []
+    for prop in PROPERTIES:
+        told = row.answer(prop)
+        seconds = note(spent_time(told["seconds"])) if "seconds" in told else ""
+        head = element("th", prop, note(PROMISES[prop]), scope="row")
+        lines.append(element("tr", head, element("td", badge(told)), element("td", about(row, told), " ", seconds)))
+    return element("table", element("tbody", *lines), class_="verdicts")
+
+
+def legend(unit):
+    """What the lines and numbers of a state mean."""
+    told = (
+        element("i", class_="key free") + "free: all moves on",
+        element("i", class_="key backed") + "backed: items queue up and wait",
+        f"width and number: flow, in {unit}",
+        "at the ends: load (i) and room (o)",
+    )
+    return element("p", *(element("span", it) for it in told), class_="legend")
+
+
+def state_table(net, state):
+    """A state's flows and marks, in a table."""
+    head = (element("th", it, scope="col") for it in ("edge", "from", "to", "flow", "cap", "mark"))
+    lines = []
+    for number, ((source, target, cap), flow, mark) in enumerate(zip(net.edges, state.flows, state.marks)):
+        told = number, source, target, flow, cap, "backed" if mark == "b" else "free"
+        lines.append(element("tr", *(element("td", it) for it in told)))
+    whole = element("table", element("thead", element("tr", *head)), element("tbody", *lines), class_="flows")
+    return element("div", whole, class_="wide")
+
+
+def breaking(row, prop):
+    """The breaking state of a property: what it shows, drawn on the picture, and in full."""
+    text = row.folder.text(row.answer(prop)["file"])
+    state, (picture, _) = states.read_state(text), row.picture
+    content = [element("h3", "Why it isn’t ", element("em", prop))]
+    content.append(element("p", escape(states.shown(prop, row.net, state))))
+    if picture and picture.network:
+        ends = {f"i{k}": load for k, load in enumerate(state.loads)}
+        ends |= {f"o{k}": room for k, room in enumerate(state.rooms)}
+        below = f'<use class="below" href="#p-{row.id()}"/>'
+        drawn = below + flows(picture, state, f"w-{row.id()}") + picture.ends(ends)
+        content.append(figure(picture, drawn, f"{files.plain(row.found.name)}: a state that breaks {prop}"))
+        content.append(legend("full belts" if len(row.tiers()) == 1 else "full basic belts"))
+    summary = element("summary", "The state in full")
+    content.append(element("details", summary, element("pre", escape(text)), state_table(row.net, state)))
+    return element("section", *content, class_="breaking")
+
+
+def page(row, before, after):
+    """A design's page, with the ways to those before and after it."""
+    picture, lack = row.picture
+    steps = (element("a", word, href=f"#{it.id()}") for word, it in (("previous", before), ("next", after)) if it)
+    ways = element("nav", element("a", "← All designs", href="#all"), element("span", *steps))
+    name = row.found.name.replace("/", " / ") if row.found.books else row.found.name
+    refused = element("p", shown(row.reason()), class_="refused") if row.reason() else ""
+    drawn = ""
+    if picture:
+        label = f"{files.plain(row.found.name)}, drawn from its parts"
+        drawn = figure(picture, f'<use href="#p-{row.id()}"/>{picture.ends()}', label)
+    drawn += note(shown(lack)) if lack else ""
+    told = facts(row) + (verdicts(row) if row.net else "")
+    small = not picture or picture.box[2] <= WIDEST_BESIDE
+    both = element("div", element("div", drawn), element("div", told), class_="two" if small else "one")
+    noes = [prop for prop in PROPERTIES if row.net and row.answer(prop)["verdict"] == "no"]
+    shows = element("div", *(breaking(row, prop) for prop in noes), class_="states") if noes else ""
+    string = ""
+    if row.found.is_json():
+        summary = element("summary", "Blueprint string, to paste into the game")
+        string = element("details", summary, element("code", strings.deflate(row.found.text), class_="string"))
+    content = ways, element("h2", shown(name)), refused, both, shows, string
+    return element("article", *content, class_="page", id=row.id())
+
+
+def summary(rows):
+    """How many designs there are, and how many have each property."""
+    with_network = [row for row in rows if row.net]
+    tiles = [(len(rows), "found"), (len(with_network), "with a network")]
+    for prop in PROPERTIES:
+        number = sum(row.answer(prop)["verdict"] == "yes" for row in with_network)
+        tiles.append((f"{number}{element('small', f' of {len(with_network)}')}", prop))
+    return element(
+        "ul", *(element("li", element("strong", it), element("span", word)) for it, word in tiles), class_="tiles"
+    )
+
+
+SEARCH = (
+    '<p class="search" hidden><label for="words">Search</label><input id="words" type="search" autocomplete="off" '
+    'placeholder="words, or unlimited:no"><output id="left" for="words"></output></p>'
+)
+
+
+def front(rows, title, program):
+    """The first page: the table of all designs, and what has no network."""
+    alone = len({row.found.source for row in rows}) == 1
+    head = element("tr", *(element("th", it, scope="col") for it in COLUMNS))
+    lines = (table_row(row, alone) for row in rows if row.net)
+    table = element("table", element("thead", head), element("tbody", *lines), class_="designs", id="designs")
+    promises = (element("div", element("dt", prop), element("dd", words)) for prop, words in PROMISES.items())
+    content = [element("header", element("h1", shown(title)), summary(rows))]
+    content += [element("dl", *promises, class_="promises"), SEARCH, element("div", table, class_="wide")]
+    others = [refused_row(row, alone) for row in rows if not row.net]
+    if others:
+        table = element("table", element("tbody", *others), class_="others")
+        content.append(element("section", element("h2", "Without a network"), table))
+    words = (
+        "Every yes has a certificate and every no a steady state in which the property fails, and ",
+        element("code", "beltproof check"),
+        f" has accepted each. Program {element('code', program[:16])}. The results are in ",
+        element("a", "results.tsv", href="results.tsv"),
+        ", one line for each design and property.",
+    )
+    return element("main", *content, element("footer", *words), id="all", class_="front")
+
+
+def whole(rows, title, program):
+    """The whole page."""
+    own = [row for row in rows if row.folder and not row.same_as]
+    drawn = [(row.id(), row.picture[0]) for row in own if row.picture[0]]
+    store = "".join(f'<g id="p-{name}">{picture.parts(f"w-{name}")}</g>' for name, picture in drawn)
+    pages = (page(row, before, after) for before, row, after in zip([None, *own], own, [*own[1:], None]))
+    style, script = ((HERE / name).read_text() for name in ("report.css", "report.js"))
+    head = (
+        '<meta charset="utf-8"><meta name="viewport" content="width=device-width, initial-scale=1">'
+        '<meta name="color-scheme" content="light dark">',
+        element("title", escape(files.plain(title))),
+        element("style", style),
+    )
+    shapes = element("svg", element("defs", store), class_="store", width="0", height="0", aria_hidden="true")
+    body = element("body", shapes, front(rows, title, program), *pages, element("script", script))
+    return f"<!DOCTYPE html>\n{element('html', element('head', *head), body, lang='en')}\n"

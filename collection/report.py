@@ -1,0 +1,48 @@
+"""The report: a page to look at, and a table of all results."""
+
+from pathlib import Path
+
+from . import files, page
+from .states import PROPERTIES
+from .work import SETTLED
+
+COLUMNS = "design place source property verdict why steps seconds accepted file design_digest program_digest".split()
+
+
+def table(rows, program):
+    """The results, one line for each design and property."""
+    lines = [COLUMNS]
+    for row in rows:
+        start = [row.found.name, row.found.place, row.found.source]
+        digests = [row.found.digest(), program if row.found.text is not None else ""]
+        if not row.net:
+            verdict = "refused" if row.refusal() else "unread"
+            lines.append([*start, "-", verdict, row.reason() or "not read yet", 0, 0, "", "", *digests])
+            continue
+        for prop in PROPERTIES:
+            told = row.answer(prop)
+            file = f"designs/{row.id()}/{told['file']}" if told.get("file") else ""
+            accepted = ("yes" if told["verdict"] in SETTLED else "no") if file else ""
+            numbers = [told.get("steps", 0), told.get("seconds", 0)]
+            lines.append([*start, prop, told["verdict"], told.get("why", ""), *numbers, accepted, file, *digests])
+    return "".join("\t".join(files.plain(str(word)) for word in line) + "\n" for line in lines)
+
+
+def title_of(rows):
+    """The name of the book, or of the file, where all is from one."""
+    sources = list(dict.fromkeys(row.found.source for row in rows))
+    if len(sources) != 1:
+        return "A collection of belt balancers"
+    return sources[0].partition(", ")[2] or Path(sources[0]).stem
+
+
+def write(output, rows, program):
+    """Writes the report into its folder; both files, or none."""
+    for left in output.glob(f".*{files.UNDONE}"):
+        left.unlink()
+    lines, text = table(rows, program), page.whole(rows, title_of(rows), program)
+    with files.replacing(output / "results.tsv", synced=True) as results:
+        with files.replacing(output / "index.html", synced=True) as whole:
+            whole.write(text.encode())
+            results.write(lines.encode())
+            results.flush()

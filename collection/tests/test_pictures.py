@@ -1,0 +1,134 @@
+"""Parts, the network that is traced from them, and pictures."""
+
+import subprocess
+from fractions import Fraction
+from pathlib import Path
+
+from .. import design, picture, states, strings, trace
+from ..books import entries
+from . import BOOK, EXAMPLES, Case, belt, blueprint, program_path
+
+GOLDEN = Path(__file__).parent / "golden"
+
+TAP = (EXAMPLES / "express-tap-1-to-3.json").read_text()
+
+
+def traced(text):
+    parts = design.read(text)
+    return parts, trace.Layout(parts.parts).network()
+
+
+class Parts(Case):
+    def test_directions_and_grids(self):
+        for version, quarter in ((0, 2), (1 << 48, 2), (2 << 48, 4)):
+            parts = design.read(blueprint(belt(0, 0, quarter), belt(1, 0, 3 * quarter), version=version)).parts
+            self.assertEqual([it.direction for it in parts], [design.EAST, design.WEST])
+        splitter = {"name": "splitter", "position": {"x": 3.5, "y": 5}}
+        parts = design.read(blueprint(belt(2.5, 3.5), splitter)).parts
+        self.assertEqual([it.cells for it in parts], [((2, 3),), ((2, 4), (3, 4))])
+
+    def test_what_cannot_be_drawn_says_why(self):
+        cases = {
+            "[": "no JSON",
+            "[]": "no blueprint",
+            blueprint(): "no entities",
+            '{"blueprint":{"entities":1}}': "no list",
+            '{"blueprint":{"entities":[1]}}': "no object",
+            blueprint({"name": "splitter"}): "no position",
+            blueprint(belt(0.25, 0)): "multiple of a half",
+            blueprint(belt(0, 0), belt(0.5, 0)): "no one grid",
+            blueprint(belt(0, 0, 1)): "none of the four",
+            '{"blueprint":{"entities":[{"name":"splitter","position":{"x":1e400,"y":0}}]}}': "multiple of a half",
+            blueprint(belt(0, 0), belt(0, 2048)): "more than 2048 tiles",
+            blueprint(*(belt(x, 0) for x in range(4097))): "more than 4096",
+        }
+        for text, why in cases.items():
+            with self.subTest(text=text[:60]), self.assertRaisesRegex(design.Unreadable, why):
+                design.read(text)
+
+    def test_strangers_are_kept(self):
+        found = design.read(blueprint(belt(0, 0), {"name": "inserter", "position": {"x": 1.5, "y": 0.5}}))
+        self.assertEqual([(it.entity, it.name, it.middle) for it in found.strangers], [(1, "inserter", (3, 1))])
+
+
+class Traces(Case):
+    def test_the_traced_network_is_the_program_s(self):
+        texts = [it.read_text() for it in sorted(EXAMPLES.glob("*.json"))]
+        texts += [it.text for it in entries(strings.inflate(BOOK.read_text()).decode())[0]]
+        compared = 0
+        for text in texts:
+            told = subprocess.run([program_path(), "recover"], input=text, capture_output=True, text=True)
+            if told.returncode == 0:
+                self.assertTrue(trace.same_network(traced(text)[1], told.stdout))
+                compared += 1
+        self.assertGreaterEqual(compared, 25)
+
+    def test_another_network_is_noticed(self):
+        network = traced(TAP)[1]
+        text = "\n".join(network.lines()) + "\n"
+        self.assertTrue(trace.same_network(network, text))
+        for old, new in (("edge i0 s1", "edge i0 s0"), (" 3\n", " 2\n"), ("net 1 3 2", "net 1 3 3")):
+            self.assertIn(old, text)
+            self.assertFalse(trace.same_network(network, text.replace(old, new, 1)))
+
+    def test_what_has_no_network_says_why(self):
+        under = {"name": "underground-belt", "type": "input"}
+        cases = {
+            blueprint(belt(0, 0), belt(0, 0)): "one tile",
+            blueprint(belt(0, 0) | under): "no other end",
+            blueprint(belt(0, 0) | under | {"type": "output"}): "no other end",
+            blueprint(belt(0, 1), belt(0, 0, 4)): "can't go on",
+            blueprint(belt(1, 0, 0), belt(0, 0, 2), belt(2, 0, 6)): "from its side",
+            blueprint(belt(0, 0, 2), belt(1, 0, 4), belt(1, 1, 6), belt(0, 1, 0)): "ring",
+        }
+        for text, why in cases.items():
+            with self.subTest(why=why), self.assertRaisesRegex(trace.Untraced, why):
+                traced(text)
+
+
+class Pictures(Case):
+    def golden(self, name, found):
+        """Compares with the file of this name, in lines of one element each."""
+        lines = found.replace("><", ">\n<") + "\n"
+        self.assertEqual(lines, (GOLDEN / name).read_text())
+
+    def test_the_picture_of_mixed_tiers(self):
+        drawn = picture.Picture(*traced(TAP))
+        self.assertEqual(drawn.box, (0, -1, 3, 7))
+        self.golden("express-tap.svg", drawn.parts("ways") + drawn.ends())
+
+    def test_a_state_on_the_picture(self):
+        drawn = picture.Picture(*traced(TAP))
+        state = states.read_state((EXAMPLES / "express-tap-1-to-3.not-unlimited").read_text())
+        ends = {"i0": state.loads[0]} | {f"o{k}": room for k, room in enumerate(state.rooms)}
+        self.golden("express-tap-state.svg", picture.flows(drawn, state, "ways") + drawn.ends(ends))
+
+    def test_belts_that_cross_under_one_another(self):
+        drawn = picture.Picture(*traced((EXAMPLES / "woven-3-to-3.json").read_text()))
+        self.golden("woven.svg", drawn.parts("ways") + drawn.ends())
+
+    def test_a_turn_by_four_quarters_is_none(self):
+        shapes = [it for name, it in vars(picture).items() if name.isupper() and isinstance(it, list)]
+        self.assertGreater(len(shapes), 10)
+        for shape in shapes:
+            self.assertEqual(picture.placed(shape, 4, (0, 0)), picture.placed(shape, 0, (0, 0)))
+            self.assertEqual(picture.mirrored(picture.mirrored(shape)), shape)
+            self.assertEqual(picture.placed(picture.backwards(shape), 0, (0, 0)), picture.placed(shape, 2, (0, 0)))
+
+    def test_a_way_under_the_ground_is_told_apart(self):
+        drawn = picture.Picture(*traced((EXAMPLES / "tunnel-1-to-1.json").read_text()))
+        (edge,) = drawn.network.edges
+        self.assertEqual([under for _, under in picture.pieces(drawn, edge)], [False, True, False])
+        points = [point for line, _ in picture.pieces(drawn, edge) for point in line]
+        self.assertEqual((points[0], points[-1]), ((0, 12), (72, 12)))
+
+    def test_refused_entities_are_marked(self):
+        text = blueprint(belt(0, 0), {"name": "a<b>", "position": {"x": 1.5, "y": 0.5}})
+        drawn = picture.Picture(design.read(text), marked=[1]).parts("ways")
+        self.assertIn('class="culprit" x="22"', drawn)
+        self.assertIn("a&lt;b&gt;", drawn)
+
+    def test_long_fractions_are_shown_short(self):
+        told = {Fraction(1, 2): "1/2", Fraction(59, 64): "59/64", Fraction(127, 128): "0.992", Fraction(1, 10**9): "0"}
+        for fraction, text in told.items():
+            self.assertEqual(picture.short(fraction), text)

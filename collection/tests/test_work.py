@@ -1,0 +1,216 @@
+"""Runs of the program, what is kept of them, and the command."""
+
+import os
+import resource
+import signal
+import subprocess
+import sys
+import time
+
+from .. import states
+from ..files import replacing
+from . import EXAMPLES, TOP, Case, belt, blueprint, run
+
+DECISIONS = {f"decide {prop}" for prop in states.PROPERTIES}
+
+
+class Files(Case):
+    def test_a_file_is_whole_or_not_there(self):
+        path = self.write("file", "old")
+        with self.assertRaises(ValueError), replacing(path) as file:
+            file.write(b"half")
+            raise ValueError
+        self.assertEqual([(it.name, it.read_text()) for it in self.folder.iterdir()], [("file", "old")])
+
+
+class Resuming(Case):
+    def setUp(self):
+        super().setUp()
+        self.design = self.write("one.json", blueprint(belt(0, 0)))
+
+    def decisions(self):
+        return sorted(it for it in self.log() if it.startswith("decide"))
+
+    def words(self, *more, how=""):
+        return [self.design, "-o", self.report, "--jobs", "2", "--program", self.fake(how), *more]
+
+    def test_what_is_done_is_not_done_again(self):
+        self.assertEqual(run(*self.words())[0], 0)
+        self.assertEqual(set(self.decisions()), DECISIONS)
+        page, table, count = self.page(), self.results(), len(self.log())
+        self.assertEqual(run(*self.words())[0], 0)
+        self.assertEqual((self.page(), self.results(), len(self.log())), (page, table, count))
+
+    def test_a_lost_or_changed_file_is_made_again(self):
+        run(*self.words())
+        kept = self.report / "designs" / "one"
+        (kept / "yes-full.txt").unlink()
+        (kept / "yes-balanced.txt").write_text("yes balanced\nend\n")
+        (kept / "network.net").write_text("net 2 2 0\n")
+        before = len(self.log())
+        run(*self.words())
+        again = self.log()[before:]
+        self.assertEqual(sorted(again), ["check balanced", "check full", "decide balanced", "decide full", "recover"])
+
+    def test_a_damaged_record_is_made_again(self):
+        run(*self.words())
+        record = self.report / "designs" / "one" / "record.json"
+        for text in ("{", "[]", '{"decided": []}', "{}", record.read_text().replace('"yes"', '"sure"')):
+            record.write_text(text)
+            self.assertEqual(run(*self.words())[0], 0)
+            self.assertEqual([it["verdict"] for it in self.results()], ["yes"] * 4)
+            self.assertEqual([it.name for it in (self.report / "designs").iterdir()], ["one"])
+
+    def test_another_design_or_program_is_another_thing(self):
+        run(*self.words())
+        self.design.write_text(blueprint(belt(0, 1)))
+        run(*self.words())
+        self.assertEqual(len(self.decisions()), 8)
+        run(*self.words(how="another"))
+        self.assertEqual(len(self.decisions()), 12)
+
+    def test_giving_up_stands_until_the_limits_are_others(self):
+        run(*self.words(how="spent"))
+        told = {(it["verdict"], it["why"], it["steps"]) for it in self.results()}
+        self.assertEqual(told, {("spent", "the log is full: 1 steps", "1")})
+        run(*self.words(how="spent"))
+        self.assertEqual(len(self.decisions()), 4)
+        run(*self.words("--learnt", 5, "--pivots", 6, how="spent"))
+        self.assertEqual(len(self.decisions()), 8)
+        self.assertIn("decide full --learnt 5 --pivots 6", self.decisions())
+
+    def test_a_renamed_design_keeps_its_folder(self):
+        run(*self.words())
+        self.design = self.design.rename(self.folder / "other.json")
+        run(*self.words())
+        self.assertEqual([it.name for it in (self.report / "designs").iterdir()], ["one"])
+        self.assertEqual((len(self.decisions()), self.results()[0]["design"]), (4, "other"))
+
+    def test_two_designs_of_one_name_and_one_design_twice(self):
+        self.write("in/a/4 to 4.json", blueprint(belt(0, 0), label="<b>same</b>"))
+        self.write("in/b/4 to 4.json", blueprint(belt(0, 1), label="<b>same</b>"))
+        self.write("in/c/copy.json", blueprint(belt(0, 0), label="<b>same</b>"))
+        self.design = self.folder / "in"
+        run(*self.words())
+        self.assertEqual(sorted(it.name for it in (self.report / "designs").iterdir()), ["b-same-b", "b-same-b-2"])
+        self.assertEqual((len(self.decisions()), len(self.results())), (8, 12))
+        self.assertNotIn("<b>same", self.page())
+        self.assertIn("the same design as", self.page())
+
+    def test_a_killed_program_is_a_line_and_is_run_again(self):
+        status, _, _ = run(*self.words(how="killed"))
+        self.assertEqual(status, 1)
+        told = {it["property"]: (it["verdict"], it["why"]) for it in self.results()}
+        self.assertEqual(told["full"], ("failed", "the program was ended by signal 9"))
+        self.assertEqual([verdict for verdict, _ in told.values()], ["yes", "yes", "yes", "failed"])
+        before = len(self.log())
+        run(*self.words(how="killed"))
+        self.assertEqual([it for it in self.log()[before:] if it.startswith("decide")], ["decide full"])
+
+    def test_an_answer_that_check_refuses_is_no_verdict(self):
+        run(*self.words(how="unaccepted"))
+        self.assertEqual({(it["verdict"], it["accepted"]) for it in self.results()}, {("unaccepted", "no")})
+        self.assertIn("yes, but check doesn't accept it: refused 52 NoVerdict", self.results()[0]["why"])
+
+    def test_the_time_is_kept(self):
+        begin = time.monotonic()
+        status, _, _ = run(*self.words("--seconds", 0.3, how="slow"))
+        self.assertLess(time.monotonic() - begin, 20)
+        told = {(it["verdict"], it["why"]) for it in self.results()}
+        self.assertEqual(told, {("late", "the time was up after 0.3 seconds")})
+        self.assertEqual((status, self.left_undone()), (0, []))
+
+    def start(self, *more, how=""):
+        words = [str(it) for it in self.words(*more, how=how)]
+        environment = {**os.environ, "PYTHONPATH": str(TOP)}
+        command = [sys.executable, "-B", "-m", "collection", *words]
+        return subprocess.Popen(command, env=environment, stdout=subprocess.PIPE, stderr=subprocess.PIPE)
+
+    def wait_for(self, count):
+        end = time.monotonic() + 20
+        while len(self.decisions()) < count and time.monotonic() < end:
+            time.sleep(0.02)
+
+    def test_a_stopped_tool_goes_on(self):
+        for number in (signal.SIGTERM, signal.SIGINT):
+            (self.folder / "log").unlink(missing_ok=True)
+            tool = self.start(how="slow")
+            self.wait_for(2)
+            tool.send_signal(number)
+            _, wrong = tool.communicate(timeout=20)
+            self.assertEqual((tool.returncode, b"goes on from here" in wrong), (130, True), wrong)
+            self.assertEqual((self.left_undone(), (self.report / "index.html").exists()), ([], False))
+        (self.folder / "log").unlink()
+        self.assertEqual(run(*self.words())[0], 0)
+        self.assertEqual({it["verdict"] for it in self.results()}, {"yes"})
+
+    def test_a_killed_tool_leaves_nothing_half_done(self):
+        tool = self.start(how="slow")
+        self.wait_for(2)
+        tool.kill()
+        tool.communicate()
+        self.assertNotEqual(self.left_undone(), [])
+        self.assertEqual(run(*self.words())[0], 0)
+        self.assertEqual((self.left_undone(), {it["verdict"] for it in self.results()}), ([], {"yes"}))
+
+    def test_a_full_disk_loses_nothing(self):
+        self.assertEqual(run(*self.words())[0], 0)
+        page, table = self.page(), self.results()
+        self.write("in/one.json", blueprint(belt(0, 0)))
+        self.write("in/two.json", blueprint(*(belt(0, y) for y in range(100))))
+        self.design = self.folder / "in"
+        words = [str(it) for it in self.words()]
+        environment = {**os.environ, "PYTHONPATH": str(TOP)}
+        full = subprocess.run(
+            [sys.executable, "-B", "-m", "collection", *words],
+            env=environment,
+            capture_output=True,
+            text=True,
+            preexec_fn=lambda: resource.setrlimit(resource.RLIMIT_FSIZE, (3000, 3000)),
+        )
+        self.assertEqual((full.returncode, "the report can't be written" in full.stderr), (1, True), full.stderr)
+        self.assertEqual((self.page(), self.results(), self.left_undone()), (page, table, []))
+        self.assertEqual(run(*self.words())[0], 0)
+        self.assertEqual([it["verdict"] for it in self.results()], ["yes"] * 8)
+
+    def test_nothing_is_written_elsewhere(self):
+        names = ("../../up", "/etc/x", "a\x00b", "..", "<i>")
+        texts = [blueprint(belt(0, k), label=it) for k, it in enumerate(names)]
+        self.design = self.write("in/book.json", '{"blueprint_book":{"blueprints":[%s]}}' % ",".join(texts))
+        program = self.fake()
+        before = {it for it in self.folder.rglob("*")}
+        run(self.design, "-o", self.report, "--program", program)
+        new = {it for it in self.folder.rglob("*")} - before - {self.folder / "log"}
+        self.assertTrue(all(it == self.report or self.report in it.parents for it in new))
+        self.assertEqual(len(list((self.report / "designs").iterdir())), len(names))
+        self.assertEqual(len(self.results()), 4 * len(names))
+
+
+class Elsewhere(Case):
+    def test_plan_one_and_gather_make_the_same_report(self):
+        design = [EXAMPLES / "splitter-2-to-2.json", EXAMPLES / "chain-1-to-3.net", EXAMPLES / "README.md"]
+        self.assertEqual(run(*design, "-o", self.report, "--jobs", "1")[0], 0)
+        together = [{**it, "seconds": ""} for it in self.results()]
+        self.report = self.folder / "other"
+        status, plan, _ = run(*design, "-o", self.report, "--plan", "--learnt", 9999)
+        self.assertEqual((status, plan.count("\n")), (0, 2))
+        self.assertFalse((self.report / "index.html").exists())
+        run(*design, "-o", self.report, "--gather")
+        self.assertEqual([it["verdict"] for it in self.results()], ["unread"] * 3)
+        for line in plan.splitlines():
+            command, *words = line.split(" ")
+            self.assertTrue(command.endswith("bin/collection"))
+            self.assertEqual(words[:3], ["--learnt", "9999", "--one"])
+            self.assertEqual(run(*words), (0, "", ""))
+        self.assertEqual(run(*design, "-o", self.report, "--gather")[0], 0)
+        self.assertEqual([{**it, "seconds": ""} for it in self.results()], together)
+        self.assertEqual(run(*design, "-o", self.report, "--plan", "--learnt", 9999)[1], "")
+
+    def test_wrong_words(self):
+        cases = ("", "x", "-o x", "x -o y --jobs 0", "x -o y --plan --gather", "x -o y --job 1", "x -o y --seconds inf")
+        for words in map(str.split, cases):
+            with self.subTest(words=words), self.assertRaises(SystemExit) as ended:
+                run(*words)
+            self.assertEqual(ended.exception.code, 2)
+        self.assertEqual(run("--one", self.folder)[0], 1)
+        self.assertEqual(run(EXAMPLES / "one-belt.net", "-o", self.report, "--program", self.folder / "none")[0], 1)

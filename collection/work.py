@@ -1,0 +1,246 @@
+"""What is done for each design: its network, each property decided, and each answer checked.
+
+All of it is kept in the design's folder, with a record of what was done by which program. What the record tells is not
+done again, as long as the files are there and are what they were."""
+
+import json
+import threading
+from dataclasses import dataclass, field
+from pathlib import Path
+
+from . import files
+from .program import EXACT_STATUSES
+from .states import PROPERTIES
+
+RECORD = "record.json"
+NETWORK = "network.net"
+LONGEST_LINE = 4096
+SETTLED = ("yes", "no")
+GAVE_UP = ("spent", "pivots", "wide", "late", "unaccepted")
+ANSWERS = {"yes": "yes", "no": "not"}
+"""How the name of a file begins that holds a certificate, or a breaking state."""
+VERDICT_OF = {0: "yes", 1: "no", 4: "spent", 5: "wide", 10: "pivots"}
+
+
+@dataclass(frozen=True)
+class Limits:
+    """What a decision may take: seconds, the steps of a log, and the turns for a choice of rows."""
+
+    seconds: float | None = None
+    learnt: int | None = None
+    pivots: int | None = None
+
+    def words(self):
+        """The words that tell the program of them."""
+        given = (("--learnt", self.learnt), ("--pivots", self.pivots))
+        return [word for name, value in given if value is not None for word in (name, str(value))]
+
+    def told(self):
+        return [self.seconds, self.learnt, self.pivots]
+
+
+class Folder:
+    """A design's folder in the report, and the record in it."""
+
+    def __init__(self, path):
+        self.path, self.guard = Path(path), threading.Lock()
+        self.record = self.read()
+
+    def read(self):
+        try:
+            record = json.loads((self.path / RECORD).read_text())
+        except (OSError, ValueError, RecursionError):
+            return {}
+        return record if isinstance(record, dict) and isinstance(record.get("decided", {}), dict) else {}
+
+    def write(self):
+        files.write(self.path / RECORD, json.dumps(self.record, indent=1) + "\n")
+
+    def file(self, name):
+        return self.path / name
+
+    def text(self, name):
+        return self.file(name).read_text()
+
+    def design_file(self):
+        """The design's own file, or None."""
+        there = [it for it in (self.file("design.json"), self.file("design.net")) if it.is_file()]
+        return there[0] if there else None
+
+    def digest(self):
+        """The digest of the design, as the record tells it, or of the design's file; None where there is none."""
+        file = self.design_file()
+        return self.record.get("design") or (files.digest_of_file(file) if file else None)
+
+    def network(self):
+        """What the record tells of the network, where the files are what they were."""
+        told = self.record.get("network")
+        if not isinstance(told, dict):
+            return None
+        same = "digest" not in told or told["digest"] == files.digest_of_file(self.file(NETWORK))
+        return told if same else None
+
+    def decided(self, prop):
+        """What the record tells of a property, where the files are what they were."""
+        told = self.record.get("decided", {}).get(prop)
+        if not isinstance(told, dict) or told.get("verdict") not in SETTLED + GAVE_UP:
+            return None
+        if told.get("file") and files.digest_of_file(self.file(told["file"])) != told.get("digest"):
+            return None
+        return told
+
+    def forget(self, record):
+        """Takes away what another program answered, or what was answered to another design."""
+        with self.guard:
+            self.record = record
+            for name in [NETWORK, *(f"{word}-{prop}.txt" for word in ANSWERS.values() for prop in PROPERTIES)]:
+                self.file(name).unlink(missing_ok=True)
+
+    def keep(self, **told):
+        with self.guard:
+            self.record |= told
+            self.write()
+
+    def keep_decided(self, prop, told):
+        with self.guard:
+            self.record.setdefault("decided", {})[prop] = told
+            self.write()
+
+
+def stands(told, limits):
+    """Whether an answer needs no second run: a verdict, which was checked, or the same limits once more."""
+    if told is None:
+        return False
+    return told["verdict"] in SETTLED or told["verdict"] in GAVE_UP and told.get("limits") == limits.told()
+
+
+def first_line(path):
+    with open(path, "rb") as file:
+        return file.readline(LONGEST_LINE).decode("ascii", "replace").rstrip("\n")
+
+
+def numbers_line(path):
+    """The line that tells two numbers whose sum or product leaves 128 bits."""
+    with open(path, "rb") as file:
+        file.seek(max(0, path.stat().st_size - LONGEST_LINE))
+        lines = file.read().decode("ascii", "replace").splitlines()
+    return next((it for it in lines if it.startswith("numbers ")), "")
+
+
+def count_steps(path):
+    """How many steps a certificate has: its lines but for the first and the last."""
+    lines = 0
+    with open(path, "rb") as file:
+        while block := file.read(files.BLOCK):
+            lines += block.count(b"\n")
+    return max(0, lines - 2)
+
+
+def how_it_ended(ended):
+    """Why a run has no answer, in words."""
+    if ended.status < 0:
+        return f"the program was ended by signal {-ended.status}"
+    told = {6: "the program couldn't read", 7: "the program couldn't write", 8: "the program had no memory left"}
+    return told.get(ended.status, f"the program ended with status {ended.status}")
+
+
+@dataclass
+class Worker:
+    """Does the work on folders, with a program and within limits."""
+
+    program: object
+    limits: Limits = field(default_factory=Limits)
+
+    def begin(self, folder, name, design, file):
+        """Puts a design into its folder. What is there of another design or program is forgotten."""
+        digest = files.digest(design)
+        record = folder.record
+        if record.get("design") != digest or record.get("program") != self.program.digest:
+            folder.forget({"design": digest, "program": self.program.digest})
+        folder.record["name"] = name
+        if files.digest_of_file(folder.file(file)) != digest:
+            files.write(folder.file(file), design)
+        if folder.read() != folder.record:
+            folder.keep()
+
+    def recover(self, folder):
+        """Finds the design's network, or the refusal."""
+        told = folder.network()
+        if told is not None:
+            return told
+        with files.replacing(folder.file(NETWORK)) as out:
+            ended = self.program.run(["recover"], [folder.design_file()], out)
+            size = out.tell()
+        kept = {"status": ended.status}
+        if ended.status == 0:
+            kept["digest"] = files.digest_of_file(folder.file(NETWORK))
+        else:
+            kept["line"] = first_line(folder.file(NETWORK)) if size else how_it_ended(ended)
+            folder.file(NETWORK).unlink()
+        if ended.status in EXACT_STATUSES:
+            folder.keep(network=kept)
+        return kept
+
+    def decide(self, folder, prop):
+        """Decides a property and checks the answer; what the record tells is not done again."""
+        told = folder.decided(prop)
+        if stands(told, self.limits):
+            return told
+        answer = folder.file(f"{prop}.answer{files.UNDONE}")
+        try:
+            told = self.decide_anew(folder, prop, answer)
+        finally:
+            answer.unlink(missing_ok=True)
+        if told["verdict"] in SETTLED + GAVE_UP:
+            folder.keep_decided(prop, told)
+        return told
+
+    def decide_anew(self, folder, prop, answer):
+        with open(answer, "wb") as out:
+            words = ["decide", prop, *self.limits.words()]
+            ended = self.program.run(words, [folder.design_file()], out, self.limits.seconds)
+        told = {"steps": 0, "seconds": round(ended.seconds, 3), "limits": self.limits.told()}
+        if ended.late:
+            return told | {"verdict": "late", "why": f"the time was up after {self.limits.seconds:g} seconds"}
+        verdict, line = VERDICT_OF.get(ended.status), first_line(answer)
+        if verdict in SETTLED:
+            return told | self.settle(folder, prop, verdict, answer)
+        if verdict is None:
+            return told | {"verdict": "failed", "why": line or how_it_ended(ended)}
+        if verdict == "spent":
+            told["steps"] = int(line.split(" ")[1])
+        why = {"spent": "the log is full: {1} steps", "pivots": "{1} turns were made for one choice of rows"}
+        numbers = numbers_line(answer)
+        wide = f"a number leaves 128 bits ({line}{'; ' * bool(numbers)}{numbers})"
+        return told | {"verdict": verdict, "why": why.get(verdict, "").format(*line.split(" ")) or wide}
+
+    def settle(self, folder, prop, verdict, answer):
+        """Checks an answer, and keeps it under the name that tells what it says."""
+        name = f"{ANSWERS[verdict]}-{prop}.txt"
+        asked = folder.file(f"{prop}.check{files.UNDONE}")
+        try:
+            with open(asked, "wb") as out:
+                both = [folder.design_file(), b"\n", answer]
+                check = self.program.run(["check", prop], both, out, self.limits.seconds)
+            line = "the time was up" if check.late else first_line(asked) or how_it_ended(check)
+        finally:
+            asked.unlink(missing_ok=True)
+        for other in ANSWERS.values():
+            folder.file(f"{other}-{prop}.txt").unlink(missing_ok=True)
+        steps = count_steps(answer) if verdict == "yes" else 0
+        answer.rename(folder.file(name))
+        told = {"verdict": verdict, "steps": steps, "file": name, "digest": files.digest_of_file(folder.file(name))}
+        if line == f"{verdict} {prop}":
+            return told
+        exact = check.late or check.status in EXACT_STATUSES
+        why = f"{verdict}, but check doesn't accept it: {line}"
+        return told | {"verdict": "unaccepted" if exact else "failed", "why": why}
+
+
+def all_of(worker, folder):
+    """Does all work on one folder, one thing after the other; gives what failed, in words."""
+    network = worker.recover(folder)
+    if network["status"] not in EXACT_STATUSES:
+        return [network["line"]]
+    answers = [worker.decide(folder, prop) for prop in PROPERTIES] if network["status"] == 0 else []
+    return [it["why"] for it in answers if it["verdict"] == "failed"]
