@@ -1,43 +1,28 @@
 #!/usr/bin/env bash
-# Times `beltproof decide` as a whole program against z3 on the same formula, which is written here as SMT-LIB, on the
-# examples' balancers and on butterflies, and prints the ratio of the two times, the verdict and the steps of its log.
-# The seconds are those of the processor, the least of many runs that take turns.
-# It needs z3 (`apt-get install z3`).
+# Times `beltproof decide` as a whole program against z3 on the same question, which is written here as SMT-LIB, on the
+# networks that collections are about, which it makes itself (networks.py), and prints for each property the verdict, the
+# steps of its log, whether `check` accepts it, both times, their ratio and the program's memory. The seconds are those of
+# the processor, the least of several runs that take turns; what takes less than a tenth of a second counts as one.
+#
+#     bench/decide.sh [NAME ...]
+#
+# measures the networks whose names begin so, by default all. It needs z3 (`apt-get install z3`).
 set -euo pipefail
-top=$(cd "$(dirname "${BASH_SOURCE[0]}")/.." && pwd)
+bench=$(cd "$(dirname "${BASH_SOURCE[0]}")" && pwd)
+top=$(dirname "$bench")
 work=$(mktemp -d)
 trap 'rm -rf "$work"' EXIT
 program=$("$top/tools/program")
-python3 - "$program" "$top/examples" "$work" <<'PYTHON'
-import os, subprocess, sys
+PYTHONDONTWRITEBYTECODE=1 PYTHONPATH=$bench python3 - "$program" "$top/examples" "$work" "$@" <<'PYTHON'
+import os, signal, subprocess, sys, threading
 
-program, examples, work = sys.argv[1:]
+import networks
+
+program, examples, work, *wanted_names = sys.argv[1:]
 PROPERTIES = ["balanced", "drawn-evenly", "unlimited", "full"]
-# The most that a decision should take, as times of z3.
-GOALS = {
-    ("balancer-8-to-8", "balanced"): 6, ("balancer-8-to-8", "unlimited"): 1, ("balancer-8-to-8", "drawn-evenly"): 20,
-    ("balancer-8-to-8", "full"): 20, ("butterfly-8-to-8", "balanced"): 10,
-}
-
-
-def butterfly(order):
-    """The text of the butterfly of an order: as many inputs as outputs, and a stage of splitters for each bit."""
-    ends = 2**order
-    half = ends // 2
-
-    def splitter(stage, line):
-        low = line & ((1 << stage) - 1)
-        return stage * half + (low | line >> stage + 1 << stage)
-
-    def lines(stage, j):
-        first = (j >> stage << stage + 1) + (j & ((1 << stage) - 1))
-        return first, first + (1 << stage)
-
-    edges = [f"i{line} s{splitter(0, line)}" for line in range(ends)]
-    for stage in range(order - 1):
-        edges += [f"s{stage * half + j} s{splitter(stage + 1, line)}" for j in range(half) for line in lines(stage, j)]
-    edges += [f"s{(order - 1) * half + j} o{2 * j + k}" for j in range(half) for k in range(2)]
-    return "\n".join([f"net {ends} {ends} {order * half}", *(f"edge {edge}" for edge in edges), "end"]) + "\n"
+# The seconds that z3 and the program get, the seconds that anything counts as at least, and the most that a decision
+# should take as times of z3: as much as z3 from 16 lines on where the property is balanced or full.
+Z3_SECONDS, SECONDS, LEAST, MOST = 60, 300, 0.1, 3
 
 
 def network(text):
@@ -96,29 +81,35 @@ def formula(counts, edges, wanted):
 
 
 # The runs of each side, and the seconds of both after which no more are begun.
-ROUNDS, ENOUGH = 20, 12
+ROUNDS, ENOUGH = 20, 6
 
 
-def run(words, path):
-    """The processor seconds of one run, and what was printed."""
+def run(words, path, seconds):
+    """The processor seconds and the memory in MB of one run, and what was printed; None where it took too long."""
     with open(path, "rb") as file:
         process = subprocess.Popen(words, stdin=file, stdout=subprocess.PIPE)
+        timer = threading.Timer(seconds, process.kill)
+        timer.start()
         text = process.stdout.read()
-        _, _, usage = os.wait4(process.pid, 0)
-    return usage.ru_utime + usage.ru_stime, text.decode().splitlines()
+        _, status, usage = os.wait4(process.pid, 0)
+        timer.cancel()
+    killed = os.WIFSIGNALED(status) and os.WTERMSIG(status) == signal.SIGKILL
+    return usage.ru_utime + usage.ru_stime, usage.ru_maxrss / 1024, None if killed else text.decode()
 
 
-def race(*sides):
-    """The least processor seconds of many runs of each side, which take turns, and what each printed."""
-    least, spent = [], 0
+def race(ours, theirs):
+    """The least seconds of both sides, which take turns, with the last memory and text of each."""
+    best, spent = [None, None], 0
     for _ in range(ROUNDS):
-        results = [run(*side) for side in sides]
-        seconds = [time for time, _ in results]
-        least = [min(times) for times in zip(least, seconds)] if least else seconds
-        spent += sum(seconds)
+        for side, (words, path, seconds) in enumerate((ours, theirs)):
+            if best[side] and best[side][2] is None:
+                continue
+            result = run(words, path, seconds)
+            spent += result[0]
+            best[side] = min(best[side] or result, result, key=lambda it: it[0])
         if spent > ENOUGH:
             break
-    return list(zip(least, (lines for _, lines in results)))
+    return best
 
 
 def write(name, text):
@@ -128,20 +119,47 @@ def write(name, text):
     return path
 
 
+def is_accepted(text, wanted, answer):
+    path = write("both", text + answer)
+    with open(path, "rb") as file:
+        return subprocess.run([program, "check", wanted], stdin=file, stdout=subprocess.DEVNULL).returncode in (0, 1)
+
+
+def is_met(name, wanted, ratio):
+    """Whether a goal in time is met: at most three times z3's; at most z3's where the field is hard for it."""
+    lines = int(name.split("-")[1]) if name.startswith(("butterfly", "doubled-1")) else 0
+    hard = name == "balancer-8-to-8" or lines >= 16 and wanted in ("balanced", "full")
+    return ratio <= (1 if hard else MOST)
+
+
 texts = {name: open(os.path.join(examples, f"{name}.net")).read() for name in ("balancer-4-to-4", "balancer-8-to-8")}
-texts |= {f"butterfly-{2**k}-to-{2**k}": butterfly(k) for k in (2, 3)}
+named = networks.all_networks()
+named |= {f"exchanged-{2**k}": networks.exchanged(networks.butterfly(k), k) for k in (4, 5, 6)}
+named |= {f"scattered-{n}-{seed}": networks.scattered(n, 4 + seed, seed) for n in (20, 50) for seed in range(3)}
+texts |= {name: network.text() for name, network in named.items()}
 for name, text in texts.items():
+    if wanted_names and not name.startswith(tuple(wanted_names)):
+        continue
     for wanted in PROPERTIES:
-        (ours, lines), (theirs, answer) = race(
-            ([program, "decide", wanted], write("network", text)),
-            (["z3", "-smt2", "/dev/stdin"], write("formula", formula(*network(text), wanted))),
+        question = write("formula", formula(*network(text), wanted))
+        ours, theirs = race(
+            ([program, "decide", wanted], write("network", text), SECONDS), (["z3", "-smt2", "/dev/stdin"], question, Z3_SECONDS)
         )
-        steps = sum(line[:2] in ("f ", "r ") for line in lines)
-        lemmas = sum(line[:2] == "f " for line in lines)
-        agree = {"unsat": "yes", "sat": "no"}.get(answer[0]) == lines[0].split()[0]
-        goal = GOALS.get((name, wanted))
+        answer = ours[2]
+        if answer is None:
+            print(f"{name} {wanted}: no answer in {SECONDS} s")
+            continue
+        first, *lines = answer.splitlines()
+        steps, lemmas = (sum(line[:2] in starts for line in lines) for starts in (("f ", "r "), ("f ",)))
+        theirs_said = "no answer" if theirs[2] is None else theirs[2].split()[0]
+        agree = theirs[2] is None or {"unsat": "yes", "sat": "no"}.get(theirs_said) == first.split()[0]
+        ratio = max(ours[0], LEAST) / max(theirs[0], LEAST)
+        notes = [] if is_accepted(text, wanted, answer) else ["NOT ACCEPTED"]
+        notes += [] if agree else ["DIFFERS"]
+        notes += [] if theirs[2] is None or is_met(name, wanted, ratio) else ["slower than the goal"]
         print(
-            f"{name} {wanted}: {lines[0]} ({steps} steps, {lemmas} lemmas) {ours:.3f} s, z3 {answer[0]} {theirs:.3f} s: "
-            f"{ours / theirs:.2f} times{f' (at most {goal})' if goal else ''}{'' if agree else ' DIFFERS'}"
+            f"{name} {wanted}: {first} ({steps} steps, {lemmas} lemmas) {ours[0]:.3f} s, {ours[1]:.0f} MB, "
+            f"z3 {theirs_said} {theirs[0]:.3f} s: {ratio:.2f} times{''.join(f', {note}' for note in notes)}",
+            flush=True,
         )
 PYTHON
