@@ -1,0 +1,14 @@
+pub mod Classes
+pub mod Contents
+pub mod Carrying
+pub mod Going
+pub mod Kept
+pub mod Laws
+pub mod PlaceRules
+pub mod Pinning
+pub mod Ports
+pub mod Rules
+pub mod Spots
+pub mod Standing
+pub mod Starts
+pub mod Underground

@@ -1,0 +1,34 @@
+-- The rules of a request.
+use Rattle.std.specs.List.{range_with_len, flat_map}
+use Rattle.std.specs.Prelude.{ℕ, List, ◌++◌, map}
+use Rattle.bt_parts.specs.declared.part.Cell.{Cell}
+use Rattle.bt_model.specs.Requests.{LayoutRequest}
+use Rattle.bt_rules.specs.Carrying.{carrying_rules}
+use Rattle.bt_rules.specs.Classes.{splitters_of}
+use Rattle.bt_rules.specs.Contents.{content_rules, shape_rules, mate_rules, class_rules}
+use Rattle.bt_rules.specs.Going.{handing_rules}
+use Rattle.bt_rules.specs.Pinning.{pin_rules, clash_rules, block_rule}
+use Rattle.bt_rules.specs.Ports.{port_rules}
+use Rattle.bt_rules.specs.Rules.{Rule}
+use Rattle.bt_rules.specs.Spots.{cells_of}
+use Rattle.bt_rules.specs.Standing.{standing_rules, place_rules}
+use Rattle.bt_rules.specs.Starts.{input_rules}
+use Rattle.bt_rules.specs.Underground.{underground_rules}
+
+-- the rules at a cell
+abbrev pub cell_rules : LayoutRequest → Cell → List Rule
+cell_rules r c = content_rules c ++ shape_rules c ++ mate_rules r.rect c ++ class_rules r c
+    ++ standing_rules r c ++ handing_rules r c ++ underground_rules r c ++ carrying_rules r c
+
+-- the rules of a splitter
+abbrev pub splitter_rules : LayoutRequest → ℕ → List Rule
+splitter_rules r s = place_rules r.rect s ++ port_rules r s
+
+-- the rules of inputs, pins and blocks
+abbrev pub end_rules : LayoutRequest → List Rule
+end_rules r = flat_map (input_rules r) (range_with_len 0 r.net.inputs)
+    ++ flat_map (pin_rules r) r.pins ++ clash_rules r.pins ++ map block_rule r.blocks
+
+-- all rules of a request
+abbrev pub rules_of : LayoutRequest → List Rule
+rules_of r = flat_map (cell_rules r) (cells_of r.rect) ++ flat_map (splitter_rules r) (splitters_of r) ++ end_rules r

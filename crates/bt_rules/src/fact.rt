@@ -1,0 +1,78 @@
+//! What may be so of a layout of a request.
+use bt_parts::{Cell, Dir};
+
+/// One of the two cells of a splitter.
+#[derive(Clone, Copy)]
+pub enum Half {
+    /// The one further to the west or the north.
+    Lesser,
+    /// The other one.
+    Greater,
+}
+
+/// What stands on a cell, whichever way it is turned.
+#[derive(Clone, Copy)]
+pub enum Shape {
+    Belt,
+    Entrance,
+    Exit,
+    /// This half of a splitter.
+    Half(Half),
+}
+
+/// What a cell holds.
+#[derive(Clone, Copy)]
+pub enum Content {
+    /// No part.
+    Empty,
+    /// A part of this shape, turned this way.
+    Turned(Shape, Dir),
+}
+
+/// From where edges of the request's network come: two edges of one class may change places in a layout.
+/// Splitters and inputs are those of the network, by their numbers.
+#[derive(Clone, Copy)]
+pub enum Class {
+    /// The edges that leave this splitter.
+    Split(usize),
+    /// The edges that go into this splitter from inputs that aren't pinned.
+    Shared(usize),
+    /// The edge of this input, which is pinned or leads to an output.
+    Input(usize),
+}
+
+/// What may be so. Splitters and inputs are those of the request's network, by their numbers.
+#[derive(Clone, Copy)]
+pub enum Fact {
+    /// The cell holds this.
+    Kind(Cell, Content),
+    /// The belt or underground piece on the cell lies on the chain of an edge of this class, or a half of
+    /// the splitter that edges of this class leave stands there.
+    Carries(Cell, Class),
+    /// A half stands on the cell.
+    HalfOn(Cell),
+    /// A belt stands on the cell.
+    BeltOn(Cell),
+    /// The first part of some input stands on the cell.
+    Begins(Cell),
+    /// The first part of this input, which leads to an output, stands on the cell.
+    Starts(Cell, usize),
+    /// The entrance on the cell, turned this way, pairs with the exit so far ahead, from 1.
+    Pair(Cell, Dir, usize),
+    /// An underground pair of this direction runs from the cell to the next one.
+    Tunnel(Cell, Dir),
+    /// The belt, exit or half on the cell hands to the next cell in this direction.
+    Goes(Cell, Dir),
+    /// This splitter stands with its lesser half on the cell and is turned this way.
+    At(usize, Cell, Dir),
+    /// The lesser half of this splitter has this x.
+    Column(usize, usize),
+    /// The lesser half of this splitter has this y.
+    Row(usize, usize),
+    /// This splitter is turned this way.
+    Points(usize, Dir),
+    /// The first of the edges into this splitter comes in by its lesser half.
+    EntersLesser(usize),
+    /// The first of the edges from this splitter leaves by its lesser half.
+    LeavesLesser(usize),
+}
