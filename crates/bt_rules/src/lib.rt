@@ -2,5 +2,7 @@
 #![tactic(auto)]
 
 mod fact;
+mod law;
 
 pub use fact::{Class, Content, Fact, Half, Shape};
+pub use law::laying_keeps;

@@ -1,0 +1,114 @@
+-- Each layout that lays a request gives a reading of the facts that keeps the request's rules.
+use Rattle.std.proofs.Common.{◌≡◌, inl, inr, ℕ, zero, suc, ◌<◌, Bool, true, false, List, [], ◌∷◌, ◌++◌, length, map, get_or, refl, sym, ◌∙◌, ap, ⊎_elim, arith}
+use Rattle.std.specs.List.{All, AllByRecursion, Contains, flat_map, range_with_len}
+use Rattle.std.proofs.lemmas.Bool.{false≢true}
+use Rattle.bt_parts.specs.declared.part.Part.{Part}
+use Rattle.bt_model.specs.Laying.{Lays, KeepsPin}
+use Rattle.bt_model.specs.Requests.{LayoutRequest, IsRequest}
+use Rattle.bt_rules.specs.declared.fact.Fact.{Fact}
+use Rattle.bt_rules.specs.Carrying.{carrying_rules}
+use Rattle.bt_rules.specs.Classes.{splitters_of}
+use Rattle.bt_rules.specs.Contents.{content_rules, shape_rules, mate_rules, class_rules}
+use Rattle.bt_rules.specs.Going.{handing_rules}
+use Rattle.bt_rules.specs.Laws.{LayingKeeps}
+use Rattle.bt_rules.specs.Pinning.{pin_rules, clash_rules, block_rule}
+use Rattle.bt_rules.specs.PlaceRules.{cell_rules, splitter_rules, end_rules, rules_of}
+use Rattle.bt_rules.specs.Ports.{port_rules}
+use Rattle.bt_rules.specs.Rules.{Rule, AllHold, OneHolds, Keeps}
+use Rattle.bt_rules.specs.Spots.{cells_of}
+use Rattle.bt_rules.specs.Standing.{standing_rules, place_rules}
+use Rattle.bt_rules.specs.Starts.{input_rules}
+use Rattle.bt_rules.specs.Underground.{underground_rules}
+use Rattle.bt_rules.proofs.CarryingStay.{classes_stay, carrying_stay}
+use Rattle.bt_rules.proofs.ContentsStay.{contents_stay, shapes_stay, mates_stay}
+use Rattle.bt_rules.proofs.Deciding.{Decided}
+use Rattle.bt_rules.proofs.GoingStay.{handing_stay}
+use Rattle.bt_rules.proofs.Keeping.{In, from_range, all_there, each_both, each_three, each_four, each_flat, each_map, OneSaid, Stays, AllStay}
+use Rattle.bt_rules.proofs.Laid.{Said}
+use Rattle.bt_rules.proofs.PinningStay.{pin_stays, clashes_stay, block_stays}
+use Rattle.bt_rules.proofs.PortsStay.{ports_stay}
+use Rattle.bt_rules.proofs.StandingStay.{standing_stay, places_stay}
+use Rattle.bt_rules.proofs.StartsStay.{inputs_stay}
+use Rattle.bt_rules.proofs.Told.{said}
+use Rattle.bt_rules.proofs.UndergroundStay.{underground_stay}
+
+-- an item of a list is contained
+in_contains : {X : Type 0} (xs : List X) (x : X) → In xs x → Contains xs x
+in_contains [] x h = absurd h
+in_contains (y ∷ xs) x (inl e) = (0, omega arith, sym e)
+in_contains (y ∷ xs) x (inr h) = let c = in_contains xs x h in let lt = c.1 in (suc c.0, omega (arith, lt), c.2)
+
+-- what holds of each item, by its place
+from_all : {X : Type 0} (P : X → Type 0) (xs : List X) → All P xs → AllByRecursion P xs
+from_all P [] h = tt
+from_all P (x ∷ xs) h = (h 0 x (omega arith), from_all P xs (λ k d lt. h (suc k) d (omega arith)))
+
+-- whether it is told to hold
+told : {P : Type 0} → Decided P → Bool
+told (inl p) = true
+told (inr n) = false
+
+told_true : {P : Type 0} (d : Decided P) → P → told d ≡ true
+unfolding told
+told_true (inl p) q = refl
+told_true (inr n) q = absurd (n q)
+
+true_told : {P : Type 0} (d : Decided P) → told d ≡ true → P
+unfolding told
+true_told (inl p) t = p
+true_told (inr n) t = absurd (false≢true t)
+
+module _ (r : LayoutRequest) (is : IsRequest r) (parts : List Part) (lays : Lays parts r) where
+  abbrev S : Fact → Type 0
+  S = Said r parts lays
+
+  below : (n k : ℕ) → In (range_with_len 0 n) k → k < n
+  below n k h = let b = from_range 0 n k h in let lt = b.1 in omega (arith, lt)
+
+  cell_stays : (c : _) → AllStay S (cell_rules r c)
+  cell_stays c =
+      let a = content_rules c in let b = shape_rules c in let m = mate_rules r.rect c in let k = class_rules r c in
+      let s = standing_rules r c in let g = handing_rules r c in let u = underground_rules r c in let l = carrying_rules r c in
+      each_both (Stays S) (a ++ b ++ m ++ k ++ s ++ g ++ u) l
+      (each_four (Stays S) (a ++ b ++ m ++ k) s g u
+      (each_four (Stays S) a b m k (contents_stay r parts lays c) (shapes_stay r parts lays c) (mates_stay r parts lays c) (classes_stay r parts lays is c))
+      (standing_stay r parts lays c) (handing_stay r parts lays is c) (underground_stay r parts lays c))
+      (carrying_stay r parts lays is c)
+
+  splitter_stays : (s : ℕ) → s < r.net.splitters → AllStay S (splitter_rules r s)
+  splitter_stays s lt = each_both (Stays S) (place_rules r.rect s) (port_rules r s) (places_stay r parts lays s lt) (ports_stay r parts lays is s lt)
+
+  ends_stay : AllStay S (end_rules r)
+  ends_stay = each_four (Stays S) (flat_map (input_rules r) (range_with_len 0 r.net.inputs)) (flat_map (pin_rules r) r.pins) (clash_rules r.pins) (map block_rule r.blocks)
+      (each_flat (Stays S) (input_rules r) (range_with_len 0 r.net.inputs) (λ k h. inputs_stay r parts lays k (below r.net.inputs k h)))
+      (each_flat (Stays S) (pin_rules r) r.pins (λ pin h. pin_stays r parts lays pin (all_there (KeepsPin parts lays.naming) r.pins pin (from_all (KeepsPin parts lays.naming) r.pins lays.pins) h)))
+      (clashes_stay r parts lays r.pins (from_all (KeepsPin parts lays.naming) r.pins lays.pins) is.pins_apart)
+      (each_map (Stays S) block_rule r.blocks (λ block h. block_stays r parts lays block (in_contains r.blocks block h)))
+
+  rules_stay : AllStay S (rules_of r)
+  rules_stay = each_three (Stays S) (flat_map (cell_rules r) (cells_of r.rect)) (flat_map (splitter_rules r) (splitters_of r)) (end_rules r)
+      (each_flat (Stays S) (cell_rules r) (cells_of r.rect) (λ c h. cell_stays c))
+      (each_flat (Stays S) (splitter_rules r) (splitters_of r) (λ s h. splitter_stays s (below r.net.splitters s h)))
+      ends_stay
+
+  -- the reading that is read off
+  read_off : Fact → Bool
+  read_off f = told (said r parts lays f)
+
+  all_said : (facts : List Fact) → AllHold read_off facts → AllByRecursion S facts
+  unfolding read_off
+  all_said [] h = tt
+  all_said (f ∷ facts) h = (true_told (said r parts lays f) h.0, all_said facts h.1)
+
+  one_holds : (facts : List Fact) → OneSaid S facts → OneHolds read_off facts
+  unfolding read_off
+  one_holds [] h = absurd h
+  one_holds (f ∷ facts) (inl q) = inl (told_true (said r parts lays f) q)
+  one_holds (f ∷ facts) (inr h) = inr (one_holds facts h)
+
+  rules_kept : (rules : List Rule) → AllStay S rules → AllByRecursion (Keeps read_off) rules
+  rules_kept [] h = tt
+  rules_kept (rule ∷ rules) h = ((λ all. one_holds rule.one_of (h.0 (all_said rule.given all))), rules_kept rules h.1)
+
+pub laying_keeps : LayingKeeps
+laying_keeps r parts is lays = (read_off r is parts lays, rules_kept r is parts lays (rules_of r) (rules_stay r is parts lays))
