@@ -1,5 +1,5 @@
 -- Layouts keep the rules of classes.
-use Rattle.std.proofs.Common.{◌≡◌, ◌⊎◌, inl, inr, ℕ, ◌<◌, Bool, true, false, not, cond, List, [], ◌∷◌, ◌++◌, map, length, refl, sym, ◌∙◌, ap, subst, ⊎_elim}
+use Rattle.std.proofs.Common.{◌≡◌, inl, inr, ℕ, ◌<◌, Bool, true, not, cond, List, [], ◌∷◌, ◌++◌, map, length, refl, sym, ◌∙◌, ap, subst, ⊎_elim}
 use Rattle.std.specs.List.{Contains, flat_map, filter, range_with_len}
 use Rattle.std.proofs.lemmas.Bool.{false≢true}
 use Rattle.bt_parts.specs.declared.part.Cell.{Cell}
@@ -11,7 +11,7 @@ use Rattle.bt_parts.proofs.Places.{one_there}
 use Rattle.bt_net.specs.declared.network.Target.TheVariants as to
 use Rattle.bt_model.specs.Chains.{IsSplitter, IsLink}
 use Rattle.bt_model.specs.Chains as chains
-use Rattle.bt_model.specs.Handing.{Hands, FeedsFrom}
+use Rattle.bt_model.specs.Handing.{Hands}
 use Rattle.bt_model.specs.Laying.{Lays}
 use Rattle.bt_model.specs.Requests.{LayoutRequest, IsRequest}
 use Rattle.bt_model.proofs.ChainLemmas.{no_link}
@@ -20,7 +20,7 @@ use Rattle.bt_rules.specs.declared.fact.Class.{Class}
 use Rattle.bt_rules.specs.declared.fact.Class.TheVariants.{Split, Shared, Input}
 use Rattle.bt_rules.specs.declared.fact.Content.TheVariants.{Empty}
 use Rattle.bt_rules.specs.declared.fact.Fact.{Fact}
-use Rattle.bt_rules.specs.declared.fact.Fact.TheVariants.{Kind, Carries, HalfOn, Goes}
+use Rattle.bt_rules.specs.declared.fact.Fact.TheVariants.{Kind, Carries, HalfOn}
 use Rattle.bt_rules.specs.Carrying.{carried_rules, taken_rule, kept_in_rules, onward_rules, carrying_rules}
 use Rattle.bt_rules.specs.Classes.{occurs, goes_to, ends_out, splitters_of, input_classes, classes_of, goals, sources}
 use Rattle.bt_rules.specs.Contents.{holds, class_rules}

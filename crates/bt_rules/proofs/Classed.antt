@@ -1,6 +1,6 @@
 -- The class of each part of a layout, and where the lists of classes of the request have it.
 use Rattle.std.proofs.Common.{◌≡◌, ◌⊎◌, inl, inr, ℕ, ◌<◌, Bool, true, false, ◌&&◌, cond, List, ◌++◌, map, length, Some, eqb-true, eq-eqb, refl, sym, ◌∙◌, ap, subst, ⊎_elim, arith}
-use Rattle.std.specs.List.{Contains, filter, range_with_len}
+use Rattle.std.specs.List.{Contains, range_with_len}
 use Rattle.std.proofs.lemmas.Bool.{false≢true}
 use Rattle.bt_parts.specs.declared.part.Cell.{Cell}
 use Rattle.bt_parts.specs.declared.part.Part.{Part}
@@ -23,10 +23,10 @@ use Rattle.bt_rules.specs.declared.fact.Class.{Class}
 use Rattle.bt_rules.specs.declared.fact.Class.TheVariants.{Split, Shared, Input}
 use Rattle.bt_rules.specs.Classes.{is_pinned, class_between, class_of, same_class, is_of, leads_out, occurs, goes_to, ends_out, splitters_of, input_classes, classes_of}
 use Rattle.bt_rules.proofs.Chaining.{chain_through, one_chain, contained_link, has_input, has_output}
-use Rattle.bt_rules.proofs.Keeping.{In, in_left, in_right, in_map, in_at, in_range, in_filter, any_in, from_any, both_true}
+use Rattle.bt_rules.proofs.Keeping.{In, in_left, in_right, in_map, in_at, in_range, in_filter, any_in}
 use Rattle.bt_rules.proofs.Laid.{match_of, is_orderly}
 use Rattle.bt_rules.proofs.Matching.{Matched}
-use Rattle.bt_rules.proofs.Reading.{Bears, HasClass, LiesOn, edge_at, no_edge}
+use Rattle.bt_rules.proofs.Reading.{Bears, LiesOn, edge_at, no_edge}
 use Rattle.bt_rules.proofs.StandingStay.{HasSaid, splitter_number}
 
 -- ---- classes of edges

@@ -14,7 +14,6 @@ use Rattle.bt_rules.specs.declared.fact.Half.{Half}
 use Rattle.bt_rules.specs.declared.fact.Half.TheVariants.{Lesser, Greater}
 use Rattle.bt_rules.specs.declared.fact.Shape.{Shape}
 use Rattle.bt_rules.specs.declared.fact.Shape.TheVariants as shape
-use Rattle.bt_rules.specs.Rules.{rule}
 use Rattle.bt_rules.specs.Spots.{dirs, halves, other_half, mate, before}
 use Rattle.bt_rules.specs.Contents.{holds, shapes, contents, content_rules, half_kinds, belt_kinds, equals_one, shape_rules, mate_rule, mate_rules}
 use Rattle.bt_rules.proofs.Deciding.{stands_at}

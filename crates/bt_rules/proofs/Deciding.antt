@@ -1,7 +1,6 @@
 -- It can be told of each fact whether a layout says so.
 use Rattle.std.proofs.Common.{◌≡◌, ◌≢◌, ◌⊎◌, inl, inr, ℕ, zero, suc, ◌<◌, ℤ, pos, negsuc, List, [], ◌∷◌, length, get_or, Option, Some, None, refl, sym, ◌∙◌, ap, subst, ⊎_elim, arith}
 use Rattle.std.specs.List.{Contains, slice_get}
-use Rattle.std.specs.Prelude.{unsigned_abs}
 use Rattle.std.proofs.lemmas.Bool.{cases_eq, cases_lt}
 use Rattle.std.proofs.lemmas.Int.{ints}
 use Rattle.std.proofs.lemmas.Option.{same_Some, none-some, slice_get_within, get_or_from_slice_get}
@@ -24,7 +23,6 @@ use Rattle.bt_model.proofs.ChainLemmas.{no_link}
 use Rattle.bt_rules.specs.declared.fact.Half.TheVariants.{Lesser, Greater}
 use Rattle.bt_rules.specs.declared.fact.Shape.{Shape}
 use Rattle.bt_rules.specs.declared.fact.Shape.TheVariants as shape
-use Rattle.bt_rules.specs.Spots.{half_at, behind}
 use Rattle.bt_rules.specs.Kept.{kind_of}
 use Rattle.bt_rules.proofs.Reading.{cell_of, Stands, GoesOn, Splits, NamedAt, last_link, ComesFromCell, Runs, Reaches}
 

@@ -1,6 +1,6 @@
 -- Cells of a rectangle, and steps there and back.
-use Rattle.std.proofs.Common.{◌≡◌, ◌≢◌, ◌⊎◌, inl, inr, ℕ, ◌+◌, ◌<◌, ◌≤◌, ℤ, pos, negsuc, Bool, true, false, not, ◌&&◌, ◌||◌, List, [], ◌∷◌, refl, sym, ◌∙◌, ap, subst, ⊎_elim, arith}
-use Rattle.std.specs.List.{range_with_len, list_any}
+use Rattle.std.proofs.Common.{◌≡◌, ◌≢◌, ◌⊎◌, inl, inr, ℕ, ◌+◌, ◌<◌, ◌≤◌, ℤ, pos, negsuc, Bool, true, false, not, ◌&&◌, refl, sym, ◌∙◌, ap, subst, ⊎_elim, arith}
+use Rattle.std.specs.List.{range_with_len}
 use Rattle.std.specs.Prelude.{int_lt, unsigned_abs, ◌<ℤ◌, ◌≤ℤ◌}
 use Rattle.std.proofs.lemmas.Bool.{lt-ltb, le-ltb, cases_lt}
 use Rattle.std.proofs.lemmas.Int.{ints}

@@ -1,6 +1,6 @@
 -- Layouts keep the rules of what is handed on.
-use Rattle.std.proofs.Common.{◌≡◌, ◌≢◌, ◌⊎◌, inl, inr, ℕ, ◌<◌, cond, List, [], ◌∷◌, ◌++◌, map, refl, sym, ◌∙◌, ap, subst, ⊎_elim, arith}
-use Rattle.std.specs.List.{flat_map, range_with_len}
+use Rattle.std.proofs.Common.{◌≡◌, ◌≢◌, ◌⊎◌, inl, inr, ℕ, cond, List, [], ◌∷◌, ◌++◌, map, refl, sym, ◌∙◌, ap, subst, ⊎_elim}
+use Rattle.std.specs.List.{flat_map}
 use Rattle.std.proofs.lemmas.Bool.{cases_eq}
 use Rattle.bt_parts.specs.declared.part.Cell.{Cell}
 use Rattle.bt_parts.specs.declared.part.Dir.{Dir}
@@ -18,7 +18,6 @@ use Rattle.bt_model.specs.Chains.{IsLink, IsInput, IsOutput}
 use Rattle.bt_model.specs.Handing.{FeedsFrom, Feeds}
 use Rattle.bt_model.specs.Laying.{Lays}
 use Rattle.bt_model.specs.Requests.{LayoutRequest, IsRequest}
-use Rattle.bt_model.proofs.Places.{contained_at}
 use Rattle.bt_model.proofs.ExistLemmas.{at_cases, giver_cases, unhanded_input, input_no_splitter}
 use Rattle.bt_model.proofs.HandLaws.{front_fed, takes_at, comes_at, pair_leaves}
 use Rattle.bt_model.proofs.SightLemmas.{one_side}
@@ -35,12 +34,12 @@ use Rattle.bt_rules.specs.Contents.{holds}
 use Rattle.bt_rules.specs.Going.{runners, givers, takers, inner_rules, going_rules, goes_into, begins_there, fed_belt, fed_entrance, starters, begin_rules, once_rules, handing_rules}
 use Rattle.bt_rules.proofs.Deciding.{stands_at, same_dir}
 use Rattle.bt_rules.proofs.Geometry.{inside_cases, in_dirs, in_halves, in_sides, distinct_dirs, behind_step, step_behind}
-use Rattle.bt_rules.proofs.Keeping.{In, in_left, in_right, in_map, from_map, in_flat, from_flat, in_range, Distinct, distinct_map, distinct_flat, each_both, each_three, each_four, each_flat, each_map, one_of_map, said_left, said_right, said_flat, at_most_stays, AllStay, Stays, OneSaid}
+use Rattle.bt_rules.proofs.Keeping.{In, from_map, from_flat, Distinct, distinct_map, distinct_flat, each_both, each_four, each_flat, each_map, one_of_map, said_left, said_right, said_flat, at_most_stays, AllStay, Stays, OneSaid}
 use Rattle.bt_rules.proofs.Classed.{class_at, lies_class, input_lies, input_listed}
 use Rattle.bt_rules.specs.Classes.{input_classes}
 use Rattle.bt_rules.proofs.Laid.{Said, stands_as, one_inside, is_orderly, placed_of, inside_at, one_outside, from_inside, shape_on}
 use Rattle.bt_rules.specs.Kept.{kind_of}
-use Rattle.bt_rules.proofs.Reading.{cell_of, Stands, GoesOn, Bears}
+use Rattle.bt_rules.proofs.Reading.{cell_of, Stands, GoesOn}
 
 module _ (r : LayoutRequest) (parts : List Part) (lays : Lays parts r) where
   abbrev S : Fact → Type 0

@@ -1,5 +1,5 @@
 -- Layouts keep the rules of ports.
-use Rattle.std.proofs.Common.{◌≡◌, ◌⊎◌, inl, inr, ℕ, ◌<◌, ◌+◌, ◌-◌, ◌==◌, ◌||◌, Bool, true, cond, List, [], ◌∷◌, ◌++◌, length, map, get_or, Some, eq-eqb, refl, sym, ◌∙◌, ap, subst, ⊎_elim, arith}
+use Rattle.std.proofs.Common.{◌≡◌, ◌⊎◌, inl, inr, ℕ, ◌<◌, ◌+◌, ◌-◌, ◌==◌, ◌||◌, Bool, true, cond, List, [], ◌∷◌, ◌++◌, length, map, get_or, eq-eqb, refl, sym, ◌∙◌, ap, subst, ⊎_elim, arith}
 use Rattle.std.specs.List.{flat_map, filter, enumerate_from, Contains}
 use Rattle.bt_parts.specs.declared.part.Cell.{Cell}
 use Rattle.bt_parts.specs.declared.part.Dir.{Dir}
@@ -30,7 +30,7 @@ use Rattle.bt_rules.specs.declared.fact.Fact.TheVariants.{Carries, Goes, At, Ent
 use Rattle.bt_rules.specs.declared.fact.Half.{Half}
 use Rattle.bt_rules.specs.declared.fact.Half.TheVariants.{Lesser, Greater}
 use Rattle.bt_rules.specs.declared.fact.Shape.TheVariants as shape
-use Rattle.bt_rules.specs.Classes.{class_of, same_class, goes_to, splitters_of, onward, classes_into}
+use Rattle.bt_rules.specs.Classes.{class_of, goes_to, splitters_of, onward, classes_into}
 use Rattle.bt_rules.specs.Going.{goes_into}
 use Rattle.bt_rules.specs.Ports.{carries_into, two_in_rules, in_rules, in_front, out_rules, standing_port_rules, port_rules}
 use Rattle.bt_rules.specs.Rules.{Rule, rule, not_all, rule_by}

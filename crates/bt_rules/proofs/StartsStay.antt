@@ -1,10 +1,10 @@
 -- Layouts keep the rules of inputs that lead to outputs.
-use Rattle.std.proofs.Common.{◌≡◌, ◌≢◌, inl, ℕ, ◌<◌, Bool, true, false, ◌&&◌, cond, List, [], ◌∷◌, ◌++◌, length, map, get_or, refl, sym, ◌∙◌, ap, subst, arith}
+use Rattle.std.proofs.Common.{◌≡◌, inl, ℕ, ◌<◌, Bool, true, false, ◌&&◌, cond, List, [], ◌++◌, length, map, get_or, refl, sym, ◌∙◌, ap, subst, arith}
 use Rattle.std.specs.List.{flat_map}
 use Rattle.std.proofs.lemmas.Option.{slice_get-get_or, same_Some}
 use Rattle.bt_parts.specs.declared.part.Cell.{Cell}
 use Rattle.bt_parts.specs.declared.part.Part.{Part}
-use Rattle.bt_parts.specs.Cells.{opposite, IsInside}
+use Rattle.bt_parts.specs.Cells.{opposite}
 use Rattle.bt_parts.specs.Layouts.{IsAt}
 use Rattle.bt_net.specs.declared.network.Start.{Start}
 use Rattle.bt_net.specs.declared.network.Start.TheVariants as from
@@ -14,8 +14,7 @@ use Rattle.bt_net.specs.Network.{is_input}
 use Rattle.bt_model.specs.Chains.{IsInput}
 use Rattle.bt_model.specs.Laying.{Lays}
 use Rattle.bt_model.specs.Requests.{LayoutRequest}
-use Rattle.bt_rules.specs.declared.fact.Class.{Class}
-use Rattle.bt_rules.specs.declared.fact.Class.TheVariants.{Split, Shared, Input}
+use Rattle.bt_rules.specs.declared.fact.Class.TheVariants.{Shared, Input}
 use Rattle.bt_rules.specs.declared.fact.Fact.{Fact}
 use Rattle.bt_rules.specs.declared.fact.Fact.TheVariants.{Starts}
 use Rattle.bt_rules.specs.Classes.{is_pinned, class_between, leads_out, is_through}

@@ -1,5 +1,5 @@
 -- It can be told of each fact whether a layout that lays a request says so.
-use Rattle.std.proofs.Common.{◌≡◌, ◌⊎◌, inl, inr, ℕ, List, [], ◌∷◌, length, refl, sym, ◌∙◌, subst, ⊎_elim}
+use Rattle.std.proofs.Common.{◌≡◌, ◌⊎◌, inl, inr, ℕ, List, [], ◌∷◌, length, subst, ⊎_elim}
 use Rattle.std.specs.Prelude.{unsigned_abs}
 use Rattle.std.proofs.lemmas.Bool.{cases_eq}
 use Rattle.bt_parts.specs.declared.part.Cell.{Cell}
@@ -22,7 +22,7 @@ use Rattle.bt_rules.specs.declared.fact.Shape.TheVariants as shape
 use Rattle.bt_rules.specs.Spots.{half_at, behind}
 use Rattle.bt_rules.proofs.CarryingStay.{there_has}
 use Rattle.bt_rules.proofs.Classed.{m, class_cases, class_there, one_class}
-use Rattle.bt_rules.proofs.Deciding.{Decided, both, moved, same_cell, same_dir, same_source, same_sink, lt_decided, stands_decided, goes_decided, half_decided, begins_decided, named_decided, comes_decided, reaches_decided, runs_decided, of_split}
+use Rattle.bt_rules.proofs.Deciding.{Decided, both, same_cell, same_dir, same_source, same_sink, lt_decided, stands_decided, goes_decided, half_decided, begins_decided, named_decided, comes_decided, reaches_decided, runs_decided, of_split}
 use Rattle.bt_rules.proofs.Laid.{Said, is_orderly}
 use Rattle.bt_rules.proofs.PortsStay.{Leaving, Entering}
 use Rattle.bt_rules.proofs.Reading.{ComesFromCell, FirstHas, edges_into, edges_from}
