@@ -190,7 +190,7 @@ module _ (r : LayoutRequest) (parts : List Part) (lays : Lays parts r) where
             let e = edge_on c dir g splitter in
             let same : class_at r parts lays e.0 ≡ k = one_class r parts lays g.giver (class_at r parts lays e.0) k e.2 (there_has c g.giver k g.feeds.look.giver given.1.1.0) in
             one_of_map S (λ t. Carries (step dir c) (Split t)) (goals r k) number.0
-            (in_filter (goes_to r k) (splitters_of r) number.0 (in_splitters r parts lays is number.0 number.1)
+            (in_filter (goes_to r k) (splitters_of r) number.0 (in_splitters r is number.0 number.1)
             (subst (λ l. goes_to r l number.0 ≡ true) same (class_goes r parts lays e.0 number.0 e.1 (target_on e.0 number.0 g.taker e.1 e.3 number.2))))
             (g.taker, taker_there r parts lays c dir g, inl (splitter, (number.0, number.2, refl)))),
         tt,

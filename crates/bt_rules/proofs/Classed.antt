@@ -21,9 +21,9 @@ use Rattle.bt_model.proofs.ExistLemmas.{part_cases, from_input}
 use Rattle.bt_model.proofs.Sorted.{one_place}
 use Rattle.bt_rules.specs.declared.fact.Class.{Class}
 use Rattle.bt_rules.specs.declared.fact.Class.TheVariants.{Split, Shared, Input}
-use Rattle.bt_rules.specs.Classes.{is_pinned, class_between, class_of, same_class, is_of, leads_out, occurs, goes_to, ends_out, splitters_of, input_classes, classes_of}
+use Rattle.bt_rules.specs.Classes.{is_pinned, class_between, class_of, same_class, is_of, leads_out, occurs, goes_to, ends_out, is_through, splitters_of, input_classes, classes_of}
 use Rattle.bt_rules.proofs.Chaining.{chain_through, one_chain, contained_link, has_input, has_output}
-use Rattle.bt_rules.proofs.Keeping.{In, in_left, in_right, in_map, in_at, in_range, in_filter, any_in}
+use Rattle.bt_rules.proofs.Keeping.{In, place_of, from_any, both_true, in_left, in_right, in_map, in_at, in_range, in_filter, any_in}
 use Rattle.bt_rules.proofs.Laid.{match_of, is_orderly}
 use Rattle.bt_rules.proofs.Matching.{Matched}
 use Rattle.bt_rules.proofs.Reading.{Bears, LiesOn, edge_at, no_edge}
@@ -110,6 +110,60 @@ target_enters s edge e = ap (λ x. enters s (record edge { target = x })) e ∙ 
 
 pub target_out : (o : ℕ) (edge : Edge) → edge.target ≡ to.Output o → leads_out edge ≡ true
 target_out o edge e = ap (λ x. leads_out (record edge { target = x })) e
+
+-- ---- the lists of classes
+
+module _ (r : LayoutRequest) (is : IsRequest r) where
+  edge_starts : (edge : Edge) → In r.net.edges edge → StartsIn r.net edge.start
+  edge_starts edge h = let place = place_of r.net.edges edge h in subst (λ e. StartsIn r.net e.start) (place.2 edge) (is.net.wired.starts place.0 edge place.1)
+
+  edge_ends : (edge : Edge) → In r.net.edges edge → EndsIn r.net edge.target
+  edge_ends edge h = let place = place_of r.net.edges edge h in subst (λ e. EndsIn r.net e.target) (place.2 edge) (is.net.wired.targets place.0 edge place.1)
+
+  pub in_splitters : (s : ℕ) → s < r.net.splitters → In (splitters_of r) s
+  in_splitters s lt = in_range 0 r.net.splitters s (omega arith) (omega (arith, lt))
+
+  pub split_listed : (s : ℕ) → s < r.net.splitters → In (classes_of r) (Split s)
+  split_listed s lt = in_left (map Split (splitters_of r)) (input_classes r) (Split s) (in_map Split (splitters_of r) s (in_splitters s lt))
+
+  edge_occurs : (edge : Edge) → In r.net.edges edge → occurs r (class_of r.pins edge) ≡ true
+  edge_occurs edge h = any_in (is_of r.pins (class_of r.pins edge)) r.net.edges edge h (same_itself (class_of r.pins edge))
+
+  -- the class of an edge from an input
+  pub input_edge_listed : (edge : Edge) (k : ℕ) → In r.net.edges edge → edge.start ≡ from.Input k → In (input_classes r) (class_of r.pins edge)
+  input_edge_listed edge k h at =
+      in_filter (occurs r) (map Shared (splitters_of r) ++ map Input (range_with_len 0 r.net.inputs)) (class_of r.pins edge)
+      (subst (In (map Shared (splitters_of r) ++ map Input (range_with_len 0 r.net.inputs))) (sym (ap (λ start. class_between r.pins start edge.target) at))
+      (by edge.target (edge_ends edge h) (is_pinned r.pins k)))
+      (edge_occurs edge h)
+    where
+      own : In (map Shared (splitters_of r) ++ map Input (range_with_len 0 r.net.inputs)) (Input k)
+      own = in_right (map Shared (splitters_of r)) (map Input (range_with_len 0 r.net.inputs)) (Input k)
+          (in_map Input (range_with_len 0 r.net.inputs) k (let below = subst (StartsIn r.net) at (edge_starts edge h) in in_range 0 r.net.inputs k (omega arith) (omega (arith, below))))
+
+      by : (target : Target) → EndsIn r.net target → Bool → In (map Shared (splitters_of r) ++ map Input (range_with_len 0 r.net.inputs)) (class_between r.pins (from.Input k) target)
+      by (to.Output o) below b = own
+      by (to.Split t) below b = or (is_pinned r.pins k)
+        where
+          or : (b : Bool) → In (map Shared (splitters_of r) ++ map Input (range_with_len 0 r.net.inputs)) (cond b (Input k) (Shared t))
+          or true = own
+          or false = in_left (map Shared (splitters_of r)) (map Input (range_with_len 0 r.net.inputs)) (Shared t) (in_map Shared (splitters_of r) t (in_splitters t below))
+
+  pub edge_class_listed : (edge : Edge) → In r.net.edges edge → In (classes_of r) (class_of r.pins edge)
+  edge_class_listed edge h = by edge.start refl (edge_starts edge h)
+    where
+      by : (start : Start) → edge.start ≡ start → StartsIn r.net start → In (classes_of r) (class_of r.pins edge)
+      by (from.Split s) at below = subst (In (classes_of r)) (sym (ap (λ start. class_between r.pins start edge.target) at)) (split_listed s below)
+      by (from.Input k) at below = in_right (map Split (splitters_of r)) (input_classes r) (class_of r.pins edge) (input_edge_listed edge k h at)
+
+  -- the class of an input that leads to an output
+  pub through_listed : (i : ℕ) → is_through r i ≡ true → In (classes_of r) (Input i)
+  through_listed i t =
+      let found = from_any (λ edge. is_input i edge && leads_out edge) r.net.edges t in
+      let tests = both_true (is_input i found.0) (leads_out found.0) found.2 in
+      let start = input_start i found.0 tests.0 in
+      let out = out_target found.0 tests.1 in
+      subst (In (classes_of r)) (ap (λ x. class_between r.pins x found.0.target) start ∙ ap (class_between r.pins (from.Input i)) out.1) (edge_class_listed found.0 found.1)
 
 module _ (r : LayoutRequest) (parts : List Part) (lays : Lays parts r) where
   abbrev pub m : Matched parts lays.naming r.net.edges
@@ -235,9 +289,6 @@ module _ (r : LayoutRequest) (parts : List Part) (lays : Lays parts r) where
   pub is_of_class : (e : ℕ) → is_of r.pins (class_at e) (the_edge e) ≡ true
   is_of_class e = same_itself (class_at e)
 
-  pub class_occurs : (e : ℕ) → e < length r.net.edges → occurs r (class_at e) ≡ true
-  class_occurs e lt = any_in (is_of r.pins (class_at e)) r.net.edges (the_edge e) (edge_in e lt) (is_of_class e)
-
   -- the class of the edge goes to the splitter at which the edge ends
   pub class_goes : (e t : ℕ) → e < length r.net.edges → (the_edge e).target ≡ to.Split t → goes_to r (class_at e) t ≡ true
   class_goes e t lt at = any_in (λ edge. is_of r.pins (class_at e) edge && enters t edge) r.net.edges (the_edge e) (edge_in e lt)
@@ -248,49 +299,17 @@ module _ (r : LayoutRequest) (parts : List Part) (lays : Lays parts r) where
       (ap (λ b. b && leads_out (the_edge e)) (is_of_class e) ∙ out)
 
   module _ (is : IsRequest r) where
-    starts_in : (e : ℕ) → e < length r.net.edges → StartsIn r.net (the_edge e).start
-    starts_in e lt = is.net.wired.starts e no_edge lt
-
-    ends_in : (e : ℕ) → e < length r.net.edges → EndsIn r.net (the_edge e).target
-    ends_in e lt = is.net.wired.targets e no_edge lt
-
-    pub in_splitters : (s : ℕ) → s < r.net.splitters → In (splitters_of r) s
-    in_splitters s lt = in_range 0 r.net.splitters s (omega arith) (omega (arith, lt))
-
-    pub split_listed : (s : ℕ) → s < r.net.splitters → In (classes_of r) (Split s)
-    split_listed s lt = in_left (map Split (splitters_of r)) (input_classes r) (Split s) (in_map Split (splitters_of r) s (in_splitters s lt))
-
     -- the class of an edge from an input
     pub input_listed : (e k : ℕ) → e < length r.net.edges → (the_edge e).start ≡ from.Input k → In (input_classes r) (class_at e)
-    input_listed e k lt at =
-        in_filter (occurs r) (map Shared (splitters_of r) ++ map Input (range_with_len 0 r.net.inputs)) (class_at e)
-        (subst (In (map Shared (splitters_of r) ++ map Input (range_with_len 0 r.net.inputs))) (sym (ap (λ start. class_between r.pins start (the_edge e).target) at))
-        (by (the_edge e).target (ends_in e lt) (is_pinned r.pins k)))
-        (class_occurs e lt)
-      where
-        own : In (map Shared (splitters_of r) ++ map Input (range_with_len 0 r.net.inputs)) (Input k)
-        own = in_right (map Shared (splitters_of r)) (map Input (range_with_len 0 r.net.inputs)) (Input k)
-            (in_map Input (range_with_len 0 r.net.inputs) k (let below = subst (StartsIn r.net) at (starts_in e lt) in in_range 0 r.net.inputs k (omega arith) (omega (arith, below))))
-
-        by : (target : Target) → EndsIn r.net target → Bool → In (map Shared (splitters_of r) ++ map Input (range_with_len 0 r.net.inputs)) (class_between r.pins (from.Input k) target)
-        by (to.Output o) below b = own
-        by (to.Split t) below b = or (is_pinned r.pins k)
-          where
-            or : (b : Bool) → In (map Shared (splitters_of r) ++ map Input (range_with_len 0 r.net.inputs)) (cond b (Input k) (Shared t))
-            or true = own
-            or false = in_left (map Shared (splitters_of r)) (map Input (range_with_len 0 r.net.inputs)) (Shared t) (in_map Shared (splitters_of r) t (in_splitters t below))
+    input_listed e k lt at = input_edge_listed r is (the_edge e) k (edge_in e lt) at
 
     pub class_listed : (e : ℕ) → e < length r.net.edges → In (classes_of r) (class_at e)
-    class_listed e lt = by (the_edge e).start refl (starts_in e lt)
-      where
-        by : (start : Start) → (the_edge e).start ≡ start → StartsIn r.net start → In (classes_of r) (class_at e)
-        by (from.Split s) at below = subst (In (classes_of r)) (sym (split_class_at e s at)) (split_listed s below)
-        by (from.Input k) at below = in_right (map Split (splitters_of r)) (input_classes r) (class_at e) (input_listed e k lt at)
+    class_listed e lt = edge_class_listed r is (the_edge e) (edge_in e lt)
 
     -- the class of a part is one of the classes
     pub said_listed : (i : ℕ) (k : Class) → HasSaid r parts lays i k → In (classes_of r) k
     said_listed i k (inl h) =
         let number = splitter_number r parts lays i h.0 in
         let same : h.1.0 ≡ number.0 = one_place lays.naming.splitters lays.shows.names.splitters.once h.1.0 number.0 i h.1.1 number.2 in
-        subst (In (classes_of r)) (ap Split (sym same) ∙ sym h.1.2) (split_listed number.0 number.1)
+        subst (In (classes_of r)) (ap Split (sym same) ∙ sym h.1.2) (split_listed r is number.0 number.1)
     said_listed i k (inr h) = subst (In (classes_of r)) (sym h.2) (class_listed h.0 h.1.0)

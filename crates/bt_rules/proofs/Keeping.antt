@@ -1,7 +1,7 @@
 -- Rules that hold where facts are read in one way, list by list.
 use Rattle.std.proofs.Common.{◌≡◌, ◌⊎◌, inl, inr, ℕ, zero, suc, ◌+◌, ◌<◌, ◌≤◌, Bool, true, false, ◌&&◌, ◌||◌, cond, List, [], ◌∷◌, ◌++◌, length, get_or, map, refl, sym, ◌∙◌, ap, subst, ⊎_elim, arith}
 use Rattle.std.proofs.lemmas.Bool.{false≢true}
-use Rattle.std.specs.List.{AllByRecursion, list_any, flat_map, filter, range_with_len}
+use Rattle.std.specs.List.{AllByRecursion, Contains, list_any, flat_map, filter, range_with_len}
 use Rattle.std.proofs.lemmas.Bool.{cases_eq}
 use Rattle.bt_rules.specs.declared.fact.Fact.{Fact}
 use Rattle.bt_rules.specs.declared.fact.Half.{Half}
@@ -90,6 +90,11 @@ pub place_of : {X : Type 0} (xs : List X) (x : X) → In xs x → (k : ℕ) × (
 place_of [] x h = absurd h
 place_of (y ∷ xs) x (inl e) = (0, omega arith, λ d. sym e)
 place_of (y ∷ xs) x (inr h) = let more = place_of xs x h in let lt = more.1 in (suc more.0, omega (arith, lt), more.2)
+
+pub in_contains : {X : Type 0} (xs : List X) (x : X) → In xs x → Contains xs x
+in_contains [] x h = absurd h
+in_contains (y ∷ xs) x (inl e) = (0, omega arith, sym e)
+in_contains (y ∷ xs) x (inr h) = let c = in_contains xs x h in let lt = c.1 in (suc c.0, omega (arith, lt), c.2)
 
 pub or_true : (b : Bool) → (b || true) ≡ true
 or_true true = refl

@@ -1,6 +1,6 @@
 -- Each layout that lays a request gives a reading of the facts that keeps the request's rules.
-use Rattle.std.proofs.Common.{◌≡◌, inl, inr, ℕ, suc, ◌<◌, Bool, true, false, List, [], ◌∷◌, ◌++◌, map, refl, sym, arith}
-use Rattle.std.specs.List.{All, AllByRecursion, Contains, flat_map, range_with_len}
+use Rattle.std.proofs.Common.{◌≡◌, inl, inr, ℕ, suc, ◌<◌, Bool, true, false, List, [], ◌∷◌, ◌++◌, map, refl, arith}
+use Rattle.std.specs.List.{All, AllByRecursion, flat_map, range_with_len}
 use Rattle.std.proofs.lemmas.Bool.{false≢true}
 use Rattle.bt_parts.specs.declared.part.Part.{Part}
 use Rattle.bt_model.specs.Laying.{Lays, KeepsPin}
@@ -23,7 +23,7 @@ use Rattle.bt_rules.proofs.CarryingStay.{classes_stay, carrying_stay}
 use Rattle.bt_rules.proofs.ContentsStay.{contents_stay, shapes_stay, mates_stay}
 use Rattle.bt_rules.proofs.Deciding.{Decided}
 use Rattle.bt_rules.proofs.GoingStay.{handing_stay}
-use Rattle.bt_rules.proofs.Keeping.{In, from_range, all_there, each_both, each_three, each_four, each_flat, each_map, OneSaid, Stays, AllStay}
+use Rattle.bt_rules.proofs.Keeping.{In, in_contains, from_range, all_there, each_both, each_three, each_four, each_flat, each_map, OneSaid, Stays, AllStay}
 use Rattle.bt_rules.proofs.Laid.{Said}
 use Rattle.bt_rules.proofs.PinningStay.{pin_stays, clashes_stay, block_stays}
 use Rattle.bt_rules.proofs.PortsStay.{ports_stay}
@@ -31,12 +31,6 @@ use Rattle.bt_rules.proofs.StandingStay.{standing_stay, places_stay}
 use Rattle.bt_rules.proofs.StartsStay.{inputs_stay}
 use Rattle.bt_rules.proofs.Told.{said}
 use Rattle.bt_rules.proofs.UndergroundStay.{underground_stay}
-
--- an item of a list is contained
-in_contains : {X : Type 0} (xs : List X) (x : X) → In xs x → Contains xs x
-in_contains [] x h = absurd h
-in_contains (y ∷ xs) x (inl e) = (0, omega arith, sym e)
-in_contains (y ∷ xs) x (inr h) = let c = in_contains xs x h in let lt = c.1 in (suc c.0, omega (arith, lt), c.2)
 
 -- what holds of each item, by its place
 from_all : {X : Type 0} (P : X → Type 0) (xs : List X) → All P xs → AllByRecursion P xs

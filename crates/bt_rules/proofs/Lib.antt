@@ -18,3 +18,4 @@ pub mod StartsStay
 pub mod PinningStay
 pub mod Told
 pub mod Laying
+pub mod RulesWithin

@@ -449,12 +449,12 @@ module _ (r : LayoutRequest) (parts : List Part) (lays : Lays parts r) where
       one_inside S r.rect n (map (λ t. Carries n (class.Split t)) (onward r s)) (inside_at r parts lays found.0 n there)
       (⊎_elim
       (λ link. one_of_map S (λ t. Carries n (class.Split t)) (onward r s) s
-      (in_filter (λ t. (t == s) || goes_to r (class.Split s) t) (splitters_of r) s (in_splitters r parts lays is s below) (ap (λ b. b || goes_to r (class.Split s) s) (eq-eqb s s refl)))
+      (in_filter (λ t. (t == s) || goes_to r (class.Split s) t) (splitters_of r) s (in_splitters r is s below) (ap (λ b. b || goes_to r (class.Split s) s) (eq-eqb s s refl)))
       (found.0, there, inr (e, (h.0, link.1), sym owned)))
       (λ split.
       let number = splitter_number r parts lays found.0 split.0 in
       one_of_map S (λ t. Carries n (class.Split t)) (onward r s) number.0
-      (in_filter (λ t. (t == s) || goes_to r (class.Split s) t) (splitters_of r) number.0 (in_splitters r parts lays is number.0 number.1)
+      (in_filter (λ t. (t == s) || goes_to r (class.Split s) t) (splitters_of r) number.0 (in_splitters r is number.0 number.1)
       (ap (λ b. (number.0 == s) || b) (subst (λ k. goes_to r k number.0 ≡ true) owned (class_goes r parts lays e number.0 h.0 (target_on r parts lays e number.0 found.0 h.0 split.1 number.2)))
       ∙ or_true (number.0 == s)))
       (found.0, there, inl (split.0, (number.0, number.2, refl))))

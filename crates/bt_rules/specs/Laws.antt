@@ -9,6 +9,7 @@ use Rattle.bt_rules.specs.declared.fact.Fact.{Fact}
 use Rattle.bt_rules.specs.Kept.{IsKeptPart}
 use Rattle.bt_rules.specs.PlaceRules.{rules_of}
 use Rattle.bt_rules.specs.Rules.{Keeps}
+use Rattle.bt_rules.specs.Within.{HasWithin}
 
 -- the reading of the facts keeps each rule of the request
 abbrev pub KeepsRules : LayoutRequest → (Fact → Bool) → Type 0
@@ -22,3 +23,7 @@ LayingKeeps = (r : LayoutRequest) (parts : List Part) → IsRequest r → Lays p
 abbrev pub KeepingLays : Type 0
 KeepingLays = (r : LayoutRequest) (reading : Fact → Bool) (parts : List Part) → IsRequest r → KeepsRules r reading
     → ListsEach (IsKeptPart r reading) parts → Lays parts r
+
+-- the rules of a request speak of what it has
+abbrev pub RulesAreWithin : Type 0
+RulesAreWithin = (r : LayoutRequest) → IsRequest r → AllByRecursion (HasWithin r) (rules_of r)

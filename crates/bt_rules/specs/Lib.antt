@@ -12,3 +12,4 @@ pub mod Spots
 pub mod Standing
 pub mod Starts
 pub mod Underground
+pub mod Within

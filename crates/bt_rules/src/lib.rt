@@ -5,4 +5,4 @@ mod fact;
 mod law;
 
 pub use fact::{Class, Content, Fact, Half, Shape};
-pub use law::laying_keeps;
+pub use law::{laying_keeps, rules_are_within};
