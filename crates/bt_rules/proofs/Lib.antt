@@ -19,3 +19,4 @@ pub mod PinningStay
 pub mod Told
 pub mod Laying
 pub mod RulesWithin
+pub mod kept

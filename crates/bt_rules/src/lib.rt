@@ -5,4 +5,4 @@ mod fact;
 mod law;
 
 pub use fact::{Class, Content, Fact, Half, Shape};
-pub use law::{laying_keeps, rules_are_within};
+pub use law::{keeping_lays, laying_keeps, rules_are_within};
