@@ -6,8 +6,7 @@ use Rattle.std.proofs.Math.Nat.{mul-le-mul_right}
 use Rattle.bt_parts.specs.declared.part.Cell.{Cell}
 use Rattle.bt_parts.specs.declared.part.Dir.{Dir}
 use Rattle.bt_parts.specs.declared.part.Rect.{Rect}
-use Rattle.bt_parts.specs.Cells.{step, steps, opposite, IsInside}
-use Rattle.bt_parts.proofs.Steps.{near_end, opposite-opposite}
+use Rattle.bt_parts.specs.Cells.{step, steps, IsInside}
 use Rattle.bt_model.proofs.PathLemmas.{crowded}
 use Rattle.bt_rules.specs.declared.fact.Content.{Content}
 use Rattle.bt_rules.specs.declared.fact.Content.TheVariants.{Empty, Turned}
@@ -19,9 +18,10 @@ use Rattle.bt_rules.specs.Kept.{kind_of, begun, half, handed, under}
 use Rattle.bt_rules.specs.Going.{runners}
 use Rattle.bt_rules.specs.Spots.{behind}
 use Rattle.bt_rules.specs.declared.fact.Half.{Half}
-use Rattle.bt_rules.proofs.kept.Readings.{In}
 use Rattle.bt_rules.specs.Underground.{most_distance, back}
-use Rattle.bt_rules.proofs.kept.Geometry.{across, same_spot, step-behind}
+use Rattle.bt_rules.proofs.Geometry.{steps_back, step_behind}
+use Rattle.bt_rules.proofs.Keeping.{In}
+use Rattle.bt_rules.proofs.kept.Geometry.{across, same_spot}
 use Rattle.bt_rules.proofs.kept.Solved.{Solved, Says, said, not_said}
 use Rattle.bt_rules.proofs.kept.CellFacts.{content_of, one_shape, one_dir, not_empty, half_on, half_there}
 use Rattle.bt_rules.proofs.kept.GoingFacts.{giver_there, outside_still, belt_fed, entrance_fed}
@@ -128,20 +128,17 @@ module _ (w : Solved) where
   reached_after d c h on (by_hand dir goes at) = subst (Reached w) (sym at) (handed d dir on (subst (IsInside w.r.rect) at h) goes)
   reached_after d c h on (by_pair dir k some few there pair at) = subst (Reached w) (sym at) (under d dir k on there some few pair)
 
-  forward-back : (k : ℕ) (dir : Dir) (c : Cell) → c ≡ steps k dir (back k dir c)
-  forward-back k dir c = near_end (opposite dir) k c (back k dir c) refl ∙ ap (λ d. steps k d (back k dir c)) (opposite-opposite dir)
-
   -- one step back
   step_back : (c : Cell) (h : IsInside w.r.rect c) → (Says w (HalfOn c) → ⊥) → (content : Content) → Says w (Kind c content)
       → (Says w (Kind c Empty) → ⊥) → Reached w c ⊎ ((d : Cell) × IsInside w.r.rect d × Follows d c)
   step_back c h off Empty says full = absurd (full says)
   step_back c h off (Turned shape.Belt dir) says full =
-      ⊎_elim (λ begins. inl (begun c h begins)) (λ fed. inr (behind fed.0 c, fed.1.0, by_hand fed.0 fed.1.1 (sym (step-behind fed.0 c)))) (belt_fed w c h dir says)
+      ⊎_elim (λ begins. inl (begun c h begins)) (λ fed. inr (behind fed.0 c, fed.1.0, by_hand fed.0 fed.1.1 (sym (step_behind fed.0 c)))) (belt_fed w c h dir says)
   step_back c h off (Turned shape.Entrance dir) says full =
-      ⊎_elim (λ begins. inl (begun c h begins)) (λ fed. inr (behind fed.0 c, fed.1.0, by_hand fed.0 fed.1.1 (sym (step-behind fed.0 c)))) (entrance_fed w c h dir says)
+      ⊎_elim (λ begins. inl (begun c h begins)) (λ fed. inr (behind fed.0 c, fed.1.0, by_hand fed.0 fed.1.1 (sym (step_behind fed.0 c)))) (entrance_fed w c h dir says)
   step_back c h off (Turned shape.Exit dir) says full =
       let pair = pair_ends w c h dir says in
-      let there : c ≡ steps pair.0 dir (back pair.0 dir c) = forward-back pair.0 dir c in
+      let there : c ≡ steps pair.0 dir (back pair.0 dir c) = sym (steps_back dir pair.0 c) in
       inr (back pair.0 dir c, pair.3, by_pair dir pair.0 pair.1 pair.2 (subst (IsInside w.r.rect) there h) pair.4 there)
   step_back c h off (Turned (shape.Half side) dir) says full = absurd (off (half_on w c h side dir says))
 
@@ -181,18 +178,18 @@ module _ (w : Solved) where
       (said w (HalfOn c))
 
   -- and so is a belt or an exit that faces the outside
-  pub ender_reached : (c : Cell) (of : Shape) (dir : Dir) → IsInside w.r.rect c → In of runners → Says w (holds c of dir) → (IsInside w.r.rect (step dir c) → ⊥) → Reached w c
+  pub ender_reached : (c : Cell) (of : Shape) (dir : Dir) → IsInside w.r.rect c → In runners of → Says w (holds c of dir) → (IsInside w.r.rect (step dir c) → ⊥) → Reached w c
   ender_reached c of dir h runs says out = reached_stop c h
       (λ on. let there = half_there w c h on in no_half runs there.0 (one_shape w c h of (shape.Half there.0) dir there.1 says there.2))
       (λ empty. not_empty w c h of dir says empty)
       (λ d follows no_more. stop d follows)
     where
-      no_half : In of runners → (side : Half) → of ≡ shape.Half side → ⊥
+      no_half : In runners of → (side : Half) → of ≡ shape.Half side → ⊥
       no_half (inl e) side same = cc
       no_half (inr (inl e)) side same = cc
       no_half (inr (inr none)) side same = none
 
-      no_entrance : In of runners → of ≡ shape.Entrance → ⊥
+      no_entrance : In runners of → of ≡ shape.Entrance → ⊥
       no_entrance (inl e) same = cc
       no_entrance (inr (inl e)) same = cc
       no_entrance (inr (inr none)) same = none

@@ -14,8 +14,10 @@ use Rattle.bt_rules.specs.Contents.{holds}
 use Rattle.bt_rules.specs.Going.{runners}
 use Rattle.bt_rules.specs.Rules.{Rule, not_all, Keeps}
 use Rattle.bt_rules.specs.Spots.{dirs, is_inside}
-use Rattle.bt_rules.proofs.kept.Readings.{In, all_left, all_mapped, all_flat}
-use Rattle.bt_rules.proofs.kept.Geometry.{in_dirs, in_filter, inside_true, inside_false}
+use Rattle.bt_rules.proofs.Geometry.{in_dirs}
+use Rattle.bt_rules.proofs.Keeping.{In, in_filter}
+use Rattle.bt_rules.proofs.kept.Readings.{all_left, all_mapped, all_flat}
+use Rattle.bt_rules.proofs.kept.Geometry.{inside_true, inside_false}
 use Rattle.bt_rules.proofs.kept.Solved.{Solved, Says, Kept, carrying_kept}
 
 module _ (w : Solved) (c : Cell) (h : IsInside w.r.rect c) (dir : Dir) where
@@ -38,7 +40,7 @@ module _ (w : Solved) (c : Cell) (h : IsInside w.r.rect c) (dir : Dir) where
   out_kept : (IsInside w.r.rect (step dir c) → ⊥) → Kept w kept_in
   out_kept o = subst (λ b. Kept w (cond {A = List Rule} b (going_on ++ taken_in) kept_in)) (inside_false w.r.rect (step dir c) o) onward_kept
 
-  module _ (k : Class) (there : In k (classes_of w.r)) where
+  module _ (k : Class) (there : In (classes_of w.r) k) where
     -- the class goes on to a part that is no half
     pub class_on : IsInside w.r.rect (step dir c) → Says w (Goes c dir) → Says w (Carries c k) → (Says w (HalfOn (step dir c)) → ⊥) → Says w (Carries (step dir c) k)
     unfolding going_on
@@ -48,11 +50,11 @@ module _ (w : Solved) (c : Cell) (h : IsInside w.r.rect c) (dir : Dir) where
         ⊎_elim (λ half. absurd (no_half half)) (λ more. ⊎_elim (λ t. t) (λ none. absurd none) more) (kept.0 (goes, (s, tt)))
 
     -- out of the rectangle goes only a class of which an edge ends at an output
-    pub class_ends : (of : Shape) → In of runners → (IsInside w.r.rect (step dir c) → ⊥) → Says w (Carries c k) → Says w (holds c of dir) → ends_out w.r k ≡ true
+    pub class_ends : (of : Shape) → In runners of → (IsInside w.r.rect (step dir c) → ⊥) → Says w (Carries c k) → Says w (holds c of dir) → ends_out w.r k ≡ true
     unfolding kept_in
     class_ends of runs out s t =
         ⊎_elim (λ yes. yes)
         (λ no. absurd (all_mapped (Keeps w.reading) (λ x. not_all (Carries c k ∷ holds c x dir ∷ [])) of runners
         (all_flat (Keeps w.reading) (kept_in_rules c dir) k (filter (λ x. not (ends_out w.r x)) (classes_of w.r)) (out_kept out)
-        (in_filter (λ x. not (ends_out w.r x)) k (classes_of w.r) there (ap not no))) runs (s, (t, tt))))
+        (in_filter (λ x. not (ends_out w.r x)) (classes_of w.r) k there (ap not no))) runs (s, (t, tt))))
         (cases_Bool (ends_out w.r k))

@@ -20,14 +20,16 @@ use Rattle.bt_rules.specs.declared.fact.Class.TheVariants.{Split}
 use Rattle.bt_rules.specs.Rules.{Rule, rule, some_of, not_all, at_most_one, Keeps}
 use Rattle.bt_rules.specs.Spots.{dirs, halves, other_half, mate, before, where_inside, cells_of}
 use Rattle.bt_rules.specs.Standing.{owner_rule, at_rules, stands_on, name_rule, stands_at}
-use Rattle.bt_rules.proofs.kept.Readings.{In, in_left, in_map, in_mapped, in_flat, in_flattened, in_range, range_has, all_left, all_right, all_mapped, all_flat, one_in, one_from, one_mapped, one_holds}
-use Rattle.bt_rules.proofs.kept.Geometry.{in_dirs, in_halves, in_contents, cells_inside, same_spot, across, where_in}
+use Rattle.bt_rules.proofs.Geometry.{from_cells, in_dirs, in_halves}
+use Rattle.bt_rules.proofs.Keeping.{In, from_flat, from_map, from_range, in_flat, in_left, in_map, in_range}
+use Rattle.bt_rules.proofs.kept.Readings.{all_left, all_right, all_mapped, all_flat, one_in, one_from, one_mapped, one_holds}
+use Rattle.bt_rules.proofs.kept.Geometry.{in_contents, same_spot, across, where_in}
 use Rattle.bt_rules.proofs.kept.Solved.{Solved, Says, Kept, one_inside, contents_kept, shapes_kept, classes_kept, mates_kept, standing_kept, place_kept}
 
 -- the class of a splitter is one of the classes
-pub split_in : (w : Solved) (s : ℕ) → s < w.r.net.splitters → In (Split s) (classes_of w.r)
-split_in w s lt = in_left (Split s) (map Split (splitters_of w.r)) (input_classes w.r)
-    (in_map Split s (splitters_of w.r) (in_range s 0 w.r.net.splitters (omega arith) (omega arith)))
+pub split_in : (w : Solved) (s : ℕ) → s < w.r.net.splitters → In (classes_of w.r) (Split s)
+split_in w s lt = in_left (map Split (splitters_of w.r)) (input_classes w.r) (Split s)
+    (in_map Split (splitters_of w.r) s (in_range 0 w.r.net.splitters s (omega arith) (omega arith)))
 
 module _ (w : Solved) (c : Cell) (h : IsInside w.r.rect c) where
   pub content_of : (content : Content) × Says w (Kind c content)
@@ -36,7 +38,7 @@ module _ (w : Solved) (c : Cell) (h : IsInside w.r.rect c) where
   pub one_content : (a b : Content) → Says w (Kind c a) → Says w (Kind c b) → a ≡ b
   one_content a b s t =
       let same : Kind c a ≡ Kind c b = one_holds w.reading (Kind c a) (Kind c b) (map (Kind c) contents) (contents_kept w c h).1
-      (in_map (Kind c) a contents (in_contents a)) (in_map (Kind c) b contents (in_contents b)) s t in
+      (in_map (Kind c) contents a (in_contents a)) (in_map (Kind c) contents b (in_contents b)) s t in
       cc
 
   pub one_shape : (a b : Shape) (d e : Dir) → Says w (holds c a d) → Says w (holds c b e) → a ≡ b
@@ -48,10 +50,10 @@ module _ (w : Solved) (c : Cell) (h : IsInside w.r.rect c) where
   pub not_empty : (a : Shape) (d : Dir) → Says w (holds c a d) → Says w (Kind c Empty) → ⊥
   not_empty a d s t = let same : Turned a d ≡ Empty = one_content (Turned a d) Empty s t in cc
 
-  in_half_kinds : (half : Half) (dir : Dir) → In (holds c (shape.Half half) dir) (half_kinds c)
+  in_half_kinds : (half : Half) (dir : Dir) → In (half_kinds c) (holds c (shape.Half half) dir)
   in_half_kinds half dir =
-      in_flat (λ x. map (holds c (shape.Half x)) dirs) half (holds c (shape.Half half) dir) halves (in_halves half)
-      (in_map (holds c (shape.Half half)) dir dirs (in_dirs dir))
+      in_flat (λ x. map (holds c (shape.Half x)) dirs) halves half (holds c (shape.Half half) dir) (in_halves half)
+      (in_map (holds c (shape.Half half)) dirs dir (in_dirs dir))
 
   halves_kept : Kept w (equals_one (HalfOn c) (half_kinds c))
   halves_kept = all_left (Keeps w.reading) (equals_one (HalfOn c) (half_kinds c)) (equals_one (BeltOn c) (belt_kinds c)) (shapes_kept w c h)
@@ -71,8 +73,8 @@ module _ (w : Solved) (c : Cell) (h : IsInside w.r.rect c) where
   pub half_there : Says w (HalfOn c) → (half : Half) × (dir : Dir) × Says w (holds c (shape.Half half) dir)
   half_there s =
       let found = one_in w.reading (half_kinds c) (halves_kept.0 (s, tt)) in
-      let half = in_flattened (λ x. map (holds c (shape.Half x)) dirs) found.0 halves found.1 in
-      let dir = in_mapped (holds c (shape.Half half.0)) found.0 dirs half.2 in
+      let half = from_flat (λ x. map (holds c (shape.Half x)) dirs) halves found.0 found.1 in
+      let dir = from_map (holds c (shape.Half half.0)) dirs found.0 half.2 in
       (half.0, dir.0, subst (λ f. Says w f) dir.2 found.2)
 
   pub mate_there : (half : Half) (dir : Dir) → Says w (holds c (shape.Half half) dir)
@@ -106,7 +108,7 @@ module _ (w : Solved) (c : Cell) (h : IsInside w.r.rect c) where
   owner_of dir says =
       let one = all_mapped (Keeps w.reading) (owner_rule (splitters_of w.r) c) dir dirs (all_left (Keeps w.reading) owners_at standings_at to_standings) (in_dirs dir) (says, tt) in
       let found = one_mapped w.reading (λ s. At s c dir) (splitters_of w.r) one in
-      (found.0, let lt = (range_has found.0 0 w.r.net.splitters found.1).1 in omega arith, found.2)
+      (found.0, let lt = (from_range 0 w.r.net.splitters found.0 found.1).1 in omega arith, found.2)
 
   -- ---- classes
 
@@ -124,23 +126,23 @@ module _ (w : Solved) (c : Cell) (h : IsInside w.r.rect c) where
   all_classes = classes_kept w c h
 
   -- what holds something has a class
-  pub class_there : (of : Shape) (dir : Dir) → Says w (holds c of dir) → (k : Class) × In k (classes_of w.r) × Says w (Carries c k)
+  pub class_there : (of : Shape) (dir : Dir) → Says w (holds c of dir) → (k : Class) × In (classes_of w.r) k × Says w (Carries c k)
   unfolding carried_at
   class_there of dir s =
       ⊎_elim (λ e. absurd (not_empty of dir s e)) (λ one. one_mapped w.reading (Carries c) (classes_of w.r) one) (all_classes.0 tt)
 
   -- and one alone
-  pub one_class : (k l : Class) → In k (classes_of w.r) → In l (classes_of w.r) → Says w (Carries c k) → Says w (Carries c l) → k ≡ l
+  pub one_class : (k l : Class) → In (classes_of w.r) k → In (classes_of w.r) l → Says w (Carries c k) → Says w (Carries c l) → k ≡ l
   unfolding carried_at
   one_class k l k_in l_in s t =
       let same : Carries c k ≡ Carries c l = one_holds w.reading (Carries c k) (Carries c l) (map (Carries c) (classes_of w.r))
       (all_left (Keeps w.reading) (at_most_one carried_at) none_empty
       (all_left (Keeps w.reading) (at_most_one carried_at ++ none_empty) none_half all_classes.1))
-      (in_map (Carries c) k (classes_of w.r) k_in) (in_map (Carries c) l (classes_of w.r) l_in) s t in
+      (in_map (Carries c) (classes_of w.r) k k_in) (in_map (Carries c) (classes_of w.r) l l_in) s t in
       cc
 
   -- a half has no class of inputs
-  pub half_no_input : (k : Class) → In k (input_classes w.r) → Says w (HalfOn c) → Says w (Carries c k) → ⊥
+  pub half_no_input : (k : Class) → In (input_classes w.r) k → Says w (HalfOn c) → Says w (Carries c k) → ⊥
   unfolding none_half
   half_no_input k k_in s t = all_mapped (Keeps w.reading) (λ x. not_all (HalfOn c ∷ Carries c x ∷ [])) k (input_classes w.r)
       (all_right (Keeps w.reading) (at_most_one carried_at ++ none_empty) none_half all_classes.1) k_in (s, (t, tt))
@@ -156,30 +158,30 @@ module _ (w : Solved) (c : Cell) (h : IsInside w.r.rect c) where
   unfolding names_at
   named_by s lt on says =
       let one = all_mapped (Keeps w.reading) (name_rule w.r.rect c) s (splitters_of w.r)
-      (all_right (Keeps w.reading) (owners_at ++ standings_at) names_at to_names) (in_range s 0 w.r.net.splitters (omega arith) (omega arith)) (on, (says, tt)) in
+      (all_right (Keeps w.reading) (owners_at ++ standings_at) names_at to_names) (in_range 0 w.r.net.splitters s (omega arith) (omega arith)) (on, (says, tt)) in
       let found = one_in w.reading (flat_map (stands_on w.r.rect s c) dirs) one in
-      let dir = in_flattened (stands_on w.r.rect s c) found.0 dirs found.1 in
+      let dir = from_flat (stands_on w.r.rect s c) dirs found.0 found.1 in
       (dir.0, by dir.0 found.0 found.2 dir.2)
     where
-      inside_at : (d : Dir) (fact : Fact) → Says w fact → In fact (where_inside w.r.rect (before d c) (At s (before d c) d ∷ []))
+      inside_at : (d : Dir) (fact : Fact) → Says w fact → In (where_inside w.r.rect (before d c) (At s (before d c) d ∷ [])) fact
           → IsInside w.r.rect (before d c) × Says w (At s (before d c) d)
       inside_at d fact t there = let got = one_inside w (before d c) (At s (before d c) d ∷ []) (one_from w.reading fact _ there t) in
           (got.0, ⊎_elim (λ e. e) (λ none. absurd none) got.1)
 
-      by : (d : Dir) (fact : Fact) → Says w fact → In fact (stands_on w.r.rect s c d)
+      by : (d : Dir) (fact : Fact) → Says w fact → In (stands_on w.r.rect s c d) fact
           → Says w (At s c d) ⊎ (IsInside w.r.rect (before d c) × Says w (At s (before d c) d))
       by d fact t (inl e) = inl (subst (λ f. Says w f) e t)
       by d fact t (inr more) = inr (inside_at d fact t more)
 
   -- what a splitter that stands here says
   at_fact : (s : ℕ) (dir : Dir) (fact : Fact) → s < w.r.net.splitters → Says w (At s c dir)
-      → In fact (holds c (shape.Half Lesser) dir ∷ Carries c (Split s) ∷ Column s (unsigned_abs c.x) ∷ Row s (unsigned_abs c.y) ∷ Points s dir
-      ∷ where_inside w.r.rect (mate Lesser dir c) (Carries (mate Lesser dir c) (Split s) ∷ [])) → Says w fact
+      → In (holds c (shape.Half Lesser) dir ∷ Carries c (Split s) ∷ Column s (unsigned_abs c.x) ∷ Row s (unsigned_abs c.y) ∷ Points s dir
+      ∷ where_inside w.r.rect (mate Lesser dir c) (Carries (mate Lesser dir c) (Split s) ∷ [])) fact → Says w fact
   unfolding standings_at
   at_fact s dir fact lt says there =
       let rules = all_flat (Keeps w.reading) (at_rules w.r.rect s c) dir dirs
       (all_flat (Keeps w.reading) (λ t. flat_map (at_rules w.r.rect t c) dirs) s (splitters_of w.r)
-      (all_right (Keeps w.reading) owners_at standings_at to_standings) (in_range s 0 w.r.net.splitters (omega arith) (omega arith))) (in_dirs dir) in
+      (all_right (Keeps w.reading) owners_at standings_at to_standings) (in_range 0 w.r.net.splitters s (omega arith) (omega arith))) (in_dirs dir) in
       ⊎_elim (λ e. e) (λ none. absurd none)
       (all_mapped (Keeps w.reading) (λ f. rule (At s c dir ∷ []) (f ∷ [])) fact
       (holds c (shape.Half Lesser) dir ∷ Carries c (Split s) ∷ Column s (unsigned_abs c.x) ∷ Row s (unsigned_abs c.y) ∷ Points s dir
@@ -202,7 +204,7 @@ module _ (w : Solved) (c : Cell) (h : IsInside w.r.rect c) where
 
   pub at_mate : (s : ℕ) (dir : Dir) → s < w.r.net.splitters → IsInside w.r.rect (mate Lesser dir c) → Says w (At s c dir) → Says w (Carries (mate Lesser dir c) (Split s))
   at_mate s dir lt i says = at_fact s dir _ lt says (inr (inr (inr (inr (inr
-      (subst (λ facts. In (Carries (mate Lesser dir c) (Split s)) facts) (sym (where_in w.r.rect (mate Lesser dir c) (Carries (mate Lesser dir c) (Split s) ∷ []) i)) (inl refl)))))))
+      (subst (λ facts. In facts (Carries (mate Lesser dir c) (Split s))) (sym (where_in w.r.rect (mate Lesser dir c) (Carries (mate Lesser dir c) (Split s) ∷ []) i)) (inl refl)))))))
 
 -- ---- the place of a splitter
 
@@ -210,9 +212,9 @@ module _ (w : Solved) (s : ℕ) (lt : s < w.r.net.splitters) where
   pub stands_somewhere : (c : Cell) × IsInside w.r.rect c × ((dir : Dir) × Says w (At s c dir))
   stands_somewhere =
       let found = one_in w.reading (stands_at w.r.rect s) ((place_kept w s lt).0 tt) in
-      let c = in_flattened (λ x. map (At s x) dirs) found.0 (cells_of w.r.rect) found.1 in
-      let dir = in_mapped (At s c.0) found.0 dirs c.2 in
-      (c.0, cells_inside w.r.rect c.0 c.1, (dir.0, subst (λ f. Says w f) dir.2 found.2))
+      let c = from_flat (λ x. map (At s x) dirs) (cells_of w.r.rect) found.0 found.1 in
+      let dir = from_map (At s c.0) dirs found.0 c.2 in
+      (c.0, from_cells w.r.rect c.0 c.1, (dir.0, subst (λ f. Says w f) dir.2 found.2))
 
   columns : List Rule
   columns = at_most_one (map (Column s) (range_with_len 0 w.r.rect.width))
@@ -235,8 +237,8 @@ module _ (w : Solved) (s : ℕ) (lt : s < w.r.net.splitters) where
   one_column x y h k a b =
       let same : Column s x ≡ Column s y = one_holds w.reading (Column s x) (Column s y) (map (Column s) (range_with_len 0 w.r.rect.width))
       (all_left (Keeps w.reading) columns rows to_rows)
-      (in_map (Column s) x (range_with_len 0 w.r.rect.width) (in_range x 0 w.r.rect.width (omega arith) (omega arith)))
-      (in_map (Column s) y (range_with_len 0 w.r.rect.width) (in_range y 0 w.r.rect.width (omega arith) (omega arith))) a b in
+      (in_map (Column s) (range_with_len 0 w.r.rect.width) x (in_range 0 w.r.rect.width x (omega arith) (omega arith)))
+      (in_map (Column s) (range_with_len 0 w.r.rect.width) y (in_range 0 w.r.rect.width y (omega arith) (omega arith))) a b in
       cc
 
   one_row : (x y : ℕ) → x < w.r.rect.height → y < w.r.rect.height → Says w (Row s x) → Says w (Row s y) → x ≡ y
@@ -244,8 +246,8 @@ module _ (w : Solved) (s : ℕ) (lt : s < w.r.net.splitters) where
   one_row x y h k a b =
       let same : Row s x ≡ Row s y = one_holds w.reading (Row s x) (Row s y) (map (Row s) (range_with_len 0 w.r.rect.height))
       (all_right (Keeps w.reading) columns rows to_rows)
-      (in_map (Row s) x (range_with_len 0 w.r.rect.height) (in_range x 0 w.r.rect.height (omega arith) (omega arith)))
-      (in_map (Row s) y (range_with_len 0 w.r.rect.height) (in_range y 0 w.r.rect.height (omega arith) (omega arith))) a b in
+      (in_map (Row s) (range_with_len 0 w.r.rect.height) x (in_range 0 w.r.rect.height x (omega arith) (omega arith)))
+      (in_map (Row s) (range_with_len 0 w.r.rect.height) y (in_range 0 w.r.rect.height y (omega arith) (omega arith))) a b in
       cc
 
   one_way : (d e : Dir) → Says w (Points s d) → Says w (Points s e) → d ≡ e
@@ -253,7 +255,7 @@ module _ (w : Solved) (s : ℕ) (lt : s < w.r.net.splitters) where
   one_way d e a b =
       let same : Points s d ≡ Points s e = one_holds w.reading (Points s d) (Points s e) (map (Points s) dirs)
       (all_right (Keeps w.reading) (columns ++ rows) ways places)
-      (in_map (Points s) d dirs (in_dirs d)) (in_map (Points s) e dirs (in_dirs e)) a b in
+      (in_map (Points s) dirs d (in_dirs d)) (in_map (Points s) dirs e (in_dirs e)) a b in
       cc
 
   pub one_place : (a b : Cell) (d e : Dir) → IsInside w.r.rect a → IsInside w.r.rect b → Says w (At s a d) → Says w (At s b e)

@@ -19,7 +19,7 @@ use Rattle.bt_rules.specs.declared.fact.Class.TheVariants.{Split, Shared, Input}
 use Rattle.bt_rules.specs.declared.fact.Fact.TheVariants.{Carries}
 use Rattle.bt_rules.specs.Classes.{class_of, input_classes}
 use Rattle.bt_rules.specs.Kept.{IsKeptPart}
-use Rattle.bt_rules.proofs.kept.Readings.{In}
+use Rattle.bt_rules.proofs.Keeping.{In}
 use Rattle.bt_rules.proofs.kept.ListFacts.{element_at}
 use Rattle.bt_rules.proofs.kept.NetFacts.{IsEdge, same_edge, edge_starts, input_by, class_suits, class_of_split, class_through, input_no_split, class_in, through_here, out_edge}
 use Rattle.bt_rules.proofs.kept.Solved.{Solved, Says}
@@ -152,7 +152,7 @@ module _ (w : Solved) (parts : List Part) (lists : ListsEach (IsKeptPart w.r w.r
   begun_edge : (c : Chain) (k j : ℕ) (x : Cell) → IsChain parts c → c.sink ≡ ends k → c.source ≡ begins j x → (cl : Classed w parts lists c)
       → (e : ℕ) (edge : Edge) → IsEdge w e edge → (class : Class) → cl.class ≡ class → class_of w.r.pins edge ≡ class → (o : ℕ) → edge.target ≡ to.Output o → IsChainOf e c
   begun_edge c k j x chain sink source cl e edge is (Split s) own same o targets =
-      absurd (input_no_split w s (subst (λ z. In z (input_classes w.r)) own (begun_has c j x cl source).2))
+      absurd (input_no_split w s (subst (λ z. In (input_classes w.r) z) own (begun_has c j x cl source).2))
   begun_edge c k j x chain sink source cl e edge is (Shared t) own same o targets =
       let suits = class_suits w.r.pins edge (Shared t) same in
       absurd (let clash = sym suits.1 ∙ targets in cc)

@@ -13,7 +13,8 @@ use Rattle.bt_rules.specs.declared.fact.Half.TheVariants.{Lesser, Greater}
 use Rattle.bt_rules.specs.Spots.{other_half, half_at}
 use Rattle.bt_rules.specs.Kept.{IsKeptPart}
 use Rattle.bt_rules.proofs.kept.RankFacts.{rank, rank_at, rank_one, rank_few, at_rank}
-use Rattle.bt_rules.proofs.kept.NetFacts.{IsEdge, same_edge, leaves_start, class_of_split}
+use Rattle.bt_rules.proofs.Classed.{leaves_start}
+use Rattle.bt_rules.proofs.kept.NetFacts.{IsEdge, same_edge, class_of_split}
 use Rattle.bt_rules.proofs.kept.Solved.{Solved, Says}
 use Rattle.bt_rules.proofs.kept.SplitFacts.{IsSplitterOf, half_spot, half_cases, other_other}
 use Rattle.bt_rules.proofs.kept.ClassFacts.{classed}

@@ -21,7 +21,7 @@ use Rattle.bt_rules.specs.declared.fact.Shape.TheVariants as shape
 use Rattle.bt_rules.specs.Classes.{classes_of, input_classes, splitters_of}
 use Rattle.bt_rules.specs.Contents.{holds}
 use Rattle.bt_rules.specs.Kept.{IsKeptPart}
-use Rattle.bt_rules.proofs.kept.Readings.{In, in_right}
+use Rattle.bt_rules.proofs.Keeping.{In, in_right}
 use Rattle.bt_rules.proofs.kept.Solved.{Solved, Says}
 use Rattle.bt_rules.proofs.kept.CellFacts.{split_in, half_there}
 use Rattle.bt_rules.proofs.kept.GoingFacts.{going_inside, begun_class}
@@ -53,7 +53,7 @@ module _ (w : Solved) (parts : List Part) (lists : ListsEach (IsKeptPart w.r w.r
   pub orderly : IsOrderly parts
   orderly = orderly_of parts (clean w parts lists)
 
-  module _ (k : Class) (k_in : In k (classes_of w.r)) where
+  module _ (k : Class) (k_in : In (classes_of w.r) k) where
     -- the class goes on from a link to the next
     class_step : (i j : ℕ) (a : Cell) → IsLink parts i → IsLink parts j → Hands parts i j → IsAt parts i a → Says w (Carries a k)
         → (b : Cell) × IsAt parts j b × Says w (Carries b k)
@@ -91,13 +91,13 @@ module _ (w : Solved) (parts : List Part) (lists : ListsEach (IsKeptPart w.r w.r
 
   -- the class with which a chain starts
   abbrev pub SourceHas : Class → Source → Type 0
-  SourceHas k (begins i c) = IsInput parts i × IsAt parts i c × In k (input_classes w.r) × Says w (Carries c k) × Says w (Begins c)
+  SourceHas k (begins i c) = IsInput parts i × IsAt parts i c × In (input_classes w.r) k × Says w (Carries c k) × Says w (Begins c)
   SourceHas k (leaves s c) = (m : ℕ) × IsSplitterOf w parts lists m s × (k ≡ Split m)
 
   -- the class of a chain
   pub record Classed (chain : Chain) : Type 0 where
     pub class : Class
-    pub listed : In class (classes_of w.r)
+    pub listed : In (classes_of w.r) class
     pub source : SourceHas class chain.source
     pub at_last : (h : IsLongest parts chain) (c : Cell) → IsAt parts h.last c → Says w (Carries c class)
     pub at_half : (h : IsEmptyChain parts chain) → Says w (Carries h.half class)
@@ -105,7 +105,7 @@ module _ (w : Solved) (parts : List Part) (lists : ListsEach (IsKeptPart w.r w.r
   -- the class on the first part of a chain
   record Begun (source : Source) (first : ℕ) : Type 0 where
     pub class : Class
-    pub listed : In class (classes_of w.r)
+    pub listed : In (classes_of w.r) class
     pub source_has : SourceHas class source
     pub cell : Cell
     pub at : IsAt parts first cell
@@ -123,7 +123,7 @@ module _ (w : Solved) (parts : List Part) (lists : ListsEach (IsKeptPart w.r w.r
       let carries = subst (λ x. Says w (Carries x found.0)) cells found.2 in
       record {
         class = found.0;
-        listed = in_right found.0 (map Split (splitters_of w.r)) (input_classes w.r) found.1;
+        listed = in_right (map Split (splitters_of w.r)) (input_classes w.r) found.0 found.1;
         source_has = (input, starts.2, found.1, carries, begun);
         cell = c;
         at = subst (λ x. IsAt parts x c) (sym starts.0) starts.2;

@@ -17,7 +17,7 @@ use Rattle.bt_rules.specs.Contents.{holds}
 use Rattle.bt_rules.specs.Going.{runners}
 use Rattle.bt_rules.specs.Spots.{behind}
 use Rattle.bt_rules.specs.Kept.{kind_of, IsKeptPart}
-use Rattle.bt_rules.proofs.kept.Readings.{In}
+use Rattle.bt_rules.proofs.Keeping.{In}
 use Rattle.bt_rules.proofs.kept.ListFacts.{contains_in, all_from}
 use Rattle.bt_rules.proofs.kept.Solved.{Solved, Says, block_kept}
 use Rattle.bt_rules.proofs.kept.CellFacts.{one_dir, not_empty}
@@ -33,7 +33,7 @@ end_shape : (of : Shape) (part : Part) → part.kind ≡ kind_of of → (part.ki
 end_shape of part is (inl k) = (λ half e. let a = ap kind_of e in cc, λ e. let a = ap kind_of e in cc)
 end_shape of part is (inr k) = (λ half e. let a = ap kind_of e in cc, λ e. let a = ap kind_of e in cc)
 
-runner_shape : (of : Shape) → (kind_of of ≡ kind.Belt) ⊎ (kind_of of ≡ kind.Exit) → In of runners
+runner_shape : (of : Shape) → (kind_of of ≡ kind.Belt) ⊎ (kind_of of ≡ kind.Exit) → In runners of
 runner_shape shape.Belt k = inl refl
 runner_shape shape.Entrance (inl k) = absurd (cc)
 runner_shape shape.Entrance (inr k) = absurd (cc)
@@ -64,7 +64,7 @@ module _ (w : Solved) (parts : List Part) (lists : ListsEach (IsKeptPart w.r w.r
 
   -- an output faces the outside, with a belt or an exit
   pub output_faces : (i : ℕ) (part : Part) → HasPart parts i part → IsOutput parts i
-      → (of : Shape) × In of runners × Says w (holds part.cell of part.dir) × (IsInside w.r.rect (step part.dir part.cell) → ⊥)
+      → (of : Shape) × In runners of × Says w (holds part.cell of part.dir) × (IsInside w.r.rect (step part.dir part.cell) → ⊥)
   output_faces i part is_i output =
       let kept = kept_part w parts lists i part is_i in
       let same = same_part parts i output.part part output.is_i is_i in

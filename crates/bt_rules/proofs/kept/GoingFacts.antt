@@ -16,8 +16,10 @@ use Rattle.bt_rules.specs.Contents.{holds}
 use Rattle.bt_rules.specs.Going.{runners, givers, takers, inner_rules, going_rules, goes_into, fed_belt, fed_entrance, begins_there, starters, begin_rules, once_rules}
 use Rattle.bt_rules.specs.Rules.{Rule, rule, not_all, at_most_one, Keeps}
 use Rattle.bt_rules.specs.Spots.{dirs, halves, sides_of, behind, where_outside}
-use Rattle.bt_rules.proofs.kept.Readings.{In, in_append, in_flat, in_flattened, in_mapped, all_left, all_right, all_mapped, all_flat, one_in, one_from, one_mapped, one_holds}
-use Rattle.bt_rules.proofs.kept.Geometry.{in_dirs, in_halves, inside_cases, inside_true, inside_false, where_in}
+use Rattle.bt_rules.proofs.Geometry.{in_dirs, in_halves}
+use Rattle.bt_rules.proofs.Keeping.{In, from_flat, from_map, in_both, in_flat}
+use Rattle.bt_rules.proofs.kept.Readings.{all_left, all_right, all_mapped, all_flat, one_in, one_from, one_mapped, one_holds}
+use Rattle.bt_rules.proofs.kept.Geometry.{in_or_out, inside_true, inside_false, where_in}
 use Rattle.bt_rules.proofs.kept.Solved.{Solved, Says, Kept, one_inside, one_outside, handing_kept}
 use Rattle.bt_rules.proofs.kept.CellFacts.{belt_there}
 
@@ -64,10 +66,10 @@ module _ (w : Solved) (c : Cell) (h : IsInside w.r.rect c) where
   outside_still dir o d = (outer_kept dir o).0 (d, tt)
 
   pub going_inside : (dir : Dir) → Says w (Goes c dir) → IsInside w.r.rect (step dir c)
-  going_inside dir d = ⊎_elim (λ i. i) (λ o. absurd (outside_still dir o d)) (inside_cases w.r.rect (step dir c))
+  going_inside dir d = ⊎_elim (λ i. i) (λ o. absurd (outside_still dir o d)) (in_or_out w.r.rect (step dir c))
 
   -- what hands on
-  pub giver_there : (dir : Dir) → Says w (Goes c dir) → (of : Shape) × In of givers × Says w (holds c of dir)
+  pub giver_there : (dir : Dir) → Says w (Goes c dir) → (of : Shape) × In givers of × Says w (holds c of dir)
   giver_there dir d = one_mapped w.reading (λ of. holds c of dir) givers ((inner_kept dir (going_inside dir d)).0 (d, tt))
 
   -- what takes
@@ -80,7 +82,7 @@ module _ (w : Solved) (c : Cell) (h : IsInside w.r.rect c) where
       there : Cell
       there = step dir c
 
-      by : (fact : Fact) → Says w fact → In fact (takers (step dir c) dir)
+      by : (fact : Fact) → Says w fact → In (takers (step dir c) dir) fact
           → (of : Shape) × (turned : Dir) × Takes dir of turned × Says w (holds (step dir c) of turned)
       by fact s (inl e) =
           let belt = belt_there w (step dir c) (going_inside dir d) (subst (λ f. Says w f) e s) in (
@@ -91,7 +93,7 @@ module _ (w : Solved) (c : Cell) (h : IsInside w.r.rect c) where
           )
       by fact s (inr (inl e)) = (shape.Entrance, dir, by_entrance, subst (λ f. Says w f) e s)
       by fact s (inr (inr more)) =
-          let half = in_mapped (λ x. holds (step dir c) (shape.Half x) dir) fact halves more in
+          let half = from_map (λ x. holds (step dir c) (shape.Half x) dir) halves fact more in
           (shape.Half half.0, dir, by_half half.0, subst (λ f. Says w f) half.2 s)
 
   runners_at : Dir → List Rule
@@ -105,7 +107,7 @@ module _ (w : Solved) (c : Cell) (h : IsInside w.r.rect c) where
   on_kept dir i = (inner_kept dir i).1.1.1
 
   -- a belt or an exit hands on to the inside
-  pub runner_goes : (of : Shape) (dir : Dir) → In of runners → IsInside w.r.rect (step dir c) → Says w (holds c of dir) → Says w (Goes c dir)
+  pub runner_goes : (of : Shape) (dir : Dir) → In runners of → IsInside w.r.rect (step dir c) → Says w (holds c of dir) → Says w (Goes c dir)
   unfolding runners_at
   runner_goes of dir runs i s =
       ⊎_elim (λ e. e) (λ none. absurd none)
@@ -140,11 +142,11 @@ module _ (w : Solved) (c : Cell) (h : IsInside w.r.rect c) where
   unfolding ins_at
   in_kept = all_right (Keeps w.reading) outs_at ins_at once_kept
 
-  in_comings : (dir : Dir) → IsInside w.r.rect (behind dir c) → In (Goes (behind dir c) dir) comings
+  in_comings : (dir : Dir) → IsInside w.r.rect (behind dir c) → In comings (Goes (behind dir c) dir)
   unfolding comings
   in_comings dir i =
-      in_flat (goes_into w.r.rect c) dir (Goes (behind dir c) dir) dirs (in_dirs dir)
-      (subst (λ facts. In (Goes (behind dir c) dir) facts) (sym (where_in w.r.rect (behind dir c) (Goes (behind dir c) dir ∷ []) i)) (inl refl))
+      in_flat (goes_into w.r.rect c) dirs dir (Goes (behind dir c) dir) (in_dirs dir)
+      (subst (λ facts. In facts (Goes (behind dir c) dir)) (sym (where_in w.r.rect (behind dir c) (Goes (behind dir c) dir ∷ []) i)) (inl refl))
 
   -- something comes in from one direction at most
   pub one_into : (d e : Dir) → IsInside w.r.rect (behind d c) → IsInside w.r.rect (behind e c) → Says w (Goes (behind d c) d)
@@ -168,7 +170,7 @@ module _ (w : Solved) (c : Cell) (h : IsInside w.r.rect c) where
   begins_kept = all_right (Keeps w.reading) (goings_at ++ belts_at ++ entrances_at) (begin_rules w.r c) to_begins
 
   -- with the class of an edge from an input
-  pub begun_class : Says w (Begins c) → (k : Class) × In k (input_classes w.r) × Says w (Carries c k)
+  pub begun_class : Says w (Begins c) → (k : Class) × In (input_classes w.r) k × Says w (Carries c k)
   begun_class s = one_mapped w.reading (Carries c) (input_classes w.r) (begins_kept.1.0 (s, tt))
 
   -- an input begins with a belt or an entrance behind which the rectangle ends
@@ -176,11 +178,11 @@ module _ (w : Solved) (c : Cell) (h : IsInside w.r.rect c) where
       → (dir : Dir) × (IsInside w.r.rect (behind dir c) → ⊥) × (Says w (holds c shape.Belt dir) ⊎ Says w (holds c shape.Entrance dir))
   begun_there s =
       let found = one_in w.reading (starters w.r.rect c) (begins_kept.0 (s, tt)) in
-      let dir = in_flattened (λ d. where_outside w.r.rect (behind d c) (holds c shape.Belt d ∷ holds c shape.Entrance d ∷ [])) found.0 dirs found.1 in
+      let dir = from_flat (λ d. where_outside w.r.rect (behind d c) (holds c shape.Belt d ∷ holds c shape.Entrance d ∷ [])) dirs found.0 found.1 in
       (let got = by dir.0 found.0 found.2 dir.2 in (dir.0, got.0, got.1))
     where
       by : (d : Dir) (fact : Fact) → Says w fact
-          → In fact (where_outside w.r.rect (behind d c) (holds c shape.Belt d ∷ holds c shape.Entrance d ∷ []))
+          → In (where_outside w.r.rect (behind d c) (holds c shape.Belt d ∷ holds c shape.Entrance d ∷ [])) fact
           → (IsInside w.r.rect (behind d c) → ⊥) × (Says w (holds c shape.Belt d) ⊎ Says w (holds c shape.Entrance d))
       by d fact t i =
           let got = one_outside w (behind d c) (holds c shape.Belt d ∷ holds c shape.Entrance d ∷ []) (one_from w.reading fact _ i t) in
@@ -192,12 +194,12 @@ module _ (w : Solved) (c : Cell) (h : IsInside w.r.rect c) where
   abbrev pub Fed : Dir → Type 0
   Fed dir = IsInside w.r.rect (behind dir c) × Says w (Goes (behind dir c) dir)
 
-  fed_by : (dir : Dir) (fact : Fact) → Says w fact → In fact (goes_into w.r.rect c dir) → Fed dir
+  fed_by : (dir : Dir) (fact : Fact) → Says w fact → In (goes_into w.r.rect c dir) fact → Fed dir
   fed_by dir fact s there =
       let got = one_inside w (behind dir c) (Goes (behind dir c) dir ∷ []) (one_from w.reading fact _ there s) in
       (got.0, ⊎_elim (λ e. e) (λ none. absurd none) got.1)
 
-  begins_by : (dir : Dir) (fact : Fact) → Says w fact → In fact (begins_there w.r.rect c dir) → Says w (Begins c)
+  begins_by : (dir : Dir) (fact : Fact) → Says w fact → In (begins_there w.r.rect c dir) fact → Says w (Begins c)
   begins_by dir fact s there =
       let got = one_outside w (behind dir c) (Begins c ∷ []) (one_from w.reading fact _ there s) in
       ⊎_elim (λ e. e) (λ none. absurd none) got.1
@@ -211,10 +213,10 @@ module _ (w : Solved) (c : Cell) (h : IsInside w.r.rect c) where
       let found = one_in w.reading (goes_into w.r.rect c dir ++ flat_map (goes_into w.r.rect c) (sides_of dir) ++ begins_there w.r.rect c dir) (kept (s, tt)) in
       ⊎_elim
       (λ more. ⊎_elim (λ own. inr (dir, fed_by dir found.0 found.2 own))
-      (λ side. let way = in_flattened (goes_into w.r.rect c) found.0 (sides_of dir) side in inr (way.0, fed_by way.0 found.0 found.2 way.2))
-      (in_append found.0 (goes_into w.r.rect c dir) (flat_map (goes_into w.r.rect c) (sides_of dir)) more))
+      (λ side. let way = from_flat (goes_into w.r.rect c) (sides_of dir) found.0 side in inr (way.0, fed_by way.0 found.0 found.2 way.2))
+      (in_both (goes_into w.r.rect c dir) (flat_map (goes_into w.r.rect c) (sides_of dir)) found.0 more))
       (λ begins. inl (begins_by dir found.0 found.2 begins))
-      (in_append found.0 (goes_into w.r.rect c dir ++ flat_map (goes_into w.r.rect c) (sides_of dir)) (begins_there w.r.rect c dir) found.1)
+      (in_both (goes_into w.r.rect c dir ++ flat_map (goes_into w.r.rect c) (sides_of dir)) (begins_there w.r.rect c dir) found.0 found.1)
 
   -- and so is an entrance
   pub entrance_fed : (dir : Dir) → Says w (holds c shape.Entrance dir) → Says w (Begins c) ⊎ ((way : Dir) × Fed way)
@@ -224,4 +226,4 @@ module _ (w : Solved) (c : Cell) (h : IsInside w.r.rect c) where
       (all_left (Keeps w.reading) (goings_at ++ belts_at ++ entrances_at) (begin_rules w.r c) to_begins)) (in_dirs dir) in
       let found = one_in w.reading (goes_into w.r.rect c dir ++ begins_there w.r.rect c dir) (kept (s, tt)) in
       ⊎_elim (λ own. inr (dir, fed_by dir found.0 found.2 own)) (λ begins. inl (begins_by dir found.0 found.2 begins))
-      (in_append found.0 (goes_into w.r.rect c dir) (begins_there w.r.rect c dir) found.1)
+      (in_both (goes_into w.r.rect c dir) (begins_there w.r.rect c dir) found.0 found.1)

@@ -6,7 +6,6 @@ use Rattle.bt_parts.specs.declared.part.Dir.{Dir}
 use Rattle.bt_parts.specs.declared.part.Dir.TheVariants.{North, East, South, West}
 use Rattle.bt_parts.specs.declared.part.Kind.TheVariants as kind
 use Rattle.bt_parts.specs.declared.part.Part.{Part}
-use Rattle.bt_parts.specs.declared.part.Rect.{Rect}
 use Rattle.bt_parts.specs.declared.part.Side.{Side}
 use Rattle.bt_parts.specs.declared.part.Side.TheVariants.{Behind, Across, Ahead}
 use Rattle.bt_parts.specs.Cells.{step, steps, opposite, Covers, IsInside}
@@ -29,8 +28,10 @@ use Rattle.bt_rules.specs.Going.{runners, givers}
 use Rattle.bt_rules.specs.Underground.{most_distance}
 use Rattle.bt_rules.specs.Spots.{behind}
 use Rattle.bt_rules.specs.Kept.{kind_of, handed, under, IsKeptPart}
-use Rattle.bt_rules.proofs.kept.Readings.{In}
-use Rattle.bt_rules.proofs.kept.Geometry.{dir_cases, no_opposite, behind-step}
+use Rattle.bt_rules.proofs.Deciding.{same_dir}
+use Rattle.bt_rules.proofs.Geometry.{inside_between, behind_step}
+use Rattle.bt_rules.proofs.Keeping.{In}
+use Rattle.bt_rules.proofs.kept.Geometry.{no_opposite}
 use Rattle.bt_rules.proofs.kept.Solved.{Solved, Says}
 use Rattle.bt_rules.proofs.kept.CellFacts.{not_empty}
 use Rattle.bt_rules.proofs.kept.GoingFacts.{Takes, by_belt, by_entrance, by_half, going_inside, giver_there, taker_there, runner_goes, half_goes, one_into}
@@ -42,7 +43,7 @@ use Rattle.bt_rules.proofs.kept.PartFacts.{home, part_on, part_there, standing, 
 
 -- what hands on is a belt, an exit or a half
 pub data HandsOn : Shape → Type 0 where
-  by_runner : (of : Shape) → In of runners → HandsOn of
+  by_runner : (of : Shape) → In runners of → HandsOn of
   by_side : (half : Half) → HandsOn (shape.Half half)
 
 hands_on : (of : Shape) → kind_of of ≢ kind.Entrance → HandsOn of
@@ -51,7 +52,7 @@ hands_on shape.Entrance other = absurd (other refl)
 hands_on shape.Exit other = by_runner shape.Exit (inr (inl refl))
 hands_on (shape.Half half) other = by_side half
 
-pub giver_no_entrance : (of : Shape) → In of givers → kind_of of ≢ kind.Entrance
+pub giver_no_entrance : (of : Shape) → In givers of → kind_of of ≢ kind.Entrance
 giver_no_entrance of (inl e) k = let a = ap kind_of e in cc
 giver_no_entrance of (inr (inl e)) k = let a = ap kind_of e in cc
 giver_no_entrance of (inr (inr (inl e))) k = let a = ap kind_of e in cc
@@ -97,12 +98,6 @@ steps_more North n m c e = ap (λ y. record { x = c.x; y = y }) (omega (arith, i
 steps_more East n m c e = ap (λ x. record { x = x; y = c.y }) (omega (arith, ints))
 steps_more South n m c e = ap (λ y. record { x = c.x; y = y }) (omega (arith, ints))
 steps_more West n m c e = ap (λ x. record { x = x; y = c.y }) (omega (arith, ints))
-
-pub between_inside : (rect : Rect) (dir : Dir) (d k : ℕ) (c : Cell) → IsInside rect c → IsInside rect (steps k dir c) → d ≤ k → IsInside rect (steps d dir c)
-between_inside rect North d k c h i le = (omega (arith, ints, h.0), omega (arith, ints, h.1), omega (arith, ints, i.2), omega (arith, ints, h.3))
-between_inside rect East d k c h i le = (omega (arith, ints, h.0), omega (arith, ints, i.1), omega (arith, ints, h.2), omega (arith, ints, h.3))
-between_inside rect South d k c h i le = (omega (arith, ints, h.0), omega (arith, ints, h.1), omega (arith, ints, h.2), omega (arith, ints, i.3))
-between_inside rect West d k c h i le = (omega (arith, ints, i.0), omega (arith, ints, h.1), omega (arith, ints, h.2), omega (arith, ints, h.3))
 
 -- ---- handing from cell to cell
 
@@ -187,7 +182,7 @@ module _ (w : Solved) (parts : List Part) (lists : ListsEach (IsKeptPart w.r w.r
       by of above is_p taker turned is_q (by_belt way apart) =
           ⊎_elim (λ e. given of above is_p shape.Belt way is_q Behind e (λ s. cc))
           (λ other. given of above is_p shape.Belt way is_q Across (other, never_ahead dir way apart) (λ s. cc))
-          (dir_cases dir way)
+          (same_dir dir way)
       by of above is_p taker turned is_q by_entrance = given of above is_p shape.Entrance dir is_q Behind refl refl
       by of above is_p taker turned is_q (by_half half) = given of above is_p (shape.Half half) dir is_q Behind refl refl
 
@@ -239,8 +234,8 @@ module _ (w : Solved) (parts : List Part) (lists : ListsEach (IsKeptPart w.r w.r
   pub one_near : (c : Cell) (a b : Cell) (d e : Dir) → IsInside w.r.rect c → Reached w a → Reached w b → Says w (Goes a d) → Says w (Goes b e)
       → step d a ≡ c → step e b ≡ c → (a ≡ b) × (d ≡ e)
   one_near c a b d e inside reached_a reached_b goes_a goes_b to_a to_b =
-      let back_a : behind d c ≡ a = ap (behind d) (sym to_a) ∙ behind-step d a in
-      let back_b : behind e c ≡ b = ap (behind e) (sym to_b) ∙ behind-step e b in
+      let back_a : behind d c ≡ a = ap (behind d) (sym to_a) ∙ behind_step d a in
+      let back_b : behind e c ≡ b = ap (behind e) (sym to_b) ∙ behind_step e b in
       let dirs : d ≡ e = one_into w c inside d e (subst (IsInside w.r.rect) (sym back_a) (reached_inside w a reached_a))
       (subst (IsInside w.r.rect) (sym back_b) (reached_inside w b reached_b))
       (subst (λ x. Says w (Goes x d)) (sym back_a) goes_a) (subst (λ x. Says w (Goes x e)) (sym back_b) goes_b) in
@@ -301,7 +296,7 @@ module _ (w : Solved) (parts : List Part) (lists : ListsEach (IsKeptPart w.r w.r
         let at : IsAt parts x (steps d dir c) = record { part = part; is_i = is_x; covers = covers } in
         let here = standing w parts lists x (steps d dir c) at in
         let same : part ≡ part_on w here.of here.dir (steps d dir c) = same_part parts x part _ is_x here.is_i in
-        let near = between_inside w.r.rect dir (d - 1) k c inside there (omega arith) in
+        let near = inside_between w.r.rect dir (d - 1) k c inside there (omega arith) in
         let next : step dir (steps (d - 1) dir c) ≡ steps d dir c = steps_more dir (d - 1) d c (omega arith) in
         let passes = tunnel_passes w (steps (d - 1) dir c) near dir (subst (IsInside w.r.rect) (sym next) (reached_inside w _ here.reached)) (tunnel_at (d - 1) (omega arith)) in
         by here.of here.dir (subst (λ k. (k ≡ kind.Entrance) ⊎ (k ≡ kind.Exit)) (ap (λ z. z.kind) same) piece.0)

@@ -19,10 +19,11 @@ use Rattle.bt_rules.specs.declared.fact.Half.TheVariants.{Greater}
 use Rattle.bt_rules.specs.Classes.{class_of, classes_into}
 use Rattle.bt_rules.specs.Spots.{behind, half_at}
 use Rattle.bt_rules.specs.Kept.{IsKeptPart}
-use Rattle.bt_rules.proofs.kept.Geometry.{step-behind}
+use Rattle.bt_rules.proofs.Geometry.{step_behind}
 use Rattle.bt_rules.proofs.kept.ListFacts.{element_at}
 use Rattle.bt_rules.proofs.kept.RankFacts.{rank, rank_at, rank_one, rank_few, at_rank}
-use Rattle.bt_rules.proofs.kept.NetFacts.{IsEdge, edge_ends, enters_target, enters_by, class_in}
+use Rattle.bt_rules.proofs.Classed.{enters_target, target_enters}
+use Rattle.bt_rules.proofs.kept.NetFacts.{IsEdge, edge_ends, class_in}
 use Rattle.bt_rules.proofs.kept.Solved.{Solved, Says}
 use Rattle.bt_rules.proofs.kept.CellFacts.{one_class}
 use Rattle.bt_rules.proofs.kept.RingFacts.{link_cell}
@@ -52,7 +53,7 @@ module _ (w : Solved) (parts : List Part) (lists : ListsEach (IsKeptPart w.r w.r
   edge_taken : (e : ℕ) (edge : Edge) (t i : ℕ) → IsEdge w e edge → edge.target ≡ to.Split t → (n : IsSplitterOf w parts lists t i)
       → TakesIn w parts lists t i n (in_half t (in_rank t e)) × Says w (Carries (behind n.dir (half_at (in_half t (in_rank t e)) n.dir n.cell)) (class_of w.r.pins edge))
   edge_taken e edge t i is targets n =
-      let own = enters_by t edge targets in
+      let own = target_enters t edge targets in
       let near = (half_spot w parts lists t i n Greater).inside in
       let few = rank_few (enters_splitter t) w.r.net.edges e edge is own (w.is_request.net.wired.few_in t n.below) in
       let at = map_at (class_of w.r.pins) (filter (enters_splitter t) w.r.net.edges) (in_rank t e) edge (rank_at (enters_splitter t) w.r.net.edges e edge is own) in
@@ -120,7 +121,7 @@ module _ (w : Solved) (parts : List Part) (lists : ListsEach (IsKeptPart w.r w.r
           let stand = same_stand w parts lists t u a.index a.is m in
           let backs : behind m.dir (half_at g m.dir m.cell) ≡ behind m.dir (half_at h m.dir m.cell) =
           sym (ap (λ d. behind d (half_at g d a.is.cell)) stand.1 ∙ ap (λ z. behind m.dir (half_at g m.dir z)) stand.0) ∙ sym a.there ∙ hop_one c a.index a.hop hop ∙ there in
-          (stand.2, one_half m.dir m.cell g h (sym (step-behind m.dir (half_at g m.dir m.cell)) ∙ ap (step m.dir) backs ∙ step-behind m.dir (half_at h m.dir m.cell)))
+          (stand.2, one_half m.dir m.cell g h (sym (step_behind m.dir (half_at g m.dir m.cell)) ∙ ap (step m.dir) backs ∙ step_behind m.dir (half_at h m.dir m.cell)))
 
   -- so no two edges have one chain
   pub into_once : (d e : ℕ) (a b : Edge) (t u : ℕ) (c : Chain) → IsEdge w d a → IsEdge w e b → a.target ≡ to.Split t → b.target ≡ to.Split u
@@ -129,10 +130,10 @@ module _ (w : Solved) (parts : List Part) (lists : ListsEach (IsKeptPart w.r w.r
       let same = comes_once c t u (in_half t (in_rank t d)) (in_half u (in_rank u e)) x y in
       let own : b.target ≡ to.Split t = to_u ∙ ap (λ z. to.Split z) (sym same.0) in
       let halves : in_half t (in_rank t d) ≡ in_half t (in_rank t e) = same.1 ∙ ap (λ z. in_half z (in_rank z e)) (sym same.0) in
-      rank_one (enters_splitter t) w.r.net.edges d e a b is_a (enters_by t a to_t) is_b (enters_by t b own)
+      rank_one (enters_splitter t) w.r.net.edges d e a b is_a (target_enters t a to_t) is_b (target_enters t b own)
       (placed_one (half_by (w.reading (EntersLesser t))) (in_rank t d) (in_rank t e)
-      (rank_few (enters_splitter t) w.r.net.edges d a is_a (enters_by t a to_t) (w.is_request.net.wired.few_in t x.is.below))
-      (rank_few (enters_splitter t) w.r.net.edges e b is_b (enters_by t b own) (w.is_request.net.wired.few_in t x.is.below)) halves)
+      (rank_few (enters_splitter t) w.r.net.edges d a is_a (target_enters t a to_t) (w.is_request.net.wired.few_in t x.is.below))
+      (rank_few (enters_splitter t) w.r.net.edges e b is_b (target_enters t b own) (w.is_request.net.wired.few_in t x.is.below)) halves)
 
   -- where a chain ends, its class is on the last part
   pub ends_carry : (c : Chain) (i : ℕ) (x : Cell) → IsChain parts c → c.sink ≡ ends i → IsAt parts i x → (cl : Classed w parts lists c) → Says w (Carries x cl.class)

@@ -32,8 +32,9 @@ use Rattle.bt_rules.specs.Classes.{class_of, input_classes}
 use Rattle.bt_rules.specs.Contents.{holds}
 use Rattle.bt_rules.specs.Kept.{kind_of, IsKeptPart}
 use Rattle.bt_rules.specs.Pinning.{end_shapes}
-use Rattle.bt_rules.proofs.kept.Readings.{In}
-use Rattle.bt_rules.proofs.kept.ListFacts.{Listed, listed, lists_each, element_at, zipped, all_at, all_from, contains_in, contains_at}
+use Rattle.bt_rules.proofs.Deciding.{contains_at}
+use Rattle.bt_rules.proofs.Keeping.{In}
+use Rattle.bt_rules.proofs.kept.ListFacts.{Listed, listed, lists_each, element_at, zipped, all_at, all_from, contains_in}
 use Rattle.bt_rules.proofs.kept.NetFacts.{IsEdge, edge_below, same_edge, input_edge, output_edge, edge_starts, edge_ends, output_by, class_suits, class_of_split, class_pinned, class_through, input_no_split, class_in}
 use Rattle.bt_rules.proofs.kept.Solved.{Solved, Says}
 use Rattle.bt_rules.proofs.kept.CellFacts.{one_class}
@@ -81,7 +82,7 @@ module _ (w : Solved) (parts : List Part) (lists : ListsEach (IsKeptPart w.r w.r
           let clash : from.Input k ≡ from.Split m = sym starts ∙ suits in
           absurd (cc)
       by (from.Split s) (begins i x) starts has same =
-          absurd (input_no_split w s (subst (λ z. In z (input_classes w.r)) (same ∙ class_of_split w.r.pins edge s starts) has.2))
+          absurd (input_no_split w s (subst (λ z. In (input_classes w.r) z) (same ∙ class_of_split w.r.pins edge s starts) has.2))
       by (from.Split s) (leaves i x) starts (m, n, own) same =
           let classes : Split m ≡ Split s = sym own ∙ same ∙ class_of_split w.r.pins edge s starts in
           let numbers : m ≡ s = cc in
@@ -336,7 +337,7 @@ module _ (w : Solved) (parts : List Part) (lists : ListsEach (IsKeptPart w.r w.r
 
   -- ---- pins
 
-  input_shape : (of : Shape) (part : Part) → part.kind ≡ kind_of of → (part.kind ≡ kind.Belt) ⊎ (part.kind ≡ kind.Entrance) → (k : ℕ) → In of (end_shapes (Input k))
+  input_shape : (of : Shape) (part : Part) → part.kind ≡ kind_of of → (part.kind ≡ kind.Belt) ⊎ (part.kind ≡ kind.Entrance) → (k : ℕ) → In (end_shapes (Input k)) of
   input_shape shape.Belt part same kinds k = inl refl
   input_shape shape.Entrance part same kinds k = inr (inl refl)
   input_shape shape.Exit part same (inl e) k = absurd (cc)
@@ -344,7 +345,7 @@ module _ (w : Solved) (parts : List Part) (lists : ListsEach (IsKeptPart w.r w.r
   input_shape (shape.Half half) part same (inl e) k = absurd (cc)
   input_shape (shape.Half half) part same (inr e) k = absurd (cc)
 
-  module _ (pin : Pin) (there : In pin w.r.pins) where
+  module _ (pin : Pin) (there : In w.r.pins pin) where
     inside : IsInside w.r.rect (pinned pin)
     inside = pin_inside w pin there
 
@@ -402,7 +403,7 @@ module _ (w : Solved) (parts : List Part) (lists : ListsEach (IsKeptPart w.r w.r
           part = part;
           is_part = input.is_i;
           stands = cell;
-          points = pin_turned w pin there kept.of part.dir (subst (λ x. In kept.of (end_shapes x)) (sym is) (input_shape kept.of part kept.is_kind input.kind k))
+          points = pin_turned w pin there kept.of part.dir (subst (λ x. In (end_shapes x) kept.of) (sym is) (input_shape kept.of part kept.is_kind input.kind k))
               (subst (λ c. Says w (holds c kept.of part.dir)) cell kept.stands);
         }
 
@@ -421,7 +422,7 @@ module _ (w : Solved) (parts : List Part) (lists : ListsEach (IsKeptPart w.r w.r
           part = part;
           is_part = output.is_i;
           stands = cell;
-          points = pin_turned w pin there faces.0 part.dir (subst (λ x. In faces.0 (end_shapes x)) (sym is) faces.1)
+          points = pin_turned w pin there faces.0 part.dir (subst (λ x. In (end_shapes x) faces.0) (sym is) faces.1)
               (subst (λ c. Says w (holds c faces.0 part.dir)) cell faces.2);
         }
 

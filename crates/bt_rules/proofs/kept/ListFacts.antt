@@ -5,7 +5,8 @@ use Rattle.std.proofs.lemmas.Option.{same_Some, none-some, slice_get_within, sli
 use Rattle.std.proofs.lemmas.Bool.{cases_Bool}
 use Rattle.std.proofs.lemmas.List.Sums.{sum_by-cons}
 use Rattle.bt_model.specs.Shown.{ListsEach}
-use Rattle.bt_rules.proofs.kept.Readings.{In}
+use Rattle.bt_rules.proofs.Deciding.{contains_at}
+use Rattle.bt_rules.proofs.Keeping.{In}
 
 -- the element at a place of the list
 pub element_at : {X : Type 0} (xs : List X) (k : ℕ) → k < length xs → (x : X) × (slice_get xs k ≡ Some x)
@@ -13,15 +14,12 @@ element_at [] k lt = absurd (omega arith)
 element_at (x ∷ xs) zero lt = (x, refl)
 element_at (x ∷ xs) (suc k) lt = element_at xs k (omega arith)
 
-pub contains_in : {X : Type 0} (xs : List X) (x : X) → Contains xs x → In x xs
+pub contains_in : {X : Type 0} (xs : List X) (x : X) → Contains xs x → In xs x
 contains_in {X} xs x there = at xs there.0 there.1 there.2 where
-  at : (ys : List X) (k : ℕ) → k < length ys → get_or ys k x ≡ x → In x ys
+  at : (ys : List X) (k : ℕ) → k < length ys → get_or ys k x ≡ x → In ys x
   at [] k lt e = absurd (omega arith)
   at (y ∷ ys) zero lt e = inl (sym e)
   at (y ∷ ys) (suc k) lt e = inr (at ys k (omega arith) e)
-
-pub contains_at : {X : Type 0} (xs : List X) (k : ℕ) (x : X) → slice_get xs k ≡ Some x → Contains xs x
-contains_at xs k x at = (k, slice_get_within xs k x at, get_or_from_slice_get xs k x x at)
 
 pub all_at : {X : Type 0} (P : X → Type 0) (xs : List X) (k : ℕ) (x : X) → All P xs → slice_get xs k ≡ Some x → P x
 all_at P xs k x all at = subst P (get_or_from_slice_get xs k x x at) (all k x (slice_get_within xs k x at))

@@ -20,11 +20,11 @@ use Rattle.bt_rules.specs.declared.fact.Shape.{Shape}
 use Rattle.bt_rules.specs.declared.fact.Shape.TheVariants as shape
 use Rattle.bt_rules.specs.Spots.{behind, half_at}
 use Rattle.bt_rules.specs.Kept.{kind_of, IsKeptPart}
-use Rattle.bt_rules.proofs.kept.Geometry.{step-behind}
+use Rattle.bt_rules.proofs.Geometry.{step_behind}
+use Rattle.bt_rules.proofs.Keeping.{In}
 use Rattle.bt_rules.proofs.kept.Solved.{Solved, Says}
 use Rattle.bt_rules.proofs.kept.CellFacts.{one_dir, half_on, one_place}
 use Rattle.bt_rules.specs.Classes.{input_classes}
-use Rattle.bt_rules.proofs.kept.Readings.{In}
 use Rattle.bt_rules.proofs.kept.NetFacts.{input_no_split}
 use Rattle.bt_rules.proofs.kept.GoingFacts.{giver_there, Takes, by_belt, by_entrance, by_half}
 use Rattle.bt_rules.proofs.kept.Arrivals.{reached_inside}
@@ -117,7 +117,7 @@ module _ (w : Solved) (parts : List Part) (lists : ListsEach (IsKeptPart w.r w.r
   pub class_leaves : (c : Chain) (s : ℕ) → IsChain parts c → (cl : Classed w parts lists c) → cl.class ≡ Split s → (h : Half) × LeavesBy c s h
   class_leaves c s is cl same = by c.source refl cl.source where
     by : (source : Source) → c.source ≡ source → SourceHas w parts lists cl.class source → (h : Half) × LeavesBy c s h
-    by (begins i x) e has = absurd (input_no_split w s (subst (λ k. In k (input_classes w.r)) same has.2))
+    by (begins i x) e has = absurd (input_no_split w s (subst (λ k. In (input_classes w.r) k) same has.2))
     by (leaves i x) e (m, n, own) =
         let numbers : Split m ≡ Split s = sym own ∙ same in
         let number : m ≡ s = cc in
@@ -183,7 +183,7 @@ module _ (w : Solved) (parts : List Part) (lists : ListsEach (IsKeptPart w.r w.r
   pub taken_comes : (t i : ℕ) (n : IsSplitterOf w parts lists t i) (h : Half) → TakesIn t i n h → (c : Chain) × IsChain parts c × ComesInto c t h
   taken_comes t i n h taken =
       let spot = behind n.dir (half_at h n.dir n.cell) in
-      let front : step n.dir spot ≡ half_at h n.dir n.cell = step-behind n.dir (half_at h n.dir n.cell) in
+      let front : step n.dir spot ≡ half_at h n.dir n.cell = step_behind n.dir (half_at h n.dir n.cell) in
       let on = half_spot w parts lists t i n h in
       let half_there : Says w (HalfOn (step n.dir spot)) = subst (λ x. Says w (HalfOn x)) (sym front) (half_on w (half_at h n.dir n.cell) on.inside h n.dir on.says) in
       let reached = giver_reached w spot n.dir taken.0 taken.1 half_there in

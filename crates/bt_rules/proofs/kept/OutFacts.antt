@@ -11,7 +11,8 @@ use Rattle.bt_rules.specs.declared.fact.Half.{Half}
 use Rattle.bt_rules.specs.declared.fact.Half.TheVariants.{Lesser}
 use Rattle.bt_rules.specs.Kept.{IsKeptPart}
 use Rattle.bt_rules.proofs.kept.RankFacts.{rank_one, rank_few}
-use Rattle.bt_rules.proofs.kept.NetFacts.{IsEdge, edge_starts, leaves_start, leaves_by}
+use Rattle.bt_rules.proofs.Classed.{leaves_start, start_leaves}
+use Rattle.bt_rules.proofs.kept.NetFacts.{IsEdge, edge_starts}
 use Rattle.bt_rules.proofs.kept.Solved.{Solved}
 use Rattle.bt_rules.proofs.kept.SplitFacts.{IsSplitterOf, splitter_there}
 use Rattle.bt_rules.proofs.kept.PortFacts.{placed, placed_one}
@@ -47,7 +48,7 @@ module _ (w : Solved) (parts : List Part) (lists : ListsEach (IsKeptPart w.r w.r
   pub out_chain : (e : ℕ) (edge : Edge) (s : ℕ) → IsEdge w e edge → edge.start ≡ from.Split s → (c : Chain) × IsChain parts c × LeavesBy w parts lists c s (out_half s e)
   out_chain e edge s is starts =
       let ch = chosen s (below e edge s is starts) in
-      let goes = ch.2.goes e edge is (leaves_by s edge starts) in
+      let goes = ch.2.goes e edge is (start_leaves s edge starts) in
       let found = given_leaves w parts lists s ch.0 ch.1 (placed ch.2.first (out_rank w parts lists s e)) goes in
       (found.0, found.1, subst (λ f. LeavesBy w parts lists found.0 s (placed f (out_rank w parts lists s e))) ch.3 found.2)
 
@@ -65,7 +66,7 @@ module _ (w : Solved) (parts : List Part) (lists : ListsEach (IsKeptPart w.r w.r
       → LeavesBy w parts lists c s (out_half s e)
   out_wish e edge s c is starts chain wish =
       let ch = chosen s (below e edge s is starts) in
-      subst (λ f. LeavesBy w parts lists c s (placed f (out_rank w parts lists s e))) ch.3 (ch.2.wishes e edge c is (leaves_by s edge starts) chain wish)
+      subst (λ f. LeavesBy w parts lists c s (placed f (out_rank w parts lists s e))) ch.3 (ch.2.wishes e edge c is (start_leaves s edge starts) chain wish)
 
   -- no two edges have one chain
   pub out_once : (d e : ℕ) (a b : Edge) (s t : ℕ) (c : Chain) → IsEdge w d a → IsEdge w e b → a.start ≡ from.Split s → b.start ≡ from.Split t
@@ -74,7 +75,7 @@ module _ (w : Solved) (parts : List Part) (lists : ListsEach (IsKeptPart w.r w.r
       let same = leaves_half w parts lists c s t (out_half s d) (out_half t e) x y in
       let own : b.start ≡ from.Split s = from_t ∙ ap (λ z. from.Split z) (sym same.0) in
       let halves : out_half s d ≡ out_half s e = same.1 ∙ ap (λ z. out_half z e) (sym same.0) in
-      rank_one (leaves_splitter s) w.r.net.edges d e a b is_a (leaves_by s a from_s) is_b (leaves_by s b own)
+      rank_one (leaves_splitter s) w.r.net.edges d e a b is_a (start_leaves s a from_s) is_b (start_leaves s b own)
       (placed_one (out_first s) (out_rank w parts lists s d) (out_rank w parts lists s e)
-      (rank_few (leaves_splitter s) w.r.net.edges d a is_a (leaves_by s a from_s) (w.is_request.net.wired.few_out s x.is.below))
-      (rank_few (leaves_splitter s) w.r.net.edges e b is_b (leaves_by s b own) (w.is_request.net.wired.few_out s x.is.below)) halves)
+      (rank_few (leaves_splitter s) w.r.net.edges d a is_a (start_leaves s a from_s) (w.is_request.net.wired.few_out s x.is.below))
+      (rank_few (leaves_splitter s) w.r.net.edges e b is_b (start_leaves s b own) (w.is_request.net.wired.few_out s x.is.below)) halves)

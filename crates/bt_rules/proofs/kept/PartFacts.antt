@@ -15,7 +15,8 @@ use Rattle.bt_rules.specs.declared.fact.Shape.TheVariants as shape
 use Rattle.bt_rules.specs.Contents.{holds}
 use Rattle.bt_rules.specs.Spots.{before}
 use Rattle.bt_rules.specs.Kept.{kind_of, half, IsKeptPart}
-use Rattle.bt_rules.proofs.kept.Geometry.{before-beside, beside-before}
+use Rattle.bt_rules.proofs.Geometry.{before_beside}
+use Rattle.bt_rules.proofs.kept.Geometry.{beside_before}
 use Rattle.bt_rules.proofs.kept.Solved.{Solved, Says}
 use Rattle.bt_rules.proofs.kept.CellFacts.{one_shape, one_dir, half_on, mate_there}
 use Rattle.bt_rules.proofs.kept.Arrivals.{Reached, reached_inside}
@@ -44,7 +45,7 @@ covers_on w shape.Belt dir c = inl refl
 covers_on w shape.Entrance dir c = inl refl
 covers_on w shape.Exit dir c = inl refl
 covers_on w (shape.Half Lesser) dir c = inl refl
-covers_on w (shape.Half Greater) dir c = inr (refl, sym (beside-before dir c))
+covers_on w (shape.Half Greater) dir c = inr (refl, sym (beside_before dir c))
 
 lesser_of : (of : Shape) → of ≢ shape.Half Greater → kind_of of ≡ kind.Splitter → of ≡ shape.Half Lesser
 lesser_of shape.Belt own e = absurd (cc)
@@ -112,7 +113,7 @@ module _ (w : Solved) (parts : List Part) (lists : ListsEach (IsKeptPart w.r w.r
         let mate = mate_there w at.part.cell (reached_inside w at.part.cell kept.reached) Lesser at.part.dir says in
         let same : at.part ≡ part_on w (shape.Half Greater) at.part.dir c =
         part_is at.part (part_on w (shape.Half Greater) at.part.dir c) splits kept.tier refl
-        (sym (ap (before at.part.dir) there ∙ before-beside at.part.dir at.part.cell)) in
+        (sym (ap (before at.part.dir) there ∙ before_beside at.part.dir at.part.cell)) in
         let inside = subst (λ x. IsInside w.r.rect x) (sym there) mate.0 in
         let said = subst (λ x. Says w (holds x (shape.Half Greater) at.part.dir)) (sym there) mate.1 in
         record {

@@ -24,17 +24,19 @@ use Rattle.bt_rules.specs.Going.{runners}
 use Rattle.bt_rules.specs.Pinning.{is_edge_of, pin_class_rules, enders, end_facts, end_shapes, turned_rules, same_kind, clashes, clash_rules}
 use Rattle.bt_rules.specs.Rules.{some_of, not_all, OneHolds, Keeps}
 use Rattle.bt_rules.specs.Spots.{dirs, others_than, where_outside}
-use Rattle.bt_rules.proofs.kept.Readings.{In, in_flattened, all_left, all_right, all_mapped, all_flat, one_in, one_from}
-use Rattle.bt_rules.proofs.kept.Geometry.{dir_cases, in_others, in_filter}
-use Rattle.bt_rules.proofs.kept.ListFacts.{contains_in, contains_at}
+use Rattle.bt_rules.proofs.Deciding.{contains_at, same_dir}
+use Rattle.bt_rules.proofs.Geometry.{in_others}
+use Rattle.bt_rules.proofs.Keeping.{In, from_flat, in_filter}
+use Rattle.bt_rules.proofs.kept.Readings.{all_left, all_right, all_mapped, all_flat, one_in, one_from}
+use Rattle.bt_rules.proofs.kept.ListFacts.{contains_in}
 use Rattle.bt_rules.proofs.kept.RankFacts.{has_any}
 use Rattle.bt_rules.proofs.kept.NetFacts.{IsEdge, input_by, output_by}
 use Rattle.bt_rules.proofs.kept.Solved.{Solved, Says, Kept, one_outside, pin_kept, clashes_kept}
 
-pub in_at : {X : Type 0} (xs : List X) (k : ℕ) (x : X) → slice_get xs k ≡ Some x → In x xs
+pub in_at : {X : Type 0} (xs : List X) (k : ℕ) (x : X) → slice_get xs k ≡ Some x → In xs x
 in_at xs k x at = contains_in xs x (contains_at xs k x at)
 
-pub in_place : {X : Type 0} (xs : List X) (x : X) → In x xs → (k : ℕ) × (slice_get xs k ≡ Some x)
+pub in_place : {X : Type 0} (xs : List X) (x : X) → In xs x → (k : ℕ) × (slice_get xs k ≡ Some x)
 in_place [] x h = absurd h
 in_place (y ∷ ys) x (inl e) = (0, ap Some (sym e))
 in_place (y ∷ ys) x (inr h) = let found = in_place ys x h in (suc found.0, found.1)
@@ -46,14 +48,14 @@ end_cases (Output i) (Input j) = inr (λ e. cc)
 end_cases (Output i) (Output j) = ⊎_elim (λ e. inl (ap Output e)) (λ apart. inr (λ e. apart (cc))) (cases_eq i j)
 
 -- the end is pinned, or it isn't
-pub pin_cases : (pins : List Pin) (end : End) → ((pin : Pin) × In pin pins × (pin.end ≡ end)) ⊎ ((pin : Pin) → In pin pins → pin.end ≡ end → ⊥)
+pub pin_cases : (pins : List Pin) (end : End) → ((pin : Pin) × In pins pin × (pin.end ≡ end)) ⊎ ((pin : Pin) → In pins pin → pin.end ≡ end → ⊥)
 pin_cases [] end = inr (λ pin there e. there)
 pin_cases (p ∷ pins) end =
     ⊎_elim (λ e. inl (p, inl refl, e))
     (λ apart. ⊎_elim (λ found. inl (found.0, inr found.1, found.2)) (λ none. inr (λ pin there e. later pin apart none there e)) (pin_cases pins end))
     (end_cases p.end end)
   where
-    later : (pin : Pin) → p.end ≢ end → ((q : Pin) → In q pins → q.end ≡ end → ⊥) → In pin (p ∷ pins) → pin.end ≡ end → ⊥
+    later : (pin : Pin) → p.end ≢ end → ((q : Pin) → In pins q → q.end ≡ end → ⊥) → In (p ∷ pins) pin → pin.end ≡ end → ⊥
     later pin apart none (inl same) e = apart (ap (λ z. z.end) (sym same) ∙ e)
     later pin apart none (inr there) e = none pin there e
 
@@ -70,24 +72,24 @@ outputs_clash p q o u e f same =
     three_true (same_kind p.end q.end) (p.x == q.x) (p.y == q.y)
     (ap (λ z. same_kind z q.end) e ∙ ap (λ z. same_kind (Output o) z) f) (eq-eqb p.x q.x x) (eq-eqb p.y q.y y)
 
-no_clash : (reading : Fact → Bool) (pins : List Pin) (p q : Pin) → AllByRecursion (Keeps reading) (clash_rules pins) → In p pins → In q pins
+no_clash : (reading : Fact → Bool) (pins : List Pin) (p q : Pin) → AllByRecursion (Keeps reading) (clash_rules pins) → In pins p → In pins q
     → clashes p q ≡ true → clashes q p ≡ true → p ≡ q
 no_clash reading [] p q kept a b one other = absurd a
 no_clash reading (x ∷ xs) p q kept (inl e) (inl f) one other = e ∙ sym f
 no_clash reading (x ∷ xs) p q kept (inl e) (inr b) one other =
     absurd (all_mapped (Keeps reading) (λ z. some_of []) q (filter (clashes x) xs)
     (all_left (Keeps reading) (map (λ z. some_of []) (filter (clashes x) xs)) (clash_rules xs) kept)
-    (in_filter (clashes x) q xs b (subst (λ z. clashes z q ≡ true) e one)) tt)
+    (in_filter (clashes x) xs q b (subst (λ z. clashes z q ≡ true) e one)) tt)
 no_clash reading (x ∷ xs) p q kept (inr a) (inl f) one other =
     absurd (all_mapped (Keeps reading) (λ z. some_of []) p (filter (clashes x) xs)
     (all_left (Keeps reading) (map (λ z. some_of []) (filter (clashes x) xs)) (clash_rules xs) kept)
-    (in_filter (clashes x) p xs a (subst (λ z. clashes z p ≡ true) f other)) tt)
+    (in_filter (clashes x) xs p a (subst (λ z. clashes z p ≡ true) f other)) tt)
 no_clash reading (x ∷ xs) p q kept (inr a) (inr b) one other =
     no_clash reading xs p q (all_right (Keeps reading) (map (λ z. some_of []) (filter (clashes x) xs)) (clash_rules xs) kept) a b one other
 
 module _ (w : Solved) where
   -- an end has one pin
-  pub one_pin : (p q : Pin) → In p w.r.pins → In q w.r.pins → p.end ≡ q.end → p ≡ q
+  pub one_pin : (p q : Pin) → In w.r.pins p → In w.r.pins q → p.end ≡ q.end → p ≡ q
   one_pin p q a b e =
       let i = in_place w.r.pins p a in
       let j = in_place w.r.pins q b in
@@ -100,11 +102,11 @@ module _ (w : Solved) where
       (cases_order i.0 j.0)
 
   -- and two outputs don't stand on one cell
-  pub one_output : (p q : Pin) (o u : ℕ) → In p w.r.pins → In q w.r.pins → p.end ≡ Output o → q.end ≡ Output u → pinned p ≡ pinned q → p ≡ q
+  pub one_output : (p q : Pin) (o u : ℕ) → In w.r.pins p → In w.r.pins q → p.end ≡ Output o → q.end ≡ Output u → pinned p ≡ pinned q → p ≡ q
   one_output p q o u a b e f same =
       no_clash w.reading w.r.pins p q (clashes_kept w) a b (outputs_clash p q o u e f same) (outputs_clash q p u o f e (sym same))
 
-  module _ (pin : Pin) (there : In pin w.r.pins) where
+  module _ (pin : Pin) (there : In w.r.pins pin) where
     kept : Kept w (pin_class_rules w.r pin ++ (some_of (end_facts w.r.rect (pinned pin) pin.end) ∷ turned_rules (pinned pin) pin.end pin.dir))
     kept = pin_kept w pin there
 
@@ -114,7 +116,7 @@ module _ (w : Solved) where
         ⊎_elim (λ s. s) (λ none. absurd none)
         (all_mapped (Keeps w.reading) (λ x. some_of (Carries (pinned pin) (class_of w.r.pins x) ∷ [])) edge (filter (is_edge_of pin.end) w.r.net.edges)
         (all_left (Keeps w.reading) (pin_class_rules w.r pin) (some_of (end_facts w.r.rect (pinned pin) pin.end) ∷ turned_rules (pinned pin) pin.end pin.dir) kept)
-        (in_filter (is_edge_of pin.end) edge w.r.net.edges (in_at w.r.net.edges e edge is) own) tt)
+        (in_filter (is_edge_of pin.end) w.r.net.edges edge (in_at w.r.net.edges e edge is) own) tt)
 
     rest : Kept w (some_of (end_facts w.r.rect (pinned pin) pin.end) ∷ turned_rules (pinned pin) pin.end pin.dir)
     rest = all_right (Keeps w.reading) (pin_class_rules w.r pin) (some_of (end_facts w.r.rect (pinned pin) pin.end) ∷ turned_rules (pinned pin) pin.end pin.dir) kept
@@ -131,16 +133,16 @@ module _ (w : Solved) where
 
     -- an output ends there
     pub pin_ends : (o : ℕ) → pin.end ≡ Output o
-        → (dir : Dir) × (of : Shape) × In of runners × (IsInside w.r.rect (step dir (pinned pin)) → ⊥) × Says w (holds (pinned pin) of dir)
+        → (dir : Dir) × (of : Shape) × In runners of × (IsInside w.r.rect (step dir (pinned pin)) → ⊥) × Says w (holds (pinned pin) of dir)
     pin_ends o ends =
         let found = one_in w.reading (enders w.r.rect (pinned pin)) (subst (λ z. OneHolds w.reading (end_facts w.r.rect (pinned pin) z)) ends (rest.0 tt)) in
-        let dir = in_flattened (λ d. where_outside w.r.rect (step d (pinned pin)) (holds (pinned pin) shape.Belt d ∷ holds (pinned pin) shape.Exit d ∷ [])) found.0 dirs found.1 in
+        let dir = from_flat (λ d. where_outside w.r.rect (step d (pinned pin)) (holds (pinned pin) shape.Belt d ∷ holds (pinned pin) shape.Exit d ∷ [])) dirs found.0 found.1 in
         let got = one_outside w (step dir.0 (pinned pin)) (holds (pinned pin) shape.Belt dir.0 ∷ holds (pinned pin) shape.Exit dir.0 ∷ []) (one_from w.reading found.0 _ dir.2 found.2) in
         ⊎_elim (λ e. (dir.0, shape.Belt, inl refl, got.0, e))
         (λ more. ⊎_elim (λ e. (dir.0, shape.Exit, inr (inl refl), got.0, e)) (λ none. absurd none) more) got.1
 
     -- the part of a pinned end is turned as the pin says
-    pub pin_turned : (of : Shape) (dir : Dir) → In of (end_shapes pin.end) → Says w (holds (pinned pin) of dir) → IfSome pin.dir (λ d. dir ≡ d)
+    pub pin_turned : (of : Shape) (dir : Dir) → In (end_shapes pin.end) of → Says w (holds (pinned pin) of dir) → IfSome pin.dir (λ d. dir ≡ d)
     pin_turned of dir shaped s = by pin.dir rest.1 where
       by : (wanted : Option Dir) → Kept w (turned_rules (pinned pin) pin.end wanted) → IfSome wanted (λ d. dir ≡ d)
       by None rules = tt
@@ -148,8 +150,8 @@ module _ (w : Solved) where
           ⊎_elim (λ e. sym e)
           (λ apart. absurd (all_mapped (Keeps w.reading) (λ other. not_all (holds (pinned pin) of other ∷ [])) dir (others_than d)
           (all_flat (Keeps w.reading) (λ x. map (λ other. not_all (holds (pinned pin) x other ∷ [])) (others_than d)) of (end_shapes pin.end) rules shaped)
-          (in_others d dir apart) (s, tt)))
-          (dir_cases d dir)
+          (in_others d dir (λ e. apart (sym e))) (s, tt)))
+          (same_dir d dir)
 
     -- an input that is pinned is known to be
     pub pinned_input : (i : ℕ) → pin.end ≡ Input i → is_pinned w.r.pins i ≡ true

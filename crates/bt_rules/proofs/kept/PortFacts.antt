@@ -18,9 +18,11 @@ use Rattle.bt_rules.specs.Going.{goes_into}
 use Rattle.bt_rules.specs.Ports.{carries_into, two_in_rules, in_rules, out_rules, standing_port_rules}
 use Rattle.bt_rules.specs.Rules.{Rule, rule, not_all, rule_by, AllHold, OneHolds, Keeps}
 use Rattle.bt_rules.specs.Spots.{dirs, halves, other_half, mate, half_at, behind, cells_of}
-use Rattle.bt_rules.proofs.kept.Readings.{In, all_left, all_right, all_flat, all_mapped}
-use Rattle.bt_rules.proofs.kept.Geometry.{in_dirs, in_halves, in_cells, where_in}
-use Rattle.bt_rules.proofs.kept.NetFacts.{same_class_true}
+use Rattle.bt_rules.proofs.Geometry.{in_cells, in_dirs, in_halves}
+use Rattle.bt_rules.proofs.Keeping.{In}
+use Rattle.bt_rules.proofs.kept.Readings.{all_left, all_right, all_flat, all_mapped}
+use Rattle.bt_rules.proofs.kept.Geometry.{where_in}
+use Rattle.bt_rules.proofs.Classed.{class_same}
 use Rattle.bt_rules.proofs.kept.Solved.{Solved, Says, Kept, one_inside, port_kept}
 use Rattle.bt_rules.proofs.kept.SplitFacts.{half_cases, other_apart}
 
@@ -95,8 +97,8 @@ module _ (w : Solved) (s : ℕ) (lt : s < w.r.net.splitters) (c : Cell) (dir : D
       let got = one_inside w (behind dir (half_at half dir c)) (Carries (behind dir (half_at half dir c)) k ∷ []) one in
       ⊎_elim (λ e. e) (λ none. absurd none) got.1
 
-  in_goes : (half : Half) → Taken half → In (Goes (behind dir (half_at half dir c)) dir) (goes_into w.r.rect (half_at half dir c) dir)
-  in_goes half taken = subst (λ facts. In (Goes (behind dir (half_at half dir c)) dir) facts)
+  in_goes : (half : Half) → Taken half → In (goes_into w.r.rect (half_at half dir c) dir) (Goes (behind dir (half_at half dir c)) dir)
+  in_goes half taken = subst (λ facts. In facts (Goes (behind dir (half_at half dir c)) dir))
       (sym (where_in w.r.rect (behind dir (half_at half dir c)) (Goes (behind dir (half_at half dir c)) dir ∷ []) taken.0)) (inl refl)
 
   -- ---- in edges
@@ -122,7 +124,7 @@ module _ (w : Solved) (s : ℕ) (lt : s < w.r.net.splitters) (c : Cell) (dir : D
         → Says w (Carries (behind dir (half_at half dir c)) k) × Says w (Carries (behind dir (half_at (other_half half) dir c)) l)
     by true e x y = (
       class_of_half half k (x.0 (at, tt)),
-      subst (λ z. Says w (Carries (behind dir (half_at (other_half half) dir c)) z)) (same_class_true k l e) (class_of_half (other_half half) k (y.0 (at, tt))),
+      subst (λ z. Says w (Carries (behind dir (half_at (other_half half) dir c)) z)) (class_same k l e) (class_of_half (other_half half) k (y.0 (at, tt))),
     )
     by false e x y = (
       class_of_half half k (ruled w.reading half (EntersLesser s) (At s c dir ∷ []) (carries_into w.r.rect (half_at half dir c) dir k) is x.0 (at, tt)),

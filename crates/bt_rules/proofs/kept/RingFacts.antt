@@ -17,8 +17,8 @@ use Rattle.bt_rules.specs.declared.fact.Shape.TheVariants as shape
 use Rattle.bt_rules.specs.Contents.{holds}
 use Rattle.bt_rules.specs.Spots.{behind}
 use Rattle.bt_rules.specs.Kept.{kind_of, begun, half, handed, under, IsKeptPart}
-use Rattle.bt_rules.proofs.kept.Readings.{In}
-use Rattle.bt_rules.proofs.kept.Geometry.{behind-step}
+use Rattle.bt_rules.proofs.Geometry.{behind_step}
+use Rattle.bt_rules.proofs.Keeping.{In}
 use Rattle.bt_rules.proofs.kept.Solved.{Solved, Says}
 use Rattle.bt_rules.proofs.kept.CellFacts.{one_shape, half_there}
 use Rattle.bt_rules.proofs.kept.GoingFacts.{taker_there, begun_there, begun_still}
@@ -28,8 +28,8 @@ use Rattle.bt_rules.proofs.kept.PartFacts.{part_there, standing, part_at, at_the
 use Rattle.bt_rules.proofs.kept.HandFacts.{feeds_going, one_near, pair_there, one_entrance, pieces_paired, none_side_loaded, none_blocked}
 
 -- each part of a path is its first, or one of the path hands to it
-pub path_before : (parts : List Part) (i last : ℕ) (links : List ℕ) → Path parts i last links → (j : ℕ) → In j links
-    → IsLink parts j × ((j ≡ i) ⊎ ((k : ℕ) × In k links × Hands parts k j))
+pub path_before : (parts : List Part) (i last : ℕ) (links : List ℕ) → Path parts i last links → (j : ℕ) → In links j
+    → IsLink parts j × ((j ≡ i) ⊎ ((k : ℕ) × In links k × Hands parts k j))
 path_before parts i last links (one a link) j (inl e) = (subst (IsLink parts) (sym e) link, inl e)
 path_before parts i last links (one a link) j (inr none) = absurd none
 path_before parts i last links (more a b l rest link hands path) j (inl e) = (subst (IsLink parts) (sym e) link, inl e)
@@ -39,17 +39,17 @@ path_before parts i last links (more a b l rest link hands path) j (inr there) =
       ⊎_elim (λ e. inr (a, inl refl, subst (Hands parts a) (sym e) hands)) (λ before. inr (before.0, inr before.1, before.2)) found.1,
     )
 
-pub path_last : (parts : List Part) (i last : ℕ) (links : List ℕ) → Path parts i last links → In last links
+pub path_last : (parts : List Part) (i last : ℕ) (links : List ℕ) → Path parts i last links → In links last
 path_last parts i last links (one a link) = inl refl
 path_last parts i last links (more a b l rest link hands path) = inr (path_last parts b l rest path)
 
-pub path_first : (parts : List Part) (i last : ℕ) (links : List ℕ) → Path parts i last links → In i links
+pub path_first : (parts : List Part) (i last : ℕ) (links : List ℕ) → Path parts i last links → In links i
 path_first parts i last links (one a link) = inl refl
 path_first parts i last links (more a b l rest link hands path) = inl refl
 
 -- each of the list is a link to which one of the list hands
 abbrev pub IsClosed : List Part → List ℕ → Type 0
-IsClosed parts links = (j : ℕ) → In j links → IsLink parts j × ((k : ℕ) × In k links × Hands parts k j)
+IsClosed parts links = (j : ℕ) → In links j → IsLink parts j × ((k : ℕ) × In links k × Hands parts k j)
 
 ring_closed : (parts : List Part) (i : ℕ) (ring : IsOnRing parts i) → IsClosed parts ring.links
 ring_closed parts i ring j there =
@@ -79,11 +79,11 @@ module _ (w : Solved) (parts : List Part) (lists : ListsEach (IsKeptPart w.r w.r
   begun_unfed c inside begins i p link at feeds =
       let going = feeds_going w parts lists p feeds.0 i feeds.1 in
       let same : step going.dir feeds.0 ≡ c = link_cell parts i (step going.dir feeds.0) c link going.there at in
-      let back : feeds.0 ≡ behind going.dir c = sym (behind-step going.dir feeds.0) ∙ ap (behind going.dir) same in
+      let back : feeds.0 ≡ behind going.dir c = sym (behind_step going.dir feeds.0) ∙ ap (behind going.dir) same in
       begun_still w c inside going.dir begins (subst (IsInside w.r.rect) back (reached_inside w feeds.0 going.reached))
       (subst (λ z. Says w (Goes z going.dir)) back going.goes)
 
-  none_closed : (links : List ℕ) → IsClosed parts links → (x : Cell) → Reached w x → (j : ℕ) → In j links → IsAt parts j x → ⊥
+  none_closed : (links : List ℕ) → IsClosed parts links → (x : Cell) → Reached w x → (j : ℕ) → In links j → IsAt parts j x → ⊥
   none_closed links closed x (begun c i s) j there at =
       let begins = begun_there w c i s in
       let link = (closed j there).0 in

@@ -20,8 +20,10 @@ use Rattle.bt_rules.specs.Spots.{cells_of, where_inside, where_outside}
 use Rattle.bt_rules.specs.Standing.{standing_rules, place_rules}
 use Rattle.bt_rules.specs.Starts.{input_rules}
 use Rattle.bt_rules.specs.Underground.{underground_rules}
-use Rattle.bt_rules.proofs.kept.Readings.{In, all_left, all_right, all_mapped, all_flat, in_range}
-use Rattle.bt_rules.proofs.kept.Geometry.{in_cells, inside_cases, where_in, where_out, out_in, out_out}
+use Rattle.bt_rules.proofs.Geometry.{in_cells}
+use Rattle.bt_rules.proofs.Keeping.{In, in_range}
+use Rattle.bt_rules.proofs.kept.Readings.{all_left, all_right, all_mapped, all_flat}
+use Rattle.bt_rules.proofs.kept.Geometry.{in_or_out, where_in, where_out, out_in, out_out}
 
 -- the reading keeps each rule of the request
 unfoldable pub KeepsAll : LayoutRequest → (Fact → Bool) → Type 0
@@ -59,14 +61,14 @@ pub one_inside : (w : Solved) (c : Cell) (facts : List Fact) → OneHolds w.read
 one_inside w c facts h =
     ⊎_elim (λ i. (i, subst (OneHolds w.reading) (where_in w.r.rect c facts i) h))
     (λ o. absurd (subst (OneHolds w.reading) (where_out w.r.rect c facts o) h))
-    (inside_cases w.r.rect c)
+    (in_or_out w.r.rect c)
 
 pub one_outside : (w : Solved) (c : Cell) (facts : List Fact) → OneHolds w.reading (where_outside w.r.rect c facts)
     → (IsInside w.r.rect c → ⊥) × OneHolds w.reading facts
 one_outside w c facts h =
     ⊎_elim (λ i. absurd (subst (OneHolds w.reading) (out_in w.r.rect c facts i) h))
     (λ o. (o, subst (OneHolds w.reading) (out_out w.r.rect c facts o) h))
-    (inside_cases w.r.rect c)
+    (in_or_out w.r.rect c)
 
 -- ---- the parts of the list of all rules
 
@@ -100,7 +102,7 @@ module _ (w : Solved) where
   ends : Kept w (of_inputs w.r ++ of_pins w.r ++ of_clashes w.r ++ of_blocks w.r)
   ends = all_right (Keeps w.reading) (of_cells w.r ++ of_splitters w.r) (of_inputs w.r ++ of_pins w.r ++ of_clashes w.r ++ of_blocks w.r) all_kept
 
-  pub block_kept : (block : Block) → In block w.r.blocks → Keeps w.reading (block_rule block)
+  pub block_kept : (block : Block) → In w.r.blocks block → Keeps w.reading (block_rule block)
   unfolding of_blocks
   block_kept block there = all_mapped (Keeps w.reading) block_rule block w.r.blocks
       (all_right (Keeps w.reading) (of_inputs w.r ++ of_pins w.r ++ of_clashes w.r) (of_blocks w.r) ends) there
@@ -115,7 +117,7 @@ module _ (w : Solved) where
   to_pins : Kept w (of_inputs w.r ++ of_pins w.r)
   to_pins = all_left (Keeps w.reading) (of_inputs w.r ++ of_pins w.r) (of_clashes w.r) to_clashes
 
-  pub pin_kept : (pin : Pin) → In pin w.r.pins → Kept w (pin_rules w.r pin)
+  pub pin_kept : (pin : Pin) → In w.r.pins pin → Kept w (pin_rules w.r pin)
   unfolding of_pins
   pin_kept pin there = all_flat (Keeps w.reading) (pin_rules w.r) pin w.r.pins
       (all_right (Keeps w.reading) (of_inputs w.r) (of_pins w.r) to_pins) there
@@ -124,13 +126,13 @@ module _ (w : Solved) where
   unfolding of_inputs
   input_kept i lt = all_flat (Keeps w.reading) (input_rules w.r) i (range_with_len 0 w.r.net.inputs)
       (all_left (Keeps w.reading) (of_inputs w.r) (of_pins w.r) to_pins)
-      (in_range i 0 w.r.net.inputs (omega arith) (omega arith))
+      (in_range 0 w.r.net.inputs i (omega arith) (omega arith))
 
   splitter_kept : (s : ℕ) → s < w.r.net.splitters → Kept w (splitter_rules w.r s)
   unfolding of_splitters
   splitter_kept s lt = all_flat (Keeps w.reading) (splitter_rules w.r) s (splitters_of w.r)
       (all_right (Keeps w.reading) (of_cells w.r) (of_splitters w.r) fronts)
-      (in_range s 0 w.r.net.splitters (omega arith) (omega arith))
+      (in_range 0 w.r.net.splitters s (omega arith) (omega arith))
 
   pub place_kept : (s : ℕ) → s < w.r.net.splitters → Kept w (place_rules w.r.rect s)
   place_kept s lt = all_left (Keeps w.reading) (place_rules w.r.rect s) (port_rules w.r s) (splitter_kept s lt)

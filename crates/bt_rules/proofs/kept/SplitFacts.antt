@@ -1,9 +1,7 @@
 -- Splitters among the kept parts, their names and halves.
-use Rattle.std.proofs.Common.{◌≡◌, ◌⊎◌, ◌≢◌, ℕ, ◌<◌, List, refl, sym, ◌∙◌, ap, subst, inl, inr, arith}
-use Rattle.std.proofs.lemmas.Int.{ints}
+use Rattle.std.proofs.Common.{◌≡◌, ◌⊎◌, ◌≢◌, ℕ, ◌<◌, List, refl, sym, ◌∙◌, ap, subst, inl, inr}
 use Rattle.bt_parts.specs.declared.part.Cell.{Cell}
 use Rattle.bt_parts.specs.declared.part.Dir.{Dir}
-use Rattle.bt_parts.specs.declared.part.Dir.TheVariants.{North, East, South, West}
 use Rattle.bt_parts.specs.declared.part.Part.{Part}
 use Rattle.bt_parts.specs.Cells.{beside, Covers, IsInside}
 use Rattle.bt_parts.specs.Layouts.{HasPart, IsAt}
@@ -19,17 +17,12 @@ use Rattle.bt_rules.specs.declared.fact.Shape.TheVariants as shape
 use Rattle.bt_rules.specs.Contents.{holds}
 use Rattle.bt_rules.specs.Spots.{other_half, half_at}
 use Rattle.bt_rules.specs.Kept.{half, IsKeptPart}
+use Rattle.bt_rules.proofs.Geometry.{beside_apart}
 use Rattle.bt_rules.proofs.kept.Solved.{Solved, Says}
 use Rattle.bt_rules.proofs.kept.CellFacts.{half_on, mate_there, owner_of, one_name, at_lesser, at_name, at_mate, stands_somewhere, one_place}
 use Rattle.bt_rules.proofs.kept.Arrivals.{Reached, reached_inside}
 use Rattle.bt_rules.proofs.kept.PartFacts.{part_on, kept_part, part_there, part_at, at_there, own_at, one_index}
 use Rattle.bt_rules.proofs.kept.HandFacts.{half_of}
-
-beside_apart : (dir : Dir) (c : Cell) → c ≡ beside dir c → ⊥
-beside_apart North c e = let x = ap (λ z. z.x) e in omega (arith, ints)
-beside_apart East c e = let y = ap (λ z. z.y) e in omega (arith, ints)
-beside_apart South c e = let x = ap (λ z. z.x) e in omega (arith, ints)
-beside_apart West c e = let y = ap (λ z. z.y) e in omega (arith, ints)
 
 pub one_half : (dir : Dir) (c : Cell) (g h : Half) → half_at g dir c ≡ half_at h dir c → g ≡ h
 one_half dir c Lesser Lesser e = refl

@@ -22,8 +22,10 @@ use Rattle.bt_rules.specs.Kept.{kind_of, begun, IsKeptPart}
 use Rattle.bt_rules.specs.Rules.{Rule, exactly_one, Keeps}
 use Rattle.bt_rules.specs.Spots.{border_of}
 use Rattle.bt_rules.specs.Starts.{start_rules}
-use Rattle.bt_rules.proofs.kept.Readings.{In, in_map, all_left, all_right, all_flat, one_mapped, one_holds}
-use Rattle.bt_rules.proofs.kept.Geometry.{in_border, border_inside}
+use Rattle.bt_rules.proofs.Geometry.{in_border}
+use Rattle.bt_rules.proofs.Keeping.{In, in_map}
+use Rattle.bt_rules.proofs.kept.Readings.{all_left, all_right, all_flat, one_mapped, one_holds}
+use Rattle.bt_rules.proofs.kept.Geometry.{border_inside}
 use Rattle.bt_rules.proofs.kept.NetFacts.{IsEdge}
 use Rattle.bt_rules.proofs.kept.Solved.{Solved, Says, Kept, input_kept}
 use Rattle.bt_rules.proofs.kept.GoingFacts.{begun_there}
@@ -48,7 +50,7 @@ module _ (w : Solved) (i : ℕ) (lt : i < w.r.net.inputs) (is : is_through w.r i
   unfolding one_there
   one_kept = all_left (Keeps w.reading) one_there each_there through_kept
 
-  start_kept : (c : Cell) → In c (border_of w.r.rect) → Kept w (start_rules i c)
+  start_kept : (c : Cell) → In (border_of w.r.rect) c → Kept w (start_rules i c)
   unfolding each_there
   start_kept c there = all_flat (Keeps w.reading) (start_rules i) c (border_of w.r.rect) (all_right (Keeps w.reading) one_there each_there through_kept) there
 
@@ -59,8 +61,8 @@ module _ (w : Solved) (i : ℕ) (lt : i < w.r.net.inputs) (is : is_through w.r i
       let kept = start_kept found.0 found.1 in
       (found.0, border_inside w.r.rect found.0 found.1, ⊎_elim (λ e. e) (λ none. absurd none) (kept.0 (found.2, tt)), ⊎_elim (λ e. e) (λ none. absurd none) (kept.1.0 (found.2, tt)))
 
-  begun_border : (c : Cell) → IsInside w.r.rect c → Says w (Begins c) → In c (border_of w.r.rect)
-  begun_border c h s = let there = begun_there w c h s in in_border w.r.rect c (opposite there.0) h there.1
+  begun_border : (c : Cell) → IsInside w.r.rect c → Says w (Begins c) → In (border_of w.r.rect) c
+  begun_border c h s = let there = begun_there w c h s in in_border w.r.rect (opposite there.0) c h there.1
 
   -- and nowhere else
   pub through_one : (a b : Cell) → IsInside w.r.rect a → IsInside w.r.rect b → Says w (Begins a) → Says w (Begins b) → Says w (Carries a (Input i)) → Says w (Carries b (Input i)) → a ≡ b
@@ -70,7 +72,7 @@ module _ (w : Solved) (i : ℕ) (lt : i < w.r.net.inputs) (is : is_through w.r i
       let starts_a : Says w (Starts a i) = ⊎_elim (λ e. e) (λ none. absurd none) ((start_kept a a_in).1.1.0 (s, (x, tt))) in
       let starts_b : Says w (Starts b i) = ⊎_elim (λ e. e) (λ none. absurd none) ((start_kept b b_in).1.1.0 (t, (y, tt))) in
       let same : Starts a i ≡ Starts b i = one_holds w.reading (Starts a i) (Starts b i) (map (λ c. Starts c i) (border_of w.r.rect)) one_kept.1
-      (in_map (λ c. Starts c i) a (border_of w.r.rect) a_in) (in_map (λ c. Starts c i) b (border_of w.r.rect) b_in) starts_a starts_b in
+      (in_map (λ c. Starts c i) (border_of w.r.rect) a a_in) (in_map (λ c. Starts c i) (border_of w.r.rect) b b_in) starts_a starts_b in
       cc
 
 module _ (w : Solved) (parts : List Part) (lists : ListsEach (IsKeptPart w.r w.reading) parts) where

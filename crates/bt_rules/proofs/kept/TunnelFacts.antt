@@ -12,8 +12,10 @@ use Rattle.bt_rules.specs.Contents.{holds}
 use Rattle.bt_rules.specs.Rules.{Rule, rule, not_all, at_most_one, Keeps}
 use Rattle.bt_rules.specs.Spots.{dirs, where_inside, where_outside}
 use Rattle.bt_rules.specs.Underground.{most_distance, tunnel_rules, pairs_from, pairs_into, paired_rules, way_rules, pair_class_rules, pair_rules, piece_rules, back}
-use Rattle.bt_rules.proofs.kept.Readings.{In, in_flat, in_map, in_flattened, in_range, range_has, all_left, all_right, all_mapped, all_flat, one_in, one_from, one_holds}
-use Rattle.bt_rules.proofs.kept.Geometry.{in_dirs, where_in}
+use Rattle.bt_rules.proofs.Geometry.{in_dirs}
+use Rattle.bt_rules.proofs.Keeping.{In, from_flat, from_range, in_flat, in_map, in_range}
+use Rattle.bt_rules.proofs.kept.Readings.{all_left, all_right, all_mapped, all_flat, one_in, one_from, one_holds}
+use Rattle.bt_rules.proofs.kept.Geometry.{where_in}
 use Rattle.bt_rules.proofs.kept.Solved.{Solved, Says, Kept, one_inside, underground_kept}
 
 module _ (w : Solved) (c : Cell) (h : IsInside w.r.rect c) (dir : Dir) where
@@ -69,8 +71,8 @@ module _ (w : Solved) (c : Cell) (h : IsInside w.r.rect c) (dir : Dir) where
   pair_begins s =
       let kept = all_right (Keeps w.reading) tunnels_at paired_at to_paired in
       let found = one_in w.reading (pairs_from w.r.rect (most_distance w.r) c dir) (kept.0 (s, tt)) in
-      let k = in_flattened (λ k. where_inside w.r.rect (steps k dir c) (Pair c dir k ∷ [])) found.0 (range_with_len 1 (most_distance w.r)) found.1 in
-      let has = range_has k.0 1 (most_distance w.r) k.1 in
+      let k = from_flat (λ k. where_inside w.r.rect (steps k dir c) (Pair c dir k ∷ [])) (range_with_len 1 (most_distance w.r)) found.0 found.1 in
+      let has = from_range 1 (most_distance w.r) k.0 k.1 in
       let got = one_inside w (steps k.0 dir c) (Pair c dir k.0 ∷ []) (one_from w.reading found.0 _ k.2 found.2) in
       (k.0, has.0, (let lt = has.1 in omega arith), got.0, ⊎_elim (λ e. e) (λ none. absurd none) got.1)
 
@@ -86,11 +88,11 @@ module _ (w : Solved) (c : Cell) (h : IsInside w.r.rect c) (dir : Dir) where
       (in_pairs k k_some k_few k_in) (in_pairs j j_some j_few j_in) s t in
       cc
     where
-      in_pairs : (i : ℕ) → 1 ≤ i → i ≤ most_distance w.r → IsInside w.r.rect (steps i dir c) → In (Pair c dir i) (pairs_from w.r.rect (most_distance w.r) c dir)
+      in_pairs : (i : ℕ) → 1 ≤ i → i ≤ most_distance w.r → IsInside w.r.rect (steps i dir c) → In (pairs_from w.r.rect (most_distance w.r) c dir) (Pair c dir i)
       in_pairs i some few there =
-          in_flat (λ x. where_inside w.r.rect (steps x dir c) (Pair c dir x ∷ [])) i (Pair c dir i) (range_with_len 1 (most_distance w.r))
-          (in_range i 1 (most_distance w.r) some (omega arith))
-          (subst (λ facts. In (Pair c dir i) facts) (sym (where_in w.r.rect (steps i dir c) (Pair c dir i ∷ []) there)) (inl refl))
+          in_flat (λ x. where_inside w.r.rect (steps x dir c) (Pair c dir x ∷ [])) (range_with_len 1 (most_distance w.r)) i (Pair c dir i)
+          (in_range 1 (most_distance w.r) i some (omega arith))
+          (subst (λ facts. In facts (Pair c dir i)) (sym (where_in w.r.rect (steps i dir c) (Pair c dir i ∷ []) there)) (inl refl))
 
   -- an exit ends a pair
   pub pair_ends : Says w (holds c shape.Exit dir)
@@ -101,8 +103,8 @@ module _ (w : Solved) (c : Cell) (h : IsInside w.r.rect c) (dir : Dir) where
       let exits = all_right (Keeps w.reading) (at_most_one (pairs_from w.r.rect (most_distance w.r) c dir))
       (rule (holds c shape.Exit dir ∷ []) (pairs_into w.r.rect (most_distance w.r) c dir) ∷ at_most_one (pairs_into w.r.rect (most_distance w.r) c dir)) kept.1 in
       let found = one_in w.reading (pairs_into w.r.rect (most_distance w.r) c dir) (exits.0 (s, tt)) in
-      let k = in_flattened (λ x. where_inside w.r.rect (back x dir c) (Pair (back x dir c) dir x ∷ [])) found.0 (range_with_len 1 (most_distance w.r)) found.1 in
-      let has = range_has k.0 1 (most_distance w.r) k.1 in
+      let k = from_flat (λ x. where_inside w.r.rect (back x dir c) (Pair (back x dir c) dir x ∷ [])) (range_with_len 1 (most_distance w.r)) found.0 found.1 in
+      let has = from_range 1 (most_distance w.r) k.0 k.1 in
       let got = one_inside w (back k.0 dir c) (Pair (back k.0 dir c) dir k.0 ∷ []) (one_from w.reading found.0 _ k.2 found.2) in
       (k.0, has.0, (let lt = has.1 in omega arith), got.0, ⊎_elim (λ e. e) (λ none. absurd none) got.1)
 
@@ -115,7 +117,7 @@ module _ (w : Solved) (c : Cell) (h : IsInside w.r.rect c) (dir : Dir) where
     pair_kept =
         subst (Kept w) (where_in w.r.rect (steps k dir c) (way_rules c dir k ++ flat_map (pair_class_rules c dir k) (classes_of w.r)) i)
         (all_flat (Keeps w.reading) (pair_rules w.r c dir) k (range_with_len 1 (most_distance w.r))
-        (all_right (Keeps w.reading) (tunnels_at ++ paired_at) pairs_at all_pieces) (in_range k 1 (most_distance w.r) some (omega arith)))
+        (all_right (Keeps w.reading) (tunnels_at ++ paired_at) pairs_at all_pieces) (in_range 1 (most_distance w.r) k some (omega arith)))
 
     way_kept : Kept w (way_rules c dir k)
     way_kept = all_left (Keeps w.reading) (way_rules c dir k) classes_at pair_kept
@@ -134,10 +136,10 @@ module _ (w : Solved) (c : Cell) (h : IsInside w.r.rect c) (dir : Dir) where
         ⊎_elim (λ e. e) (λ none. absurd none)
         (all_mapped (Keeps w.reading) (λ fact. rule (Pair c dir k ∷ []) (fact ∷ [])) (Tunnel (steps j dir c) dir)
         (map (λ x. Tunnel (steps x dir c) dir) (range_with_len 1 (k - 1))) way_kept.1.1
-        (in_map (λ x. Tunnel (steps x dir c) dir) j (range_with_len 1 (k - 1)) (in_range j 1 (k - 1) j_some (omega arith))) (pair, tt))
+        (in_map (λ x. Tunnel (steps x dir c) dir) (range_with_len 1 (k - 1)) j (in_range 1 (k - 1) j j_some (omega arith))) (pair, tt))
 
     -- with the entrance's class
-    pub class_under : (class : Class) → In class (classes_of w.r) → Says w (Carries c class) → Says w (Carries (steps k dir c) class)
+    pub class_under : (class : Class) → In (classes_of w.r) class → Says w (Carries c class) → Says w (Carries (steps k dir c) class)
     unfolding classes_at
     class_under class there s =
         let kept = all_flat (Keeps w.reading) (pair_class_rules c dir k) class (classes_of w.r)

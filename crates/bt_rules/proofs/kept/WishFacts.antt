@@ -25,7 +25,7 @@ use Rattle.bt_rules.specs.Classes.{class_of}
 use Rattle.bt_rules.specs.Contents.{holds}
 use Rattle.bt_rules.specs.Going.{runners}
 use Rattle.bt_rules.specs.Kept.{kind_of, IsKeptPart}
-use Rattle.bt_rules.proofs.kept.Readings.{In}
+use Rattle.bt_rules.proofs.Keeping.{In}
 use Rattle.bt_rules.proofs.kept.RankFacts.{rank, rank_at, rank_one}
 use Rattle.bt_rules.proofs.kept.ListFacts.{all_at}
 use Rattle.bt_rules.proofs.kept.NetFacts.{IsEdge, edge_ends, class_in, output_by}
@@ -50,14 +50,14 @@ counted_one p xs d e a b one at_a t_a at_b t_b =
     rank_one p xs d e a b at_a t_a at_b t_b (omega arith)
 
 -- the cells inside that pins name
-pub pin_inside : (w : Solved) (pin : Pin) → In pin w.r.pins → IsInside w.r.rect (pinned pin)
+pub pin_inside : (w : Solved) (pin : Pin) → In w.r.pins pin → IsInside w.r.rect (pinned pin)
 pin_inside w pin there = let place = in_place w.r.pins pin there in all_at (λ x. IsInside w.r.rect (pinned x)) w.r.pins place.0 pin w.is_request.pins_inside place.1
 
 module _ (w : Solved) (parts : List Part) (lists : ListsEach (IsKeptPart w.r w.reading) parts) where
   -- the chain must be that of the edge: it comes in where the edge is taken, or ends where the edge's output is pinned
   pub data Wish (e : ℕ) (edge : Edge) (c : Chain) : Type 0 where
     comes_in : (t : ℕ) → edge.target ≡ to.Split t → ComesInto w parts lists c t (in_half w parts lists t (in_rank w parts lists t e)) → Wish e edge c
-    ends_there : (o : ℕ) → edge.target ≡ to.Output o → (pin : Pin) → In pin w.r.pins → pin.end ≡ Output o → (i : ℕ) → IsOutput parts i → c.sink ≡ ends i
+    ends_there : (o : ℕ) → edge.target ≡ to.Output o → (pin : Pin) → In w.r.pins pin → pin.end ≡ Output o → (i : ℕ) → IsOutput parts i → c.sink ≡ ends i
         → IsAt parts i (pinned pin) → Wish e edge c
 
   -- its class is the edge's
@@ -68,7 +68,7 @@ module _ (w : Solved) (parts : List Part) (lists : ListsEach (IsKeptPart w.r w.r
       (ends_carry w parts lists c i (pinned pin) chain sink at cl) (pin_class_output w pin there o e edge own is targets)
 
   -- the output that ends at a pin
-  pub pin_output : (pin : Pin) (o : ℕ) → In pin w.r.pins → pin.end ≡ Output o → (i : ℕ) × IsOutput parts i × IsAt parts i (pinned pin)
+  pub pin_output : (pin : Pin) (o : ℕ) → In w.r.pins pin → pin.end ≡ Output o → (i : ℕ) × IsOutput parts i × IsAt parts i (pinned pin)
   pin_output pin o there own =
       let found = pin_ends w pin there o own in
       made found.0 found.1 found.2 found.3 found.4
@@ -76,7 +76,7 @@ module _ (w : Solved) (parts : List Part) (lists : ListsEach (IsKeptPart w.r w.r
       inside : IsInside w.r.rect (pinned pin)
       inside = pin_inside w pin there
 
-      made : (dir : Dir) (of : Shape) → In of runners → (IsInside w.r.rect (step dir (pinned pin)) → ⊥) → Says w (holds (pinned pin) of dir)
+      made : (dir : Dir) (of : Shape) → In runners of → (IsInside w.r.rect (step dir (pinned pin)) → ⊥) → Says w (holds (pinned pin) of dir)
           → (i : ℕ) × IsOutput parts i × IsAt parts i (pinned pin)
       made dir of runs out says =
           let reached = ender_reached w (pinned pin) of dir inside runs says out in
@@ -91,12 +91,12 @@ module _ (w : Solved) (parts : List Part) (lists : ListsEach (IsKeptPart w.r w.r
             at_there w parts lists part.0 of dir (pinned pin) part.1,
           )
         where
-          kinds : (of : Shape) → In of runners → (kind_of of ≡ kind.Belt) ⊎ (kind_of of ≡ kind.Exit)
+          kinds : (of : Shape) → In runners of → (kind_of of ≡ kind.Belt) ⊎ (kind_of of ≡ kind.Exit)
           kinds of (inl e) = inl (ap kind_of e)
           kinds of (inr (inl e)) = inr (ap kind_of e)
           kinds of (inr (inr none)) = absurd none
 
-          home_own : (of : Shape) → In of runners → home of dir (pinned pin) ≡ pinned pin
+          home_own : (of : Shape) → In runners of → home of dir (pinned pin) ≡ pinned pin
           home_own of (inl e) = ap (λ s. home s dir (pinned pin)) e
           home_own of (inr (inl e)) = ap (λ s. home s dir (pinned pin)) e
           home_own of (inr (inr none)) = absurd none
@@ -115,7 +115,7 @@ module _ (w : Solved) (parts : List Part) (lists : ListsEach (IsKeptPart w.r w.r
         (λ none. inr (λ c wish. never o targets none c wish))
         (pin_cases w.r.pins (Output o))
       where
-        never : (o : ℕ) → edge.target ≡ to.Output o → ((pin : Pin) → In pin w.r.pins → pin.end ≡ Output o → ⊥) → (c : Chain) → Wish e edge c → ⊥
+        never : (o : ℕ) → edge.target ≡ to.Output o → ((pin : Pin) → In w.r.pins pin → pin.end ≡ Output o → ⊥) → (c : Chain) → Wish e edge c → ⊥
         never o targets none c (comes_in t other a) = let clash = sym targets ∙ other in cc
         never o targets none c (ends_there u other pin there own i output sink at) =
             let targets_same : to.Output o ≡ to.Output u = sym targets ∙ other in
