@@ -9,6 +9,7 @@ pub mod Labels
 pub mod Ports
 pub mod Pinning
 pub mod Numbering
+pub mod Blocks
 pub mod Within
 pub mod PlaceFormula
 pub mod Laws

@@ -1,7 +1,8 @@
 //! Where the blocks of variables begin.
 ghost use Rattle.std.specs.Prelude.{◌≡◌, ◌<◌, ◌+◌, ◌*◌, ◌^◌, []};
 ghost use Rattle.bt_place.specs.Numbering.{variables};
-ghost use Rattle.bt_place.specs.inner.Blocks.{sizes_with, starts_of};
+ghost use Rattle.bt_place.specs.Blocks.{starts_of};
+ghost use Rattle.bt_place.specs.inner.Blocks.{sizes_with};
 
 /// How much of each kind a request has.
 #[derive(Clone, Copy)]

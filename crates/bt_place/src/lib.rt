@@ -22,7 +22,9 @@ mod standing;
 mod underground;
 mod writing;
 
+pub use blocks::Starts;
 pub use encoding::encode_place;
 pub use fact::{Content, Fact, Half, Shape};
 pub use law::{laying_meets, meeting_keeps};
+pub use numbering::block_starts;
 pub use std::alloc::AllocError as Memory;

@@ -2,6 +2,7 @@
 ghost use Rattle.std.specs.Prelude.{◌≡◌, ◌<◌, ◌+◌, ◌-◌, ◌*◌, ◌^◌, IfOk};
 ghost use Rattle.bt_model.specs.Requests.{IsRequest};
 ghost use Rattle.bt_place.specs.Numbering as numbering;
+ghost use Rattle.bt_place.specs.Blocks.{starts_of};
 ghost use Rattle.bt_place.specs.PlaceFormula.{sizes_of};
 ghost use Rattle.bt_place.specs.Within.{IsSpot, IsWithin};
 ghost use Rattle.bt_place.specs.inner.Blocks.{sizes_with, AreNumbers, place_number};
@@ -104,6 +105,14 @@ fn extent_of(request: &Request) -> Extent
         outputs: net.outputs() as usize,
         distances: request.tier().reach() as usize + 1,
     }
+}
+
+/// Where each block of the variables of a request's formula begins.
+pub fn block_starts(request: &Request) -> Starts
+    ensures { result ≡ starts_of (sizes_of request.now) }
+{
+    let _net = request.net();
+    starts_of(extent_of(request))
 }
 
 impl Numbers {

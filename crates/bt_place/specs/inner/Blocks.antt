@@ -4,8 +4,8 @@ use Rattle.bt_parts.specs.declared.part.Cell.{Cell}
 use Rattle.bt_model.specs.Requests.{LayoutRequest, IsRequest}
 use Rattle.bt_place.specs.declared.blocks.Extent.{Extent}
 use Rattle.bt_place.specs.declared.blocks.Starts.{Starts}
-use Rattle.bt_place.specs.Numbering as numbering
 use Rattle.bt_place.specs.Numbering.{Sizes, spots, along}
+use Rattle.bt_place.specs.Blocks.{starts_of}
 use Rattle.bt_place.specs.PlaceFormula.{sizes_of}
 
 -- the sizes with these ranks
@@ -19,27 +19,6 @@ sizes_with e ranks = record {
   outputs = e.outputs;
   distances = e.distances;
   ranks = ranks;
-}
-
--- where the blocks begin
-abbrev pub starts_of : Sizes → Starts
-starts_of z = record {
-  names = numbering.names_from z;
-  labels = numbering.labels_from z;
-  firsts = numbering.firsts_from z;
-  lasts = numbering.lasts_from z;
-  distances = numbering.distances_from z;
-  leaving = numbering.leaving_from z;
-  entering = numbering.entering_from z;
-  columns = numbering.columns_from z;
-  rows = numbering.rows_from z;
-  points = numbering.points_from z;
-  halves = numbering.halves_from z;
-  begins = numbering.begins_from z;
-  tunnels = numbering.tunnels_from z;
-  stills = numbering.stills_from z;
-  places = numbering.places_from z;
-  end = numbering.variables z;
 }
 
 -- the sizes of a request, and where their blocks begin

@@ -1,0 +1,3 @@
+pub mod FormulaText
+pub mod Legends
+pub mod inner
