@@ -16,7 +16,7 @@ le_or x y =
       | inr l ↦ inl (omega (arith, ints, l))
     ]
 
-same_or : (x y : ℤ) → (x ≡ y) ⊎ (x ≡ y → ⊥)
+pub same_or : (x y : ℤ) → (x ≡ y) ⊎ (x ≡ y → ⊥)
 same_or x y =
     elim (le_or x y) [
       | inl l ↦ elim (le_or y x) [ inl m ↦ inl (omega (arith, ints, l, m)) | inr o ↦ inr (λ e. o (omega (arith, ints, e))) ]

@@ -25,27 +25,31 @@ module _ (n : Network) (equal : HasEqualCaps n) (s : Flows) where
         subst (λ z. flow_at s b ≤ℤ z) same most
   ]
 
-  from_seven : IsSteady n s → IsEvenlySteady n s
-  from_seven h = record {
+  from_nine : IsSteady n s → IsEvenlySteady n s
+  from_nine h = record {
     range = h.range;
     conserve = h.conserve;
-    even_out = λ a l k b e f x y o p q m. even h.range a b e f x y (h.even_out a l k b e f x y o p q m);
-    even_in = λ a l k b e f x y o p q m. even h.range a b e f x y (h.even_in a l k b e f x y o p q m);
+    even_out = λ a l k b e f x y o p q none m. even h.range a b e f x y (h.even_out a l k b e f x y o p q none m);
+    even_in = λ a l k b e f x y o p q none m. even h.range a b e f x y (h.even_in a l k b e f x y o p q none m);
+    prior_out = h.prior_out;
+    prior_in = h.prior_in;
     backing = h.backing;
     input = h.input;
     output = h.output;
   }
 
-to_seven : (n : Network) (s : Flows) → IsEvenlySteady n s → IsSteady n s
-to_seven n s h = record {
+to_nine : (n : Network) (s : Flows) → IsEvenlySteady n s → IsSteady n s
+to_nine n s h = record {
   range = h.range;
   conserve = h.conserve;
-  even_out = λ a l k b e f x y o p q m. inl (h.even_out a l k b e f x y o p q m);
-  even_in = λ a l k b e f x y o p q m. inl (h.even_in a l k b e f x y o p q m);
+  even_out = λ a l k b e f x y o p q none m. inl (h.even_out a l k b e f x y o p q none m);
+  even_in = λ a l k b e f x y o p q none m. inl (h.even_in a l k b e f x y o p q none m);
+  prior_out = h.prior_out;
+  prior_in = h.prior_in;
   backing = h.backing;
   input = h.input;
   output = h.output;
 }
 
 pub equal_caps_even : EqualCapsEven
-equal_caps_even n equal s = (from_seven n equal s, to_seven n s)
+equal_caps_even n equal s = (from_nine n equal s, to_nine n s)

@@ -45,10 +45,12 @@ test_at (suc (suc zero)) = test.Range
 test_at (suc (suc (suc zero))) = test.Conserve
 test_at (suc (suc (suc (suc zero)))) = test.EvenOut
 test_at (suc (suc (suc (suc (suc zero))))) = test.EvenIn
-test_at (suc (suc (suc (suc (suc (suc zero)))))) = test.Backing
-test_at (suc (suc (suc (suc (suc (suc (suc zero))))))) = test.Input
-test_at (suc (suc (suc (suc (suc (suc (suc (suc zero)))))))) = test.Output
-test_at (suc (suc (suc (suc (suc (suc (suc (suc (suc n))))))))) = test.Conclusion
+test_at (suc (suc (suc (suc (suc (suc zero)))))) = test.PriorOut
+test_at (suc (suc (suc (suc (suc (suc (suc zero))))))) = test.PriorIn
+test_at (suc (suc (suc (suc (suc (suc (suc (suc zero)))))))) = test.Backing
+test_at (suc (suc (suc (suc (suc (suc (suc (suc (suc zero))))))))) = test.Input
+test_at (suc (suc (suc (suc (suc (suc (suc (suc (suc (suc zero)))))))))) = test.Output
+test_at (suc (suc (suc (suc (suc (suc (suc (suc (suc (suc (suc n))))))))))) = test.Conclusion
 
 at_order : (u : Test) → test_at (order_of u) ≡ u
 unfolding test_at
@@ -58,6 +60,8 @@ at_order test.Range = refl
 at_order test.Conserve = refl
 at_order test.EvenOut = refl
 at_order test.EvenIn = refl
+at_order test.PriorOut = refl
+at_order test.PriorIn = refl
 at_order test.Backing = refl
 at_order test.Input = refl
 at_order test.Output = refl
@@ -65,9 +69,9 @@ at_order test.Conclusion = refl
 
 -- all tests, in their order
 abbrev pub all_tests : List Test
-all_tests = test.Load ∷ test.Room ∷ test.Range ∷ test.Conserve ∷ test.EvenOut ∷ test.EvenIn ∷ test.Backing ∷ test.Input ∷ test.Output ∷ test.Conclusion ∷ []
+all_tests = test.Load ∷ test.Room ∷ test.Range ∷ test.Conserve ∷ test.EvenOut ∷ test.EvenIn ∷ test.PriorOut ∷ test.PriorIn ∷ test.Backing ∷ test.Input ∷ test.Output ∷ test.Conclusion ∷ []
 
-pub order_at : (i : ℕ) (d : Test) → i < 10 → order_of (get_or all_tests i d) ≡ i
+pub order_at : (i : ℕ) (d : Test) → i < 12 → order_of (get_or all_tests i d) ≡ i
 order_at zero d h = refl
 order_at (suc zero) d h = refl
 order_at (suc (suc zero)) d h = refl
@@ -78,7 +82,9 @@ order_at (suc (suc (suc (suc (suc (suc zero)))))) d h = refl
 order_at (suc (suc (suc (suc (suc (suc (suc zero))))))) d h = refl
 order_at (suc (suc (suc (suc (suc (suc (suc (suc zero)))))))) d h = refl
 order_at (suc (suc (suc (suc (suc (suc (suc (suc (suc zero))))))))) d h = refl
-order_at (suc (suc (suc (suc (suc (suc (suc (suc (suc (suc n)))))))))) d h = absurd (omega arith)
+order_at (suc (suc (suc (suc (suc (suc (suc (suc (suc (suc zero)))))))))) d h = refl
+order_at (suc (suc (suc (suc (suc (suc (suc (suc (suc (suc (suc zero))))))))))) d h = refl
+order_at (suc (suc (suc (suc (suc (suc (suc (suc (suc (suc (suc (suc n)))))))))))) d h = absurd (omega arith)
 
 -- tests are told apart by their places in the order
 pub same_order : (u v : Test) → order_of u ≡ order_of v → u ≡ v
@@ -160,21 +166,23 @@ needs_fit x first last (Fails v a) h = λ u b m q z. elim z [
   | inr y ↦ subst (λ z. AllFit (sums_of x.network x.property x.state z b)) (sym y.0) (subst (λ c. AllFit (sums_of x.network x.property x.state v c)) (sym y.1) h.1.fit)
 ]
 
-steady_from : (n : Network) (p : Property) (s : Flows) → ((u : Test) (b : ℕ) → 2 ≤ order_of u → order_of u ≤ 8 → b < places n u → PassesAt n p s u b) → IsSteady n s
+steady_from : (n : Network) (p : Property) (s : Flows) → ((u : Test) (b : ℕ) → 2 ≤ order_of u → order_of u ≤ 10 → b < places n u → PassesAt n p s u b) → IsSteady n s
 steady_from n p s f =
     record {
       range = λ a l. f test.Range a (lit≤ tt) (lit≤ tt) l;
       conserve = λ a l. f test.Conserve a (lit≤ tt) (lit≤ tt) l;
       even_out = λ a l. f test.EvenOut a (lit≤ tt) (lit≤ tt) l;
       even_in = λ a l. f test.EvenIn a (lit≤ tt) (lit≤ tt) l;
+      prior_out = λ a l. f test.PriorOut a (lit≤ tt) (lit≤ tt) l;
+      prior_in = λ a l. f test.PriorIn a (lit≤ tt) (lit≤ tt) l;
       backing = λ a l. f test.Backing a (lit≤ tt) (lit≤ tt) l;
       input = λ a l. f test.Input a (lit≤ tt) (lit≤ tt) l;
       output = λ a l. f test.Output a (lit≤ tt) (lit≤ tt) l;
     }
 
-passed_breaks : (x : Subject) (s : Flows) → StandsFor x.network x.state s → IsJudged x 0 9 (Ok Passes) → Breaks x.network x.property s
+passed_breaks : (x : Subject) (s : Flows) → StandsFor x.network x.state s → IsJudged x 0 11 (Ok Passes) → Breaks x.network x.property s
 passed_breaks x s g h =
-    let passes : (u : Test) (b : ℕ) → order_of u ≤ 9 → b < places x.network u → PassesAt x.network x.property s u b = λ u b l q. (h u b (omega arith, l) q).passes s g in
+    let passes : (u : Test) (b : ℕ) → order_of u ≤ 11 → b < places x.network u → PassesAt x.network x.property s u b = λ u b l q. (h u b (omega arith, l) q).passes s g in
     record {
       state = g.is_state;
       admissible = record { loads = λ i l. (passes test.Load i (lit≤ tt) l).0; rooms = λ i l. (passes test.Room i (lit≤ tt) l).0 };
@@ -183,39 +191,43 @@ passed_breaks x s g h =
       fails = passes test.Conclusion 0 (lit≤ tt) (lit< tt);
     }
 
-passed_steady : (x : Subject) (s : Flows) → StandsFor x.network x.state s → IsJudged x 2 8 (Ok Passes) → IsSteady x.network s
+passed_steady : (x : Subject) (s : Flows) → StandsFor x.network x.state s → IsJudged x 2 10 (Ok Passes) → IsSteady x.network s
 passed_steady x s g h = steady_from x.network x.property s (λ u b low high q. (h u b (low, high) q).passes s g)
 
-judges_breaking : (x : Subject) (j : Judgement) → IsJudged x 0 9 (Ok j) → (s : Flows) → StandsFor x.network x.state s → JudgesBreaking x.network x.property j s
+judges_breaking : (x : Subject) (j : Judgement) → IsJudged x 0 11 (Ok j) → (s : Flows) → StandsFor x.network x.state s → JudgesBreaking x.network x.property j s
 judges_breaking x Passes h s g = passed_breaks x s g h
-judges_breaking x (Fails v a) h s g = first_fails x s 0 9 v a g h
+judges_breaking x (Fails v a) h s g = first_fails x s 0 11 v a g h
 
 -- a law speaks of no property
-law_alone : (n : Network) (p q : Property) (s : Flows) (u : Test) (b : ℕ) → 2 ≤ order_of u → order_of u ≤ 8 → PassesAt n p s u b → PassesAt n q s u b
+law_alone : (n : Network) (p q : Property) (s : Flows) (u : Test) (b : ℕ) → 2 ≤ order_of u → order_of u ≤ 10 → PassesAt n p s u b → PassesAt n q s u b
 law_alone n p q s test.Load b low high h = absurd (omega (arith, low))
 law_alone n p q s test.Room b low high h = absurd (omega (arith, low))
 law_alone n p q s test.Range b low high h = h
 law_alone n p q s test.Conserve b low high h = h
 law_alone n p q s test.EvenOut b low high h = h
 law_alone n p q s test.EvenIn b low high h = h
+law_alone n p q s test.PriorOut b low high h = h
+law_alone n p q s test.PriorIn b low high h = h
 law_alone n p q s test.Backing b low high h = h
 law_alone n p q s test.Input b low high h = h
 law_alone n p q s test.Output b low high h = h
 law_alone n p q s test.Conclusion b low high h = absurd (omega (arith, high))
 
-sums_alone : (n : Network) (p q : Property) (t : Fractions) (u : Test) (b : ℕ) → 2 ≤ order_of u → order_of u ≤ 8 → sums_of n p t u b ≡ sums_of n q t u b
+sums_alone : (n : Network) (p q : Property) (t : Fractions) (u : Test) (b : ℕ) → 2 ≤ order_of u → order_of u ≤ 10 → sums_of n p t u b ≡ sums_of n q t u b
 sums_alone n p q t test.Load b low high = refl
 sums_alone n p q t test.Room b low high = refl
 sums_alone n p q t test.Range b low high = refl
 sums_alone n p q t test.Conserve b low high = refl
 sums_alone n p q t test.EvenOut b low high = refl
 sums_alone n p q t test.EvenIn b low high = refl
+sums_alone n p q t test.PriorOut b low high = refl
+sums_alone n p q t test.PriorIn b low high = refl
 sums_alone n p q t test.Backing b low high = refl
 sums_alone n p q t test.Input b low high = refl
 sums_alone n p q t test.Output b low high = refl
 sums_alone n p q t test.Conclusion b low high = absurd (omega (arith, high))
 
-fails_alone : (n : Network) (p q : Property) (s : Flows) (v : Test) (a : ℕ) → FailsFirst n p s 2 8 v a → FailsFirst n q s 2 8 v a
+fails_alone : (n : Network) (p q : Property) (s : Flows) (v : Test) (a : ℕ) → FailsFirst n p s 2 10 v a → FailsFirst n q s 2 10 v a
 fails_alone n p q s v a h =
     record {
       among = h.among;
@@ -224,14 +236,14 @@ fails_alone n p q s v a h =
       earlier = λ u b m l x. law_alone n p q s u b m.0 m.1 (h.earlier u b m l x);
     }
 
-judges_steady : (x : Subject) (j : Judgement) → IsJudged x 2 8 (Ok j) → (s : Flows) → StandsFor x.network x.state s → JudgesSteady x.network j s
+judges_steady : (x : Subject) (j : Judgement) → IsJudged x 2 10 (Ok j) → (s : Flows) → StandsFor x.network x.state s → JudgesSteady x.network j s
 judges_steady x Passes h s g = passed_steady x s g h
-judges_steady x (Fails v a) h s g = λ q. fails_alone x.network x.property q s v a (first_fails x s 2 8 v a g h)
+judges_steady x (Fails v a) h s g = λ q. fails_alone x.network x.property q s v a (first_fails x s 2 10 v a g h)
 
-fit_alone : (n : Network) (p q : Property) (t : Fractions) (j : Judgement) → NeedsFit n p t 2 8 j → NeedsFit n q t 2 8 j
+fit_alone : (n : Network) (p q : Property) (t : Fractions) (j : Judgement) → NeedsFit n p t 2 10 j → NeedsFit n q t 2 10 j
 fit_alone n p q t j h = λ u b m l x. subst AllFit (sums_alone n p q t u b m.0 m.1) (h u b m l x)
 
-wide_alone : (n : Network) (p q : Property) (t : Fractions) (w : WideSum) → IsWideSum n p t 2 8 w → IsWideSum n q t 2 8 w
+wide_alone : (n : Network) (p q : Property) (t : Fractions) (w : WideSum) → IsWideSum n p t 2 10 w → IsWideSum n q t 2 10 w
 wide_alone n p q t w h =
     record {
       among = h.among;
@@ -243,12 +255,12 @@ wide_alone n p q t w h =
 
 -- a judgement of all tests is a right answer of `breaks`
 pub breaking_answer : (n : Network) (p : Property) (t : Fractions) (r : Result Judgement WideSum) → (s : Flows) × StandsFor n t s
-    → IsJudged (record { network = n; property = p; state = t }) 0 9 r → IsBreakingAnswer n p t r
-breaking_answer n p t (Ok j) some h = (record { some = some; each = judges_breaking _ j h }, needs_fit _ 0 9 j h)
+    → IsJudged (record { network = n; property = p; state = t }) 0 11 r → IsBreakingAnswer n p t r
+breaking_answer n p t (Ok j) some h = (record { some = some; each = judges_breaking _ j h }, needs_fit _ 0 11 j h)
 breaking_answer n p t (Err w) some h = h
 
 -- a judgement of the laws, for whatever property, is a right answer of `steady`
 pub steady_answer : (n : Network) (p : Property) (t : Fractions) (r : Result Judgement WideSum) → (s : Flows) × StandsFor n t s
-    → IsJudged (record { network = n; property = p; state = t }) 2 8 r → IsSteadyAnswer n t r
-steady_answer n p t (Ok j) some h = (record { some = some; each = judges_steady _ j h }, λ q. fit_alone n p q t j (needs_fit _ 2 8 j h))
+    → IsJudged (record { network = n; property = p; state = t }) 2 10 r → IsSteadyAnswer n t r
+steady_answer n p t (Ok j) some h = (record { some = some; each = judges_steady _ j h }, λ q. fit_alone n p q t j (needs_fit _ 2 10 j h))
 steady_answer n p t (Err w) some h = λ q. wide_alone n p q t w h

@@ -91,13 +91,15 @@ module _ (n : Network) (p : Property) (t : Fractions) (s : Flows) (g : StandsFor
   one_answer (Err w) (Ok k) h f = absurd (judged_or_wide k w f.0 f.1 h)
   one_answer (Err w) (Err v) h f = ap Err (one_wide w v h f)
 
-laws_pass : (n : Network) (p : Property) (s : Flows) → IsSteady n s → (u : Test) (b : ℕ) → 2 ≤ order_of u → order_of u ≤ 8 → b < places n u → PassesAt n p s u b
+laws_pass : (n : Network) (p : Property) (s : Flows) → IsSteady n s → (u : Test) (b : ℕ) → 2 ≤ order_of u → order_of u ≤ 10 → b < places n u → PassesAt n p s u b
 laws_pass n p s h test.Load b low high l = absurd (omega (arith, low))
 laws_pass n p s h test.Room b low high l = absurd (omega (arith, low))
 laws_pass n p s h test.Range b low high l = h.range b l
 laws_pass n p s h test.Conserve b low high l = h.conserve b l
 laws_pass n p s h test.EvenOut b low high l = h.even_out b l
 laws_pass n p s h test.EvenIn b low high l = h.even_in b l
+laws_pass n p s h test.PriorOut b low high l = h.prior_out b l
+laws_pass n p s h test.PriorIn b low high l = h.prior_in b l
 laws_pass n p s h test.Backing b low high l = h.backing b l
 laws_pass n p s h test.Input b low high l = h.input b l
 laws_pass n p s h test.Output b low high l = h.output b l
@@ -111,24 +113,26 @@ breaks_pass n p s h test.Range b l = h.steady.range b l
 breaks_pass n p s h test.Conserve b l = h.steady.conserve b l
 breaks_pass n p s h test.EvenOut b l = h.steady.even_out b l
 breaks_pass n p s h test.EvenIn b l = h.steady.even_in b l
+breaks_pass n p s h test.PriorOut b l = h.steady.prior_out b l
+breaks_pass n p s h test.PriorIn b l = h.steady.prior_in b l
 breaks_pass n p s h test.Backing b l = h.steady.backing b l
 breaks_pass n p s h test.Input b l = h.steady.input b l
 breaks_pass n p s h test.Output b l = h.steady.output b l
 breaks_pass n p s h test.Conclusion b l = h.fails
 
-breaking_says : (n : Network) (p : Property) (s : Flows) (j : Judgement) → JudgesBreaking n p j s → Says n p s 0 9 j
+breaking_says : (n : Network) (p : Property) (s : Flows) (j : Judgement) → JudgesBreaking n p j s → Says n p s 0 11 j
 breaking_says n p s Passes h = λ u b m l. breaks_pass n p s h u b l
 breaking_says n p s (Fails t a) h = h
 
-steady_says : (n : Network) (p : Property) (s : Flows) (j : Judgement) → JudgesSteady n j s → Says n p s 2 8 j
+steady_says : (n : Network) (p : Property) (s : Flows) (j : Judgement) → JudgesSteady n j s → Says n p s 2 10 j
 steady_says n p s Passes h = λ u b m l. laws_pass n p s h u b m.0 m.1 l
 steady_says n p s (Fails t a) h = h p
 
-breaking_answers : (n : Network) (p : Property) (t : Fractions) (s : Flows) → StandsFor n t s → (x : Result Judgement WideSum) → IsBreakingAnswer n p t x → Answers n p t s 0 9 x
+breaking_answers : (n : Network) (p : Property) (t : Fractions) (s : Flows) → StandsFor n t s → (x : Result Judgement WideSum) → IsBreakingAnswer n p t x → Answers n p t s 0 11 x
 breaking_answers n p t s g (Ok j) h = (breaking_says n p s j (h.0.each s g), h.1)
 breaking_answers n p t s g (Err w) h = h
 
-steady_answers : (n : Network) (t : Fractions) (s : Flows) → StandsFor n t s → (x : Result Judgement WideSum) → IsSteadyAnswer n t x → Answers n Unlimited t s 2 8 x
+steady_answers : (n : Network) (t : Fractions) (s : Flows) → StandsFor n t s → (x : Result Judgement WideSum) → IsSteadyAnswer n t x → Answers n Unlimited t s 2 10 x
 steady_answers n t s g (Ok j) h = (steady_says n Unlimited s j (h.0.each s g), h.1 Unlimited)
 steady_answers n t s g (Err w) h = h Unlimited
 
@@ -144,10 +148,10 @@ steady_some n t (Err w) h = (h Unlimited).earlier.some
 pub one_breaking_answer : (n : Network) (p : Property) (t : Fractions) → HasOneAnswer (IsBreakingAnswer n p t)
 one_breaking_answer n p t x y h k =
     let some = breaking_some n p t x h in
-    one_answer n p t some.0 some.1 0 9 x y (breaking_answers n p t some.0 some.1 x h) (breaking_answers n p t some.0 some.1 y k)
+    one_answer n p t some.0 some.1 0 11 x y (breaking_answers n p t some.0 some.1 x h) (breaking_answers n p t some.0 some.1 y k)
 
 -- `steady` has one right answer
 pub one_steady_answer : (n : Network) (t : Fractions) → HasOneAnswer (IsSteadyAnswer n t)
 one_steady_answer n t x y h k =
     let some = steady_some n t x h in
-    one_answer n Unlimited t some.0 some.1 2 8 x y (steady_answers n t some.0 some.1 x h) (steady_answers n t some.0 some.1 y k)
+    one_answer n Unlimited t some.0 some.1 2 10 x y (steady_answers n t some.0 some.1 x h) (steady_answers n t some.0 some.1 y k)

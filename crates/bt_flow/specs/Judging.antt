@@ -13,13 +13,13 @@ use Rattle.bt_flow.specs.Properties.{Breaks}
 use Rattle.bt_flow.specs.Tests.{places, IsAmong, IsEarlier, PassesUpTo, FailsFirst}
 use Rattle.bt_flow.specs.Sums.{sums_of, AllFit, IsFirstWide}
 
--- the judgement is that of the seven laws: they pass, and the state is steady; or this law is the first
+-- the judgement is that of the nine laws: they pass, and the state is steady; or this law is the first
 -- that fails, at this place, whatever the property, of which no law speaks
 abbrev pub JudgesSteady : Network → Judgement → Flows → Type 0
 JudgesSteady n Passes s = IsSteady n s
 JudgesSteady n (Fails t a) s = (p : Property) → FailsFirst n p s FIRST_LAW LAST_LAW t a
 
--- the judgement is that of all ten tests: they pass, and the state breaks the property; or this test is
+-- the judgement is that of all twelve tests: they pass, and the state breaks the property; or this test is
 -- the first that fails, at this place
 abbrev pub JudgesBreaking : Network → Property → Judgement → Flows → Type 0
 JudgesBreaking n p Passes s = Breaks n p s
@@ -50,7 +50,7 @@ abbrev pub IsBreakingAnswer : Network → Property → Fractions → Result Judg
 IsBreakingAnswer n p t (Ok j) = IsTrueOf n t (JudgesBreaking n p j) × NeedsFit n p t 0 LAST_TEST j
 IsBreakingAnswer n p t (Err w) = IsWideSum n p t 0 LAST_TEST w
 
--- the right answer of `steady`: the same for the seven laws alone, whatever the property
+-- the right answer of `steady`: the same for the nine laws alone, whatever the property
 abbrev pub IsSteadyAnswer : Network → Fractions → Result Judgement WideSum → Type 0
 IsSteadyAnswer n t (Ok j) = IsTrueOf n t (JudgesSteady n j) × ((p : Property) → NeedsFit n p t FIRST_LAW LAST_LAW j)
 IsSteadyAnswer n t (Err w) = (p : Property) → IsWideSum n p t FIRST_LAW LAST_LAW w

@@ -1,8 +1,8 @@
--- Steady states of a splitter network, by seven laws. (After Couëtoux, Gastaldi and Naves, The
--- Steady-States of Splitter Networks.)
-use Rattle.std.specs.Prelude.{◌≡◌, ◌≢◌, ℕ, ◌<◌, Bool, true, false, IsTrue, List, [], ◌∷◌, length, slice_get, Some, ℤ, pos, ◌+ℤ◌, ◌≤ℤ◌, if◌then◌else◌, ◌⊎◌}
+-- Steady states of a splitter network, by seven laws (after Couëtoux, Gastaldi and Naves, The
+-- Steady-States of Splitter Networks) and two of splitters that prefer an edge.
+use Rattle.std.specs.Prelude.{◌≡◌, ◌≢◌, ℕ, ◌<◌, Bool, true, false, IsTrue, List, [], ◌∷◌, length, slice_get, Some, None, ℤ, pos, ◌+ℤ◌, ◌≤ℤ◌, if◌then◌else◌, ◌⊎◌}
 use Rattle.bt_net.specs.declared.network.Edge.{Edge}
-use Rattle.bt_net.specs.Network.{Network, leaves, enters, is_input, is_output}
+use Rattle.bt_net.specs.Network.{Network, give_of, take_of, leaves, enters, is_input, is_output}
 use Rattle.bt_flow.specs.States.{Flows, flow_at, backed_at, load_at, room_at, cap_in}
 
 -- this is the edge of the network with this number
@@ -19,6 +19,10 @@ sum_where p (e ∷ edges) (f ∷ flows) = (if p e then f else pos 0) +ℤ sum_wh
 abbrev pub IsFull : Flows → ℕ → Edge → Type 0
 IsFull s a e = flow_at s a ≡ cap_in s e
 
+-- the edge with this number is empty: its flow is 0
+abbrev pub IsEmpty : Flows → ℕ → Type 0
+IsEmpty s a = flow_at s a ≡ pos 0
+
 -- range: the flow of an edge is from 0 to its cap
 abbrev pub KeepsRange : Network → Flows → ℕ → Type 0
 KeepsRange n s a = (e : Edge) → HasEdge n a e → (pos 0 ≤ℤ flow_at s a) × (flow_at s a ≤ℤ cap_in s e)
@@ -27,15 +31,27 @@ KeepsRange n s a = (e : Edge) → HasEdge n a e → (pos 0 ≤ℤ flow_at s a) �
 abbrev pub Conserves : Network → Flows → ℕ → Type 0
 Conserves n s k = sum_where (enters k) n.edges s.flows ≡ sum_where (leaves k) n.edges s.flows
 
--- even-out: a free out edge of a splitter has a flow at least that of the splitter's other out edge, or is full
+-- even-out: a free out edge of a splitter that prefers no out edge has a flow at least that of the splitter's other out
+-- edge, or is full
 abbrev pub EvensOut : Network → Flows → ℕ → Type 0
 EvensOut n s a = (k b : ℕ) (e f : Edge) → HasEdge n a e → HasEdge n b f → b ≢ a → IsTrue (leaves k e) → IsTrue (leaves k f)
-    → backed_at s a ≡ false → (flow_at s b ≤ℤ flow_at s a) ⊎ IsFull s a e
+    → give_of n k ≡ None → backed_at s a ≡ false → (flow_at s b ≤ℤ flow_at s a) ⊎ IsFull s a e
 
--- even-in: a backed in edge of a splitter has a flow at least that of the splitter's other in edge, or is full
+-- even-in: a backed in edge of a splitter that prefers no in edge has a flow at least that of the splitter's other in
+-- edge, or is full
 abbrev pub EvensIn : Network → Flows → ℕ → Type 0
 EvensIn n s a = (k b : ℕ) (e f : Edge) → HasEdge n a e → HasEdge n b f → b ≢ a → IsTrue (enters k e) → IsTrue (enters k f)
-    → backed_at s a ≡ true → (flow_at s b ≤ℤ flow_at s a) ⊎ IsFull s a e
+    → take_of n k ≡ None → backed_at s a ≡ true → (flow_at s b ≤ℤ flow_at s a) ⊎ IsFull s a e
+
+-- prior-out: where the out edge that a splitter prefers is free, it is full, or the splitter's other out edge is empty
+abbrev pub GivesFirst : Network → Flows → ℕ → Type 0
+GivesFirst n s a = (k b : ℕ) (e f : Edge) → HasEdge n a e → HasEdge n b f → b ≢ a → IsTrue (leaves k e) → IsTrue (leaves k f)
+    → give_of n k ≡ Some a → backed_at s a ≡ false → IsEmpty s b ⊎ IsFull s a e
+
+-- prior-in: where the in edge that a splitter prefers is backed, it is full, or the splitter's other in edge is empty
+abbrev pub TakesFirst : Network → Flows → ℕ → Type 0
+TakesFirst n s a = (k b : ℕ) (e f : Edge) → HasEdge n a e → HasEdge n b f → b ≢ a → IsTrue (enters k e) → IsTrue (enters k f)
+    → take_of n k ≡ Some a → backed_at s a ≡ true → IsEmpty s b ⊎ IsFull s a e
 
 -- backing: where an in edge of a splitter is backed, each out edge of that splitter is backed or full
 abbrev pub Backs : Network → Flows → ℕ → Type 0
@@ -52,12 +68,14 @@ abbrev pub FillsOutput : Network → Flows → ℕ → Type 0
 FillsOutput n s o = (a : ℕ) (e : Edge) → HasEdge n a e → IsTrue (is_output o e)
     → (flow_at s a ≤ℤ room_at s o) × (backed_at s a ≡ true → flow_at s a ≡ room_at s o)
 
--- the state is steady: the seven laws hold everywhere
+-- the state is steady: the nine laws hold everywhere
 pub record IsSteady (n : Network) (s : Flows) : Type 0 where
   pub range : (a : ℕ) → a < length n.edges → KeepsRange n s a
   pub conserve : (k : ℕ) → k < n.splitters → Conserves n s k
   pub even_out : (a : ℕ) → a < length n.edges → EvensOut n s a
   pub even_in : (a : ℕ) → a < length n.edges → EvensIn n s a
+  pub prior_out : (a : ℕ) → a < length n.edges → GivesFirst n s a
+  pub prior_in : (a : ℕ) → a < length n.edges → TakesFirst n s a
   pub backing : (a : ℕ) → a < length n.edges → Backs n s a
   pub input : (i : ℕ) → i < n.inputs → FeedsInput n s i
   pub output : (o : ℕ) → o < n.outputs → FillsOutput n s o

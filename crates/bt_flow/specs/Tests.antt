@@ -5,7 +5,7 @@ use Rattle.bt_flow.specs.declared.property.Property.{Property}
 use Rattle.bt_flow.specs.declared.judgement.Test.{Test}
 use Rattle.bt_flow.specs.declared.judgement.Test.TheVariants as test
 use Rattle.bt_flow.specs.States.{Flows}
-use Rattle.bt_flow.specs.Steady.{KeepsRange, Conserves, EvensOut, EvensIn, Backs, FeedsInput, FillsOutput}
+use Rattle.bt_flow.specs.Steady.{KeepsRange, Conserves, EvensOut, EvensIn, GivesFirst, TakesFirst, Backs, FeedsInput, FillsOutput}
 use Rattle.bt_flow.specs.Properties.{AdmitsLoad, AdmitsRoom, IsLoaded, IsOpen, asks_loads, asks_rooms, Concludes}
 
 -- the place of a test in the order of tests
@@ -16,10 +16,12 @@ order_of test.Range = 2
 order_of test.Conserve = 3
 order_of test.EvenOut = 4
 order_of test.EvenIn = 5
-order_of test.Backing = 6
-order_of test.Input = 7
-order_of test.Output = 8
-order_of test.Conclusion = 9
+order_of test.PriorOut = 6
+order_of test.PriorIn = 7
+order_of test.Backing = 8
+order_of test.Input = 9
+order_of test.Output = 10
+order_of test.Conclusion = 11
 
 -- how many places a test has: inputs, outputs, edges, splitters, or one
 abbrev pub places : Network → Test → ℕ
@@ -29,6 +31,8 @@ places n test.Range = length n.edges
 places n test.Conserve = n.splitters
 places n test.EvenOut = length n.edges
 places n test.EvenIn = length n.edges
+places n test.PriorOut = length n.edges
+places n test.PriorIn = length n.edges
 places n test.Backing = length n.edges
 places n test.Input = n.inputs
 places n test.Output = n.outputs
@@ -42,6 +46,8 @@ PassesAt n p s test.Range a = KeepsRange n s a
 PassesAt n p s test.Conserve k = Conserves n s k
 PassesAt n p s test.EvenOut a = EvensOut n s a
 PassesAt n p s test.EvenIn a = EvensIn n s a
+PassesAt n p s test.PriorOut a = GivesFirst n s a
+PassesAt n p s test.PriorIn a = TakesFirst n s a
 PassesAt n p s test.Backing a = Backs n s a
 PassesAt n p s test.Input i = FeedsInput n s i
 PassesAt n p s test.Output o = FillsOutput n s o

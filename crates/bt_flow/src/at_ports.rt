@@ -6,8 +6,9 @@ ghost use Rattle.bt_flow.specs.States.{Fits};
 ghost use Rattle.bt_flow.specs.Steady.{KeepsRange};
 ghost use Rattle.bt_flow.specs.inner.AtPorts.{Tells, TellsOfNumber, TellsWith};
 ghost use Rattle.bt_flow.specs.inner.AtPorts.{AtEach, AdmitsAt, MeetsAt, FlowsAtMost, RestsAt};
+ghost use Rattle.bt_flow.specs.inner.AtPorts.{IsEmptyBeside, SharesAt, ComesFirstAt};
 
-use crate::compare::{is_at_most, is_full, is_same, is_within};
+use crate::compare::{is_at_most, is_full, is_nothing, is_same, is_within};
 use crate::ports::Port;
 use crate::state::State;
 use bt_frac::Frac;
@@ -60,7 +61,7 @@ pub fn meets(state: &State, port: Port, limit: &Frac, mark: bool) -> bool
 }
 
 /// Whether no edge of a port has a flow above that of an edge.
-pub fn is_greatest(state: &State, port: Port, place: usize) -> bool
+fn is_greatest(state: &State, port: Port, place: usize) -> bool
     requires place { place < length state.now.flows }
     requires port { AtEach port (λ a. a < length state.now.flows) }
     ensures { (n : Network) → Tells n state.now (λ s. AtEach port (FlowsAtMost s place)) result }
@@ -75,12 +76,77 @@ pub fn is_greatest(state: &State, port: Port, place: usize) -> bool
 }
 
 /// Whether an edge has a mark or is full.
-pub fn rests_at(net: &Net, state: &State, place: usize, mark: bool) -> bool
+fn rests_at(net: &Net, state: &State, place: usize, mark: bool) -> bool
     requires fits { Fits net.now state.now }
     requires place { place < length net.now.edges }
     ensures { Tells net.now state.now (λ s. RestsAt net.now s mark place) result }
 {
     state.backed()[place] == mark || is_full(&state.flows()[place], net.edges()[place].cap)
+}
+
+/// Whether an edge is another one, or is empty.
+fn is_empty_beside(state: &State, edge: usize, place: usize) -> bool
+    requires { edge < length state.now.flows }
+    ensures { (n : Network) → Tells n state.now (λ s. IsEmptyBeside s place edge) result }
+{
+    edge == place || is_nothing(&state.flows()[edge])
+}
+
+/// Whether each edge of a port but one is empty.
+fn is_only(state: &State, port: Port, place: usize) -> bool
+    requires { AtEach port (λ a. a < length state.now.flows) }
+    ensures { (n : Network) → Tells n state.now (λ s. AtEach port (IsEmptyBeside s place)) result }
+{
+    match port {
+        Port::Unused => true,
+        Port::One(only) => is_empty_beside(state, only as usize, place),
+        Port::Two(first, second) => is_empty_beside(state, first as usize, place)
+            && is_empty_beside(state, second as usize, place),
+    }
+}
+
+/// Whether an edge of a port, where none there is preferred, has a mark or is full, or has the greatest
+/// flow there.
+pub fn shares_at(
+    net: &Net,
+    state: &State,
+    port: Port,
+    preferred: Option<usize>,
+    place: usize,
+    mark: bool,
+) -> bool
+    requires fits { Fits net.now state.now }
+    requires place { place < length net.now.edges }
+    requires port { AtEach port (λ a. a < length net.now.edges) }
+    ensures { Tells net.now state.now (λ s. SharesAt net.now s port preferred mark place) result }
+{
+    match preferred {
+        Some(_) => true,
+        None => rests_at(net, state, place, mark) || is_greatest(state, port, place),
+    }
+}
+
+/// Whether an edge of a port, where it is the preferred one, has a mark or is full, or the others there are
+/// empty.
+pub fn comes_first_at(
+    net: &Net,
+    state: &State,
+    port: Port,
+    preferred: Option<usize>,
+    place: usize,
+    mark: bool,
+) -> bool
+    requires fits { Fits net.now state.now }
+    requires place { place < length net.now.edges }
+    requires port { AtEach port (λ a. a < length net.now.edges) }
+    ensures { Tells net.now state.now (λ s. ComesFirstAt net.now s port preferred mark place) result }
+{
+    match preferred {
+        Some(edge) => edge != place
+            || rests_at(net, state, place, mark)
+            || is_only(state, port, place),
+        None => true,
+    }
 }
 
 /// Whether each edge of a port is backed or full.

@@ -46,6 +46,13 @@ pub fn is_full(number: &Frac, cap: u32) -> bool
     is_same(number, &cap_of(cap))
 }
 
+/// Whether a number is 0.
+pub fn is_nothing(number: &Frac) -> bool
+    ensures { TellsOfOne number.now (λ x d. x ≡ pos 0) result }
+{
+    is_same(number, &cap_of(0))
+}
+
 /// Whether a number is the lesser of two.
 pub fn is_lesser(number: &Frac, left: &Frac, right: &Frac) -> bool
     ensures { TellsOfThree number.now left.now right.now IsLesser result }

@@ -5,8 +5,9 @@ ghost use Rattle.bt_flow.specs.Names.{test_name};
 
 use bt_frac::Frac;
 
-/// A test of a state, in the order in which the tests come: of the loads and rooms, the seven laws of
-/// steady states (Couëtoux, Gastaldi and Naves), and of a property's conclusion.
+/// A test of a state, in the order in which the tests come: of the loads and rooms, the nine laws of
+/// steady states (seven by Couëtoux, Gastaldi and Naves, and two of splitters that prefer an edge), and of a
+/// property's conclusion.
 #[derive(Clone, Copy, PartialEq, Eq)]
 pub enum Test {
     /// The load of an input is from 0 to its cap, and at it where the property asks that.
@@ -17,10 +18,14 @@ pub enum Test {
     Range,
     /// What enters a splitter leaves it.
     Conserve,
-    /// Where an out edge is free, the splitter's other out edge has no greater flow.
+    /// Where an out edge of a splitter that prefers none is free, the other out edge has no greater flow.
     EvenOut,
-    /// Where an in edge is backed, the splitter's other in edge has no greater flow.
+    /// Where an in edge of a splitter that prefers none is backed, the other in edge has no greater flow.
     EvenIn,
+    /// Where the out edge that a splitter prefers is free, it is full or the other out edge is empty.
+    PriorOut,
+    /// Where the in edge that a splitter prefers is backed, it is full or the other in edge is empty.
+    PriorIn,
     /// Where an in edge is backed, each out edge of its splitter is backed or full.
     Backing,
     /// The flow of an input is at most its load, and equals it where the edge is free.
@@ -32,27 +37,29 @@ pub enum Test {
 }
 
 /// All tests, in their order.
-pub const TESTS: [Test; 10] = [
+pub const TESTS: [Test; 12] = [
     Test::Load,
     Test::Room,
     Test::Range,
     Test::Conserve,
     Test::EvenOut,
     Test::EvenIn,
+    Test::PriorOut,
+    Test::PriorIn,
     Test::Backing,
     Test::Input,
     Test::Output,
     Test::Conclusion,
 ];
 
-/// The place in the order of the first of the seven laws, which the tests of loads and rooms precede.
+/// The place in the order of the first of the nine laws, which the tests of loads and rooms precede.
 pub const FIRST_LAW: usize = 2;
 
-/// The place in the order of the last of the seven laws, which only the test of the conclusion follows.
-pub const LAST_LAW: usize = 8;
+/// The place in the order of the last of the nine laws, which only the test of the conclusion follows.
+pub const LAST_LAW: usize = 10;
 
 /// The place in the order of the last test.
-pub const LAST_TEST: usize = 9;
+pub const LAST_TEST: usize = 11;
 
 impl Test {
     /// The name of the test, as answers write it. That of the conclusion is `kept`, since it fails
@@ -67,6 +74,8 @@ impl Test {
             Test::Conserve => "conserve",
             Test::EvenOut => "even-out",
             Test::EvenIn => "even-in",
+            Test::PriorOut => "prior-out",
+            Test::PriorIn => "prior-in",
             Test::Backing => "backing",
             Test::Input => "input",
             Test::Output => "output",

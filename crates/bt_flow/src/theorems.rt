@@ -28,6 +28,6 @@ pub fn holds_exactly()
 /// The places of the first law, the last law and the last test in the list of tests, as numbers.
 pub fn tests_are()
     ensures first { FIRST_LAW ≡ 2 }
-    ensures last { LAST_LAW ≡ 8 }
-    ensures conclusion { LAST_TEST ≡ 9 }
+    ensures last { LAST_LAW ≡ 10 }
+    ensures conclusion { LAST_TEST ≡ 11 }
 {}

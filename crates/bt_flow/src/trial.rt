@@ -3,7 +3,7 @@ ghost use Rattle.std.specs.Prelude.{◌≡◌, ◌<◌, IfOk, IfErr, length};
 ghost use Rattle.bt_flow.specs.Tests.{places};
 ghost use Rattle.bt_flow.specs.inner.Trials.{IsTested, IsTestedAt, Decides, IsSearched};
 
-use crate::at_ports::{admits, is_greatest, keeps_range, meets, rests_at, stops};
+use crate::at_ports::{admits, comes_first_at, keeps_range, meets, shares_at, stops};
 use crate::compare::is_same;
 use crate::conclusion::concludes;
 use crate::judgement::{Test, WideSum};
@@ -74,7 +74,12 @@ impl<'a> Trial<'a> {
             Test::Load | Test::Input => self.net.inputs() as usize,
             Test::Room | Test::Output => self.net.outputs() as usize,
             Test::Conserve => self.net.splitters() as usize,
-            Test::Range | Test::EvenOut | Test::EvenIn | Test::Backing => self.net.edges().len(),
+            Test::Range
+            | Test::EvenOut
+            | Test::EvenIn
+            | Test::PriorOut
+            | Test::PriorIn
+            | Test::Backing => self.net.edges().len(),
             Test::Conclusion => 1,
         }
     }
@@ -92,6 +97,8 @@ impl<'a> Trial<'a> {
             Test::Range => Ok(keeps_range(self.net, self.state, place)),
             Test::EvenOut => Ok(self.passes_even_out(place)),
             Test::EvenIn => Ok(self.passes_even_in(place)),
+            Test::PriorOut => Ok(self.passes_prior_out(place)),
+            Test::PriorIn => Ok(self.passes_prior_in(place)),
             Test::Backing => Ok(self.passes_backing(place)),
             Test::Input => Ok(self.passes_input(place)),
             Test::Output => Ok(self.passes_output(place)),
@@ -136,8 +143,14 @@ impl<'a> Trial<'a> {
         ensures { Decides self.now Test.EvenOut edge result }
     {
         match self.net.edges()[edge].start {
-            Start::Split(splitter) => rests_at(self.net, self.state, edge, true)
-                || is_greatest(self.state, self.ports.out_of[splitter as usize], edge),
+            Start::Split(splitter) => shares_at(
+                self.net,
+                self.state,
+                self.ports.out_of[splitter as usize],
+                self.net.give(splitter as usize),
+                edge,
+                true,
+            ),
             Start::Input(_) => true,
         }
     }
@@ -147,8 +160,48 @@ impl<'a> Trial<'a> {
         ensures { Decides self.now Test.EvenIn edge result }
     {
         match self.net.edges()[edge].target {
-            Target::Split(splitter) => rests_at(self.net, self.state, edge, false)
-                || is_greatest(self.state, self.ports.into[splitter as usize], edge),
+            Target::Split(splitter) => shares_at(
+                self.net,
+                self.state,
+                self.ports.into[splitter as usize],
+                self.net.take(splitter as usize),
+                edge,
+                false,
+            ),
+            Target::Output(_) => true,
+        }
+    }
+
+    fn passes_prior_out(&self, edge: usize) -> bool
+        requires { edge < length self.now.network.edges }
+        ensures { Decides self.now Test.PriorOut edge result }
+    {
+        match self.net.edges()[edge].start {
+            Start::Split(splitter) => comes_first_at(
+                self.net,
+                self.state,
+                self.ports.out_of[splitter as usize],
+                self.net.give(splitter as usize),
+                edge,
+                true,
+            ),
+            Start::Input(_) => true,
+        }
+    }
+
+    fn passes_prior_in(&self, edge: usize) -> bool
+        requires { edge < length self.now.network.edges }
+        ensures { Decides self.now Test.PriorIn edge result }
+    {
+        match self.net.edges()[edge].target {
+            Target::Split(splitter) => comes_first_at(
+                self.net,
+                self.state,
+                self.ports.into[splitter as usize],
+                self.net.take(splitter as usize),
+                edge,
+                false,
+            ),
             Target::Output(_) => true,
         }
     }

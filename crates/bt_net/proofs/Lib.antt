@@ -1,3 +1,4 @@
+pub mod Priorities
 pub mod NetLines
 pub mod NetWrites
 pub mod OneNet

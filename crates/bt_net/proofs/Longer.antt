@@ -57,6 +57,7 @@ module _ (bytes : List ℕ) (read : Reading) where
   plain_stays_on plain e more = record {
     network = plain.network;
     begins = record {
+      plain = plain.begins.plain;
       edge_lines = plain.begins.edge_lines;
       are_edges = plain.begins.are_edges;
       begins = inl (lines_stay bytes more (plain_front plain) read.used plain.used e);
@@ -72,6 +73,7 @@ module _ (bytes : List ℕ) (read : Reading) where
   plain_is_fed plain all e more = record {
     network = plain.network;
     begins = record {
+      plain = plain.begins.plain;
       edge_lines = plain.begins.edge_lines;
       are_edges = plain.begins.are_edges;
       begins = inl (lines_fed bytes more (plain_front plain) read.used all e);
@@ -93,6 +95,7 @@ module _ (bytes : List ℕ) (read : Reading) where
   stays_on stands e more = record {
     network = stands.network;
     begins = record {
+      plain = stands.begins.plain;
       edge_lines = stands.begins.edge_lines;
       are_edges = stands.begins.are_edges;
       pin_lines = stands.begins.pin_lines;
@@ -111,6 +114,7 @@ module _ (bytes : List ℕ) (read : Reading) where
   is_fed stands all e more = record {
     network = stands.network;
     begins = record {
+      plain = stands.begins.plain;
       edge_lines = stands.begins.edge_lines;
       are_edges = stands.begins.are_edges;
       pin_lines = stands.begins.pin_lines;

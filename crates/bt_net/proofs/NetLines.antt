@@ -18,7 +18,7 @@ use Rattle.bt_net.specs.declared.network.Start.{Start}
 use Rattle.bt_net.specs.declared.network.Start.TheVariants as from
 use Rattle.bt_net.specs.declared.network.Target.{Target}
 use Rattle.bt_net.specs.declared.network.Target.TheVariants as to
-use Rattle.bt_net.specs.Network.{Network, IsCap, IsWired, IsNetwork, StartsIn, EndsIn, is_input, is_output, leaves, enters}
+use Rattle.bt_net.specs.Network.{Network, IsCap, IsWired, IsNetwork, StartsIn, EndsIn, is_input, is_output, leaves, enters, HasNoPriorities, none_each}
 use Rattle.bt_net.specs.NetText.{start_text, target_text, ends_text, cap_text, header, IsEdgeLine, edge_text, net_text, BeginsWithNet}
 use Rattle.bt_net.specs.Refusals.{HeaderRefused, BeginsWithEdges, GoesOn, EdgesRefused}
 use Rattle.bt_net.specs.Wiring.{IsPartlyWired, with_edge, HasSmallSizes}
@@ -53,8 +53,9 @@ net_text_lines n =
     ∙ ap (λ x. line (header n) ++ x) (ap (λ x. x ++ line (codes "end")) (sym (lines_of n.edges)) ∙ sym (flat_map-append line (map edge_text n.edges) (codes "end" ∷ [])))
 
 -- the text that is printed of a network begins with that network
-pub printed_begins : (n : Network) (rest : List ℕ) → BeginsWithNet (net_text n ++ rest) n rest
-printed_begins n rest = record {
+pub printed_begins : (n : Network) (rest : List ℕ) → HasNoPriorities n → BeginsWithNet (net_text n ++ rest) n rest
+printed_begins n rest plain = record {
+  plain = plain;
   edge_lines = map edge_text n.edges;
   are_edges = printed_lines n.edges;
   begins = inl (ap (λ t. t ++ rest) (net_text_lines n));
@@ -239,25 +240,35 @@ partly_front n es gs wired is = record {
   few_out = λ s inside. count_front (leaves s) es gs 2 (subst (λ xs. count_by (leaves s) xs ≤ 2) is (wired.few_out s inside));
 }
 
-pub HasSmallSizes-network : (n : Network) → IsNetwork n → HasSmallSizes n
-HasSmallSizes-network n net = record { few_inputs = net.few_inputs; few_outputs = net.few_outputs; few_splitters = net.few_splitters }
+pub HasSmallSizes-network : (n : Network) → IsNetwork n → HasNoPriorities n → HasSmallSizes n
+HasSmallSizes-network n net plain = record { plain = plain; few_inputs = net.few_inputs; few_outputs = net.few_outputs; few_splitters = net.few_splitters }
 
 -- the lines of a network's edges
-pub AreLines-network : (n : Network) (ls : List (List ℕ)) → IsNetwork n → AllZip IsEdgeLine ls n.edges → AreLines ls n.edges
-AreLines-network n ls net are = record { fit = edges_fit n (HasSmallSizes-network n net) (partly_of_wired n net.wired); are_edges = are }
+pub AreLines-network : (n : Network) (ls : List (List ℕ)) → IsNetwork n → HasNoPriorities n → AllZip IsEdgeLine ls n.edges → AreLines ls n.edges
+AreLines-network n ls net plain are = record { fit = edges_fit n (HasSmallSizes-network n net plain) (partly_of_wired n net.wired); are_edges = are }
 
 tail_lacks : (ls : List (List ℕ)) (es : List Edge) → AreLines ls es → All (Lacks 10) (ls ++ codes "end" ∷ [])
 tail_lacks ls es r = All-append (Lacks 10) ls (codes "end" ∷ []) (AreLines-lack ls es r) (All-cons (Lacks 10) (codes "end") [] (lacks 10 (codes "end") refl) (All-nil (Lacks 10)))
 
+-- sizes that are the same are so in both directions
+pub back : (m n : Network) → SameSizes m n → SameSizes n m
+back m n s = record { inputs = sym s.inputs; outputs = sym s.outputs; splitters = sym s.splitters; gives = sym s.gives; takes = sym s.takes }
+
+-- where one network has no priorities, nor has one of the same sizes
+pub plain_same : (m n : Network) → SameSizes m n → HasNoPriorities m → HasNoPriorities n
+plain_same m n s plain = record { gives = sym s.gives ∙ plain.gives ∙ ap none_each s.splitters; takes = sym s.takes ∙ plain.takes ∙ ap none_each s.splitters }
+
 -- networks with the same numbers and edges
 pub same_network : (m n : Network) → SameSizes m n → m.edges ≡ n.edges → m ≡ n
-same_network m n s e = let a = s.inputs in let b = s.outputs in let c = s.splitters in λ i. record { inputs = a i; outputs = b i; splitters = c i; edges = e i }
+same_network m n s e = let a = s.inputs in let b = s.outputs in let c = s.splitters in let g = s.gives in let t = s.takes in
+    λ i. record { inputs = a i; outputs = b i; splitters = c i; edges = e i; gives = g i; takes = t i }
 
 -- two networks with one header have the same sizes
 pub SameSizes-header : (m n : Network) → HasSmallSizes m → HasSmallSizes n → header m ≡ header n → SameSizes m n
 SameSizes-header m n p q e =
     let h = header_unique (header n) m.inputs m.outputs m.splitters n.inputs n.outputs n.splitters (rw e at (IsHeader-header m p)) (IsHeader-header n q) in
-    record { inputs = h.0; outputs = h.1; splitters = h.2 }
+    let none : none_each m.splitters ≡ none_each n.splitters = ap none_each h.2 in
+    record { inputs = h.0; outputs = h.1; splitters = h.2; gives = p.plain.gives ∙ none ∙ sym q.plain.gives; takes = p.plain.takes ∙ none ∙ sym q.plain.takes }
 
 end_ne_edges : (ls : List (List ℕ)) (gs : List Edge) (more : List (List ℕ)) → AllZip IsEdgeLine ls gs → codes "end" ∷ more ≡ ls ++ codes "end" ∷ [] → (gs ≡ []) × (more ≡ [])
 end_ne_edges [] [] more are is = (refl, cc)
@@ -274,27 +285,28 @@ whole_tail ks es ls fs more p q is =
     (sym (on.all ∙ ap (λ x. es ++ x) none.0 ∙ append-nil es), none.1)
 
 -- where the lines of one network begin the lines of another, the networks are one
-whole : (m n : Network) (ks ls more : List (List ℕ)) → IsNetwork m → IsNetwork n → AllZip IsEdgeLine ks m.edges → AllZip IsEdgeLine ls n.edges
+whole : (m n : Network) (ks ls more : List (List ℕ)) → IsNetwork m → IsNetwork n → HasNoPriorities m → HasNoPriorities n → AllZip IsEdgeLine ks m.edges → AllZip IsEdgeLine ls n.edges
     → header n ∷ ls ++ codes "end" ∷ [] ≡ (header m ∷ ks ++ codes "end" ∷ []) ++ more → (m ≡ n) × (more ≡ [])
-whole m n ks ls more p q are others is =
+whole m n ks ls more p q plain other_plain are others is =
     let head : header m ≡ header n = sym (cc) in
-    let tail = whole_tail ks m.edges ls n.edges more (AreLines-network m ks p are) (AreLines-network n ls q others) (ap (drop 1) is) in
-    (same_network m n (SameSizes-header m n (HasSmallSizes-network m p) (HasSmallSizes-network n q) head) tail.0, tail.1)
+    let tail = whole_tail ks m.edges ls n.edges more (AreLines-network m ks p plain are) (AreLines-network n ls q other_plain others) (ap (drop 1) is) in
+    (same_network m n (SameSizes-header m n (HasSmallSizes-network m p plain) (HasSmallSizes-network n q other_plain) head) tail.0, tail.1)
 
 -- a text begins with one network at most
 pub one_network : (bytes : List ℕ) (m n : Network) (r s : List ℕ) → IsNetwork m → IsNetwork n → BeginsWithNet bytes m r → BeginsWithNet bytes n s → (m ≡ n) × (r ≡ s)
 one_network bytes m n r s p q a b = ⊎_elim
-    (λ h. let same = whole m n a.edge_lines b.edge_lines h.0 p q a.are_edges b.are_edges h.1 in (same.0, BeginsWithLines-nil r s (subst (λ ls. BeginsWithLines r ls s) same.1 h.2)))
-    (λ h. let same = whole n m b.edge_lines a.edge_lines h.0 q p b.are_edges a.are_edges h.1 in (sym same.0, sym (BeginsWithLines-nil s r (subst (λ ls. BeginsWithLines s ls r) same.1 h.2))))
-    (fork (header m ∷ a.edge_lines ++ codes "end" ∷ []) (header n ∷ b.edge_lines ++ codes "end" ∷ []) bytes r s (net_lack m a.edge_lines p a.are_edges) (net_lack n b.edge_lines q b.are_edges) a.begins b.begins)
+    (λ h. let same = whole m n a.edge_lines b.edge_lines h.0 p q a.plain b.plain a.are_edges b.are_edges h.1 in (same.0, BeginsWithLines-nil r s (subst (λ ls. BeginsWithLines r ls s) same.1 h.2)))
+    (λ h. let same = whole n m b.edge_lines a.edge_lines h.0 q p b.plain a.plain b.are_edges a.are_edges h.1 in (sym same.0, sym (BeginsWithLines-nil s r (subst (λ ls. BeginsWithLines s ls r) same.1 h.2))))
+    (fork (header m ∷ a.edge_lines ++ codes "end" ∷ []) (header n ∷ b.edge_lines ++ codes "end" ∷ []) bytes r s (net_lack m a.edge_lines p a.plain a.are_edges) (net_lack n b.edge_lines q b.plain b.are_edges) a.begins b.begins)
   where
-    net_lack : (n : Network) (ls : List (List ℕ)) → IsNetwork n → AllZip IsEdgeLine ls n.edges → All (Lacks 10) (header n ∷ ls ++ codes "end" ∷ [])
-    net_lack n ls net are = All-cons (Lacks 10) (header n) (ls ++ codes "end" ∷ []) (header-lacks n (HasSmallSizes-network n net)) (tail_lacks ls n.edges (AreLines-network n ls net are))
+    net_lack : (n : Network) (ls : List (List ℕ)) → IsNetwork n → HasNoPriorities n → AllZip IsEdgeLine ls n.edges → All (Lacks 10) (header n ∷ ls ++ codes "end" ∷ [])
+    net_lack n ls net plain are =
+        All-cons (Lacks 10) (header n) (ls ++ codes "end" ∷ []) (header-lacks n (HasSmallSizes-network n net plain)) (tail_lacks ls n.edges (AreLines-network n ls net plain are))
 
 -- the first line of a network's text, and what follows it
 pub first_of_net : (bytes first text : List ℕ) (n : Network) (rest : List ℕ) → IsNetwork n → IsFirstLine bytes first text → BeginsWithNet bytes n rest → (first ≡ header n) × EndsWith n text rest
 first_of_net bytes first text n rest net is begins =
-    let tail = BeginsWithLines-tail bytes first text (header n) (begins.edge_lines ++ codes "end" ∷ []) rest is (header-lacks n (HasSmallSizes-network n net)) begins.begins in
+    let tail = BeginsWithLines-tail bytes first text (header n) (begins.edge_lines ++ codes "end" ∷ []) rest is (header-lacks n (HasSmallSizes-network n net begins.plain)) begins.begins in
     (tail.0, record { lines = begins.edge_lines; are_edges = begins.are_edges; begins = tail.1 })
 
 -- the header of a small network is not refused
@@ -316,24 +328,24 @@ All-at es g gs all = subst EdgeFits (get_or_at es g gs g (length es) refl) (all 
 pub one_more : (w n : Network) (g : Edge) (gs : List Edge) → SameSizes w n → IsPartlyWired n → n.edges ≡ w.edges ++ g ∷ gs → IsPartlyWired (with_edge w g)
 one_more w n g gs sizes wired is =
     let part = partly_front n (w.edges ++ g ∷ []) gs wired (is ∙ sym (append_assoc w.edges (g ∷ []) gs)) in
-    let same : SameSizes (with_edge w g) (record n { edges = w.edges ++ g ∷ [] }) = record { inputs = sizes.inputs; outputs = sizes.outputs; splitters = sizes.splitters } in
+    let same : SameSizes (with_edge w g) (record n { edges = w.edges ++ g ∷ [] }) = record { inputs = sizes.inputs; outputs = sizes.outputs; splitters = sizes.splitters; gives = sizes.gives; takes = sizes.takes } in
     rw (same_network (with_edge w g) (record n { edges = w.edges ++ g ∷ [] }) same refl) part
 
-next_line : (w n : Network) (text bytes after rest : List ℕ) → IsNetwork n → SameSizes w n → GoesOn w text bytes after → EndsWith n text rest → NextLine w n bytes
-next_line w n text bytes after rest net sizes on ends = ⊎_elim
+next_line : (w n : Network) (text bytes after rest : List ℕ) → IsNetwork n → HasNoPriorities n → SameSizes w n → GoesOn w text bytes after → EndsWith n text rest → NextLine w n bytes
+next_line w n text bytes after rest net plain sizes on ends = ⊎_elim
     (λ h. let over = go_on on.edges.lines w.edges ends.lines n.edges h.0 read all h.1 in
     by over.lines over.edges over.are_edges over.all (subst (λ ls. BeginsWithLines on.rest ls rest) over.more_is h.2))
     (λ h. absurd (no_end_among on.edges.lines ends.lines w.edges h.0 on.edges.are_edges h.1))
     (fork on.edges.lines (ends.lines ++ codes "end" ∷ []) text on.rest rest (AreLines-lack on.edges.lines w.edges read) (tail_lacks ends.lines n.edges all) on.edges.begins ends.begins)
   where
     small : HasSmallSizes w
-    small = record { few_inputs = omega (arith, sizes.inputs, net.few_inputs); few_outputs = omega (arith, sizes.outputs, net.few_outputs); few_splitters = omega (arith, sizes.splitters, net.few_splitters) }
+    small = record { plain = plain_same n w (back w n sizes) plain; few_inputs = omega (arith, sizes.inputs, net.few_inputs); few_outputs = omega (arith, sizes.outputs, net.few_outputs); few_splitters = omega (arith, sizes.splitters, net.few_splitters) }
 
     read : AreLines on.edges.lines w.edges
     read = record { fit = edges_fit w small on.wired; are_edges = on.edges.are_edges }
 
     all : AreLines ends.lines n.edges
-    all = AreLines-network n ends.lines net ends.are_edges
+    all = AreLines-network n ends.lines net plain ends.are_edges
 
     by : (ls : List (List ℕ)) (gs : List Edge) → AllZip IsEdgeLine ls gs → n.edges ≡ w.edges ++ gs → BeginsWithLines on.rest (ls ++ codes "end" ∷ []) rest → NextLine w n bytes
     by [] [] are is lines = inl (
@@ -348,24 +360,29 @@ next_line w n text bytes after rest net sizes on ends = ⊎_elim
         inr (g, gs, subst (λ k. IsEdgeLine k g) (sym head.0) are.0, is)
 
 -- no line of a network is refused behind its first edges
-pub edges_stand : (w n : Network) (text rest : List ℕ) (fault : NetFault) → IsNetwork n → SameSizes w n → EndsWith n text rest → EdgesRefused w text fault → ⊥
-edges_stand w n text rest (NetLine k) net sizes ends refused = ⊎_elim
+pub edges_stand : (w n : Network) (text rest : List ℕ) (fault : NetFault) → IsNetwork n → HasNoPriorities n → SameSizes w n → EndsWith n text rest → EdgesRefused w text fault → ⊥
+edges_stand w n text rest (NetLine k) net plain sizes ends refused = ⊎_elim
     (λ last. refused.3.0.no_end last.0 (rw last.1 net.wired))
     (λ next. refused.3.0.no_edge next.0 next.2 (one_more w n next.0 next.1 sizes (partly_of_wired n net.wired) next.3))
-    (next_line w n text refused.0 refused.1 rest net sizes refused.2 ends)
-edges_stand w n text rest TooLarge net sizes ends refused = ⊎_elim
+    (next_line w n text refused.0 refused.1 rest net plain sizes refused.2 ends)
+edges_stand w n text rest TooLarge net plain sizes ends refused = ⊎_elim
     (λ last. edge-ne_end refused.3.0 (subst (λ l. IsEdgeLine l refused.3.0) last.0 refused.3.1))
     (λ next. omega (arith, net.few_edges, refused.3.3, ap length next.3, length-append w.edges (next.0 ∷ next.1)))
-    (next_line w n text refused.0 refused.1 rest net sizes refused.2 ends)
-edges_stand w n text rest NoEnds net sizes ends refused = ⊎_elim
+    (next_line w n text refused.0 refused.1 rest net plain sizes refused.2 ends)
+edges_stand w n text rest NoEnds net plain sizes ends refused = ⊎_elim
     (λ last. ⊎_elim (λ none. omega (arith, none, sizes.inputs, net.some_input)) (λ none. omega (arith, none, sizes.outputs, net.some_output)) refused.3.2)
     (λ next. edge-ne_end next.0 (subst (λ l. IsEdgeLine l next.0) refused.3.0 next.2))
-    (next_line w n text refused.0 refused.1 rest net sizes refused.2 ends)
-edges_stand w n text rest Memory net sizes ends refused = refused.3
+    (next_line w n text refused.0 refused.1 rest net plain sizes refused.2 ends)
+edges_stand w n text rest Memory net plain sizes ends refused = refused.3
 
 -- the edge that comes last has small numbers and a cap
 pub last_fits : (w : Network) (e : Edge) → HasSmallSizes w → IsPartlyWired (with_edge w e) → EdgeFits e
-last_fits w e small new = All-at w.edges e [] (edges_fit (with_edge w e) (record { few_inputs = small.few_inputs; few_outputs = small.few_outputs; few_splitters = small.few_splitters }) new)
+last_fits w e small new = All-at w.edges e [] (edges_fit (with_edge w e) (record {
+      plain = record { gives = small.plain.gives; takes = small.plain.takes };
+      few_inputs = small.few_inputs;
+      few_outputs = small.few_outputs;
+      few_splitters = small.few_splitters;
+    }) new)
 
 -- an edge line is the line of no other edge
 pub last_same : (w : Network) (bytes : List ℕ) (e f : Edge) → HasSmallSizes w → IsPartlyWired (with_edge w e) → EdgeFits f → IsEdgeLine bytes f → IsEdgeLine bytes e → IsPartlyWired (with_edge w f)
@@ -378,7 +395,7 @@ pub header-same : (m n : Network) → SameSizes m n → header m ≡ header n
 header-same m n s = let a = s.inputs in let b = s.outputs in let c = s.splitters in λ i. codes "net " ++ decimal (a i) ++ codes " " ++ decimal (b i) ++ codes " " ++ decimal (c i)
 
 pub HasSmallSizes-same : (m n : Network) → SameSizes m n → HasSmallSizes m → HasSmallSizes n
-HasSmallSizes-same m n s h = record { few_inputs = omega (arith, s.inputs, h.few_inputs); few_outputs = omega (arith, s.outputs, h.few_outputs); few_splitters = omega (arith, s.splitters, h.few_splitters) }
+HasSmallSizes-same m n s h = record { plain = plain_same m n s h.plain; few_inputs = omega (arith, s.inputs, h.few_inputs); few_outputs = omega (arith, s.outputs, h.few_outputs); few_splitters = omega (arith, s.splitters, h.few_splitters) }
 
 -- one more edge line
 lines_push : (ls : List (List ℕ)) (es : List Edge) (l : List ℕ) (e : Edge) → AllZip IsEdgeLine ls es → IsEdgeLine l e → AllZip IsEdgeLine (ls ++ l ∷ []) (es ++ e ∷ [])
@@ -407,4 +424,4 @@ read_parts bytes first text rest m w is start sizes on =
     BeginsWithLines-cons bytes (header w) text rest (on.edges.lines ++ codes "end" ∷ []) (subst (λ l. IsFirstLine bytes l text) (start.line_is ∙ header-same m w sizes) is) ends
     (rw (flat_map-append line on.edges.lines (codes "end" ∷ [])) (omega (arith, length-append (flat_map line on.edges.lines) (flat_map line (codes "end" ∷ []))))) in
     let used = BeginsWithLines-used bytes rest (header w ∷ on.edges.lines ++ codes "end" ∷ []) lines in
-    (record { edge_lines = on.edges.lines; are_edges = on.edges.are_edges; begins = lines }, used.0, used.1)
+    (record { plain = plain_same m w sizes start.small.plain; edge_lines = on.edges.lines; are_edges = on.edges.are_edges; begins = lines }, used.0, used.1)

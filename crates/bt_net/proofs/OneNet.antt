@@ -122,9 +122,9 @@ refused_or_memory w text Memory (inl h) = absurd h
 
 -- the text that is printed of a network is read as that network to its end
 pub printed_plain : PrintedIsPlain
-printed_plain n net = record {
+printed_plain n net plain = record {
   network = net;
-  begins = subst (λ text. BeginsWithNet text n (drop (length (net_text n)) (net_text n))) (ap (λ rest. net_text n ++ rest) all ∙ append-nil (net_text n)) (printed_begins n (drop (length (net_text n)) (net_text n)));
+  begins = subst (λ text. BeginsWithNet text n (drop (length (net_text n)) (net_text n))) (ap (λ rest. net_text n ++ rest) all ∙ append-nil (net_text n)) (printed_begins n (drop (length (net_text n)) (net_text n)) plain);
   used = omega arith;
   pins = refl;
   blocks = refl;

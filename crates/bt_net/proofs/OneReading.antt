@@ -14,7 +14,7 @@ use Rattle.bt_net.specs.declared.fault.NetFault.TheVariants.{NetLine, TooLarge, 
 use Rattle.bt_net.specs.declared.network.Block.{Block}
 use Rattle.bt_net.specs.declared.network.Edge.{Edge}
 use Rattle.bt_net.specs.declared.network.Pin.{Pin}
-use Rattle.bt_net.specs.Network.{Network, IsWired, IsNetwork, IsNetOf}
+use Rattle.bt_net.specs.Network.{Network, IsWired, IsNetwork, IsNetOf, HasNoPriorities}
 use Rattle.bt_net.specs.NetText.{header, net_text, IsEdgeLine}
 use Rattle.bt_net.specs.PinText.{IsPinLine, IsBlockLine}
 use Rattle.bt_net.specs.Refusals.{HeaderRefused, GoesOn}
@@ -23,16 +23,12 @@ use Rattle.bt_net.specs.Readings.{Reading, BeginsWithAll, StandsAtFront, StandsP
 use Rattle.bt_net.specs.Wiring.{HasSmallSizes}
 use Rattle.bt_net.specs.inner.Lines.{IsStarted, SameSizes, EdgesEnd, AreEdgesRead, ItemsEnd, IsEndRead}
 use Rattle.bt_text.proofs.Lacking.{lacks}
-use Rattle.bt_net.proofs.NetLines.{header-same, HasSmallSizes-same, edges_fit, edges-lack, edge-ne_end, edge-some, header-lacks, header_stands, HasSmallSizes-network, SameSizes-header, partly_of_wired}
+use Rattle.bt_net.proofs.NetLines.{back, header-same, HasSmallSizes-same, edges_fit, edges-lack, edge-ne_end, edge-some, header-lacks, header_stands, HasSmallSizes-network, SameSizes-header, partly_of_wired}
 use Rattle.bt_net.proofs.Refusing.{header_same, line_same}
 use Rattle.bt_net.proofs.OneNet.{same_used, printed_plain}
 use Rattle.bt_net.proofs.PinSpelling.{pin_apart, block_apart, pin-lacks, block-lacks}
 use Rattle.bt_net.proofs.ItemLines.{more_lines, lines_items, items_lines}
 use Rattle.bt_net.proofs.Bodies.{end_stops, refused_stops, one_body, pin-some, block-some}
-
--- sizes that are the same are so in both directions
-back : (m n : Network) → SameSizes m n → SameSizes n m
-back m n sizes = record { inputs = sym sizes.inputs; outputs = sym sizes.outputs; splitters = sym sizes.splitters }
 
 -- edge lines have bytes
 pub edges-some : (lines : List (List ℕ)) (es : List Edge) → AllZip IsEdgeLine lines es → All (λ l. 0 < length l) lines
@@ -50,7 +46,7 @@ pub record WholeBody (bytes : List ℕ) (read : Reading) (rest : List ℕ) : Typ
 whole_body : (bytes rest : List ℕ) (read : Reading) → IsNetwork read.net → BeginsWithAll bytes read rest → WholeBody bytes read rest
 whole_body bytes rest read net all =
     let n = read.net in
-    let small = HasSmallSizes-network n net in
+    let small = HasSmallSizes-network n net all.plain in
     let first = first_line_of bytes in
     let tail = BeginsWithLines-tail bytes first.0 first.1 (header n) (all.edge_lines ++ (all.pin_lines ++ (all.block_lines ++ codes "end" ∷ []))) rest first.2 (header-lacks n small) all.begins in
     let fit = edges_fit n small (partly_of_wired n net.wired) in
@@ -90,7 +86,7 @@ all_parts bytes first text rest m w pins blocks is start sizes on =
     let used = BeginsWithLines-used bytes rest (header w ∷ (((on.edges.lines ++ p.0) ++ b.0) ++ codes "end" ∷ [])) lines in
     let whole : BeginsWithLines bytes (header w ∷ (on.edges.lines ++ (p.0 ++ (b.0 ++ codes "end" ∷ [])))) rest =
     subst (λ ls. BeginsWithLines bytes (header w ∷ ls) rest) (append_assoc (on.edges.lines ++ p.0) b.0 (codes "end" ∷ []) ∙ append_assoc on.edges.lines p.0 (b.0 ++ codes "end" ∷ [])) lines in
-    ((λ read net is_pins is_blocks. same read net is_pins is_blocks (record { edge_lines = on.edges.lines; are_edges = on.edges.are_edges; pin_lines = p.0; are_pins = p.1; block_lines = b.0; are_blocks = b.1; begins = whole })), used.0, used.1)
+    ((λ read net is_pins is_blocks. same read net is_pins is_blocks (record { plain = small.plain; edge_lines = on.edges.lines; are_edges = on.edges.are_edges; pin_lines = p.0; are_pins = p.1; block_lines = b.0; are_blocks = b.1; begins = whole })), used.0, used.1)
   where
     same : (read : Reading) → read.net ≡ w → read.pins ≡ pins → read.blocks ≡ blocks → BeginsWithAll bytes (record read { net = w; pins = pins; blocks = blocks }) rest → BeginsWithAll bytes read rest
     same read net is_pins is_blocks all =
@@ -123,10 +119,10 @@ body_same m n text f g small smaller sizes p q =
     line_same_after n q.pins q.blocks _ q.bytes f g d q.refused
 
 -- where a body stands up to `end`, it is not refused
-body_stands : (m n : Network) (text rest : List ℕ) (pins : List Pin) (blocks : List Block) (f : NetFault) → HasSmallSizes m → IsNetwork n → SameSizes m n → BodyRefused m text f
+body_stands : (m n : Network) (text rest : List ℕ) (pins : List Pin) (blocks : List Block) (f : NetFault) → HasSmallSizes m → IsNetwork n → HasNoPriorities n → SameSizes m n → BodyRefused m text f
     → GoesOnAfter n pins blocks text (codes "end") rest → ⊥
-body_stands m n text rest pins blocks f small net sizes p on =
-    let same = one_body m n p.pins pins p.blocks blocks text p.bytes (codes "end") p.after rest small (HasSmallSizes-network n net) sizes (back m n sizes) p.goes_on on
+body_stands m n text rest pins blocks f small net plain sizes p on =
+    let same = one_body m n p.pins pins p.blocks blocks text p.bytes (codes "end") p.after rest small (HasSmallSizes-network n net plain) sizes (back m n sizes) p.goes_on on
     (refused_stops m p.pins p.blocks _ p.bytes f p.refused) (end_stops n pins blocks _ (codes "end") refl) in
     by f (subst (λ l. LineRefusedAfter m p.pins p.blocks (length m.edges + length p.pins + length p.blocks + 2) l f) same.bytes p.refused) same.net
   where
@@ -153,18 +149,18 @@ refused_once text f g p q =
 read_stands : (bytes : List ℕ) (read : Reading) (f : NetFault) → StandsAtFront bytes read → RefusesAll bytes f → ⊥
 read_stands bytes read f stands p =
     let n = read.net in
-    let small = HasSmallSizes-network n stands.network in
+    let small = HasSmallSizes-network n stands.network stands.begins.plain in
     let whole = whole_body bytes (drop read.used bytes) read stands.network stands.begins in
     let line = IsFirstLine-unique bytes p.0 (header n) p.1 whole.text p.2 whole.first in
     ⊎_elim
     (λ a. header_stands p.0 n f small line.0 a)
-    (λ a. body_stands a.0 n whole.text (drop read.used bytes) read.pins read.blocks f a.2 stands.network (SameSizes-header a.0 n a.2 small (sym a.1 ∙ line.0)) (subst (λ t. BodyRefused a.0 t f) line.1 a.3) whole.goes_on)
+    (λ a. body_stands a.0 n whole.text (drop read.used bytes) read.pins read.blocks f a.2 stands.network stands.begins.plain (SameSizes-header a.0 n a.2 small (sym a.1 ∙ line.0)) (subst (λ t. BodyRefused a.0 t f) line.1 a.3) whole.goes_on)
     p.3
 
 same_reading : (bytes : List ℕ) (a b : Reading) → StandsAtFront bytes a → StandsAtFront bytes b → a ≡ b
 same_reading bytes a b p q =
-    let small = HasSmallSizes-network a.net p.network in
-    let smaller = HasSmallSizes-network b.net q.network in
+    let small = HasSmallSizes-network a.net p.network p.begins.plain in
+    let smaller = HasSmallSizes-network b.net q.network q.begins.plain in
     let x = whole_body bytes (drop a.used bytes) a p.network p.begins in
     let y = whole_body bytes (drop b.used bytes) b q.network q.begins in
     let line = IsFirstLine-unique bytes (header a.net) (header b.net) x.text y.text x.first y.first in
@@ -282,11 +278,11 @@ module _ (text first rest : List ℕ) (m w : Network) (is : IsFirstLine text fir
 pub plain_is_read : (bytes : List ℕ) (read : Reading) → StandsPlain bytes read → StandsAtFront bytes read
 plain_is_read bytes read plain = subst (StandsAtFront bytes) (λ i. record { net = read.net; pins = sym plain.pins i; blocks = sym plain.blocks i; used = read.used; lines = read.lines }) (record {
   network = plain.network;
-  begins = record { edge_lines = plain.begins.edge_lines; are_edges = plain.begins.are_edges; pin_lines = []; are_pins = tt; block_lines = []; are_blocks = tt; begins = plain.begins.begins };
+  begins = record { plain = plain.begins.plain; edge_lines = plain.begins.edge_lines; are_edges = plain.begins.are_edges; pin_lines = []; are_pins = tt; block_lines = []; are_blocks = tt; begins = plain.begins.begins };
   used = plain.used;
   lines = omega (arith, plain.lines);
 })
 
 -- the text that is printed of a network is read as that network to its end
 pub printed_reading : PrintedIsRead
-printed_reading n net = plain_is_read (net_text n) (whole_reading n) (printed_plain n net)
+printed_reading n net plain = plain_is_read (net_text n) (whole_reading n) (printed_plain n net plain)

@@ -14,7 +14,7 @@ use Rattle.bt_net.specs.declared.network.TheConstants.{MOST_OF_EACH}
 use Rattle.bt_net.specs.Refusals.{HeaderRefused, LineRefused, GoesOn, EdgesRefused, Refuses}
 use Rattle.bt_net.specs.Wiring.{IsPartlyWired, with_edge, HasSmallSizes}
 use Rattle.bt_net.specs.inner.Lines.{EdgeFits, IsStarted, SameSizes}
-use Rattle.bt_net.proofs.NetLines.{AreLines, GoesOver, edges_fit, go_over, edge-lacks, edges-lack, edge-ne_end, same_network, one_more, All-at, header_stands, edges_stand, first_of_net, SameSizes-header, header-same, HasSmallSizes-same, HasSmallSizes-network}
+use Rattle.bt_net.proofs.NetLines.{back as turned, AreLines, GoesOver, edges_fit, go_over, edge-lacks, edges-lack, edge-ne_end, same_network, one_more, All-at, header_stands, edges_stand, first_of_net, SameSizes-header, header-same, HasSmallSizes-same, HasSmallSizes-network}
 
 nothing_no_edge : (bytes : List ℕ) (rest : List (List ℕ)) (e : Edge) → [] ≡ bytes ∷ rest → IsEdgeLine bytes e → ⊥
 nothing_no_edge bytes rest e is edge = cc
@@ -92,7 +92,7 @@ edges_same n m text f g small smaller sizes p q = ⊎_elim
     (fork p.2.edges.lines q.2.edges.lines text p.2.rest q.2.rest (edges-lack p.2.edges.lines n.edges (edges_fit n small p.2.wired) p.2.edges.are_edges) (edges-lack q.2.edges.lines m.edges (edges_fit m smaller q.2.wired) q.2.edges.are_edges) p.2.edges.begins q.2.edges.begins)
   where
     back : SameSizes m n
-    back = record { inputs = sym sizes.inputs; outputs = sym sizes.outputs; splitters = sym sizes.splitters }
+    back = turned n m sizes
 
 -- a text is refused for one cause
 pub Refuses-unique : (text : List ℕ) (f g : NetFault) → Refuses text f → Refuses text g → f ≡ g
@@ -113,10 +113,10 @@ Refuses-unique text f g p q =
 pub Refuses-network : (text rest : List ℕ) (n : Network) (f : NetFault) → IsNetwork n → BeginsWithNet text n rest → Refuses text f → ⊥
 Refuses-network text rest n f net begins p =
     let first = first_of_net text p.0 p.1 n rest net p.2 begins in
-    let small = HasSmallSizes-network n net in
+    let small = HasSmallSizes-network n net begins.plain in
     ⊎_elim
     (λ a. header_stands p.0 n f small first.0 a)
-    (λ a. edges_stand a.0 n p.1 rest f net (SameSizes-header a.0 n a.2 small (sym a.1 ∙ first.0)) first.1 a.3)
+    (λ a. edges_stand a.0 n p.1 rest f net begins.plain (SameSizes-header a.0 n a.2 small (sym a.1 ∙ first.0)) first.1 a.3)
     p.3
 
 -- a text whose first line is refused

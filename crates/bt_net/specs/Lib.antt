@@ -1,4 +1,5 @@
 pub mod Network
+pub mod Priorities
 pub mod NetText
 pub mod PinText
 pub mod Wiring

@@ -8,7 +8,7 @@ use Rattle.bt_net.specs.declared.network.Start.{Start}
 use Rattle.bt_net.specs.declared.network.Start.TheVariants as from
 use Rattle.bt_net.specs.declared.network.Target.{Target}
 use Rattle.bt_net.specs.declared.network.Target.TheVariants as to
-use Rattle.bt_net.specs.Network.{Network}
+use Rattle.bt_net.specs.Network.{Network, HasNoPriorities}
 
 -- `i` and the number of an input, or `s` and that of a splitter
 abbrev pub start_text : Start → List ℕ
@@ -44,8 +44,9 @@ edge_text e = ends_text e ++ (if e.cap == 1 then [] else cap_text e.cap)
 abbrev pub net_text : Network → List ℕ
 net_text n = line (header n) ++ flat_map (λ e. line (edge_text e)) n.edges ++ line (codes "end")
 
--- the bytes begin with the lines of the network: its header, a line for each edge in their order, and `end`; the last line feed may be missing at the end of the bytes, and this is what follows
+-- the bytes begin with the lines of the network: its header, a line for each edge in their order, and `end`; the last line feed may be missing at the end of the bytes, and this is what follows. No splitter prefers an edge
 pub record BeginsWithNet (bytes : List ℕ) (n : Network) (rest : List ℕ) : Type 0 where
+  pub plain : HasNoPriorities n
   pub edge_lines : List (List ℕ)
   pub are_edges : AllZip IsEdgeLine edge_lines n.edges
   pub begins : BeginsWithLines bytes (header n ∷ edge_lines ++ codes "end" ∷ []) rest

@@ -1,5 +1,5 @@
 -- A network of splitters: its edges join inputs, splitters and outputs.
-use Rattle.std.specs.Prelude.{◌≡◌, ℕ, ◌<◌, ◌≤◌, ◌==◌, ◌⊎◌, Bool, false, List, length, count_by, All, Result, Ok, Err}
+use Rattle.std.specs.Prelude.{◌≡◌, ℕ, zero, suc, ◌<◌, ◌≤◌, ◌==◌, ◌⊎◌, Bool, false, IsTrue, List, [], ◌∷◌, length, count_by, All, Option, Some, None, slice_get, slice_index_or, Result, Ok, Err}
 use Rattle.bt_net.specs.declared.fault.NetFault.{NetFault}
 use Rattle.bt_net.specs.declared.fault.NetFault.TheVariants.{NetLine, TooLarge, NoEnds, Memory}
 use Rattle.bt_net.specs.declared.network.Edge.{Edge}
@@ -11,16 +11,41 @@ use Rattle.bt_net.specs.declared.network.Target.{Target}
 use Rattle.bt_net.specs.declared.network.Target.TheVariants as to
 use Rattle.bt_net.specs.declared.network.TheConstants.{MOST_OF_EACH, MOST_CAP}
 
--- numbers of inputs, outputs and splitters, and the edges in their order
+-- numbers of inputs, outputs and splitters, the edges in their order, and for each splitter the out edge and the in edge that it prefers, where it prefers one
 pub record Network : Type 0 where
   pub inputs : ℕ
   pub outputs : ℕ
   pub splitters : ℕ
   pub edges : List Edge
+  pub gives : List (Option ℕ)
+  pub takes : List (Option ℕ)
 
--- the network of these numbers and edges
+-- for each of so many splitters no edge
+abbrev pub none_each : ℕ → List (Option ℕ)
+none_each zero = []
+none_each (suc k) = None ∷ none_each k
+
+-- the network of these numbers and edges, of which no splitter prefers an edge
 abbrev pub network_of : ℕ → ℕ → ℕ → List Edge → Network
-network_of inputs outputs splitters edges = record { inputs = inputs; outputs = outputs; splitters = splitters; edges = edges }
+network_of inputs outputs splitters edges =
+    record { inputs = inputs; outputs = outputs; splitters = splitters; edges = edges; gives = none_each splitters; takes = none_each splitters }
+
+-- no splitter prefers an edge
+pub record HasNoPriorities (n : Network) : Type 0 where
+  pub gives : n.gives ≡ none_each n.splitters
+  pub takes : n.takes ≡ none_each n.splitters
+
+-- the edge that such a list has for a splitter, where it has one
+abbrev pub preferred_in : List (Option ℕ) → ℕ → Option ℕ
+preferred_in edges k = slice_index_or edges k None
+
+-- the out edge that a splitter prefers, where it prefers one
+abbrev pub give_of : Network → ℕ → Option ℕ
+give_of n k = preferred_in n.gives k
+
+-- the in edge that a splitter prefers, where it prefers one
+abbrev pub take_of : Network → ℕ → Option ℕ
+take_of n k = preferred_in n.takes k
 
 -- the edge leaves this splitter
 abbrev pub leaves : ℕ → Edge → Bool
@@ -83,6 +108,13 @@ pub record IsWired (n : Network) : Type 0 where
   pub few_in : (s : ℕ) → s < n.splitters → count_by (enters s) n.edges ≤ 2
   pub few_out : (s : ℕ) → s < n.splitters → count_by (leaves s) n.edges ≤ 2
 
+-- for each splitter there is one of its out edges or none, and one of its in edges or none
+pub record IsPrioritised (n : Network) : Type 0 where
+  pub gives_each : length n.gives ≡ n.splitters
+  pub takes_each : length n.takes ≡ n.splitters
+  pub gives : (k a : ℕ) → give_of n k ≡ Some a → (e : Edge) × (slice_get n.edges a ≡ Some e) × IsTrue (leaves k e)
+  pub takes : (k a : ℕ) → take_of n k ≡ Some a → (e : Edge) × (slice_get n.edges a ≡ Some e) × IsTrue (enters k e)
+
 -- a count or the number of edges is more than `MOST_OF_EACH`
 abbrev pub IsLarge : Network → Type 0
 IsLarge n = (MOST_OF_EACH < n.inputs) ⊎ (MOST_OF_EACH < n.outputs) ⊎ (MOST_OF_EACH < n.splitters) ⊎ (MOST_OF_EACH < length n.edges)
@@ -91,9 +123,10 @@ IsLarge n = (MOST_OF_EACH < n.inputs) ⊎ (MOST_OF_EACH < n.outputs) ⊎ (MOST_O
 abbrev pub LacksEnds : Network → Type 0
 LacksEnds n = (IsLarge n → ⊥) × ((n.inputs ≡ 0) ⊎ (n.outputs ≡ 0))
 
--- a network: wired, of at most `MOST_OF_EACH` of each kind, with an input and an output
+-- a network: wired, of at most `MOST_OF_EACH` of each kind, with an input and an output, and each splitter prefers edges of its own
 pub record IsNetwork (n : Network) : Type 0 where
   pub wired : IsWired n
+  pub prioritised : IsPrioritised n
   pub few_inputs : n.inputs ≤ MOST_OF_EACH
   pub few_outputs : n.outputs ≤ MOST_OF_EACH
   pub few_splitters : n.splitters ≤ MOST_OF_EACH

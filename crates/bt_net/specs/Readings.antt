@@ -6,7 +6,7 @@ use Rattle.bt_net.specs.declared.fault.NetFault.{NetFault}
 use Rattle.bt_net.specs.declared.network.Block.{Block}
 use Rattle.bt_net.specs.declared.network.Pin.{Pin}
 use Rattle.bt_net.specs.declared.reading.NetRead.{NetRead}
-use Rattle.bt_net.specs.Network.{Network, IsNetwork}
+use Rattle.bt_net.specs.Network.{Network, IsNetwork, HasNoPriorities}
 use Rattle.bt_net.specs.NetText.{header, net_text, IsEdgeLine, BeginsWithNet}
 use Rattle.bt_net.specs.PinText.{AreLinesFrom, IsPinLine, IsBlockLine}
 use Rattle.bt_net.specs.PinRefusals.{RefusesAll}
@@ -24,8 +24,9 @@ pub record Reading : Type 0 where
 abbrev pub what_is_read : NetRead → Reading
 what_is_read read = record { net = read.net; pins = read.pins.items; blocks = read.blocks.items; used = read.used; lines = read.lines }
 
--- the bytes begin with the lines of what was read: the header of the network, a line for each edge, each pin and each block, in their orders, and `end`; the last line feed may be missing at the end of the bytes, and this is what follows
+-- the bytes begin with the lines of what was read: the header of the network, a line for each edge, each pin and each block, in their orders, and `end`; the last line feed may be missing at the end of the bytes, and this is what follows. No splitter prefers an edge
 pub record BeginsWithAll (bytes : List ℕ) (read : Reading) (rest : List ℕ) : Type 0 where
+  pub plain : HasNoPriorities read.net
   pub edge_lines : List (List ℕ)
   pub are_edges : AllZip IsEdgeLine edge_lines read.net.edges
   pub pin_lines : List (List ℕ)
@@ -64,10 +65,10 @@ IsPlainRead bytes (Err fault) = Refuses bytes fault
 abbrev pub whole_reading : Network → Reading
 whole_reading n = record { net = n; pins = []; blocks = []; used = length (net_text n); lines = length n.edges + 2 }
 
--- the text that is printed of a network is read as that network
+-- the text that is printed of a network without priorities is read as that network
 abbrev pub PrintedIsRead : Type 0
-PrintedIsRead = (n : Network) → IsNetwork n → IsNetRead (net_text n) (Ok (whole_reading n))
+PrintedIsRead = (n : Network) → IsNetwork n → HasNoPriorities n → IsNetRead (net_text n) (Ok (whole_reading n))
 
 -- and it is read so where pins and blocks may not stand
 abbrev pub PrintedIsPlain : Type 0
-PrintedIsPlain = (n : Network) → IsNetwork n → IsPlainRead (net_text n) (Ok (whole_reading n))
+PrintedIsPlain = (n : Network) → IsNetwork n → HasNoPriorities n → IsPlainRead (net_text n) (Ok (whole_reading n))

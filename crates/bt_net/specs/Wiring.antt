@@ -2,7 +2,7 @@
 use Rattle.std.specs.Prelude.{ℕ, ◌<◌, ◌≤◌, [], ◌∷◌, ◌++◌, count_by, All}
 use Rattle.bt_net.specs.declared.network.Edge.{Edge}
 use Rattle.bt_net.specs.declared.network.TheConstants.{MOST_OF_EACH}
-use Rattle.bt_net.specs.Network.{Network, StartsIn, EndsIn, IsCap, is_input, is_output, leaves, enters}
+use Rattle.bt_net.specs.Network.{Network, HasNoPriorities, StartsIn, EndsIn, IsCap, is_input, is_output, leaves, enters}
 
 -- edges that may stand so far: they join what the network has and have caps from 1 to `MOST_CAP`, no
 -- input and no output has a second edge, and no splitter a third in edge or a third out edge
@@ -19,8 +19,9 @@ pub record IsPartlyWired (n : Network) : Type 0 where
 abbrev pub with_edge : Network → Edge → Network
 with_edge n e = record n { edges = n.edges ++ e ∷ [] }
 
--- at most `MOST_OF_EACH` inputs, outputs and splitters
+-- at most `MOST_OF_EACH` inputs, outputs and splitters, of which none prefers an edge
 pub record HasSmallSizes (n : Network) : Type 0 where
+  pub plain : HasNoPriorities n
   pub few_inputs : n.inputs ≤ MOST_OF_EACH
   pub few_outputs : n.outputs ≤ MOST_OF_EACH
   pub few_splitters : n.splitters ≤ MOST_OF_EACH

@@ -2,3 +2,4 @@
 pub mod Lines
 pub mod PinWords
 pub mod Tallies
+pub mod Preferred

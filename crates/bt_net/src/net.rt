@@ -1,7 +1,7 @@
 //! Networks as values: what was checked once, each call above may rely on.
 ghost use Rattle.std.specs.Prelude.{◌≡◌};
 ghost use Rattle.bt_answers.specs.Answers.{AnswersAlways};
-ghost use Rattle.bt_net.specs.Network.{IsWired, IsNetOf, network_of};
+ghost use Rattle.bt_net.specs.Network.{IsWired, IsNetOf, network_of, preferred_in};
 
 use crate::fault::NetFault;
 use crate::network::{Edge, MOST_OF_EACH};
@@ -10,28 +10,44 @@ use std::marker::Model;
 /// A network of splitters: each input and each output has one edge, and each splitter has at most
 /// two in edges and two out edges. There are at most `MOST_OF_EACH` of each kind, at least one input
 /// and at least one output, and every edge has a cap from 1 to `MOST_CAP`.
+///
+/// A splitter may prefer one of its out edges, which then gets all that fits, and one of its in edges, of
+/// which it then takes all that it has.
 #[derive(Drop)]
 pub struct Net {
     inputs: u32,
     outputs: u32,
     splitters: u32,
     edges: Vec<Edge>,
+    preferred: Option<Preferred>,
+}
+
+/// For each splitter the out edge and the in edge that it prefers, where it prefers one.
+#[derive(Drop)]
+struct Preferred {
+    gives: Vec<Option<usize>>,
+    takes: Vec<Option<usize>>,
 }
 
 impl Model for Net {
     ghost use Rattle.bt_net.specs.Network.{Network, IsNetwork, network_of};
+    ghost use Rattle.bt_net.specs.inner.Preferred.{with_preferred};
 
     ghost Value = { Network };
 
-    ghost view = { λ n. network_of n.inputs n.outputs n.splitters n.edges.items };
+    ghost view = { λ n. with_preferred n.preferred
+        (network_of n.inputs n.outputs n.splitters n.edges.items) };
 
-    ghost invariant = { λ n. IsNetwork (network_of n.inputs n.outputs n.splitters n.edges.items) };
+    ghost invariant = { λ n. IsNetwork (with_preferred n.preferred
+        (network_of n.inputs n.outputs n.splitters n.edges.items)) };
 }
 
 impl Net {
-    ghost use Rattle.bt_net.specs.Network.{IsNetwork};
+    ghost use Rattle.bt_net.specs.Network.{IsNetwork, IsPrioritised, give_of, take_of};
+    ghost use Rattle.bt_net.specs.Priorities.{preferring};
 
-    /// The network of these counts and edges, in which the edges have their places as numbers.
+    /// The network of these counts and edges, in which the edges have their places as numbers, and no
+    /// splitter prefers an edge.
     /// `TooLarge` comes before `NoEnds`, and no other fault comes.
     #[tactic(auto, using(crate::proofs::OneNet::net_answers))]
     pub fn new(inputs: u32, outputs: u32, splitters: u32, edges: Vec<Edge>) -> Result<Net, NetFault>
@@ -53,6 +69,7 @@ impl Net {
             outputs,
             splitters,
             edges,
+            preferred: None,
         })
     }
 
@@ -77,11 +94,56 @@ impl Net {
         self.splitters
     }
 
+    /// The out edge that a splitter prefers, where it prefers one.
+    pub fn give(&self, splitter: usize) -> Option<usize>
+        ensures { result ≡ give_of self.now splitter }
+    {
+        match &self.preferred {
+            Some(preferred) => edge_at(&preferred.gives, splitter),
+            None => None,
+        }
+    }
+
+    /// The in edge that a splitter prefers, where it prefers one.
+    pub fn take(&self, splitter: usize) -> Option<usize>
+        ensures { result ≡ take_of self.now splitter }
+    {
+        match &self.preferred {
+            Some(preferred) => edge_at(&preferred.takes, splitter),
+            None => None,
+        }
+    }
+
+    /// The same network, in which each splitter prefers these edges: one of its out edges or none, and one
+    /// of its in edges or none.
+    pub fn preferring(self, gives: Vec<Option<usize>>, takes: Vec<Option<usize>>) -> Net
+        requires { IsPrioritised (preferring self gives.items takes.items) }
+        ensures { result ≡ preferring self gives.items takes.items }
+    {
+        Net {
+            inputs: self.inputs,
+            outputs: self.outputs,
+            splitters: self.splitters,
+            edges: self.edges,
+            preferred: Some(Preferred { gives, takes }),
+        }
+    }
+
     /// The edges, each at its number.
     pub fn edges(&self) -> &[Edge]
         ensures edges { result.now ≡ self.now.edges }
         ensures network { IsNetwork self.now }
     {
         &self.edges
+    }
+}
+
+/// The edge that such a list has for a splitter, where it has one.
+fn edge_at(edges: &[Option<usize>], splitter: usize) -> Option<usize>
+    ensures { result ≡ preferred_in edges.now splitter }
+{
+    match edges.get(splitter) {
+        Some(edge) => *edge,
+        None => None,
     }
 }

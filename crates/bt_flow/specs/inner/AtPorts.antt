@@ -1,5 +1,5 @@
 -- What is asked of a state at single edges, and at the edges of a port.
-use Rattle.std.specs.Prelude.{◌≡◌, ◌⊎◌, ◌↔◌, ◌<◌, ◌≤ℤ◌, ℕ, ℤ, pos, Bool, IsTrue, Result, Ok, Err, List}
+use Rattle.std.specs.Prelude.{◌≡◌, ◌⊎◌, ◌↔◌, ◌<◌, ◌≤ℤ◌, ℕ, ℤ, pos, Bool, IsTrue, Option, Some, None, Result, Ok, Err, List}
 use Rattle.std.specs.List.{AllByRecursion}
 use Rattle.bt_frac.specs.Ratio.{Ratio, IsOver}
 use Rattle.bt_net.specs.declared.network.Edge.{Edge}
@@ -8,7 +8,7 @@ use Rattle.bt_flow.specs.declared.ports.Port.{Port}
 use Rattle.bt_flow.specs.declared.ports.Role.{Role}
 use Rattle.bt_flow.specs.declared.sums.Wide.{Wide}
 use Rattle.bt_flow.specs.States.{Flows, Fractions, StandsFor, flow_at, backed_at, cap_in}
-use Rattle.bt_flow.specs.Steady.{HasEdge, IsFull}
+use Rattle.bt_flow.specs.Steady.{HasEdge, IsFull, IsEmpty}
 use Rattle.bt_flow.specs.Sums.{AllFit, IsFirstWide}
 use Rattle.bt_flow.specs.Ports.{numbers_of, plays}
 
@@ -56,6 +56,18 @@ Rests s mark a e = (backed_at s a ≡ mark) ⊎ IsFull s a e
 -- the edge with this number has this mark, or is full
 abbrev pub RestsAt : Network → Flows → Bool → ℕ → Type 0
 RestsAt n s mark a = (e : Edge) → HasEdge n a e → Rests s mark a e
+
+-- where no edge of the port is preferred, the edge has this mark or is full, or no edge of the port has a greater flow
+abbrev pub SharesAt : Network → Flows → Port → Option ℕ → Bool → ℕ → Type 0
+SharesAt n s port preferred mark a = preferred ≡ None → RestsAt n s mark a ⊎ AtEach port (FlowsAtMost s a)
+
+-- the second edge is the first, or is empty
+abbrev pub IsEmptyBeside : Flows → ℕ → ℕ → Type 0
+IsEmptyBeside s a b = (b ≡ a) ⊎ IsEmpty s b
+
+-- where the edge is the preferred one of the port, it has this mark or is full, or each other edge of the port is empty
+abbrev pub ComesFirstAt : Network → Flows → Port → Option ℕ → Bool → ℕ → Type 0
+ComesFirstAt n s port preferred mark a = preferred ≡ Some a → RestsAt n s mark a ⊎ AtEach port (IsEmptyBeside s a)
 
 -- the flows of all edges with a role are equal
 abbrev pub Agree : Network → Role → Flows → Type 0

@@ -24,11 +24,13 @@ pub record IsStarted (n : Network) (bytes : List ℕ) : Type 0 where
   pub no_edges : n.edges ≡ []
   pub small : HasSmallSizes n
 
--- the same numbers of inputs, outputs and splitters
+-- the same numbers of inputs, outputs and splitters, and the same preferred edges
 pub record SameSizes (m n : Network) : Type 0 where
   pub inputs : m.inputs ≡ n.inputs
   pub outputs : m.outputs ≡ n.outputs
   pub splitters : m.splitters ≡ n.splitters
+  pub gives : m.gives ≡ n.gives
+  pub takes : m.takes ≡ n.takes
 
 -- the number of a start has at most 32 bits
 abbrev pub StartFits : Start → Type 0

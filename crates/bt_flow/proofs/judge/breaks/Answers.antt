@@ -18,4 +18,4 @@ returns c =
     let p = c.args.property in
     let t = c.args.state.now in
     answers_always_of (IsBreakingAnswer n p t) (one_breaking_answer n p t) c.judge.result
-    (breaking_answer n p t c.judge.result (some_flows n t c.new.ensures.lowest c.requires) (subst (λ x. IsJudged x 0 9 c.judge.result) c.new.ensures.subject c.judge.ensures))
+    (breaking_answer n p t c.judge.result (some_flows n t c.new.ensures.lowest c.requires) (subst (λ x. IsJudged x 0 11 c.judge.result) c.new.ensures.subject c.judge.ensures))

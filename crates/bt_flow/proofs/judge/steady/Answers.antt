@@ -19,4 +19,4 @@ returns c =
     let p = Unlimited in
     let t = c.args.state.now in
     answers_always_of (IsSteadyAnswer n t) (one_steady_answer n t) c.judge.result
-    (steady_answer n p t c.judge.result (some_flows n t c.new.ensures.lowest c.requires) (subst (λ x. IsJudged x 2 8 c.judge.result) c.new.ensures.subject c.judge.ensures))
+    (steady_answer n p t c.judge.result (some_flows n t c.new.ensures.lowest c.requires) (subst (λ x. IsJudged x 2 10 c.judge.result) c.new.ensures.subject c.judge.ensures))

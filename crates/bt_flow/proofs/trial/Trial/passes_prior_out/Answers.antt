@@ -1,0 +1,46 @@
+use Rattle.std.proofs.Common.{◌<◌, true, false, length, get_or, sym, subst}
+use Rattle.bt_flow.specs.declared.judgement.Test.TheVariants as test
+use Rattle.bt_flow.specs.declared.ports.Port.TheVariants.{Unused}
+use Rattle.bt_flow.specs.declared.ports.Role.TheVariants.{OutOf}
+use Rattle.bt_flow.specs.inner.AtPorts.{ComesFirstAt}
+use Rattle.bt_flow.specs.inner.Trials.{Decides}
+use Rattle.bt_flow.proofs.Adding.{no_edge}
+use Rattle.bt_flow.proofs.Each.{port_within}
+use Rattle.bt_flow.proofs.Numbers.{number_fits}
+use Rattle.bt_flow.proofs.Sharing.{precedes_none, precedes_at, leaves-split, leaves-input}
+use Rattle.bt_flow.proofs.trial.Trial.passes_prior_out.Goals as goal
+
+pub comes_first_at-requires-clause-port : goal.comes_first_at-requires-clause-port
+comes_first_at-requires-clause-port c =
+    let n = c.self.inside.net.now in
+    let a = c.args.edge in
+    let e = get_or c.edges.result.now a no_edge in
+    let k = c.in-Split.splitter in
+    let l : a < length n.edges = subst (λ x. a < length x.network.edges) (sym c.self.view_is) c.requires in
+    let m : a < length c.edges.result.now = subst (λ x. a < length x) (sym c.edges.ensures.edges) l in
+    let few = number_fits n OutOf c.edges.ensures.network c.edges.result.now a k no_edge c.edges.ensures.edges m (λ m. leaves-split e k m c.in-Split.is) in
+    port_within n OutOf k (get_or c.self.inside.ports.out_of k Unused) (c.self.invariant.ports.out_of.at k few Unused)
+
+pub returns-in-Split : goal.returns-in-Split
+returns-in-Split c =
+    let n = c.self.inside.net.now in
+    let a = c.args.edge in
+    let e = get_or c.edges.result.now a no_edge in
+    let k = c.in-Split.splitter in
+    let l : a < length n.edges = subst (λ x. a < length x.network.edges) (sym c.self.view_is) c.requires in
+    let m : a < length c.edges.result.now = subst (λ x. a < length x) (sym c.edges.ensures.edges) l in
+    let few = number_fits n OutOf c.edges.ensures.network c.edges.result.now a k no_edge c.edges.ensures.edges m (λ m. leaves-split e k m c.in-Split.is) in
+    let port = get_or c.self.inside.ports.out_of k Unused in
+    subst (λ x. Decides x test.PriorOut a c.comes_first_at.result) c.self.view_is
+    (λ s h.
+    precedes_at n s c.edges.result.now a no_edge c.edges.ensures.edges l OutOf true k port (λ m. leaves-split e k m c.in-Split.is) (c.self.invariant.ports.out_of.at k few Unused)
+    c.comes_first_at.result (rw (← c.give.ensures) (c.comes_first_at.ensures s h)))
+
+pub returns-in-Input : goal.returns-in-Input
+returns-in-Input c =
+    let n = c.self.inside.net.now in
+    let a = c.args.edge in
+    let e = get_or c.edges.result.now a no_edge in
+    let l : a < length n.edges = subst (λ x. a < length x.network.edges) (sym c.self.view_is) c.requires in
+    subst (λ x. Decides x test.PriorOut a true) c.self.view_is
+    (λ s h. precedes_none n s c.edges.result.now a no_edge c.edges.ensures.edges l OutOf true (λ k. leaves-input e c.in-Input.field-0 k c.in-Input.is))

@@ -1,0 +1,61 @@
+-- Networks of which no splitter prefers an edge, and of which some do.
+use Rattle.std.proofs.Common.{◌≡◌, ℕ, zero, suc, List, length, get_or, Option, Some, None, refl, sym, subst, ap, ◌∙◌}
+use Rattle.bt_net.specs.Network.{Network, none_each, preferred_in, give_of, take_of, HasNoPriorities, IsPrioritised, IsNetwork}
+use Rattle.bt_net.specs.Priorities.{preferring}
+use Rattle.bt_net.specs.declared.net.Preferred.{Preferred}
+use Rattle.bt_net.specs.inner.Preferred.{with_preferred}
+
+none_long : (splitters : ℕ) → length (none_each splitters) ≡ splitters
+none_long zero = refl
+none_long (suc k) = ap suc (none_long k)
+
+pub none_preferred : (splitters k : ℕ) → preferred_in (none_each splitters) k ≡ None
+none_preferred zero k = refl
+none_preferred (suc s) zero = refl
+none_preferred (suc s) (suc k) = none_preferred s k
+
+-- a splitter of a network without priorities prefers no edge
+pub plain_gives : (n : Network) → HasNoPriorities n → (k : ℕ) → give_of n k ≡ None
+plain_gives n plain k = ap (λ edges. preferred_in edges k) plain.gives ∙ none_preferred n.splitters k
+
+pub plain_takes : (n : Network) → HasNoPriorities n → (k : ℕ) → take_of n k ≡ None
+plain_takes n plain k = ap (λ edges. preferred_in edges k) plain.takes ∙ none_preferred n.splitters k
+
+none_or_some : (o : Option ℕ) (a : ℕ) → o ≡ None → o ≡ Some a → ⊥
+none_or_some o a none some = absurd (cc)
+
+pub plain_is_prioritised : (n : Network) → HasNoPriorities n → IsPrioritised n
+plain_is_prioritised n plain = record {
+  gives_each = ap length plain.gives ∙ none_long n.splitters;
+  takes_each = ap length plain.takes ∙ none_long n.splitters;
+  gives = λ k a is. absurd (none_or_some (give_of n k) a (plain_gives n plain k) is);
+  takes = λ k a is. absurd (none_or_some (take_of n k) a (plain_takes n plain k) is);
+}
+
+-- a network in which splitters prefer edges of their own is one
+pub preferring_network : (n : Network) (gives takes : List (Option ℕ)) → IsNetwork n → IsPrioritised (preferring n gives takes) → IsNetwork (preferring n gives takes)
+preferring_network n gives takes is prioritised =
+    let wired = is.wired in
+    record {
+      wired = record {
+        starts = wired.starts;
+        targets = wired.targets;
+        caps = wired.caps;
+        one_in = wired.one_in;
+        one_out = wired.one_out;
+        few_in = wired.few_in;
+        few_out = wired.few_out;
+      };
+      prioritised = prioritised;
+      few_inputs = is.few_inputs;
+      few_outputs = is.few_outputs;
+      few_splitters = is.few_splitters;
+      few_edges = is.few_edges;
+      some_input = is.some_input;
+      some_output = is.some_output;
+    }
+
+-- edges that are preferred instead of others
+pub preferring_instead : (preferred : Option Preferred) (n : Network) (gives takes : List (Option ℕ)) → preferring (with_preferred preferred n) gives takes ≡ preferring n gives takes
+preferring_instead None n gives takes = refl
+preferring_instead (Some preferred) n gives takes = refl
