@@ -3,6 +3,7 @@ pub mod Columns
 pub mod Orders
 pub mod Numbers
 pub mod Withins
+pub mod Sides
 pub mod Named
 pub mod Kept
 pub mod TrueClaims

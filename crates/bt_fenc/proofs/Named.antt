@@ -1,9 +1,10 @@
 -- The edges and the pairs that the claims of the flow formula name are of the network, and the variable of each
 -- pair is that of its first row.
-use Rattle.std.proofs.Common.{◌≡◌, ℕ, ◌<◌, ◌≤◌, ◌+◌, ◌⊎◌, inl, inr, Bool, true, false, List, [], ◌∷◌, ◌++◌, length, map, cond, ltb, ap, sym, ◌∙◌, refl, subst, arith, zero, suc, append_assoc, append-nil}
+use Rattle.std.proofs.Common.{◌≡◌, ℕ, ◌<◌, ◌≤◌, ◌+◌, ◌⊎◌, inl, inr, Bool, true, false, Option, Some, None, List, [], ◌∷◌, ◌++◌, length, map, cond, ltb, ap, sym, ◌∙◌, refl, subst, arith, zero, suc, append_assoc, append-nil}
 use Rattle.std.specs.List.{AllByRecursion, flat_map, range_with_len}
 use Rattle.std.proofs.lemmas.Bool.{lt-ltb, le-ltb}
 use Rattle.std.proofs.lemmas.Grind.{flat_map-append}
+use Rattle.std.proofs.lemmas.Option.{slice_get_within}
 use Rattle.bt_frac.specs.Rows.{RowParts}
 use Rattle.bt_net.specs.declared.network.Edge.{Edge}
 use Rattle.bt_net.specs.Network.{Network, IsNetwork, leaves, enters}
@@ -13,17 +14,19 @@ use Rattle.bt_flow.specs.Ports.{numbers_where}
 use Rattle.bt_fenc.specs.declared.claim.Side.{Side}
 use Rattle.bt_fenc.specs.declared.claim.Side.TheVariants.{Out, In}
 use Rattle.bt_fenc.specs.declared.claim.Pair.{Pair}
-use Rattle.bt_fenc.specs.declared.claim.Pair.TheVariants.{Even, Full, Loaded, Filled}
+use Rattle.bt_fenc.specs.declared.claim.Pair.TheVariants.{Even, Empty, Full, Loaded, Filled}
 use Rattle.bt_fenc.specs.declared.claim.Claim.{Claim}
 use Rattle.bt_fenc.specs.declared.claim.Claim.TheVariants.{Mark, Says, First}
 use Rattle.bt_fenc.specs.declared.family.Family.{Family}
 use Rattle.bt_fenc.specs.declared.family.Family.TheVariants as of
-use Rattle.bt_fenc.specs.Columns.{input_edge, output_edge, input_edges, output_edges, in_edges, out_edges, edges_at, cap_at, load_column, room_column}
-use Rattle.bt_fenc.specs.Pairs.{first_row, opposite_row, pair_clause, even_pairs, full}
-use Rattle.bt_fenc.specs.Families.{clauses_at, places, family_clauses, bounds, pair_families, laws, families, even_clauses, backing_clause}
+use Rattle.bt_fenc.specs.Columns.{input_edge, output_edge, input_edges, output_edges, in_edges, out_edges, edges_at, preferred_at, cap_at, load_column, room_column}
+use Rattle.bt_fenc.specs.Pairs.{first_row, opposite_row, pair_clause, even_pairs, beside, side_pairs, pairs_at, full}
+use Rattle.bt_fenc.specs.Families.{clauses_at, places, family_clauses, bounds, pair_families, laws, families, even_clauses, side_clauses, backing_clause}
 use Rattle.bt_fenc.specs.Properties.{property_clauses, loaded_clauses, open_clauses, short_clauses, unequal_clause, differ}
 use Rattle.bt_fenc.specs.Numbering.{mentioned, rows_in, IsVariable, IsNamed, AreNamed}
 use Rattle.bt_fenc.specs.FlowFormula.{flow_clauses, clauses_till, lower_first, variable_of}
+use Rattle.bt_fenc.proofs.NetEdges.{IsEdgeWith}
+use Rattle.bt_fenc.proofs.Sides.{at_side, side_edges, side_ascends, preferred_is, even_at}
 use Rattle.bt_fenc.proofs.Withins.{each-append, each-three, each-flat_map, each-map, each-range, each_any, all_below, input_below, output_below}
 
 -- these two are the edges
@@ -32,7 +35,8 @@ AreTwo edges a b = ((edges ≡ a ∷ b ∷ []) × (a < b)) ⊎ ((edges ≡ b ∷
 
 -- the pair is one of the network
 abbrev pub IsPair : Network → Pair → Type 0
-IsPair n (Even side k a b) = (k < n.splitters) × AreTwo (edges_at n side k) a b
+IsPair n (Even side k a b) = (k < n.splitters) × (preferred_at n side k ≡ None) × AreTwo (edges_at n side k) a b
+IsPair n (Empty side k a) = (k < n.splitters) × (pairs_at n side k ≡ Empty side k a ∷ [])
 IsPair n (Full a cap) = (a < length n.edges) × (cap ≡ cap_at n a)
 IsPair n (Loaded i a column) = (i < n.inputs) × (a ≡ input_edge n i) × (column ≡ load_column n i)
 IsPair n (Filled o a column) = (o < n.outputs) × (a ≡ output_edge n o) × (column ≡ room_column n o)
@@ -50,65 +54,58 @@ AreOf n clauses = AllByRecursion (AllByRecursion (IsOf n)) clauses
 abbrev pub nameless : List Family
 nameless = bounds ++ pair_families
 
--- ---- the numbers of edges ascend
-
-not_lower : (p : Edge → Bool) (m : ℕ) (es : List Edge) → AllByRecursion (λ x. m ≤ x) (numbers_where p m es)
-not_lower p m [] = tt
-not_lower p m (e ∷ es) =
-    let rest = each_higher m (m + 1) (omega arith) (numbers_where p (m + 1) es) (not_lower p (m + 1) es) in
-    elim (p e) as (λ b. AllByRecursion (λ x. m ≤ x) (cond b (m ∷ numbers_where p (m + 1) es) (numbers_where p (m + 1) es))) [ true ↦ (omega arith, rest) | false ↦ rest ]
-  where
-    each_higher : (m k : ℕ) → m ≤ k → (xs : List ℕ) → AllByRecursion (λ x. k ≤ x) xs → AllByRecursion (λ x. m ≤ x) xs
-    each_higher m k l [] h = tt
-    each_higher m k l (x ∷ xs) h = ((let g = h.0 in omega (arith, g, l)), each_higher m k l xs h.1)
-
-ascend_by : (t : Bool) (m a b : ℕ) (numbers rest : List ℕ) → AllByRecursion (λ x. m + 1 ≤ x) numbers → (numbers ≡ a ∷ b ∷ rest → a < b) → cond t (m ∷ numbers) numbers ≡ a ∷ b ∷ rest → a < b
-ascend_by true m a b [] rest h again e = absurd (cc)
-ascend_by true m a b (x ∷ numbers) rest h again e =
-    let first : m ≡ a = cc in
-    let second : x ≡ b = cc in
-    let l = h.0 in
-    omega (arith, first, second, l)
-ascend_by false m a b numbers rest h again e = again e
-
-pub ascend : (p : Edge → Bool) (m a b : ℕ) (rest : List ℕ) (es : List Edge) → numbers_where p m es ≡ a ∷ b ∷ rest → a < b
-ascend p m a b rest [] e = absurd (cc)
-ascend p m a b rest (x ∷ es) e = ascend_by (p x) m a b (numbers_where p (m + 1) es) rest (not_lower p (m + 1) es) (ascend p (m + 1) a b rest es) e
-
 -- ---- the claims are of the network
 
 module _ (n : Network) (is : IsNetwork n) where
+  below : (a : ℕ) (p : Edge → Bool) → IsEdgeWith n p a → a < length n.edges
+  below a p h = slice_get_within n.edges a h.0 h.1
+
   last_of : (t : Bool) (x : ℕ) → x < length n.edges → AllByRecursion (IsOf n) (cond t (First (full n x) ∷ []) [])
   last_of true x l = ((l, refl), tt)
   last_of false x l = tt
 
-  evens_of : (side : Side) (k : ℕ) → k < n.splitters → (edges : List ℕ) → edges ≡ edges_at n side k → AllByRecursion (λ x. x < length n.edges) edges
-      → ((a b : ℕ) → edges_at n side k ≡ a ∷ b ∷ [] → a < b) → AreOf n (even_clauses n side k edges)
-  evens_of side k l [] same h up = tt
-  evens_of side k l (a ∷ []) same h up = tt
-  evens_of side k l (a ∷ b ∷ []) same h up =
+  evens_of : (side : Side) (k : ℕ) → k < n.splitters → preferred_at n side k ≡ None → (edges : List ℕ) → edges ≡ edges_at n side k → AllByRecursion (IsEdgeWith n (at_side side k)) edges
+      → AreOf n (even_clauses n side k edges)
+  evens_of side k l none [] same h = tt
+  evens_of side k l none (a ∷ []) same h = tt
+  evens_of side k l none (a ∷ b ∷ []) same h =
       let is_two = sym same in
-      let less = up a b is_two in (
-        (h.0, ((l, inl (is_two, less)), last_of (ltb (cap_at n a) (cap_at n b)) a h.0)),
-        ((h.1.0, ((l, inr (is_two, less)), last_of (ltb (cap_at n b) (cap_at n a)) b h.1.0)), tt),
+      let less = side_ascends n side k a b is_two in
+      let first = below a (at_side side k) h.0 in
+      let second = below b (at_side side k) h.1.0 in (
+        (first, ((l, none, inl (is_two, less)), last_of (ltb (cap_at n a) (cap_at n b)) a first)),
+        ((second, ((l, none, inr (is_two, less)), last_of (ltb (cap_at n b) (cap_at n a)) b second)), tt),
       )
-  evens_of side k l (a ∷ b ∷ c ∷ edges) same h up = tt
+  evens_of side k l none (a ∷ b ∷ c ∷ edges) same h = tt
 
-  pairs_of : (side : Side) (k : ℕ) (edges : List ℕ) → AreOf n (map pair_clause (even_pairs side k edges))
-  pairs_of side k edges = each-map _ (λ x. Unit {0}) pair_clause (even_pairs side k edges) (each_any (even_pairs side k edges)) (λ pair t. (tt, (tt, tt)))
+  prior_of : (side : Side) (k x : ℕ) → k < n.splitters → preferred_at n side k ≡ Some x → (edges : List ℕ) → edges_at n side k ≡ edges → AreOf n (side_clauses (Some x) n side k edges)
+  prior_of side k x l first [] same = tt
+  prior_of side k x l first (a ∷ []) same = tt
+  prior_of side k x l first (a ∷ b ∷ []) same =
+      let inside = below x (at_side side k) (preferred_is n is side k x first) in
+      let pairs : pairs_at n side k ≡ Empty side k (beside x a b) ∷ [] = ap (λ o. side_pairs o side k (edges_at n side k)) first ∙ ap (side_pairs (Some x) side k) same in
+      ((inside, ((inside, refl), ((l, pairs), tt))), tt)
+  prior_of side k x l first (a ∷ b ∷ c ∷ edges) same = tt
+
+  sharing_of : (side : Side) (k : ℕ) → k < n.splitters → (o : Option ℕ) → preferred_at n side k ≡ o → AreOf n (side_clauses o n side k (edges_at n side k))
+  sharing_of side k l None none = evens_of side k l none (edges_at n side k) refl (side_edges n side k)
+  sharing_of side k l (Some x) first = prior_of side k x l first (edges_at n side k) refl
+
+  pairs_of : (pairs : List Pair) → AreOf n (map pair_clause pairs)
+  pairs_of pairs = each-map _ (λ x. Unit {0}) pair_clause pairs (each_any pairs) (λ pair t. (tt, (tt, tt)))
 
   pub at_of : (f : Family) (k : ℕ) → k < places n f → AreOf n (clauses_at n f k)
   at_of of.Flows k l = ((tt, tt), ((tt, tt), tt))
   at_of of.Loads k l = ((tt, tt), ((tt, tt), tt))
   at_of of.Rooms k l = ((tt, tt), ((tt, tt), tt))
   at_of of.Conserve k l = ((tt, tt), tt)
-  at_of of.OutPairs k l = pairs_of Out k (out_edges n k)
-  at_of of.InPairs k l = pairs_of In k (in_edges n k)
+  at_of of.OutPairs k l = pairs_of (pairs_at n Out k)
+  at_of of.InPairs k l = pairs_of (pairs_at n In k)
   at_of of.FullPairs k l = ((tt, (tt, tt)), tt)
   at_of of.LoadPairs k l = ((tt, (tt, tt)), tt)
   at_of of.RoomPairs k l = ((tt, (tt, tt)), tt)
-  at_of of.EvenOut k l = evens_of Out k l (out_edges n k) refl (all_below n is (leaves k)) (λ a b e. ascend (leaves k) 0 a b [] n.edges e)
-  at_of of.EvenIn k l = evens_of In k l (in_edges n k) refl (all_below n is (enters k)) (λ a b e. ascend (enters k) 0 a b [] n.edges e)
+  at_of of.EvenOut k l = sharing_of Out k l (preferred_at n Out k) refl
+  at_of of.EvenIn k l = sharing_of In k l (preferred_at n In k) refl
   at_of of.Backing k l =
       each-flat_map _ _ _ (in_edges n k) (all_below n is (enters k))
       (λ a l. each-map _ _ (backing_clause n a) (out_edges n k) (all_below n is (leaves k)) (λ x m. (l, (m, ((m, refl), tt)))))
@@ -197,11 +194,22 @@ module _ (n : Network) where
   pub pair_stands : (pair : Pair) → IsPair n pair → IsVariable (length n.edges) (rows_in (flat_map (family_clauses n) nameless)) (first_row pair) (variable_of n pair)
   pair_stands (Even Out k a b) h =
       let at = split_at bounds (of.InPairs ∷ of.FullPairs ∷ of.LoadPairs ∷ of.RoomPairs ∷ []) of.OutPairs k h.0 in
-      even_stands Out k a b _ (clauses_till n bounds of.OutPairs k) at.0 (out_edges n k) at.1 h.1
+      let till = clauses_till n bounds of.OutPairs k in
+      even_stands Out k a b _ till at.0 (out_edges n k) (at.1 ∙ ap (λ pairs. till ++ (map pair_clause pairs ++ at.0)) (even_at n Out k h.1.0)) h.1.1
   pair_stands (Even In k a b) h =
       let before = bounds ++ of.OutPairs ∷ [] in
       let at = split_at before (of.FullPairs ∷ of.LoadPairs ∷ of.RoomPairs ∷ []) of.InPairs k h.0 in
-      even_stands In k a b _ (clauses_till n before of.InPairs k) at.0 (in_edges n k) at.1 h.1
+      let till = clauses_till n before of.InPairs k in
+      even_stands In k a b _ till at.0 (in_edges n k) (at.1 ∙ ap (λ pairs. till ++ (map pair_clause pairs ++ at.0)) (even_at n In k h.1.0)) h.1.1
+  pair_stands (Empty Out k a) h =
+      let at = split_at bounds (of.InPairs ∷ of.FullPairs ∷ of.LoadPairs ∷ of.RoomPairs ∷ []) of.OutPairs k h.0 in
+      let till = clauses_till n bounds of.OutPairs k in
+      clause_stands (length n.edges) _ till at.0 (Empty Out k a) (at.1 ∙ ap (λ pairs. till ++ (map pair_clause pairs ++ at.0)) h.1)
+  pair_stands (Empty In k a) h =
+      let before = bounds ++ of.OutPairs ∷ [] in
+      let at = split_at before (of.FullPairs ∷ of.LoadPairs ∷ of.RoomPairs ∷ []) of.InPairs k h.0 in
+      let till = clauses_till n before of.InPairs k in
+      clause_stands (length n.edges) _ till at.0 (Empty In k a) (at.1 ∙ ap (λ pairs. till ++ (map pair_clause pairs ++ at.0)) h.1)
   pair_stands (Full a cap) h =
       let before = bounds ++ of.OutPairs ∷ of.InPairs ∷ [] in
       let at = split_at before (of.LoadPairs ∷ of.RoomPairs ∷ []) of.FullPairs a h.0 in

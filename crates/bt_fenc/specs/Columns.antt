@@ -1,12 +1,12 @@
 -- The columns of the flow formula, and rows over them.
 use Rattle.std.specs.List.{range_with_len}
-use Rattle.std.specs.Prelude.{ℕ, ◌+◌, nat_lt, pos, List, [], ◌∷◌, ◌++◌, length, map, slice_index_or, if◌then◌else◌}
+use Rattle.std.specs.Prelude.{ℕ, ◌+◌, nat_lt, pos, Option, List, [], ◌∷◌, ◌++◌, length, map, slice_index_or, if◌then◌else◌}
 use Rattle.bt_frac.specs.Ratio.{Ratio, negated}
 use Rattle.bt_frac.specs.Rows.{RowParts}
 use Rattle.bt_frac.specs.declared.row.Relation.{Relation}
 use Rattle.bt_frac.specs.declared.row.Relation.TheVariants.{AtLeast, Above}
 use Rattle.bt_net.specs.declared.network.Edge.{Edge}
-use Rattle.bt_net.specs.Network.{Network, leaves, enters, is_input, is_output}
+use Rattle.bt_net.specs.Network.{Network, give_of, take_of, leaves, enters, is_input, is_output}
 use Rattle.bt_flow.specs.Ports.{numbers_where}
 use Rattle.bt_flow.specs.Properties.{is_last}
 use Rattle.bt_fenc.specs.declared.claim.Side.{Side}
@@ -24,6 +24,11 @@ in_edges n k = numbers_where (enters k) 0 n.edges
 abbrev pub edges_at : Network → Side → ℕ → List ℕ
 edges_at n Out k = out_edges n k
 edges_at n In k = in_edges n k
+
+-- the edge at a side of a splitter that it prefers there, where it prefers one
+abbrev pub preferred_at : Network → Side → ℕ → Option ℕ
+preferred_at n Out k = give_of n k
+preferred_at n In k = take_of n k
 
 -- the number of the edge of an input
 abbrev pub input_edge : Network → ℕ → ℕ
@@ -80,6 +85,10 @@ at_most column k = record { terms = minus column ∷ []; relation = AtLeast; bou
 -- a column is below a whole number: its negative is above the negative of that
 abbrev pub below : ℕ → ℕ → RowParts
 below column k = record { terms = minus column ∷ []; relation = Above; bound = negated (whole k) }
+
+-- a column is above a whole number
+abbrev pub beyond : ℕ → ℕ → RowParts
+beyond column k = record { terms = plus column ∷ []; relation = Above; bound = whole k }
 
 -- one column less another, the lower column first; nothing where they are one column
 abbrev pub less : ℕ → ℕ → List (ℕ × Ratio)

@@ -1,18 +1,18 @@
 -- The clauses that say that a state is admissible and steady, family by family.
 use Rattle.std.specs.List.{range_with_len}
-use Rattle.std.specs.Prelude.{ℕ, nat_lt, Bool, true, false, List, [], ◌∷◌, ◌++◌, length, map, flat_map, if◌then◌else◌}
+use Rattle.std.specs.Prelude.{ℕ, nat_lt, Option, Some, None, Bool, true, false, List, [], ◌∷◌, ◌++◌, length, map, flat_map, if◌then◌else◌}
 use Rattle.bt_frac.specs.declared.row.Relation.TheVariants.{Equal}
 use Rattle.bt_net.specs.Network.{Network}
 use Rattle.bt_fenc.specs.declared.claim.Side.{Side}
 use Rattle.bt_fenc.specs.declared.claim.Side.TheVariants.{Out, In}
 use Rattle.bt_fenc.specs.declared.claim.Pair.{Pair}
-use Rattle.bt_fenc.specs.declared.claim.Pair.TheVariants.{Even}
+use Rattle.bt_fenc.specs.declared.claim.Pair.TheVariants.{Even, Empty}
 use Rattle.bt_fenc.specs.declared.claim.Claim.{Claim}
 use Rattle.bt_fenc.specs.declared.claim.Claim.TheVariants.{Mark, Says, First}
 use Rattle.bt_fenc.specs.declared.family.Family.{Family}
 use Rattle.bt_fenc.specs.declared.family.Family.TheVariants as of
-use Rattle.bt_fenc.specs.Columns.{out_edges, in_edges, input_edge, output_edge, cap_at, load_column, room_column, zero_row, at_least, at_most, not_below, in_less_out}
-use Rattle.bt_fenc.specs.Pairs.{pair_clause, even_pairs, full, loaded, filled}
+use Rattle.bt_fenc.specs.Columns.{out_edges, in_edges, edges_at, preferred_at, input_edge, output_edge, cap_at, load_column, room_column, zero_row, at_least, at_most, not_below, in_less_out}
+use Rattle.bt_fenc.specs.Pairs.{pair_clause, pairs_at, beside, full, loaded, filled}
 
 -- a column is from 0 to a cap
 abbrev pub range_clauses : ℕ → ℕ → List (List Claim)
@@ -34,6 +34,20 @@ abbrev pub even_clauses : Network → Side → ℕ → List ℕ → List (List C
 even_clauses n side k (a ∷ b ∷ []) = even_clause n side k a b ∷ even_clause n side k b a ∷ []
 even_clauses n side k edges = []
 
+-- a preferred edge has the mark, or is full, or the edge beside it is empty
+abbrev pub prior_clause : Network → Side → ℕ → ℕ → ℕ → List Claim
+prior_clause n side k x y = Mark x (excuse side) ∷ First (full n x) ∷ First (Empty side k y) ∷ []
+
+-- of two edges each is even, where the splitter prefers none there, and else the preferred one comes first
+abbrev pub side_clauses : Option ℕ → Network → Side → ℕ → List ℕ → List (List Claim)
+side_clauses None n side k edges = even_clauses n side k edges
+side_clauses (Some x) n side k (a ∷ b ∷ []) = prior_clause n side k x (beside x a b) ∷ []
+side_clauses (Some x) n side k edges = []
+
+-- how the edges at a side of a splitter share
+abbrev pub sharing_clauses : Network → Side → ℕ → List (List Claim)
+sharing_clauses n side k = side_clauses (preferred_at n side k) n side k (edges_at n side k)
+
 -- an in edge isn't backed, or an out edge is backed or full
 abbrev pub backing_clause : Network → ℕ → ℕ → List Claim
 backing_clause n a x = Mark a false ∷ Mark x true ∷ First (full n x) ∷ []
@@ -48,13 +62,13 @@ clauses_at n of.Flows a = range_clauses a (cap_at n a)
 clauses_at n of.Loads i = range_clauses (load_column n i) (cap_at n (input_edge n i))
 clauses_at n of.Rooms o = range_clauses (room_column n o) (cap_at n (output_edge n o))
 clauses_at n of.Conserve k = (Says (zero_row (in_less_out k 0 n.edges) Equal) ∷ []) ∷ []
-clauses_at n of.OutPairs k = map pair_clause (even_pairs Out k (out_edges n k))
-clauses_at n of.InPairs k = map pair_clause (even_pairs In k (in_edges n k))
+clauses_at n of.OutPairs k = map pair_clause (pairs_at n Out k)
+clauses_at n of.InPairs k = map pair_clause (pairs_at n In k)
 clauses_at n of.FullPairs a = pair_clause (full n a) ∷ []
 clauses_at n of.LoadPairs i = pair_clause (loaded n i) ∷ []
 clauses_at n of.RoomPairs o = pair_clause (filled n o) ∷ []
-clauses_at n of.EvenOut k = even_clauses n Out k (out_edges n k)
-clauses_at n of.EvenIn k = even_clauses n In k (in_edges n k)
+clauses_at n of.EvenOut k = sharing_clauses n Out k
+clauses_at n of.EvenIn k = sharing_clauses n In k
 clauses_at n of.Backing k = flat_map (λ a. map (backing_clause n a) (out_edges n k)) (in_edges n k)
 clauses_at n of.Inputs i = end_clauses (load_column n i) (input_edge n i) true (loaded n i)
 clauses_at n of.Outputs o = end_clauses (room_column n o) (output_edge n o) false (filled n o)

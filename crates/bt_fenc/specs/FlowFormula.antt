@@ -6,7 +6,7 @@ use Rattle.bt_flow.specs.declared.property.Property.{Property}
 use Rattle.bt_cnf.specs.Formulas.{FormulaParts}
 use Rattle.bt_fenc.specs.declared.claim.Side.TheVariants.{Out, In}
 use Rattle.bt_fenc.specs.declared.claim.Pair.{Pair}
-use Rattle.bt_fenc.specs.declared.claim.Pair.TheVariants.{Even, Full, Loaded, Filled}
+use Rattle.bt_fenc.specs.declared.claim.Pair.TheVariants.{Even, Empty, Full, Loaded, Filled}
 use Rattle.bt_fenc.specs.declared.claim.Claim.{Claim}
 use Rattle.bt_fenc.specs.declared.family.Family.{Family}
 use Rattle.bt_fenc.specs.declared.family.Family.TheVariants as of
@@ -31,6 +31,8 @@ lower_first lower a b = if nat_lt a b then [] else pair_clause lower ∷ []
 abbrev pub clauses_before : Network → Pair → List (List Claim)
 clauses_before n (Even Out k a b) = clauses_till n bounds of.OutPairs k ++ lower_first (Even Out k b a) a b
 clauses_before n (Even In k a b) = clauses_till n (bounds ++ of.OutPairs ∷ []) of.InPairs k ++ lower_first (Even In k b a) a b
+clauses_before n (Empty Out k a) = clauses_till n bounds of.OutPairs k
+clauses_before n (Empty In k a) = clauses_till n (bounds ++ of.OutPairs ∷ []) of.InPairs k
 clauses_before n (Full a cap) = clauses_till n (bounds ++ of.OutPairs ∷ of.InPairs ∷ []) of.FullPairs a
 clauses_before n (Loaded i a column) = clauses_till n (bounds ++ of.OutPairs ∷ of.InPairs ∷ of.FullPairs ∷ []) of.LoadPairs i
 clauses_before n (Filled o a column) = clauses_till n (bounds ++ of.OutPairs ∷ of.InPairs ∷ of.FullPairs ∷ of.LoadPairs ∷ []) of.RoomPairs o

@@ -21,6 +21,12 @@ pub enum Pair {
         edge: usize,
         other: usize,
     },
+    /// Of the two edges at a side of a splitter, the one beside the preferred one is empty.
+    Empty {
+        side: Side,
+        splitter: usize,
+        edge: usize,
+    },
     /// An edge has at least the flow of its cap.
     Full {
         edge: usize,

@@ -15,8 +15,8 @@ use crate::ends::{cap_at, input_edge, load_column, numbers_of, output_edge, room
 use crate::family::Family;
 use crate::numbering::{add_row, add_two};
 use crate::rows::{at_least, at_most, not_below, row_of_vec};
-use crate::splitters::{add_backing, add_even, add_even_pairs, add_pair, merge};
-use crate::variables::{PairVars, port_at};
+use crate::splitters::{add_backing, add_pair, add_pairs, add_sharing, merge};
+use crate::variables::{PairVars, port_at, preferred_at};
 use bt_cnf::Formula;
 use bt_flow::Ports;
 use bt_frac::{Frac, Relation, Row};
@@ -239,14 +239,15 @@ fn add_side_pairs(
 ) -> Result<(), AllocError>
     requires ports { ArePorts net.now ports.now }
     requires splitter { splitter < net.now.splitters }
-    ensures { OnOk result (formula.new ≡ with_clauses (at_in pairs.now) formula.old (map of_pairs.pair_clause
-        (of_pairs.even_pairs side splitter (columns.edges_at net.now side splitter)))) }
+    ensures { OnOk result (formula.new ≡ with_clauses (at_in pairs.now) formula.old
+        (map of_pairs.pair_clause (of_pairs.pairs_at net.now side splitter))) }
 {
     let port = port_at(net, ports, side, splitter);
-    add_even_pairs(alloc, pairs, formula, side, splitter, port)
+    let preferred = preferred_at(net, side, splitter);
+    add_pairs(alloc, pairs, formula, side, splitter, port, preferred)
 }
 
-/// Adds that each of two edges at a side of a splitter is even or full, or has a mark.
+/// Adds how the edges at a side of a splitter share.
 fn add_side(
     net: &Net,
     ports: &Ports,
@@ -258,12 +259,13 @@ fn add_side(
     requires ports { ArePorts net.now ports.now }
     requires splitter { splitter < net.now.splitters }
     requires within { AreWithin (at_in pairs.now) formula.old.vars
-        (families.even_clauses net.now side splitter (columns.edges_at net.now side splitter)) }
-    ensures { OnOk result (formula.new ≡ with_clauses (at_in pairs.now) formula.old
-        (families.even_clauses net.now side splitter (columns.edges_at net.now side splitter))) }
+        (families.sharing_clauses net.now side splitter) }
+    ensures { OnOk result (formula.new
+        ≡ with_clauses (at_in pairs.now) formula.old (families.sharing_clauses net.now side splitter)) }
 {
     let port = port_at(net, ports, side, splitter);
-    add_even(net, pairs, formula, side, splitter, port)
+    let preferred = preferred_at(net, side, splitter);
+    add_sharing(net, pairs, formula, side, splitter, port, preferred)
 }
 
 /// Adds that each edge is full or isn't.

@@ -77,6 +77,15 @@ fn below(alloc: Global, column: usize, end: u32) -> Result<Row, AllocError>
     row_of(alloc, &[minus(column)], Relation::Above, bound)
 }
 
+/// A column is above a whole number.
+fn beyond(alloc: Global, column: usize, start: u32) -> Result<Row, AllocError>
+    requires { column < 2 ^ 64 - 1 }
+    ensures { IfOk result (λ row. row ≡ columns.beyond column start) }
+{
+    let bound = Frac::whole(i64::from(start));
+    row_of(alloc, &[plus(column)], Relation::Above, bound)
+}
+
 /// One column less another is at least or above 0.
 fn less(alloc: Global, a: usize, b: usize, relation: Relation) -> Result<Row, AllocError>
     requires a { a < 2 ^ 64 - 1 }
@@ -118,6 +127,7 @@ pub fn first_row(alloc: Global, pair: Pair) -> Result<Row, AllocError>
 {
     match pair {
         Pair::Even { edge, other, .. } => not_below(alloc, edge, other),
+        Pair::Empty { edge, .. } => at_most(alloc, edge, 0),
         Pair::Full { edge, cap } => at_least(alloc, edge, cap),
         Pair::Loaded { edge, column, .. } | Pair::Filled { edge, column, .. } => {
             not_below(alloc, edge, column)
@@ -132,6 +142,7 @@ pub fn opposite_row(alloc: Global, pair: Pair) -> Result<Row, AllocError>
 {
     match pair {
         Pair::Even { edge, other, .. } => above(alloc, other, edge),
+        Pair::Empty { edge, .. } => beyond(alloc, edge, 0),
         Pair::Full { edge, cap } => below(alloc, edge, cap),
         Pair::Loaded { edge, column, .. } | Pair::Filled { edge, column, .. } => {
             above(alloc, column, edge)

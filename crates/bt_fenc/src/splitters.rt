@@ -1,9 +1,9 @@
 //! The clauses of a splitter.
-ghost use Rattle.std.specs.Prelude.{◌≡◌, ◌∷◌, [], OnOk, IfOk, flat_map, map};
+ghost use Rattle.std.specs.Prelude.{◌≡◌, ◌<◌, ◌^◌, ◌∷◌, [], OnOk, IfOk, flat_map, map};
 ghost use Rattle.std.specs.List.{AllByRecursion};
 ghost use Rattle.bt_flow.specs.Ports.{numbers_of};
 ghost use Rattle.bt_fenc.specs.Families as families;
-ghost use Rattle.bt_fenc.specs.Pairs.{pair_clause, even_pairs};
+ghost use Rattle.bt_fenc.specs.Pairs.{pair_clause, even_pairs, side_pairs, beside};
 ghost use Rattle.bt_fenc.specs.inner.Adding.{with_clauses};
 ghost use Rattle.bt_fenc.specs.inner.Merging.{merged};
 ghost use Rattle.bt_fenc.specs.inner.Variables.{at_in, HasColumns};
@@ -67,7 +67,7 @@ fn add_even_clause(
 }
 
 /// Adds that each of two edges at a side of a splitter has a mark, or is even with the other or full.
-pub fn add_even(
+fn add_even(
     net: &Net,
     pairs: &PairVars,
     formula: &mut Formula,
@@ -88,7 +88,7 @@ pub fn add_even(
 }
 
 /// Adds that of the two edges at a side of a splitter each has at least the flow of the other, or less.
-pub fn add_even_pairs(
+fn add_even_pairs(
     alloc: Global,
     pairs: &PairVars,
     formula: &mut Formula,
@@ -117,6 +117,107 @@ pub fn add_even_pairs(
         other: lower,
     };
     add_pair(alloc, pairs, formula, second)
+}
+
+/// Of two edges the one beside this one.
+fn beside(preferred: usize, first: u16, second: u16) -> usize
+    ensures beside { result ≡ beside preferred first second }
+    ensures small { result < 2 ^ 16 }
+{
+    if preferred == first as usize {
+        second as usize
+    } else {
+        first as usize
+    }
+}
+
+/// Adds the pairs of the edges at a side of a splitter, of which this one is preferred.
+pub fn add_pairs(
+    alloc: Global,
+    pairs: &PairVars,
+    formula: &mut Formula,
+    side: Side,
+    splitter: usize,
+    port: Port,
+    preferred: Option<usize>,
+) -> Result<(), AllocError>
+    ensures { OnOk result (formula.new ≡ with_clauses (at_in pairs.now) formula.old
+        (map pair_clause (side_pairs preferred side splitter (numbers_of port)))) }
+{
+    let Some(edge) = preferred else {
+        return add_even_pairs(alloc, pairs, formula, side, splitter, port);
+    };
+    let Port::Two(lower, higher) = port else {
+        return Ok(());
+    };
+    let empty = Pair::Empty {
+        side,
+        splitter,
+        edge: beside(edge, lower, higher),
+    };
+    add_pair(alloc, pairs, formula, empty)
+}
+
+/// Adds the clause that a preferred edge has a mark, or is full, or the edge beside it is empty.
+fn add_prior(
+    net: &Net,
+    pairs: &PairVars,
+    formula: &mut Formula,
+    side: Side,
+    splitter: usize,
+    edge: usize,
+    other: usize,
+) -> Result<(), AllocError>
+    requires { AllByRecursion (IsWithin (at_in pairs.now) formula.old.vars)
+        (families.prior_clause net.now side splitter edge other) }
+    ensures { OnOk result (formula.new ≡ with_clauses (at_in pairs.now) formula.old
+        (families.prior_clause net.now side splitter edge other ∷ [])) }
+{
+    let marked = Claim::Mark {
+        edge,
+        backed: excuse(side),
+    };
+    let full = Pair::Full {
+        edge,
+        cap: cap_at(net, edge),
+    };
+    let empty = Pair::Empty {
+        side,
+        splitter,
+        edge: other,
+    };
+    add_three(
+        formula,
+        pairs,
+        marked,
+        Claim::First(full),
+        Claim::First(empty),
+    )
+}
+
+/// Adds how the edges at a side of a splitter share, of which this one is preferred.
+pub fn add_sharing(
+    net: &Net,
+    pairs: &PairVars,
+    formula: &mut Formula,
+    side: Side,
+    splitter: usize,
+    port: Port,
+    preferred: Option<usize>,
+) -> Result<(), AllocError>
+    requires { AreWithin (at_in pairs.now) formula.old.vars
+        (families.side_clauses preferred net.now side splitter (numbers_of port)) }
+    ensures { OnOk result (formula.new ≡ with_clauses (at_in pairs.now) formula.old
+        (families.side_clauses preferred net.now side splitter (numbers_of port))) }
+{
+    let Some(edge) = preferred else {
+        return add_even(net, pairs, formula, side, splitter, port);
+    };
+    let Port::Two(lower, higher) = port else {
+        return Ok(());
+    };
+    let other = beside(edge, lower, higher);
+    add_prior(net, pairs, formula, side, splitter, edge, other)
 }
 
 /// Adds the clause that the first row of a pair holds or its opposite.

@@ -1,9 +1,9 @@
 //! The variables of the first rows of pairs, found before any clause is written.
 ghost use Rattle.std.specs.Prelude.{◌≡◌, ◌<◌, ◌≤◌, ◌^◌, ℕ, IfOk, length, map, slice_index_or};
 ghost use Rattle.bt_flow.specs.Ports.{ArePorts, numbers_of};
-ghost use Rattle.bt_fenc.specs.Columns.{edges_at};
+ghost use Rattle.bt_fenc.specs.Columns.{edges_at, preferred_at};
 ghost use Rattle.bt_fenc.specs.Numbering.{rows_in};
-ghost use Rattle.bt_fenc.specs.Pairs.{pair_clause, even_pairs};
+ghost use Rattle.bt_fenc.specs.Pairs.{pair_clause, side_pairs};
 ghost use Rattle.bt_fenc.specs.inner.Variables.{at_in, side_starts, AreVariables};
 
 use crate::claim::{Pair, Side};
@@ -36,14 +36,15 @@ fn start_at(starts: &[usize], place: usize) -> usize
     }
 }
 
-/// How many rows the pairs of a port have.
-fn rows_at(port: Port) -> usize
-    ensures rows { (side : Side) (k : ℕ)
-        → length (rows_in (map pair_clause (even_pairs side k (numbers_of port)))) ≡ result }
+/// How many rows the pairs of a port have, of which this edge is preferred.
+fn rows_at(port: Port, preferred: Option<usize>) -> usize
+    ensures rows { (side : Side) (k : ℕ) → length
+        (rows_in (map pair_clause (side_pairs preferred side k (numbers_of port)))) ≡ result }
     ensures few { result ≤ 4 }
 {
-    match port {
-        Port::Two(_, _) => 4,
+    match (port, preferred) {
+        (Port::Two(_, _), None) => 4,
+        (Port::Two(_, _), Some(_)) => 2,
         _ => 0,
     }
 }
@@ -57,6 +58,16 @@ pub fn port_at(net: &Net, ports: &Ports, side: Side, splitter: usize) -> Port
     match side {
         Side::Out => ports.out_of[splitter],
         Side::In => ports.into[splitter],
+    }
+}
+
+/// The edge that a splitter prefers at a side, where it prefers one.
+pub fn preferred_at(net: &Net, side: Side, splitter: usize) -> Option<usize>
+    ensures { result ≡ preferred_at net.now side splitter }
+{
+    match side {
+        Side::Out => net.give(splitter),
+        Side::In => net.take(splitter),
     }
 }
 
@@ -76,7 +87,8 @@ fn starts(
     let mut next = first;
     for splitter in 0..net.splitters() as usize {
         starts.push(next)?;
-        next += rows_at(port_at(net, ports, side, splitter));
+        let preferred = preferred_at(net, side, splitter);
+        next += rows_at(port_at(net, ports, side, splitter), preferred);
     }
     starts.push(next)?;
     Ok(starts)
@@ -125,6 +137,10 @@ impl PairVars {
                 let later = if edge < other { 0 } else { 2 };
                 start_at(starts, splitter) + later
             }
+            Pair::Empty { side, splitter, .. } => match side {
+                Side::Out => start_at(&self.out, splitter),
+                Side::In => start_at(&self.into, splitter),
+            },
             Pair::Full { edge, .. } => self.full + 2 * edge,
             Pair::Loaded { input, .. } => self.loaded + 2 * input,
             Pair::Filled { output, .. } => self.filled + 2 * output,

@@ -255,10 +255,13 @@ fn named(test: Test, place: usize, outcome: Result<bool, Wide>) -> Result<bool, 
     ensures wide { IfErr result (λ w. (w.test ≡ test) × (w.place ≡ place)
         × (outcome ≡ Err (record { left = w.left; right = w.right }))) }
 {
-    outcome.map_err(|wide| WideSum {
-        test,
-        place,
-        left: wide.left,
-        right: wide.right,
-    })
+    match outcome {
+        Ok(passed) => Ok(passed),
+        Err(wide) => Err(WideSum {
+            test,
+            place,
+            left: wide.left,
+            right: wide.right,
+        }),
+    }
 }

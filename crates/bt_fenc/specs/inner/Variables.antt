@@ -5,12 +5,11 @@ use Rattle.bt_net.specs.Network.{Network}
 use Rattle.bt_fenc.specs.declared.claim.Side.{Side}
 use Rattle.bt_fenc.specs.declared.claim.Side.TheVariants.{Out, In}
 use Rattle.bt_fenc.specs.declared.claim.Pair.{Pair}
-use Rattle.bt_fenc.specs.declared.claim.Pair.TheVariants.{Even, Full, Loaded, Filled}
+use Rattle.bt_fenc.specs.declared.claim.Pair.TheVariants.{Even, Empty, Full, Loaded, Filled}
 use Rattle.bt_fenc.specs.declared.family.Family.{Family}
 use Rattle.bt_fenc.specs.declared.family.Family.TheVariants as of
 use Rattle.bt_fenc.specs.declared.variables.PairVars.{PairVars}
-use Rattle.bt_fenc.specs.Columns.{edges_at}
-use Rattle.bt_fenc.specs.Pairs.{pair_clause, even_pairs}
+use Rattle.bt_fenc.specs.Pairs.{pair_clause, pairs_at}
 use Rattle.bt_fenc.specs.Families.{bounds}
 use Rattle.bt_fenc.specs.FlowFormula.{clauses_till}
 use Rattle.bt_fenc.specs.Numbering.{rows_in}
@@ -19,13 +18,15 @@ use Rattle.bt_fenc.specs.Numbering.{rows_in}
 abbrev pub at_in : PairVars → Pair → ℕ
 at_in v (Even Out k a b) = slice_index_or v.out.items k 0 + (if nat_lt a b then 0 else 2)
 at_in v (Even In k a b) = slice_index_or v.into.items k 0 + (if nat_lt a b then 0 else 2)
+at_in v (Empty Out k a) = slice_index_or v.out.items k 0
+at_in v (Empty In k a) = slice_index_or v.into.items k 0
 at_in v (Full a cap) = v.full + 2 * a
 at_in v (Loaded i a column) = v.loaded + 2 * i
 at_in v (Filled o a column) = v.filled + 2 * o
 
 -- the number of the rows of the pairs at one side of the splitters before one
 abbrev pub side_rows : Network → Side → ℕ → ℕ
-side_rows n side k = length (rows_in (flat_map (λ j. map pair_clause (even_pairs side j (edges_at n side j))) (range_with_len 0 k)))
+side_rows n side k = length (rows_in (flat_map (λ j. map pair_clause (pairs_at n side j)) (range_with_len 0 k)))
 
 -- for each splitter the variable of the first pair at one side, where the first of all has this one, and then the variable after the last
 abbrev pub side_starts : Network → Side → ℕ → List ℕ
@@ -46,6 +47,7 @@ pub record AreVariables (n : Network) (v : PairVars) : Type 0 where
 -- the columns of a pair may stand in a row
 abbrev pub HasColumns : Pair → Type 0
 HasColumns (Even side k a b) = (a < 2 ^ 64 - 1) × (b < 2 ^ 64 - 1)
+HasColumns (Empty side k a) = a < 2 ^ 64 - 1
 HasColumns (Full a cap) = a < 2 ^ 64 - 1
 HasColumns (Loaded i a column) = (a < 2 ^ 64 - 1) × (column < 2 ^ 64 - 1)
 HasColumns (Filled o a column) = (a < 2 ^ 64 - 1) × (column < 2 ^ 64 - 1)
