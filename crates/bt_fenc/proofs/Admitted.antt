@@ -1,5 +1,5 @@
 -- A state that is admissible and steady makes true a claim of each clause of each family.
-use Rattle.std.proofs.Common.{◌≡◌, ◌≢◌, ℕ, ◌<◌, ◌≤◌, ◌+◌, ◌*◌, ◌⊎◌, inl, inr, Bool, true, false, IsTrue, ℤ, pos, ◌≤ℤ◌, List, [], ◌∷◌, ◌++◌, length, map, get_or, cond, ltb, ap, sym, ◌∙◌, refl, subst, arith, length-append}
+use Rattle.std.proofs.Common.{◌≡◌, ◌≢◌, ℕ, ◌<◌, ◌≤◌, ◌+◌, ◌*◌, ◌⊎◌, inl, inr, Bool, true, false, IsTrue, Option, Some, None, ℤ, pos, ◌≤ℤ◌, List, [], ◌∷◌, ◌++◌, length, map, get_or, cond, ltb, ap, sym, ◌∙◌, refl, subst, arith, length-append}
 use Rattle.std.specs.List.{AllByRecursion, flat_map, range_with_len}
 use Rattle.std.proofs.lemmas.Int.{ints}
 use Rattle.std.proofs.Math.Bool.{not}
@@ -8,25 +8,26 @@ use Rattle.std.proofs.lemmas.List.{get_or_append_left, get_or-append-add}
 use Rattle.std.proofs.lemmas.Option.{slice_get-get_or, slice_get_within}
 use Rattle.bt_frac.specs.Values.{RowHolds}
 use Rattle.bt_net.specs.declared.network.Edge.{Edge}
-use Rattle.bt_net.specs.Network.{Network, IsNetwork, leaves, enters}
+use Rattle.bt_net.specs.Network.{Network, IsNetwork, give_of, take_of, leaves, enters}
 use Rattle.bt_flow.specs.States.{Flows, IsStateOf, flow_at, backed_at, load_at, room_at, cap_in}
-use Rattle.bt_flow.specs.Steady.{HasEdge, IsFull, IsSteady}
+use Rattle.bt_flow.specs.Steady.{HasEdge, IsFull, IsEmpty, IsSteady}
 use Rattle.bt_flow.specs.Properties.{IsAdmissible}
 use Rattle.bt_flow.proofs.Adding.{no_edge}
 use Rattle.bt_fenc.specs.declared.claim.Side.{Side}
 use Rattle.bt_fenc.specs.declared.claim.Side.TheVariants.{Out, In}
 use Rattle.bt_fenc.specs.declared.claim.Pair.{Pair}
-use Rattle.bt_fenc.specs.declared.claim.Pair.TheVariants.{Even}
+use Rattle.bt_fenc.specs.declared.claim.Pair.TheVariants.{Even, Empty}
 use Rattle.bt_fenc.specs.declared.claim.Claim.{Claim}
 use Rattle.bt_fenc.specs.declared.claim.Claim.TheVariants.{Mark, Says, First}
 use Rattle.bt_fenc.specs.declared.family.Family.{Family}
 use Rattle.bt_fenc.specs.declared.family.Family.TheVariants as of
-use Rattle.bt_fenc.specs.Columns.{input_edge, output_edge, in_edges, out_edges, cap_at, load_column, room_column, at_least, below as below_cap, not_below, above}
-use Rattle.bt_fenc.specs.Families.{clauses_at, places, family_clauses, families, range_clauses, end_clauses, excuse, even_clause, even_clauses, backing_clause}
-use Rattle.bt_fenc.specs.Pairs.{first_row, pair_clause, even_pairs, full, loaded, filled}
+use Rattle.bt_fenc.specs.Columns.{input_edge, output_edge, in_edges, out_edges, edges_at, preferred_at, cap_at, load_column, room_column, at_least, at_most, below as below_cap, beyond, not_below, above}
+use Rattle.bt_fenc.specs.Families.{clauses_at, places, family_clauses, families, range_clauses, end_clauses, excuse, even_clause, even_clauses, prior_clause, side_clauses, backing_clause}
+use Rattle.bt_fenc.specs.Pairs.{first_row, pair_clause, beside, side_pairs, full, loaded, filled}
 use Rattle.bt_fenc.specs.Laws.{HasTrue}
 use Rattle.bt_fenc.proofs.NetEdges.{IsEdgeWith, edges_with, cap_is, input_is, output_is}
 use Rattle.bt_fenc.proofs.Orders.{at_most_or}
+use Rattle.bt_fenc.proofs.Sides.{at_side, side_edges, side_ascends, preferred_is, beside_edge, beside_apart}
 use Rattle.bt_fenc.proofs.RowValues as rows
 use Rattle.bt_fenc.proofs.Withins.{each-flat_map, each-map, each-range, each_any}
 
@@ -210,13 +211,49 @@ module _ (n : Network) (is : IsNetwork n) (s : Flows) (state : IsStateOf n s) (s
       (even_true side k a b x.0 y.0 x.1 y.1 (λ o m. law a b x.0 y.0 x.1 y.1 x.2 y.2 o m), (even_true side k b a y.0 x.0 y.1 x.1 (λ o m. law b a y.0 x.0 y.1 x.1 y.2 x.2 o m), tt))
   evens_true p side k law (a ∷ b ∷ c ∷ edges) h = tt
 
-  pub even_out_true : (k : ℕ) → AllTrue (clauses_at n of.EvenOut k)
-  even_out_true k =
-      evens_true (leaves k) Out k (λ a b e f h g p q o m. steady.even_out a (below a e h) k b e f h g o p q m) (out_edges n k) (edges_with n (leaves k))
+  even_out_true : (k : ℕ) → give_of n k ≡ None → AllTrue (even_clauses n Out k (out_edges n k))
+  even_out_true k none =
+      evens_true (leaves k) Out k (λ a b e f h g p q o m. steady.even_out a (below a e h) k b e f h g o p q none m) (out_edges n k) (edges_with n (leaves k))
 
-  pub even_in_true : (k : ℕ) → AllTrue (clauses_at n of.EvenIn k)
-  even_in_true k =
-      evens_true (enters k) In k (λ a b e f h g p q o m. steady.even_in a (below a e h) k b e f h g o p q m) (in_edges n k) (edges_with n (enters k))
+  even_in_true : (k : ℕ) → take_of n k ≡ None → AllTrue (even_clauses n In k (in_edges n k))
+  even_in_true k none =
+      evens_true (enters k) In k (λ a b e f h g p q o m. steady.even_in a (below a e h) k b e f h g o p q none m) (in_edges n k) (edges_with n (enters k))
+
+  empty_true : (b : ℕ) (f : Edge) → HasEdge n b f → IsEmpty s b → RowHolds (at_most b 0) (rows.over (w n is s state) s.denominator)
+  empty_true b f g empty =
+      let y = flow_is b f g in
+      let zero_is : pos (0 * s.denominator) ≡ pos 0 = omega (arith, ints) in
+      rows.at_most_holds (w n is s state) s.denominator state.positive b 0 (omega (arith, ints, y, zero_is, empty))
+
+  -- a preferred edge comes first
+  comes_first : (side : Side) (k x y : ℕ) (e f : Edge) → HasEdge n x e → HasEdge n y f → IsTrue (at_side side k e) → IsTrue (at_side side k f) → y ≢ x → preferred_at n side k ≡ Some x
+      → backed_at s x ≡ not (excuse side) → IsEmpty s y ⊎ IsFull s x e
+  comes_first Out k x y e f h g p q o first m = steady.prior_out x (below x e h) k y e f h g o p q first m
+  comes_first In k x y e f h g p q o first m = steady.prior_in x (below x e h) k y e f h g o p q first m
+
+  prior_true : (side : Side) (k x y : ℕ) → IsEdgeWith n (at_side side k) x → IsEdgeWith n (at_side side k) y → y ≢ x → preferred_at n side k ≡ Some x → True (prior_clause n side k x y)
+  prior_true side k x y e f o first = elim (same_or_not (backed_at s x) (excuse side)) [
+    | inl marked ↦ inl marked
+    | inr other ↦ elim (comes_first side k x y e.0 f.0 e.1 f.1 e.2 f.2 o first other) [
+      | inl empty ↦ inr (inr (inl (empty_true y f.0 f.1 empty)))
+      | inr is_full ↦ inr (inl (full_true x e.0 e.1 is_full))
+    ]
+  ]
+
+  priors_true : (side : Side) (k x : ℕ) → preferred_at n side k ≡ Some x → (edges : List ℕ) → edges_at n side k ≡ edges → AllByRecursion (IsEdgeWith n (at_side side k)) edges
+      → AllTrue (side_clauses (Some x) n side k edges)
+  priors_true side k x first [] same h = tt
+  priors_true side k x first (a ∷ []) same h = tt
+  priors_true side k x first (a ∷ b ∷ []) same h = (
+    prior_true side k x (beside x a b) (preferred_is n is side k x first) (beside_edge (IsEdgeWith n (at_side side k)) x a b h.0 h.1.0) (beside_apart x a b (side_ascends n side k a b same)) first,
+    tt,
+  )
+  priors_true side k x first (a ∷ b ∷ c ∷ edges) same h = tt
+
+  sharing_true : (side : Side) (k : ℕ) (o : Option ℕ) → preferred_at n side k ≡ o → AllTrue (side_clauses o n side k (edges_at n side k))
+  sharing_true Out k None none = even_out_true k none
+  sharing_true In k None none = even_in_true k none
+  sharing_true side k (Some x) first = priors_true side k x first (edges_at n side k) refl (side_edges n side k)
 
   -- the order of whole numbers is total, so of each pair a row holds
   two_true : (a b : ℕ) → True (Says (not_below a b) ∷ Says (above b a) ∷ [])
@@ -233,11 +270,22 @@ module _ (n : Network) (is : IsNetwork n) (s : Flows) (state : IsStateOf n s) (s
         | inr g ↦ inr (inl (rows.below_holds (w n is s state) s.denominator state.positive a cap g))
       ]
 
-  pairs_true : (side : Side) (k : ℕ) (edges : List ℕ) → AllTrue (map pair_clause (even_pairs side k edges))
-  pairs_true side k [] = tt
-  pairs_true side k (a ∷ []) = tt
-  pairs_true side k (a ∷ b ∷ []) = (two_true a b, (two_true b a, tt))
-  pairs_true side k (a ∷ b ∷ c ∷ edges) = tt
+  empty_or_not : (b : ℕ) → True (Says (at_most b 0) ∷ Says (beyond b 0) ∷ [])
+  empty_or_not b =
+      elim (at_most_or (w n is s state b) (pos (0 * s.denominator))) [
+        | inl l ↦ inl (rows.at_most_holds (w n is s state) s.denominator state.positive b 0 l)
+        | inr g ↦ inr (inl (rows.beyond_holds (w n is s state) s.denominator state.positive b 0 g))
+      ]
+
+  pairs_true : (o : Option ℕ) (side : Side) (k : ℕ) (edges : List ℕ) → AllTrue (map pair_clause (side_pairs o side k edges))
+  pairs_true None side k [] = tt
+  pairs_true None side k (a ∷ []) = tt
+  pairs_true None side k (a ∷ b ∷ []) = (two_true a b, (two_true b a, tt))
+  pairs_true None side k (a ∷ b ∷ c ∷ edges) = tt
+  pairs_true (Some x) side k [] = tt
+  pairs_true (Some x) side k (a ∷ []) = tt
+  pairs_true (Some x) side k (a ∷ b ∷ []) = (empty_or_not (beside x a b), tt)
+  pairs_true (Some x) side k (a ∷ b ∷ c ∷ edges) = tt
 
   back_true : (k a x : ℕ) → IsEdgeWith n (enters k) a → IsEdgeWith n (leaves k) x → True (backing_clause n a x)
   back_true k a x i o =
@@ -259,13 +307,13 @@ module _ (n : Network) (is : IsNetwork n) (s : Flows) (state : IsStateOf n s) (s
   at_true admits of.Loads k l = loads_true admits k l
   at_true admits of.Rooms k l = rooms_true admits k l
   at_true admits of.Conserve k l = conserve_true k l
-  at_true admits of.OutPairs k l = pairs_true Out k (out_edges n k)
-  at_true admits of.InPairs k l = pairs_true In k (in_edges n k)
+  at_true admits of.OutPairs k l = pairs_true (preferred_at n Out k) Out k (out_edges n k)
+  at_true admits of.InPairs k l = pairs_true (preferred_at n In k) In k (in_edges n k)
   at_true admits of.FullPairs k l = (full_or_not k (cap_at n k), tt)
   at_true admits of.LoadPairs k l = (two_true (input_edge n k) (load_column n k), tt)
   at_true admits of.RoomPairs k l = (two_true (output_edge n k) (room_column n k), tt)
-  at_true admits of.EvenOut k l = even_out_true k
-  at_true admits of.EvenIn k l = even_in_true k
+  at_true admits of.EvenOut k l = sharing_true Out k (preferred_at n Out k) refl
+  at_true admits of.EvenIn k l = sharing_true In k (preferred_at n In k) refl
   at_true admits of.Backing k l = backing_true k
   at_true admits of.Inputs k l = inputs_true k l
   at_true admits of.Outputs k l = outputs_true k l

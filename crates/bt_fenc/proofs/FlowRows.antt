@@ -1,5 +1,5 @@
 -- The rows of the flow formula are rows: their columns ascend, and their numbers are in lowest terms.
-use Rattle.std.proofs.Common.{◌≡◌, ℕ, ◌<◌, ◌≤◌, ◌+◌, ◌-◌, ◌^◌, Bool, true, false, pos, neg_ℤ, List, [], ◌∷◌, ◌++◌, length, map, cond, ltb, refl, arith, zero, suc, lit<, get_or}
+use Rattle.std.proofs.Common.{◌≡◌, ℕ, ◌<◌, ◌≤◌, ◌+◌, ◌-◌, ◌^◌, Bool, true, false, Option, Some, None, pos, neg_ℤ, List, [], ◌∷◌, ◌++◌, length, map, cond, ltb, refl, arith, zero, suc, lit<, get_or}
 use Rattle.std.specs.List.{AllByRecursion, flat_map, range_with_len}
 use Rattle.std.proofs.lemmas.Int.{ints}
 use Rattle.std.proofs.lemmas.Bool.{ltb-true}
@@ -22,9 +22,10 @@ use Rattle.bt_fenc.specs.declared.claim.Claim.{Claim}
 use Rattle.bt_fenc.specs.declared.claim.Claim.TheVariants.{Says, First}
 use Rattle.bt_fenc.specs.declared.family.Family.{Family}
 use Rattle.bt_fenc.specs.declared.family.Family.TheVariants as of
-use Rattle.bt_fenc.specs.Columns.{input_edge, output_edge, input_edges, output_edges, in_edges, out_edges, cap_at, load_column, room_column, whole, plus, minus, zero_row, at_least, at_most, below, less, not_below, above, in_less_out, above_outputs}
-use Rattle.bt_fenc.specs.Families.{clauses_at, places, family_clauses, families, range_clauses, end_clauses, even_clauses, backing_clause}
-use Rattle.bt_fenc.specs.Pairs.{pair_clause, even_pairs, full, loaded, filled}
+use Rattle.bt_fenc.specs.Columns.{input_edge, output_edge, input_edges, output_edges, in_edges, out_edges, preferred_at, cap_at, load_column, room_column, whole, plus, minus, zero_row, at_least, at_most, below, beyond, less, not_below, above, in_less_out, above_outputs}
+use Rattle.bt_fenc.specs.Families.{clauses_at, places, family_clauses, families, range_clauses, end_clauses, even_clauses, side_clauses, backing_clause}
+use Rattle.bt_fenc.proofs.Sides.{beside_edge}
+use Rattle.bt_fenc.specs.Pairs.{pair_clause, beside, side_pairs, full, loaded, filled}
 use Rattle.bt_fenc.specs.Properties.{property_clauses, loaded_clauses, open_clauses, short_clauses, unequal_clause, differ}
 use Rattle.bt_fenc.specs.FlowFormula.{flow_clauses}
 use Rattle.bt_fenc.specs.Numbering.{mentioned, rows_in}
@@ -66,6 +67,9 @@ at_most_row c k l m = is_row (minus c ∷ []) AtLeast (negated (whole k)) (omega
 
 below_row : (c k : ℕ) → IsColumn c → k < 2 ^ 127 → IsRow (below c k)
 below_row c k l m = is_row (minus c ∷ []) Above (negated (whole k)) (omega arith, l, tt) (minus_is, tt) (negated_is k m)
+
+beyond_row : (c k : ℕ) → IsColumn c → k < 2 ^ 127 → IsRow (beyond c k)
+beyond_row c k l m = is_row (plus c ∷ []) Above (whole k) (omega arith, l, tt) (one_is, tt) (whole_is k m)
 
 less_columns : (a b : ℕ) → IsColumn a → IsColumn b → (t u : Bool) → ltb a b ≡ t → ltb b a ≡ u
     → AreColumnsFrom 0 (columns_of (cond t (plus a ∷ minus b ∷ []) (cond u (minus b ∷ plus a ∷ []) [])))
@@ -153,11 +157,17 @@ module _ (n : Network) (is : IsNetwork n) where
   two_rows : (a b : ℕ) → IsColumn a → IsColumn b → AllByRecursion MentionsRow (Says (not_below a b) ∷ Says (above b a) ∷ [])
   two_rows a b l m = ((not_below_row a b l m, tt), ((above_row b a m l, tt), tt))
 
-  pair_rows : (side : Side) (k : ℕ) (edges : List ℕ) → AllByRecursion IsColumn edges → MentionRows (map pair_clause (even_pairs side k edges))
-  pair_rows side k [] h = tt
-  pair_rows side k (a ∷ []) h = tt
-  pair_rows side k (a ∷ b ∷ []) h = (two_rows a b h.0 h.1.0, (two_rows b a h.1.0 h.0, tt))
-  pair_rows side k (a ∷ b ∷ c ∷ edges) h = tt
+  pair_rows : (o : Option ℕ) (side : Side) (k : ℕ) (edges : List ℕ) → AllByRecursion IsColumn edges → MentionRows (map pair_clause (side_pairs o side k edges))
+  pair_rows None side k [] h = tt
+  pair_rows None side k (a ∷ []) h = tt
+  pair_rows None side k (a ∷ b ∷ []) h = (two_rows a b h.0 h.1.0, (two_rows b a h.1.0 h.0, tt))
+  pair_rows None side k (a ∷ b ∷ c ∷ edges) h = tt
+  pair_rows (Some x) side k [] h = tt
+  pair_rows (Some x) side k (a ∷ []) h = tt
+  pair_rows (Some x) side k (a ∷ b ∷ []) h =
+      let column = beside_edge IsColumn x a b h.0 h.1.0 in
+      (((at_most_row (beside x a b) 0 column (lit< tt), tt), ((beyond_row (beside x a b) 0 column (lit< tt), tt), tt)), tt)
+  pair_rows (Some x) side k (a ∷ b ∷ c ∷ edges) h = tt
 
   last_row : (b : Bool) (x : ℕ) → AllByRecursion MentionsRow (cond b (First (full n x) ∷ []) [])
   last_row true x = (tt, tt)
@@ -168,6 +178,13 @@ module _ (n : Network) (is : IsNetwork n) where
   even_rows side k (a ∷ []) = tt
   even_rows side k (a ∷ b ∷ []) = ((tt, (tt, last_row (ltb (cap_at n a) (cap_at n b)) a)), ((tt, (tt, last_row (ltb (cap_at n b) (cap_at n a)) b)), tt))
   even_rows side k (a ∷ b ∷ c ∷ edges) = tt
+
+  sharing_rows : (o : Option ℕ) (side : Side) (k : ℕ) (edges : List ℕ) → MentionRows (side_clauses o n side k edges)
+  sharing_rows None side k edges = even_rows side k edges
+  sharing_rows (Some x) side k [] = tt
+  sharing_rows (Some x) side k (a ∷ []) = tt
+  sharing_rows (Some x) side k (a ∷ b ∷ []) = ((tt, (tt, (tt, tt))), tt)
+  sharing_rows (Some x) side k (a ∷ b ∷ c ∷ edges) = tt
 
   end_rows : (c a : ℕ) (mark : Bool) (pair : Pair) → IsColumn c → IsColumn a → MentionRows (end_clauses c a mark pair)
   end_rows c a mark pair l m = (((not_below_row c a l m, tt), tt), ((tt, (tt, tt)), tt))
@@ -182,13 +199,13 @@ module _ (n : Network) (is : IsNetwork n) where
   at_rows of.Loads i l = range_rows (load_column n i) (cap_at n (input_edge n i)) (load_is i l) (cap_fits (input_edge n i))
   at_rows of.Rooms o l = range_rows (room_column n o) (cap_at n (output_edge n o)) (room_is o l) (cap_fits (output_edge n o))
   at_rows of.Conserve k l = (((conserve_row k, tt), tt), tt)
-  at_rows of.OutPairs k l = pair_rows Out k (out_edges n k) (edges_are (leaves k))
-  at_rows of.InPairs k l = pair_rows In k (in_edges n k) (edges_are (enters k))
+  at_rows of.OutPairs k l = pair_rows (preferred_at n Out k) Out k (out_edges n k) (edges_are (leaves k))
+  at_rows of.InPairs k l = pair_rows (preferred_at n In k) In k (in_edges n k) (edges_are (enters k))
   at_rows of.FullPairs a l = (((at_least_row a (cap_at n a) (flow_column a l) (cap_fits a), tt), ((below_row a (cap_at n a) (flow_column a l) (cap_fits a), tt), tt)), tt)
   at_rows of.LoadPairs i l = (two_rows (input_edge n i) (load_column n i) (input_is i) (load_is i l), tt)
   at_rows of.RoomPairs o l = (two_rows (output_edge n o) (room_column n o) (output_is o) (room_is o l), tt)
-  at_rows of.EvenOut k l = even_rows Out k (out_edges n k)
-  at_rows of.EvenIn k l = even_rows In k (in_edges n k)
+  at_rows of.EvenOut k l = sharing_rows (preferred_at n Out k) Out k (out_edges n k)
+  at_rows of.EvenIn k l = sharing_rows (preferred_at n In k) In k (in_edges n k)
   at_rows of.Backing k l =
       each-flat_map _ (λ x. Unit {0}) _ (in_edges n k) (each_any (in_edges n k))
       (λ a l. each-map _ (λ x. Unit {0}) (backing_clause n a) (out_edges n k) (each_any (out_edges n k)) (λ x m. (tt, (tt, (tt, tt)))))

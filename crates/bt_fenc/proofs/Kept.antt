@@ -1,6 +1,6 @@
 -- The variables that are kept for the pairs of a network are theirs, and the clauses of the families are of
 -- variables that stand before them.
-use Rattle.std.proofs.Common.{◌≡◌, ℕ, ◌<◌, ◌≤◌, ◌+◌, ◌*◌, Bool, true, false, List, [], ◌∷◌, ◌++◌, length, map, get_or, cond, ltb, ap, sym, ◌∙◌, refl, arith, zero, suc, append-nil, length-append}
+use Rattle.std.proofs.Common.{◌≡◌, ℕ, ◌<◌, ◌≤◌, ◌+◌, ◌*◌, Bool, true, false, Option, Some, None, List, [], ◌∷◌, ◌++◌, length, map, get_or, cond, ltb, ap, sym, ◌∙◌, refl, arith, zero, suc, append-nil, length-append}
 use Rattle.std.specs.List.{AllByRecursion, flat_map, range_with_len}
 use Rattle.std.proofs.lemmas.Grind.{flat_map-append}
 use Rattle.std.proofs.lemmas.List.FromFn.{get_or-map-range_with_len}
@@ -11,14 +11,14 @@ use Rattle.bt_flow.specs.declared.property.Property.{Property}
 use Rattle.bt_fenc.specs.declared.claim.Side.{Side}
 use Rattle.bt_fenc.specs.declared.claim.Side.TheVariants.{Out, In}
 use Rattle.bt_fenc.specs.declared.claim.Pair.{Pair}
-use Rattle.bt_fenc.specs.declared.claim.Pair.TheVariants.{Even, Full, Loaded, Filled}
+use Rattle.bt_fenc.specs.declared.claim.Pair.TheVariants.{Even, Empty, Full, Loaded, Filled}
 use Rattle.bt_fenc.specs.declared.claim.Claim.{Claim}
 use Rattle.bt_fenc.specs.declared.claim.Claim.TheVariants.{Mark, Says, First}
 use Rattle.bt_fenc.specs.declared.family.Family.{Family}
 use Rattle.bt_fenc.specs.declared.family.Family.TheVariants as of
 use Rattle.bt_fenc.specs.declared.variables.PairVars.{PairVars}
-use Rattle.bt_fenc.specs.Columns.{in_edges, out_edges, edges_at}
-use Rattle.bt_fenc.specs.Pairs.{pair_clause, even_pairs}
+use Rattle.bt_fenc.specs.Columns.{edges_at, preferred_at}
+use Rattle.bt_fenc.specs.Pairs.{pair_clause, side_pairs, pairs_at}
 use Rattle.bt_fenc.specs.Families.{clauses_at, places, family_clauses, bounds, laws}
 use Rattle.bt_fenc.specs.Properties.{unequal_clause, differ}
 use Rattle.bt_fenc.specs.Numbering.{mentioned, rows_in, literals_from, clauses_from, atoms_from, formula_of}
@@ -55,20 +55,24 @@ rows_few f r a (suc m) h =
     omega (arith, one, rest, both, times)
 
 -- a place more of a side of the splitters
-pub side_more : (n : Network) (side : Side) (k : ℕ) → side_rows n side (k + 1) ≡ side_rows n side k + length (rows_in (map pair_clause (even_pairs side k (edges_at n side k))))
+pub side_more : (n : Network) (side : Side) (k : ℕ) → side_rows n side (k + 1) ≡ side_rows n side k + length (rows_in (map pair_clause (pairs_at n side k)))
 side_more n side k =
-    let f : ℕ → List (List Claim) = λ j. map pair_clause (even_pairs side j (edges_at n side j)) in
+    let f : ℕ → List (List Claim) = λ j. map pair_clause (pairs_at n side j) in
     let front = flat_map f (range_with_len 0 k) in
     ap (λ c. length (rows_in c)) (sym (place_more f [] front (front ++ f k) k refl refl)) ∙ rows-append front (f k)
 
-pairs_at_most : (side : Side) (k : ℕ) (edges : List ℕ) → length (rows_in (map pair_clause (even_pairs side k edges))) ≤ 4
-pairs_at_most side k [] = omega arith
-pairs_at_most side k (a ∷ []) = omega arith
-pairs_at_most side k (a ∷ b ∷ []) = omega arith
-pairs_at_most side k (a ∷ b ∷ c ∷ edges) = omega arith
+pairs_at_most : (o : Option ℕ) (side : Side) (k : ℕ) (edges : List ℕ) → length (rows_in (map pair_clause (side_pairs o side k edges))) ≤ 4
+pairs_at_most None side k [] = omega arith
+pairs_at_most None side k (a ∷ []) = omega arith
+pairs_at_most None side k (a ∷ b ∷ []) = omega arith
+pairs_at_most None side k (a ∷ b ∷ c ∷ edges) = omega arith
+pairs_at_most (Some x) side k [] = omega arith
+pairs_at_most (Some x) side k (a ∷ []) = omega arith
+pairs_at_most (Some x) side k (a ∷ b ∷ []) = omega arith
+pairs_at_most (Some x) side k (a ∷ b ∷ c ∷ edges) = omega arith
 
 pub side_few : (n : Network) (side : Side) (k : ℕ) → side_rows n side k ≤ 4 * k
-side_few n side k = rows_few (λ j. map pair_clause (even_pairs side j (edges_at n side j))) 4 0 k (λ j. pairs_at_most side j (edges_at n side j))
+side_few n side k = rows_few (λ j. map pair_clause (pairs_at n side j)) 4 0 k (λ j. pairs_at_most (preferred_at n side j) side j (edges_at n side j))
 
 -- the variable of a splitter's first pair at a side
 pub side_start : (n : Network) (side : Side) (first k : ℕ) → k ≤ n.splitters → get_or (side_starts n side first) k 0 ≡ first + side_rows n side k
@@ -161,6 +165,14 @@ module _ (n : Network) where
         let both = rows-append (clauses_till n before f k) (lower_first (Even side k b a) a b) in
         omega (arith, e, g, same, none, till, lower, both)
 
+    empty_kept : (side : Side) (k start first : ℕ) (before : List Family) (f : Family) → start ≡ first + side_rows n side k → first ≡ vars_till n before f
+        → length (rows_in (flat_map (clauses_at n f) (range_with_len 0 k))) ≡ side_rows n side k
+        → start ≡ length n.edges + length (rows_in (clauses_till n before f k))
+    empty_kept side k start first before f e g same =
+        let none = till_rows before f 0 in
+        let till = till_rows before f k in
+        omega (arith, e, g, same, none, till)
+
     each_kept : (start k : ℕ) (before : List Family) (f : Family) → start ≡ vars_till n before f → ((j : ℕ) → length (rows_in (clauses_at n f j)) ≡ 2)
         → start + 2 * k ≡ length n.edges + length (rows_in (clauses_till n before f k))
     each_kept start k before f e h =
@@ -179,6 +191,14 @@ module _ (n : Network) where
         let before = bounds ++ of.OutPairs ∷ [] in
         let first : ℕ = vars_till n before of.InPairs in
         even_kept In k a b (get_or v.into.items k 0) first before of.InPairs l (ap (λ xs. get_or xs k 0) kept.into ∙ side_start n In first k (omega (arith, l))) refl refl
+    pair_kept (Empty Out k a) h =
+        let l = h.0 in
+        empty_kept Out k (get_or v.out.items k 0) (vars_till n bounds of.OutPairs) bounds of.OutPairs (ap (λ xs. get_or xs k 0) kept.out ∙ side_start n Out (vars_till n bounds of.OutPairs) k (omega (arith, l))) refl refl
+    pair_kept (Empty In k a) h =
+        let l = h.0 in
+        let before = bounds ++ of.OutPairs ∷ [] in
+        let first : ℕ = vars_till n before of.InPairs in
+        empty_kept In k (get_or v.into.items k 0) first before of.InPairs (ap (λ xs. get_or xs k 0) kept.into ∙ side_start n In first k (omega (arith, l))) refl refl
     pair_kept (Full a cap) h = each_kept v.full a (bounds ++ of.OutPairs ∷ of.InPairs ∷ []) of.FullPairs kept.full (λ j. refl)
     pair_kept (Loaded i a column) h = each_kept v.loaded i (bounds ++ of.OutPairs ∷ of.InPairs ∷ of.FullPairs ∷ []) of.LoadPairs kept.loaded (λ j. refl)
     pair_kept (Filled o a column) h = each_kept v.filled o (bounds ++ of.OutPairs ∷ of.InPairs ∷ of.FullPairs ∷ of.LoadPairs ∷ []) of.RoomPairs kept.filled (λ j. refl)
@@ -230,8 +250,8 @@ module _ (n : Network) where
 
 -- ---- clauses of rows alone
 
-unnamed : (at : Pair → ℕ) (vars : ℕ) (side : Side) (k : ℕ) (edges : List ℕ) → AreWithin at vars (map pair_clause (even_pairs side k edges))
-unnamed at vars side k edges = each-map _ (λ x. Unit {0}) pair_clause (even_pairs side k edges) (each_any (even_pairs side k edges)) (λ pair t. (tt, (tt, tt)))
+unnamed : (at : Pair → ℕ) (vars : ℕ) (pairs : List Pair) → AreWithin at vars (map pair_clause pairs)
+unnamed at vars pairs = each-map _ (λ x. Unit {0}) pair_clause pairs (each_any pairs) (λ pair t. (tt, (tt, tt)))
 
 module _ (at : Pair → ℕ) (vars : ℕ) where
   pub unequal_within : (edges : List ℕ) → AllByRecursion (IsWithin at vars) (unequal_clause edges)
@@ -247,8 +267,8 @@ module _ (at : Pair → ℕ) (vars : ℕ) where
       (each-append _ (family_clauses n of.Loads) _ (at_each n of.Loads (λ k. ((tt, tt), ((tt, tt), tt))))
       (each-append _ (family_clauses n of.Rooms) _ (at_each n of.Rooms (λ k. ((tt, tt), ((tt, tt), tt))))
       (each-append _ (family_clauses n of.Conserve) _ (at_each n of.Conserve (λ k. ((tt, tt), tt)))
-      (each-append _ (family_clauses n of.OutPairs) _ (at_each n of.OutPairs (λ k. unnamed at vars Out k (out_edges n k)))
-      (each-append _ (family_clauses n of.InPairs) _ (at_each n of.InPairs (λ k. unnamed at vars In k (in_edges n k)))
+      (each-append _ (family_clauses n of.OutPairs) _ (at_each n of.OutPairs (λ k. unnamed at vars (pairs_at n Out k)))
+      (each-append _ (family_clauses n of.InPairs) _ (at_each n of.InPairs (λ k. unnamed at vars (pairs_at n In k)))
       (each-append _ (family_clauses n of.FullPairs) _ (at_each n of.FullPairs (λ k. ((tt, (tt, tt)), tt)))
       (each-append _ (family_clauses n of.LoadPairs) _ (at_each n of.LoadPairs (λ k. ((tt, (tt, tt)), tt)))
       (each-append _ (family_clauses n of.RoomPairs) [] (at_each n of.RoomPairs (λ k. ((tt, (tt, tt)), tt))) tt))))))))

@@ -16,7 +16,7 @@ use Rattle.bt_flow.specs.Ports.{numbers_where}
 use Rattle.bt_flow.specs.Properties.{is_last, total}
 use Rattle.bt_flow.specs.Steady.{sum_where}
 use Rattle.bt_flow.proofs.Compared.{over_cap}
-use Rattle.bt_fenc.specs.Columns.{plus, minus, whole, zero_row, at_least, at_most, below, less, not_below, above, in_less_out, above_outputs}
+use Rattle.bt_fenc.specs.Columns.{plus, minus, whole, zero_row, at_least, at_most, below, beyond, less, not_below, above, in_less_out, above_outputs}
 
 one_times : (x : ℤ) → pos 1 *ℤ x ≡ x
 unfolding lib.IntN.one
@@ -89,6 +89,12 @@ module _ (v : ℕ → Ratio) (d : ℕ) (some : 0 < d) where
   below_says c k x at =
       let s = adds_minus c x (pos 0) [] at adds_none in
       let both = over_less (negated (whole k)) _ (neg_ℤ (pos (k * d))) (neg_ℤ x +ℤ pos 0) d some one s.0 (cap_below k d) s.1 in
+      (λ r. let l = both.0 r in omega (arith, ints, l), λ l. both.1 (omega (arith, ints, l)))
+
+  pub beyond_says : (c k : ℕ) (x : ℤ) → At c x → RowHolds (beyond c k) v ↔ (pos (k * d) <ℤ x)
+  beyond_says c k x at =
+      let s = adds_plus c x (pos 0) [] at adds_none in
+      let both = over_less (whole k) _ (pos (k * d)) (x +ℤ pos 0) d some one s.0 (over_cap k d) s.1 in
       (λ r. let l = both.0 r in omega (arith, ints, l), λ l. both.1 (omega (arith, ints, l)))
 
   -- a column has one value
@@ -200,6 +206,9 @@ module _ (w : ℕ → ℤ) (d : ℕ) (some : 0 < d) where
 
   pub below_holds : (c k : ℕ) → w c <ℤ pos (k * d) → RowHolds (below c k) (over w d)
   below_holds c k = (below_says (over w d) d some c k (w c) (own c)).1
+
+  pub beyond_holds : (c k : ℕ) → pos (k * d) <ℤ w c → RowHolds (beyond c k) (over w d)
+  beyond_holds c k = (beyond_says (over w d) d some c k (w c) (own c)).1
 
   pub not_below_holds : (a b : ℕ) → w b ≤ℤ w a → RowHolds (not_below a b) (over w d)
   not_below_holds a b = (not_below_says (over w d) d some a b (w a) (w b) (own a) (own b)).1

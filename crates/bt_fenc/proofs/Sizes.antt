@@ -1,5 +1,5 @@
 -- A network's flow formulas are small, since the network is.
-use Rattle.std.proofs.Common.{◌≡◌, ℕ, ◌<◌, ◌≤◌, ◌+◌, ◌*◌, Bool, true, false, List, [], ◌∷◌, ◌++◌, length, map, cond, ltb, ap, ◌∙◌, refl, arith, zero, suc, length-append}
+use Rattle.std.proofs.Common.{◌≡◌, ℕ, ◌<◌, ◌≤◌, ◌+◌, ◌*◌, Bool, true, false, Option, Some, None, List, [], ◌∷◌, ◌++◌, length, map, cond, ltb, ap, ◌∙◌, refl, arith, zero, suc, length-append}
 use Rattle.std.specs.List.{flat_map, range_with_len}
 use Rattle.std.proofs.lemmas.Grind.{flat_map-append}
 use Rattle.std.proofs.lemmas.List.FromFn.{length-map-range_with_len}
@@ -15,11 +15,11 @@ use Rattle.bt_fenc.specs.declared.claim.Side.TheVariants.{Out, In}
 use Rattle.bt_fenc.specs.declared.claim.Pair.{Pair}
 use Rattle.bt_fenc.specs.declared.claim.Claim.{Claim}
 use Rattle.bt_fenc.specs.declared.claim.Claim.TheVariants.{First}
-use Rattle.bt_fenc.specs.Pairs.{pair_clause, even_pairs, full}
+use Rattle.bt_fenc.specs.Pairs.{pair_clause, side_pairs, full}
 use Rattle.bt_fenc.specs.declared.family.Family.{Family}
 use Rattle.bt_fenc.specs.declared.family.Family.TheVariants as of
-use Rattle.bt_fenc.specs.Columns.{input_edge, output_edge, input_edges, output_edges, in_edges, out_edges, cap_at}
-use Rattle.bt_fenc.specs.Families.{clauses_at, places, family_clauses, families, even_clause, even_clauses, backing_clause}
+use Rattle.bt_fenc.specs.Columns.{input_edge, output_edge, input_edges, output_edges, in_edges, out_edges, preferred_at, cap_at}
+use Rattle.bt_fenc.specs.Families.{clauses_at, places, family_clauses, families, even_clause, even_clauses, side_clauses, backing_clause}
 use Rattle.bt_fenc.specs.Properties.{property_clauses, loaded_clauses, open_clauses, short_clauses, unequal_clause, differ}
 use Rattle.bt_fenc.specs.Numbering.{mentioned, rows_in, clauses_from}
 use Rattle.bt_fenc.specs.FlowFormula.{flow_clauses, variable_of}
@@ -55,11 +55,15 @@ no_last_row true pair = refl
 no_last_row false pair = refl
 
 module _ (n : Network) (is : IsNetwork n) where
-  pairs_few : (side : Side) (k : ℕ) (edges : List ℕ) → AreFew (map pair_clause (even_pairs side k edges)) 4 4
-  pairs_few side k [] = record { count = omega arith; rows = omega arith }
-  pairs_few side k (a ∷ []) = record { count = omega arith; rows = omega arith }
-  pairs_few side k (a ∷ b ∷ []) = record { count = omega arith; rows = omega arith }
-  pairs_few side k (a ∷ b ∷ c ∷ edges) = record { count = omega arith; rows = omega arith }
+  pairs_few : (o : Option ℕ) (side : Side) (k : ℕ) (edges : List ℕ) → AreFew (map pair_clause (side_pairs o side k edges)) 4 4
+  pairs_few None side k [] = record { count = omega arith; rows = omega arith }
+  pairs_few None side k (a ∷ []) = record { count = omega arith; rows = omega arith }
+  pairs_few None side k (a ∷ b ∷ []) = record { count = omega arith; rows = omega arith }
+  pairs_few None side k (a ∷ b ∷ c ∷ edges) = record { count = omega arith; rows = omega arith }
+  pairs_few (Some x) side k [] = record { count = omega arith; rows = omega arith }
+  pairs_few (Some x) side k (a ∷ []) = record { count = omega arith; rows = omega arith }
+  pairs_few (Some x) side k (a ∷ b ∷ []) = record { count = omega arith; rows = omega arith }
+  pairs_few (Some x) side k (a ∷ b ∷ c ∷ edges) = record { count = omega arith; rows = omega arith }
 
   evens_few : (side : Side) (k : ℕ) (edges : List ℕ) → AreFew (even_clauses n side k edges) 4 4
   evens_few side k [] = record { count = omega arith; rows = omega arith }
@@ -71,6 +75,13 @@ module _ (n : Network) (is : IsNetwork n) where
       let last = length-append (flat_map mentioned (even_clause n side k b a)) [] in
       record { count = omega arith; rows = omega (arith, first, second, more, last) }
   evens_few side k (a ∷ b ∷ c ∷ edges) = record { count = omega arith; rows = omega arith }
+
+  sharing_few : (o : Option ℕ) (side : Side) (k : ℕ) (edges : List ℕ) → AreFew (side_clauses o n side k edges) 4 4
+  sharing_few None side k edges = evens_few side k edges
+  sharing_few (Some x) side k [] = record { count = omega arith; rows = omega arith }
+  sharing_few (Some x) side k (a ∷ []) = record { count = omega arith; rows = omega arith }
+  sharing_few (Some x) side k (a ∷ b ∷ []) = record { count = omega arith; rows = omega arith }
+  sharing_few (Some x) side k (a ∷ b ∷ c ∷ edges) = record { count = omega arith; rows = omega arith }
 
   backing_few : (ins outs : List ℕ) → length ins ≤ 2 → length outs ≤ 2 → AreFew (flat_map (λ a. map (backing_clause n a) outs) ins) 4 4
   backing_few [] outs l m = record { count = omega arith; rows = omega arith }
@@ -92,13 +103,13 @@ module _ (n : Network) (is : IsNetwork n) where
   at_few of.Loads k l = record { count = omega arith; rows = omega arith }
   at_few of.Rooms k l = record { count = omega arith; rows = omega arith }
   at_few of.Conserve k l = record { count = omega arith; rows = omega arith }
-  at_few of.OutPairs k l = pairs_few Out k (out_edges n k)
-  at_few of.InPairs k l = pairs_few In k (in_edges n k)
+  at_few of.OutPairs k l = pairs_few (preferred_at n Out k) Out k (out_edges n k)
+  at_few of.InPairs k l = pairs_few (preferred_at n In k) In k (in_edges n k)
   at_few of.FullPairs k l = record { count = omega arith; rows = omega arith }
   at_few of.LoadPairs k l = record { count = omega arith; rows = omega arith }
   at_few of.RoomPairs k l = record { count = omega arith; rows = omega arith }
-  at_few of.EvenOut k l = evens_few Out k (out_edges n k)
-  at_few of.EvenIn k l = evens_few In k (in_edges n k)
+  at_few of.EvenOut k l = sharing_few (preferred_at n Out k) Out k (out_edges n k)
+  at_few of.EvenIn k l = sharing_few (preferred_at n In k) In k (in_edges n k)
   at_few of.Backing k l = backing_few (in_edges n k) (out_edges n k) (few_edges Into k l) (few_edges OutOf k l)
   at_few of.Inputs k l = record { count = omega arith; rows = omega arith }
   at_few of.Outputs k l = record { count = omega arith; rows = omega arith }

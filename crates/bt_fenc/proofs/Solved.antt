@@ -1,5 +1,5 @@
 -- An assignment with values that meets the flow formula of a network and a property is of states that break it.
-use Rattle.std.proofs.Common.{◌≡◌, ◌≢◌, ℕ, ◌<◌, ◌≤◌, ◌+◌, ◌*◌, ◌⊎◌, inl, inr, Bool, true, false, not, IsTrue, ℤ, pos, ◌≤ℤ◌, ◌<ℤ◌, List, [], ◌∷◌, ◌++◌, length, map, cond, ltb, ap, sym, ◌∙◌, refl, subst, arith}
+use Rattle.std.proofs.Common.{◌≡◌, ◌≢◌, ℕ, ◌<◌, ◌≤◌, ◌+◌, ◌*◌, ◌⊎◌, inl, inr, Bool, true, false, not, IsTrue, Some, ℤ, pos, ◌≤ℤ◌, ◌<ℤ◌, List, [], ◌∷◌, ◌++◌, length, map, cond, ltb, ap, sym, ◌∙◌, refl, subst, arith}
 use Rattle.std.specs.List.{AllByRecursion, flat_map, range_with_len}
 use Rattle.std.proofs.lemmas.Int.{ints}
 use Rattle.std.proofs.lemmas.Bool.{false≢true}
@@ -14,7 +14,7 @@ use Rattle.bt_flow.specs.declared.property.Property.{Property}
 use Rattle.bt_flow.specs.declared.property.Property.TheVariants.{Balanced, DrawnEvenly, Unlimited, Full}
 use Rattle.bt_flow.specs.Ports.{numbers_where, plays}
 use Rattle.bt_flow.specs.States.{Flows, flow_at, backed_at, load_at, room_at, cap_in}
-use Rattle.bt_flow.specs.Steady.{HasEdge, IsFull, KeepsRange, Conserves, EvensOut, EvensIn, Backs, FeedsInput, FillsOutput, IsSteady, sum_where}
+use Rattle.bt_flow.specs.Steady.{HasEdge, IsFull, IsEmpty, KeepsRange, Conserves, EvensOut, EvensIn, GivesFirst, TakesFirst, Backs, FeedsInput, FillsOutput, IsSteady, sum_where}
 use Rattle.bt_flow.specs.Properties as properties
 use Rattle.bt_flow.specs.Properties.{AdmitsLoad, AdmitsRoom, IsAdmissible, IsLoaded, IsOpen, IsLesser, HasEqualOutputs, HasEqualInputs, PassesAll, Concludes, Breaks, is_last, total}
 use Rattle.bt_flow.proofs.Adding.{no_edge}
@@ -28,7 +28,7 @@ use Rattle.bt_fenc.specs.declared.claim.Claim.TheVariants.{Says, First}
 use Rattle.bt_fenc.specs.declared.family.Family.{Family}
 use Rattle.bt_fenc.specs.declared.family.Family.TheVariants as of
 use Rattle.bt_fenc.specs.Columns.{input_edge, output_edge, input_edges, output_edges, in_edges, out_edges, cap_at, load_column, room_column, at_least, not_below}
-use Rattle.bt_fenc.specs.Families.{clauses_at, places, family_clauses, families, range_clauses, end_clauses, excuse, even_clause, even_clauses, backing_clause}
+use Rattle.bt_fenc.specs.Families.{clauses_at, places, family_clauses, families, range_clauses, end_clauses, excuse, even_clause, even_clauses, prior_clause, side_clauses, backing_clause}
 use Rattle.bt_fenc.specs.Pairs.{first_row, full, filled}
 use Rattle.bt_fenc.specs.Pairs.{loaded as has_load}
 use Rattle.bt_fenc.specs.Properties.{property_clauses, loaded_clauses, open_clauses, short_clauses, unequal_clause, differ}
@@ -39,6 +39,7 @@ use Rattle.bt_fenc.proofs.Withins.{each-left, each-right, each-map, each-range, 
 use Rattle.bt_fenc.proofs.NetEdges.{cap_is, input_is, output_is, edge_of_input, edge_of_output}
 use Rattle.bt_fenc.proofs.RowValues.{At, AllAt, at_least_says, at_most_says, not_below_says, above_says, conserve_says, above_outputs_says}
 use Rattle.bt_fenc.proofs.Claimed.{met_claims}
+use Rattle.bt_fenc.proofs.Sides.{beside_other}
 use Rattle.bt_fenc.proofs.Named.{flow_named}
 
 never_both : (x y : Bool) → x ≡ y → x ≡ not y → ⊥
@@ -136,6 +137,15 @@ module _ (n : Network) (is : IsNetwork n) (f : ℕ → Bool) (v : ℕ → Ratio)
         inl ((not_below_says v s.denominator has.state.positive a b (flow_at s a) (flow_at s b) (flow_is a (below a e h)) (flow_is b (below b g k))).0 row)
     even_said side i a b e g h k m (inr (inr last)) = inr (last_said (ltb (cap_at n a) (cap_at n b)) a e h last)
 
+    prior_said : (side : Side) (i a b : ℕ) (e g : Edge) → HasEdge n a e → HasEdge n b g → backed_at s a ≡ not (excuse side) → True (prior_clause n side i a b) → IsEmpty s b ⊎ IsFull s a e
+    prior_said side i a b e g h k m (inl marked) = absurd (never_both (f a) (excuse side) marked (sym (has.marks a (below a e h)) ∙ m))
+    prior_said side i a b e g h k m (inr (inl row)) = inr (full_said a e h row)
+    prior_said side i a b e g h k m (inr (inr last)) =
+        let zero_is : pos (0 * s.denominator) ≡ pos 0 = omega (arith, ints) in
+        let most = (at_most_says v s.denominator has.state.positive b 0 (flow_at s b) (flow_is b (below b g k))).0 (holds_alone last) in
+        let least = (range b (below b g k) g k).0 in
+        inl (omega (arith, ints, zero_is, most, least))
+
     -- an edge that passes a test is one of the listed
     listed : (p : Edge → Bool) (P : ℕ → Type 0) (numbers : List ℕ) → numbers ≡ numbers_where p 0 n.edges → AllByRecursion P numbers → (a : ℕ) (e : Edge) → HasEdge n a e → IsTrue (p e) → P a
     listed p P numbers same h a e is t =
@@ -161,6 +171,17 @@ module _ (n : Network) (is : IsNetwork n) (f : ℕ → Bool) (v : ℕ → Ratio)
         ]
     pair_said p side i (c ∷ d ∷ j ∷ numbers) same few said a b e g h k t u o = absurd (omega arith)
 
+    prior_pair : (p : Edge → Bool) (side : Side) (i : ℕ) (numbers : List ℕ) → numbers ≡ numbers_where p 0 n.edges → length numbers ≤ 2
+        → (a b : ℕ) (e g : Edge) → HasEdge n a e → HasEdge n b g → IsTrue (p e) → IsTrue (p g) → b ≢ a → AllTrue (side_clauses (Some a) n side i numbers) → True (prior_clause n side i a b)
+    prior_pair p side i [] same few a b e g h k t u o said = absurd (listed p (λ x. ⊥) [] same tt a e h t)
+    prior_pair p side i (c ∷ []) same few a b e g h k t u o said =
+        absurd (o (listed p (λ x. x ≡ c) (c ∷ []) same (refl, tt) b g k u ∙ sym (listed p (λ x. x ≡ c) (c ∷ []) same (refl, tt) a e h t)))
+    prior_pair p side i (c ∷ d ∷ []) same few a b e g h k t u o said =
+        let first = listed p (λ x. (x ≡ c) ⊎ (x ≡ d)) (c ∷ d ∷ []) same (inl refl, (inr refl, tt)) a e h t in
+        let second = listed p (λ x. (x ≡ c) ⊎ (x ≡ d)) (c ∷ d ∷ []) same (inl refl, (inr refl, tt)) b g k u in
+        subst (λ y. True (prior_clause n side i a y)) (beside_other a b c d first second o) said.0
+    prior_pair p side i (c ∷ d ∷ j ∷ numbers) same few a b e g h k t u o said = absurd (omega arith)
+
     -- a splitter of which an edge has a role is one of the network, and has at most two such edges
     splitter : (r : Role) (k a : ℕ) (e : Edge) → HasEdge n a e → IsTrue (plays r k e) → (k < ends_of r n) × (length (numbers_where (plays r k) 0 n.edges) ≤ 2)
     splitter r k a e h t =
@@ -170,14 +191,28 @@ module _ (n : Network) (is : IsNetwork n) (f : ℕ → Bool) (v : ℕ → Ratio)
         (l, omega (arith, few, long))
 
     even_out : (a : ℕ) → a < length n.edges → EvensOut n s a
-    even_out a l = λ k b e g h j o t u m.
+    even_out a l = λ k b e g h j o t u none m.
         let at = splitter OutOf k a e h t in
-        even_said Out k a b e g h j m (pair_said (leaves k) Out k (out_edges n k) refl at.1 (all of.EvenOut k at.0) a b e g h j t u o)
+        let said = subst (λ q. AllTrue (side_clauses q n Out k (out_edges n k))) none (all of.EvenOut k at.0) in
+        even_said Out k a b e g h j m (pair_said (leaves k) Out k (out_edges n k) refl at.1 said a b e g h j t u o)
+
+    prior_out : (a : ℕ) → a < length n.edges → GivesFirst n s a
+    prior_out a l = λ k b e g h j o t u first m.
+        let at = splitter OutOf k a e h t in
+        let said = subst (λ q. AllTrue (side_clauses q n Out k (out_edges n k))) first (all of.EvenOut k at.0) in
+        prior_said Out k a b e g h j m (prior_pair (leaves k) Out k (out_edges n k) refl at.1 a b e g h j t u o said)
 
     even_in : (a : ℕ) → a < length n.edges → EvensIn n s a
-    even_in a l = λ k b e g h j o t u m.
+    even_in a l = λ k b e g h j o t u none m.
         let at = splitter Into k a e h t in
-        even_said In k a b e g h j m (pair_said (enters k) In k (in_edges n k) refl at.1 (all of.EvenIn k at.0) a b e g h j t u o)
+        let said = subst (λ q. AllTrue (side_clauses q n In k (in_edges n k))) none (all of.EvenIn k at.0) in
+        even_said In k a b e g h j m (pair_said (enters k) In k (in_edges n k) refl at.1 said a b e g h j t u o)
+
+    prior_in : (a : ℕ) → a < length n.edges → TakesFirst n s a
+    prior_in a l = λ k b e g h j o t u first m.
+        let at = splitter Into k a e h t in
+        let said = subst (λ q. AllTrue (side_clauses q n In k (in_edges n k))) first (all of.EvenIn k at.0) in
+        prior_said In k a b e g h j m (prior_pair (enters k) In k (in_edges n k) refl at.1 a b e g h j t u o said)
 
     back_said : (a b : ℕ) (e g : Edge) → HasEdge n a e → HasEdge n b g → backed_at s a ≡ true → True (backing_clause n a b) → (backed_at s b ≡ true) ⊎ IsFull s b g
     back_said a b e g h k m (inl free) = absurd (never_both (f a) false free (sym (has.marks a (below a e h)) ∙ m))
@@ -204,7 +239,7 @@ module _ (n : Network) (is : IsNetwork n) (f : ℕ → Bool) (v : ℕ → Ratio)
         (said.0, λ m. said.1 (sym (has.marks a (below a e h)) ∙ m))
 
     pub steady : IsSteady n s
-    steady = record { range = range; conserve = conserve; even_out = even_out; even_in = even_in; backing = backing; input = input; output = output }
+    steady = record { range = range; conserve = conserve; even_out = even_out; even_in = even_in; prior_out = prior_out; prior_in = prior_in; backing = backing; input = input; output = output }
 
     admits_load : (i : ℕ) → i < n.inputs → AdmitsLoad n s i
     admits_load i l = λ a e h t.

@@ -8,6 +8,7 @@ use Rattle.std.proofs.lemmas.Nat.{mod_below, pow_pos, div-mul-add}
 use Rattle.std.proofs.lemmas.Option.{slice_get_within}
 use Rattle.bt_net.specs.declared.network.Edge.{Edge}
 use Rattle.bt_net.specs.Network.{IsNetwork, enters, leaves}
+use Rattle.bt_net.proofs.Priorities.{plain_gives}
 use Rattle.bt_flow.specs.declared.property.Property.TheVariants.{Balanced}
 use Rattle.bt_flow.specs.States.{Flows, IsStateOf, flow_at, backed_at, cap_in}
 use Rattle.bt_flow.specs.Steady.{IsSteady, IsFull, sum_where}
@@ -157,7 +158,7 @@ module _ (order : ℕ) (net : IsNetwork (butterfly_net order)) (s : Flows) (stat
       by_mark : (mark : Bool) → backed_at s a ≡ mark → flow_at s b ≤ℤ flow_at s a
       by_mark true is = full_at_least (flow_at s a) (flow_at s b) full (backed_full_at (suc t) line a (omega (arith, l)) c (omega (arith, l)) is) (at_most b f has' cap')
       by_mark false is =
-          elim (steady.even_out a (slice_get_within (butterfly_edges order) a e has) (number order t p) b e f has has' other of of' is) [
+          elim (steady.even_out a (slice_get_within (butterfly_edges order) a e has) (number order t p) b e f has has' other of of' (plain_gives (butterfly_net order) (record { gives = refl; takes = refl }) (number order t p)) is) [
             | inl most ↦ most
             | inr full_one ↦ full_at_least (flow_at s a) (flow_at s b) full (full_one ∙ cap_is e cap) (at_most b f has' cap')
           ]

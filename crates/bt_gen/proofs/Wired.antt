@@ -11,7 +11,8 @@ use Rattle.bt_net.specs.declared.network.Start.{Start}
 use Rattle.bt_net.specs.declared.network.Start.TheVariants as from
 use Rattle.bt_net.specs.declared.network.Target.{Target}
 use Rattle.bt_net.specs.declared.network.Target.TheVariants as to
-use Rattle.bt_net.specs.Network.{Network, IsNetwork, StartsIn, EndsIn, IsCap, is_input, is_output, leaves, enters}
+use Rattle.bt_net.specs.Network.{Network, IsNetwork, StartsIn, EndsIn, IsCap, is_input, is_output, leaves, enters, HasNoPriorities}
+use Rattle.bt_net.proofs.Priorities.{plain_is_prioritised}
 use Rattle.bt_net.specs.declared.network.TheConstants.{MOST_OF_EACH}
 use Rattle.bt_gen.specs.declared.butterflies.TheConstants.{MOST_STAGES}
 use Rattle.bt_gen.specs.declared.chains.TheConstants.{MOST_IN_CHAIN}
@@ -122,9 +123,9 @@ module _ (n : Network) where
       }
 
   -- what passes the tests is a network
-  is_network : passes n ≡ true → IsNetwork n
+  is_network : HasNoPriorities n → passes n ≡ true → IsNetwork n
   unfolding passes inputs_test outputs_test
-  is_network t =
+  is_network plain t =
       let a = and_parts (edges_test n && inputs_test n && outputs_test n && splitters_test n) (sizes_test n) t in
       let b = and_parts (edges_test n && inputs_test n && outputs_test n) (splitters_test n) a.0 in
       let c = and_parts (edges_test n && inputs_test n) (outputs_test n) b.0 in
@@ -142,6 +143,7 @@ module _ (n : Network) where
           few_in = λ s inside. (of_splitters s inside).0;
           few_out = λ s inside. (of_splitters s inside).1;
         };
+        prioritised = plain_is_prioritised n plain;
         few_inputs = sizes.inputs;
         few_outputs = sizes.outputs;
         few_splitters = sizes.splitters;
@@ -152,8 +154,8 @@ module _ (n : Network) where
 
 -- a butterfly is a network
 pub butterfly_is_network : (order : ℕ) → IsOrder MOST_STAGES order → IsNetwork (butterfly_net order)
-butterfly_is_network order within = is_network (butterfly_net order) (each_from (λ k. passes (butterfly_net k)) 1 MOST_STAGES order butterflies_pass within.0 (omega (arith, within.1)))
+butterfly_is_network order within = is_network (butterfly_net order) (record { gives = refl; takes = refl }) (each_from (λ k. passes (butterfly_net k)) 1 MOST_STAGES order butterflies_pass within.0 (omega (arith, within.1)))
 
 -- a chain is a network
 pub chain_is_network : (order : ℕ) → IsOrder MOST_IN_CHAIN order → IsNetwork (chain_net order)
-chain_is_network order within = is_network (chain_net order) (each_from (λ k. passes (chain_net k)) 1 MOST_IN_CHAIN order chains_pass within.0 (omega (arith, within.1)))
+chain_is_network order within = is_network (chain_net order) (record { gives = refl; takes = refl }) (each_from (λ k. passes (chain_net k)) 1 MOST_IN_CHAIN order chains_pass within.0 (omega (arith, within.1)))

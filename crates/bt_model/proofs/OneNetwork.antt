@@ -2,7 +2,7 @@
 use Rattle.std.proofs.Common.{◌≡◌, ◌<◌, List, ap, sym, ◌∙◌, subst, arith}
 use Rattle.std.specs.List.{AllZip, AllPairs}
 use Rattle.bt_parts.specs.declared.part.Part.{Part}
-use Rattle.bt_net.specs.Network.{Network}
+use Rattle.bt_net.specs.Network.{Network, HasNoPriorities, none_each}
 use Rattle.bt_model.specs.Shown.{Naming, IsNumbered, IsPlacedBefore, ComesBefore, IsEdgeOf, ListsEach}
 use Rattle.bt_model.proofs.Sorted.{IsAsymmetric, same_ascending, same_zipped}
 use Rattle.bt_model.proofs.Orders.{parts_asymmetric, sources_asymmetric, same_edge}
@@ -22,8 +22,8 @@ same_naming parts m n a b h k =
     ∙ ap (λ z. record { splitters = b.splitters; inputs = z; outputs = a.outputs }) inputs
     ∙ ap (λ z. record { splitters = b.splitters; inputs = b.inputs; outputs = z }) outputs
 
-same_edges : (parts : List Part) (m n : Network) (a : Naming) → IsNumbered parts m a → IsNumbered parts n a → m ≡ n
-same_edges parts m n a h k =
+same_edges : (parts : List Part) (m n : Network) (a : Naming) → HasNoPriorities m → HasNoPriorities n → IsNumbered parts m a → IsNumbered parts n a → m ≡ n
+same_edges parts m n a plain other h k =
     let chains : h.chains ≡ k.chains = same_each (λ one other. ComesBefore one.source other.source) _ (λ x y. sources_asymmetric x.source y.source)
     h.chains k.chains h.each_once k.each_once h.in_order k.in_order in
     let edges : m.edges ≡ n.edges = same_zipped (IsEdgeOf parts a) (same_edge parts a h.names.splitters.once h.names.inputs.once h.names.outputs.once) h.chains m.edges n.edges
@@ -31,10 +31,10 @@ same_edges parts m n a h k =
     let splitters : m.splitters ≡ n.splitters = h.names.splitter_count ∙ sym k.names.splitter_count in
     let inputs : m.inputs ≡ n.inputs = h.names.input_count ∙ sym k.names.input_count in
     let outputs : m.outputs ≡ n.outputs = h.names.output_count ∙ sym k.names.output_count in
-    ap (λ z. record { inputs = z; outputs = m.outputs; splitters = m.splitters; edges = m.edges }) inputs
-    ∙ ap (λ z. record { inputs = n.inputs; outputs = z; splitters = m.splitters; edges = m.edges }) outputs
-    ∙ ap (λ z. record { inputs = n.inputs; outputs = n.outputs; splitters = z; edges = m.edges }) splitters
-    ∙ ap (λ z. record { inputs = n.inputs; outputs = n.outputs; splitters = n.splitters; edges = z }) edges
+    let none = ap none_each splitters in
+    let gives : m.gives ≡ n.gives = plain.gives ∙ none ∙ sym other.gives in
+    let takes : m.takes ≡ n.takes = plain.takes ∙ none ∙ sym other.takes in
+    λ i. record { inputs = inputs i; outputs = outputs i; splitters = splitters i; edges = edges i; gives = gives i; takes = takes i }
 
-pub same_network : (parts : List Part) (m n : Network) (a b : Naming) → IsNumbered parts m a → IsNumbered parts n b → m ≡ n
-same_network parts m n a b h k = same_edges parts m n a h (subst (λ name. IsNumbered parts n name) (sym (same_naming parts m n a b h k)) k)
+pub same_network : (parts : List Part) (m n : Network) (a b : Naming) → HasNoPriorities m → HasNoPriorities n → IsNumbered parts m a → IsNumbered parts n b → m ≡ n
+same_network parts m n a b plain other h k = same_edges parts m n a plain other h (subst (λ name. IsNumbered parts n name) (sym (same_naming parts m n a b h k)) k)

@@ -1,7 +1,7 @@
 //! What follows from the definitions of the network that a layout shows.
 ghost use Rattle.std.specs.Prelude.{◌≡◌, List};
 ghost use Rattle.bt_parts.specs.declared.part.Part.{Part};
-ghost use Rattle.bt_net.specs.Network.{Network};
+ghost use Rattle.bt_net.specs.Network.{Network, HasNoPriorities};
 ghost use Rattle.bt_model.specs.Shown.{Naming, Shows, IsNumbered};
 
 use crate::request::{MOST_ACROSS, MOST_REQUESTED};
@@ -12,10 +12,10 @@ pub fn numbered_shows()
         → IsNumbered parts net naming → Shows parts net naming }
 {}
 
-/// At most one network is numbered for a layout, with one numbering.
+/// At most one network without priorities is numbered for a layout, with one numbering.
 pub fn one_network()
     ensures net { (parts : List Part) (m n : Network) (a b : Naming)
-        → IsNumbered parts m a → IsNumbered parts n b → m ≡ n }
+        → HasNoPriorities m → HasNoPriorities n → IsNumbered parts m a → IsNumbered parts n b → m ≡ n }
     ensures naming { (parts : List Part) (m n : Network) (a b : Naming)
         → IsNumbered parts m a → IsNumbered parts n b → a ≡ b }
 {}

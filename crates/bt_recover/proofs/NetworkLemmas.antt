@@ -16,7 +16,7 @@ use Rattle.bt_net.specs.declared.network.Target.{Target}
 use Rattle.bt_net.specs.declared.network.Target.TheVariants as to
 use Rattle.bt_net.specs.declared.fault.NetFault.{NetFault}
 use Rattle.bt_net.specs.declared.fault.NetFault.TheVariants.{TooLarge, NoEnds, NetLine, Memory}
-use Rattle.bt_net.specs.Network.{Network, IsLarge, IsNetOf, network_of}
+use Rattle.bt_net.specs.Network.{Network, HasNoPriorities, IsLarge, IsNetOf, network_of}
 use Rattle.bt_model.specs.Handing.{FeedsFrom}
 use Rattle.bt_model.specs.Chains.{IsSplitter, IsLink, IsInput, IsOutput, Source, begins, leaves, Sink, ends, enters, Chain, IsChain, EndsAs}
 use Rattle.bt_model.specs.Clean.{IsClean}
@@ -287,11 +287,12 @@ size_told n Memory none = absurd none
 
 -- a layout with too many ends or splitters has a network that is too large
 pub large_exists : (parts : List Part) → IsClean parts → (naming : Naming) → AreNames parts naming → HasMany naming
-    → (net : Network) × (naming : Naming) × IsNumbered parts net naming × IsLarge net
+    → (net : Network) × (naming : Naming) × IsNumbered parts net naming × HasNoPriorities net × IsLarge net
 large_exists parts clean naming names many =
     let found = edges_exist parts clean naming names in (
       net_with naming found.0,
       naming,
       numbered parts clean naming found.0 names found.1,
+      record { gives = refl; takes = refl },
       ⊎_elim (λ i. inl i) (λ more. ⊎_elim (λ o. inr (inl o)) (λ s. inr (inr (inl s))) more) many,
     )

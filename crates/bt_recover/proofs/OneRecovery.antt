@@ -6,7 +6,7 @@ use Rattle.bt_answers.specs.Answers.{UnlessMemory, Answers, HasOneAnswer}
 use Rattle.bt_answers.proofs.OneAnswer.{answers_of}
 use Rattle.bt_parts.specs.declared.part.Part.{Part}
 use Rattle.bt_parts.specs.Layouts.{IsUnpaired}
-use Rattle.bt_net.specs.Network.{Network, IsNetwork, IsLarge, LacksEnds}
+use Rattle.bt_net.specs.Network.{Network, IsNetwork, IsLarge, LacksEnds, HasNoPriorities}
 use Rattle.bt_model.specs.Clean.{IsSideLoaded, IsBlocked, IsOnRing}
 use Rattle.bt_model.specs.Shown.{Naming, IsNumbered}
 use Rattle.bt_model.proofs.OneNetwork.{same_network, same_naming}
@@ -70,13 +70,14 @@ record IsSized (parts : List Part) (told : Told) : Type 0 where
   net : Network
   naming : Naming
   numbered : IsNumbered parts net naming
+  plain : HasNoPriorities net
   size : IsSizeTold net naming told
 
 one_sized : (parts : List Part) → HasOneAnswer (IsSized parts)
 one_sized parts a b h k =
     one_size h.net h.naming a b h.size
     (subst (λ n. IsSizeTold h.net n b) (same_naming parts k.net h.net k.naming h.naming k.numbered h.numbered)
-    (subst (λ n. IsSizeTold n k.naming b) (same_network parts k.net h.net k.naming h.naming k.numbered h.numbered) k.size))
+    (subst (λ n. IsSizeTold n k.naming b) (same_network parts k.net h.net k.naming h.naming k.plain h.plain k.numbered h.numbered) k.size))
 
 -- what is told, in the order of the refusals
 InOrder : List Part → Told → Type 0
@@ -102,16 +103,16 @@ sized_in_order parts told sized =
 in_order : (parts : List Part) (told : Told) → IsRecovered parts told → InOrder parts told
 unfolding InOrder FirstOr
 in_order parts (Ok found) h =
-    sized_in_order parts (Ok found) (record { net = found.0; naming = found.1; numbered = h.0; size = inr (inr (h.1, refl)) })
+    sized_in_order parts (Ok found) (record { net = found.0; naming = found.1; numbered = h.0; plain = h.2; size = inr (inr (h.1, refl)) })
 in_order parts (Err (Unpaired i)) h = inl (i, h, refl)
 in_order parts (Err (SideLoad i)) h = inr (never_unpaired parts h.0, inl (i, h.1, refl))
 in_order parts (Err (Blocked i)) h = inr (never_unpaired parts h.0, inr (h.1, inl (i, h.2, refl)))
 in_order parts (Err (Ring i)) h =
     inr (never_unpaired parts h.0.paired, inr (h.0.no_side_load, inr (h.0.no_blocked, inl (i, h.1, refl))))
 in_order parts (Err TooLarge) h =
-    sized_in_order parts (Err TooLarge) (record { net = h.0; naming = h.1; numbered = h.2; size = inl (h.3, refl) })
+    sized_in_order parts (Err TooLarge) (record { net = h.0; naming = h.1; numbered = h.2; plain = h.3; size = inl (h.4, refl) })
 in_order parts (Err NoEnds) h =
-    sized_in_order parts (Err NoEnds) (record { net = h.0; naming = h.1; numbered = h.2; size = inr (inl (h.3, refl)) })
+    sized_in_order parts (Err NoEnds) (record { net = h.0; naming = h.1; numbered = h.2; plain = h.3; size = inr (inl (h.4, refl)) })
 in_order parts (Err Memory) h = absurd h
 
 -- two right answers are equal
@@ -123,14 +124,14 @@ pub recovery_answers : (parts : List Part) (told : Told) → UnlessMemory Memory
 recovery_answers parts told right = answers_of Memory (IsRecovered parts) (one_recovery parts) told right
 
 -- what is told of the network that is numbered for a layout is told of the layout
-pub net_found : (parts : List Part) (n net : Network) (naming : Naming) → IsNumbered parts n naming → IsNetTold n (Ok net) → IsRecovered parts (Ok (net, naming))
-net_found parts n net naming numbered told = (subst (λ m. IsNumbered parts m naming) (sym told.0) numbered, told.1)
+pub net_found : (parts : List Part) (n net : Network) (naming : Naming) → IsNumbered parts n naming → HasNoPriorities n → IsNetTold n (Ok net) → IsRecovered parts (Ok (net, naming))
+net_found parts n net naming numbered plain told = (subst (λ m. IsNumbered parts m naming) (sym told.0) numbered, told.1, subst HasNoPriorities (sym told.0) plain)
 
-pub net_refused : (parts : List Part) (n : Network) (naming : Naming) (fault : RecoverFault) → IsNumbered parts n naming → IsNetTold n (Err fault) → IsRefused parts fault
-net_refused parts n naming TooLarge numbered large = inl (n, naming, numbered, large)
-net_refused parts n naming NoEnds numbered lacks = inl (n, naming, numbered, lacks)
-net_refused parts n naming (Unpaired i) numbered none = absurd none
-net_refused parts n naming (SideLoad i) numbered none = absurd none
-net_refused parts n naming (Blocked i) numbered none = absurd none
-net_refused parts n naming (Ring i) numbered none = absurd none
-net_refused parts n naming Memory numbered none = absurd none
+pub net_refused : (parts : List Part) (n : Network) (naming : Naming) (fault : RecoverFault) → IsNumbered parts n naming → HasNoPriorities n → IsNetTold n (Err fault) → IsRefused parts fault
+net_refused parts n naming TooLarge numbered plain large = inl (n, naming, numbered, plain, large)
+net_refused parts n naming NoEnds numbered plain lacks = inl (n, naming, numbered, plain, lacks)
+net_refused parts n naming (Unpaired i) numbered plain none = absurd none
+net_refused parts n naming (SideLoad i) numbered plain none = absurd none
+net_refused parts n naming (Blocked i) numbered plain none = absurd none
+net_refused parts n naming (Ring i) numbered plain none = absurd none
+net_refused parts n naming Memory numbered plain none = absurd none

@@ -1,7 +1,8 @@
 use Rattle.std.proofs.Common.{◌≡◌, ◌+◌, ◌∷◌, [], ◌++◌, ℕ, length, map, ap, ◌∙◌, arith}
 use Rattle.std.specs.List.{range_with_len}
 use Rattle.bt_fenc.specs.Numbering.{rows_in}
-use Rattle.bt_fenc.specs.Pairs.{pair_clause, even_pairs}
+use Rattle.bt_fenc.specs.Pairs.{pair_clause, side_pairs}
+use Rattle.bt_fenc.specs.Columns.{edges_at}
 use Rattle.bt_fenc.specs.inner.Variables.{side_rows}
 use Rattle.bt_arena.proofs.Loops.{item_more}
 use Rattle.bt_fenc.proofs.Kept.{side_more, side_few}
@@ -22,7 +23,8 @@ loop-splitter-preserved c =
     let k = c.loop-splitter.splitter in
     let at = c.loop-splitter.invariant.0 in
     let rows = c.rows_at-next.ensures.rows side k in
-    let same = ap (λ l. length (rows_in (map pair_clause (even_pairs side k l)))) c.port_at.ensures in
+    let same = ap (λ l. length (rows_in (map pair_clause (side_pairs c.preferred_at-preferred.result side k l)))) c.port_at.ensures
+    ∙ ap (λ o. length (rows_in (map pair_clause (side_pairs o side k (edges_at n side k))))) c.preferred_at-preferred.ensures in
     let more = side_more n side k in (
       omega (arith, at, rows, same, more),
       item_more (λ j. c.args.first + side_rows n side j) [] c.loop-splitter.starts.items c.push.new.self.items k c.loop-splitter.invariant.1

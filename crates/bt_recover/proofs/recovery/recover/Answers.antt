@@ -1,4 +1,4 @@
-use Rattle.std.proofs.Common.{inl}
+use Rattle.std.proofs.Common.{inl, refl}
 use Rattle.std.specs.Prelude.{Ok, Err}
 use Rattle.std.proofs.lemmas.Result.{err_from_is_err_and}
 use Rattle.bt_recover.specs.declared.fault.RecoverFault.TheVariants.{TooLarge}
@@ -30,11 +30,11 @@ returns-in_err-net c =
     (recovery_answers c.args.grid.now _
     (net_refused c.args.grid.now (net_with (naming_of c.in_ok-names.names) c.in_ok-edges.edges.items) (naming_of c.in_ok-names.names) _
     (numbered c.args.grid.now c.in_ok-pairs.ensures.clean (naming_of c.in_ok-names.names) c.in_ok-edges.edges.items c.in_ok-names.ensures c.in_ok-edges.ensures)
-    c.in_err-net.ensures))
+    (record { gives = refl; takes = refl }) c.in_err-net.ensures))
 
 pub returns : goal.returns
 returns c =
     recovery_answers c.args.grid.now (Ok (c.in_ok-net.net, naming_of c.in_ok-names.names))
     (net_found c.args.grid.now (net_with (naming_of c.in_ok-names.names) c.in_ok-edges.edges.items) c.in_ok-net.net (naming_of c.in_ok-names.names)
     (numbered c.args.grid.now c.in_ok-pairs.ensures.clean (naming_of c.in_ok-names.names) c.in_ok-edges.edges.items c.in_ok-names.ensures c.in_ok-edges.ensures)
-    c.in_ok-net.ensures)
+    (record { gives = refl; takes = refl }) c.in_ok-net.ensures)
