@@ -8,7 +8,7 @@ use Rattle.std.proofs.lemmas.Nat.{mod_below, pow_pos, div-mul-add}
 use Rattle.std.proofs.lemmas.Option.{slice_get_within}
 use Rattle.bt_net.specs.declared.network.Edge.{Edge}
 use Rattle.bt_net.specs.Network.{IsNetwork, enters, leaves}
-use Rattle.bt_net.proofs.Priorities.{plain_gives}
+use Rattle.bt_net.proofs.Preference.{plain_gives}
 use Rattle.bt_flow.specs.declared.property.Property.TheVariants.{Balanced}
 use Rattle.bt_flow.specs.States.{Flows, IsStateOf, flow_at, backed_at, cap_in}
 use Rattle.bt_flow.specs.Steady.{IsSteady, IsFull, sum_where}

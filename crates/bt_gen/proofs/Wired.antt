@@ -12,7 +12,7 @@ use Rattle.bt_net.specs.declared.network.Start.TheVariants as from
 use Rattle.bt_net.specs.declared.network.Target.{Target}
 use Rattle.bt_net.specs.declared.network.Target.TheVariants as to
 use Rattle.bt_net.specs.Network.{Network, IsNetwork, StartsIn, EndsIn, IsCap, is_input, is_output, leaves, enters, HasNoPriorities}
-use Rattle.bt_net.proofs.Priorities.{plain_is_prioritised}
+use Rattle.bt_net.proofs.Preference.{plain_is_prioritised}
 use Rattle.bt_net.specs.declared.network.TheConstants.{MOST_OF_EACH}
 use Rattle.bt_gen.specs.declared.butterflies.TheConstants.{MOST_STAGES}
 use Rattle.bt_gen.specs.declared.chains.TheConstants.{MOST_IN_CHAIN}

@@ -33,7 +33,7 @@ abbrev pub NoNext : Network → List ℕ → Type 0
 NoNext n bytes = (g : Edge) → IsEdgeLine bytes g → IsPartlyWired (with_edge n g) → length n.edges < MOST_OF_EACH → ⊥
 
 -- behind one header, edges up to a line that is that of no next one are the same edges, and the same follows
-one_edges : (n m : Network) (text b a c d : List ℕ) (p : GoesOn n text b a) (q : GoesOn m text c d) → HasSmallSizes n → HasSmallSizes m → SameSizes n m → SameSizes m n
+pub one_edges : (n m : Network) (text b a c d : List ℕ) (p : GoesOn n text b a) (q : GoesOn m text c d) → HasSmallSizes n → HasSmallSizes m → SameSizes n m → SameSizes m n
     → NoNext n b → NoNext m c → (n ≡ m) × (p.rest ≡ q.rest)
 one_edges n m text b a c d p q small smaller sizes back none non = ⊎_elim
     (λ h. ⊎_elim (λ same. same) (λ next. absurd (none next.0 next.1 next.2 next.3))

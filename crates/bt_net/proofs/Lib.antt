@@ -1,6 +1,5 @@
-pub mod Priorities
+pub mod Preference
 pub mod NetLines
-pub mod NetWrites
 pub mod OneNet
 pub mod Refusing
 pub mod Spelling
@@ -10,3 +9,10 @@ pub mod ItemLines
 pub mod Bodies
 pub mod OneReading
 pub mod Longer
+pub mod EdgeLines
+pub mod PrioritySpelling
+pub mod Preferring
+pub mod PlainBodies
+pub mod OnePlain
+pub mod PrintedNets
+pub mod Unwritten

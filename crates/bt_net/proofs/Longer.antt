@@ -21,7 +21,11 @@ use Rattle.bt_net.specs.Readings.{Reading, StandsPlain, StandsAtFront, IsNetRead
 use Rattle.bt_net.specs.Longer.{with_line_feed, Stays, StaysRefused}
 use Rattle.bt_net.proofs.Bodies.{pin-some, block-some}
 use Rattle.bt_net.proofs.NetLines.{edges_fit, edges-lack, edge-some}
-use Rattle.bt_net.proofs.OneReading.{edges-some}
+use Rattle.bt_net.proofs.EdgeLines.{edges-some}
+use Rattle.bt_net.proofs.PrioritySpelling.{priority-some}
+use Rattle.bt_net.specs.declared.network.Priority.{Priority}
+use Rattle.bt_net.specs.Priorities.{IsPriorityLine}
+use Rattle.bt_net.specs.PriorityRefusals.{LineRefusedOn, GoesOnWith, PlainRefused}
 
 -- ---- what was read
 
@@ -45,7 +49,7 @@ used_all bytes used within e = omega (arith, length-drop used bytes, ap length e
 module _ (bytes : List ℕ) (read : Reading) where
   -- the text of the lines of a network
   abbrev plain_front : StandsPlain bytes read → List ℕ
-  plain_front plain = flat_map line (header read.net ∷ plain.begins.edge_lines ++ codes "end" ∷ [])
+  plain_front plain = flat_map line (header read.net ∷ plain.begins.edge_lines ++ (plain.begins.priority_lines ++ codes "end" ∷ []))
 
   -- and the same with lines of pins and blocks
   abbrev front : StandsAtFront bytes read → List ℕ
@@ -57,9 +61,12 @@ module _ (bytes : List ℕ) (read : Reading) where
   plain_stays_on plain e more = record {
     network = plain.network;
     begins = record {
-      plain = plain.begins.plain;
       edge_lines = plain.begins.edge_lines;
       are_edges = plain.begins.are_edges;
+      priorities = plain.begins.priorities;
+      priority_lines = plain.begins.priority_lines;
+      are_priorities = plain.begins.are_priorities;
+      becomes = plain.begins.becomes;
       begins = inl (lines_stay bytes more (plain_front plain) read.used plain.used e);
     };
     used = omega (arith, plain.used, length-append bytes more);
@@ -73,9 +80,12 @@ module _ (bytes : List ℕ) (read : Reading) where
   plain_is_fed plain all e more = record {
     network = plain.network;
     begins = record {
-      plain = plain.begins.plain;
       edge_lines = plain.begins.edge_lines;
       are_edges = plain.begins.are_edges;
+      priorities = plain.begins.priorities;
+      priority_lines = plain.begins.priority_lines;
+      are_priorities = plain.begins.are_priorities;
+      becomes = plain.begins.becomes;
       begins = inl (lines_fed bytes more (plain_front plain) read.used all e);
     };
     used = omega (arith, all, length-append bytes (10 ∷ more));
@@ -84,7 +94,7 @@ module _ (bytes : List ℕ) (read : Reading) where
     lines = plain.lines;
   }
 
-  plain_begins : (plain : StandsPlain bytes read) → BeginsWithLines bytes (header read.net ∷ plain.begins.edge_lines ++ codes "end" ∷ []) (drop read.used bytes)
+  plain_begins : (plain : StandsPlain bytes read) → BeginsWithLines bytes (header read.net ∷ plain.begins.edge_lines ++ (plain.begins.priority_lines ++ codes "end" ∷ [])) (drop read.used bytes)
       → ((more : List ℕ) → StandsPlain (bytes ++ more) read) ⊎ ((read.used ≡ length bytes) × ((more : List ℕ) → StandsPlain (bytes ++ 10 ∷ more) (with_line_feed read)))
   plain_begins plain (inl e) = inl (plain_stays_on plain e)
   plain_begins plain (inr (e, none)) = let all = used_all bytes read.used plain.used none in inr (all, plain_is_fed plain all e)
@@ -167,27 +177,6 @@ edges_read n text rest small wired whole edges =
       stay = λ more. record { lines = edges.lines; are_edges = edges.are_edges; begins = inl (ap (λ t. t ++ more) e ∙ append_assoc (flat_map line edges.lines) rest more) };
     }
 
--- the line that is next is refused by its number alone
-next_refused : (n : Network) (f : NetFault) → LineRefused n [] f → f ≡ NetLine (length n.edges + 2)
-next_refused n (NetLine k) refused = ap NetLine refused.1
-next_refused n TooLarge refused = absurd (omega (arith, edge-some [] refused.0 refused.1))
-next_refused n NoEnds refused = cc (refused.0)
-next_refused n Memory refused = absurd refused
-
-module _ (n : Network) (text more : List ℕ) (f : NetFault) (small : HasSmallSizes n) (whole : IsWhole text) (other : f ≢ NetLine (line_feeds text + 2)) where
-  edges_refused_by : (bytes after : List ℕ) (on : GoesOn n text bytes after) → EdgesRead n text on.rest → LineRefused n bytes f → IsLineRead on.rest bytes after → EdgesRefused n (text ++ more) f
-  edges_refused_by bytes after on edges refused (inl split) =
-      (bytes, after ++ more, record { wired = on.wired; few = on.few; rest = on.rest ++ more; edges = edges.stay more; next = inl (split-longer 10 on.rest bytes after more split) }, refused)
-  edges_refused_by bytes after on edges refused (inr (empty, none)) =
-      let same = next_refused n f (subst (λ b. LineRefused n b f) none refused) in
-      absurd (other (same ∙ ap (λ k. NetLine (k + 2)) (omega (arith, edges.feeds, ap line_feeds empty))))
-
-  -- behind a header, a line that has its line feed is refused in longer bytes too
-  edges_refused : EdgesRefused n text f → EdgesRefused n (text ++ more) f
-  edges_refused (bytes, after, on, refused) =
-      let edges = edges_read n text on.rest small on.wired whole on.edges in
-      edges_refused_by bytes after on edges refused (line_read on.rest bytes after edges.whole on.next)
-
 -- lines of pins or of blocks at the front of a text that ends with a line feed
 pub record ItemsRead {X : Type 0} (IsLine : ℕ → List ℕ → X → Type 0) (number : ℕ) (text rest : List ℕ) (xs : List X) : Type 0 where
   pub whole : IsWhole rest
@@ -210,6 +199,45 @@ module _ {X : Type 0} (IsLine : ℕ → List ℕ → X → Type 0) (some : (numb
   items_read number text rest [] whole e = record { whole = subst IsWhole e whole; feeds = omega (arith, ap line_feeds e); stay = λ more. ap (λ t. t ++ more) e }
   items_read number text rest (x ∷ xs) whole (bytes, after, first, is, on) =
       first_item number text bytes after rest x xs is (line_read text bytes after whole first) (λ w. items_read (number + 1) after rest xs w on) whole
+
+-- the line that is next is refused by its number alone
+next_refused_on : (n : Network) (ps : List Priority) (m : Network) (number : ℕ) (f : NetFault) → LineRefusedOn n ps m number [] f → f ≡ NetLine number
+next_refused_on n ps m number (NetLine k) refused = ap NetLine refused.1
+next_refused_on n ps m number TooLarge refused = absurd (omega (arith, edge-some [] refused.1.0 refused.1.1))
+next_refused_on n ps m number NoEnds refused = cc (refused.0)
+next_refused_on n ps m number Memory refused = absurd refused
+
+module _ (n : Network) (text more : List ℕ) (f : NetFault) (small : HasSmallSizes n) (whole : IsWhole text) (other : f ≢ NetLine (line_feeds text + 2)) where
+  plain_refused_by : (b : PlainRefused n text f) (on : GoesOnWith n b.priorities b.preferring text b.bytes b.after) → EdgesRead n text on.after_edges
+      → ItemsRead (IsPriorityLine n) (length n.edges + 2) on.after_edges on.after_priorities b.priorities → IsLineRead on.after_priorities b.bytes b.after → PlainRefused n (text ++ more) f
+  plain_refused_by b on edges items (inl split) = record {
+    priorities = b.priorities;
+    preferring = b.preferring;
+    bytes = b.bytes;
+    after = b.after ++ more;
+    goes_on = record {
+      wired = on.wired;
+      few = on.few;
+      after_edges = on.after_edges ++ more;
+      edges = edges.stay more;
+      after_priorities = on.after_priorities ++ more;
+      priority_lines = items.stay more;
+      becomes = on.becomes;
+      next = inl (split-longer 10 on.after_priorities b.bytes b.after more split);
+    };
+    refused = b.refused;
+  }
+  plain_refused_by b on edges items (inr (empty, none)) =
+      let same = next_refused_on n b.priorities b.preferring (length n.edges + length b.priorities + 2) f (subst (λ l. LineRefusedOn n b.priorities b.preferring (length n.edges + length b.priorities + 2) l f) none b.refused) in
+      absurd (other (same ∙ ap (λ k. NetLine k) (omega (arith, edges.feeds, items.feeds, ap line_feeds empty))))
+
+  -- behind a header, a line that has its line feed is refused in longer bytes too
+  plain_refused : PlainRefused n text f → PlainRefused n (text ++ more) f
+  plain_refused b =
+      let on = b.goes_on in
+      let edges = edges_read n text on.after_edges small on.wired whole on.edges in
+      let items = items_read (IsPriorityLine n) (priority-some n) (length n.edges + 2) on.after_edges on.after_priorities b.priorities edges.whole on.priority_lines in
+      plain_refused_by b on edges items (line_read on.after_priorities b.bytes b.after items.whole on.next)
 
 next_refused_after : (n : Network) (pins : List Pin) (blocks : List Block) (number : ℕ) (f : NetFault) → LineRefusedAfter n pins blocks number [] f → f ≡ NetLine number
 next_refused_after n pins blocks number (NetLine k) refused = ap NetLine refused.1
@@ -273,7 +301,7 @@ plain_stays_refused lines more f other (first, rest, is, inr (n, e, small, edges
       first,
       rest ++ more,
       inl (split-longer 10 (line lines) first rest more split),
-      inr (n, e, small, edges_refused n rest more f small (split_whole (line lines) first rest (inr (lines, refl)) split) (other_behind lines first rest f other split) edges),
+      inr (n, e, small, plain_refused n rest more f small (split_whole (line lines) first rest (inr (lines, refl)) split) (other_behind lines first rest f other split) edges),
     )
 
 -- and where they may

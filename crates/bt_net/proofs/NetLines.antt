@@ -25,12 +25,6 @@ use Rattle.bt_net.specs.Wiring.{IsPartlyWired, with_edge, HasSmallSizes}
 use Rattle.bt_net.specs.inner.Lines.{StartFits, TargetFits, EdgeFits, IsTargetAndCap, IsStarted, SameSizes}
 use Rattle.bt_net.proofs.Spelling.{start-lacks, target-lacks, start_lacks_space, target_lacks_space, edge_words, cut_words, cut_cap, uncut_cap, header_unique, IsHeader-header}
 
--- the text is lines of the network's edges and the line `end`, and then this rest
-pub record EndsWith (n : Network) (text rest : List ℕ) : Type 0 where
-  pub lines : List (List ℕ)
-  pub are_edges : AllZip IsEdgeLine lines n.edges
-  pub begins : BeginsWithLines text (lines ++ codes "end" ∷ []) rest
-
 -- the line that is printed of an edge is its line
 pub printed_line : (e : Edge) → IsEdgeLine (edge_text e) e
 printed_line e = ⊎_elim
@@ -42,24 +36,9 @@ pub printed_lines : (es : List Edge) → AllZip IsEdgeLine (map edge_text es) es
 printed_lines [] = tt
 printed_lines (e ∷ es) = (printed_line e, printed_lines es)
 
-lines_of : (es : List Edge) → flat_map line (map edge_text es) ≡ flat_map (λ e. line (edge_text e)) es
+pub lines_of : (es : List Edge) → flat_map line (map edge_text es) ≡ flat_map (λ e. line (edge_text e)) es
 lines_of [] = refl
 lines_of (e ∷ es) = ap (λ x. line (edge_text e) ++ x) (lines_of es)
-
--- the text that is printed is its lines
-pub net_text_lines : (n : Network) → net_text n ≡ flat_map line (header n ∷ map edge_text n.edges ++ codes "end" ∷ [])
-net_text_lines n =
-    append_assoc (line (header n)) (flat_map (λ e. line (edge_text e)) n.edges) (line (codes "end"))
-    ∙ ap (λ x. line (header n) ++ x) (ap (λ x. x ++ line (codes "end")) (sym (lines_of n.edges)) ∙ sym (flat_map-append line (map edge_text n.edges) (codes "end" ∷ [])))
-
--- the text that is printed of a network begins with that network
-pub printed_begins : (n : Network) (rest : List ℕ) → HasNoPriorities n → BeginsWithNet (net_text n ++ rest) n rest
-printed_begins n rest plain = record {
-  plain = plain;
-  edge_lines = map edge_text n.edges;
-  are_edges = printed_lines n.edges;
-  begins = inl (ap (λ t. t ++ rest) (net_text_lines n));
-}
 
 -- no line feed in an edge line
 pub edge-lacks : (bytes : List ℕ) (e : Edge) → EdgeFits e → IsEdgeLine bytes e → Lacks 10 bytes
@@ -195,21 +174,6 @@ go_over tail none (k ∷ ks) (e ∷ es) (l ∷ ls) (f ∷ fs) more p q is =
     let rest_all = rest.all in
     record { edges = rest.edges; lines = rest.lines; are_edges = rest.are_edges; all = λ i. same i ∷ rest_all i; more_is = rest.more_is }
 
-end_no_edge : (bytes : List ℕ) (rest : List (List ℕ)) (e : Edge) → codes "end" ∷ [] ≡ bytes ∷ rest → IsEdgeLine bytes e → ⊥
-end_no_edge bytes rest e is edge = let same : bytes ≡ codes "end" = sym (cc) in edge-ne_end e (subst (λ l. IsEdgeLine l e) same edge)
-
--- the same of edge lines up to `end`
-go_on : (ks : List (List ℕ)) (es : List Edge) (ls : List (List ℕ)) (fs : List Edge) (more : List (List ℕ)) → AreLines ks es → AreLines ls fs → ls ++ codes "end" ∷ [] ≡ ks ++ more → GoesOver es fs more (codes "end" ∷ [])
-go_on ks es ls fs more p q is = go_over (codes "end" ∷ []) end_no_edge ks es ls fs more p q is
-
--- the line `end` comes among no edge lines
-no_end_among : (ks ls : List (List ℕ)) (es : List Edge) (more : List (List ℕ)) → AllZip IsEdgeLine ks es → ks ≡ ls ++ codes "end" ∷ [] ++ more → ⊥
-no_end_among [] [] es more are is = cc
-no_end_among [] (l ∷ ls) es more are is = cc
-no_end_among (k ∷ ks) ls [] more are is = absurd are
-no_end_among (k ∷ ks) [] (e ∷ es) more are is = let same : k ≡ codes "end" = cc in edge-ne_end e (subst (λ l. IsEdgeLine l e) same are.0)
-no_end_among (k ∷ ks) (l ∷ ls) (e ∷ es) more are is = no_end_among ks ls es more are.1 (cc)
-
 count_front : (p : Edge → Bool) (es gs : List Edge) (m : ℕ) → count_by p (es ++ gs) ≤ m → count_by p es ≤ m
 count_front p es gs m most = omega (arith, sum_by-append (λ x. cond (p x) 1 0) es gs)
 
@@ -243,13 +207,6 @@ partly_front n es gs wired is = record {
 pub HasSmallSizes-network : (n : Network) → IsNetwork n → HasNoPriorities n → HasSmallSizes n
 HasSmallSizes-network n net plain = record { plain = plain; few_inputs = net.few_inputs; few_outputs = net.few_outputs; few_splitters = net.few_splitters }
 
--- the lines of a network's edges
-pub AreLines-network : (n : Network) (ls : List (List ℕ)) → IsNetwork n → HasNoPriorities n → AllZip IsEdgeLine ls n.edges → AreLines ls n.edges
-AreLines-network n ls net plain are = record { fit = edges_fit n (HasSmallSizes-network n net plain) (partly_of_wired n net.wired); are_edges = are }
-
-tail_lacks : (ls : List (List ℕ)) (es : List Edge) → AreLines ls es → All (Lacks 10) (ls ++ codes "end" ∷ [])
-tail_lacks ls es r = All-append (Lacks 10) ls (codes "end" ∷ []) (AreLines-lack ls es r) (All-cons (Lacks 10) (codes "end") [] (lacks 10 (codes "end") refl) (All-nil (Lacks 10)))
-
 -- sizes that are the same are so in both directions
 pub back : (m n : Network) → SameSizes m n → SameSizes n m
 back m n s = record { inputs = sym s.inputs; outputs = sym s.outputs; splitters = sym s.splitters; gives = sym s.gives; takes = sym s.takes }
@@ -270,45 +227,6 @@ SameSizes-header m n p q e =
     let none : none_each m.splitters ≡ none_each n.splitters = ap none_each h.2 in
     record { inputs = h.0; outputs = h.1; splitters = h.2; gives = p.plain.gives ∙ none ∙ sym q.plain.gives; takes = p.plain.takes ∙ none ∙ sym q.plain.takes }
 
-end_ne_edges : (ls : List (List ℕ)) (gs : List Edge) (more : List (List ℕ)) → AllZip IsEdgeLine ls gs → codes "end" ∷ more ≡ ls ++ codes "end" ∷ [] → (gs ≡ []) × (more ≡ [])
-end_ne_edges [] [] more are is = (refl, cc)
-end_ne_edges [] (g ∷ gs) more are is = absurd are
-end_ne_edges (l ∷ ls) [] more are is = absurd are
-end_ne_edges (l ∷ ls) (g ∷ gs) more are is = let same : l ≡ codes "end" = sym (cc) in absurd (edge-ne_end g (subst (λ k. IsEdgeLine k g) same are.0))
-
--- where edge lines and `end` begin others, the edges are the same
-whole_tail : (ks : List (List ℕ)) (es : List Edge) (ls : List (List ℕ)) (fs : List Edge) (more : List (List ℕ)) → AreLines ks es → AreLines ls fs
-    → ls ++ codes "end" ∷ [] ≡ ks ++ codes "end" ∷ [] ++ more → (es ≡ fs) × (more ≡ [])
-whole_tail ks es ls fs more p q is =
-    let on = go_on ks es ls fs (codes "end" ∷ more) p q (is ∙ append_assoc ks (codes "end" ∷ []) more) in
-    let none = end_ne_edges on.lines on.edges more on.are_edges on.more_is in
-    (sym (on.all ∙ ap (λ x. es ++ x) none.0 ∙ append-nil es), none.1)
-
--- where the lines of one network begin the lines of another, the networks are one
-whole : (m n : Network) (ks ls more : List (List ℕ)) → IsNetwork m → IsNetwork n → HasNoPriorities m → HasNoPriorities n → AllZip IsEdgeLine ks m.edges → AllZip IsEdgeLine ls n.edges
-    → header n ∷ ls ++ codes "end" ∷ [] ≡ (header m ∷ ks ++ codes "end" ∷ []) ++ more → (m ≡ n) × (more ≡ [])
-whole m n ks ls more p q plain other_plain are others is =
-    let head : header m ≡ header n = sym (cc) in
-    let tail = whole_tail ks m.edges ls n.edges more (AreLines-network m ks p plain are) (AreLines-network n ls q other_plain others) (ap (drop 1) is) in
-    (same_network m n (SameSizes-header m n (HasSmallSizes-network m p plain) (HasSmallSizes-network n q other_plain) head) tail.0, tail.1)
-
--- a text begins with one network at most
-pub one_network : (bytes : List ℕ) (m n : Network) (r s : List ℕ) → IsNetwork m → IsNetwork n → BeginsWithNet bytes m r → BeginsWithNet bytes n s → (m ≡ n) × (r ≡ s)
-one_network bytes m n r s p q a b = ⊎_elim
-    (λ h. let same = whole m n a.edge_lines b.edge_lines h.0 p q a.plain b.plain a.are_edges b.are_edges h.1 in (same.0, BeginsWithLines-nil r s (subst (λ ls. BeginsWithLines r ls s) same.1 h.2)))
-    (λ h. let same = whole n m b.edge_lines a.edge_lines h.0 q p b.plain a.plain b.are_edges a.are_edges h.1 in (sym same.0, sym (BeginsWithLines-nil s r (subst (λ ls. BeginsWithLines s ls r) same.1 h.2))))
-    (fork (header m ∷ a.edge_lines ++ codes "end" ∷ []) (header n ∷ b.edge_lines ++ codes "end" ∷ []) bytes r s (net_lack m a.edge_lines p a.plain a.are_edges) (net_lack n b.edge_lines q b.plain b.are_edges) a.begins b.begins)
-  where
-    net_lack : (n : Network) (ls : List (List ℕ)) → IsNetwork n → HasNoPriorities n → AllZip IsEdgeLine ls n.edges → All (Lacks 10) (header n ∷ ls ++ codes "end" ∷ [])
-    net_lack n ls net plain are =
-        All-cons (Lacks 10) (header n) (ls ++ codes "end" ∷ []) (header-lacks n (HasSmallSizes-network n net plain)) (tail_lacks ls n.edges (AreLines-network n ls net plain are))
-
--- the first line of a network's text, and what follows it
-pub first_of_net : (bytes first text : List ℕ) (n : Network) (rest : List ℕ) → IsNetwork n → IsFirstLine bytes first text → BeginsWithNet bytes n rest → (first ≡ header n) × EndsWith n text rest
-first_of_net bytes first text n rest net is begins =
-    let tail = BeginsWithLines-tail bytes first text (header n) (begins.edge_lines ++ codes "end" ∷ []) rest is (header-lacks n (HasSmallSizes-network n net begins.plain)) begins.begins in
-    (tail.0, record { lines = begins.edge_lines; are_edges = begins.are_edges; begins = tail.1 })
-
 -- the header of a small network is not refused
 pub header_stands : (first : List ℕ) (n : Network) (fault : NetFault) → HasSmallSizes n → first ≡ header n → HeaderRefused first fault → ⊥
 header_stands first n (NetLine k) small is refused = refused.1 n.inputs n.outputs n.splitters (rw is (IsHeader-header n small))
@@ -318,10 +236,6 @@ header_stands first n TooLarge small is refused =
 header_stands first n NoEnds small is refused = refused
 header_stands first n Memory small is refused = refused
 
--- where a network's lines go on behind its first edges: with the line of the next edge, or with `end`
-abbrev NextLine : (w n : Network) (bytes : List ℕ) → Type 0
-NextLine w n bytes = ((bytes ≡ codes "end") × (w ≡ n)) ⊎ ((g : Edge) × (gs : List Edge) × IsEdgeLine bytes g × (n.edges ≡ w.edges ++ g ∷ gs))
-
 pub All-at : (es : List Edge) (g : Edge) (gs : List Edge) → All EdgeFits (es ++ g ∷ gs) → EdgeFits g
 All-at es g gs all = subst EdgeFits (get_or_at es g gs g (length es) refl) (all (length es) g (omega (arith, length-append es (g ∷ gs))))
 
@@ -330,50 +244,6 @@ one_more w n g gs sizes wired is =
     let part = partly_front n (w.edges ++ g ∷ []) gs wired (is ∙ sym (append_assoc w.edges (g ∷ []) gs)) in
     let same : SameSizes (with_edge w g) (record n { edges = w.edges ++ g ∷ [] }) = record { inputs = sizes.inputs; outputs = sizes.outputs; splitters = sizes.splitters; gives = sizes.gives; takes = sizes.takes } in
     rw (same_network (with_edge w g) (record n { edges = w.edges ++ g ∷ [] }) same refl) part
-
-next_line : (w n : Network) (text bytes after rest : List ℕ) → IsNetwork n → HasNoPriorities n → SameSizes w n → GoesOn w text bytes after → EndsWith n text rest → NextLine w n bytes
-next_line w n text bytes after rest net plain sizes on ends = ⊎_elim
-    (λ h. let over = go_on on.edges.lines w.edges ends.lines n.edges h.0 read all h.1 in
-    by over.lines over.edges over.are_edges over.all (subst (λ ls. BeginsWithLines on.rest ls rest) over.more_is h.2))
-    (λ h. absurd (no_end_among on.edges.lines ends.lines w.edges h.0 on.edges.are_edges h.1))
-    (fork on.edges.lines (ends.lines ++ codes "end" ∷ []) text on.rest rest (AreLines-lack on.edges.lines w.edges read) (tail_lacks ends.lines n.edges all) on.edges.begins ends.begins)
-  where
-    small : HasSmallSizes w
-    small = record { plain = plain_same n w (back w n sizes) plain; few_inputs = omega (arith, sizes.inputs, net.few_inputs); few_outputs = omega (arith, sizes.outputs, net.few_outputs); few_splitters = omega (arith, sizes.splitters, net.few_splitters) }
-
-    read : AreLines on.edges.lines w.edges
-    read = record { fit = edges_fit w small on.wired; are_edges = on.edges.are_edges }
-
-    all : AreLines ends.lines n.edges
-    all = AreLines-network n ends.lines net plain ends.are_edges
-
-    by : (ls : List (List ℕ)) (gs : List Edge) → AllZip IsEdgeLine ls gs → n.edges ≡ w.edges ++ gs → BeginsWithLines on.rest (ls ++ codes "end" ∷ []) rest → NextLine w n bytes
-    by [] [] are is lines = inl (
-      (BeginsWithLines-tail on.rest bytes after (codes "end") [] rest on.next (lacks 10 (codes "end") refl) lines).0,
-      same_network w n sizes (sym (is ∙ append-nil w.edges)),
-    )
-    by [] (g ∷ gs) are is lines = absurd are
-    by (l ∷ ls) [] are is lines = absurd are
-    by (l ∷ ls) (g ∷ gs) are is lines =
-        let fits : EdgeFits g = All-at w.edges g gs (subst (All EdgeFits) is all.fit) in
-        let head = BeginsWithLines-tail on.rest bytes after l (ls ++ codes "end" ∷ []) rest on.next (edge-lacks l g fits are.0) lines in
-        inr (g, gs, subst (λ k. IsEdgeLine k g) (sym head.0) are.0, is)
-
--- no line of a network is refused behind its first edges
-pub edges_stand : (w n : Network) (text rest : List ℕ) (fault : NetFault) → IsNetwork n → HasNoPriorities n → SameSizes w n → EndsWith n text rest → EdgesRefused w text fault → ⊥
-edges_stand w n text rest (NetLine k) net plain sizes ends refused = ⊎_elim
-    (λ last. refused.3.0.no_end last.0 (rw last.1 net.wired))
-    (λ next. refused.3.0.no_edge next.0 next.2 (one_more w n next.0 next.1 sizes (partly_of_wired n net.wired) next.3))
-    (next_line w n text refused.0 refused.1 rest net plain sizes refused.2 ends)
-edges_stand w n text rest TooLarge net plain sizes ends refused = ⊎_elim
-    (λ last. edge-ne_end refused.3.0 (subst (λ l. IsEdgeLine l refused.3.0) last.0 refused.3.1))
-    (λ next. omega (arith, net.few_edges, refused.3.3, ap length next.3, length-append w.edges (next.0 ∷ next.1)))
-    (next_line w n text refused.0 refused.1 rest net plain sizes refused.2 ends)
-edges_stand w n text rest NoEnds net plain sizes ends refused = ⊎_elim
-    (λ last. ⊎_elim (λ none. omega (arith, none, sizes.inputs, net.some_input)) (λ none. omega (arith, none, sizes.outputs, net.some_output)) refused.3.2)
-    (λ next. edge-ne_end next.0 (subst (λ l. IsEdgeLine l next.0) refused.3.0 next.2))
-    (next_line w n text refused.0 refused.1 rest net plain sizes refused.2 ends)
-edges_stand w n text rest Memory net plain sizes ends refused = refused.3
 
 -- the edge that comes last has small numbers and a cap
 pub last_fits : (w : Network) (e : Edge) → HasSmallSizes w → IsPartlyWired (with_edge w e) → EdgeFits e
@@ -415,13 +285,3 @@ edges_push text rest bytes after es e begins next is = record {
 pub edges_none : (text : List ℕ) → BeginsWithEdges text [] text
 edges_none text = record { lines = []; are_edges = tt; begins = inl refl }
 
--- what a text of a header and of edges up to `end` is, and where it ends
-pub read_parts : (bytes first text rest : List ℕ) (m w : Network) → IsFirstLine bytes first text → IsStarted m first → SameSizes m w → GoesOn w text (codes "end") rest
-    → BeginsWithNet bytes w rest × (length rest ≤ length bytes) × (drop (length bytes - length rest) bytes ≡ rest)
-read_parts bytes first text rest m w is start sizes on =
-    let ends = BeginsWithLines-push text on.rest (codes "end") rest on.edges.lines on.edges.begins on.next (omega arith) in
-    let lines : BeginsWithLines bytes (header w ∷ on.edges.lines ++ codes "end" ∷ []) rest =
-    BeginsWithLines-cons bytes (header w) text rest (on.edges.lines ++ codes "end" ∷ []) (subst (λ l. IsFirstLine bytes l text) (start.line_is ∙ header-same m w sizes) is) ends
-    (rw (flat_map-append line on.edges.lines (codes "end" ∷ [])) (omega (arith, length-append (flat_map line on.edges.lines) (flat_map line (codes "end" ∷ []))))) in
-    let used = BeginsWithLines-used bytes rest (header w ∷ on.edges.lines ++ codes "end" ∷ []) lines in
-    (record { plain = plain_same m w sizes start.small.plain; edge_lines = on.edges.lines; are_edges = on.edges.are_edges; begins = lines }, used.0, used.1)

@@ -25,17 +25,11 @@ use Rattle.bt_net.specs.inner.Lines.{IsStarted, SameSizes, EdgesEnd, AreEdgesRea
 use Rattle.bt_text.proofs.Lacking.{lacks}
 use Rattle.bt_net.proofs.NetLines.{back, header-same, HasSmallSizes-same, edges_fit, edges-lack, edge-ne_end, edge-some, header-lacks, header_stands, HasSmallSizes-network, SameSizes-header, partly_of_wired}
 use Rattle.bt_net.proofs.Refusing.{header_same, line_same}
-use Rattle.bt_net.proofs.OneNet.{same_used, printed_plain}
+use Rattle.bt_net.proofs.OneNet.{same_used}
+use Rattle.bt_net.proofs.EdgeLines.{edges-some}
 use Rattle.bt_net.proofs.PinSpelling.{pin_apart, block_apart, pin-lacks, block-lacks}
 use Rattle.bt_net.proofs.ItemLines.{more_lines, lines_items, items_lines}
 use Rattle.bt_net.proofs.Bodies.{end_stops, refused_stops, one_body, pin-some, block-some}
-
--- edge lines have bytes
-pub edges-some : (lines : List (List ℕ)) (es : List Edge) → AllZip IsEdgeLine lines es → All (λ l. 0 < length l) lines
-edges-some [] [] are = All-nil (λ l. 0 < length l)
-edges-some [] (e ∷ es) are = absurd are
-edges-some (l ∷ ls) [] are = absurd are
-edges-some (l ∷ ls) (e ∷ es) are = All-cons (λ k. 0 < length k) l ls (edge-some l e are.0) (edges-some ls es are.1)
 
 -- what was read behind the header, up to the line `end`
 pub record WholeBody (bytes : List ℕ) (read : Reading) (rest : List ℕ) : Type 0 where
@@ -273,16 +267,3 @@ module _ (text first rest : List ℕ) (m w : Network) (is : IsFirstLine text fir
         absurd (⊎_elim (λ h. omega (arith, small.few_inputs, h)) (⊎_elim (λ h. omega (arith, small.few_outputs, h)) (⊎_elim (λ h. omega (arith, small.few_splitters, h)) (λ h. omega (arith, edges.few, h)))) why)
     net_answers NoEnds after next wired why = body_answers NoEnds (record { pins = pins; blocks = blocks; bytes = codes "end"; after = after; goes_on = goes_on (codes "end") after next; refused = (refl, wired, why.1) })
     net_answers Memory after next wired why = absurd why
-
--- a text that is read where pins and blocks may not stand is read as the same where they may
-pub plain_is_read : (bytes : List ℕ) (read : Reading) → StandsPlain bytes read → StandsAtFront bytes read
-plain_is_read bytes read plain = subst (StandsAtFront bytes) (λ i. record { net = read.net; pins = sym plain.pins i; blocks = sym plain.blocks i; used = read.used; lines = read.lines }) (record {
-  network = plain.network;
-  begins = record { plain = plain.begins.plain; edge_lines = plain.begins.edge_lines; are_edges = plain.begins.are_edges; pin_lines = []; are_pins = tt; block_lines = []; are_blocks = tt; begins = plain.begins.begins };
-  used = plain.used;
-  lines = omega (arith, plain.lines);
-})
-
--- the text that is printed of a network is read as that network to its end
-pub printed_reading : PrintedIsRead
-printed_reading n net plain = plain_is_read (net_text n) (whole_reading n) (printed_plain n net plain)

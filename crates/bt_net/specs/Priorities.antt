@@ -1,8 +1,58 @@
--- Splitters that prefer an out edge or an in edge.
-use Rattle.std.specs.Prelude.{ℕ, List, Option, Some, None}
+-- Splitters that prefer an out edge or an in edge, and the lines that say so.
+use Rattle.std.specs.Prelude.{◌≡◌, ℕ, ◌<◌, Bool, IsTrue, List, [], ◌∷◌, ◌++◌, Option, Some, None, slice_get, slice_set, flat_map, codes, decimal}
+use Rattle.std.specs.List.{range_with_len}
+use Rattle.bt_text.specs.Lines.{line}
 use Rattle.bt_net.specs.declared.network.Edge.{Edge}
-use Rattle.bt_net.specs.Network.{Network, network_of}
+use Rattle.bt_net.specs.declared.network.Priority.{Priority}
+use Rattle.bt_net.specs.declared.network.Priority.TheVariants.{Give, Take}
+use Rattle.bt_net.specs.Network.{Network, give_of, take_of, leaves, enters}
 
 -- a network, in which each splitter prefers these edges
 abbrev pub preferring : Network → List (Option ℕ) → List (Option ℕ) → Network
 preferring n gives takes = record n { gives = gives; takes = takes }
+
+-- the line of a priority: `give` or `take`, `s` and the number of the splitter, and that of the edge
+abbrev pub priority_text : Priority → List ℕ
+priority_text (Give k a) = codes "give s" ++ decimal k ++ codes " " ++ decimal a
+priority_text (Take k a) = codes "take s" ++ decimal k ++ codes " " ++ decimal a
+
+-- the edge with this number passes a test
+abbrev pub HasEdgeWith : Network → (Edge → Bool) → ℕ → Type 0
+HasEdgeWith n p a = (e : Edge) × (slice_get n.edges a ≡ Some e) × IsTrue (p e)
+
+-- the network has the splitter, and the edge is one of its out edges, or of its in edges
+abbrev pub Owns : Network → Priority → Type 0
+Owns n (Give k a) = (k < n.splitters) × HasEdgeWith n (leaves k) a
+Owns n (Take k a) = (k < n.splitters) × HasEdgeWith n (enters k) a
+
+-- the line is that of a priority that the network may have; its number doesn't matter
+abbrev pub IsPriorityLine : Network → ℕ → List ℕ → Priority → Type 0
+IsPriorityLine n number bytes p = (bytes ≡ priority_text p) × Owns n p
+
+-- the splitter prefers no edge yet where the priority names one
+abbrev pub IsFreeFor : Network → Priority → Type 0
+IsFreeFor n (Give k a) = give_of n k ≡ None
+IsFreeFor n (Take k a) = take_of n k ≡ None
+
+-- the network in which the splitter prefers this edge too
+abbrev pub with_priority : Network → Priority → Network
+with_priority n (Give k a) = record n { gives = slice_set n.gives k (Some a) }
+with_priority n (Take k a) = record n { takes = slice_set n.takes k (Some a) }
+
+-- the network becomes the other one by these priorities, of which each names a splitter that is free for it
+abbrev pub Becomes : Network → List Priority → Network → Type 0
+Becomes m [] n = m ≡ n
+Becomes m (p ∷ ps) n = IsFreeFor m p × Becomes (with_priority m p) ps n
+
+-- the line that begins with a word and names a splitter and the edge that it prefers, where it prefers one
+abbrev pub preference_text : List ℕ → ℕ → Option ℕ → List ℕ
+preference_text word k None = []
+preference_text word k (Some a) = line (word ++ decimal k ++ codes " " ++ decimal a)
+
+-- the lines of a splitter's priorities, that of its out edge first
+abbrev pub splitter_text : Network → ℕ → List ℕ
+splitter_text n k = preference_text (codes "give s") k (give_of n k) ++ preference_text (codes "take s") k (take_of n k)
+
+-- the lines of a network's priorities, splitter by splitter
+abbrev pub priorities_text : Network → List ℕ
+priorities_text n = flat_map (splitter_text n) (range_with_len 0 n.splitters)

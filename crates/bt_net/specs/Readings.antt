@@ -10,7 +10,7 @@ use Rattle.bt_net.specs.Network.{Network, IsNetwork, HasNoPriorities}
 use Rattle.bt_net.specs.NetText.{header, net_text, IsEdgeLine, BeginsWithNet}
 use Rattle.bt_net.specs.PinText.{AreLinesFrom, IsPinLine, IsBlockLine}
 use Rattle.bt_net.specs.PinRefusals.{RefusesAll}
-use Rattle.bt_net.specs.Refusals.{Refuses}
+use Rattle.bt_net.specs.PriorityRefusals.{Refuses}
 
 -- a network, its pins and blocks, and how many bytes and lines its text has
 pub record Reading : Type 0 where
@@ -47,14 +47,14 @@ abbrev pub IsNetRead : List ℕ → Result Reading NetFault → Type 0
 IsNetRead bytes (Ok read) = StandsAtFront bytes read
 IsNetRead bytes (Err fault) = RefusesAll bytes fault
 
--- the text of a network stands at the front of the bytes and has so many bytes and lines, and neither pins nor blocks
+-- the text of a network, maybe with priorities, stands at the front of the bytes and has so many bytes and lines, and neither pins nor blocks
 pub record StandsPlain (bytes : List ℕ) (read : Reading) : Type 0 where
   pub network : IsNetwork read.net
   pub begins : BeginsWithNet bytes read.net (drop read.used bytes)
   pub used : read.used ≤ length bytes
   pub pins : read.pins ≡ []
   pub blocks : read.blocks ≡ []
-  pub lines : read.lines ≡ length read.net.edges + 2
+  pub lines : read.lines ≡ length read.net.edges + length begins.priorities + 2
 
 -- what is told of the network at the front of the bytes, where a line of a pin or a block is none that may stand
 abbrev pub IsPlainRead : List ℕ → Result Reading NetFault → Type 0

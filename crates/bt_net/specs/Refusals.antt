@@ -58,7 +58,3 @@ pub record GoesOn (n : Network) (text bytes after : List ℕ) : Type 0 where
 abbrev pub EdgesRefused : Network → List ℕ → NetFault → Type 0
 EdgesRefused n text fault = (bytes after : List ℕ) × GoesOn n text bytes after × LineRefused n bytes fault
 
--- why a text begins with no network: its first line is refused, or it is the header of a network, and behind it the line after some edges is refused
-abbrev pub Refuses : List ℕ → NetFault → Type 0
-Refuses text fault = (first rest : List ℕ) × IsFirstLine text first rest
-    × (HeaderRefused first fault ⊎ ((n : Network) × (first ≡ header n) × HasSmallSizes n × EdgesRefused n rest fault))

@@ -1,10 +1,11 @@
 //! Networks as values: what was checked once, each call above may rely on.
 ghost use Rattle.std.specs.Prelude.{◌≡◌};
 ghost use Rattle.bt_answers.specs.Answers.{AnswersAlways};
-ghost use Rattle.bt_net.specs.Network.{IsWired, IsNetOf, network_of, preferred_in};
+ghost use Rattle.bt_net.specs.Network.{IsWired, IsNetOf, network_of};
 
 use crate::fault::NetFault;
 use crate::network::{Edge, MOST_OF_EACH};
+use crate::priority::{Preferred, edge_at};
 use std::marker::Model;
 
 /// A network of splitters: each input and each output has one edge, and each splitter has at most
@@ -20,13 +21,6 @@ pub struct Net {
     splitters: u32,
     edges: Vec<Edge>,
     preferred: Option<Preferred>,
-}
-
-/// For each splitter the out edge and the in edge that it prefers, where it prefers one.
-#[derive(Drop)]
-struct Preferred {
-    gives: Vec<Option<usize>>,
-    takes: Vec<Option<usize>>,
 }
 
 impl Model for Net {
@@ -135,15 +129,5 @@ impl Net {
         ensures network { IsNetwork self.now }
     {
         &self.edges
-    }
-}
-
-/// The edge that such a list has for a splitter, where it has one.
-fn edge_at(edges: &[Option<usize>], splitter: usize) -> Option<usize>
-    ensures { result ≡ preferred_in edges.now splitter }
-{
-    match edges.get(splitter) {
-        Some(edge) => *edge,
-        None => None,
     }
 }

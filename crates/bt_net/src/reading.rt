@@ -6,13 +6,15 @@ ghost use Rattle.bt_answers.specs.Answers.{Answers, UnlessMemory, seen};
 ghost use Rattle.bt_net.specs.PinText.{IsPinLine, IsBlockLine};
 ghost use Rattle.bt_net.specs.Readings.{IsNetRead, IsPlainRead, what_is_read};
 ghost use Rattle.bt_net.specs.Wiring.{HasSmallSizes};
+ghost use Rattle.bt_net.specs.inner.Preferred.{PrioritiesEnd, IsNextPriority};
 ghost use Rattle.bt_net.specs.inner.Lines.{SameSizes, IsNextEdge, AreEdgesRead, ItemsEnd, IsEndRead};
 
 use crate::fault::NetFault;
 use crate::header::read_header;
 use crate::net::Net;
-use crate::network::{Block, Edge, MOST_OF_EACH, Pin};
+use crate::network::{Block, Edge, MOST_OF_EACH, Pin, Priority};
 use crate::pins::{read_block, read_pin};
+use crate::priority::{Preferred, is_free, none_each, prefer, read_priority};
 use crate::wiring::Wiring;
 use crate::words::read_edge;
 use bt_text::first_line;
@@ -54,24 +56,82 @@ pub fn read(alloc: Global, bytes: &[u8]) -> Result<NetRead, NetFault>
     })
 }
 
-/// The network at the front of these bytes, as `read` reads it, but that a line of a pin or of a block
-/// may not stand: it is refused by its number.
+/// The network at the front of these bytes, as `read` reads it, but that in the place of lines of pins and
+/// blocks, which may not stand, lines `give sN E` and `take sN E` may stand in any order: splitter N prefers
+/// its out edge, or its in edge, with the number E. A second line of a kind for a splitter may not stand.
 pub fn read_plain(alloc: Global, bytes: &[u8]) -> Result<NetRead, NetFault>
     ensures { Answers NetFault.Memory (IsPlainRead bytes.now) (seen what_is_read result) }
 {
     let (line, text) = first_line(bytes);
     let mut wiring = read_header(alloc, line)?;
     let behind_edges = read_edges(&mut wiring, text)?;
-    let lines = wiring.len() + 2;
-    let rest = read_end(&wiring, lines, behind_edges)?;
+    let found = read_priorities(alloc, &wiring, behind_edges)?;
+    let lines = wiring.len() + 2 + found.count;
+    let rest = read_end(&wiring, lines, found.rest)?;
     let net = wiring.into_net()?;
     Ok(NetRead {
-        net,
+        net: net.preferring(found.preferred.gives, found.preferred.takes),
         pins: Vec::new(alloc),
         blocks: Vec::new(alloc),
         used: bytes.len() - rest.len(),
         lines,
     })
+}
+
+/// What so many lines of priorities say, and what follows them.
+#[derive(Drop)]
+struct Priorities<'a> {
+    preferred: Preferred,
+    count: usize,
+    rest: &'a [u8],
+}
+
+/// What the priority lines at the front of a text say, behind the edges, and what follows them.
+fn read_priorities<'a>(
+    alloc: Global,
+    wiring: &Wiring,
+    text: &'a [u8],
+) -> Result<Priorities<'a>, AllocError>
+    requires small { HasSmallSizes wiring.now }
+    requires few { length wiring.now.edges ≤ MOST_OF_EACH }
+    ensures read { IfOk result (λ found.
+        PrioritiesEnd wiring.now text.now found.preferred found.count found.rest.now) }
+    ensures short { IfOk result (λ found. found.count + length found.rest.now ≤ length text.now) }
+{
+    let splitters = wiring.splitters();
+    let mut preferred = Preferred {
+        gives: none_each(alloc, splitters)?,
+        takes: none_each(alloc, splitters)?,
+    };
+    let mut count = 0;
+    let mut rest = text;
+    loop {
+        let (line, after) = first_line(rest);
+        let Some(priority) = next_priority(wiring, &preferred, line) else {
+            return Ok(Priorities {
+                preferred,
+                count,
+                rest,
+            });
+        };
+        prefer(&mut preferred, priority);
+        count += 1;
+        rest = after;
+    }
+}
+
+/// The priority of this line, where it may come next.
+fn next_priority(wiring: &Wiring, preferred: &Preferred, line: &[u8]) -> Option<Priority>
+    requires small { HasSmallSizes wiring.now }
+    requires few { length wiring.now.edges ≤ MOST_OF_EACH }
+    ensures { IsNextPriority wiring.now preferred.now line.now result }
+{
+    let priority = read_priority(line)?;
+    if wiring.owns(priority) && is_free(preferred, priority) {
+        Some(priority)
+    } else {
+        None
+    }
 }
 
 /// Adds the edges of the edge lines at the front of a text, and gives what follows them.

@@ -5,7 +5,7 @@ ghost use Rattle.bt_net.specs.inner.Tallies.{IsBelow, IsFreeStart, IsFreeTarget,
 
 use crate::fault::NetFault;
 use crate::net::Net;
-use crate::network::{Edge, End, Start, Target};
+use crate::network::{Edge, End, Priority, Start, Target};
 use std::alloc::{AllocError, Global};
 use std::marker::Model;
 
@@ -33,6 +33,7 @@ impl Model for Wiring {
 
 impl Wiring {
     ghost use Rattle.bt_net.specs.Network.{HasEnd, IsCap, IsWired, IsNetOf, network_of};
+    ghost use Rattle.bt_net.specs.Priorities.{Owns};
     ghost use Rattle.bt_net.specs.Wiring.{IsPartlyWired, with_edge, HasSmallSizes};
 
     /// No edges yet.
@@ -68,6 +69,29 @@ impl Wiring {
         match end {
             End::Input(i) => has_place(&self.inputs, i),
             End::Output(o) => has_place(&self.outputs, o),
+        }
+    }
+
+    /// The number of splitters.
+    pub fn splitters(&self) -> usize
+        ensures { result ≡ self.now.splitters }
+    {
+        self.leaving.len()
+    }
+
+    /// Whether the splitter of a priority is one of the network, and the edge one of its own.
+    pub fn owns(&self, priority: Priority) -> bool
+        ensures { IsTrue result ↔ Owns self.now priority }
+    {
+        match priority {
+            Priority::Give { splitter, edge } => match self.edges.get(edge as usize) {
+                Some(found) => found.start == Start::Split(splitter),
+                None => false,
+            },
+            Priority::Take { splitter, edge } => match self.edges.get(edge as usize) {
+                Some(found) => found.target == Target::Split(splitter),
+                None => false,
+            },
         }
     }
 

@@ -8,7 +8,7 @@ use Rattle.bt_entities.specs.Answers.{IsPartsOf}
 use Rattle.bt_entities.proofs.OneAnswer.{one_parts}
 use Rattle.bt_net.specs.Network.{Network, IsNetwork}
 use Rattle.bt_net.specs.Readings.{IsPlainRead}
-use Rattle.bt_net.proofs.OneNet.{one_plain}
+use Rattle.bt_net.proofs.OnePlain.{one_plain}
 use Rattle.bt_parts.specs.declared.part.Part.{Part}
 use Rattle.bt_grid.specs.Placing.{IsPlaced}
 use Rattle.bt_grid.proofs.OneAnswer.{one_placed}

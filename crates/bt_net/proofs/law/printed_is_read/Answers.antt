@@ -1,5 +1,4 @@
-use Rattle.bt_net.proofs.OneNet.{printed_plain}
-use Rattle.bt_net.proofs.OneReading.{printed_reading}
+use Rattle.bt_net.proofs.PrintedNets.{printed_plain, printed_reading}
 use Rattle.bt_net.proofs.law.printed_is_read.Goals as goal
 
 pub returns-clause-read : goal.returns-clause-read

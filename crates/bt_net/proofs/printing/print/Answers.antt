@@ -1,29 +1,30 @@
-use Rattle.std.proofs.Common.{◌∙◌}
+use Rattle.std.proofs.Common.{◌++◌}
+use Rattle.std.specs.Prelude.{codes}
+use Rattle.std.specs.List.{flat_map}
 use Rattle.std.proofs.lemmas.Result.{err_from_is_err_and}
-use Rattle.bt_net.specs.declared.network.Edge.{Edge}
-use Rattle.bt_net.specs.declared.network.Start.TheVariants as from
-use Rattle.bt_net.specs.declared.network.Target.TheVariants as to
-use Rattle.bt_net.proofs.NetWrites.{header_failed, edge_written, edge_failed, end_written}
+use Rattle.bt_io.proofs.Pieces.{first_failed, second_failed, three_written}
+use Rattle.bt_net.specs.NetText.{line, header, edge_text}
+use Rattle.bt_net.specs.Priorities.{priorities_text}
 use Rattle.bt_net.proofs.printing.print.Goals as goal
 
--- the edge that stands for one past the end
-abbrev no_edge : Edge
-no_edge = record { start = from.Input 0; target = to.Split 0; cap = 0 }
-
-pub returns-in_err-write_all_of : goal.returns-in_err-write_all_of
-returns-in_err-write_all_of g c =
+pub returns-in_err-print_edges : goal.returns-in_err-print_edges
+returns-in_err-print_edges g c =
     let p = err_from_is_err_and c.from_residual.result c.from_residual.ensures.1 in
-    rw p.1 (header_failed g.K.Sink.held g.K.Sink.faults c.args.net.now _ _ _ _ _ (c.as_bytes.ensures ∙ c.header_line.ensures) c.in_err-write_all_of.ensures)
+    let n = c.args.net.now in
+    rw p.1
+    (first_failed g.K.Sink.held g.K.Sink.faults c.args.sink.now c.print_edges.new.sink c.print_edges.new.sink c.print_edges.new.sink
+    (line (header n) ++ flat_map (λ e. line (edge_text e)) n.edges) (priorities_text n) (line (codes "end")) _ _ c.in_err-print_edges.ensures)
 
-pub returns-in_err-write_all_of-2 : goal.returns-in_err-write_all_of-2
-returns-in_err-write_all_of-2 g c =
-    let p = err_from_is_err_and c.from_residual-in_err-write_all_of-2.result c.from_residual-in_err-write_all_of-2.ensures.1 in
-    rw p.1 (edge_failed g.K.Sink.held g.K.Sink.faults c.args.net.now _ c.edges-edges.result.now c.edges-edges.ensures.edges _ _ c.loop-edge.edge-index c.loop-edge.invariant _ no_edge _ _ c.loop-edge-test.true (c.as_bytes-in-loop-edge.ensures ∙ c.edge_line.ensures) c.in_err-write_all_of-2.ensures)
-
-pub loop-edge-preserved : goal.loop-edge-preserved
-loop-edge-preserved g c =
-    edge_written g.K.Sink.held g.K.Sink.faults c.args.net.now _ c.edges-edges.result.now c.edges-edges.ensures.edges _ _ c.loop-edge.edge-index c.loop-edge.invariant _ no_edge c.loop-edge-test.true (c.as_bytes-in-loop-edge.ensures ∙ c.edge_line.ensures) c.in_ok-write_all_of-2.ensures
+pub returns-in_err-print_priorities : goal.returns-in_err-print_priorities
+returns-in_err-print_priorities g c =
+    let p = err_from_is_err_and c.from_residual-in_err-print_priorities.result c.from_residual-in_err-print_priorities.ensures.1 in
+    let n = c.args.net.now in
+    rw p.1
+    (second_failed g.K.Sink.held g.K.Sink.faults c.args.sink.now c.print_edges.new.sink c.print_priorities.new.sink c.print_priorities.new.sink
+    (line (header n) ++ flat_map (λ e. line (edge_text e)) n.edges) (priorities_text n) (line (codes "end")) _ _ c.in_ok-print_edges.ensures c.in_err-print_priorities.ensures)
 
 pub returns : goal.returns
 returns g c =
-    end_written g.K.Sink.held g.K.Sink.faults c.args.net.now _ c.edges-edges.result.now c.edges-edges.ensures.edges _ _ c.loop-edge.edge-index c.loop-edge.invariant _ c.loop-edge-test.false c.write_all_of-2.ensures
+    let n = c.args.net.now in
+    three_written g.K.Sink.held g.K.Sink.faults c.args.sink.now c.print_edges.new.sink c.print_priorities.new.sink c.write_all_of.new.sink
+    (line (header n) ++ flat_map (λ e. line (edge_text e)) n.edges) (priorities_text n) (line (codes "end")) c.write_all_of.result c.in_ok-print_edges.ensures c.in_ok-print_priorities.ensures c.write_all_of.ensures

@@ -1,6 +1,6 @@
 use Rattle.std.proofs.Common.{refl, arith}
 use Rattle.bt_net.proofs.OneNet.{net_answers}
-use Rattle.bt_net.proofs.Priorities.{plain_is_prioritised}
+use Rattle.bt_net.proofs.Preference.{plain_is_prioritised}
 use Rattle.bt_net.proofs.net.Net.new.Goals as goal
 
 pub invariant_of-result : goal.invariant_of-result

@@ -1,7 +1,7 @@
 use Rattle.std.proofs.Common.{◌≡◌, sym, subst, ◌∙◌}
 use Rattle.bt_net.specs.Network.{IsNetwork, IsPrioritised, network_of}
 use Rattle.bt_net.specs.Priorities.{preferring}
-use Rattle.bt_net.proofs.Priorities.{preferring_network, preferring_instead}
+use Rattle.bt_net.proofs.Preference.{preferring_network, preferring_instead}
 use Rattle.bt_net.proofs.net.Net.preferring.Goals as goal
 
 pub invariant_of-result : goal.invariant_of-result

@@ -1,7 +1,7 @@
 use Rattle.std.proofs.Common.{◌≡◌, None, sym, subst}
 use Rattle.bt_net.specs.Network.{network_of, take_of}
 use Rattle.bt_net.specs.inner.Preferred.{with_preferred}
-use Rattle.bt_net.proofs.Priorities.{none_preferred}
+use Rattle.bt_net.proofs.Preference.{none_preferred}
 use Rattle.bt_net.proofs.net.Net.take.Goals as goal
 
 pub returns-in-None : goal.returns-in-None

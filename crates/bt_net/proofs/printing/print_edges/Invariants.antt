@@ -4,7 +4,7 @@ use Rattle.bt_io.specs.Bytes.{WritesText}
 use Rattle.bt_io.specs.Passages.{passage}
 use Rattle.bt_io.specs.declared.fault.WriteFault.{WriteFault}
 use Rattle.bt_net.specs.NetText.{line, header, edge_text}
-use Rattle.bt_net.proofs.printing.print.Given as goal
+use Rattle.bt_net.proofs.printing.print_edges.Given as goal
 
 -- the header and the edges so far were written
 abbrev pub invariant-loop-edge : goal.invariant-loop-edge

@@ -1,13 +1,17 @@
 -- Networks of which no splitter prefers an edge, and of which some do.
-use Rattle.std.proofs.Common.{◌≡◌, ℕ, zero, suc, List, length, get_or, Option, Some, None, refl, sym, subst, ap, ◌∙◌}
+use Rattle.std.proofs.Common.{◌≡◌, ℕ, ◌+◌, zero, suc, List, [], ◌∷◌, ◌++◌, length, get_or, Option, Some, None, refl, sym, subst, ap, ◌∙◌, arith}
 use Rattle.bt_net.specs.Network.{Network, none_each, preferred_in, give_of, take_of, HasNoPriorities, IsPrioritised, IsNetwork}
 use Rattle.bt_net.specs.Priorities.{preferring}
-use Rattle.bt_net.specs.declared.net.Preferred.{Preferred}
+use Rattle.bt_net.specs.declared.priority.Preferred.{Preferred}
 use Rattle.bt_net.specs.inner.Preferred.{with_preferred}
 
-none_long : (splitters : ℕ) → length (none_each splitters) ≡ splitters
+pub none_long : (splitters : ℕ) → length (none_each splitters) ≡ splitters
 none_long zero = refl
 none_long (suc k) = ap suc (none_long k)
+
+pub one_more_none : (splitters : ℕ) → none_each splitters ++ None ∷ [] ≡ none_each (splitters + 1)
+one_more_none zero = refl
+one_more_none (suc k) = ap (λ es. None ∷ es) (one_more_none k) ∙ ap none_each (let e : suc (k + 1) ≡ suc k + 1 = omega arith in e)
 
 pub none_preferred : (splitters k : ℕ) → preferred_in (none_each splitters) k ≡ None
 none_preferred zero k = refl
