@@ -10,8 +10,8 @@ shares no code with the program. Words, statuses and texts are those of README.m
     check.py none FORMULA < CERTIFICATE   1 and `none` where the certificate refutes the formula, which is in DIMACS;
                                           3 and `refused formula N` where line N of it may not stand there
 
-This reads priorities, which the program refuses: behind the edges of a network text, `give sN E` and `take sN E` say
-that edge E out of, or into, splitter N comes first; in a blueprint a splitter's preferred sides do. All numbers are
+This reads priorities: behind the edges of a network text, `give sN E` and `take sN E` say that edge E out of, or into,
+splitter N comes first; in a blueprint, where the program refuses them, a splitter's preferred sides do. All numbers are
 exact; where a sum or a product leaves 128 bits, this says so, as the program does (`plus`)."""
 
 import functools, json, re, sys

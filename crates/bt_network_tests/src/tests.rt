@@ -29,6 +29,9 @@ const SPLITTER: &str = "net 2 2 1\nedge i0 s0\nedge i1 s0\nedge s0 o0\nedge s0 o
 /// A splitter whose first way out is slower.
 const MIXED: &str = "net 1 2 1\nedge i0 s0 4\nedge s0 o0\nedge s0 o1 4\nend\n";
 
+/// A splitter that prefers its first way out.
+const GIVEN: &str = "net 1 2 1\nedge i0 s0\nedge s0 o0\nedge s0 o1\ngive s0 1\nend\n";
+
 /// The fields of a row; those that it lacks are empty.
 fn fields(row: &str, mark: char) -> [&str; 5] {
     let mut fields = [""; 5];

@@ -1,5 +1,5 @@
 //! The sizes of flow formulas, their clauses, and the state of an assignment.
-use super::{MIXED, ONE_BELT, SPLITTER, fields, net_of, number_of, property_named};
+use super::{GIVEN, MIXED, ONE_BELT, SPLITTER, fields, net_of, number_of, property_named};
 use bt_cnf::{Formula, Lit};
 use bt_fenc::{encode, state_of};
 use bt_frac::Frac;
@@ -13,6 +13,7 @@ const SIZES: &[&str] = &[
     "splitter|full|51|55|8",
     "mixed|drawn-evenly|33|36|6",
     "loop|unlimited|57|61|8",
+    "given|balanced|32|37|6",
 ];
 
 /// Two edges from a splitter to the next, and an edge from the last splitter to itself.
@@ -58,12 +59,19 @@ const CLAUSES: &[&str] = &[
     "loop|unlimited|43|-5 40",
     "loop|unlimited|44|-1 2 44",
     "loop|unlimited|51|-5 6 52",
+    // The preferred way out is backed or full, or the other is empty.
+    "given|balanced|14|17 18",
+    "given|balanced|16|21 22",
+    "given|balanced|21|2 21 17",
+    "given|balanced|22|-1 2 21",
+    "given|balanced|32|36 37",
 ];
 
 fn text_named(name: &str) -> &'static str {
     match name {
         "one belt" => ONE_BELT,
         "splitter" => SPLITTER,
+        "given" => GIVEN,
         "loop" => LOOP,
         _ => MIXED,
     }

@@ -1,5 +1,5 @@
 //! States of networks that break a property, are steady, or fail a test.
-use super::{MIXED, SPLITTER, fields, net_of, property_named};
+use super::{GIVEN, MIXED, SPLITTER, fields, net_of, property_named};
 use bt_flow::{Judgement, Property, Test, WideSum, breaks, read_state, steady};
 use std::alloc::Global;
 
@@ -8,6 +8,9 @@ const LOOP: &str =
 
 const BUTTERFLY: &str =
     "net 4 4 4\nedge i0 s0\nedge i1 s0\nedge i2 s1\nedge i3 s1\nedge s0 s2\nedge s0 s3\nedge s1 s2\nedge s1 s3\nedge s2 o0\nedge s2 o1\nedge s3 o2\nedge s3 o3\nend\n";
+
+/// A splitter that prefers its second way in.
+const TAKEN: &str = "net 2 1 1\nedge i0 s0\nedge i1 s0\nedge s0 o0\ntake s0 1\nend\n";
 
 /// A network, a property, a state, and what `breaks` and `steady` judge. Of the splitter with caps the first way out is full,
 /// so it may carry less than the second; or it is free and isn't full.
@@ -20,6 +23,12 @@ const CASES: &[&str] = &[
     "splitter|unlimited|no unlimited\nload 1 1\nroom 1 1\nflow 1 1 1 1\nmark f f f f\nend|conclusion 0|passes",
     "mixed|balanced|no balanced\nload 4\nroom 1 4\nflow 4 1 3\nmark f f f\nend|passes|passes",
     "mixed|balanced|no balanced\nload 4\nroom 1 4\nflow 3 1/2 5/2\nmark f f f\nend|even out 1|even out 1",
+    // Of the splitter that prefers the first way out, that one is free and full, or not full though the other isn't empty.
+    "given|balanced|no balanced\nload 1\nroom 1 1\nflow 1 1 0\nmark f f f\nend|passes|passes",
+    "given|balanced|no balanced\nload 1\nroom 1 1\nflow 1 1/2 1/2\nmark f f f\nend|prior out 1|prior out 1",
+    // Of the one that prefers the second way in, that one waits while the first flows, or flows alone.
+    "taken|drawn-evenly|no drawn-evenly\nload 1 1\nroom 1\nflow 1 0 1\nmark f b b\nend|prior in 1|prior in 1",
+    "taken|drawn-evenly|no drawn-evenly\nload 1 1\nroom 1\nflow 0 1 1\nmark b b b\nend|passes|passes",
 ];
 
 fn text_named(name: &str) -> &'static str {
@@ -27,6 +36,8 @@ fn text_named(name: &str) -> &'static str {
         "loop" => LOOP,
         "butterfly" => BUTTERFLY,
         "splitter" => SPLITTER,
+        "given" => GIVEN,
+        "taken" => TAKEN,
         _ => MIXED,
     }
 }
@@ -36,6 +47,8 @@ fn judgement_named(name: &str) -> Judgement {
         "passes" => return Judgement::Passes,
         "input 0" => (Test::Input, 0),
         "conclusion 0" => (Test::Conclusion, 0),
+        "prior out 1" => (Test::PriorOut, 1),
+        "prior in 1" => (Test::PriorIn, 1),
         _ => (Test::EvenOut, 1),
     };
     Judgement::Fails { test, place }

@@ -39,6 +39,8 @@ const READ: &[&str] = &[
     "net 1 1 0\nedge i0 o0\nblock 0 0\npin i0 0 0\nend\n|line|4",
     "net 1 1 0\nedge i0 o0\npin i0 0 0\nedge i0 o0\nend\n|line|4",
     "net 1 1 0\nedge i0 o0\npin i0 0 0\npin i0 0 0\nblock 0 0\nblock 0 0\n\nend\n|line|7",
+    // A request has no priorities.
+    "net 1 2 1\nedge i0 s0\nedge s0 o0\nedge s0 o1\ngive s0 1\nend\n|line|5",
 ];
 
 /// A text for a reader that takes no pins and blocks.
@@ -46,12 +48,33 @@ const READ_PLAINLY: &[&str] = &[
     "net 1 1 0\nedge i0 o0\npin i0 0 0\nx\nend\n|line|3",
     "net 1 1 0\nedge i0 o0\nblock 0 0\nend\n|line|3",
     "net 1 1 0\nedge i0 o0\nend\n|cap|1",
+    "net 1 2 1\nedge i0 s0\nedge s0 o0\nedge s0 o1\ngive s0 1\nend\n|cap|1",
+    "net 1 2 1\nedge i0 s0\nedge s0 o0\nedge s0 o1\ngive s0 2\ntake s0 0\nend|cap|1",
+    "net 1 2 1\nedge i0 s0\nedge s0 o0\nedge s0 o1\ntake s0 0\ngive s0 2\nend\n|cap|1",
+    "net 2 1 1\nedge i0 s0\nedge i1 s0\nedge s0 o0\ntake s0 1\nend\n|cap|1",
+    "net 1 2 1\nedge i0 s0\nedge s0 o0\nedge s0 o1\ngive s0 1\ngive s0 1\nend\n|line|6",
+    "net 1 2 1\nedge i0 s0\nedge s0 o0\nedge s0 o1\ngive s0 1\ntake s0 0\ngive s0 2\nend\n|line|7",
+    "net 2 1 1\nedge i0 s0\nedge i1 s0\nedge s0 o0\ntake s0 1\ntake s0 0\nend\n|line|6",
+    "net 1 2 1\nedge i0 s0\nedge s0 o0\nedge s0 o1\ngive s0 0\nend\n|line|5",
+    "net 1 2 1\nedge i0 s0\nedge s0 o0\nedge s0 o1\ntake s0 1\nend\n|line|5",
+    "net 1 2 1\nedge i0 s0\nedge s0 o0\nedge s0 o1\ngive s0 3\nend\n|line|5",
+    "net 1 2 1\nedge i0 s0\nedge s0 o0\nedge s0 o1\ngive s1 1\nend\n|line|5",
+    "net 1 2 1\nedge i0 s0\nedge s0 o0\nedge s0 o1\ngive s0 01\nend\n|line|5",
+    "net 1 2 1\nedge i0 s0\nedge s0 o0\nedge s0 o1\ngive s0 1 \nend\n|line|5",
+    "net 1 2 1\nedge i0 s0\nedge s0 o0\nedge s0 o1\ngive s0 4294967297\nend\n|line|5",
+    "net 1 2 1\nedge i0 s0\nedge s0 o0\nedge s0 o1\ngive o0 1\nend\n|line|5",
+    "net 1 2 1\nedge i0 s0\nedge s0 o0\nedge s0 o1\ngive s0 1\n|line|6",
+    "net 1 2 1\nedge i0 s0\nedge s0 o0\nedge s0 o1\ngive s0 1\npin i0 0 0\nend\n|line|6",
+    "net 1 2 1\nedge i0 s0\nedge s0 o0\ngive s0 1\nedge s0 o1\nend\n|line|5",
+    "net 1 2 1\ngive s0 1\nedge i0 s0\nedge s0 o0\nedge s0 o1\nend\n|line|2",
 ];
 
 /// A text, and what is printed of its network.
 const PRINTED: &[&str] = &[
     "net 1 2 1\nedge s0 o1 3\nedge i0 s0\nedge s0 o0 2\nend\n|net 1 2 1\nedge s0 o1 3\nedge i0 s0\nedge s0 o0 2\nend\n",
     "net 1 1 0\nedge i0 o0 1\nend\n|net 1 1 0\nedge i0 o0\nend\n",
+    "net 1 1 2\nedge i0 s0\nedge s0 s1\nedge s1 o0\ntake s1 1\ngive s1 2\ngive s0 1\nend|\
+     net 1 1 2\nedge i0 s0\nedge s0 s1\nedge s1 o0\ngive s0 1\ngive s1 2\ntake s1 1\nend\n",
 ];
 
 /// The word of a fault, and the line that it names, or 0.

@@ -24,6 +24,8 @@ const CHECKED: &[&str] = &[
      check unlimited",
     "decide unlimited|net 1 3 3\nedge i0 s0\nedge s0 s1\nedge s0 s2\nedge s1 o0\nedge s1 o1\nedge s2 o2\n\
      edge s2 s0\nend\n|1|no unlimited\n|check unlimited",
+    "decide full|net 1 2 1\nedge i0 s0\nedge s0 o0\nedge s0 o1\ngive s0 1\nend\n|0|yes full\n|check full",
+    "decide balanced|net 1 2 1\nedge i0 s0\nedge s0 o0\nedge s0 o1\ngive s0 1\nend\n|1|no balanced\n|check balanced",
     // No assignment gives each clause a true literal, and so no turn is made.
     "decide balanced --learnt 1 --pivots 0|net 1 1 0\nedge i0 o0\nend\n|0|yes balanced\n|check balanced",
     "decide balanced|@\

@@ -17,6 +17,13 @@ const CASES: &[&str] = &[
      room 1 4\nflow 4 1 3\nmark f f f\nend\n|0|breaks balanced\n",
     "flow-check balanced|net 1 2 1\nedge i0 s0 4\nedge s0 o0\nedge s0 o1 4\nend\nno balanced\nload 4\n\
      room 1 4\nflow 3 1/2 5/2\nmark f f f\nend\n|9|refused 54 NotBreaking even-out 1\n",
+    // All goes the preferred way, as even flows forbid it.
+    "flow-check balanced|net 1 2 1\nedge i0 s0\nedge s0 o0\nedge s0 o1\ngive s0 1\nend\nno balanced\nload 1\n\
+     room 1 1\nflow 1 1 0\nmark f f f\nend\n|0|breaks balanced\n",
+    "flow-check balanced|net 1 2 1\nedge i0 s0\nedge s0 o0\nedge s0 o1\nend\nno balanced\nload 1\n\
+     room 1 1\nflow 1 1 0\nmark f f f\nend\n|9|refused 54 NotBreaking even-out 2\n",
+    "flow-check balanced|net 1 2 1\nedge i0 s0\nedge s0 o0\nedge s0 o1\ngive s0 1\nend\nno balanced\nload 1\n\
+     room 1 1\nflow 1 1/2 1/2\nmark f f f\nend\n|9|refused 54 NotBreaking prior-out 1\n",
     "flow-check unlimited|net 1 3 2\nedge i0 s1 3\nedge s0 o1\nedge s0 o2\nedge s1 o0 3\nedge s1 s0\nend\n\
      no unlimited\nload 3\nroom 0 1 1\nflow 1 1/2 1/2 0 1\nmark b f f b f\nend\n|0|breaks unlimited\n",
     "flow-check unlimited|net 4 4 4\nedge i0 s0\nedge i1 s0\nedge i2 s1\nedge i3 s1\nedge s0 s2\nedge s0 s3\n\
