@@ -6,8 +6,8 @@
 The inputs are all of examples/, what the program decides and lays out of it, networks and blueprints that are thrown
 together, and so many mutants of all these (20000 where none is told). It prints counts by kind and every difference,
 and ends with 1 where there is one. `--short` runs about a hundred. Nothing is written but, with `--keep`, the inputs
-of differences into that folder. The generator is fixed: with one program the inputs are always the same. Priorities,
-which the program refuses and `check.py` reads, are left out."""
+of differences into that folder. The generator is fixed: with one program the inputs are always the same. Priorities
+of blueprints, which the program refuses and `check.py` reads, are left out."""
 
 import argparse
 import random
@@ -253,7 +253,22 @@ def thrown_net(chance):
     caps = chance.choice((("",), ("",), ("", " 2", " 3", " 4", " 1")))
     lines = [f"edge {s} {t}{chance.choice(caps)}" for s, t in zip(starts, targets)]
     chance.shuffle(lines)
+    lines += thrown_priorities(chance, splitters, lines) if chance.randrange(2) else []
     return "\n".join([f"net {inputs} {outputs} {splitters}", *lines, "end", ""]).encode()
+
+
+def thrown_priorities(chance, splitters, edges):
+    """Lines of priorities behind those of edges, mostly right."""
+    lines = []
+    for n in range(splitters):
+        for word, place in ("give", 1), ("take", 2):
+            near = [e for e, line in enumerate(edges) if line.split()[place] == f"s{n}"]
+            if near and chance.randrange(2):
+                lines.append(f"{word} s{n} {chance.choice(near)}")
+    if chance.randrange(12) == 0:
+        lines.append(f"{chance.choice(('give', 'take'))} s{chance.randrange(4)} {chance.randrange(8)}")
+    chance.shuffle(lines)
+    return lines
 
 
 def thrown_blueprint(chance):
@@ -300,8 +315,9 @@ def thrown_state(chance, design, prop):
         share = {s: Fraction(chance.choice(("1/2", "1/2", "1/2", "1", "0", "1/3"))) for s in net.ends("s")}
         for s in net.ends("s") * 4:
             coming = sum(flows[e] for e in net.ins[s])
+            first = net.first["give"].get(s[1])
             for e, part in zip(net.outs[s], (share[s], 1 - share[s]) if len(net.outs[s]) == 2 else (1,)):
-                flows[e] = coming * part
+                flows[e] = coming * (part if first is None or chance.randrange(4) == 0 else e == first)
         gives, takes = ([flows[near[end][0]] for end in net.ends(k)] for k, near in (("i", net.outs), ("o", net.ins)))
         loads = gives if chance.randrange(2) else [Fraction(1)] * inputs
         rooms = takes if chance.randrange(2) else [Fraction(1)] * outputs
