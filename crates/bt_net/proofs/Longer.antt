@@ -14,7 +14,7 @@ use Rattle.bt_net.specs.declared.network.Pin.{Pin}
 use Rattle.bt_net.specs.Network.{Network}
 use Rattle.bt_net.specs.NetText.{header, IsEdgeLine}
 use Rattle.bt_net.specs.PinText.{IsPinLine, IsBlockLine}
-use Rattle.bt_net.specs.Refusals.{LineRefused, BeginsWithEdges, GoesOn, EdgesRefused}
+use Rattle.bt_net.specs.Refusals.{BeginsWithEdges}
 use Rattle.bt_net.specs.PinRefusals.{LineRefusedAfter, BeginsWithItems, GoesOnAfter, BodyRefused}
 use Rattle.bt_net.specs.Wiring.{HasSmallSizes, IsPartlyWired}
 use Rattle.bt_net.specs.Readings.{Reading, StandsPlain, StandsAtFront, IsNetRead, IsPlainRead}

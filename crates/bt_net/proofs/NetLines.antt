@@ -1,15 +1,14 @@
 -- A network's text, line by line.
-use Rattle.std.proofs.Common.{◌≡◌, ◌≢◌, ℕ, ◌-◌, ◌<◌, ◌≤◌, ◌⊎◌, Bool, cond, eq-eqb, List, [], ◌∷◌, ◌++◌, length, get_or, map, drop, refl, sym, ◌∙◌, ap, subst, inl, inr, ⊎_elim, arith, length-append}
+use Rattle.std.proofs.Common.{◌≡◌, ◌≢◌, ℕ, ◌<◌, ◌≤◌, Bool, cond, eq-eqb, List, [], ◌∷◌, ◌++◌, length, get_or, map, drop, refl, sym, ◌∙◌, ap, subst, inl, inr, ⊎_elim, arith, length-append}
 use Rattle.std.specs.Prelude.{codes, decimal}
 use Rattle.std.specs.List.{All, AllZip, count_by, flat_map}
 use Rattle.std.proofs.lemmas.Bool.{cases_eq, ne_eqb}
 use Rattle.std.proofs.lemmas.List.{append-nil, append_assoc, get_or_append_left, get_or_at}
-use Rattle.std.proofs.lemmas.List.Concat.{flat_map-append}
 use Rattle.std.proofs.lemmas.List.Elements.{All-nil, All-cons, All-head, All-tail, All-append}
 use Rattle.std.proofs.lemmas.List.Sums.{sum_by-append}
-use Rattle.bt_text.specs.Lines.{Lacks, SplitsAt, line, IsFirstLine, BeginsWithLines}
+use Rattle.bt_text.specs.Lines.{Lacks, SplitsAt, line, IsFirstLine}
 use Rattle.bt_text.proofs.Lacking.{lacks}
-use Rattle.bt_text.proofs.FirstLines.{fork, BeginsWithLines-tail, BeginsWithLines-nil, BeginsWithLines-cons, BeginsWithLines-push, BeginsWithLines-used}
+use Rattle.bt_text.proofs.FirstLines.{BeginsWithLines-push}
 use Rattle.bt_frac.proofs.Numerals.{decimal-lacks, decimal_apart}
 use Rattle.bt_net.specs.declared.fault.NetFault.{NetFault}
 use Rattle.bt_net.specs.declared.fault.NetFault.TheVariants.{NetLine, TooLarge, NoEnds, Memory}
@@ -19,10 +18,10 @@ use Rattle.bt_net.specs.declared.network.Start.TheVariants as from
 use Rattle.bt_net.specs.declared.network.Target.{Target}
 use Rattle.bt_net.specs.declared.network.Target.TheVariants as to
 use Rattle.bt_net.specs.Network.{Network, IsCap, IsWired, IsNetwork, StartsIn, EndsIn, is_input, is_output, leaves, enters, HasNoPriorities, none_each}
-use Rattle.bt_net.specs.NetText.{start_text, target_text, ends_text, cap_text, header, IsEdgeLine, edge_text, net_text, BeginsWithNet}
-use Rattle.bt_net.specs.Refusals.{HeaderRefused, BeginsWithEdges, GoesOn, EdgesRefused}
+use Rattle.bt_net.specs.NetText.{start_text, target_text, ends_text, cap_text, header, IsEdgeLine, edge_text}
+use Rattle.bt_net.specs.Refusals.{HeaderRefused, BeginsWithEdges}
 use Rattle.bt_net.specs.Wiring.{IsPartlyWired, with_edge, HasSmallSizes}
-use Rattle.bt_net.specs.inner.Lines.{StartFits, TargetFits, EdgeFits, IsTargetAndCap, IsStarted, SameSizes}
+use Rattle.bt_net.specs.inner.Lines.{StartFits, TargetFits, EdgeFits, IsTargetAndCap, SameSizes}
 use Rattle.bt_net.proofs.Spelling.{start-lacks, target-lacks, start_lacks_space, target_lacks_space, edge_words, cut_words, cut_cap, uncut_cap, header_unique, IsHeader-header}
 
 -- the line that is printed of an edge is its line
@@ -248,11 +247,11 @@ one_more w n g gs sizes wired is =
 -- the edge that comes last has small numbers and a cap
 pub last_fits : (w : Network) (e : Edge) → HasSmallSizes w → IsPartlyWired (with_edge w e) → EdgeFits e
 last_fits w e small new = All-at w.edges e [] (edges_fit (with_edge w e) (record {
-      plain = record { gives = small.plain.gives; takes = small.plain.takes };
-      few_inputs = small.few_inputs;
-      few_outputs = small.few_outputs;
-      few_splitters = small.few_splitters;
-    }) new)
+  plain = record { gives = small.plain.gives; takes = small.plain.takes };
+  few_inputs = small.few_inputs;
+  few_outputs = small.few_outputs;
+  few_splitters = small.few_splitters;
+}) new)
 
 -- an edge line is the line of no other edge
 pub last_same : (w : Network) (bytes : List ℕ) (e f : Edge) → HasSmallSizes w → IsPartlyWired (with_edge w e) → EdgeFits f → IsEdgeLine bytes f → IsEdgeLine bytes e → IsPartlyWired (with_edge w f)
@@ -284,4 +283,3 @@ edges_push text rest bytes after es e begins next is = record {
 -- a text of which no line was read yet
 pub edges_none : (text : List ℕ) → BeginsWithEdges text [] text
 edges_none text = record { lines = []; are_edges = tt; begins = inl refl }
-

@@ -1,12 +1,11 @@
 -- Two right answers of a call that makes a network are equal.
-use Rattle.std.proofs.Common.{◌≡◌, ℕ, ◌+◌, ◌≤◌, List, [], ◌++◌, length, drop, refl, sym, ◌∙◌, ap, subst, ⊎_elim, arith, length-drop, inl, inr}
-use Rattle.std.specs.Prelude.{Result, Ok, Err, ◌⊎◌, codes}
-use Rattle.std.proofs.lemmas.List.{append-nil, drop_all}
-use Rattle.bt_answers.specs.Answers.{UnlessMemory, Answers, AnswersAlways, HasOneAnswer}
-use Rattle.bt_answers.proofs.OneAnswer.{answers_of, answers_always_of}
+use Rattle.std.proofs.Common.{◌≡◌, ℕ, ◌≤◌, List, length, drop, refl, sym, ◌∙◌, ap, ⊎_elim, arith, length-drop}
+use Rattle.std.specs.Prelude.{Result, Ok, Err}
+use Rattle.bt_answers.specs.Answers.{AnswersAlways, HasOneAnswer}
+use Rattle.bt_answers.proofs.OneAnswer.{answers_always_of}
 use Rattle.bt_net.specs.declared.fault.NetFault.{NetFault}
 use Rattle.bt_net.specs.declared.fault.NetFault.TheVariants.{NetLine, TooLarge, NoEnds, Memory}
-use Rattle.bt_net.specs.Network.{Network, IsWired, IsNetwork, IsLarge, LacksEnds, IsNetOf}
+use Rattle.bt_net.specs.Network.{Network, IsNetwork, IsLarge, LacksEnds, IsNetOf}
 
 -- a network is not too large
 pub not_large : (n : Network) → IsNetwork n → IsLarge n → ⊥

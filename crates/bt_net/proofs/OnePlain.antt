@@ -1,8 +1,8 @@
 -- Two right answers of a call that reads a text with priorities are equal.
 use Rattle.std.proofs.Common.{◌≡◌, ℕ, ◌+◌, ◌-◌, ◌<◌, ◌≤◌, List, [], ◌∷◌, ◌++◌, length, drop, refl, sym, ◌∙◌, ap, subst, ⊎_elim, arith, length-append, inl, inr}
 use Rattle.std.specs.Prelude.{Result, Ok, Err, ◌⊎◌, codes}
-use Rattle.std.specs.List.{All, AllZip, flat_map}
-use Rattle.std.proofs.lemmas.List.{append_assoc, append-nil, drop_all}
+use Rattle.std.specs.List.{AllZip, flat_map}
+use Rattle.std.proofs.lemmas.List.{append_assoc}
 use Rattle.std.proofs.lemmas.List.Concat.{flat_map-append}
 use Rattle.bt_answers.specs.Answers.{UnlessMemory, Answers, HasOneAnswer}
 use Rattle.bt_answers.proofs.OneAnswer.{answers_of}
@@ -11,22 +11,21 @@ use Rattle.bt_text.proofs.Lacking.{lacks}
 use Rattle.bt_text.proofs.FirstLines.{first_line_of, IsFirstLine-unique, BeginsWithLines-tail, BeginsWithLines-nil, BeginsWithLines-push, BeginsWithLines-cons, BeginsWithLines-used}
 use Rattle.bt_net.specs.declared.fault.NetFault.{NetFault}
 use Rattle.bt_net.specs.declared.fault.NetFault.TheVariants.{NetLine, TooLarge, NoEnds, Memory}
-use Rattle.bt_net.specs.declared.network.Edge.{Edge}
 use Rattle.bt_net.specs.declared.network.Priority.{Priority}
 use Rattle.bt_net.specs.declared.priority.Preferred.{Preferred}
-use Rattle.bt_net.specs.Network.{Network, HasNoPriorities, IsPrioritised, none_each, network_of, IsWired, IsNetwork, IsNetOf}
+use Rattle.bt_net.specs.Network.{Network, HasNoPriorities, IsPrioritised, none_each, IsWired, IsNetwork, IsNetOf}
 use Rattle.bt_net.specs.NetText.{header, alone, IsEdgeLine, BeginsWithNet}
-use Rattle.bt_net.specs.Refusals.{HeaderRefused, GoesOn, EdgesRefused}
+use Rattle.bt_net.specs.Refusals.{HeaderRefused}
 use Rattle.bt_net.specs.PinText.{AreLinesFrom}
 use Rattle.bt_net.specs.PinRefusals.{BeginsWithItems}
 use Rattle.bt_net.specs.PriorityRefusals.{MayNotFollowOn, GoesOnWith, PlainRefused, Refuses}
-use Rattle.bt_net.specs.Priorities.{preferring, IsPriorityLine, IsFreeFor, Becomes}
+use Rattle.bt_net.specs.Priorities.{preferring, IsPriorityLine, Becomes}
 use Rattle.bt_net.specs.Readings.{Reading, StandsPlain, IsPlainRead}
 use Rattle.bt_net.specs.Wiring.{HasSmallSizes}
 use Rattle.bt_net.specs.inner.Lines.{IsStarted, SameSizes, EdgesEnd, AreEdgesRead, IsEndRead}
 use Rattle.bt_net.specs.inner.Preferred.{PrioritiesEnd}
 use Rattle.bt_net.proofs.OneNet.{same_used}
-use Rattle.bt_net.proofs.NetLines.{back, header-same, HasSmallSizes-same, edges_fit, edges-lack, edge-some, header-lacks, header_stands, SameSizes-header, partly_of_wired}
+use Rattle.bt_net.proofs.NetLines.{back, header-same, HasSmallSizes-same, edges_fit, edges-lack, header-lacks, header_stands, SameSizes-header, partly_of_wired}
 use Rattle.bt_net.proofs.Refusing.{header_same}
 use Rattle.bt_net.proofs.ItemLines.{more_lines, lines_items, items_lines}
 use Rattle.bt_net.proofs.PrioritySpelling.{priority_apart, priority-lacks, priority-some}

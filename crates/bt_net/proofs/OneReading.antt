@@ -1,9 +1,8 @@
 -- Two right answers to a text with pins and blocks are equal.
 use Rattle.std.proofs.Common.{◌≡◌, ℕ, ◌+◌, ◌<◌, ◌≤◌, ◌-◌, ◌⊎◌, List, [], ◌∷◌, ◌++◌, length, drop, refl, sym, ◌∙◌, ap, subst, inl, inr, ⊎_elim, arith, length-append}
 use Rattle.std.specs.Prelude.{Result, Ok, Err, codes}
-use Rattle.std.specs.List.{All, AllZip, flat_map}
+use Rattle.std.specs.List.{flat_map}
 use Rattle.std.proofs.lemmas.List.{append_assoc}
-use Rattle.std.proofs.lemmas.List.Elements.{All-nil, All-cons}
 use Rattle.std.proofs.lemmas.List.Concat.{flat_map-append}
 use Rattle.bt_answers.specs.Answers.{UnlessMemory, Answers, HasOneAnswer}
 use Rattle.bt_answers.proofs.OneAnswer.{answers_of}
@@ -12,18 +11,17 @@ use Rattle.bt_text.proofs.FirstLines.{BeginsWithLines-nil, first_line_of, Begins
 use Rattle.bt_net.specs.declared.fault.NetFault.{NetFault}
 use Rattle.bt_net.specs.declared.fault.NetFault.TheVariants.{NetLine, TooLarge, NoEnds, Memory}
 use Rattle.bt_net.specs.declared.network.Block.{Block}
-use Rattle.bt_net.specs.declared.network.Edge.{Edge}
 use Rattle.bt_net.specs.declared.network.Pin.{Pin}
 use Rattle.bt_net.specs.Network.{Network, IsWired, IsNetwork, IsNetOf, HasNoPriorities}
-use Rattle.bt_net.specs.NetText.{header, net_text, IsEdgeLine}
+use Rattle.bt_net.specs.NetText.{header, IsEdgeLine}
 use Rattle.bt_net.specs.PinText.{IsPinLine, IsBlockLine}
 use Rattle.bt_net.specs.Refusals.{HeaderRefused, GoesOn}
 use Rattle.bt_net.specs.PinRefusals.{MayNotFollow, LineRefusedAfter, BeginsWithItems, GoesOnAfter, BodyRefused, RefusesAll}
-use Rattle.bt_net.specs.Readings.{Reading, BeginsWithAll, StandsAtFront, StandsPlain, IsNetRead, PrintedIsRead, whole_reading}
+use Rattle.bt_net.specs.Readings.{Reading, BeginsWithAll, StandsAtFront, IsNetRead}
 use Rattle.bt_net.specs.Wiring.{HasSmallSizes}
 use Rattle.bt_net.specs.inner.Lines.{IsStarted, SameSizes, EdgesEnd, AreEdgesRead, ItemsEnd, IsEndRead}
 use Rattle.bt_text.proofs.Lacking.{lacks}
-use Rattle.bt_net.proofs.NetLines.{back, header-same, HasSmallSizes-same, edges_fit, edges-lack, edge-ne_end, edge-some, header-lacks, header_stands, HasSmallSizes-network, SameSizes-header, partly_of_wired}
+use Rattle.bt_net.proofs.NetLines.{back, header-same, HasSmallSizes-same, edges_fit, edges-lack, edge-ne_end, header-lacks, header_stands, HasSmallSizes-network, SameSizes-header, partly_of_wired}
 use Rattle.bt_net.proofs.Refusing.{header_same, line_same}
 use Rattle.bt_net.proofs.OneNet.{same_used}
 use Rattle.bt_net.proofs.EdgeLines.{edges-some}

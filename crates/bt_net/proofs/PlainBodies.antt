@@ -1,19 +1,17 @@
 -- What stands behind the header of a text with priorities: edges and priorities in one way, and then one line.
-use Rattle.std.proofs.Common.{◌≡◌, ℕ, ◌+◌, ◌<◌, ◌≤◌, ◌⊎◌, List, [], ◌∷◌, length, get_or, refl, sym, ◌∙◌, ap, subst, inl, inr, arith}
+use Rattle.std.proofs.Common.{◌≡◌, ℕ, ◌+◌, ◌≤◌, List, [], length, get_or, refl, sym, ◌∙◌, ap, subst, inl, inr, arith}
 use Rattle.std.specs.Prelude.{codes}
 use Rattle.bt_text.specs.Lines.{IsFirstLine}
 use Rattle.bt_text.proofs.FirstLines.{first_line_of, IsFirstLine-unique}
 use Rattle.bt_net.specs.declared.fault.NetFault.{NetFault}
 use Rattle.bt_net.specs.declared.fault.NetFault.TheVariants.{NetLine, TooLarge, NoEnds, Memory}
-use Rattle.bt_net.specs.declared.network.Edge.{Edge}
 use Rattle.bt_net.specs.declared.network.Priority.{Priority}
-use Rattle.bt_net.specs.declared.network.TheConstants.{MOST_OF_EACH}
-use Rattle.bt_net.specs.Network.{Network, IsWired, IsNetwork}
+use Rattle.bt_net.specs.Network.{Network, IsWired}
 use Rattle.bt_net.specs.NetText.{IsEdgeLine}
 use Rattle.bt_net.specs.Refusals.{GoesOn}
 use Rattle.bt_net.specs.PinRefusals.{BeginsWithItems}
-use Rattle.bt_net.specs.PriorityRefusals.{MayNotFollowOn, LineRefusedOn, GoesOnWith, PlainRefused}
-use Rattle.bt_net.specs.Priorities.{IsPriorityLine, IsFreeFor, Becomes}
+use Rattle.bt_net.specs.PriorityRefusals.{LineRefusedOn, GoesOnWith, PlainRefused}
+use Rattle.bt_net.specs.Priorities.{IsPriorityLine, IsFreeFor}
 use Rattle.bt_net.specs.Wiring.{HasSmallSizes}
 use Rattle.bt_net.specs.inner.Lines.{SameSizes}
 use Rattle.bt_net.proofs.NetLines.{back, edge-ne_end}

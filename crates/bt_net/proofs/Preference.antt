@@ -1,5 +1,5 @@
 -- Networks of which no splitter prefers an edge, and of which some do.
-use Rattle.std.proofs.Common.{◌≡◌, ℕ, ◌+◌, zero, suc, List, [], ◌∷◌, ◌++◌, length, get_or, Option, Some, None, refl, sym, subst, ap, ◌∙◌, arith}
+use Rattle.std.proofs.Common.{◌≡◌, ℕ, ◌+◌, zero, suc, List, [], ◌∷◌, ◌++◌, length, Option, Some, None, refl, ap, ◌∙◌, arith}
 use Rattle.bt_net.specs.Network.{Network, none_each, preferred_in, give_of, take_of, HasNoPriorities, IsPrioritised, IsNetwork}
 use Rattle.bt_net.specs.Priorities.{preferring}
 use Rattle.bt_net.specs.declared.priority.Preferred.{Preferred}

@@ -1,14 +1,13 @@
 -- The text that is printed of a network without priorities is read as that network.
-use Rattle.std.proofs.Common.{◌≡◌, ℕ, ◌+◌, List, [], ◌∷◌, ◌++◌, length, drop, map, refl, sym, ◌∙◌, ap, subst, inl, arith, zero, suc, Option, None}
+use Rattle.std.proofs.Common.{◌≡◌, ℕ, ◌+◌, List, [], ◌∷◌, ◌++◌, length, drop, map, refl, sym, ◌∙◌, ap, inl, arith, zero, suc}
 use Rattle.std.specs.Prelude.{codes}
 use Rattle.std.specs.List.{flat_map, range_with_len}
 use Rattle.std.proofs.lemmas.List.{append_assoc, append-nil, drop_all}
 use Rattle.std.proofs.lemmas.List.Concat.{flat_map-append}
-use Rattle.bt_net.specs.declared.network.Edge.{Edge}
-use Rattle.bt_net.specs.Network.{Network, HasNoPriorities, IsNetwork, none_each, give_of, take_of}
-use Rattle.bt_net.specs.NetText.{line, header, edge_text, net_text, alone, BeginsWithNet}
+use Rattle.bt_net.specs.Network.{Network, HasNoPriorities, take_of}
+use Rattle.bt_net.specs.NetText.{line, header, edge_text, net_text, alone}
 use Rattle.bt_net.specs.Priorities.{preference_text, splitter_text, priorities_text}
-use Rattle.bt_net.specs.Readings.{BeginsWithAll, whole_reading, PrintedIsRead, PrintedIsPlain}
+use Rattle.bt_net.specs.Readings.{PrintedIsRead, PrintedIsPlain}
 use Rattle.bt_net.proofs.NetLines.{printed_lines, lines_of}
 use Rattle.bt_net.proofs.Preference.{plain_gives, plain_takes}
 

@@ -1,19 +1,18 @@
 -- A text is refused for one cause, and never where a network's text stands.
-use Rattle.std.proofs.Common.{◌≡◌, ℕ, ◌<◌, ◌≤◌, ◌⊎◌, List, [], ◌∷◌, ◌++◌, length, refl, sym, ◌∙◌, ap, subst, inl, inr, ⊎_elim, arith, length-append, Err}
-use Rattle.std.specs.Prelude.{codes}
+use Rattle.std.proofs.Common.{◌≡◌, ℕ, ◌<◌, ◌≤◌, ◌⊎◌, List, [], ◌∷◌, ◌++◌, length, refl, sym, ◌∙◌, ap, subst, inl, inr, arith, length-append}
 use Rattle.std.specs.List.{All, AllZip}
 use Rattle.std.proofs.lemmas.List.{append-nil}
-use Rattle.bt_text.specs.Lines.{IsFirstLine, BeginsWithLines}
-use Rattle.bt_text.proofs.FirstLines.{fork, BeginsWithLines-tail, BeginsWithLines-nil, IsFirstLine-unique}
+use Rattle.bt_text.specs.Lines.{BeginsWithLines}
+use Rattle.bt_text.proofs.FirstLines.{BeginsWithLines-tail, BeginsWithLines-nil}
 use Rattle.bt_net.specs.declared.fault.NetFault.{NetFault}
 use Rattle.bt_net.specs.declared.fault.NetFault.TheVariants.{NetLine, TooLarge, NoEnds, Memory}
 use Rattle.bt_net.specs.declared.network.Edge.{Edge}
-use Rattle.bt_net.specs.Network.{Network, IsWired, IsNetwork, IsNetOf}
-use Rattle.bt_net.specs.NetText.{IsEdgeLine, BeginsWithNet}
+use Rattle.bt_net.specs.Network.{Network}
+use Rattle.bt_net.specs.NetText.{IsEdgeLine}
 use Rattle.bt_net.specs.declared.network.TheConstants.{MOST_OF_EACH}
 use Rattle.bt_net.specs.Refusals.{HeaderRefused, LineRefused, GoesOn}
 use Rattle.bt_net.specs.Wiring.{IsPartlyWired, with_edge, HasSmallSizes}
-use Rattle.bt_net.specs.inner.Lines.{EdgeFits, IsStarted, SameSizes}
+use Rattle.bt_net.specs.inner.Lines.{EdgeFits, SameSizes}
 use Rattle.bt_net.proofs.NetLines.{AreLines, GoesOver, edges_fit, go_over, edge-lacks, edge-ne_end, same_network, one_more, All-at}
 
 nothing_no_edge : (bytes : List ℕ) (rest : List (List ℕ)) (e : Edge) → [] ≡ bytes ∷ rest → IsEdgeLine bytes e → ⊥
@@ -68,4 +67,3 @@ header_same bytes f NoEnds p q = absurd q
 header_same bytes f Memory p q = absurd q
 header_same bytes NoEnds g p q = absurd p
 header_same bytes Memory g p q = absurd p
-

@@ -1,5 +1,5 @@
 -- Nothing to write.
-use Rattle.std.proofs.Common.{ℕ, List, [], ◌++◌, Some, None, Ok, sym, arith}
+use Rattle.std.proofs.Common.{ℕ, List, [], Some, None, Ok, sym, arith}
 use Rattle.std.proofs.lemmas.List.{append-nil}
 use Rattle.std.specs.declared.option.Option.{Option}
 use Rattle.std.specs.Io.KnownBytes.{Appends}

@@ -8,8 +8,8 @@ use Rattle.bt_net.specs.declared.fault.NetFault.TheVariants.{NetLine, TooLarge, 
 use Rattle.bt_net.specs.declared.network.Edge.{Edge}
 use Rattle.bt_net.specs.declared.network.TheConstants.{MOST_OF_EACH}
 use Rattle.bt_net.specs.Network.{Network, IsWired}
-use Rattle.bt_net.specs.NetText.{header, IsEdgeLine}
-use Rattle.bt_net.specs.Wiring.{HasSmallSizes, IsPartlyWired, with_edge}
+use Rattle.bt_net.specs.NetText.{IsEdgeLine}
+use Rattle.bt_net.specs.Wiring.{IsPartlyWired, with_edge}
 
 -- the line is `net` and three whole numbers, however large
 pub record IsHeader (bytes : List ℕ) (inputs outputs splitters : ℕ) : Type 0 where
@@ -57,4 +57,3 @@ pub record GoesOn (n : Network) (text bytes after : List ℕ) : Type 0 where
 -- behind a header, why the line after the edges so far is refused
 abbrev pub EdgesRefused : Network → List ℕ → NetFault → Type 0
 EdgesRefused n text fault = (bytes after : List ℕ) × GoesOn n text bytes after × LineRefused n bytes fault
-

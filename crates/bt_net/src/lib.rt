@@ -17,7 +17,9 @@ mod words;
 pub use fault::NetFault;
 pub use law::{limits_are, longer_is_read, one_net, printed_is_read};
 pub use net::Net;
-pub use network::{Block, Edge, End, MOST_CAP, MOST_OF_EACH, NO_COORDINATE, Pin, Priority, Start, Target};
+pub use network::{
+    Block, Edge, End, MOST_CAP, MOST_OF_EACH, NO_COORDINATE, Pin, Priority, Start, Target,
+};
 pub use printing::print;
 pub use reading::{NetRead, read, read_plain};
 pub use std::alloc::AllocError as Memory;

@@ -68,9 +68,7 @@ fn print_preference<K: Sink>(
         (preference_text word.now splitter preferred) result }
 {
     match preferred {
-        Some(edge) => {
-            write_all_of(sink, priority_line(word, splitter, edge as u32).as_bytes())
-        }
+        Some(edge) => { write_all_of(sink, priority_line(word, splitter, edge as u32).as_bytes()) }
         None => Ok(()),
     }
 }

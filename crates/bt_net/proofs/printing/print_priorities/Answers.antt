@@ -1,10 +1,7 @@
-use Rattle.std.proofs.Common.{◌≡◌, ℕ, ◌+◌, ◌<◌, ◌≤◌, ◌++◌, [], Ok, length, get_or, take, refl, sym, ◌∙◌, subst, ap, arith}
-use Rattle.std.specs.List.{flat_map, range_with_len}
+use Rattle.std.proofs.Common.{◌≡◌, ℕ, ◌+◌, ◌<◌, ◌≤◌, [], length, get_or, refl, sym, ◌∙◌, subst, arith}
+use Rattle.std.specs.List.{range_with_len}
 use Rattle.std.proofs.lemmas.Result.{err_from_is_err_and}
 use Rattle.std.proofs.lemmas.List.FromFn.{length-range_with_len, get_or-range_with_len}
-use Rattle.bt_io.specs.Bytes.{WritesText}
-use Rattle.bt_io.specs.Passages.{passage}
-use Rattle.bt_io.specs.declared.fault.WriteFault.{WriteFault}
 use Rattle.bt_io.proofs.Pieces.{piece_written, last_failed, all_written}
 use Rattle.bt_net.specs.Priorities.{splitter_text}
 use Rattle.bt_net.proofs.Unwritten.{nothing_written}

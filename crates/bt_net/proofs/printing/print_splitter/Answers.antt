@@ -1,10 +1,9 @@
-use Rattle.std.proofs.Common.{◌∙◌, Ok, ap, subst}
+use Rattle.std.proofs.Common.{Ok, subst}
 use Rattle.std.specs.Prelude.{codes}
-use Rattle.std.proofs.lemmas.Result.{err_from_is_err_and}
 use Rattle.bt_io.specs.Bytes.{WritesText}
 use Rattle.bt_io.specs.Passages.{passage}
 use Rattle.bt_io.specs.declared.fault.WriteFault.{WriteFault}
-use Rattle.bt_io.proofs.Written.{writes_both, writes_no_more}
+use Rattle.bt_io.proofs.Written.{writes_both}
 use Rattle.bt_net.specs.Network.{give_of, take_of}
 use Rattle.bt_net.specs.Priorities.{preference_text}
 use Rattle.bt_net.proofs.printing.print_splitter.Goals as goal

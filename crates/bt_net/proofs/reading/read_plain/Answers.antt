@@ -1,10 +1,10 @@
-use Rattle.std.proofs.Common.{◌+◌, ◌∙◌, ap, length, subst, arith}
+use Rattle.std.proofs.Common.{◌+◌, ◌∙◌, ap, subst, arith}
 use Rattle.std.proofs.lemmas.Result.{err_from_is_err_and}
 use Rattle.bt_net.specs.Network.{IsNetwork}
 use Rattle.bt_net.specs.Priorities.{preferring}
 use Rattle.bt_net.proofs.NetLines.{HasSmallSizes-same}
 use Rattle.bt_net.proofs.Preference.{preferring_network}
-use Rattle.bt_net.proofs.OnePlain.{plain_answers, plain_parts, header_answers, memory_answers, edges_answer, last_answers, end_answers, goes_on, end_prioritised, stands_plain}
+use Rattle.bt_net.proofs.OnePlain.{plain_answers, plain_parts, header_answers, edges_answer, last_answers, end_answers, goes_on, end_prioritised, stands_plain}
 use Rattle.bt_net.proofs.reading.read_plain.Goals as goal
 
 pub returns-in_err-wiring : goal.returns-in_err-wiring

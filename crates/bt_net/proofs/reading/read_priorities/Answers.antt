@@ -1,8 +1,6 @@
-use Rattle.std.proofs.Common.{arith, ◌∙◌, ap}
+use Rattle.std.proofs.Common.{◌∙◌, ap}
 use Rattle.bt_net.specs.Network.{none_each}
-use Rattle.bt_net.proofs.Preferring.{none_so_far, one_more_priority, has_place}
-use Rattle.bt_net.proofs.ItemLines.{shorter}
-use Rattle.bt_net.proofs.PrioritySpelling.{priority-some}
+use Rattle.bt_net.proofs.Preferring.{none_so_far, one_more_priority}
 use Rattle.bt_net.proofs.reading.read_priorities.Goals as goal
 
 pub loop-priority-init : goal.loop-priority-init

@@ -1,4 +1,4 @@
-use Rattle.std.proofs.Common.{◌≡◌, sym, subst, ◌∙◌}
+use Rattle.std.proofs.Common.{◌≡◌, sym, subst}
 use Rattle.bt_net.specs.Network.{IsNetwork, IsPrioritised, network_of}
 use Rattle.bt_net.specs.Priorities.{preferring}
 use Rattle.bt_net.proofs.Preference.{preferring_network, preferring_instead}
