@@ -108,7 +108,7 @@ fn is_told(told: Result<NetRead, NetFault>, row: &str) -> bool {
 /// Whether a row's text is read to its end, and printed as the row says.
 fn prints(alloc: Global, row: &str) -> Result<bool, AllocError> {
     let [text, wanted, ..] = fields(row, '|');
-    match read(alloc, text.as_bytes()) {
+    match read_plain(alloc, text.as_bytes()) {
         Ok(found) => Ok(found.used == text.len() && is_printed(alloc, &found.net, wanted)?),
         Err(_) => Ok(false),
     }
