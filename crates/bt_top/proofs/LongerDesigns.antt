@@ -157,7 +157,7 @@ module _ (bytes : List ℕ) (n : Network) (used : ℕ) where
   text_stays (went_on read h e) = by (plain_stays bytes read h)
     where
       other : IsOtherText bytes
-      other = net_first bytes (drop read.used bytes) read.net (h.begins.edge_lines ++ codes "end" ∷ []) h.begins.begins
+      other = net_first bytes (drop read.used bytes) read.net (h.begins.edge_lines ++ (h.begins.priority_lines ++ codes "end" ∷ [])) h.begins.begins
 
       same : ◌≡◌ {A = Network × ℕ} (n, used) (read.net, read.used)
       same = same_value (n, used) (read.net, read.used) e
