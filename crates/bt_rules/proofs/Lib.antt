@@ -20,3 +20,6 @@ pub mod Told
 pub mod Laying
 pub mod RulesWithin
 pub mod kept
+pub mod DraftLemmas
+pub mod Drawn
+pub mod DrawnCells

@@ -13,3 +13,6 @@ pub mod Standing
 pub mod Starts
 pub mod Underground
 pub mod Within
+pub mod Drafts
+pub mod Plans
+pub mod inner

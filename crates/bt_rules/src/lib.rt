@@ -1,8 +1,28 @@
 //! The rules that a layout of a request keeps, over facts of what each cell holds and from where it is fed.
 #![tactic(auto)]
 
+mod adding;
+mod carrying;
+mod cells;
+mod classes;
+mod contents;
+mod draft;
+mod drawing;
 mod fact;
+mod facts;
+mod going;
 mod law;
+mod pinning;
+mod plan;
+mod ports;
+mod spots;
+mod standing;
+mod starts;
+mod underground;
 
+pub use cells::cells_of;
+pub use draft::{Claim, Draft, Drafted};
+pub use drawing::{add_cell, add_ends, add_splitter, rules_of};
 pub use fact::{Class, Content, Fact, Half, Shape};
 pub use law::{keeping_lays, laying_keeps, rules_are_within};
+pub use plan::{Gate, Plan, Way};

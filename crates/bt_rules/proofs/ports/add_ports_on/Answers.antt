@@ -1,0 +1,14 @@
+use Rattle.std.proofs.Common.{append-nil, sym}
+use Rattle.bt_rules.specs.Spots.{dirs}
+use Rattle.bt_rules.specs.Ports as ports
+use Rattle.bt_arena.proofs.Loops.{taken_more, taken_all}
+use Rattle.bt_rules.proofs.ports.add_ports_on.Goals as goal
+
+pub loop-dir-init : goal.loop-dir-init
+loop-dir-init c = sym (append-nil c.args.draft.now)
+
+pub loop-dir-preserved : goal.loop-dir-preserved
+loop-dir-preserved c = taken_more (ports.standing_port_rules c.args.request.now c.args.gate.now.splitter c.args.cell) dirs c.args.draft.now c.loop-dir.draft c.add_standing_ports.new.draft c.loop-dir.dir-index _ c.loop-dir-test.true c.loop-dir.invariant (c.in_ok-add_standing_ports.ensures)
+
+pub returns : goal.returns
+returns c = taken_all (ports.standing_port_rules c.args.request.now c.args.gate.now.splitter c.args.cell) dirs c.args.draft.now c.loop-dir.draft c.loop-dir.dir-index c.loop-dir-test.false c.loop-dir.invariant

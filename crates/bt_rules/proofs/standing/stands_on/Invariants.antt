@@ -1,0 +1,8 @@
+use Rattle.std.proofs.Common.{◌≡◌, take}
+use Rattle.std.specs.List.{flat_map}
+use Rattle.bt_rules.specs.Spots.{dirs}
+use Rattle.bt_rules.specs.Standing as standing
+use Rattle.bt_rules.proofs.standing.stands_on.Given as goal
+
+abbrev pub invariant-loop-dir : goal.invariant-loop-dir
+invariant-loop-dir l = l.facts.items ≡ flat_map (standing.stands_on l.rect l.splitter l.cell) (take l.dir-index dirs)

@@ -1,0 +1,18 @@
+-- Cells so near that the next one can be told.
+use Rattle.std.specs.Prelude.{◌+◌, ◌≤◌, unsigned_abs}
+use Rattle.bt_parts.specs.declared.part.Cell.{Cell}
+use Rattle.bt_net.specs.declared.network.Block.{Block}
+use Rattle.bt_net.specs.declared.network.Pin.{Pin}
+use Rattle.bt_parts.specs.declared.part.TheConstants.{MOST_COORDINATE}
+
+-- each coordinate has at most one more than the greatest magnitude
+abbrev pub IsNear : Cell → Type 0
+IsNear c = (unsigned_abs c.x ≤ MOST_COORDINATE + 1) × (unsigned_abs c.y ≤ MOST_COORDINATE + 1)
+
+-- the pin's coordinates are small
+abbrev pub IsPinnedNear : Pin → Type 0
+IsPinnedNear pin = (pin.x ≤ MOST_COORDINATE) × (pin.y ≤ MOST_COORDINATE)
+
+-- the block's coordinates are small
+abbrev pub IsBlockedNear : Block → Type 0
+IsBlockedNear block = (block.x ≤ MOST_COORDINATE) × (block.y ≤ MOST_COORDINATE)

@@ -1,0 +1,186 @@
+//! Rules of how classes go on from one cell to the next.
+ghost use Rattle.std.specs.Prelude.{◌≡◌, ◌++◌, ◌∷◌, [], map, flat_map, OnOk};
+ghost use Rattle.std.specs.List.{AllByRecursion};
+ghost use Rattle.bt_rules.specs.Carrying as carrying;
+ghost use Rattle.bt_rules.specs.Plans.{IsWay, IsGate, IsPlan};
+ghost use Rattle.bt_rules.specs.inner.Near.{IsNear};
+ghost use Rattle.bt_rules.specs.inner.Parts as parts;
+
+use crate::draft::Draft;
+use crate::fact::{Class, Fact, Shape};
+use crate::facts::{carries, carries_split, holds};
+use crate::plan::{Gate, Plan, Way};
+use crate::spots::{DIRS, ahead, is_inside};
+use bt_model::Request;
+use bt_parts::{Cell, Dir};
+use std::alloc::{AllocError, Global};
+
+/// Adds how a class goes on to a part that is no half, and to a half.
+fn add_carried(
+    alloc: Global,
+    draft: &mut Draft,
+    request: &Request,
+    cell: Cell,
+    dir: Dir,
+    way: &Way,
+) -> Result<(), AllocError>
+    requires near { IsNear cell }
+    requires way { IsWay request.now way.now }
+    ensures { OnOk result (draft.new ≡ draft.old
+        ++ carrying.carried_rules request.now cell dir way.now.class) }
+{
+    let goes = Fact::Goes(cell, dir);
+    let next = ahead(dir, cell);
+    let half = Fact::HalfOn(next);
+    let here = Fact::Carries(cell, way.class);
+    let there = Fact::Carries(next, way.class);
+    let goals = carries_split(alloc, next, &way.goals)?;
+    draft.add(&[goes, here], &[half, there])?;
+    draft.add(&[goes, there], &[half, here])?;
+    draft.add(&[goes, half, here], &goals)
+}
+
+/// Adds that what comes to a half of a splitter has a class of which edges go into it.
+fn add_taken(
+    alloc: Global,
+    draft: &mut Draft,
+    request: &Request,
+    cell: Cell,
+    dir: Dir,
+    gate: &Gate,
+) -> Result<(), AllocError>
+    requires near { IsNear cell }
+    requires gate { IsGate request.now gate.now }
+    ensures { OnOk result (draft.new ≡ draft.old
+        ++ carrying.taken_rule request.now cell dir gate.now.splitter ∷ []) }
+{
+    let next = ahead(dir, cell);
+    let class = Class::Split(gate.splitter);
+    let given = [
+        Fact::Goes(cell, dir),
+        Fact::HalfOn(next),
+        Fact::Carries(next, class),
+    ];
+    let sources = carries(alloc, cell, &gate.sources)?;
+    draft.add(&given, &sources)
+}
+
+/// Adds that a belt or an exit that faces the outside hasn't this class.
+fn add_kept_in(draft: &mut Draft, cell: Cell, dir: Dir, class: Class) -> Result<(), AllocError>
+    ensures { OnOk result (draft.new ≡ draft.old ++ carrying.kept_in_rules cell dir class) }
+{
+    let carries = Fact::Carries(cell, class);
+    draft.add(&[carries, holds(cell, Shape::Belt, dir)], &[])?;
+    draft.add(&[carries, holds(cell, Shape::Exit, dir)], &[])
+}
+
+/// Adds how each of these classes goes on.
+fn add_all_carried(
+    alloc: Global,
+    draft: &mut Draft,
+    request: &Request,
+    cell: Cell,
+    dir: Dir,
+    ways: &[Way],
+) -> Result<(), AllocError>
+    requires near { IsNear cell }
+    requires ways { AllByRecursion (IsWay request.now) ways.now }
+    ensures { OnOk result (draft.new ≡ draft.old
+        ++ flat_map (λ w. carrying.carried_rules request.now cell dir w.class) ways.now) }
+{
+    for way in ways {
+        add_carried(alloc, draft, request, cell, dir, way)?;
+    }
+    Ok(())
+}
+
+/// Adds what comes to a half of each of these splitters.
+fn add_all_taken(
+    alloc: Global,
+    draft: &mut Draft,
+    request: &Request,
+    cell: Cell,
+    dir: Dir,
+    gates: &[Gate],
+) -> Result<(), AllocError>
+    requires near { IsNear cell }
+    requires gates { AllByRecursion (IsGate request.now) gates.now }
+    ensures { OnOk result (draft.new ≡ draft.old
+        ++ map (λ g. carrying.taken_rule request.now cell dir g.splitter) gates.now) }
+{
+    for gate in gates {
+        add_taken(alloc, draft, request, cell, dir, gate)?;
+    }
+    Ok(())
+}
+
+/// Adds that a belt or an exit that faces the outside has none of these classes.
+fn add_all_kept_in(
+    draft: &mut Draft,
+    cell: Cell,
+    dir: Dir,
+    classes: &[Class],
+) -> Result<(), AllocError>
+    ensures { OnOk result (draft.new ≡ draft.old ++ flat_map (carrying.kept_in_rules cell dir) classes.now) }
+{
+    for class in classes {
+        add_kept_in(draft, cell, dir, *class)?;
+    }
+    Ok(())
+}
+
+/// Adds how classes go on from a cell to one inside the rectangle.
+fn add_onward_inside(
+    alloc: Global,
+    draft: &mut Draft,
+    request: &Request,
+    plan: &Plan,
+    cell: Cell,
+    dir: Dir,
+) -> Result<(), AllocError>
+    requires near { IsNear cell }
+    requires plan { IsPlan request.now plan.now }
+    ensures { OnOk result (draft.new ≡ draft.old ++ parts.onward_inside_rules request.now cell dir) }
+{
+    add_all_carried(alloc, draft, request, cell, dir, &plan.ways)?;
+    add_all_taken(alloc, draft, request, cell, dir, &plan.gates)?;
+    Ok(())
+}
+
+/// Adds how classes go on from a cell in a direction.
+fn add_onward(
+    alloc: Global,
+    draft: &mut Draft,
+    request: &Request,
+    plan: &Plan,
+    cell: Cell,
+    dir: Dir,
+) -> Result<(), AllocError>
+    requires near { IsNear cell }
+    requires plan { IsPlan request.now plan.now }
+    ensures { OnOk result (draft.new ≡ draft.old ++ carrying.onward_rules request.now cell dir) }
+{
+    if is_inside(request.rect(), ahead(dir, cell)) {
+        add_onward_inside(alloc, draft, request, plan, cell, dir)
+    } else {
+        add_all_kept_in(draft, cell, dir, &plan.kept)
+    }
+}
+
+/// Adds the rules of classes, at a cell.
+pub fn add_carrying(
+    alloc: Global,
+    draft: &mut Draft,
+    request: &Request,
+    plan: &Plan,
+    cell: Cell,
+) -> Result<(), AllocError>
+    requires near { IsNear cell }
+    requires plan { IsPlan request.now plan.now }
+    ensures { OnOk result (draft.new ≡ draft.old ++ carrying.carrying_rules request.now cell) }
+{
+    for dir in DIRS {
+        add_onward(alloc, draft, request, plan, cell, dir)?;
+    }
+    Ok(())
+}

@@ -1,0 +1,161 @@
+//! The rules of a request, as they are drawn up.
+ghost use Rattle.std.specs.Prelude.{◌≡◌, ◌++◌, ◌∷◌, [], map, flat_map, IfOk, OnOk};
+ghost use Rattle.std.specs.List.{AllByRecursion};
+ghost use Rattle.bt_parts.specs.Cells.{IsInside};
+ghost use Rattle.bt_rules.specs.PlaceRules as place;
+ghost use Rattle.bt_rules.specs.Plans.{IsGate, IsPlan};
+ghost use Rattle.bt_rules.specs.Spots.{border_of as border_cells, cells_of as all_cells};
+ghost use Rattle.bt_rules.specs.inner.Near.{IsNear};
+ghost use Rattle.bt_rules.specs.inner.Parts as parts;
+
+use crate::carrying::add_carrying;
+use crate::cells::{border_of, cells_of};
+use crate::contents::add_cell_contents;
+use crate::draft::Draft;
+use crate::going::add_handing;
+use crate::pinning::{add_blocks, add_clashes, add_pins};
+use crate::plan::{Gate, Plan};
+use crate::ports::add_ports;
+use crate::standing::{add_place, add_standing};
+use crate::starts::add_inputs;
+use crate::underground::add_underground;
+use bt_model::Request;
+use bt_parts::Cell;
+use std::alloc::{AllocError, Global};
+
+/// Adds the rules of what stands on a cell.
+fn add_standing_parts(
+    alloc: Global,
+    draft: &mut Draft,
+    request: &Request,
+    plan: &Plan,
+    cell: Cell,
+) -> Result<(), AllocError>
+    requires near { IsNear cell }
+    requires plan { IsPlan request.now plan.now }
+    ensures { OnOk result (draft.new ≡ draft.old ++ parts.standing_part_rules request.now cell) }
+{
+    add_cell_contents(alloc, draft, request, plan, cell)?;
+    add_standing(alloc, draft, request, cell)
+}
+
+/// Adds the rules of what is handed on from a cell.
+fn add_handing_parts(
+    alloc: Global,
+    draft: &mut Draft,
+    request: &Request,
+    plan: &Plan,
+    cell: Cell,
+) -> Result<(), AllocError>
+    requires near { IsNear cell }
+    requires plan { IsPlan request.now plan.now }
+    ensures { OnOk result (draft.new ≡ draft.old ++ parts.handing_part_rules request.now cell) }
+{
+    add_handing(alloc, draft, request, plan, cell)?;
+    add_underground(alloc, draft, request, plan, cell)?;
+    add_carrying(alloc, draft, request, plan, cell)
+}
+
+/// Adds the rules at a cell of the rectangle.
+pub fn add_cell(
+    alloc: Global,
+    draft: &mut Draft,
+    request: &Request,
+    plan: &Plan,
+    cell: Cell,
+) -> Result<(), AllocError>
+    requires cell { IsInside request.now.rect cell }
+    requires plan { IsPlan request.now plan.now }
+    ensures { OnOk result (draft.new ≡ draft.old ++ place.cell_rules request.now cell) }
+{
+    add_standing_parts(alloc, draft, request, plan, cell)?;
+    add_handing_parts(alloc, draft, request, plan, cell)?;
+    Ok(())
+}
+
+/// Adds the rules of a splitter.
+pub fn add_splitter(
+    alloc: Global,
+    draft: &mut Draft,
+    request: &Request,
+    cells: &[Cell],
+    gate: &Gate,
+) -> Result<(), AllocError>
+    requires cells { cells.now ≡ all_cells request.now.rect }
+    requires gate { IsGate request.now gate.now }
+    ensures { OnOk result (draft.new ≡ draft.old ++ place.splitter_rules request.now gate.now.splitter) }
+{
+    add_place(alloc, draft, request.rect(), cells, gate.splitter)?;
+    add_ports(alloc, draft, request, gate, cells)
+}
+
+/// Adds the rules of inputs, pins and blocks.
+pub fn add_ends(
+    alloc: Global,
+    draft: &mut Draft,
+    request: &Request,
+    cells: &[Cell],
+) -> Result<(), AllocError>
+    requires { cells.now ≡ all_cells request.now.rect }
+    ensures { OnOk result (draft.new ≡ draft.old ++ place.end_rules request.now) }
+{
+    let border = border_of(alloc, request.rect(), cells)?;
+    let pins = request.pins();
+    add_inputs(alloc, draft, request, &border)?;
+    add_pins(alloc, draft, request, pins)?;
+    add_clashes(draft, pins)?;
+    add_blocks(draft, request.blocks())
+}
+
+/// Adds the rules at each of the cells.
+fn add_cells(
+    alloc: Global,
+    draft: &mut Draft,
+    request: &Request,
+    plan: &Plan,
+    cells: &[Cell],
+) -> Result<(), AllocError>
+    requires cells { cells.now ≡ all_cells request.now.rect }
+    requires plan { IsPlan request.now plan.now }
+    ensures { OnOk result (draft.new ≡ draft.old ++ flat_map (place.cell_rules request.now) cells.now) }
+{
+    for cell in cells {
+        add_cell(alloc, draft, request, plan, *cell)?;
+    }
+    Ok(())
+}
+
+/// Adds the rules of the splitters of these gates.
+fn add_splitters(
+    alloc: Global,
+    draft: &mut Draft,
+    request: &Request,
+    cells: &[Cell],
+    gates: &[Gate],
+) -> Result<(), AllocError>
+    requires cells { cells.now ≡ all_cells request.now.rect }
+    requires gates { AllByRecursion (IsGate request.now) gates.now }
+    ensures { OnOk result (draft.new ≡ draft.old
+        ++ flat_map (λ g. place.splitter_rules request.now g.splitter) gates.now) }
+{
+    for gate in gates {
+        add_splitter(alloc, draft, request, cells, gate)?;
+    }
+    Ok(())
+}
+
+/// The rules of a request.
+///
+/// They are many: who writes them elsewhere draws them up part by part, by `Plan::new`, `cells_of`,
+/// `add_cell`, `add_splitter` and `add_ends`, in the same order.
+pub fn rules_of(alloc: Global, request: &Request) -> Result<Draft, AllocError>
+    ensures { IfOk result (λ draft. draft ≡ place.rules_of request.now) }
+{
+    let cells = cells_of(alloc, request.rect())?;
+    let plan = Plan::new(alloc, request)?;
+    let mut draft = Draft::new(alloc)?;
+    add_cells(alloc, &mut draft, request, &plan, &cells)?;
+    add_splitters(alloc, &mut draft, request, &cells, &plan.gates)?;
+    add_ends(alloc, &mut draft, request, &cells)?;
+    Ok(draft)
+}
