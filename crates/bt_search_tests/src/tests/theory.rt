@@ -1,4 +1,8 @@
 //! What formulas with rows come to within limits, with scopes and with guesses.
+ghost use Rattle.std.specs.Prelude.{◌≡◌, ◌<◌, IfOk, length};
+ghost use Rattle.std.specs.List.{All};
+ghost use Rattle.bt_theory.specs.Outcomes.{AreRowsOf};
+
 use super::{add_clause, fields, number_of, row_of};
 use bt_cnf::{Chooser, Formula};
 use bt_theory::{GaveUp, Limits, Outcome, solve};
@@ -58,7 +62,10 @@ fn formula_of(alloc: Global, clauses: &str) -> Result<Formula, AllocError> {
 }
 
 /// The places of a scope, as far as there is a row.
-fn scope_of(alloc: Global, text: &str, end: usize) -> Result<Vec<usize>, AllocError> {
+fn scope_of(alloc: Global, formula: &Formula, text: &str) -> Result<Vec<usize>, AllocError>
+    ensures { IfOk result (λ scope. AreRowsOf formula.now scope.items) }
+{
+    let end = formula.rows().len();
     let mut scope = Vec::new(alloc);
     if text != "-" {
         for word in text.split(' ') {
@@ -71,11 +78,13 @@ fn scope_of(alloc: Global, text: &str, end: usize) -> Result<Vec<usize>, AllocEr
     Ok(scope)
 }
 
-fn scopes_of(alloc: Global, text: &str, end: usize) -> Result<Vec<Vec<usize>>, AllocError> {
+fn scopes_of(alloc: Global, formula: &Formula, text: &str) -> Result<Vec<Vec<usize>>, AllocError>
+    ensures { IfOk result (λ scopes. All (λ scope. AreRowsOf formula.now scope.items) scopes.items) }
+{
     let mut scopes = Vec::new(alloc);
     if !text.is_empty() {
         for scope in text.split(',') {
-            scopes.push(scope_of(alloc, scope, end)?)?;
+            scopes.push(scope_of(alloc, formula, scope)?)?;
         }
     }
     Ok(scopes)
@@ -124,7 +133,7 @@ fn is_outcome(alloc: Global, row: &str) -> Result<bool, AllocError> {
         pivots: number_of(pivots) as u64,
     };
     let formula = formula_of(alloc, clauses)?;
-    let scopes = scopes_of(alloc, scopes, formula.rows().len())?;
+    let scopes = scopes_of(alloc, &formula, scopes)?;
     let guesses = guesses_of(alloc, guesses)?;
     let outcome = solve(alloc, formula, &scopes, &guesses, choosers, limits)?;
     Ok(name_of(&outcome) == name)
