@@ -84,7 +84,12 @@ fn is_accepted(alloc: Global, formula: &Formula, log: &Log) -> Result<bool, Allo
 }
 
 /// Whether the printed state is read as one that breaks the property.
-fn is_breaking(alloc: Global, net: &Net, property: Property, state: &State) -> Result<bool, AllocError> {
+fn is_breaking(
+    alloc: Global,
+    net: &Net,
+    property: Property,
+    state: &State,
+) -> Result<bool, AllocError> {
     let mut sink = MemSink::new(alloc, MOST, Vec::new(alloc), MOST)?;
     let printed = print_state(state, property, &mut sink).is_ok();
     match read_state(alloc, net, sink.held(), property) {
@@ -94,7 +99,13 @@ fn is_breaking(alloc: Global, net: &Net, property: Property, state: &State) -> R
 }
 
 /// Whether a decision that a chooser steers says this, with evidence that is accepted.
-fn is_decided(alloc: Global, net: &Net, property: Property, name: &str, holds: bool) -> Result<bool, AllocError> {
+fn is_decided(
+    alloc: Global,
+    net: &Net,
+    property: Property,
+    name: &str,
+    holds: bool,
+) -> Result<bool, AllocError> {
     match decide(alloc, net, property, LIMITS, choosers_named(alloc, name)?)? {
         Verdict::Yes(log) => Ok(holds && is_accepted(alloc, &encode(alloc, net, property)?, &log)?),
         Verdict::No(state) => Ok(!holds && is_breaking(alloc, net, property, &state)?),
@@ -107,7 +118,10 @@ fn searched(alloc: Global, net: &Net, property: Property) -> Result<Option<bool>
     let choosers: Vec<Box<dyn Chooser>> = Vec::new(alloc);
     let formula = encode(alloc, net, property)?;
     let (holds, accepted) = match solve(alloc, formula, &[], &[], choosers, LIMITS)? {
-        Outcome::Refuted(log) => (true, is_accepted(alloc, &encode(alloc, net, property)?, &log)?),
+        Outcome::Refuted(log) => (
+            true,
+            is_accepted(alloc, &encode(alloc, net, property)?, &log)?,
+        ),
         Outcome::Sat { values, assignment } => {
             let state = state_of(alloc, net, &values, &assignment)?;
             (false, is_breaking(alloc, net, property, &state)?)
