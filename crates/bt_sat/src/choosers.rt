@@ -107,7 +107,7 @@ impl Chooser for Recent {
 }
 
 /// The place of a variable among unset ones, where it is one of them.
-fn place_of(unset: &[Var], var: Var) -> Option<usize>
+pub fn place_of(unset: &[Var], var: Var) -> Option<usize>
     requires { Ascends unset.now }
     ensures some { IfSome result (λ place. slice_get unset.now place ≡ Some var) }
     ensures none { IfNone result (Contains unset.now var → ⊥) }

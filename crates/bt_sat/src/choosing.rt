@@ -6,6 +6,7 @@ ghost use Rattle.bt_sat.specs.inner.Choices.{BeginsLevel, Decides, ListsUnset};
 ghost use Rattle.bt_sat.specs.inner.Progressing.{IsRunning, KeepsFormula};
 
 use crate::assignment::assign;
+use crate::plan::Plan;
 use crate::progress::Progress;
 use crate::search::Search;
 use bt_cnf::{Chooser, Lit, Pick, Var};
@@ -28,6 +29,26 @@ pub fn ask<C: Chooser>(choosers: &mut Vec<C>, unset: &[Var]) -> Pick
         };
     }
     choosers[0].pick(unset)
+}
+
+/// The choice of the plan where it makes one, else that of the chooser that serves.
+fn chosen<C: Chooser>(
+    plan: &mut Plan,
+    steps: u64,
+    search: &Search,
+    unset: &[Var],
+    choosers: &mut Vec<C>,
+) -> Pick
+    requires some { 0 < length unset.now }
+    requires ascending { Ascends unset.now }
+    ensures in_range { result.place < length unset.now }
+    ensures same { map C.told_lengths choosers.new.items ≡ map C.told_lengths choosers.old.items }
+    ensures count { vec_len choosers.new ≡ vec_len choosers.old }
+{
+    match plan.pick(steps, &search.assignment.values, unset) {
+        Some(pick) => pick,
+        None => ask(choosers, unset),
+    }
 }
 
 /// Begins a level with a literal that is chosen.
@@ -57,7 +78,14 @@ pub fn decide<C: Chooser>(
     if progress.unset.is_empty() {
         return Ok(false);
     }
-    let pick = ask(choosers, &progress.unset);
+    let steps = progress.known.log.len() as u64;
+    let pick = chosen(
+        &mut progress.plan,
+        steps,
+        &progress.search,
+        &progress.unset,
+        choosers,
+    );
     let var = progress.unset.remove(pick.place);
     let lit = Lit {
         var,

@@ -15,6 +15,7 @@ fn begin(progress: &mut Progress) -> Result<(), AllocError>
     ensures follows { OnOk result (Follows progress.old progress.new) }
     ensures kept { KeepsFormula progress.old progress.new }
 {
+    progress.plan.begin();
     if progress.conflict.is_none() {
         infer(progress)?;
     }

@@ -52,7 +52,8 @@ fn meet<C: Chooser>(
     match learn(progress, conflict)? {
         Taught::Goes => {
             progress.served = tell(choosers, served, &progress.lesson.lits)?;
-            if progress.served <= served {
+            let steps = progress.known.log.len() as u64;
+            if progress.plan.is_restart_due(steps) || progress.served <= served {
                 restart(progress);
             }
             Ok(None)

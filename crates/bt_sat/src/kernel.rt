@@ -6,6 +6,7 @@ ghost use Rattle.bt_sat.specs.Solving.{begun, log_of, IsLemmaOf, LacksMemory};
 ghost use Rattle.bt_sat.specs.inner.Kernels.{MayGoOn, stage_after};
 
 use crate::loading::load;
+use crate::plan::Plan;
 use crate::progress::Progress;
 use crate::solver::{Added, Answer};
 use crate::turns::{add, answer};
@@ -61,12 +62,17 @@ fn stage_of(answer: &Answer) -> Stage
 }
 
 impl Kernel {
-    /// A search that begins, with an empty log.
-    pub fn new(alloc: Global, formula: Formula, limit: u64) -> Result<Kernel, AllocError>
+    /// A search by a plan that begins, with an empty log.
+    pub fn new(
+        alloc: Global,
+        formula: Formula,
+        limit: u64,
+        plan: Plan,
+    ) -> Result<Kernel, AllocError>
         ensures { IfOk result (λ k. k ≡ begun formula limit) }
     {
         Ok(Kernel {
-            progress: load(alloc, formula, limit)?,
+            progress: load(alloc, formula, limit, plan)?,
             stage: Stage::Running,
         })
     }

@@ -12,6 +12,7 @@ use crate::analysis::Analysis;
 use crate::assignment::{Assignment, assign};
 use crate::known::Known;
 use crate::learning::Lesson;
+use crate::plan::Plan;
 use crate::progress::Progress;
 use crate::search::{Search, keep};
 use crate::truth::{Values, Worth, is_false, is_true};
@@ -185,8 +186,8 @@ fn no_lesson(alloc: Global, vars: usize) -> Result<Lesson, AllocError> {
     })
 }
 
-/// The search of a formula that begins, with an empty log that may have a limited number of steps.
-pub fn load(alloc: Global, formula: Formula, limit: u64) -> Result<Progress, AllocError>
+/// The search of a formula by a plan that begins, with an empty log that may have a limited number of steps.
+pub fn load(alloc: Global, formula: Formula, limit: u64, plan: Plan) -> Result<Progress, AllocError>
     ensures { IfOk result (IsLoaded formula limit) }
 {
     let mut search = empty_search(alloc, &formula)?;
@@ -198,6 +199,7 @@ pub fn load(alloc: Global, formula: Formula, limit: u64) -> Result<Progress, All
         search,
         lesson,
         unset: Vec::new(alloc),
+        plan,
         limit,
         served: 0,
         settled: 0,

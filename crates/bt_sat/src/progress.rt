@@ -4,6 +4,7 @@ ghost use Rattle.bt_sat.specs.inner.Progressing.{Infers, IsRunning, KeepsFormula
 
 use crate::known::Known;
 use crate::learning::{Lesson, adopt, prepare};
+use crate::plan::Plan;
 use crate::search::{Search, number_of, propagate};
 use bt_cnf::Var;
 use std::alloc::AllocError;
@@ -16,6 +17,8 @@ pub struct Progress {
     pub lesson: Lesson,
     /// The variables that have no value, in ascending order, while the search goes down.
     pub unset: Vec<Var>,
+    /// What is decided first.
+    pub plan: Plan,
     /// The most steps that the log may have.
     pub limit: u64,
     /// The number of steps since the epoch began.

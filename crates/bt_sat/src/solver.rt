@@ -5,6 +5,7 @@ ghost use Rattle.bt_sat.specs.Solving.{begun, log_of, IsLemmaOf, LacksMemory};
 ghost use Rattle.bt_sat.specs.declared.solver.TheConstants.{EPOCH_STEPS};
 
 use crate::kernel::Kernel;
+use crate::plan::Plan;
 use bt_cnf::{Chooser, Formula, Lit};
 use bt_frac::Frac;
 use bt_log::Log;
@@ -55,8 +56,24 @@ impl<C: Chooser> Solver<C> {
         ensures choosers { IfOk result
             (λ s. map C.told_lengths s.choosers.items ≡ map C.told_lengths choosers.items) }
     {
+        Solver::by_plan(alloc, formula, choosers, limit, Plan::new(alloc, 0))
+    }
+
+    /// A search that begins, with an empty log. Where a choice is due, the plan makes it where it can, and the choosers
+    /// are asked else. What is answered is right by any plan.
+    pub fn by_plan(
+        alloc: Global,
+        formula: Formula,
+        choosers: Vec<C>,
+        limit: u64,
+        plan: Plan,
+    ) -> Result<Solver<C>, AllocError>
+        ensures kernel { IfOk result (λ s. s.kernel ≡ begun formula limit) }
+        ensures choosers { IfOk result
+            (λ s. map C.told_lengths s.choosers.items ≡ map C.told_lengths choosers.items) }
+    {
         Ok(Solver {
-            kernel: Kernel::new(alloc, formula, limit)?,
+            kernel: Kernel::new(alloc, formula, limit, plan)?,
             choosers,
         })
     }

@@ -9,6 +9,7 @@ mod frac_delta;
 mod frac_row;
 mod lemmas;
 mod lin;
+mod plans;
 mod pool;
 mod sat;
 mod simplex;

@@ -14,8 +14,8 @@ pub begin_level-requires : goal.begin_level-requires
 begin_level-requires g c =
     let p = c.args.progress.now in
     let vars = p.unset.items in
-    let place = c.ask-pick.result.place in
-    let inside : place < length vars = subst (λ vs. place < length vs) c.deref.ensures.value c.ask-pick.ensures.in_range in
+    let place = c.chosen-pick.result.place in
+    let inside : place < length vars = subst (λ vs. place < length vs) c.deref.ensures.value c.chosen-pick.ensures.in_range in
     (c.requires.listed.are c.remove-var.result (place, inside, sym c.remove-var.ensures.value)).0
 
 pub returns-clause-decides : goal.returns-clause-decides
@@ -23,9 +23,9 @@ returns-clause-decides g c =
     let p = c.args.progress.now in
     let all = clauses_in p.known in
     let vars = p.unset.items in
-    let place = c.ask-pick.result.place in
-    let l : Lit = record { var = c.remove-var.result; positive = c.ask-pick.result.positive } in
-    let inside : place < length vars = subst (λ vs. place < length vs) c.deref.ensures.value c.ask-pick.ensures.in_range in
+    let place = c.chosen-pick.result.place in
+    let l : Lit = record { var = c.remove-var.result; positive = c.chosen-pick.result.positive } in
+    let inside : place < length vars = subst (λ vs. place < length vs) c.deref.ensures.value c.chosen-pick.ensures.in_range in
     let is = c.requires.listed.are c.remove-var.result (place, inside, sym c.remove-var.ensures.value) in
     let was : IsReady all p.settled p.search = subst (Stands all p.settled p.search) c.requires.none c.requires.running.stands in
     let left = c.remove-var.new.self.items in
