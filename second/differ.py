@@ -52,14 +52,18 @@ class Differ:
         theirs = theirs or self.run(words, data)
         if theirs is None:
             return
-        ours = check.run(mine or words, lambda most: data[:most], (files or {}).__getitem__)
+        self.hold(kind, mine or words, data, theirs, check.run(mine or words, lambda most: data[:most],
+                                                               (files or {}).__getitem__))
+
+    def hold(self, kind, words, data, theirs, ours):
+        """Counts one case, and prints where the two answers to it differ."""
         self.kinds[kind] += 1
         said = ours[1].split("\n")[0].split() if ours[0] > 1 else ours[1].split()[:1]
         said = [word for n, word in enumerate(said) if n < 2 or not word.isdigit()]
         self.answers[" ".join([str(ours[0]), *said])] += 1
         if ours != theirs:
             self.wrong += 1
-            print(f"difference {self.wrong} in {kind}, {' '.join(mine or words)}: {theirs} and {ours}", flush=True)
+            print(f"difference {self.wrong} in {kind}, {' '.join(words)}: {theirs} and {ours}", flush=True)
             if self.keep:
                 (self.keep / f"difference-{self.wrong}").write_bytes(data)
 
@@ -74,6 +78,17 @@ class Differ:
         if theirs and theirs[0] == 3:
             self.compare("decided", ["check", prop], design, theirs)
         return None
+
+    def formula(self, design, prop):
+        """The flow formula: the program's text, and that of the one that the checker builds."""
+        theirs = self.run(["formula", prop], design)
+        if theirs:
+            try:
+                net = check.read_design(design.decode("latin-1"), False, True)[0]
+                ours = 0, formula_text(net, check.flow_formula(net, prop))
+            except check.Answer as refused:
+                ours = refused.status, refused.text
+            self.hold("formula", ["formula", prop], design, theirs, ours)
 
     def laid(self, request, options, kind="laid"):
         """Has the program lay out, and the checker judge it; a blueprint, or a formula with a certificate."""
@@ -95,6 +110,18 @@ class Differ:
         """A certificate that there is no layout: the program over the request, the checker over the formula."""
         theirs = self.run(["check-layout", *options], request + certificate)
         self.compare("none", ["none", "formula"], certificate, theirs, None, {"formula": formula})
+
+
+def formula_text(net, formula):
+    """The text of a flow formula."""
+    columns = [*(f"f{e}" for e in range(len(net.edges))), *(f"c{i}" for _, i in net.ends("i")),
+               *(f"d{o}" for _, o in net.ends("o"))]
+    rows = [["c row", variable, relation, bound, *(f"{number}*{columns[column]}" for column, number in terms)]
+            for variable, (terms, relation, bound) in formula.rows.items()]
+    clauses = [[*clause, 0] for clause in formula.clauses]
+    lines = [["c block 1", len(net.edges), "mark edge"], *rows,
+             ["p cnf", formula.variables, len(clauses)], *clauses]
+    return "".join(" ".join(map(str, line)) + "\n" for line in lines)
 
 
 def mutant(chance, data):
@@ -391,6 +418,7 @@ def examples(differ, short):
     for name in list(designs)[::4 if short else 1]:
         design = min(designs[name], key=len)
         for prop in check.PROPERTIES if len(design) < (MUTATED if short else CHECKED) else ():
+            differ.formula(design, prop)
             certificate = differ.decided(design, prop)
             if certificate and len(certificate) <= MUTATED:
                 sources["certificate" if certificate[:3] == b"yes" else "state"].append((design, prop, certificate))
@@ -426,7 +454,9 @@ def mutants(differ, chance, sources, count):
         elif roll < 84:
             differ.compare("thrown blueprint", ["recover"], thrown_blueprint(chance))
         elif roll < 88:
-            differ.decided(thrown_net(chance), prop)
+            design = thrown_net(chance)
+            differ.formula(design, prop)
+            differ.decided(design, prop)
         elif roll < 92:
             design = thrown_net(chance)
             differ.compare("thrown certificate", ["check", prop], design + thrown_certificate(chance, design, prop))

@@ -5,3 +5,6 @@ pub mod Written
 pub mod Sizes
 pub mod Certified
 pub mod Answering
+mod Ranks
+pub mod Passed
+pub mod Passing

@@ -1,3 +1,6 @@
 pub mod Layouts
 pub mod Laws
+pub mod Grids
+pub mod Smallest
+pub mod SmallestText
 pub mod inner

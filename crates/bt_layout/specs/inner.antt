@@ -1,2 +1,4 @@
 -- Definitions that private functions alone cite.
 pub mod Ends
+pub mod Ranks
+pub mod Passing

@@ -1,5 +1,6 @@
-//! Laws of layouts, as the contracts of functions that do nothing.
+//! Laws of layouts and of least grids, as the contracts of functions that do nothing.
 ghost use Rattle.bt_layout.specs.Laws.{RefutedHasNoLayout, NowhereIsCertificate, LaidIsReadBack};
+ghost use Rattle.bt_layout.specs.Smallest.{PassedHasNoLayout};
 
 /// Where a log refutes the placement formula of a request, whoever wrote it, no parts lay the request.
 pub fn refuted_has_no_layout()
@@ -15,4 +16,9 @@ pub fn nowhere_is_certificate()
 /// What is written of parts that lay a request, as a blueprint, is read back as these parts.
 pub fn laid_is_read_back()
     ensures { LaidIsReadBack }
+{}
+
+/// No parts show the network on a grid before the one that a search names, or on any where it names none.
+pub fn passed_has_no_layout()
+    ensures { PassedHasNoLayout }
 {}

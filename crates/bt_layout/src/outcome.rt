@@ -1,6 +1,6 @@
-//! What a search for a layout of a request comes to.
+//! What a search for a layout of a request comes to, and a search for the least grid.
 use bt_log::Log;
-use bt_parts::Part;
+use bt_parts::{Part, Rect};
 
 /// What a search for a layout of a request comes to.
 #[derive(Drop)]
@@ -11,4 +11,33 @@ pub enum Layout {
     Nowhere(Log),
     /// The log has as many steps as it may, and one more is needed.
     Spent(Log),
+}
+
+/// A grid on which no parts show the network: the log refutes the placement formula.
+#[derive(Drop)]
+pub struct RuledOut {
+    pub grid: Rect,
+    pub log: Log,
+}
+
+/// What a search for the least grid comes to. `earlier` are the grids that were searched before it, in the
+/// order of grids.
+#[derive(Drop)]
+pub enum Smallest {
+    /// The parts show the network on this grid, and on no grid before it do any. They come in ascending
+    /// order of y and then x of their cells.
+    Found {
+        earlier: Vec<RuledOut>,
+        grid: Rect,
+        parts: Vec<Part>,
+    },
+    /// On no grid do any parts show the network.
+    Nowhere(Vec<RuledOut>),
+    /// On no grid before this one do any parts show the network. The log of its search has as many steps
+    /// as it may, and one more is needed.
+    Spent {
+        earlier: Vec<RuledOut>,
+        grid: Rect,
+        log: Log,
+    },
 }

@@ -5,7 +5,7 @@ use Rattle.bt_io.specs.Passages.{Passage}
 use Rattle.bt_io.specs.declared.fault.ReadAll.TheVariants.{TooLong, Memory}
 use Rattle.bt_io.proofs.Told.{all_told, takes_told}
 use Rattle.bt_words.specs.declared.command.Command.{Command}
-use Rattle.bt_words.specs.declared.command.Command.TheVariants.{FlowCheck, Recover, Check, Decide, Make, Layout, CheckLayout}
+use Rattle.bt_words.specs.declared.command.Command.TheVariants.{FlowCheck, Recover, Check, Decide, Make, Layout, CheckLayout, Smallest, FlowFormula, PlaceFormula}
 use Rattle.bt_top.specs.Inputs.{ReadsInput, IsInput, input_limit}
 
 read_before_in : (limit : ℕ) (source : Passage) (bytes : List ℕ) → ReadsAll limit source (Ok bytes) → ReadsAll limit source (Err Memory)
@@ -20,6 +20,9 @@ read_before (Decide p limits) source bytes h = read_before_in (input_limit (Deci
 read_before (Make family order limits) source bytes h = h.0
 read_before (Layout rect tier learnt) source bytes h = read_before_in (input_limit (Layout rect tier learnt)) source bytes h
 read_before (CheckLayout rect tier) source bytes h = read_before_in (input_limit (CheckLayout rect tier)) source bytes h
+read_before (Smallest most tier learnt) source bytes h = read_before_in (input_limit (Smallest most tier learnt)) source bytes h
+read_before (FlowFormula p) source bytes h = read_before_in (input_limit (FlowFormula p)) source bytes h
+read_before (PlaceFormula rect tier) source bytes h = read_before_in (input_limit (PlaceFormula rect tier)) source bytes h
 
 told_in : (limit : ℕ) (source : Passage) (bytes all : List ℕ) → source.before ≡ Some bytes → ReadsAll limit source (Ok all) → all ≡ bytes
 told_in limit source bytes all is r = all_told source bytes all is r.read.0
@@ -33,6 +36,9 @@ input_told (Decide p limits) source bytes all is r = told_in (input_limit (Decid
 input_told (Make family order limits) source bytes all is r = r.1 ∙ sym is
 input_told (Layout rect tier learnt) source bytes all is r = told_in (input_limit (Layout rect tier learnt)) source bytes all is.0 r
 input_told (CheckLayout rect tier) source bytes all is r = told_in (input_limit (CheckLayout rect tier)) source bytes all is.0 r
+input_told (Smallest most tier learnt) source bytes all is r = told_in (input_limit (Smallest most tier learnt)) source bytes all is.0 r
+input_told (FlowFormula p) source bytes all is r = told_in (input_limit (FlowFormula p)) source bytes all is.0 r
+input_told (PlaceFormula rect tier) source bytes all is r = told_in (input_limit (PlaceFormula rect tier)) source bytes all is.0 r
 
 few_in : (limit : ℕ) (source : Passage) (bytes : List ℕ) → source.before ≡ Some bytes → length bytes ≤ limit → ReadsAll limit source (Err TooLong) → ⊥
 few_in limit source bytes is few r =
@@ -47,6 +53,9 @@ not_too_long (Decide p limits) source bytes is r = few_in (input_limit (Decide p
 not_too_long (Make family order limits) source bytes is r = r
 not_too_long (Layout rect tier learnt) source bytes is r = few_in (input_limit (Layout rect tier learnt)) source bytes is.0 is.1 r
 not_too_long (CheckLayout rect tier) source bytes is r = few_in (input_limit (CheckLayout rect tier)) source bytes is.0 is.1 r
+not_too_long (Smallest most tier learnt) source bytes is r = few_in (input_limit (Smallest most tier learnt)) source bytes is.0 is.1 r
+not_too_long (FlowFormula p) source bytes is r = few_in (input_limit (FlowFormula p)) source bytes is.0 is.1 r
+not_too_long (PlaceFormula rect tier) source bytes is r = few_in (input_limit (PlaceFormula rect tier)) source bytes is.0 is.1 r
 
 within_in : (limit : ℕ) (source : Passage) (bytes : List ℕ) → ReadsAll limit source (Ok bytes) → length bytes ≤ limit
 within_in limit source bytes r = r.read.1
@@ -60,3 +69,6 @@ within_limit (Decide p limits) source bytes r = within_in (input_limit (Decide p
 within_limit (Make family order limits) source bytes r = subst (λ xs. length xs ≤ 0) (sym r.1) (omega arith)
 within_limit (Layout rect tier learnt) source bytes r = within_in (input_limit (Layout rect tier learnt)) source bytes r
 within_limit (CheckLayout rect tier) source bytes r = within_in (input_limit (CheckLayout rect tier)) source bytes r
+within_limit (Smallest most tier learnt) source bytes r = within_in (input_limit (Smallest most tier learnt)) source bytes r
+within_limit (FlowFormula p) source bytes r = within_in (input_limit (FlowFormula p)) source bytes r
+within_limit (PlaceFormula rect tier) source bytes r = within_in (input_limit (PlaceFormula rect tier)) source bytes r

@@ -15,6 +15,8 @@ pub mod OneRequest
 pub mod NoneCertified
 pub mod Grids
 pub mod LaidOut
+pub mod LeastFound
+pub mod Formed
 pub mod Lasting
 pub mod Fronts
 pub mod FlowFronts

@@ -19,7 +19,7 @@ use Rattle.bt_flow.proofs.OneAnswer.{one_breaking_answer}
 use Rattle.bt_flow.proofs.StateTexts.{one_state_read}
 use Rattle.bt_top.specs.declared.answer.Answer.{Answer}
 use Rattle.bt_top.specs.declared.answer.Answer.TheVariants as answer
-use Rattle.bt_words.specs.declared.command.Command.TheVariants.{FlowCheck, Recover, Check, Decide, Make, Layout, CheckLayout}
+use Rattle.bt_words.specs.declared.command.Command.TheVariants.{FlowCheck, Recover, Check, Decide, Make, Layout, CheckLayout, Smallest, FlowFormula, PlaceFormula}
 use Rattle.bt_words.specs.declared.command.Family.TheVariants.{Butterfly, Chain}
 use Rattle.bt_theory.specs.declared.outcome.GaveUp.{GaveUp}
 use Rattle.bt_theory.specs.declared.outcome.GaveUp.TheVariants as gave
@@ -27,6 +27,8 @@ use Rattle.bt_decide.specs.declared.verdict.Verdict.{Verdict}
 use Rattle.bt_decide.specs.declared.verdict.Verdict.TheVariants as verdict
 use Rattle.bt_layout.specs.declared.outcome.Layout.{Layout as ALayout}
 use Rattle.bt_layout.specs.declared.outcome.Layout.TheVariants as layout
+use Rattle.bt_layout.specs.declared.outcome.Smallest.{Smallest as ASmallest}
+use Rattle.bt_layout.specs.declared.outcome.Smallest.TheVariants as smallest
 use Rattle.bt_gen.specs.declared.butterflies.TheConstants.{MOST_STAGES}
 use Rattle.bt_gen.specs.declared.chains.TheConstants.{MOST_IN_CHAIN}
 use Rattle.bt_gen.specs.Butterfly.{butterfly_net}
@@ -39,10 +41,12 @@ use Rattle.bt_top.specs.Alone.{IsLoneNet}
 use Rattle.bt_top.specs.Answering.{OneRightAnswer}
 use Rattle.bt_top.specs.Answers.{status_of}
 use Rattle.bt_top.specs.Deciding.{IsDecided, verdict_told}
+use Rattle.bt_top.specs.Formulas.{IsFlowFormulaFrom, IsPlaceFormulaFrom}
 use Rattle.bt_top.specs.LayingOut.{IsLaidOut, layout_told}
 use Rattle.bt_top.specs.Making.{IsSaidBalanced, IsBalanceDecided, balance_told, gen_told}
 use Rattle.bt_top.specs.NoneCertificates.{IsNoneChecked, IsNoneTextChecked, IsNoneCertificateChecked, IsLayoutChecked}
 use Rattle.bt_top.specs.Recovering.{IsRecoveredFrom}
+use Rattle.bt_top.specs.Searching.{IsPlainRequest, IsSearched}
 use Rattle.bt_top.specs.Requested.{IsFrontRequest, IsLoneRequest}
 use Rattle.bt_top.specs.Replies.{Reply, design_told}
 use Rattle.bt_top.specs.States.{verdict, state_told, IsJudged, IsStateJudged, IsStateChecked, IsChecked}
@@ -50,7 +54,7 @@ use Rattle.bt_top.specs.Steps.{InTurn, stopped, went_on}
 use Rattle.bt_top.proofs.Blanks.{one_rest}
 use Rattle.bt_top.proofs.InTurns.{one_in_turn, one_in_turn_of, same_value, same_fault, not_both}
 use Rattle.bt_top.proofs.OneDesign.{one_design, design_network}
-use Rattle.bt_top.proofs.OneRequest.{one_front_request, one_lone_request, front_request}
+use Rattle.bt_top.proofs.OneRequest.{one_front_request, one_lone_request, one_plain_request, front_request}
 use Rattle.bt_top.proofs.StandingAlone.{one_alone}
 
 -- ---- flow-check
@@ -124,6 +128,14 @@ one_layout_checked rect tier bytes =
     one_in_turn_of (IsFrontRequest rect tier bytes) design_told _ (one_front_request rect tier bytes)
     (λ found is. one_none_certificate found.0 (front_request rect tier bytes found is) (drop found.1 bytes))
 
+-- ---- formula
+
+one_flow_formula : (p : Property) (bytes : List ℕ) → HasOneAnswer (IsFlowFormulaFrom p bytes)
+one_flow_formula p bytes = one_in_turn (IsLoneNet bytes) design_told _ (one_lone_net bytes) (λ n a b h k. h ∙ sym k)
+
+one_place_formula : (rect : Rect) (tier : Tier) (bytes : List ℕ) → HasOneAnswer (IsPlaceFormulaFrom rect tier bytes)
+one_place_formula rect tier bytes = one_in_turn (IsLoneRequest rect tier bytes) design_told _ (one_lone_request rect tier bytes) (λ r a b h k. h ∙ sym k)
+
 -- ---- what is refused
 
 -- where the first of two steps has one answer, and no answer of the second is a refusal, a refusal is the one answer
@@ -158,6 +170,11 @@ layout_apart (layout.Found parts) is = omega (arith, is)
 layout_apart (layout.Nowhere log) is = omega (arith, is)
 layout_apart (layout.Spent log) is = omega (arith, is)
 
+least_apart : (found : ASmallest) → status_of (answer.Least found) ≢ 3
+least_apart (smallest.Found earlier grid parts) is = omega (arith, is)
+least_apart (smallest.Nowhere earlier) is = omega (arith, is)
+least_apart (smallest.Spent earlier grid log) is = omega (arith, is)
+
 -- ---- make
 
 one_butterfly : (order : ℕ) → HasOneAnswer (InTurn (IsGenerated MOST_STAGES butterfly_net order) gen_told (IsSaidBalanced order))
@@ -179,3 +196,7 @@ only_right (Make Chain order limits) bytes a b only h k =
 only_right (Layout rect tier learnt) bytes a b only h k =
     refused_only (IsLoneRequest rect tier bytes) design_told (IsLaidOut learnt) (one_lone_request rect tier bytes) (λ r c d. apart c (layout_told d.0) d.3 (layout_apart d.0)) a b only h k
 only_right (CheckLayout rect tier) bytes a b only h k = same_value a b (one_layout_checked rect tier bytes (Ok a) (Ok b) h k)
+only_right (Smallest most tier learnt) bytes a b only h k =
+    refused_only (IsPlainRequest most tier bytes) design_told (IsSearched learnt) (one_plain_request most tier bytes) (λ r c d. apart c (answer.Least d.0) d.3 (least_apart d.0)) a b only h k
+only_right (FlowFormula p) bytes a b only h k = same_value a b (one_flow_formula p bytes (Ok a) (Ok b) h k)
+only_right (PlaceFormula rect tier) bytes a b only h k = same_value a b (one_place_formula rect tier bytes (Ok a) (Ok b) h k)

@@ -34,7 +34,8 @@ pub one_json_design : (bytes : List ℕ) → HasOneAnswer (IsJsonDesign bytes)
 one_json_design bytes = one_in_turn (IsRead bytes) _ _ (one_read bytes)
     (λ read a b h k. h.2 ∙ ap (seen (λ n. (n, read.1))) (one_blueprint_net read.0 h.0 k.0 h.1 k.1) ∙ sym k.2)
 
-one_text_design : (bytes : List ℕ) → HasOneAnswer (IsTextDesign bytes)
+-- two right answers to network text are equal
+pub one_text_design : (bytes : List ℕ) → HasOneAnswer (IsTextDesign bytes)
 one_text_design bytes = one_in_turn (IsPlainRead bytes) _ _ (one_plain bytes) (λ read a b h k. h ∙ sym k)
 
 -- two right answers to the bytes of a design are equal

@@ -1,20 +1,24 @@
 -- Bytes have one request at their front, or one refusal.
-use Rattle.std.proofs.Common.{◌≡◌, ℕ, List, Result, Ok, Err, inl, inr, refl, ap, sym, subst, ◌∙◌}
+use Rattle.std.proofs.Common.{◌≡◌, ℕ, List, [], Result, Ok, Err, inl, inr, refl, ap, sym, subst, ◌∙◌}
 use Rattle.bt_answers.specs.Answers.{HasOneAnswer, seen}
 use Rattle.bt_parts.specs.declared.part.Rect.{Rect}
 use Rattle.bt_parts.specs.declared.part.Tier.{Tier}
+use Rattle.bt_net.specs.Network.{Network}
 use Rattle.bt_net.specs.Readings.{IsNetRead}
 use Rattle.bt_net.proofs.OneReading.{one_read}
 use Rattle.bt_model.specs.Requests.{LayoutRequest, IsRequest, request_of}
 use Rattle.bt_model.specs.RequestFaults.{IsMade}
 use Rattle.bt_model.proofs.Requested.{one_made}
+use Rattle.bt_layout.specs.Smallest.{request_on}
 use Rattle.bt_top.specs.declared.fault.DesignFault.{DesignFault}
 use Rattle.bt_top.specs.Alone.{IsAlone}
-use Rattle.bt_top.specs.Designs.{IsJsonDesign}
-use Rattle.bt_top.specs.Requested.{PinnedNet, IsPinnedText, IsPinnedJson, IsPinned, IsRequestFor, IsLoneRequest, IsFrontRequest}
+use Rattle.bt_top.specs.Designs.{IsJsonDesign, IsTextDesign}
+use Rattle.bt_top.specs.Refusals.{request_told}
+use Rattle.bt_top.specs.Requested.{PinnedNet, pinned_net, IsPinnedText, IsPinnedJson, IsPinned, IsRequestFor, IsLoneRequest, IsFrontRequest}
+use Rattle.bt_top.specs.Searching.{IsPlainRequest, IsPlainText, IsUnpreferring}
 use Rattle.bt_top.specs.Steps.{stopped, went_on}
 use Rattle.bt_top.proofs.InTurns.{one_in_turn, same_value, not_both}
-use Rattle.bt_top.proofs.OneDesign.{one_json_design, seen_ok}
+use Rattle.bt_top.proofs.OneDesign.{one_json_design, one_text_design, seen_ok}
 use Rattle.bt_top.proofs.StandingAlone.{one_alone}
 
 one_pinned_text : (bytes : List ℕ) → HasOneAnswer (IsPinnedText bytes)
@@ -42,6 +46,20 @@ one_front_request rect tier bytes = one_in_turn (IsPinned bytes) Err _ (one_pinn
 pub one_lone_request : (rect : Rect) (tier : Tier) (bytes : List ℕ) → HasOneAnswer (IsLoneRequest rect tier bytes)
 one_lone_request rect tier bytes = one_in_turn (IsAlone IsPinned bytes) Err (IsRequestFor rect tier) (one_alone IsPinned bytes (one_pinned bytes)) (one_request_for rect tier)
 
+one_unpreferring : (n : Network) → HasOneAnswer (IsUnpreferring n)
+one_unpreferring n a b (inl h) (inl k) = h.1 ∙ sym k.1
+one_unpreferring n a b (inl h) (inr k) = absurd (k.0 h.0)
+one_unpreferring n a b (inr h) (inl k) = absurd (h.0 k.0)
+one_unpreferring n a b (inr h) (inr k) = h.1 ∙ sym k.1
+
+one_plain_text : (bytes : List ℕ) → HasOneAnswer (IsPlainText bytes)
+one_plain_text bytes = one_in_turn (IsAlone IsTextDesign bytes) Err IsUnpreferring (one_alone IsTextDesign bytes (one_text_design bytes)) one_unpreferring
+
+-- and of a request for a network text alone
+pub one_plain_request : (most : Rect) (tier : Tier) (bytes : List ℕ) → HasOneAnswer (IsPlainRequest most tier bytes)
+one_plain_request most tier bytes =
+    one_in_turn (IsPlainText bytes) Err (λ n. IsRequestFor most tier (pinned_net n [] [])) (one_plain_text bytes) (λ n. one_request_for most tier (pinned_net n [] []))
+
 -- ---- what is found is a request
 
 pub request_made : (rect : Rect) (tier : Tier) (n : PinnedNet) (answer : Result LayoutRequest DesignFault) (r : LayoutRequest) → answer ≡ Ok r
@@ -59,3 +77,17 @@ front_made rect tier bytes answer found is (went_on pinned h k) =
 -- what is found at the front is a request
 pub front_request : (rect : Rect) (tier : Tier) (bytes : List ℕ) (found : LayoutRequest × ℕ) → IsFrontRequest rect tier bytes (Ok found) → IsRequest found.0
 front_request rect tier bytes found h = front_made rect tier bytes (Ok found) found refl h
+
+-- what a network text is found to ask for names neither pins nor blocks
+pub plain_request : (most : Rect) (tier : Tier) (bytes : List ℕ) (r : LayoutRequest) → IsPlainRequest most tier bytes (Ok r) → IsRequest (request_on r.net r.tier r.rect)
+plain_request most tier bytes r (stopped fault h e) = absurd (not_both r fault e)
+plain_request most tier bytes r (went_on n h (stopped fault k e)) = absurd (not_both r (request_told fault) e)
+plain_request most tier bytes r (went_on n h (went_on made k e)) =
+    let same : r ≡ request_on n tier most = same_value r made e ∙ k.0 in
+    subst (λ (x : LayoutRequest). IsRequest (request_on x.net x.tier x.rect)) (sym same) (subst IsRequest k.0 k.1)
+
+-- and it is asked for on the greatest grid
+pub plain_rect : (most : Rect) (tier : Tier) (bytes : List ℕ) (r : LayoutRequest) → IsPlainRequest most tier bytes (Ok r) → r.rect ≡ most
+plain_rect most tier bytes r (stopped fault h e) = absurd (not_both r fault e)
+plain_rect most tier bytes r (went_on n h (stopped fault k e)) = absurd (not_both r (request_told fault) e)
+plain_rect most tier bytes r (went_on n h (went_on made k e)) = ap (λ (x : LayoutRequest). x.rect) (same_value r made e ∙ k.0)

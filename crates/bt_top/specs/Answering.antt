@@ -1,17 +1,19 @@
 -- What a command answers to the bytes of its input.
 use Rattle.std.specs.Prelude.{◌≡◌, ℕ, List, Ok}
 use Rattle.bt_words.specs.declared.command.Command.{Command}
-use Rattle.bt_words.specs.declared.command.Command.TheVariants.{FlowCheck, Recover, Check, Decide, Make, Layout, CheckLayout}
+use Rattle.bt_words.specs.declared.command.Command.TheVariants.{FlowCheck, Recover, Check, Decide, Make, Layout, CheckLayout, Smallest, FlowFormula, PlaceFormula}
 use Rattle.bt_words.specs.declared.command.Family.TheVariants.{Butterfly, Chain}
 use Rattle.bt_top.specs.declared.answer.Answer.{Answer}
 use Rattle.bt_top.specs.Answers.{status_of}
 use Rattle.bt_top.specs.Certificates.{IsCertified}
 use Rattle.bt_top.specs.Deciding.{IsDecidedFrom}
+use Rattle.bt_top.specs.Formulas.{IsFlowFormulaFrom, IsPlaceFormulaFrom}
 use Rattle.bt_top.specs.LayingOut.{IsLaidOutFrom}
 use Rattle.bt_top.specs.Making.{IsMade}
 use Rattle.bt_top.specs.NoneCertificates.{IsLayoutChecked}
 use Rattle.bt_top.specs.Recovering.{IsRecoveredFrom}
 use Rattle.bt_top.specs.Replies.{Reply}
+use Rattle.bt_top.specs.Searching.{IsSearchedFrom}
 use Rattle.bt_top.specs.States.{IsChecked}
 
 -- what a command answers to bytes that are its whole input
@@ -23,8 +25,11 @@ IsRightTo (Decide p limits) bytes = IsDecidedFrom p limits bytes
 IsRightTo (Make family order limits) bytes = IsMade family order limits
 IsRightTo (Layout rect tier learnt) bytes = IsLaidOutFrom rect tier learnt bytes
 IsRightTo (CheckLayout rect tier) bytes = IsLayoutChecked rect tier bytes
+IsRightTo (Smallest most tier learnt) bytes = IsSearchedFrom most tier learnt bytes
+IsRightTo (FlowFormula p) bytes = IsFlowFormulaFrom p bytes
+IsRightTo (PlaceFormula rect tier) bytes = IsPlaceFormulaFrom rect tier bytes
 
--- where it is right, it is the one right answer: what is refused has no other answer, and of most commands nothing has; of `decide`, `make` of a chain and `layout` others may be right, with other evidence
+-- where it is right, it is the one right answer: what is refused has no other answer, and of most commands nothing has; of `decide`, `make` of a chain, `layout` and `smallest` others may be right, with other evidence
 abbrev pub IsOnly : Command → Answer → Type 0
 IsOnly (FlowCheck p) a = Unit {0}
 IsOnly Recover a = Unit {0}
@@ -34,6 +39,9 @@ IsOnly (Make Butterfly order limits) a = Unit {0}
 IsOnly (Make Chain order limits) a = status_of a ≡ 3
 IsOnly (Layout rect tier learnt) a = status_of a ≡ 3
 IsOnly (CheckLayout rect tier) a = Unit {0}
+IsOnly (Smallest most tier learnt) a = status_of a ≡ 3
+IsOnly (FlowFormula p) a = Unit {0}
+IsOnly (PlaceFormula rect tier) a = Unit {0}
 
 -- an answer that is the one right answer is equal to each right answer
 abbrev pub OneRightAnswer : Type 0

@@ -10,13 +10,18 @@ use Rattle.bt_log.specs.Logs.{Step}
 use Rattle.bt_log.specs.LogText.{log_text}
 use Rattle.bt_theory.specs.declared.outcome.GaveUp as gave
 use Rattle.bt_theory.specs.declared.outcome.GaveUp.TheVariants.{Spent, Pivots, Wide}
+use Rattle.bt_layout.specs.declared.outcome.Smallest as smallest
+use Rattle.bt_layout.specs.declared.outcome.Smallest.TheVariants.{Found, Nowhere as NoGrid, Spent as SpentOn}
+use Rattle.bt_layout.specs.SmallestText.{smallest_text}
+pub use Rattle.bt_layout.specs.SmallestText.{none_word, nowhere_text}
+use Rattle.bt_dimacs.specs.Legends.{flow_formula_text, place_formula_text}
 use Rattle.bt_trail.specs.TrailText.{pivots_text, wide_text}
 use Rattle.bt_write.specs.Written.{blueprint_text}
 use Rattle.bt_words.specs.declared.command.Family.{Family}
 use Rattle.bt_words.specs.declared.command.Family.TheVariants.{Butterfly, Chain}
 use Rattle.bt_top.specs.declared.making.Made as making
 use Rattle.bt_top.specs.declared.answer.Answer.{Answer}
-use Rattle.bt_top.specs.declared.answer.Answer.TheVariants.{Breaks, Yes, No, Recovered, Proved, Broken, GaveUp, Made, LaidOut, Nowhere, NoLayout, Usage, Refused, WideState, CertLine, BadStep, NoVerdict, CertWide, NotBreaking, TooLong}
+use Rattle.bt_top.specs.declared.answer.Answer.TheVariants.{Breaks, Yes, No, Recovered, Proved, Broken, GaveUp, Made, LaidOut, Nowhere, NoLayout, Least, Usage, Refused, WideState, CertLine, BadStep, NoVerdict, CertWide, NotBreaking, TooLong, FlowFormula, PlaceFormula}
 use Rattle.bt_top.specs.Refusals.{refusal_text}
 
 -- the status of a network that was made: 0 where it is balanced, and 1 where it isn't
@@ -28,6 +33,12 @@ abbrev pub gave_up_status : gave.GaveUp → ℕ
 gave_up_status (Spent log) = 4
 gave_up_status (Wide wide) = 5
 gave_up_status (Pivots trail) = 10
+
+-- the status of a search for the least grid: 0 where there is one, 1 where there is none, 4 where it was given up
+abbrev pub least_status : smallest.Smallest → ℕ
+least_status (Found earlier grid parts) = 0
+least_status (NoGrid earlier) = 1
+least_status (SpentOn earlier grid log) = 4
 
 -- the status of an answer
 abbrev pub status_of : Answer → ℕ
@@ -42,6 +53,7 @@ status_of (Made made) = made_status made
 status_of (LaidOut parts) = 0
 status_of (Nowhere log) = 1
 status_of NoLayout = 1
+status_of (Least found) = least_status found
 status_of Usage = 2
 status_of (Refused r) = 3
 status_of (WideState t a) = 5
@@ -51,6 +63,8 @@ status_of NoVerdict = 9
 status_of (CertWide k row column) = 9
 status_of (NotBreaking t a) = 9
 status_of TooLong = 11
+status_of (FlowFormula columns f) = 0
+status_of (PlaceFormula starts f) = 0
 
 -- the word for why a step isn't valid
 abbrev pub cause_name : Cause → List ℕ
@@ -89,14 +103,6 @@ gave_up_text (Spent log) = spent_text log.steps
 gave_up_text (Wide wide) = wide_text wide
 gave_up_text (Pivots trail) = pivots_text trail
 
--- the word of a certificate that no layout lays a request
-abbrev pub none_word : List ℕ
-none_word = codes "none"
-
--- the none certificate: `none`, and the steps of the log
-abbrev pub nowhere_text : List Step → List ℕ
-nowhere_text steps = line none_word ++ log_text steps
-
 -- the text of an answer
 abbrev pub text_of : Answer → List ℕ
 text_of (Breaks p) = line (codes "breaks " ++ property_name p)
@@ -110,6 +116,7 @@ text_of (Made made) = made_text made
 text_of (LaidOut parts) = blueprint_text parts.items
 text_of (Nowhere log) = nowhere_text log.steps
 text_of NoLayout = line none_word
+text_of (Least found) = smallest_text found
 text_of Usage = line (codes "usage")
 text_of (Refused r) = line (codes "refused " ++ refusal_text r)
 text_of (WideState t a) = line (codes "wide state " ++ test_name t ++ codes " " ++ decimal a)
@@ -119,3 +126,5 @@ text_of NoVerdict = line (codes "refused 52 NoVerdict")
 text_of (CertWide k row column) = line (codes "refused 53 CertWide " ++ decimal k ++ codes " " ++ decimal row ++ codes " " ++ decimal column)
 text_of (NotBreaking t a) = line (codes "refused 54 NotBreaking " ++ test_name t ++ codes " " ++ decimal a)
 text_of TooLong = line (codes "too long")
+text_of (FlowFormula columns f) = flow_formula_text columns f
+text_of (PlaceFormula starts f) = place_formula_text starts f

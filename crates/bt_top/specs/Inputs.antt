@@ -5,7 +5,7 @@ use Rattle.bt_io.specs.Passages.{Passage}
 use Rattle.bt_io.specs.declared.fault.ReadAll.{ReadAll}
 use Rattle.bt_io.specs.declared.fault.ReadAll.TheVariants.{ReadFault, TooLong, Memory}
 use Rattle.bt_words.specs.declared.command.Command.{Command}
-use Rattle.bt_words.specs.declared.command.Command.TheVariants.{FlowCheck, Recover, Check, Decide, Make, Layout, CheckLayout}
+use Rattle.bt_words.specs.declared.command.Command.TheVariants.{FlowCheck, Recover, Check, Decide, Make, Layout, CheckLayout, Smallest, FlowFormula, PlaceFormula}
 use Rattle.bt_words.specs.Commands.{IsCommand}
 use Rattle.bt_top.specs.declared.input.TheConstants.{MOST_CHECKED, MOST_OF_DESIGN}
 
@@ -22,6 +22,9 @@ input_limit (Decide p limits) = MOST_OF_DESIGN
 input_limit (Make family order limits) = 0
 input_limit (Layout rect tier learnt) = MOST_OF_DESIGN
 input_limit (CheckLayout rect tier) = MOST_CHECKED
+input_limit (Smallest most tier learnt) = MOST_OF_DESIGN
+input_limit (FlowFormula p) = MOST_OF_DESIGN
+input_limit (PlaceFormula rect tier) = MOST_OF_DESIGN
 
 -- `make` reads nothing
 abbrev pub ReadsNothing : Command → Type 0

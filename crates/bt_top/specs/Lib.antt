@@ -12,7 +12,9 @@ pub mod Deciding
 pub mod Making
 pub mod Requested
 pub mod LayingOut
+pub mod Searching
 pub mod NoneCertificates
+pub mod Formulas
 pub mod Answering
 pub mod Endings
 pub mod Longer

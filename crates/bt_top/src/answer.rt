@@ -1,16 +1,20 @@
 //! The answers of the program. Each has a status and a text.
 ghost use Rattle.std.specs.Prelude.{◌≡◌};
-ghost use Rattle.bt_top.specs.Answers.{gave_up_status, status_of};
+ghost use Rattle.bt_top.specs.Answers.{gave_up_status, least_status, status_of};
 ghost use Rattle.bt_top.specs.Replies.{design_told};
 
 use crate::fault::DesignFault;
 use crate::making::Made;
 use crate::refusal::Refusal;
 use bt_cert::Cause;
+use bt_cnf::Formula;
+use bt_dimacs::Columns;
 use bt_flow::{Property, State, Test};
+use bt_layout::Smallest;
 use bt_log::Log;
 use bt_net::Net;
 use bt_parts::Part;
+use bt_place::Starts;
 use bt_theory::GaveUp;
 use std::alloc::AllocError;
 
@@ -39,6 +43,8 @@ pub enum Answer {
     Nowhere(Log),
     /// The certificate shows that no parts lay the request.
     NoLayout,
+    /// What a search for the least grid on which parts show a network comes to.
+    Least(Smallest),
     /// The words are no command.
     Usage,
     /// The design is refused.
@@ -57,6 +63,10 @@ pub enum Answer {
     NotBreaking(Test, usize),
     /// The input is longer than the command reads.
     TooLong,
+    /// The flow formula of the design's network and a property.
+    FlowFormula(Columns, Formula),
+    /// The placement formula of the request, and where the blocks of its variables begin.
+    PlaceFormula(Starts, Formula),
 }
 
 impl Answer {
@@ -69,9 +79,12 @@ impl Answer {
             | Answer::Yes(_)
             | Answer::Recovered(_)
             | Answer::Proved(..)
-            | Answer::LaidOut(_) => 0,
+            | Answer::LaidOut(_)
+            | Answer::FlowFormula(..)
+            | Answer::PlaceFormula(..) => 0,
             Answer::No(_) | Answer::Broken(..) | Answer::Nowhere(_) | Answer::NoLayout => 1,
             Answer::Made(made) => made.status(),
+            Answer::Least(found) => least_status(found),
             Answer::Usage => 2,
             Answer::Refused(_) => 3,
             Answer::GaveUp(cause) => gave_up_status(cause),
@@ -83,6 +96,17 @@ impl Answer {
             | Answer::NotBreaking(..) => 9,
             Answer::TooLong => 11,
         }
+    }
+}
+
+/// The status of a search for the least grid.
+fn least_status(found: &Smallest) -> u8
+    ensures { result ≡ least_status found.now }
+{
+    match found {
+        Smallest::Found { .. } => 0,
+        Smallest::Nowhere(_) => 1,
+        Smallest::Spent { .. } => 4,
     }
 }
 

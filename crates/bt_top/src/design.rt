@@ -55,7 +55,7 @@ pub fn read_design(alloc: Global, bytes: &[u8]) -> Result<Design, DesignFault>
 }
 
 /// The design whose network text stands at the front of the bytes.
-fn read_text(alloc: Global, bytes: &[u8]) -> Result<Design, DesignFault>
+pub fn read_text(alloc: Global, bytes: &[u8]) -> Result<Design, DesignFault>
     ensures design { UnlessMemory DesignFault.Memory (IsTextDesign bytes.now) (seen net_and_used result) }
     ensures within { IfOk result (λ design. design.used ≤ length bytes.now) }
 {

@@ -21,7 +21,12 @@ fn input_limit(command: Command) -> usize
 {
     match command {
         Command::FlowCheck(_) | Command::Check(_) | Command::CheckLayout(..) => MOST_CHECKED,
-        Command::Recover | Command::Decide(..) | Command::Layout(..) => MOST_OF_DESIGN,
+        Command::Recover
+        | Command::Decide(..)
+        | Command::Layout(..)
+        | Command::Smallest(..)
+        | Command::FlowFormula(_)
+        | Command::PlaceFormula(..) => MOST_OF_DESIGN,
         Command::Make(..) => 0,
     }
 }

@@ -1,8 +1,8 @@
 //! All that the program does, over words, a source of bytes and a sink of bytes.
 //!
 //! `program` reads the words and the source and writes the answer; `design`, `alone`, `request`, `flow_check`,
-//! `certificate`, `recover`, `decision`, `making`, `laying` and `none_certificate` find the answer to an
-//! input that is read whole, and `blocks` that of `check` and `check-layout` as the input is read, by what
+//! `certificate`, `recover`, `decision`, `making`, `laying`, `least`, `none_certificate` and `formula` find the answer to
+//! an input that is read whole, and `blocks` that of `check` and `check-layout` as the input is read, by what
 //! `flow_front` and `layout_front` tell of its front; `text` and `printing` write it.
 #![tactic(auto)]
 
@@ -17,11 +17,13 @@ mod design;
 mod fault;
 mod flow_check;
 mod flow_front;
+mod formula;
 mod front;
 mod input;
 mod law;
 mod laying;
 mod layout_front;
+mod least;
 mod making;
 mod none_certificate;
 mod printing;

@@ -8,7 +8,7 @@ ghost use Rattle.bt_top.specs.Inputs.{IsUnread, ReadsNothing, input_limit};
 ghost use Rattle.bt_top.specs.Answering.{IsRightTo};
 ghost use Rattle.bt_top.specs.Endings.{Ends, status_after};
 ghost use Rattle.bt_top.specs.inner.Grids.{HasGrid};
-ghost use Rattle.bt_top.specs.inner.Lines.{IsLine};
+ghost use Rattle.bt_top.specs.inner.Lines.{IsLine, formed_text};
 ghost use Rattle.bt_top.specs.inner.Telling.{IsAnswered, IsAnsweredTo, IsPrinted, IsToldUnlessMemory, IsLineTold};
 
 use crate::answer::Answer;
@@ -18,15 +18,19 @@ use crate::choosers::Choosers;
 use crate::claim::Claim;
 use crate::decision::decided;
 use crate::flow_check::check;
+use crate::formula::{flow_formula, place_formula};
 use crate::input::read_input;
 use crate::laying::laid_out;
+use crate::least::searched;
 use crate::making::make;
 use crate::none_certificate::layout_checked;
-use crate::printing::{print_gave_up, print_made, print_nowhere, print_proof};
+use crate::printing::{print_gave_up, print_made, print_proof};
 use crate::recover::recovered;
 use crate::text::text_of_answer;
+use bt_dimacs::{print_flow_formula, print_place_formula};
 use bt_flow::print_state;
 use bt_io::{ReadAll, Sink, Source, WriteFault, write_all_of};
+use bt_layout::print_none;
 use bt_net::print;
 use bt_words::{Command, command_of};
 use std::alloc::{AllocError, Global};
@@ -146,6 +150,9 @@ fn right_answer(
             laid_out(alloc, rect, tier, learnt, bytes, choosers.layouts)
         }
         Command::CheckLayout(rect, tier) => layout_checked(alloc, rect, tier, bytes),
+        Command::Smallest(most, tier, learnt) => searched(alloc, most, tier, learnt, bytes),
+        Command::FlowFormula(property) => flow_formula(alloc, property, bytes),
+        Command::PlaceFormula(rect, tier) => place_formula(alloc, rect, tier, bytes),
     }
 }
 
@@ -169,7 +176,9 @@ fn print_lines<K: Sink>(answer: &Answer, sink: &mut K) -> Option<Result<(), Writ
         Answer::Broken(property, state) => print_state(state, *property, sink),
         Answer::GaveUp(cause) => print_gave_up(cause, sink),
         Answer::Made(made) => print_made(made, sink),
-        Answer::Nowhere(log) => print_nowhere(log, sink),
+        Answer::Nowhere(log) => print_none(log, sink),
+        Answer::FlowFormula(columns, formula) => print_flow_formula(*columns, formula, sink),
+        Answer::PlaceFormula(starts, formula) => print_place_formula(*starts, formula, sink),
         Answer::Usage => write_all_of(sink, b"usage\n"),
         Answer::TooLong => write_all_of(sink, b"too long\n"),
         _ => return None,
@@ -183,8 +192,19 @@ fn line_told<K: Sink>(alloc: Global, answer: &Answer, sink: &mut K) -> u8
     ensures { IsLineTold answer.now (passage K.held K.faults sink.old sink.new) result }
 {
     match text_of_answer(alloc, answer) {
-        Ok(text) => status_after(answer.status(), write_all_of(sink, &text)),
+        Ok(text) => status_after(answer.status(), write_formed(answer, &text, sink)),
         Err(_) => NO_MEMORY,
+    }
+}
+
+/// Gives an answer's text to the sink, where this is what had to be formed of it.
+fn write_formed<K: Sink>(answer: &Answer, formed: &[u8], sink: &mut K) -> Result<(), WriteFault>
+    requires { formed.now ≡ formed_text answer.now }
+    ensures { WritesText (passage K.held K.faults sink.old sink.new) (answer_text answer.now) result }
+{
+    match answer {
+        Answer::Least(found) => bt_layout::print_smallest(found, formed, sink),
+        _ => write_all_of(sink, formed),
     }
 }
 

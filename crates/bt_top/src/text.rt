@@ -3,7 +3,7 @@ ghost use Rattle.std.specs.Prelude.{◌≡◌, ◌++◌, codes, decimal, IfOk, O
 ghost use Rattle.bt_net.specs.NetText.{line};
 ghost use Rattle.bt_top.specs.Answers.{cause_name, text_of as answer_text};
 ghost use Rattle.bt_top.specs.Refusals.{member_name, refusal_text};
-ghost use Rattle.bt_top.specs.inner.Lines.{IsFixedLine, IsLine, IsOfCertificate, detail_text, line_text};
+ghost use Rattle.bt_top.specs.inner.Lines.{IsFixedLine, IsLine, IsOfCertificate, detail_text, formed_text, line_text};
 
 use crate::answer::Answer;
 use crate::refusal::Refusal;
@@ -80,18 +80,19 @@ fn push_number(text: &mut Vec<u8>, number: usize) -> Result<(), AllocError>
     text.extend_from_slice(buffer.format(number).as_bytes())
 }
 
-/// The text of an answer that is one line.
+/// What has to be formed of an answer's text: its line, or the blueprint in it.
 pub fn text_of_answer(alloc: Global, answer: &Answer) -> Result<Vec<u8>, AllocError>
     requires { IsLine answer.now }
-    ensures { IfOk result (λ text. text.items ≡ answer_text answer.now) }
+    ensures { IfOk result (λ text. text.items ≡ formed_text answer.now) }
 {
     match answer {
         Answer::LaidOut(parts) => bt_write::text_of(alloc, parts),
+        Answer::Least(found) => bt_layout::blueprint_of(alloc, found),
         _ => text_of(alloc, &answer_line(answer)),
     }
 }
 
-/// The line of an answer, but for that of parts, and for one whose text has several.
+/// The line of an answer, but for those of parts, and for one whose text has several.
 fn answer_line(answer: &Answer) -> Line
     ensures { IsFixedLine answer.now → line_text result ≡ answer_text answer.now }
 {
@@ -102,7 +103,10 @@ fn answer_line(answer: &Answer) -> Line
         | Answer::GaveUp(_)
         | Answer::Made(_)
         | Answer::LaidOut(_)
-        | Answer::Nowhere(_) => Line("", Detail::Nothing),
+        | Answer::Nowhere(_)
+        | Answer::Least(_)
+        | Answer::FlowFormula(..)
+        | Answer::PlaceFormula(..) => Line("", Detail::Nothing),
         Answer::NoLayout => Line("none", Detail::Nothing),
         Answer::Usage => Line("usage", Detail::Nothing),
         Answer::TooLong => Line("too long", Detail::Nothing),

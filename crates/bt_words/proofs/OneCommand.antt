@@ -1,6 +1,6 @@
 -- Words are one command at most.
 use Rattle.std.proofs.Common.{◌≡◌, ℕ, Bool, true, false, List, [], ◌∷◌, length, get_or, nat_eq, Some, None, refl, sym, ◌∙◌, ap, subst, inl, inr, arith}
-use Rattle.std.specs.Prelude.{cond, MatchOption}
+use Rattle.std.specs.Prelude.{cond, unwrap_or, MatchOption}
 use Rattle.std.specs.declared.option.Option.{Option}
 use Rattle.std.specs.Option.{option_to_list}
 use Rattle.std.specs.List.{filter_map}
@@ -8,27 +8,27 @@ use Rattle.bt_model.specs.Requests.{IsGrid}
 use Rattle.bt_parts.specs.declared.part.Rect.{Rect}
 use Rattle.bt_parts.specs.declared.part.Tier.{Tier}
 use Rattle.bt_words.specs.declared.argument.Argument.{Argument}
-use Rattle.bt_words.specs.declared.argument.Argument.TheVariants.{Named, Order, Chain, Learnt, Pivots, Grid, OfTier}
+use Rattle.bt_words.specs.declared.argument.Argument.TheVariants.{Named, Order, Chain, Learnt, Pivots, Grid, OfTier, Most}
 use Rattle.bt_words.specs.declared.given.Given.{Given}
 use Rattle.bt_words.specs.declared.verb.Verb.{Verb}
 use Rattle.bt_words.specs.declared.verb.Verb.TheVariants as verb
 use Rattle.bt_words.specs.declared.command.Family.{Family}
 use Rattle.bt_words.specs.declared.command.Family.TheVariants as family
 use Rattle.bt_words.specs.declared.command.Command.{Command}
-use Rattle.bt_words.specs.declared.command.Command.TheVariants.{FlowCheck, Recover, Check, Decide, Make, Layout, CheckLayout}
+use Rattle.bt_words.specs.declared.command.Command.TheVariants.{FlowCheck, Recover, Check, Decide, Make, Layout, CheckLayout, Smallest, FlowFormula, PlaceFormula}
 use Rattle.bt_words.specs.Arguments.{AreArguments}
 use Rattle.bt_words.specs.Verbs.{verb_name, verb_of}
-use Rattle.bt_words.specs.Commands.{Gives, IsGiven, Suits, IsCommand, IsUsage, IsToDecide, IsToMake, IsToLay, IsToCheckLayout, is_chain, nothing, mark, grid_in}
+use Rattle.bt_words.specs.Commands.{Gives, IsGiven, Suits, IsCommand, IsUsage, IsToDecide, IsToMake, IsToLay, IsToCheckLayout, IsToSearch, greatest_grid, is_chain, nothing, mark, grid_in, most_in}
 use Rattle.bt_words.proofs.Fronts.{some_word}
 use Rattle.bt_words.proofs.OneFront.{one_front}
 
 -- the command whose word begins with this byte
 abbrev begun_by : ℕ → Verb
-begun_by byte = cond (nat_eq byte 102) verb.FlowCheck (cond (nat_eq byte 114) verb.Recover (cond (nat_eq byte 99) verb.Check (cond (nat_eq byte 100) verb.Decide (cond (nat_eq byte 109) verb.Make verb.Layout))))
+begun_by byte = cond (nat_eq byte 102) verb.Formula (cond (nat_eq byte 114) verb.Recover (cond (nat_eq byte 99) verb.Check (cond (nat_eq byte 100) verb.Decide (cond (nat_eq byte 109) verb.Make (cond (nat_eq byte 115) verb.Smallest verb.Layout)))))
 
--- the command with this word: that of one byte alone begins as another does
+-- the command with this word: those that begin as others do are the longest
 abbrev named_by : List ℕ → Verb
-named_by name = cond (nat_eq (length name) 12) verb.CheckLayout (begun_by (get_or name 0 0))
+named_by name = cond (nat_eq (length name) 12) verb.CheckLayout (cond (nat_eq (length name) 10) verb.FlowCheck (begun_by (get_or name 0 0)))
 
 begins : (v : Verb) → named_by (verb_name v) ≡ v
 begins verb.FlowCheck = refl
@@ -38,6 +38,8 @@ begins verb.Decide = refl
 begins verb.Make = refl
 begins verb.Layout = refl
 begins verb.CheckLayout = refl
+begins verb.Smallest = refl
+begins verb.Formula = refl
 
 -- a word is one command's at most
 same_verb : (v w : Verb) → verb_name v ≡ verb_name w → v ≡ w
@@ -80,7 +82,8 @@ same_given g h words (ones, are, gives) (others, be, give) =
     let v = same_option g.pivots h.pivots (sym gives.pivots ∙ give.pivots) in
     let r = same_option g.grid h.grid (sym gives.grid ∙ give.grid) in
     let t = same_option g.tier h.tier (sym gives.tier ∙ give.tier) in
-    λ i. record { property = p i; order = o i; chain = c i; learnt = l i; pivots = v i; grid = r i; tier = t i }
+    let m = same_option g.most h.most (sym gives.most ∙ give.most) in
+    λ i. record { property = p i; order = o i; chain = c i; learnt = l i; pivots = v i; grid = r i; tier = t i; most = m i }
 
 -- what no command of this word is given
 pub none_checks_flow : (g : Given) → ((p : _) → g ≡ record nothing { property = Some p } → ⊥) → (c : Command) → verb.FlowCheck ≡ verb_of c → Suits c g → ⊥
@@ -106,6 +109,15 @@ none_lays g none c v s = cc
 pub none_checks_layouts : (g : Given) → ((r : _) → IsToCheckLayout r g → ⊥) → (c : Command) → verb.CheckLayout ≡ verb_of c → Suits c g → ⊥
 none_checks_layouts g none (CheckLayout r t) v s = none r s.0
 none_checks_layouts g none c v s = cc
+
+pub none_searches : (g : Given) → ((r : _) → IsToSearch r g → ⊥) → (c : Command) → verb.Smallest ≡ verb_of c → Suits c g → ⊥
+none_searches g none (Smallest r t n) v s = none r s.0
+none_searches g none c v s = cc
+
+pub none_formula : (g : Given) → ((p : _) → g ≡ record nothing { property = Some p } → ⊥) → ((r : _) → IsToCheckLayout r g → ⊥) → (c : Command) → verb.Formula ≡ verb_of c → Suits c g → ⊥
+none_formula g none not (FlowFormula p) v s = none p s
+none_formula g none not (PlaceFormula r t) v s = not r s.0
+none_formula g none not c v s = cc
 
 -- words behind which nothing is given are no command
 pub none_given : (words : List (List ℕ)) (word : List ℕ) (behind : List (List ℕ)) → words ≡ word ∷ behind → ((g : Given) → IsGiven g behind → ⊥) → IsUsage words
@@ -143,6 +155,11 @@ same_suited (Make f i l) (Make n j m) g v (h, x, a) (k, y, b) =
     cc
 same_suited (Layout r t n) (Layout s u m) g v (h, x, a) (k, y, b) = let e = ap (λ x. x.grid) (sym h ∙ k) in cc
 same_suited (CheckLayout r t) (CheckLayout s u) g v (h, x) (k, y) = let e = ap (λ x. x.grid) (sym h ∙ k) in cc
+same_suited (Smallest r t n) (Smallest s u m) g v (h, x, a) (k, y, b) = let e = h.1 ∙ sym k.1 in cc
+same_suited (FlowFormula p) (FlowFormula q) g v h k = let e = ap (λ x. x.property) (sym h ∙ k) in cc
+same_suited (PlaceFormula r t) (PlaceFormula s u) g v (h, x) (k, y) = let e = ap (λ x. x.grid) (sym h ∙ k) in cc
+same_suited (FlowFormula p) (PlaceFormula s u) g v h (k, y) = let e = ap (λ x. x.grid) (sym h ∙ k) in cc
+same_suited (PlaceFormula r t) (FlowFormula q) g v (h, x) k = let e = ap (λ x. x.grid) (sym h ∙ k) in cc
 same_suited c d g v h k = cc
 
 -- words are one command at most
@@ -165,12 +182,43 @@ grid_given (Chain ∷ more) words grid (front, rest, is, at, are) e = grid_given
 grid_given (Learnt n ∷ more) words grid (front, rest, is, at, are) e = grid_given more rest grid are e
 grid_given (Pivots n ∷ more) words grid (front, rest, is, at, are) e = grid_given more rest grid are e
 grid_given (OfTier t ∷ more) words grid (front, rest, is, at, are) e = grid_given more rest grid are e
+grid_given (Most r ∷ more) words grid (front, rest, is, at, are) e = grid_given more rest grid are e
 
--- the grid of `layout` and of `check-layout` has from 1 to `MOST_ACROSS` cells each way
+-- the grid of `layout`, of `check-layout` and of `formula` has from 1 to `MOST_ACROSS` cells each way
 pub grid_to_lay : (grid : Rect) (tier : Tier) (learnt : ℕ) (words : List (List ℕ)) → IsCommand (Layout grid tier learnt) words → IsGrid grid
 grid_to_lay grid tier learnt words (behind, g, e, (arguments, are, gives), suits) =
     grid_given arguments behind grid are (gives.grid ∙ ap (λ x. option_to_list x.grid) suits.0)
 
 pub grid_to_check : (grid : Rect) (tier : Tier) (words : List (List ℕ)) → IsCommand (CheckLayout grid tier) words → IsGrid grid
 grid_to_check grid tier words (behind, g, e, (arguments, are, gives), suits) =
+    grid_given arguments behind grid are (gives.grid ∙ ap (λ x. option_to_list x.grid) suits.0)
+
+-- a greatest grid among arguments is one that an argument is
+most_given : (arguments : List Argument) (words : List (List ℕ)) (grid : Rect) → AreArguments arguments words → filter_map most_in arguments ≡ grid ∷ [] → IsGrid grid
+most_given [] words grid are e = cc
+most_given (Most r ∷ more) words grid (front, rest, inl (word, plain, is), at, are) e = absurd plain
+most_given (Most r ∷ more) words grid (front, rest, inr (name, value, valued, is), at, are) e = subst IsGrid (let same = e in cc) valued.1.0
+most_given (Named p ∷ more) words grid (front, rest, is, at, are) e = most_given more rest grid are e
+most_given (Order k ∷ more) words grid (front, rest, is, at, are) e = most_given more rest grid are e
+most_given (Chain ∷ more) words grid (front, rest, is, at, are) e = most_given more rest grid are e
+most_given (Learnt n ∷ more) words grid (front, rest, is, at, are) e = most_given more rest grid are e
+most_given (Pivots n ∷ more) words grid (front, rest, is, at, are) e = most_given more rest grid are e
+most_given (Grid r ∷ more) words grid (front, rest, is, at, are) e = most_given more rest grid are e
+most_given (OfTier t ∷ more) words grid (front, rest, is, at, are) e = most_given more rest grid are e
+
+-- the greatest of all is a grid
+greatest_is_grid : IsGrid greatest_grid
+greatest_is_grid = record { some_width = omega arith; few_across = omega arith; some_height = omega arith; few_down = omega arith }
+
+-- and that of `smallest`
+pub grid_to_search : (most : Rect) (tier : Tier) (learnt : ℕ) (words : List (List ℕ)) → IsCommand (Smallest most tier learnt) words → IsGrid most
+grid_to_search most tier learnt words (behind, g, e, (arguments, are, gives), suits) = by g.most gives.most suits.0.1
+  where
+    by : (given : Option Rect) → filter_map most_in arguments ≡ option_to_list given → most ≡ unwrap_or given greatest_grid → IsGrid most
+    by None none is = subst IsGrid (sym is) greatest_is_grid
+    by (Some grid) one is = subst IsGrid (sym is) (most_given arguments behind grid are one)
+
+-- and that of `formula`
+pub grid_of_formula : (grid : Rect) (tier : Tier) (words : List (List ℕ)) → IsCommand (PlaceFormula grid tier) words → IsGrid grid
+grid_of_formula grid tier words (behind, g, e, (arguments, are, gives), suits) =
     grid_given arguments behind grid are (gives.grid ∙ ap (λ x. option_to_list x.grid) suits.0)

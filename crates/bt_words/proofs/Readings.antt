@@ -7,7 +7,7 @@ use Rattle.std.proofs.lemmas.List.{append-nil, append_assoc}
 use Rattle.bt_words.specs.declared.argument.Argument.{Argument}
 use Rattle.bt_words.specs.declared.given.Given.{Given}
 use Rattle.bt_words.specs.Arguments.{AreArguments}
-use Rattle.bt_words.specs.Commands.{IsGiven, nothing, mark, property_in, order_in, chain_in, learnt_in, pivots_in, grid_in, tier_in}
+use Rattle.bt_words.specs.Commands.{IsGiven, nothing, mark, property_in, order_in, chain_in, learnt_in, pivots_in, grid_in, tier_in, most_in}
 use Rattle.bt_words.specs.inner.Reading.{BeginsWith, Adds, Reads, LeadsTo}
 use Rattle.bt_words.proofs.Fronts.{some_word}
 use Rattle.bt_words.proofs.OneFront.{one_front}
@@ -44,6 +44,7 @@ adds_there before now g a more one all = record {
   pivots = sym (put (option_to_list before.pivots) (option_to_list now.pivots) (pivots_in a) (filter_map pivots_in more) one.pivots) ∙ all.pivots;
   grid = sym (put (option_to_list before.grid) (option_to_list now.grid) (grid_in a) (filter_map grid_in more) one.grid) ∙ all.grid;
   tier = sym (put (option_to_list before.tier) (option_to_list now.tier) (tier_in a) (filter_map tier_in more) one.tier) ∙ all.tier;
+  most = sym (put (option_to_list before.most) (option_to_list now.most) (most_in a) (filter_map most_in more) one.most) ∙ all.most;
 }
 
 adds_back : (before now g : Given) (a : Argument) (more : List Argument) → Adds before (a ∷ []) now → Adds now more g → Adds before (a ∷ more) g
@@ -55,6 +56,7 @@ adds_back before now g a more one rest = record {
   pivots = put (option_to_list before.pivots) (option_to_list now.pivots) (pivots_in a) (filter_map pivots_in more) one.pivots ∙ rest.pivots;
   grid = put (option_to_list before.grid) (option_to_list now.grid) (grid_in a) (filter_map grid_in more) one.grid ∙ rest.grid;
   tier = put (option_to_list before.tier) (option_to_list now.tier) (tier_in a) (filter_map tier_in more) one.tier ∙ rest.tier;
+  most = put (option_to_list before.most) (option_to_list now.most) (most_in a) (filter_map most_in more) one.most ∙ rest.most;
 }
 
 adds_none : (before : Given) → Adds before [] before
@@ -66,16 +68,17 @@ adds_none before = record {
   pivots = append-nil (option_to_list before.pivots);
   grid = append-nil (option_to_list before.grid);
   tier = append-nil (option_to_list before.tier);
+  most = append-nil (option_to_list before.most);
 }
 
 -- what is given, with nothing before it
 reads_all : (words : List (List ℕ)) (g : Given) → IsGiven g words → Reads nothing words g
 reads_all words g (arguments, are, gives) =
-    (arguments, are, record { property = gives.property; order = gives.order; chain = gives.chain; learnt = gives.learnt; pivots = gives.pivots; grid = gives.grid; tier = gives.tier })
+    (arguments, are, record { property = gives.property; order = gives.order; chain = gives.chain; learnt = gives.learnt; pivots = gives.pivots; grid = gives.grid; tier = gives.tier; most = gives.most })
 
 all_read : (words : List (List ℕ)) (g : Given) → Reads nothing words g → IsGiven g words
 all_read words g (arguments, are, adds) =
-    (arguments, are, record { property = adds.property; order = adds.order; chain = adds.chain; learnt = adds.learnt; pivots = adds.pivots; grid = adds.grid; tier = adds.tier })
+    (arguments, are, record { property = adds.property; order = adds.order; chain = adds.chain; learnt = adds.learnt; pivots = adds.pivots; grid = adds.grid; tier = adds.tier; most = adds.most })
 
 -- at the front all words are the rest
 pub leads_at_first : (words : List (List ℕ)) → LeadsTo words nothing words

@@ -6,7 +6,7 @@ use Rattle.bt_parts.specs.declared.part.Rect.{Rect}
 use Rattle.bt_parts.specs.declared.part.Tier.{Tier}
 use Rattle.bt_parts.specs.declared.part.Tier.TheVariants.{Basic, Fast, Express, Turbo}
 use Rattle.bt_words.specs.declared.argument.Argument.{Argument}
-use Rattle.bt_words.specs.declared.argument.Argument.TheVariants.{Named, Order, Chain, Learnt, Pivots, Grid, OfTier}
+use Rattle.bt_words.specs.declared.argument.Argument.TheVariants.{Named, Order, Chain, Learnt, Pivots, Grid, OfTier, Most}
 use Rattle.bt_words.specs.declared.argument.TheConstants.{MOST_ORDER, MOST_LEARNT, MOST_PIVOTS}
 
 -- the name of a tier
@@ -29,6 +29,7 @@ IsPlain (Learnt n) word = ⊥
 IsPlain (Pivots n) word = ⊥
 IsPlain (Grid grid) word = ⊥
 IsPlain (OfTier tier) word = ⊥
+IsPlain (Most grid) word = ⊥
 
 -- the argument is the option of this name with this value: a whole number in its range, a grid, or the name of a tier
 abbrev pub IsValued : Argument → List ℕ → List ℕ → Type 0
@@ -39,6 +40,7 @@ IsValued (Learnt n) name value = (name ≡ codes "learnt") × (n ≤ MOST_LEARNT
 IsValued (Pivots n) name value = (name ≡ codes "pivots") × (n ≤ MOST_PIVOTS) × (value ≡ decimal n)
 IsValued (Grid grid) name value = (name ≡ codes "grid") × IsGridWord grid value
 IsValued (OfTier tier) name value = (name ≡ codes "tier") × (value ≡ tier_name tier)
+IsValued (Most grid) name value = (name ≡ codes "most") × IsGridWord grid value
 
 -- an option is written `--name value`, as two words, or `--name=value`
 abbrev pub IsOption : List ℕ → List ℕ → List (List ℕ) → Type 0

@@ -3,7 +3,7 @@ use Rattle.std.specs.Prelude.{ℕ, List, codes}
 use Rattle.bt_words.specs.declared.command.Command.{Command}
 use Rattle.bt_words.specs.declared.command.Command.TheVariants as command
 use Rattle.bt_words.specs.declared.verb.Verb.{Verb}
-use Rattle.bt_words.specs.declared.verb.Verb.TheVariants.{FlowCheck, Recover, Check, Decide, Make, Layout, CheckLayout}
+use Rattle.bt_words.specs.declared.verb.Verb.TheVariants.{FlowCheck, Recover, Check, Decide, Make, Layout, CheckLayout, Smallest, Formula}
 
 -- the word for a command
 abbrev pub verb_name : Verb → List ℕ
@@ -14,6 +14,8 @@ verb_name Decide = codes "decide"
 verb_name Make = codes "make"
 verb_name Layout = codes "layout"
 verb_name CheckLayout = codes "check-layout"
+verb_name Smallest = codes "smallest"
+verb_name Formula = codes "formula"
 
 -- which command it is
 abbrev pub verb_of : Command → Verb
@@ -24,3 +26,6 @@ verb_of (command.Decide p limits) = Decide
 verb_of (command.Make family order limits) = Make
 verb_of (command.Layout grid tier learnt) = Layout
 verb_of (command.CheckLayout grid tier) = CheckLayout
+verb_of (command.Smallest most tier learnt) = Smallest
+verb_of (command.FlowFormula p) = Formula
+verb_of (command.PlaceFormula grid tier) = Formula

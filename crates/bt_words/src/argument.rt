@@ -36,6 +36,8 @@ pub enum Argument {
     Grid(Rect),
     /// `--tier`: the tier of its parts.
     OfTier(Tier),
+    /// `--most`: the greatest grid that is searched.
+    Most(Rect),
 }
 
 /// The argument at the front of the words, and the words behind it.
@@ -86,6 +88,9 @@ fn valued(name: &[u8], value: &[u8]) -> Option<Argument>
     }
     if name == b"tier".as_slice() {
         return Some(Argument::OfTier(tier_named(value)?));
+    }
+    if name == b"most".as_slice() {
+        return Some(Argument::Most(grid_of(value)?));
     }
     None
 }

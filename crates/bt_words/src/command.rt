@@ -3,7 +3,7 @@ ghost use Rattle.std.specs.Prelude.{◌≡◌, ℕ, List, MatchOption, map, stri
 ghost use Rattle.bt_words.specs.Verbs.{verb_of};
 ghost use Rattle.bt_words.specs.Commands.{IsCommand, IsUsage, Suits};
 ghost use Rattle.bt_words.specs.declared.command.Command.{Command as ACommand};
-ghost use Rattle.bt_words.specs.declared.verb.Verb.TheVariants.{Layout, CheckLayout};
+ghost use Rattle.bt_words.specs.declared.verb.Verb.TheVariants.{Layout, CheckLayout, Smallest, Formula};
 
 use crate::given::{Given, read_given};
 use crate::verb::Verb;
@@ -42,6 +42,13 @@ pub enum Command {
     Layout(Rect, Tier, u64),
     /// `check-layout`: does the certificate show that no parts of this tier on this grid do?
     CheckLayout(Rect, Tier),
+    /// `smallest`: what is the least grid, of at most so many cells each way, on which parts of this tier show
+    /// the network, found in at most so many steps of a log for each grid?
+    Smallest(Rect, Tier, u64),
+    /// `formula`: which formula do the states meet in which the design hasn't the property?
+    FlowFormula(Property),
+    /// `formula`: which formula do the layouts meet of parts of this tier on this grid?
+    PlaceFormula(Rect, Tier),
 }
 
 /// The command that the words are.
@@ -77,6 +84,8 @@ fn with_given(verb: Verb, given: Given) -> Option<Command>
         )),
         Verb::Layout => laid(given),
         Verb::CheckLayout => layout_checked(given),
+        Verb::Smallest => smallest(given),
+        Verb::Formula => formula_of(given),
     }
 }
 
@@ -96,4 +105,25 @@ fn layout_checked(given: Given) -> Option<Command>
 {
     let grid = given.grid_to_check()?;
     Some(Command::CheckLayout(grid, given.tier()))
+}
+
+/// `smallest`, where what is given suits it.
+fn smallest(given: Given) -> Option<Command>
+    ensures { MatchOption result ((c : ACommand) → Smallest ≡ verb_of c → Suits c given → ⊥)
+        (λ c. (Smallest ≡ verb_of c) × Suits c given) }
+{
+    let most = given.most_to_search()?;
+    Some(Command::Smallest(most, given.tier(), given.limits().learnt))
+}
+
+/// `formula`, where what is given suits it: a property, or a grid.
+fn formula_of(given: Given) -> Option<Command>
+    ensures { MatchOption result ((c : ACommand) → Formula ≡ verb_of c → Suits c given → ⊥)
+        (λ c. (Formula ≡ verb_of c) × Suits c given) }
+{
+    if let Some(property) = given.only_property() {
+        return Some(Command::FlowFormula(property));
+    }
+    let grid = given.grid_to_check()?;
+    Some(Command::PlaceFormula(grid, given.tier()))
 }

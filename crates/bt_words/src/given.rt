@@ -3,7 +3,7 @@ ghost use Rattle.std.specs.Prelude.{◌≡◌, ℕ, List, [], ◌∷◌, Some, M
 ghost use Rattle.std.specs.Prelude.{◌↔◌, IsTrue};
 ghost use Rattle.bt_flow.specs.declared.property.Property.{Property as AProperty};
 ghost use Rattle.bt_parts.specs.declared.part.Rect.{Rect as ARect};
-ghost use Rattle.bt_words.specs.Commands.{IsGiven, IsToDecide, IsToMake, IsToLay, IsToCheckLayout};
+ghost use Rattle.bt_words.specs.Commands.{IsGiven, IsToDecide, IsToMake, IsToLay, IsToCheckLayout, IsToSearch};
 ghost use Rattle.bt_words.specs.Commands.{is_chain, limits_of, tier_of, nothing};
 ghost use Rattle.bt_words.specs.inner.Reading.{Adds};
 ghost use Rattle.bt_words.specs.declared.argument.Argument.{Argument as AnArgument};
@@ -12,6 +12,7 @@ ghost use Rattle.bt_words.specs.declared.given.Given.{Given as AGiven};
 use crate::argument::{Argument, next_argument};
 use crate::command::{Family, USUAL_LEARNT, USUAL_PIVOTS};
 use bt_flow::Property;
+use bt_model::MOST_ACROSS;
 use bt_parts::{Rect, Tier};
 use bt_theory::Limits;
 
@@ -25,7 +26,14 @@ pub struct Given {
     pub pivots: Option<u64>,
     pub grid: Option<Rect>,
     pub tier: Option<Tier>,
+    pub most: Option<Rect>,
 }
+
+/// The greatest grid.
+const GREATEST_GRID: Rect = Rect {
+    width: MOST_ACROSS,
+    height: MOST_ACROSS,
+};
 
 /// Nothing is given.
 pub const NOTHING: Given = Given {
@@ -36,6 +44,7 @@ pub const NOTHING: Given = Given {
     pivots: None,
     grid: None,
     tier: None,
+    most: None,
 };
 
 /// What the words behind a command's word give.
@@ -89,6 +98,10 @@ impl Given {
                 tier: Some(tier),
                 ..self
             }),
+            Argument::Most(most) if self.most.is_none() => Some(Given {
+                most: Some(most),
+                ..self
+            }),
             _ => None,
         }
     }
@@ -108,6 +121,7 @@ impl Given {
                 pivots: None,
                 grid: None,
                 tier: None,
+                most: None,
             } => true,
             _ => false,
         }
@@ -127,6 +141,7 @@ impl Given {
                 pivots: None,
                 grid: None,
                 tier: None,
+                most: None,
             } => Some(property),
             _ => None,
         }
@@ -143,6 +158,7 @@ impl Given {
                 chain: false,
                 grid: None,
                 tier: None,
+                most: None,
                 ..
             } => Some(property),
             _ => None,
@@ -159,6 +175,7 @@ impl Given {
                 order,
                 grid: None,
                 tier: None,
+                most: None,
                 ..
             } => order,
             _ => None,
@@ -187,6 +204,7 @@ impl Given {
                 chain: false,
                 pivots: None,
                 grid,
+                most: None,
                 ..
             } => grid,
             _ => None,
@@ -206,8 +224,28 @@ impl Given {
                 learnt: None,
                 pivots: None,
                 grid,
+                most: None,
                 ..
             } => grid,
+            _ => None,
+        }
+    }
+
+    /// The greatest grid that is searched, where nothing is given but it, the tier and the most steps of a
+    /// log: the one that is given, or else the greatest of all.
+    pub fn most_to_search(self) -> Option<Rect>
+        ensures { MatchOption result ((r : ARect) → IsToSearch r self → ⊥) (λ r. IsToSearch r self) }
+    {
+        match self {
+            Given {
+                property: None,
+                order: None,
+                chain: false,
+                pivots: None,
+                grid: None,
+                most,
+                ..
+            } => Some(most.unwrap_or(GREATEST_GRID)),
             _ => None,
         }
     }

@@ -12,6 +12,8 @@ pub enum Verb {
     Make,
     Layout,
     CheckLayout,
+    Smallest,
+    Formula,
 }
 
 impl Verb {
@@ -27,6 +29,8 @@ impl Verb {
             "make" => Some(Verb::Make),
             "layout" => Some(Verb::Layout),
             "check-layout" => Some(Verb::CheckLayout),
+            "smallest" => Some(Verb::Smallest),
+            "formula" => Some(Verb::Formula),
             _ => None,
         }
     }

@@ -35,6 +35,10 @@ check-layout --grid 5x8|check-layout basic 5 8
 check-layout --grid=10x9 --tier turbo|check-layout turbo 10 9
 check-layout --tier=fast --grid 1x1|check-layout fast 1 1
 check-layout --tier express --grid=16x16|check-layout express 16 16
+formula balanced|formula balanced
+formula drawn-evenly|formula drawn-evenly
+formula --grid 5x8|formula basic 5 8
+formula --tier=turbo --grid=16x1|formula turbo 16 1
 |none
 help|none
 --help|none
@@ -118,7 +122,14 @@ layout --grid 5x8 2|none
 check-layout|none
 check-layout --grid 17x17|none
 check-layout --grid 5x8 --learnt 1|none
-check-layout --grid 5x8 full|none";
+check-layout --grid 5x8 full|none
+formula|none
+formula 2|none
+formula full full|none
+formula --grid 5x8 full|none
+formula --tier fast|none
+formula full --learnt 1|none
+formula --grid 5x8 --learnt 1|none";
 
 fn property(name: &str) -> Property {
     match name {
@@ -165,6 +176,8 @@ fn spelled(text: &str) -> Option<Command> {
         "make" => Some(Command::Make(family(name), number(third), limits)),
         "layout" => Some(Command::Layout(grid, tier_named(name), steps(third))),
         "check-layout" => Some(Command::CheckLayout(grid, tier_named(name))),
+        "formula" if first.is_empty() => Some(Command::FlowFormula(property(name))),
+        "formula" => Some(Command::PlaceFormula(grid, tier_named(name))),
         _ => None,
     }
 }

@@ -1,8 +1,10 @@
 -- Lines while they are formed: words, and numbers and names that are said with them.
 use Rattle.std.specs.Prelude.{ℕ, List, [], ◌++◌, codes, decimal}
 use Rattle.bt_net.specs.NetText.{line}
+use Rattle.bt_layout.specs.SmallestText.{blueprint_of}
 use Rattle.bt_top.specs.declared.answer.Answer.{Answer}
-use Rattle.bt_top.specs.declared.answer.Answer.TheVariants.{Recovered, Proved, Broken, GaveUp, Made, LaidOut, Nowhere, CertLine, BadStep, NoVerdict, CertWide}
+use Rattle.bt_top.specs.declared.answer.Answer.TheVariants.{Recovered, Proved, Broken, GaveUp, Made, LaidOut, Nowhere, Least, CertLine, BadStep, NoVerdict, CertWide, FlowFormula, PlaceFormula}
+use Rattle.bt_top.specs.Answers.{text_of}
 use Rattle.bt_top.specs.declared.text.Detail.{Detail}
 use Rattle.bt_top.specs.declared.text.Detail.TheVariants.{Nothing, Name, Number, Numbers, ThreeNumbers, NameAndNumber, NumberAndName}
 use Rattle.bt_top.specs.declared.text.Line.{Line}
@@ -21,7 +23,7 @@ detail_text (NumberAndName n name) = codes " " ++ decimal n ++ codes " " ++ name
 abbrev pub line_text : Line → List ℕ
 line_text l = line (l.0.now ++ detail_text l.1)
 
--- the answer's text is one line, and it is formed
+-- the answer's text is one line, and it is formed, or a blueprint in it is
 abbrev pub IsLine : Answer → Type 0
 IsLine (Recovered n) = ⊥
 IsLine (Proved p log) = ⊥
@@ -29,11 +31,19 @@ IsLine (Broken p state) = ⊥
 IsLine (GaveUp cause) = ⊥
 IsLine (Made made) = ⊥
 IsLine (Nowhere log) = ⊥
+IsLine (FlowFormula columns f) = ⊥
+IsLine (PlaceFormula starts f) = ⊥
 IsLine other = Unit {0}
+
+-- what is formed of an answer's text: of a search for the least grid the blueprint that is found, and else all of it
+abbrev pub formed_text : Answer → List ℕ
+formed_text (Least found) = blueprint_of found
+formed_text other = text_of other
 
 -- and the line is one of fixed words, numbers and names
 abbrev pub IsFixedLine : Answer → Type 0
 IsFixedLine (LaidOut parts) = ⊥
+IsFixedLine (Least found) = ⊥
 IsFixedLine other = IsLine other
 
 -- the answer is that a text is no certificate

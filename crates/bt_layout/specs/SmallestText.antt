@@ -1,0 +1,47 @@
+-- The text of what a search for the least grid comes to.
+use Rattle.std.specs.Prelude.{ℕ, List, [], ◌++◌, codes, decimal, length}
+use Rattle.std.specs.List.{flat_map}
+use Rattle.bt_text.specs.Lines.{line}
+use Rattle.bt_parts.specs.declared.part.Rect.{Rect}
+use Rattle.bt_log.specs.Logs.{Step}
+use Rattle.bt_log.specs.LogText.{log_text}
+use Rattle.bt_write.specs.Written.{blueprint_text}
+use Rattle.bt_layout.specs.declared.outcome.RuledOut.{RuledOut}
+use Rattle.bt_layout.specs.declared.outcome.Smallest.{Smallest}
+use Rattle.bt_layout.specs.declared.outcome.Smallest.TheVariants.{Found, Nowhere, Spent}
+
+-- the word of a certificate that no layout lays a request
+abbrev pub none_word : List ℕ
+none_word = codes "none"
+
+-- the none certificate: `none`, and the steps of the log
+abbrev pub nowhere_text : List Step → List ℕ
+nowhere_text steps = line none_word ++ log_text steps
+
+-- the line of a grid: its width, `x` and its height
+abbrev pub grid_line : Rect → List ℕ
+grid_line grid = line (codes "grid " ++ decimal grid.width ++ codes "x" ++ decimal grid.height)
+
+-- of a grid that is ruled out: its line, and the none certificate
+abbrev pub ruled_out_text : RuledOut → List ℕ
+ruled_out_text one = grid_line one.grid ++ nowhere_text one.log.steps
+
+-- of all grids that are ruled out, in their order
+abbrev pub earlier_text : List RuledOut → List ℕ
+earlier_text earlier = flat_map ruled_out_text earlier
+
+-- the blueprint of the parts that are found; else nothing
+abbrev pub blueprint_of : Smallest → List ℕ
+blueprint_of (Found earlier grid parts) = blueprint_text parts.items
+blueprint_of (Nowhere earlier) = []
+blueprint_of (Spent earlier grid log) = []
+
+-- of a log that is used up: `spent` and the number of its steps, the line of its grid, and the steps
+abbrev pub spent_on_text : Rect → List Step → List ℕ
+spent_on_text grid steps = line (codes "spent " ++ decimal (length steps)) ++ grid_line grid ++ log_text steps
+
+-- the text: the grids that are ruled out, and then the line of the grid of the parts and their blueprint; or those grids alone; or the log that is used up
+abbrev pub smallest_text : Smallest → List ℕ
+smallest_text (Found earlier grid parts) = earlier_text earlier.items ++ grid_line grid ++ blueprint_text parts.items
+smallest_text (Nowhere earlier) = earlier_text earlier.items
+smallest_text (Spent earlier grid log) = spent_on_text grid log.steps

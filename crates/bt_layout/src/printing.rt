@@ -1,0 +1,109 @@
+//! Writing what a search for the least grid comes to, line by line, without memory.
+ghost use Rattle.std.specs.Prelude.{◌≡◌, ◌++◌, IfOk};
+ghost use Rattle.bt_io.specs.Bytes.{WritesText};
+ghost use Rattle.bt_io.specs.Passages.{passage};
+ghost use Rattle.bt_layout.specs.SmallestText.{blueprint_of, earlier_text, grid_line, nowhere_text};
+ghost use Rattle.bt_layout.specs.SmallestText.{ruled_out_text, smallest_text, spent_on_text};
+
+use crate::outcome::{RuledOut, Smallest};
+use bt_io::{Sink, WriteFault, write_all_of, write_pieces};
+use bt_log::Log;
+use bt_parts::Rect;
+use itoa::Buffer;
+use std::alloc::{AllocError, Global};
+
+/// The blueprint of the parts that were found; else nothing.
+pub fn blueprint_of(alloc: Global, answer: &Smallest) -> Result<Vec<u8>, AllocError>
+    ensures { IfOk result (λ text. text.items ≡ blueprint_of answer.now) }
+{
+    match answer {
+        Smallest::Found { parts, .. } => bt_write::text_of(alloc, parts),
+        Smallest::Nowhere(_) | Smallest::Spent { .. } => Ok(Vec::new(alloc)),
+    }
+}
+
+/// Writes the text of what a search comes to, where this is the blueprint of the parts that were found.
+///
+/// Where the sink fails, which its count of faults shows, a proper prefix of the text was written.
+pub fn print_smallest<K: Sink>(
+    answer: &Smallest,
+    blueprint: &[u8],
+    sink: &mut K,
+) -> Result<(), WriteFault>
+    requires { blueprint.now ≡ blueprint_of answer.now }
+    ensures { WritesText (passage K.held K.faults sink.old sink.new) (smallest_text answer.now) result }
+{
+    match answer {
+        Smallest::Found { earlier, grid, .. } => print_found(earlier, *grid, blueprint, sink),
+        Smallest::Nowhere(earlier) => print_earlier(earlier, sink),
+        Smallest::Spent { grid, log, .. } => print_spent(*grid, log, sink),
+    }
+}
+
+/// Writes the certificate that no layout lays a request.
+///
+/// Where the sink fails, which its count of faults shows, a proper prefix of the text was written.
+pub fn print_none<K: Sink>(log: &Log, sink: &mut K) -> Result<(), WriteFault>
+    ensures { WritesText (passage K.held K.faults sink.old sink.new) (nowhere_text log.now.steps) result }
+{
+    write_all_of(sink, b"none\n")?;
+    log.print(sink)
+}
+
+/// Writes the grids that are ruled out, and the grid and the blueprint of the parts that were found.
+fn print_found<K: Sink>(
+    earlier: &[RuledOut],
+    grid: Rect,
+    blueprint: &[u8],
+    sink: &mut K,
+) -> Result<(), WriteFault>
+    ensures { WritesText (passage K.held K.faults sink.old sink.new)
+        (earlier_text earlier.now ++ grid_line grid ++ blueprint.now) result }
+{
+    print_earlier(earlier, sink)?;
+    print_grid(grid, sink)?;
+    write_all_of(sink, blueprint)
+}
+
+/// Writes the grids that are ruled out.
+fn print_earlier<K: Sink>(earlier: &[RuledOut], sink: &mut K) -> Result<(), WriteFault>
+    ensures { WritesText (passage K.held K.faults sink.old sink.new) (earlier_text earlier.now) result }
+{
+    for one in earlier {
+        print_ruled_out(one, sink)?;
+    }
+    Ok(())
+}
+
+/// Writes a grid that is ruled out.
+fn print_ruled_out<K: Sink>(one: &RuledOut, sink: &mut K) -> Result<(), WriteFault>
+    ensures { WritesText (passage K.held K.faults sink.old sink.new) (ruled_out_text one.now) result }
+{
+    print_grid(one.grid, sink)?;
+    print_none(&one.log, sink)
+}
+
+/// Writes the line of a grid.
+fn print_grid<K: Sink>(grid: Rect, sink: &mut K) -> Result<(), WriteFault>
+    ensures { WritesText (passage K.held K.faults sink.old sink.new) (grid_line grid) result }
+{
+    let mut width = Buffer::new();
+    let mut height = Buffer::new();
+    let width = width.format(grid.width).as_bytes();
+    let height = height.format(grid.height).as_bytes();
+    write_pieces(sink, &[b"grid ", width, b"x", height, b"\n"])
+}
+
+/// Writes the grid whose log is used up, and the log.
+fn print_spent<K: Sink>(grid: Rect, log: &Log, sink: &mut K) -> Result<(), WriteFault>
+    ensures { WritesText (passage K.held K.faults sink.old sink.new)
+        (spent_on_text grid log.now.steps) result }
+{
+    let mut steps = Buffer::new();
+    write_pieces(
+        sink,
+        &[b"spent ", steps.format(log.len()).as_bytes(), b"\n"],
+    )?;
+    print_grid(grid, sink)?;
+    log.print(sink)
+}

@@ -1,0 +1,37 @@
+-- What `formula` answers.
+use Rattle.std.specs.Prelude.{◌≡◌, ℕ, List, Ok, length}
+use Rattle.bt_parts.specs.declared.part.Rect.{Rect}
+use Rattle.bt_parts.specs.declared.part.Tier.{Tier}
+use Rattle.bt_net.specs.Network.{Network}
+use Rattle.bt_flow.specs.declared.property.Property.{Property}
+use Rattle.bt_fenc.specs.FlowFormula.{flow_formula}
+use Rattle.bt_model.specs.Requests.{LayoutRequest}
+use Rattle.bt_place.specs.Blocks.{starts_of}
+use Rattle.bt_place.specs.PlaceFormula.{place_formula, sizes_of}
+use Rattle.bt_dimacs.specs.declared.columns.Columns.{Columns}
+use Rattle.bt_top.specs.declared.answer.Answer.{Answer}
+use Rattle.bt_top.specs.declared.answer.Answer.TheVariants as answer
+use Rattle.bt_top.specs.Alone.{IsLoneNet}
+use Rattle.bt_top.specs.Replies.{Reply, design_told}
+use Rattle.bt_top.specs.Requested.{IsLoneRequest}
+use Rattle.bt_top.specs.Steps.{InTurn}
+
+-- the columns of a network's flow formulas
+abbrev pub columns_of : Network → Columns
+columns_of n = record { edges = length n.edges; inputs = n.inputs }
+
+-- what is answered to a network and a property: their flow formula
+abbrev pub flow_formula_told : Property → Network → Answer
+flow_formula_told p n = answer.FlowFormula (columns_of n) (flow_formula n p)
+
+-- what is answered to a request: its placement formula, and where the blocks of its variables begin
+abbrev pub place_formula_told : LayoutRequest → Answer
+place_formula_told r = answer.PlaceFormula (starts_of (sizes_of r)) (place_formula r)
+
+-- what `formula` answers to bytes about a property: what is answered to the network of the design that they are, or the first refusal
+abbrev pub IsFlowFormulaFrom : Property → List ℕ → Reply → Type 0
+IsFlowFormulaFrom p bytes = InTurn (IsLoneNet bytes) design_told (λ n reply. reply ≡ Ok (flow_formula_told p n))
+
+-- what `formula` answers to bytes about layouts: what is answered to the request that they are, or the first refusal
+abbrev pub IsPlaceFormulaFrom : Rect → Tier → List ℕ → Reply → Type 0
+IsPlaceFormulaFrom rect tier bytes = InTurn (IsLoneRequest rect tier bytes) design_told (λ r reply. reply ≡ Ok (place_formula_told r))

@@ -1,0 +1,49 @@
+-- What `smallest` answers.
+use Rattle.std.specs.Prelude.{◌≡◌, ℕ, ◌+◌, ◌<◌, List, [], length, ◌⊎◌, None, Result, Ok, Err}
+use Rattle.bt_parts.specs.declared.part.Rect.{Rect}
+use Rattle.bt_parts.specs.declared.part.Tier.{Tier}
+use Rattle.bt_net.specs.Network.{Network, give_of, take_of}
+use Rattle.bt_model.specs.Requests.{LayoutRequest}
+use Rattle.bt_write.specs.ReadBack.{IsReadBack}
+use Rattle.bt_layout.specs.declared.outcome.Smallest.{Smallest}
+use Rattle.bt_layout.specs.declared.outcome.Smallest.TheVariants.{Found, Nowhere, Spent}
+use Rattle.bt_layout.specs.Smallest.{IsSmallest}
+use Rattle.bt_top.specs.declared.answer.Answer.TheVariants as answer
+use Rattle.bt_top.specs.declared.fault.DesignFault.{DesignFault}
+use Rattle.bt_top.specs.declared.fault.DesignFault.TheVariants.{Refused}
+use Rattle.bt_top.specs.declared.refusal.Refusal.TheVariants.{NetLine}
+use Rattle.bt_top.specs.Alone.{IsAlone}
+use Rattle.bt_top.specs.Designs.{IsTextDesign}
+use Rattle.bt_top.specs.Replies.{Reply, design_told}
+use Rattle.bt_top.specs.Requested.{pinned_net, IsRequestFor}
+use Rattle.bt_top.specs.Steps.{InTurn}
+
+-- no splitter of the network prefers an edge
+abbrev pub PrefersNone : Network → Type 0
+PrefersNone n = (k : ℕ) → k < n.splitters → (give_of n k ≡ None) × (take_of n k ≡ None)
+
+-- what comes of a network that is to be laid: itself where no splitter prefers an edge, else the refusal of its first line of a priority, which comes behind the header and those of the edges
+abbrev pub IsUnpreferring : Network → Result Network DesignFault → Type 0
+IsUnpreferring n answer = (PrefersNone n × (answer ≡ Ok n)) ⊎ ((PrefersNone n → ⊥) × (answer ≡ Err (Refused (NetLine (length n.edges + 2)))))
+
+-- what comes of bytes that are to be the text of such a network alone: the first refusal, of the text at their front, then of what follows it, then of its priorities; or the network
+abbrev pub IsPlainText : List ℕ → Result Network DesignFault → Type 0
+IsPlainText bytes = InTurn (IsAlone IsTextDesign bytes) Err IsUnpreferring
+
+-- what comes of bytes that are to be a network text alone, for parts of a tier on the greatest grid: the first refusal, of the text, then of the request; or the request
+abbrev pub IsPlainRequest : Rect → Tier → List ℕ → Result LayoutRequest DesignFault → Type 0
+IsPlainRequest most tier bytes = InTurn (IsPlainText bytes) Err (λ n. IsRequestFor most tier (pinned_net n [] []))
+
+-- the blueprint that is written of parts that are found is read as these parts
+abbrev pub IsFoundAgain : Smallest → Type 0
+IsFoundAgain (Found earlier grid parts) = IsReadBack parts.items
+IsFoundAgain (Nowhere earlier) = Unit {0}
+IsFoundAgain (Spent earlier grid log) = Unit {0}
+
+-- what is answered to a request on the greatest grid: the least grid with a layout, and parts on it whose blueprint is read as these parts; or that none has one; or the grid at which the log is used up; with a log for each grid before it
+abbrev pub IsSearched : ℕ → LayoutRequest → Reply → Type 0
+IsSearched learnt r reply = (found : Smallest) × IsSmallest r.net r.tier r.rect learnt found × IsFoundAgain found × (reply ≡ Ok (answer.Least found))
+
+-- what `smallest` answers to bytes: what is answered to the request that they are, or the first refusal
+abbrev pub IsSearchedFrom : Rect → Tier → ℕ → List ℕ → Reply → Type 0
+IsSearchedFrom most tier learnt bytes = InTurn (IsPlainRequest most tier bytes) design_told (IsSearched learnt)

@@ -1,0 +1,74 @@
+//! `formula`: the formula that `decide` or `layout` refutes.
+ghost use Rattle.std.specs.Prelude.{◌≡◌, alloc_error, Ok};
+ghost use Rattle.bt_answers.specs.Answers.{UnlessMemory};
+ghost use Rattle.bt_model.specs.Requests.{IsGrid};
+ghost use Rattle.bt_top.specs.Formulas.{IsFlowFormulaFrom, IsPlaceFormulaFrom};
+ghost use Rattle.bt_top.specs.Formulas.{columns_of, flow_formula_told, place_formula_told};
+
+use crate::alone::read_alone;
+use crate::answer::{Answer, refused};
+use crate::request::read_lone_request;
+use bt_dimacs::Columns;
+use bt_fenc::encode;
+use bt_flow::Property;
+use bt_model::Request;
+use bt_net::Net;
+use bt_parts::{Rect, Tier};
+use bt_place::{block_starts, encode_place};
+use std::alloc::{AllocError, Global};
+
+/// The answer of `formula` to the bytes of its input, about a property.
+pub fn flow_formula(alloc: Global, property: Property, bytes: &[u8]) -> Result<Answer, AllocError>
+    ensures { UnlessMemory alloc_error (IsFlowFormulaFrom property bytes.now) result }
+{
+    match read_alone(alloc, bytes) {
+        Ok(net) => flow_formula_of(alloc, property, &net),
+        Err(fault) => refused(fault),
+    }
+}
+
+/// The answer of `formula` to the bytes of its input, about layouts.
+pub fn place_formula(
+    alloc: Global,
+    rect: Rect,
+    tier: Tier,
+    bytes: &[u8],
+) -> Result<Answer, AllocError>
+    requires { IsGrid rect }
+    ensures { UnlessMemory alloc_error (IsPlaceFormulaFrom rect tier bytes.now) result }
+{
+    match read_lone_request(alloc, rect, tier, bytes) {
+        Ok(request) => place_formula_of(alloc, &request),
+        Err(fault) => refused(fault),
+    }
+}
+
+/// The answer to a network.
+fn flow_formula_of(alloc: Global, property: Property, net: &Net) -> Result<Answer, AllocError>
+    ensures { UnlessMemory alloc_error (λ reply. reply ≡ Ok (flow_formula_told property net.now)) result }
+{
+    match encode(alloc, net, property) {
+        Ok(formula) => Ok(Answer::FlowFormula(columns_of(net), formula)),
+        Err(_) => Err(AllocError),
+    }
+}
+
+/// The columns of a network's flow formulas.
+fn columns_of(net: &Net) -> Columns
+    ensures { result ≡ columns_of net.now }
+{
+    Columns {
+        edges: net.edges().len(),
+        inputs: net.inputs() as usize,
+    }
+}
+
+/// The answer to a request.
+fn place_formula_of(alloc: Global, request: &Request) -> Result<Answer, AllocError>
+    ensures { UnlessMemory alloc_error (λ reply. reply ≡ Ok (place_formula_told request.now)) result }
+{
+    match encode_place(alloc, request) {
+        Ok(formula) => Ok(Answer::PlaceFormula(block_starts(request), formula)),
+        Err(_) => Err(AllocError),
+    }
+}

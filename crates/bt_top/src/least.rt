@@ -1,0 +1,105 @@
+//! `smallest`: the least grid on which parts show a network.
+ghost use Rattle.std.specs.Prelude.{◌≡◌, ◌↔◌, IsTrue, alloc_error};
+ghost use Rattle.bt_answers.specs.Answers.{UnlessMemory};
+ghost use Rattle.bt_model.specs.Requests.{IsGrid, IsRequest};
+ghost use Rattle.bt_layout.specs.Smallest.{request_on};
+ghost use Rattle.bt_top.specs.Searching.{IsPlainRequest, IsPlainText, IsSearched, IsSearchedFrom, IsUnpreferring, PrefersNone};
+
+use crate::alone::read_lone_text;
+use crate::answer::{Answer, refused};
+use crate::fault::DesignFault;
+use crate::refusal::Refusal;
+use crate::request::{PinnedDesign, request_for};
+use bt_layout::smallest;
+use bt_model::Request;
+use bt_net::Net;
+use bt_parts::{Rect, Tier};
+use std::alloc::{AllocError, Global};
+
+/// The answer of `smallest` to the bytes of its input.
+pub fn searched(
+    alloc: Global,
+    most: Rect,
+    tier: Tier,
+    learnt: u64,
+    bytes: &[u8],
+) -> Result<Answer, AllocError>
+    requires { IsGrid most }
+    ensures { UnlessMemory alloc_error (IsSearchedFrom most tier learnt bytes.now) result }
+{
+    match read_plain_request(alloc, most, tier, bytes) {
+        Ok(request) => searched_of(alloc, learnt, &request),
+        Err(fault) => refused(fault),
+    }
+}
+
+/// The request for the network whose text the bytes are, on the greatest grid.
+fn read_plain_request(
+    alloc: Global,
+    most: Rect,
+    tier: Tier,
+    bytes: &[u8],
+) -> Result<Request, DesignFault>
+    requires { IsGrid most }
+    ensures { UnlessMemory DesignFault.Memory (IsPlainRequest most tier bytes.now) result }
+{
+    match read_plain_text(alloc, bytes) {
+        Ok(net) => {
+            let pins = Vec::new(alloc);
+            let blocks = Vec::new(alloc);
+            let used = bytes.len();
+            let design = PinnedDesign {
+                net,
+                pins,
+                blocks,
+                used,
+            };
+            request_for(most, tier, design)
+        }
+        Err(fault) => Err(fault),
+    }
+}
+
+/// The network whose text the bytes are, where no splitter of it prefers an edge.
+fn read_plain_text(alloc: Global, bytes: &[u8]) -> Result<Net, DesignFault>
+    ensures { UnlessMemory DesignFault.Memory (IsPlainText bytes.now) result }
+{
+    match read_lone_text(alloc, bytes) {
+        Ok(net) => unpreferring(net),
+        Err(fault) => Err(fault),
+    }
+}
+
+/// The network, where no splitter of it prefers an edge.
+fn unpreferring(net: Net) -> Result<Net, DesignFault>
+    ensures { UnlessMemory DesignFault.Memory (IsUnpreferring net) result }
+{
+    if prefers_none(&net) {
+        return Ok(net);
+    }
+    let line = net.edges().len() + 2;
+    Err(DesignFault::Refused(Refusal::NetLine(line)))
+}
+
+/// Whether no splitter prefers an edge.
+fn prefers_none(net: &Net) -> bool
+    ensures { IsTrue result ↔ PrefersNone net.now }
+{
+    for splitter in 0..net.splitters() as usize {
+        if net.give(splitter).is_some() || net.take(splitter).is_some() {
+            return false;
+        }
+    }
+    true
+}
+
+/// The answer to a request on the greatest grid.
+fn searched_of(alloc: Global, learnt: u64, request: &Request) -> Result<Answer, AllocError>
+    requires { IsRequest (request_on request.now.net request.now.tier request.now.rect) }
+    ensures { UnlessMemory alloc_error (IsSearched learnt request.now) result }
+{
+    match smallest(alloc, request.net(), request.tier(), request.rect(), learnt) {
+        Ok(found) => Ok(Answer::Least(found)),
+        Err(_) => Err(AllocError),
+    }
+}
