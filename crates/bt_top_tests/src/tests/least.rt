@@ -13,7 +13,7 @@ const SEARCHED: &[&str] = &[
     "smallest --most 2x2|net 2 2 1\nedge i0 s0\nedge i1 s0\nedge s0 o0\nedge s0 o1\nend\n|1|1x1 1x2 2x1 2x2",
     "smallest --tier turbo --most=3x2|net 2 2 1\nedge i0 s0\nedge i1 s0\nedge s0 o0\nedge s0 o1\nend\n \n|0|\
      1x1 1x2 2x1 3x1 2x2 3x2",
-    "smallest --most 1x2 --learnt 100|net 2 2 0\nedge i0 o1\nedge i1 o0\nend\n|0|1x1 1x2",
+    "smallest --most 1x2 --learnt 100|net 2 2 0\nedge i0 o0\nedge i1 o1\nend\n|0|1x1 1x2",
 ];
 
 /// The words, the input, the status and the text.
