@@ -95,3 +95,7 @@ three_added d d1 d2 d3 x y z e1 e2 e3 = e3 ∙ ap (λ l. l ++ z) (two_added d d1
 -- a list and one of three, taken apart
 pub four_added : {X : Type 0} (d d1 d2 s h u k : List X) → d1 ≡ d ++ s → d2 ≡ d1 ++ (h ++ u ++ k) → d2 ≡ d ++ (s ++ h ++ u ++ k)
 four_added d d1 d2 s h u k e1 e2 = two_added d d1 d2 s (h ++ u ++ k) e1 e2 ∙ ap (λ l. d ++ l) (sym (append_assoc s (h ++ u) k) ∙ ap (λ l. l ++ k) (sym (append_assoc s h u)))
+
+-- three lists, taken together from the left
+pub three_together : {X : Type 0} (d d1 d2 d3 x y z : List X) → d1 ≡ d ++ x → d2 ≡ d1 ++ y → d3 ≡ d2 ++ z → d3 ≡ d ++ (x ++ y ++ z)
+three_together d d1 d2 d3 x y z e1 e2 e3 = two_added d d2 d3 (x ++ y) z (two_added d d1 d2 x y e1 e2) e3

@@ -53,7 +53,8 @@ fn add_handing_parts(
 {
     add_handing(alloc, draft, request, plan, cell)?;
     add_underground(alloc, draft, request, plan, cell)?;
-    add_carrying(alloc, draft, request, plan, cell)
+    add_carrying(alloc, draft, request, plan, cell)?;
+    Ok(())
 }
 
 /// Adds the rules at a cell of the rectangle.
