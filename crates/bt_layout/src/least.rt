@@ -1,5 +1,6 @@
 //! Searching for the least grid on which parts show a network.
 ghost use Rattle.std.specs.Prelude.{◌≡◌, IfOk};
+ghost use Rattle.bt_net.specs.Network.{HasNoPriorities};
 ghost use Rattle.bt_model.specs.Requests.{IsRequest};
 ghost use Rattle.bt_layout.specs.Layouts.{IsLayout};
 ghost use Rattle.bt_layout.specs.Smallest.{IsSmallest, request_on};
@@ -14,7 +15,8 @@ use bt_sat::Highest;
 use std::alloc::{AllocError, Global};
 
 /// Searches for the least grid, of at most so many cells each way, on which parts of the tier show the
-/// network, with a log of at most so many steps for each grid by itself.
+/// network, with a log of at most so many steps for each grid by itself. A layout has no priorities to show, so
+/// no splitter of the network prefers an edge.
 pub fn smallest(
     alloc: Global,
     net: &Net,
@@ -22,7 +24,8 @@ pub fn smallest(
     most: Rect,
     learnt: u64,
 ) -> Result<Smallest, AllocError>
-    requires { IsRequest (request_on net.now tier most) }
+    requires request { IsRequest (request_on net.now tier most) }
+    requires plain { HasNoPriorities net.now }
     ensures { IfOk result (IsSmallest net.now tier most learnt) }
 {
     let grids = grids(alloc, most)?;
@@ -52,7 +55,8 @@ fn layout_on(
     grid: Rect,
     learnt: u64,
 ) -> Result<Layout, AllocError>
-    requires { IsRequest (request_on net.now tier grid) }
+    requires request { IsRequest (request_on net.now tier grid) }
+    requires plain { HasNoPriorities net.now }
     ensures { IfOk result (IsLayout (request_on net.now tier grid) learnt) }
 {
     let request = request_on(alloc, net, tier, grid)?;
@@ -63,7 +67,8 @@ fn layout_on(
 
 /// The request for the network on this grid.
 fn request_on(alloc: Global, net: &Net, tier: Tier, grid: Rect) -> Result<Request, AllocError>
-    requires { IsRequest (request_on net.now tier grid) }
+    requires request { IsRequest (request_on net.now tier grid) }
+    requires plain { HasNoPriorities net.now }
     ensures { IfOk result (λ request. request ≡ request_on net.now tier grid) }
 {
     let net = copy_of(alloc, net)?;
@@ -75,6 +80,7 @@ fn request_on(alloc: Global, net: &Net, tier: Tier, grid: Rect) -> Result<Reques
 
 /// The same network again.
 fn copy_of(alloc: Global, net: &Net) -> Result<Net, AllocError>
+    requires { HasNoPriorities net.now }
     ensures { IfOk result (λ copy. copy ≡ net.now) }
 {
     let edges = Vec::from_slice(alloc, net.edges())?;

@@ -16,6 +16,7 @@ pub mod NoneCertified
 pub mod Grids
 pub mod LaidOut
 pub mod LeastFound
+pub mod Preferring
 pub mod Formed
 pub mod Lasting
 pub mod Fronts

@@ -3,7 +3,7 @@ use Rattle.std.proofs.Common.{◌≡◌, ℕ, List, [], Result, Ok, Err, inl, in
 use Rattle.bt_answers.specs.Answers.{HasOneAnswer, seen}
 use Rattle.bt_parts.specs.declared.part.Rect.{Rect}
 use Rattle.bt_parts.specs.declared.part.Tier.{Tier}
-use Rattle.bt_net.specs.Network.{Network}
+use Rattle.bt_net.specs.Network.{Network, HasNoPriorities}
 use Rattle.bt_net.specs.Readings.{IsNetRead}
 use Rattle.bt_net.proofs.OneReading.{one_read}
 use Rattle.bt_model.specs.Requests.{LayoutRequest, IsRequest, request_of}
@@ -91,3 +91,16 @@ pub plain_rect : (most : Rect) (tier : Tier) (bytes : List ℕ) (r : LayoutReque
 plain_rect most tier bytes r (stopped fault h e) = absurd (not_both r fault e)
 plain_rect most tier bytes r (went_on n h (stopped fault k e)) = absurd (not_both r (request_told fault) e)
 plain_rect most tier bytes r (went_on n h (went_on made k e)) = ap (λ (x : LayoutRequest). x.rect) (same_value r made e ∙ k.0)
+
+-- nor does a splitter of its network prefer an edge
+plain_text_net : (bytes : List ℕ) (n : Network) → IsPlainText bytes (Ok n) → HasNoPriorities n
+plain_text_net bytes n (stopped fault h e) = absurd (not_both n fault e)
+plain_text_net bytes n (went_on m h (inl k)) = subst HasNoPriorities (sym (same_value n m k.1)) k.0
+plain_text_net bytes n (went_on m h (inr k)) = absurd (not_both n _ k.1)
+
+pub plain_net : (most : Rect) (tier : Tier) (bytes : List ℕ) (r : LayoutRequest) → IsPlainRequest most tier bytes (Ok r) → HasNoPriorities r.net
+plain_net most tier bytes r (stopped fault h e) = absurd (not_both r fault e)
+plain_net most tier bytes r (went_on n h (stopped fault k e)) = absurd (not_both r (request_told fault) e)
+plain_net most tier bytes r (went_on n h (went_on made k e)) =
+    let same : r ≡ request_on n tier most = same_value r made e ∙ k.0 in
+    subst (λ (x : LayoutRequest). HasNoPriorities x.net) (sym same) (plain_text_net bytes n h)

@@ -1,8 +1,8 @@
 -- What `smallest` answers.
-use Rattle.std.specs.Prelude.{◌≡◌, ℕ, ◌+◌, ◌<◌, List, [], length, ◌⊎◌, None, Result, Ok, Err}
+use Rattle.std.specs.Prelude.{◌≡◌, ℕ, ◌+◌, List, [], length, ◌⊎◌, Result, Ok, Err}
 use Rattle.bt_parts.specs.declared.part.Rect.{Rect}
 use Rattle.bt_parts.specs.declared.part.Tier.{Tier}
-use Rattle.bt_net.specs.Network.{Network, give_of, take_of}
+use Rattle.bt_net.specs.Network.{Network, HasNoPriorities}
 use Rattle.bt_model.specs.Requests.{LayoutRequest}
 use Rattle.bt_write.specs.ReadBack.{IsReadBack}
 use Rattle.bt_layout.specs.declared.outcome.Smallest.{Smallest}
@@ -18,13 +18,9 @@ use Rattle.bt_top.specs.Replies.{Reply, design_told}
 use Rattle.bt_top.specs.Requested.{pinned_net, IsRequestFor}
 use Rattle.bt_top.specs.Steps.{InTurn}
 
--- no splitter of the network prefers an edge
-abbrev pub PrefersNone : Network → Type 0
-PrefersNone n = (k : ℕ) → k < n.splitters → (give_of n k ≡ None) × (take_of n k ≡ None)
-
 -- what comes of a network that is to be laid: itself where no splitter prefers an edge, else the refusal of its first line of a priority, which comes behind the header and those of the edges
 abbrev pub IsUnpreferring : Network → Result Network DesignFault → Type 0
-IsUnpreferring n answer = (PrefersNone n × (answer ≡ Ok n)) ⊎ ((PrefersNone n → ⊥) × (answer ≡ Err (Refused (NetLine (length n.edges + 2)))))
+IsUnpreferring n answer = (HasNoPriorities n × (answer ≡ Ok n)) ⊎ ((HasNoPriorities n → ⊥) × (answer ≡ Err (Refused (NetLine (length n.edges + 2)))))
 
 -- what comes of bytes that are to be the text of such a network alone: the first refusal, of the text at their front, then of what follows it, then of its priorities; or the network
 abbrev pub IsPlainText : List ℕ → Result Network DesignFault → Type 0

@@ -1,9 +1,10 @@
 //! `smallest`: the least grid on which parts show a network.
 ghost use Rattle.std.specs.Prelude.{◌≡◌, ◌↔◌, IsTrue, alloc_error};
 ghost use Rattle.bt_answers.specs.Answers.{UnlessMemory};
+ghost use Rattle.bt_net.specs.Network.{HasNoPriorities};
 ghost use Rattle.bt_model.specs.Requests.{IsGrid, IsRequest};
 ghost use Rattle.bt_layout.specs.Smallest.{request_on};
-ghost use Rattle.bt_top.specs.Searching.{IsPlainRequest, IsPlainText, IsSearched, IsSearchedFrom, IsUnpreferring, PrefersNone};
+ghost use Rattle.bt_top.specs.Searching.{IsPlainRequest, IsPlainText, IsSearched, IsSearchedFrom, IsUnpreferring};
 
 use crate::alone::read_lone_text;
 use crate::answer::{Answer, refused};
@@ -83,8 +84,9 @@ fn unpreferring(net: Net) -> Result<Net, DesignFault>
 
 /// Whether no splitter prefers an edge.
 fn prefers_none(net: &Net) -> bool
-    ensures { IsTrue result ↔ PrefersNone net.now }
+    ensures { IsTrue result ↔ HasNoPriorities net.now }
 {
+    let _ = net.edges();
     for splitter in 0..net.splitters() as usize {
         if net.give(splitter).is_some() || net.take(splitter).is_some() {
             return false;
@@ -95,7 +97,8 @@ fn prefers_none(net: &Net) -> bool
 
 /// The answer to a request on the greatest grid.
 fn searched_of(alloc: Global, learnt: u64, request: &Request) -> Result<Answer, AllocError>
-    requires { IsRequest (request_on request.now.net request.now.tier request.now.rect) }
+    requires request { IsRequest (request_on request.now.net request.now.tier request.now.rect) }
+    requires plain { HasNoPriorities request.now.net }
     ensures { UnlessMemory alloc_error (IsSearched learnt request.now) result }
 {
     match smallest(alloc, request.net(), request.tier(), request.rect(), learnt) {

@@ -3,11 +3,14 @@ use Rattle.bt_top.specs.declared.fault.DesignFault.TheVariants.{Memory}
 use Rattle.bt_top.specs.Replies.{design_told}
 use Rattle.bt_top.specs.Searching.{IsPlainRequest, IsSearched}
 use Rattle.bt_top.proofs.InTurns.{stops, went}
-use Rattle.bt_top.proofs.OneRequest.{plain_request}
+use Rattle.bt_top.proofs.OneRequest.{plain_net, plain_request}
 use Rattle.bt_top.proofs.least.searched.Goals as goal
 
-pub searched_of-requires : goal.searched_of-requires
-searched_of-requires c = plain_request c.args.most c.args.tier c.args.bytes.now c.in-Ok.request c.in-Ok.ensures
+pub searched_of-requires-clause-plain : goal.searched_of-requires-clause-plain
+searched_of-requires-clause-plain c = plain_net c.args.most c.args.tier c.args.bytes.now c.in-Ok.request c.in-Ok.ensures
+
+pub searched_of-requires-clause-request : goal.searched_of-requires-clause-request
+searched_of-requires-clause-request c = plain_request c.args.most c.args.tier c.args.bytes.now c.in-Ok.request c.in-Ok.ensures
 
 pub returns-in-Ok : goal.returns-in-Ok
 returns-in-Ok c =
