@@ -1,0 +1,69 @@
+//! Rounds of searches, each of which goes from the back of the list to its front.
+ghost use Rattle.std.specs.Prelude.{List, IfOk};
+ghost use Rattle.bt_model.specs.Requests.{LayoutRequest};
+ghost use Rattle.bt_early.specs.Early.{IsEarly};
+ghost use Rattle.bt_early.specs.inner.Hunts.{IsHunt};
+
+use crate::hunt::{Hunt, begun, looked};
+use crate::outcome::Early;
+use bt_model::Request;
+use std::alloc::{AllocError, Global};
+
+/// The most steps of a search in the first round. Each later round has twice as many as the one before it.
+const FIRST_STEPS: u64 = 128;
+
+/// How many rounds there are at most: in the last one a search may take more steps than a log may have.
+const ROUNDS: u32 = 24;
+
+/// How many requests in a row a round passes before it ends.
+const MOST_PASSED: usize = 8;
+
+/// Looks for a layout of one of the requests, with so many steps of all searches together. Each layout that is
+/// found lets it go on to the requests before that one, where an earlier request is the better one.
+///
+/// Of the other requests nothing is said: finding a layout takes few steps or very many, so one that isn't found
+/// at once is passed, and one further to the front may be found before it.
+pub fn lay_early(alloc: Global, requests: &[Request], learnt: u64) -> Result<Early, AllocError>
+    ensures { IfOk result (IsEarly requests.now learnt) }
+{
+    let mut hunt = begun(alloc, requests.len(), learnt)?;
+    for round in 0..ROUNDS {
+        hunt = hunted(alloc, requests, hunt, FIRST_STEPS << round)?;
+    }
+    Ok(told(hunt, learnt))
+}
+
+/// One round, in which each search has at most so many steps.
+fn hunted(
+    alloc: Global,
+    requests: &[Request],
+    begun: Hunt,
+    steps: u64,
+) -> Result<Hunt, AllocError>
+    requires { IsHunt requests.now begun }
+    ensures { IfOk result (IsHunt requests.now) }
+{
+    let mut hunt = Hunt {
+        skipped: 0,
+        passed: 0,
+        ..begun
+    };
+    let mut place = hunt.places.len();
+    while place > 0 && hunt.left > 0 && hunt.passed < MOST_PASSED {
+        place -= 1;
+        hunt = looked(alloc, requests, hunt, place, steps)?;
+        place = place.saturating_sub(hunt.skipped);
+    }
+    Ok(hunt)
+}
+
+/// What was found, or how many steps were taken where nothing was.
+fn told(hunt: Hunt, learnt: u64) -> Early
+    ensures { (requests : List LayoutRequest) → IsHunt requests hunt → IsEarly requests learnt result }
+{
+    let Hunt { found, left, .. } = hunt;
+    match found {
+        Some((place, parts)) => Early::Laid { place, parts },
+        None => Early::Spent(learnt.saturating_sub(left)),
+    }
+}

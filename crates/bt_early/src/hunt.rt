@@ -1,0 +1,148 @@
+//! What was found so far, and what is left.
+ghost use Rattle.std.specs.Prelude.{◌≡◌, ◌≤◌, ◌<◌, ℕ, List, IfOk, length};
+ghost use Rattle.bt_model.specs.Requests.{LayoutRequest};
+ghost use Rattle.bt_layout.specs.Layouts.{IsLayout};
+ghost use Rattle.bt_early.specs.Early.{IsLaid};
+ghost use Rattle.bt_early.specs.inner.Hunts.{IsHunt, IsSearched, at_index};
+
+use bt_layout::{Layout, layout};
+use bt_model::Request;
+use bt_parts::Part;
+use bt_sat::Highest;
+use std::alloc::{AllocError, Global};
+
+/// What was found so far, and what is left.
+#[derive(Drop)]
+pub struct Hunt {
+    /// The places of the requests that may still be laid, in their order.
+    pub places: Vec<usize>,
+    /// The place of the request that was laid last, and the parts that lay it.
+    pub found: Option<(usize, Vec<Part>)>,
+    /// How many steps are left.
+    pub left: u64,
+    /// How many places are left out before the next search: none at first, and each time that a layout is found
+    /// twice as many and one.
+    pub skipped: usize,
+    /// How many requests were passed in a row.
+    pub passed: usize,
+}
+
+/// At the beginning each of so many requests may be laid.
+pub fn begun(alloc: Global, count: usize, learnt: u64) -> Result<Hunt, AllocError>
+    ensures { (requests : List LayoutRequest) → count ≡ length requests → IfOk result (IsHunt requests) }
+{
+    let mut places = Vec::new(alloc);
+    for place in 0..count {
+        places.push(place)?;
+    }
+    Ok(Hunt {
+        places,
+        found: None,
+        left: learnt,
+        skipped: 0,
+        passed: 0,
+    })
+}
+
+/// Searches for a layout of the request whose place is open at this index, with at most so many steps of those
+/// that are left.
+pub fn looked(
+    alloc: Global,
+    requests: &[Request],
+    hunt: Hunt,
+    at: usize,
+    steps: u64,
+) -> Result<Hunt, AllocError>
+    requires hunt { IsHunt requests.now hunt }
+    requires inside { at < length hunt.places.items }
+    ensures hunt { IfOk result (IsHunt requests.now) }
+    ensures places { IfOk result (λ after. at ≤ length after.places.items) }
+{
+    let place = hunt.places[at];
+    let most = steps.min(hunt.left);
+    let outcome = searched(alloc, &requests[place], most)?;
+    Ok(noted(hunt, at, most, outcome))
+}
+
+/// Searches for a layout of a request. The chooser fills the rectangle from one corner.
+fn searched(alloc: Global, request: &Request, learnt: u64) -> Result<Layout, AllocError>
+    ensures { IfOk result (IsLayout request.now learnt) }
+{
+    let mut choosers = Vec::new(alloc);
+    choosers.push(Highest::new())?;
+    layout(alloc, request, learnt, choosers)
+}
+
+/// With what a search of at most so many steps came to.
+fn noted(hunt: Hunt, at: usize, most: u64, outcome: Layout) -> Hunt
+    requires { at < length hunt.places.items }
+    ensures hunt { (requests : List LayoutRequest) → IsHunt requests hunt → IsSearched requests hunt at outcome
+        → IsHunt requests result }
+    ensures places { at ≤ length result.places.items }
+{
+    match outcome {
+        Layout::Found(parts) => laid(hunt, at, most, parts),
+        Layout::Nowhere(log) => closed(hunt, at, log.len() as u64),
+        Layout::Spent(_) => passed(hunt, most),
+    }
+}
+
+/// With a layout of the request whose place is open at this index: those before it are left.
+fn laid(hunt: Hunt, at: usize, most: u64, parts: Vec<Part>) -> Hunt
+    requires { at < length hunt.places.items }
+    ensures hunt { (requests : List LayoutRequest) → IsHunt requests hunt → IsLaid requests (at_index hunt at) parts
+        → IsHunt requests result }
+    ensures places { at ≤ length result.places.items }
+{
+    let Hunt {
+        mut places,
+        left,
+        skipped,
+        ..
+    } = hunt;
+    let place = places[at];
+    places.truncate(at);
+    Hunt {
+        places,
+        found: Some((place, parts)),
+        left: left.saturating_sub(most),
+        skipped: skipped.saturating_mul(2).saturating_add(1),
+        passed: 0,
+    }
+}
+
+/// Without the place that is open at this index, whose request has no layout, as so many steps showed.
+fn closed(hunt: Hunt, at: usize, steps: u64) -> Hunt
+    requires { at < length hunt.places.items }
+    ensures hunt { (requests : List LayoutRequest) → IsHunt requests hunt → IsHunt requests result }
+    ensures places { at ≤ length result.places.items }
+{
+    let Hunt {
+        mut places,
+        found,
+        left,
+        passed,
+        ..
+    } = hunt;
+    let _ = places.remove(at);
+    Hunt {
+        places,
+        found,
+        left: left.saturating_sub(steps),
+        skipped: 0,
+        passed,
+    }
+}
+
+/// With a request that is passed after so many steps.
+fn passed(hunt: Hunt, steps: u64) -> Hunt
+    ensures hunt { (requests : List LayoutRequest) → IsHunt requests hunt → IsHunt requests result }
+    ensures places { result.places ≡ hunt.places }
+{
+    Hunt {
+        left: hunt.left.saturating_sub(steps),
+        skipped: 0,
+        passed: hunt.passed.saturating_add(1),
+        ..hunt
+    }
+}

@@ -1,0 +1,10 @@
+//! Looking for a layout of one of several requests, as far to the front of their list as it is found.
+#![tactic(auto)]
+
+mod early;
+mod hunt;
+mod outcome;
+
+pub use early::lay_early;
+pub use outcome::Early;
+pub use std::alloc::AllocError as Memory;
