@@ -34,12 +34,7 @@ pub fn lay_early(alloc: Global, requests: &[Request], learnt: u64) -> Result<Ear
 }
 
 /// One round, in which each search has at most so many steps.
-fn hunted(
-    alloc: Global,
-    requests: &[Request],
-    begun: Hunt,
-    steps: u64,
-) -> Result<Hunt, AllocError>
+fn hunted(alloc: Global, requests: &[Request], begun: Hunt, steps: u64) -> Result<Hunt, AllocError>
     requires { IsHunt requests.now begun }
     ensures { IfOk result (IsHunt requests.now) }
 {
