@@ -1,2 +1,2 @@
 -- Definitions that private functions alone cite.
-pub mod Hunts
+pub mod Progressing

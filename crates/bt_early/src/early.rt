@@ -2,9 +2,9 @@
 ghost use Rattle.std.specs.Prelude.{List, IfOk};
 ghost use Rattle.bt_model.specs.Requests.{LayoutRequest};
 ghost use Rattle.bt_early.specs.Early.{IsEarly};
-ghost use Rattle.bt_early.specs.inner.Hunts.{IsHunt};
+ghost use Rattle.bt_early.specs.inner.Progressing.{IsProgress};
 
-use crate::hunt::{Hunt, begun, looked};
+use crate::progress::{Progress, begun, looked};
 use crate::outcome::Early;
 use bt_model::Request;
 use std::alloc::{AllocError, Global};
@@ -26,37 +26,37 @@ const MOST_PASSED: usize = 8;
 pub fn lay_early(alloc: Global, requests: &[Request], learnt: u64) -> Result<Early, AllocError>
     ensures { IfOk result (IsEarly requests.now learnt) }
 {
-    let mut hunt = begun(alloc, requests.len(), learnt)?;
+    let mut progress = begun(alloc, requests.len(), learnt)?;
     for round in 0..ROUNDS {
-        hunt = hunted(alloc, requests, hunt, FIRST_STEPS << round)?;
+        progress = after_round(alloc, requests, progress, FIRST_STEPS << round)?;
     }
-    Ok(told(hunt, learnt))
+    Ok(told(progress, learnt))
 }
 
 /// One round, in which each search has at most so many steps.
-fn hunted(alloc: Global, requests: &[Request], begun: Hunt, steps: u64) -> Result<Hunt, AllocError>
-    requires { IsHunt requests.now begun }
-    ensures { IfOk result (IsHunt requests.now) }
+fn after_round(alloc: Global, requests: &[Request], begun: Progress, steps: u64) -> Result<Progress, AllocError>
+    requires { IsProgress requests.now begun }
+    ensures { IfOk result (IsProgress requests.now) }
 {
-    let mut hunt = Hunt {
+    let mut progress = Progress {
         skipped: 0,
         passed: 0,
         ..begun
     };
-    let mut place = hunt.places.len();
-    while place > 0 && hunt.left > 0 && hunt.passed < MOST_PASSED {
+    let mut place = progress.places.len();
+    while place > 0 && progress.left > 0 && progress.passed < MOST_PASSED {
         place -= 1;
-        hunt = looked(alloc, requests, hunt, place, steps)?;
-        place = place.saturating_sub(hunt.skipped);
+        progress = looked(alloc, requests, progress, place, steps)?;
+        place = place.saturating_sub(progress.skipped);
     }
-    Ok(hunt)
+    Ok(progress)
 }
 
 /// What was found, or how many steps were taken where nothing was.
-fn told(hunt: Hunt, learnt: u64) -> Early
-    ensures { (requests : List LayoutRequest) → IsHunt requests hunt → IsEarly requests learnt result }
+fn told(progress: Progress, learnt: u64) -> Early
+    ensures { (requests : List LayoutRequest) → IsProgress requests progress → IsEarly requests learnt result }
 {
-    let Hunt { found, left, .. } = hunt;
+    let Progress { found, left, .. } = progress;
     match found {
         Some((place, parts)) => Early::Laid { place, parts },
         None => Early::Spent(learnt.saturating_sub(left)),

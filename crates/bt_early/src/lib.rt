@@ -2,7 +2,7 @@
 #![tactic(auto)]
 
 mod early;
-mod hunt;
+mod progress;
 mod outcome;
 
 pub use early::lay_early;

@@ -1,6 +1,6 @@
-use Rattle.bt_early.specs.inner.Hunts.{IsHunt}
+use Rattle.bt_early.specs.inner.Progressing.{IsProgress}
 use Rattle.bt_early.proofs.early.lay_early.Given as goal
 
 -- what was found lays its request
 abbrev pub invariant-loop-round : goal.invariant-loop-round
-invariant-loop-round l = IsHunt l.requests l.hunt
+invariant-loop-round l = IsProgress l.requests l.progress

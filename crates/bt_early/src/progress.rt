@@ -3,7 +3,7 @@ ghost use Rattle.std.specs.Prelude.{◌≡◌, ◌≤◌, ◌<◌, ℕ, List, If
 ghost use Rattle.bt_model.specs.Requests.{LayoutRequest};
 ghost use Rattle.bt_layout.specs.Layouts.{IsLayout};
 ghost use Rattle.bt_early.specs.Early.{IsLaid};
-ghost use Rattle.bt_early.specs.inner.Hunts.{IsHunt, IsSearched, at_index};
+ghost use Rattle.bt_early.specs.inner.Progressing.{IsProgress, IsSearched, at_index};
 
 use bt_layout::{Layout, layout};
 use bt_model::Request;
@@ -13,7 +13,7 @@ use std::alloc::{AllocError, Global};
 
 /// What was found so far, and what is left.
 #[derive(Drop)]
-pub struct Hunt {
+pub struct Progress {
     /// The places of the requests that may still be laid, in their order.
     pub places: Vec<usize>,
     /// The place of the request that was laid last, and the parts that lay it.
@@ -28,14 +28,14 @@ pub struct Hunt {
 }
 
 /// At the beginning each of so many requests may be laid.
-pub fn begun(alloc: Global, count: usize, learnt: u64) -> Result<Hunt, AllocError>
-    ensures { (requests : List LayoutRequest) → count ≡ length requests → IfOk result (IsHunt requests) }
+pub fn begun(alloc: Global, count: usize, learnt: u64) -> Result<Progress, AllocError>
+    ensures { (requests : List LayoutRequest) → count ≡ length requests → IfOk result (IsProgress requests) }
 {
     let mut places = Vec::new(alloc);
     for place in 0..count {
         places.push(place)?;
     }
-    Ok(Hunt {
+    Ok(Progress {
         places,
         found: None,
         left: learnt,
@@ -49,19 +49,19 @@ pub fn begun(alloc: Global, count: usize, learnt: u64) -> Result<Hunt, AllocErro
 pub fn looked(
     alloc: Global,
     requests: &[Request],
-    hunt: Hunt,
+    progress: Progress,
     at: usize,
     steps: u64,
-) -> Result<Hunt, AllocError>
-    requires hunt { IsHunt requests.now hunt }
-    requires inside { at < length hunt.places.items }
-    ensures hunt { IfOk result (IsHunt requests.now) }
+) -> Result<Progress, AllocError>
+    requires progress { IsProgress requests.now progress }
+    requires inside { at < length progress.places.items }
+    ensures progress { IfOk result (IsProgress requests.now) }
     ensures places { IfOk result (λ after. at ≤ length after.places.items) }
 {
-    let place = hunt.places[at];
-    let most = steps.min(hunt.left);
+    let place = progress.places[at];
+    let most = steps.min(progress.left);
     let outcome = searched(alloc, &requests[place], most)?;
-    Ok(noted(hunt, at, most, outcome))
+    Ok(noted(progress, at, most, outcome))
 }
 
 /// Searches for a layout of a request. The chooser fills the rectangle from one corner.
@@ -74,35 +74,35 @@ fn searched(alloc: Global, request: &Request, learnt: u64) -> Result<Layout, All
 }
 
 /// With what a search of at most so many steps came to.
-fn noted(hunt: Hunt, at: usize, most: u64, outcome: Layout) -> Hunt
-    requires { at < length hunt.places.items }
-    ensures hunt { (requests : List LayoutRequest) → IsHunt requests hunt → IsSearched requests hunt at outcome
-        → IsHunt requests result }
+fn noted(progress: Progress, at: usize, most: u64, outcome: Layout) -> Progress
+    requires { at < length progress.places.items }
+    ensures progress { (requests : List LayoutRequest)
+        → IsProgress requests progress → IsSearched requests progress at outcome → IsProgress requests result }
     ensures places { at ≤ length result.places.items }
 {
     match outcome {
-        Layout::Found(parts) => laid(hunt, at, most, parts),
-        Layout::Nowhere(log) => closed(hunt, at, log.len() as u64),
-        Layout::Spent(_) => passed(hunt, most),
+        Layout::Found(parts) => laid(progress, at, most, parts),
+        Layout::Nowhere(log) => closed(progress, at, log.len() as u64),
+        Layout::Spent(_) => passed(progress, most),
     }
 }
 
 /// With a layout of the request whose place is open at this index: those before it are left.
-fn laid(hunt: Hunt, at: usize, most: u64, parts: Vec<Part>) -> Hunt
-    requires { at < length hunt.places.items }
-    ensures hunt { (requests : List LayoutRequest) → IsHunt requests hunt → IsLaid requests (at_index hunt at) parts
-        → IsHunt requests result }
+fn laid(progress: Progress, at: usize, most: u64, parts: Vec<Part>) -> Progress
+    requires { at < length progress.places.items }
+    ensures progress { (requests : List LayoutRequest)
+        → IsProgress requests progress → IsLaid requests (at_index progress at) parts → IsProgress requests result }
     ensures places { at ≤ length result.places.items }
 {
-    let Hunt {
+    let Progress {
         mut places,
         left,
         skipped,
         ..
-    } = hunt;
+    } = progress;
     let place = places[at];
     places.truncate(at);
-    Hunt {
+    Progress {
         places,
         found: Some((place, parts)),
         left: left.saturating_sub(most),
@@ -112,20 +112,20 @@ fn laid(hunt: Hunt, at: usize, most: u64, parts: Vec<Part>) -> Hunt
 }
 
 /// Without the place that is open at this index, whose request has no layout, as so many steps showed.
-fn closed(hunt: Hunt, at: usize, steps: u64) -> Hunt
-    requires { at < length hunt.places.items }
-    ensures hunt { (requests : List LayoutRequest) → IsHunt requests hunt → IsHunt requests result }
+fn closed(progress: Progress, at: usize, steps: u64) -> Progress
+    requires { at < length progress.places.items }
+    ensures progress { (requests : List LayoutRequest) → IsProgress requests progress → IsProgress requests result }
     ensures places { at ≤ length result.places.items }
 {
-    let Hunt {
+    let Progress {
         mut places,
         found,
         left,
         passed,
         ..
-    } = hunt;
+    } = progress;
     let _ = places.remove(at);
-    Hunt {
+    Progress {
         places,
         found,
         left: left.saturating_sub(steps),
@@ -135,14 +135,14 @@ fn closed(hunt: Hunt, at: usize, steps: u64) -> Hunt
 }
 
 /// With a request that is passed after so many steps.
-fn passed(hunt: Hunt, steps: u64) -> Hunt
-    ensures hunt { (requests : List LayoutRequest) → IsHunt requests hunt → IsHunt requests result }
-    ensures places { result.places ≡ hunt.places }
+fn passed(progress: Progress, steps: u64) -> Progress
+    ensures progress { (requests : List LayoutRequest) → IsProgress requests progress → IsProgress requests result }
+    ensures places { result.places ≡ progress.places }
 {
-    Hunt {
-        left: hunt.left.saturating_sub(steps),
+    Progress {
+        left: progress.left.saturating_sub(steps),
         skipped: 0,
-        passed: hunt.passed.saturating_add(1),
-        ..hunt
+        passed: progress.passed.saturating_add(1),
+        ..progress
     }
 }

@@ -1,0 +1,22 @@
+-- What was found so far, and what is left.
+use Rattle.std.specs.Prelude.{◌≡◌, ℕ, ◌<◌, List, All, IfSome, get_or, length}
+use Rattle.bt_model.specs.Requests.{LayoutRequest}
+use Rattle.bt_layout.specs.declared.outcome.Layout.{Layout}
+use Rattle.bt_layout.specs.declared.outcome.Layout.TheVariants.{Found, Nowhere, Spent}
+use Rattle.bt_early.specs.declared.progress.Progress.{Progress}
+use Rattle.bt_early.specs.Early.{IsLaid}
+
+-- each place that is open is one of the list, and the parts that were found lay the request at their place
+pub record IsProgress (requests : List LayoutRequest) (progress : Progress) : Type 0 where
+  pub places : All (λ place. place < length requests) progress.places.items
+  pub found : IfSome progress.found (λ laid. IsLaid requests laid.0 laid.1)
+
+-- the place that is open at an index
+abbrev pub at_index : Progress → ℕ → ℕ
+at_index progress at = get_or progress.places.items at 0
+
+-- where parts were found, they lay the request whose place is open at the index
+abbrev pub IsSearched : List LayoutRequest → Progress → ℕ → Layout → Type 0
+IsSearched requests progress at (Found parts) = IsLaid requests (at_index progress at) parts
+IsSearched requests progress at (Nowhere log) = Unit {0}
+IsSearched requests progress at (Spent log) = Unit {0}
