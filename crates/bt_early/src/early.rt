@@ -4,8 +4,8 @@ ghost use Rattle.bt_model.specs.Requests.{LayoutRequest};
 ghost use Rattle.bt_early.specs.Early.{IsEarly};
 ghost use Rattle.bt_early.specs.inner.Progressing.{IsProgress};
 
-use crate::progress::{Progress, begun, looked};
 use crate::outcome::Early;
+use crate::progress::{Progress, begun, looked};
 use bt_model::Request;
 use std::alloc::{AllocError, Global};
 
@@ -34,7 +34,12 @@ pub fn lay_early(alloc: Global, requests: &[Request], learnt: u64) -> Result<Ear
 }
 
 /// One round, in which each search has at most so many steps.
-fn after_round(alloc: Global, requests: &[Request], begun: Progress, steps: u64) -> Result<Progress, AllocError>
+fn after_round(
+    alloc: Global,
+    requests: &[Request],
+    begun: Progress,
+    steps: u64,
+) -> Result<Progress, AllocError>
     requires { IsProgress requests.now begun }
     ensures { IfOk result (IsProgress requests.now) }
 {
@@ -54,7 +59,8 @@ fn after_round(alloc: Global, requests: &[Request], begun: Progress, steps: u64)
 
 /// What was found, or how many steps were taken where nothing was.
 fn told(progress: Progress, learnt: u64) -> Early
-    ensures { (requests : List LayoutRequest) → IsProgress requests progress → IsEarly requests learnt result }
+    ensures { (requests : List LayoutRequest) → IsProgress requests progress
+        → IsEarly requests learnt result }
 {
     let Progress { found, left, .. } = progress;
     match found {

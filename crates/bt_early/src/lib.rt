@@ -2,8 +2,8 @@
 #![tactic(auto)]
 
 mod early;
-mod progress;
 mod outcome;
+mod progress;
 
 pub use early::lay_early;
 pub use outcome::Early;

@@ -29,7 +29,8 @@ pub struct Progress {
 
 /// At the beginning each of so many requests may be laid.
 pub fn begun(alloc: Global, count: usize, learnt: u64) -> Result<Progress, AllocError>
-    ensures { (requests : List LayoutRequest) → count ≡ length requests → IfOk result (IsProgress requests) }
+    ensures { (requests : List LayoutRequest) → count ≡ length requests
+        → IfOk result (IsProgress requests) }
 {
     let mut places = Vec::new(alloc);
     for place in 0..count {
@@ -77,7 +78,8 @@ fn searched(alloc: Global, request: &Request, learnt: u64) -> Result<Layout, All
 fn noted(progress: Progress, at: usize, most: u64, outcome: Layout) -> Progress
     requires { at < length progress.places.items }
     ensures progress { (requests : List LayoutRequest)
-        → IsProgress requests progress → IsSearched requests progress at outcome → IsProgress requests result }
+        → IsProgress requests progress → IsSearched requests progress at outcome
+        → IsProgress requests result }
     ensures places { at ≤ length result.places.items }
 {
     match outcome {
@@ -91,7 +93,8 @@ fn noted(progress: Progress, at: usize, most: u64, outcome: Layout) -> Progress
 fn laid(progress: Progress, at: usize, most: u64, parts: Vec<Part>) -> Progress
     requires { at < length progress.places.items }
     ensures progress { (requests : List LayoutRequest)
-        → IsProgress requests progress → IsLaid requests (at_index progress at) parts → IsProgress requests result }
+        → IsProgress requests progress → IsLaid requests (at_index progress at) parts
+        → IsProgress requests result }
     ensures places { at ≤ length result.places.items }
 {
     let Progress {
@@ -114,7 +117,8 @@ fn laid(progress: Progress, at: usize, most: u64, parts: Vec<Part>) -> Progress
 /// Without the place that is open at this index, whose request has no layout, as so many steps showed.
 fn closed(progress: Progress, at: usize, steps: u64) -> Progress
     requires { at < length progress.places.items }
-    ensures progress { (requests : List LayoutRequest) → IsProgress requests progress → IsProgress requests result }
+    ensures progress { (requests : List LayoutRequest) → IsProgress requests progress
+        → IsProgress requests result }
     ensures places { at ≤ length result.places.items }
 {
     let Progress {
@@ -136,7 +140,8 @@ fn closed(progress: Progress, at: usize, steps: u64) -> Progress
 
 /// With a request that is passed after so many steps.
 fn passed(progress: Progress, steps: u64) -> Progress
-    ensures progress { (requests : List LayoutRequest) → IsProgress requests progress → IsProgress requests result }
+    ensures progress { (requests : List LayoutRequest) → IsProgress requests progress
+        → IsProgress requests result }
     ensures places { result.places ≡ progress.places }
 {
     Progress {
