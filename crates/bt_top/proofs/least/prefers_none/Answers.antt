@@ -13,13 +13,14 @@ differ told found edge holds is same none = sym (ap is_some (same ∙ none)) ∙
 pub returns-then-is_some : goal.returns-then-is_some
 returns-then-is_some c =
     let n = c.args.net.now in
-    let k = c.loop-splitter.splitter in
-    (λ t. absurd (false≢true t),
+    let k = c.loop-splitter.splitter in (
+      λ t. absurd (false≢true t),
       λ plain. elim c.then-is_some.branch [
         | then-is_some-via-then-is_some w ↦ differ c.is_some.result c.give.result _ w.if-is_some.true c.is_some.ensures c.give.ensures (plain_gives n plain k)
         | then-is_some-via-else-is_some+then-is_some-2 w ↦
             differ w.is_some-else-is_some.result w.take.result _ w.if-is_some-2.true w.is_some-else-is_some.ensures w.take.ensures (plain_takes n plain k)
-      ])
+      ],
+    )
 
 pub returns : goal.returns
 returns c =
