@@ -344,8 +344,8 @@ def flow_formula(net, prop):
     loaded, roomed = [pair([e], [c]) for c, e in loads], [pair([e], [d]) for d, e in rooms]
     # Even: out of a splitter each edge is backed, into it free, or it carries enough, or it is full.
     for (prior, side, x, y), at_least in zip(net.beside(), enough):
-        or_full = [full[x]] * (prior or edges[x].cap < edges[y].cap)
-        clause([-backed(x) if side else backed(x), at_least, *or_full])
+        slower = [full[x]] * (edges[x].cap < edges[y].cap)
+        clause([-backed(x) if side else backed(x), *([full[x], at_least] if prior else [at_least, *slower])])
     # Backing: an edge into a splitter is free, or each edge out of it is backed or full.
     for a, x in (pair for s in net.ends("s") for pair in product(net.ins[s], net.outs[s])):
         clause([-backed(a), backed(x), full[x]])

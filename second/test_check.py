@@ -213,7 +213,7 @@ class Formulas(unittest.TestCase):
         first = check.flow_formula(check.read_net(FIRST, False)[0], "full")
         enough = next(v for v, row in first.rows.items() if row == ([(2, -1)], ">=", 0))
         full = next(v for v, row in first.rows.items() if row == ([(1, 1)], ">=", 1))
-        self.assertIn([2, enough, full], first.clauses)
+        self.assertIn([2, full, enough], first.clauses)
         self.assertIn([enough, enough + 1], first.clauses)
         taken = check.flow_formula(check.read_net(TAKEN, False)[0], "full")
         self.assertEqual(sum(clause[0] == -1 and len(clause) == 3 for clause in taken.clauses), 2)
