@@ -116,8 +116,10 @@ fn is_decided(
 /// Whether the property holds, by a search without scopes, guesses and choosers, where its evidence is accepted.
 fn searched(alloc: Global, net: &Net, property: Property) -> Result<Option<bool>, AllocError> {
     let choosers: Vec<Box<dyn Chooser>> = Vec::new(alloc);
+    let scopes: Vec<Vec<usize>> = Vec::new(alloc);
+    let guesses: Vec<Vec<bool>> = Vec::new(alloc);
     let formula = encode(alloc, net, property)?;
-    let (holds, accepted) = match solve(alloc, formula, &[], &[], choosers, LIMITS)? {
+    let (holds, accepted) = match solve(alloc, formula, &scopes, &guesses, choosers, LIMITS)? {
         Outcome::Refuted(log) => (
             true,
             is_accepted(alloc, &encode(alloc, net, property)?, &log)?,
