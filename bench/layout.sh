@@ -1,68 +1,115 @@
 #!/usr/bin/env bash
-# Times `beltproof layout` as a whole program against cadical and minisat on the same formula, which bench/place.rs
-# (compiled by `rustc -O`) writes in DIMACS form, and prints the two ratios. It needs both solvers (`apt-get install
-# cadical minisat`).
+# Times `beltproof layout` as a whole program against SAT solvers on the formula that it refutes or meets, which
+# `beltproof formula` prints, and tells for each request and grid the answer, the steps of a log, the seconds of the
+# processor, the program's memory, and each solver's seconds and the ratio. What takes less than a hundredth of a second
+# counts as one. Of what a solver doesn't answer in its time the time is told, and no ratio.
+#
+#     bench/layout.sh [NAME ...]
+#
+# measures the requests whose names begin so, by default all. It takes those of cadical, minisat and cryptominisat5 that
+# it finds (`apt-get install minisat cryptominisat`).
 set -euo pipefail
-top=$(cd "$(dirname "${BASH_SOURCE[0]}")/.." && pwd)
-folder=$(mktemp -d)
-trap 'rm -rf "$folder"' EXIT
-rustc -O --edition 2024 -o "$folder/place" "$top/bench/place.rs"
+bench=$(cd "$(dirname "${BASH_SOURCE[0]}")" && pwd)
+top=$(dirname "$bench")
+work=$(mktemp -d)
+trap 'rm -rf "$work"' EXIT
 program=$("$top/tools/program")
-python3 - "$program" "$folder/place" "$top/examples" "$folder" <<'PYTHON'
-import os, subprocess, sys
+PYTHONDONTWRITEBYTECODE=1 PYTHONPATH=$bench python3 - "$program" "$top/examples" "$work" "$@" <<'PYTHON'
+import os, re, shutil, signal, subprocess, sys, threading
+from pathlib import Path
 
-program, writer, examples, folder = sys.argv[1:]
-STAGED = "s0 s2,s0 s3,s1 s2,s1 s3,s2 s4,s2 s5,s3 s4,s3 s5"
-RING = "s0 s4,s0 s5,s1 s5,s1 s6,s2 s6,s2 s7,s3 s7,s3 s4"
-# A request, its grid, the answer, and the most that the program should take as times of cadical, where there is a goal.
+import networks
+
+program, examples, work, *wanted_names = sys.argv[1:]
+SECONDS, SOLVER_SECONDS, LEAST = 300, 60, 0.01
+SOLVERS = [words for words in (["cadical", "-q"], ["minisat", "-verb=0"], ["cryptominisat5", "--verb", "0"]) if shutil.which(words[0])]
+# A request, its grids, and what is wanted there: an answer, the most seconds, and the most as times of cadical.
 CASES = [
-    ("balancer-4-to-4", "5x8", "found", 1), ("balancer-4-to-4", "5x5", "none", 1), ("ring-8-to-8", "8x8", "found", 0.5),
-    ("stages-4-to-4", "6x6", "none", 4), ("balancer-4-to-4", "8x5", "found", None), ("balancer-4-to-4", "4x10", "found", None),
-    ("stages-4-to-4", "5x8", "found", None), ("butterfly-4-to-4", "5x6", "found", None), ("splitter-2-to-2", "2x3", "found", None),
+    ("balancer-4-to-4", ["4x6", "5x8"], "found", 0.05, None),
+    ("balancer-4-to-4", ["5x5"], "none", None, 0.3),
+    ("stages-4-to-4", ["5x7"], "found", None, None),
+    ("stages-4-to-4", ["5x6", "6x6"], "none", None, 1),
+    ("ring-8-to-8", ["8x8"], "found", 0.5, None),
+    ("ring-6-to-6", ["4x8", "16x16"], "found", 1, None),
+    ("one-belt", ["16x16"], "found", 1, None),
+    ("balancer-8-to-8", ["9x11"], "found", 2, None),
+    ("balancer-8-to-8", ["12x12", "8x16", "9x12", "8x14", "8x13", "10x10", "10x11"], "found", 20, None),
+    ("balancer-8-to-8", ["8x12", "9x10"], "found", None, None),
+    ("loop-6-to-6", ["12x14", "12x12"], "found", None, None),
+    ("loop-7-to-7", ["12x14", "12x12"], "found", None, None),
 ]
 
 
-def network(ends, splitters, middle):
-    """As many inputs as outputs: two of each for each of the first and of the last splitters, and the edges in the middle."""
-    last = splitters - ends // 2
-    edges = [f"i{i} s{i // 2}" for i in range(ends)] + middle.split(",") + [f"s{last + o // 2} o{o}" for o in range(ends)]
-    return "\n".join([f"net {ends} {ends} {splitters}", *(f"edge {edge}" for edge in edges), "end"]) + "\n"
+def staged(ends, stages):
+    """As many inputs as outputs, two at each of the first and of the last splitters, and the edges between."""
+    splitters = [int(number) for number in re.findall("s([0-9]+)", stages)]
+    last = max(splitters) + 1 - ends // 2
+    edges = [f"i{i} s{i // 2}" for i in range(ends)] + stages.split(",") + [f"s{last + o // 2} o{o}" for o in range(ends)]
+    return "\n".join([f"net {ends} {ends} {max(splitters) + 1}", *(f"edge {edge}" for edge in edges), "end"]) + "\n"
 
 
-def run(words, text, rounds):
-    """The least processor seconds of some runs, and what was printed."""
-    path = os.path.join(folder, "input")
-    open(path, "w").write(text)
-    best, printed = None, b""
+def balancer():
+    """The balancer of the examples, for loops: its edges as networks.py has them."""
+    text = (Path(examples) / "balancer-8-to-8.net").read_text()
+    ends = [tuple((end[0], int(end[1:])) for end in line.split()[1:3]) for line in text.splitlines() if line.startswith("edge")]
+    return networks.Network(8, 8, 12, ends)
+
+
+MADE = {
+    "stages-4-to-4": lambda: staged(4, "s0 s2,s0 s3,s1 s2,s1 s3,s2 s4,s2 s5,s3 s4,s3 s5"),
+    "ring-8-to-8": lambda: staged(8, "s0 s4,s0 s5,s1 s5,s1 s6,s2 s6,s2 s7,s3 s7,s3 s4"),
+    "ring-6-to-6": lambda: staged(6, "s0 s3,s0 s4,s1 s4,s1 s5,s2 s5,s2 s3"),
+    "loop-6-to-6": lambda: networks.looped(balancer(), 6).text(),
+    "loop-7-to-7": lambda: networks.looped(balancer(), 7).text(),
+}
+
+
+def run(words, text, rounds, limit):
+    """The least processor seconds of some runs and the most memory in MB, what was printed, or None where it takes too long."""
+    path = Path(work) / "input"
+    path.write_text(text)
+    best, most, printed = None, 0, ""
     for _ in range(rounds):
-        with open(path, "rb") as file:
+        with path.open("rb") as file:
             process = subprocess.Popen(words, stdin=file, stdout=subprocess.PIPE, stderr=subprocess.DEVNULL)
-            printed = process.stdout.read()
-            _, _, usage = os.wait4(process.pid, 0)
-        time = usage.ru_utime + usage.ru_stime
-        best = time if best is None else min(best, time)
-        if time > 5:
+            timer = threading.Timer(limit, lambda: process.send_signal(signal.SIGKILL))
+            timer.start()
+            printed = process.stdout.read().decode()
+            _, status, usage = os.wait4(process.pid, 0)
+            timer.cancel()
+            process.returncode = status
+        if os.WIFSIGNALED(status):
+            return None, usage.ru_maxrss / 1024, ""
+        seconds = usage.ru_utime + usage.ru_stime
+        best, most = seconds if best is None else min(best, seconds), max(most, usage.ru_maxrss / 1024)
+        if seconds > 3:
             break
-    return best, printed.decode()
+    return best, most, printed
 
 
-made = {"ring-8-to-8": network(8, 8, RING), "stages-4-to-4": network(4, 6, STAGED)}
-print("| request | grid | answer | beltproof | cadical | minisat | times cadical | times minisat | goal |")
-print("|---|---|---|---|---|---|---|---|---|")
-for name, grid, wanted, goal in CASES:
-    text = made.get(name) or open(os.path.join(examples, f"{name}.net")).read()
-    _, formula = run([writer, grid, "dimacs"], text, 1)
-    rivals = []
-    for rival in ("cadical", "minisat"):
-        time, printed = run([rival, "/dev/stdin"], formula, 3)
-        found = "UNSATISFIABLE" not in printed
-        if found != (wanted == "found"):
-            sys.exit(f"{name} in {grid}: {rival} says otherwise")
-        rivals.append(time)
-    ours, printed = run([program, "layout", "--grid", grid], text, 3)
-    first = printed.split("\n", 1)[0]
-    answer = f"{first}, {sum(line.startswith(('r ', 'f ')) for line in printed.splitlines())} steps" if first == "none" else first[:20]
-    times = [f"{ours / rival:.2f}" for rival in rivals]
-    goal = f"at most {goal}" if goal else ""
-    print(f"| {name} | {grid} | {answer} | {ours:.3f} s | {rivals[0]:.3f} s | {rivals[1]:.3f} s | {times[0]} | {times[1]} | {goal} |")
+def told(seconds, limit):
+    return f"over {limit} s" if seconds is None else f"{seconds:.2f} s"
+
+
+print("| request | grid | answer | seconds | MB | " + "".join(f"{words[0]} | times | " for words in SOLVERS) + "goal |")
+print("|---" * (6 + 2 * len(SOLVERS)) + "|")
+for name, grids, wanted, most_seconds, most_times in CASES:
+    if wanted_names and not any(name.startswith(front) for front in wanted_names):
+        continue
+    text = MADE[name]() if name in MADE else (Path(examples) / f"{name}.net").read_text()
+    for grid in grids:
+        ours, memory, printed = run([program, "layout", "--grid", grid], text, 3, SECONDS)
+        first = printed.split("\n", 1)[0]
+        steps = sum(line.startswith("r ") for line in printed.splitlines())
+        answer = "no answer" if ours is None else "found" if first.startswith("{") else f"{first.split()[0]}, {steps} steps"
+        _, _, formula = run([program, "formula", "--grid", grid], text, 1, SECONDS)
+        rivals = []
+        for words in SOLVERS:
+            seconds, _, said = run([*words, "/dev/stdin"], formula, 3, SOLVER_SECONDS)
+            if seconds is not None and answer != "no answer" and ("UNSATISFIABLE" in said) == (answer == "found"):
+                sys.exit(f"{name} in {grid}: {words[0]} says otherwise")
+            times = "" if None in (ours, seconds) else f"{max(ours, LEAST) / max(seconds, LEAST):.2f}"
+            rivals.append(f"{told(seconds, SOLVER_SECONDS)} | {times} | ")
+        goal = [wanted] + [f"{most_seconds} s"] * (most_seconds is not None) + [f"{most_times} times cadical"] * (most_times is not None)
+        print(f"| {name} | {grid} | {answer} | {told(ours, SECONDS)} | {memory:.0f} | {''.join(rivals)}{', '.join(goal)} |", flush=True)
 PYTHON

@@ -1,6 +1,6 @@
 #!/usr/bin/env bash
 # Times the search of bt_sat, for each literal that it propagates, against minisat's on the same formulas, and prints the
-# ratios: on random clauses of three literals, on a pigeonhole formula, and on a placement formula (bench/place.rs). Then
+# ratios: on random clauses of three literals, on a pigeonhole formula, and on placement formulas (`beltproof formula`). Then
 # it times chains of implications, where twice as many should take twice as long, and tells the memory of the clauses.
 #
 # The seconds are those of the processor, the least of many runs that take turns, less those of the same formula with two
@@ -16,13 +16,13 @@ set -euo pipefail
 top=$(cd "$(dirname "${BASH_SOURCE[0]}")/.." && pwd)
 folder=$(mktemp -d)
 trap 'rm -rf "$folder"' EXIT
-rustc -O --edition 2024 -o "$folder/place" "$top/bench/place.rs"
+program=$("$top/tools/program")
 rustc -O --edition 2024 -o "$folder/learning" "$top/bench/learning.rs"
 (cd "$top/crates/bt_bench" && rt run -- add-small 1 </dev/null >/dev/null)
-python3 - "$top/crates/bt_bench/out/bt_bench" "$folder" "$top/examples" <<'PYTHON'
+python3 - "$top/crates/bt_bench/out/bt_bench" "$folder" "$top/examples" "$program" <<'PYTHON'
 import os, random, re, subprocess, sys
 
-program, folder, examples = sys.argv[1:]
+program, folder, examples, beltproof = sys.argv[1:]
 VARIABLES, RATIO, FORMULAS = 120, 4.2, 8
 PIGEONS = 8
 PLACED = [("balancer-4-to-4", "5x5"), ("balancer-4-to-4", "5x8")]
@@ -59,8 +59,10 @@ def pigeonhole(pigeons):
 
 
 def placement(name, grid):
-    text = open(os.path.join(examples, f"{name}.net")).read()
-    return subprocess.run([os.path.join(folder, "place"), grid, "dimacs"], check=True, capture_output=True, input=text, text=True).stdout
+    with open(os.path.join(examples, f"{name}.net")) as request:
+        words = [beltproof, "formula", "--grid", grid]
+        text = subprocess.run(words, check=True, capture_output=True, stdin=request, text=True).stdout
+    return "".join(line for line in text.splitlines(True) if not line.startswith("c"))
 
 
 def chain(length):
