@@ -11,8 +11,8 @@ use Rattle.bt_entities.specs.declared.fault.Member.TheVariants.{Entity, Name, Po
 use Rattle.bt_entities.specs.declared.name.Family.{Family}
 use Rattle.bt_entities.specs.Members.{HasText}
 use Rattle.bt_entities.specs.Names.{name_of}
-use Rattle.bt_entities.specs.Entities.{HasDirection, HasPosition}
-use Rattle.bt_entities.specs.Refusals.{IsFault, IsLowest, IsUnsupported, IsWrong, IsSpecial, IsFirst, IsBadMember, IsOffGrid, IsFirstSpecial, tested_members, special_members, number_of_fault}
+use Rattle.bt_entities.specs.Entities.{HasDirection, HasPosition, IsSpecial, IsFirst, IsFirstSpecial, IsPlain}
+use Rattle.bt_entities.specs.Refusals.{IsFault, IsLowest, IsUnsupported, IsWrong, IsBadMember, IsOffGrid, tested_members, number_of_fault}
 use Rattle.bt_entities.specs.inner.Pieces.{IsWrongPriority}
 use Rattle.bt_entities.proofs.Unique.{object_of, same_text}
 
@@ -28,35 +28,35 @@ pub named : (v : Json) (family : Family) (tier : Tier) → HasText v (codes "nam
 named v family tier at name u = u.1 family tier (same_text v (codes "name") name (name_of family tier) u.0 at)
 
 -- the entity has none of the faults with numbers below this one
-pub record Passes (major : ℕ) (first v : Json) (n : ℕ) : Type 0 where
+pub record Passes (members : List Member) (major : ℕ) (first v : Json) (n : ℕ) : Type 0 where
   pub named : 23 < n → IsNamed v
   pub right : 24 < n → (m : Member) → ¬ IsWrong major v m
   pub on_grid : 25 < n → ¬ IsOffGrid major first v
-  pub plain : 27 < n → (m : Member) → ¬ IsSpecial v m
+  pub plain : 27 < n → IsPlain members v
 
-pub none_below : (major : ℕ) (first : Json) (i : ℕ) (v : Json) (n : ℕ) → Passes major first v n
-    → (other : EntityFault) → number_of_fault other < n → ¬ IsFault major first i v other
-none_below major first i v n p (Unsupported at name) lt f = p.named lt name f.1
-none_below major first i v n p (BadMember at member) lt f = none_first (IsWrong major v) tested_members member (p.right lt) f.1
-none_below major first i v n p (OffGrid at) lt f = p.on_grid lt f.1
-none_below major first i v n p (Special at member) lt f = none_first (IsSpecial v) special_members member (p.plain lt) f.1
-none_below major first i v n p other lt f = f
+pub none_below : (members : List Member) (major : ℕ) (first : Json) (i : ℕ) (v : Json) (n : ℕ) → Passes members major first v n
+    → (other : EntityFault) → number_of_fault other < n → ¬ IsFault members major first i v other
+none_below members major first i v n p (Unsupported at name) lt f = p.named lt name f.1
+none_below members major first i v n p (BadMember at member) lt f = none_first (IsWrong major v) tested_members member (p.right lt) f.1
+none_below members major first i v n p (OffGrid at) lt f = p.on_grid lt f.1
+none_below members major first i v n p (Special at member) lt f = p.plain lt member f.1
+none_below members major first i v n p other lt f = f
 
 -- the entity has the fault and none with a lower number
-lowest : (major : ℕ) (first : Json) (i : ℕ) (v : Json) (fault : EntityFault) → Passes major first v (number_of_fault fault)
-    → IsFault major first i v fault → IsLowest major first i v fault
-lowest major first i v fault p f = record { is_fault = f; no_lower = none_below major first i v (number_of_fault fault) p }
+lowest : (members : List Member) (major : ℕ) (first : Json) (i : ℕ) (v : Json) (fault : EntityFault) → Passes members major first v (number_of_fault fault)
+    → IsFault members major first i v fault → IsLowest members major first i v fault
+lowest members major first i v fault p f = record { is_fault = f; no_lower = none_below members major first i v (number_of_fault fault) p }
 
-pub lowest_unsupported : (major : ℕ) (first : Json) (i : ℕ) (v : Json) (name : List ℕ) → IsUnsupported v name → IsLowest major first i v (Unsupported i name)
-lowest_unsupported major first i v name h = lowest major first i v (Unsupported i name) (record {
+pub lowest_unsupported : (members : List Member) (major : ℕ) (first : Json) (i : ℕ) (v : Json) (name : List ℕ) → IsUnsupported v name → IsLowest members major first i v (Unsupported i name)
+lowest_unsupported members major first i v name h = lowest members major first i v (Unsupported i name) (record {
   named = λ lt. absurd (omega arith);
   right = λ lt. absurd (omega arith);
   on_grid = λ lt. absurd (omega arith);
   plain = λ lt. absurd (omega arith);
 }) (refl, h)
 
-pub lowest_bad : (major : ℕ) (first : Json) (i : ℕ) (v : Json) (member : Member) → IsNamed v → IsBadMember major v member → IsLowest major first i v (BadMember i member)
-lowest_bad major first i v member n h = lowest major first i v (BadMember i member) (record {
+pub lowest_bad : (members : List Member) (major : ℕ) (first : Json) (i : ℕ) (v : Json) (member : Member) → IsNamed v → IsBadMember major v member → IsLowest members major first i v (BadMember i member)
+lowest_bad members major first i v member n h = lowest members major first i v (BadMember i member) (record {
   named = λ _. n;
   right = λ lt. absurd (omega arith);
   on_grid = λ lt. absurd (omega arith);
@@ -68,17 +68,17 @@ pub record IsRight (major : ℕ) (v : Json) : Type 0 where
   pub named : IsNamed v
   pub right : (m : Member) → ¬ IsWrong major v m
 
-pub lowest_off : (major : ℕ) (first : Json) (i : ℕ) (v : Json) → IsRight major v → IsOffGrid major first v → IsLowest major first i v (OffGrid i)
-lowest_off major first i v r h = lowest major first i v (OffGrid i) (record {
+pub lowest_off : (members : List Member) (major : ℕ) (first : Json) (i : ℕ) (v : Json) → IsRight major v → IsOffGrid major first v → IsLowest members major first i v (OffGrid i)
+lowest_off members major first i v r h = lowest members major first i v (OffGrid i) (record {
   named = λ _. r.named;
   right = λ _. r.right;
   on_grid = λ lt. absurd (omega arith);
   plain = λ lt. absurd (omega arith);
 }) (refl, h)
 
-pub lowest_special : (major : ℕ) (first : Json) (i : ℕ) (v : Json) (member : Member) → IsRight major v → ¬ IsOffGrid major first v
-    → IsFirstSpecial v member → IsLowest major first i v (Special i member)
-lowest_special major first i v member r on h = lowest major first i v (Special i member) (record {
+pub lowest_special : (members : List Member) (major : ℕ) (first : Json) (i : ℕ) (v : Json) (member : Member) → IsRight major v → ¬ IsOffGrid major first v
+    → IsFirstSpecial members v member → IsLowest members major first i v (Special i member)
+lowest_special members major first i v member r on h = lowest members major first i v (Special i member) (record {
   named = λ _. r.named;
   right = λ _. r.right;
   on_grid = λ _. on;

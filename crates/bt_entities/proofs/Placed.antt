@@ -16,15 +16,16 @@ use Rattle.bt_entities.specs.declared.fault.Member.{Member}
 use Rattle.bt_entities.specs.declared.fault.Member.TheVariants.{Entity, Name, Position, Direction, PieceType, InputPriority, OutputPriority, ControlBehavior, Filter}
 use Rattle.bt_entities.specs.declared.name.Family.TheVariants.{Belts, Undergrounds, Splitters}
 use Rattle.bt_entities.specs.declared.piece.Piece.{Piece}
-use Rattle.bt_entities.specs.declared.piece.Priority.{Priority}
-use Rattle.bt_entities.specs.declared.piece.Priority.TheVariants.{Even, Sided}
+use Rattle.bt_hands.specs.declared.hand.Hand.{Hand}
+use Rattle.bt_hands.specs.declared.hand.Hand.TheVariants.{Left, Right}
+use Rattle.bt_hands.specs.declared.hand.Priority.{Priority}
 use Rattle.bt_entities.specs.declared.shift.Shift.{Shift}
 use Rattle.bt_entities.specs.Members.{Lacks, HasMember, HasText}
 use Rattle.bt_entities.specs.Names.{name_of}
 use Rattle.bt_entities.specs.Places.{width_of, height_of, IsMiddle}
-use Rattle.bt_entities.specs.Entities.{HasFamily, HasTier, HasKind, IsHalves, IsPlaced, SetsShift, IsInCell, IsEven, IsSided, IsPlain, IsEntity}
-use Rattle.bt_entities.specs.Refusals.{IsFault, IsWrong, IsSpecial, IsOffGrid, IsFirstSpecial, IsLowest, number_of_fault}
-use Rattle.bt_entities.specs.inner.Pieces.{AreHalves, IsPriority, IsPiece, IsOn, HasShift, IsFirstShift}
+use Rattle.bt_entities.specs.Entities.{HasFamily, HasTier, HasKind, IsHalves, IsPlaced, SetsShift, IsInCell, IsEven, hand_text, IsSided, Prefers, HasPriority, IsSpecial, IsFirstSpecial, IsPlain, IsEntity, special_in_designs, special_in_layouts}
+use Rattle.bt_entities.specs.Refusals.{IsFault, IsWrong, IsOffGrid, IsLowest, number_of_fault}
+use Rattle.bt_entities.specs.inner.Pieces.{AreHalves, IsPiece, IsOn, HasShift, IsFirstShift}
 use Rattle.bt_entities.proofs.Unique.{object_of, same_text, same_kind, same_dir, same_family, same_position, same_times, lacks_or_has}
 use Rattle.bt_entities.proofs.Middles.{same_middle, middle_near}
 use Rattle.bt_entities.proofs.Lowest.{IsNamed, named, IsRight, none_below, lowest_off, lowest_special}
@@ -111,8 +112,8 @@ height_few Splitter East = omega arith
 height_few kind dir = omega arith
 
 -- each part's cell is in range
-pub entity_in_range : (major : ℕ) (first v : Json) (part : Part) → IsEntity major first v part → IsInRange part.cell
-entity_in_range major first v part e =
+pub entity_in_range : (members : List Member) (major : ℕ) (first v : Json) (part : Part) → IsEntity members major first v part → IsInRange part.cell
+entity_in_range members major first v part e =
     let at = e.in_cell in let p = at.placed in (
       middle_near p.twice_x _ at.shift.x part.cell.x (width_few p.kind p.dir) at.sets.small_x p.halves_x.1 p.middle_x,
       middle_near p.twice_y _ at.shift.y part.cell.y (height_few p.kind p.dir) at.sets.small_y p.halves_y.1 p.middle_y,
@@ -141,17 +142,21 @@ none_left v name a b =
     let e : get_or (codes "none") 0 0 ≡ get_or (codes "left") 0 0 = ap (λ ts. get_or ts 0 0) (same_text v name _ _ a b) in
     absurd (omega arith)
 
+none_hand : (v : Json) (name : List ℕ) (hand : Hand) → HasText v name (codes "none") → HasText v name (hand_text hand) → ⊥
+none_hand v name Left a b = none_left v name a b
+none_hand v name Right a b = texts_apart v name _ _ a b (omega arith)
+
 -- a priority that is even has no side
 pub even_or_sided : (v : Json) (name : List ℕ) → IsEven v name → IsSided v name → ⊥
 even_or_sided v name even sided = elim even [
-  | inl lacks ↦ elim sided [ inl left ↦ lacks_or_has v name _ lacks left | inr right ↦ lacks_or_has v name _ lacks right ]
-  | inr none ↦ elim sided [ inl left ↦ none_left v name none left | inr right ↦ texts_apart v name _ _ none right (omega arith) ]
+  | inl lacks ↦ lacks_or_has v name _ lacks sided.1
+  | inr none ↦ none_hand v name sided.0 none sided.1
 ]
 
-pub priority_right : (v : Json) (name : List ℕ) (priority : Priority) → IsPriority v name priority
+pub preference_right : (v : Json) (name : List ℕ) (preferred : Option Hand) → Prefers v name preferred
     → HasFamily v Splitters × (¬ IsEven v name) × (¬ IsSided v name) → ⊥
-priority_right v name Even p wrong = wrong.1 (p wrong.0)
-priority_right v name Sided p wrong = wrong.2 p.1
+preference_right v name None p wrong = wrong.1 (p wrong.0)
+preference_right v name (Some hand) p wrong = wrong.2 (hand, p.1)
 
 -- a piece has no wrong member
 piece_right : (major : ℕ) (v : Json) (piece : Piece) → IsPiece major v piece → (m : Member) → ¬ IsWrong major v m
@@ -160,18 +165,18 @@ piece_right major v piece p Name wrong = tier_name major v piece.tier p.has_tier
 piece_right major v piece p Position wrong = wrong p.x p.y p.has_position
 piece_right major v piece p Direction wrong = wrong piece.dir p.has_dir
 piece_right major v piece p PieceType wrong = kind_typed major v piece.kind p.has_kind wrong
-piece_right major v piece p InputPriority wrong = priority_right v (codes "input_priority") piece.input p.input wrong
-piece_right major v piece p OutputPriority wrong = priority_right v (codes "output_priority") piece.output p.output wrong
+piece_right major v piece p InputPriority wrong = preference_right v (codes "input_priority") piece.priority.take p.has_priority.takes wrong
+piece_right major v piece p OutputPriority wrong = preference_right v (codes "output_priority") piece.priority.give p.has_priority.gives wrong
 piece_right major v piece p other wrong = wrong
 
 right_of : (major : ℕ) (v : Json) (piece : Piece) → IsPiece major v piece → IsRight major v
 right_of major v piece p = record { named = tier_named v piece.tier p.has_tier; right = piece_right major v piece p }
 
--- an entity that stands for a part is a piece that prefers no side
-piece_of : (major : ℕ) (first v : Json) (part : Part) → IsEntity major first v part → (piece : Piece) × IsPiece major v piece
-piece_of major first v part e =
+-- an entity that stands for a part is a piece
+piece_of : (members : List Member) (major : ℕ) (first v : Json) (part : Part) → IsEntity members major first v part → (piece : Piece) × IsPiece major v piece
+piece_of members major first v part e =
     let p = e.in_cell.placed in (
-      record { kind = part.kind; tier = part.tier; dir = part.dir; x = Some p.twice_x; y = Some p.twice_y; input = Even; output = Even },
+      record { kind = part.kind; tier = part.tier; dir = part.dir; x = Some p.twice_x; y = Some p.twice_y; priority = e.priority },
       record {
         has_kind = e.has_kind;
         has_tier = e.has_tier;
@@ -181,31 +186,24 @@ piece_of major first v part e =
         has_position = p.has_position;
         halves_x = p.halves_x;
         halves_y = p.halves_y;
-        input = e.plain.even_input;
-        output = e.plain.even_output;
+        has_priority = e.has_priority;
       },
     )
-
-plain_special : (v : Json) → IsPlain v → (m : Member) → ¬ IsSpecial v m
-plain_special v p InputPriority s = even_or_sided v (codes "input_priority") (p.even_input s.0) s.1
-plain_special v p OutputPriority s = even_or_sided v (codes "output_priority") (p.even_output s.0) s.1
-plain_special v p ControlBehavior s = lacks_or_has v (codes "control_behavior") s.0 p.no_condition s.1
-plain_special v p Filter s = lacks_or_has v (codes "filter") s.0 p.no_filter s.1
-plain_special v p other s = s
 
 number_small : (fault : EntityFault) → number_of_fault fault < 29
 number_small NotBlueprint = omega arith
 number_small other = omega arith
 
 -- an entity that stands for a part has no fault
-pub entity_sound : (major : ℕ) (first : Json) (i : ℕ) (v : Json) (part : Part) → IsEntity major first v part → (fault : EntityFault) → ¬ IsFault major first i v fault
-entity_sound major first i v part e fault =
-    let p = piece_of major first v part e in
-    none_below major first i v 29 (record {
+pub entity_sound : (members : List Member) (major : ℕ) (first : Json) (i : ℕ) (v : Json) (part : Part) → IsEntity members major first v part
+    → (fault : EntityFault) → ¬ IsFault members major first i v fault
+entity_sound members major first i v part e fault =
+    let p = piece_of members major first v part e in
+    none_below members major first i v 29 (record {
       named = λ _. tier_named v part.tier e.has_tier;
       right = λ _. piece_right major v p.0 p.1;
       on_grid = λ _ off. off part.cell e.in_cell;
-      plain = λ _. plain_special v e.plain;
+      plain = λ _. e.plain;
     }) fault (number_small fault)
 
 -- a piece with a shift stands on the grid
@@ -242,57 +240,71 @@ pub first_shift : (major : ℕ) (first v : Json) (set : Option Shift) (piece : P
 first_shift major first v set piece shift e h p s =
     subst (λ w. SetsShift major w shift) (is_first major first v set e h) (sets_shift major v piece shift p s)
 
-pub told_first_off : (major : ℕ) (first : Json) (i : ℕ) (v : Json) (set : Option Shift) (piece : Piece) → set ≡ None → IsFirstShift major first v set
-    → IsPiece major v piece → ((shift : Shift) (cell : Cell) → ¬ IsOn piece shift cell) → IsLowest major first i v (OffGrid i)
-told_first_off major first i v set piece e h p none =
-    subst (λ w. IsLowest major w i v (OffGrid i)) (is_first major first v set e h) (lowest_off major v i v (right_of major v piece p) (first_off major v piece p none))
+pub told_first_off : (members : List Member) (major : ℕ) (first : Json) (i : ℕ) (v : Json) (set : Option Shift) (piece : Piece) → set ≡ None → IsFirstShift major first v set
+    → IsPiece major v piece → ((shift : Shift) (cell : Cell) → ¬ IsOn piece shift cell) → IsLowest members major first i v (OffGrid i)
+told_first_off members major first i v set piece e h p none =
+    subst (λ w. IsLowest members major w i v (OffGrid i)) (is_first major first v set e h) (lowest_off members major v i v (right_of major v piece p) (first_off major v piece p none))
 
-pub told_off : (major : ℕ) (first : Json) (i : ℕ) (v : Json) (piece : Piece) (shift : Shift) → IsPiece major v piece → SetsShift major first shift
-    → ((cell : Cell) → ¬ IsOn piece shift cell) → IsLowest major first i v (OffGrid i)
-told_off major first i v piece shift p s none =
-    lowest_off major first i v (right_of major v piece p) (off_grid major first v piece shift p s none)
+pub told_off : (members : List Member) (major : ℕ) (first : Json) (i : ℕ) (v : Json) (piece : Piece) (shift : Shift) → IsPiece major v piece → SetsShift major first shift
+    → ((cell : Cell) → ¬ IsOn piece shift cell) → IsLowest members major first i v (OffGrid i)
+told_off members major first i v piece shift p s none =
+    lowest_off members major first i v (right_of major v piece p) (off_grid major first v piece shift p s none)
 
-pub told_special : (major : ℕ) (first : Json) (i : ℕ) (v : Json) (piece : Piece) (shift : Shift) (cell : Cell) (member : Member)
-    → IsPiece major v piece → SetsShift major first shift → IsOn piece shift cell → IsFirstSpecial v member → IsLowest major first i v (Special i member)
-told_special major first i v piece shift cell member p s on special =
-    lowest_special major first i v member (right_of major v piece p) (λ off. off cell (in_cell major first v piece shift cell p s on)) special
+pub told_special : (members : List Member) (major : ℕ) (first : Json) (i : ℕ) (v : Json) (piece : Piece) (shift : Shift) (cell : Cell) (member : Member)
+    → IsPiece major v piece → SetsShift major first shift → IsOn piece shift cell → IsFirstSpecial members v member → IsLowest members major first i v (Special i member)
+told_special members major first i v piece shift cell member p s on special =
+    lowest_special members major first i v member (right_of major v piece p) (λ off. off cell (in_cell major first v piece shift cell p s on)) special
 
-pub is_entity : (major : ℕ) (first v : Json) (piece : Piece) (shift : Shift) (part : Part) → IsPiece major v piece → SetsShift major first shift
-    → IsOn piece shift part.cell → part.kind ≡ piece.kind → part.tier ≡ piece.tier → part.dir ≡ piece.dir → IsPlain v → IsEntity major first v part
-is_entity major first v piece shift part p s on k t d plain = record {
+pub is_entity : (members : List Member) (major : ℕ) (first v : Json) (piece : Piece) (shift : Shift) (part : Part) → IsPiece major v piece → SetsShift major first shift
+    → IsOn piece shift part.cell → part.kind ≡ piece.kind → part.tier ≡ piece.tier → part.dir ≡ piece.dir → IsPlain members v → IsEntity members major first v part
+is_entity members major first v piece shift part p s on k t d plain = record {
   has_kind = rw k p.has_kind;
   has_tier = rw t p.has_tier;
   has_dir = rw d p.has_dir;
   in_cell = in_cell major first v piece shift part.cell p s on;
+  priority = piece.priority;
+  has_priority = p.has_priority;
   plain = plain;
 }
 
 has_none : (v : Json) (name : List ℕ) → Lacks v name → ¬ ((m : Json) × HasMember v name m)
 has_none v name lacks has = lacks_or_has v name has.0 lacks has.1
 
-even_none : (v : Json) (name : List ℕ) (priority : Priority) → priority ≡ Even → IsPriority v name priority → HasFamily v Splitters → IsEven v name
-even_none v name priority e p = rw e at p
+preferred_side : (v : Json) (name : List ℕ) (preferred : Option Hand) (hand : Hand) → preferred ≡ Some hand → Prefers v name preferred → HasFamily v Splitters × IsSided v name
+preferred_side v name preferred hand e p =
+    let h : Prefers v name (Some hand) = rw e at p in
+    (h.0, (hand, h.1))
 
-pub special_input : (major : ℕ) (v : Json) (piece : Piece) → Lacks v (codes "control_behavior") → Lacks v (codes "filter") → piece.input ≡ Sided → IsPiece major v piece → IsFirstSpecial v InputPriority
-special_input major v piece a b e p = inr (has_none v _ a, inr (has_none v _ b, inl (rw e at p.input, refl)))
+preferred_none : (v : Json) (name : List ℕ) (preferred : Option Hand) → preferred ≡ None → Prefers v name preferred → ¬ (HasFamily v Splitters × IsSided v name)
+preferred_none v name preferred e p s =
+    let h : Prefers v name None = rw e at p in
+    even_or_sided v name (h s.0) s.1
 
-pub special_output : (major : ℕ) (v : Json) (piece : Piece) → Lacks v (codes "control_behavior") → Lacks v (codes "filter") → piece.input ≡ Even → piece.output ≡ Sided → IsPiece major v piece → IsFirstSpecial v OutputPriority
-special_output major v piece a b e o p =
+pub special_input : (v : Json) (priority : Priority) (hand : Hand) → Lacks v (codes "control_behavior") → Lacks v (codes "filter") → priority.take ≡ Some hand → HasPriority v priority → IsFirstSpecial special_in_layouts v InputPriority
+special_input v priority hand a b e p = inr (has_none v _ a, inr (has_none v _ b, inl (preferred_side v (codes "input_priority") priority.take hand e p.takes, refl)))
+
+pub special_output : (v : Json) (priority : Priority) (hand : Hand) → Lacks v (codes "control_behavior") → Lacks v (codes "filter") → priority.take ≡ None → priority.give ≡ Some hand → HasPriority v priority
+    → IsFirstSpecial special_in_layouts v OutputPriority
+special_output v priority hand a b e o p =
     inr (
       has_none v _ a,
       inr (
         has_none v _ b,
         inr (
-          (λ s. even_or_sided v (codes "input_priority") (even_none v (codes "input_priority") piece.input e p.input s.0) s.1),
-          inl (rw o at p.output, refl),
+          preferred_none v (codes "input_priority") priority.take e p.takes,
+          inl (preferred_side v (codes "output_priority") priority.give hand o p.gives, refl),
         ),
       ),
     )
 
-pub is_plain : (major : ℕ) (v : Json) (piece : Piece) → Lacks v (codes "control_behavior") → Lacks v (codes "filter") → piece.input ≡ Even → piece.output ≡ Even → IsPiece major v piece → IsPlain v
-is_plain major v piece a b e o p = record {
-  even_input = even_none v (codes "input_priority") piece.input e p.input;
-  even_output = even_none v (codes "output_priority") piece.output o p.output;
-  no_condition = a;
-  no_filter = b;
-}
+pub plain_design : (v : Json) → Lacks v (codes "control_behavior") → Lacks v (codes "filter") → IsPlain special_in_designs v
+plain_design v a b member (inl h) = has_none v _ a h.0
+plain_design v a b member (inr (first_fails, inl h)) = has_none v _ b h.0
+plain_design v a b member (inr (first_fails, inr (none, h))) = h
+
+pub plain_layout : (v : Json) (priority : Priority) → Lacks v (codes "control_behavior") → Lacks v (codes "filter") → priority.take ≡ None → priority.give ≡ None → HasPriority v priority → IsPlain special_in_layouts v
+plain_layout v priority a b e o p member (inl h) = has_none v _ a h.0
+plain_layout v priority a b e o p member (inr (first_fails, inl h)) = has_none v _ b h.0
+plain_layout v priority a b e o p member (inr (first_fails, inr (none, inl h))) = preferred_none v (codes "input_priority") priority.take e p.takes h.0
+plain_layout v priority a b e o p member (inr (first_fails, inr (none, inr (neither, inl h)))) = preferred_none v (codes "output_priority") priority.give o p.gives h.0
+plain_layout v priority a b e o p member (inr (first_fails, inr (none, inr (neither, inr (nothing, h))))) = h

@@ -1,5 +1,8 @@
 -- Which part an entity of a blueprint stands for.
-use Rattle.std.specs.Prelude.{◌≡◌, ℕ, ◌*◌, ◌<◌, ◌≤◌, ℤ, unsigned_abs, List, codes, ◌⊎◌, if◌then◌else◌, nat_lt}
+use Rattle.std.specs.Prelude.{◌≡◌, ℕ, ◌*◌, ◌<◌, ◌≤◌, ℤ, unsigned_abs, List, [], ◌∷◌, Option, Some, None, codes, ◌⊎◌, if◌then◌else◌, nat_lt}
+use Rattle.bt_hands.specs.declared.hand.Hand.{Hand}
+use Rattle.bt_hands.specs.declared.hand.Hand.TheVariants.{Left, Right}
+use Rattle.bt_hands.specs.declared.hand.Priority.{Priority}
 use Rattle.bt_json.specs.declared.limits.TheConstants.{MOST_HALVES}
 use Rattle.bt_json.specs.Json.{Json, Number}
 use Rattle.bt_json.specs.Value.{IsTimes}
@@ -10,6 +13,8 @@ use Rattle.bt_parts.specs.declared.part.Kind.{Kind}
 use Rattle.bt_parts.specs.declared.part.Kind.TheVariants.{Belt, Entrance, Exit, Splitter}
 use Rattle.bt_parts.specs.declared.part.Part.{Part}
 use Rattle.bt_parts.specs.declared.part.Tier.{Tier}
+use Rattle.bt_entities.specs.declared.fault.Member.{Member}
+use Rattle.bt_entities.specs.declared.fault.Member.TheVariants.{Entity, Name, Position, Direction, PieceType, InputPriority, OutputPriority, ControlBehavior, Filter}
 use Rattle.bt_entities.specs.declared.name.Family.{Family}
 use Rattle.bt_entities.specs.declared.name.Family.TheVariants.{Belts, Undergrounds, Splitters}
 use Rattle.bt_entities.specs.declared.shift.Shift.{Shift}
@@ -92,21 +97,64 @@ pub record IsInCell (major : ℕ) (first v : Json) (cell : Cell) : Type 0 where
 abbrev pub IsEven : Json → List ℕ → Type 0
 IsEven v name = Lacks v name ⊎ HasText v name (codes "none")
 
+-- how a hand is written
+abbrev pub hand_text : Hand → List ℕ
+hand_text Left = codes "left"
+hand_text Right = codes "right"
+
 -- the priority of that name is a side
 abbrev pub IsSided : Json → List ℕ → Type 0
-IsSided v name = HasText v name (codes "left") ⊎ HasText v name (codes "right")
+IsSided v name = (hand : Hand) × HasText v name (hand_text hand)
 
--- the entity has nothing that no layout has: no condition, no filter and no preferred side of a splitter
-pub record IsPlain (v : Json) : Type 0 where
-  pub even_input : HasFamily v Splitters → IsEven v (codes "input_priority")
-  pub even_output : HasFamily v Splitters → IsEven v (codes "output_priority")
-  pub no_condition : Lacks v (codes "control_behavior")
-  pub no_filter : Lacks v (codes "filter")
+-- the side that the entity prefers by the priority of that name, which only a splitter has
+abbrev pub Prefers : Json → List ℕ → Option Hand → Type 0
+Prefers v name None = HasFamily v Splitters → IsEven v name
+Prefers v name (Some hand) = HasFamily v Splitters × HasText v name (hand_text hand)
 
--- the value is an entity that stands for this part, in a blueprint whose entity 0 is the first
-pub record IsEntity (major : ℕ) (first v : Json) (part : Part) : Type 0 where
+-- the entity has these priorities
+pub record HasPriority (v : Json) (priority : Priority) : Type 0 where
+  pub gives : Prefers v (codes "output_priority") priority.give
+  pub takes : Prefers v (codes "input_priority") priority.take
+
+-- the member gives an entity what is special: a condition, a filter or a preferred side of a splitter
+abbrev pub IsSpecial : Json → Member → Type 0
+IsSpecial v Entity = ⊥
+IsSpecial v Name = ⊥
+IsSpecial v Position = ⊥
+IsSpecial v Direction = ⊥
+IsSpecial v PieceType = ⊥
+IsSpecial v InputPriority = HasFamily v Splitters × IsSided v (codes "input_priority")
+IsSpecial v OutputPriority = HasFamily v Splitters × IsSided v (codes "output_priority")
+IsSpecial v ControlBehavior = (m : Json) × HasMember v (codes "control_behavior") m
+IsSpecial v Filter = (m : Json) × HasMember v (codes "filter") m
+
+-- the member is the first of the list of which this holds
+abbrev pub IsFirst : (Member → Type 0) → List Member → Member → Type 0
+IsFirst P [] member = ⊥
+IsFirst P (m ∷ ms) member = (P m × (member ≡ m)) ⊎ ((¬ P m) × IsFirst P ms member)
+
+-- the members that may not be special, in their order: of a design a condition and a filter
+abbrev pub special_in_designs : List Member
+special_in_designs = ControlBehavior ∷ Filter ∷ []
+
+-- and of a layout also a preferred side
+abbrev pub special_in_layouts : List Member
+special_in_layouts = ControlBehavior ∷ Filter ∷ InputPriority ∷ OutputPriority ∷ []
+
+-- the first special one of these members
+abbrev pub IsFirstSpecial : List Member → Json → Member → Type 0
+IsFirstSpecial members v member = IsFirst (IsSpecial v) members member
+
+-- none of these members is special
+abbrev pub IsPlain : List Member → Json → Type 0
+IsPlain members v = (member : Member) → ¬ IsFirstSpecial members v member
+
+-- the value is an entity that stands for this part, in a blueprint whose entity 0 is the first, and none of these members of it is special
+pub record IsEntity (members : List Member) (major : ℕ) (first v : Json) (part : Part) : Type 0 where
   pub has_kind : HasKind v part.kind
   pub has_tier : HasTier v part.tier
   pub has_dir : HasDirection major v part.dir
   pub in_cell : IsInCell major first v part.cell
-  pub plain : IsPlain v
+  pub priority : Priority
+  pub has_priority : HasPriority v priority
+  pub plain : IsPlain members v

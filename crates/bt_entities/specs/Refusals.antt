@@ -13,7 +13,7 @@ use Rattle.bt_entities.specs.declared.name.Family.{Family}
 use Rattle.bt_entities.specs.declared.name.Family.TheVariants.{Undergrounds, Splitters}
 use Rattle.bt_entities.specs.Members.{HasMember, Lacks, HasText, IsObject}
 use Rattle.bt_entities.specs.Names.{name_of}
-use Rattle.bt_entities.specs.Entities.{HasFamily, HasPosition, HasDirection, IsInCell, IsEven, IsSided}
+use Rattle.bt_entities.specs.Entities.{HasFamily, HasPosition, HasDirection, IsInCell, IsEven, IsSided, IsFirst, IsFirstSpecial}
 use Rattle.bt_entities.specs.Blueprints.{IsVersion, IsBlueprint, HasEntity}
 
 -- a member of that name is there and isn't what it has to be
@@ -56,51 +56,26 @@ IsWrong major v OutputPriority = HasFamily v Splitters × (¬ IsEven v (codes "o
 IsWrong major v ControlBehavior = ⊥
 IsWrong major v Filter = ⊥
 
--- the member gives an entity what no layout has: a condition, a filter or a preferred side of a splitter
-abbrev pub IsSpecial : Json → Member → Type 0
-IsSpecial v Entity = ⊥
-IsSpecial v Name = ⊥
-IsSpecial v Position = ⊥
-IsSpecial v Direction = ⊥
-IsSpecial v PieceType = ⊥
-IsSpecial v InputPriority = HasFamily v Splitters × IsSided v (codes "input_priority")
-IsSpecial v OutputPriority = HasFamily v Splitters × IsSided v (codes "output_priority")
-IsSpecial v ControlBehavior = (m : Json) × HasMember v (codes "control_behavior") m
-IsSpecial v Filter = (m : Json) × HasMember v (codes "filter") m
-
--- the member is the first of the list of which this holds
-abbrev pub IsFirst : (Member → Type 0) → List Member → Member → Type 0
-IsFirst P [] member = ⊥
-IsFirst P (m ∷ ms) member = (P m × (member ≡ m)) ⊎ ((¬ P m) × IsFirst P ms member)
-
 -- the members in the order in which they may be wrong
 abbrev pub tested_members : List Member
 tested_members = Entity ∷ Name ∷ Position ∷ Direction ∷ PieceType ∷ InputPriority ∷ OutputPriority ∷ []
 
--- the members in the order in which they may be special
-abbrev pub special_members : List Member
-special_members = ControlBehavior ∷ Filter ∷ InputPriority ∷ OutputPriority ∷ []
-
 -- the first wrong member
 abbrev pub IsBadMember : ℕ → Json → Member → Type 0
 IsBadMember major v member = IsFirst (IsWrong major v) tested_members member
-
--- the first special member
-abbrev pub IsFirstSpecial : Json → Member → Type 0
-IsFirstSpecial v member = IsFirst (IsSpecial v) special_members member
 
 -- no cell is the entity's on the grid of entity 0: a coordinate is no multiple of a half or too great, or the halves don't
 -- agree with entity 0's, or entity 0 stands on no grid
 abbrev pub IsOffGrid : ℕ → Json → Json → Type 0
 IsOffGrid major first v = (cell : Cell) → ¬ IsInCell major first v cell
 
--- the fault is one of the entity with this index
-abbrev pub IsFault : ℕ → Json → ℕ → Json → EntityFault → Type 0
-IsFault major first i v (Unsupported at name) = (at ≡ i) × IsUnsupported v name
-IsFault major first i v (BadMember at member) = (at ≡ i) × IsBadMember major v member
-IsFault major first i v (OffGrid at) = (at ≡ i) × IsOffGrid major first v
-IsFault major first i v (Special at member) = (at ≡ i) × IsFirstSpecial v member
-IsFault major first i v other = ⊥
+-- the fault is one of the entity with this index, of which these members may not be special
+abbrev pub IsFault : List Member → ℕ → Json → ℕ → Json → EntityFault → Type 0
+IsFault members major first i v (Unsupported at name) = (at ≡ i) × IsUnsupported v name
+IsFault members major first i v (BadMember at member) = (at ≡ i) × IsBadMember major v member
+IsFault members major first i v (OffGrid at) = (at ≡ i) × IsOffGrid major first v
+IsFault members major first i v (Special at member) = (at ≡ i) × IsFirstSpecial members v member
+IsFault members major first i v other = ⊥
 
 -- the numbers by which faults go before one another
 abbrev pub number_of_fault : EntityFault → ℕ
@@ -114,31 +89,31 @@ number_of_fault (Special at member) = 27
 number_of_fault Memory = 28
 
 -- the fault is the one of the entity with the lowest number
-pub record IsLowest (major : ℕ) (first : Json) (i : ℕ) (v : Json) (fault : EntityFault) : Type 0 where
-  pub is_fault : IsFault major first i v fault
-  pub no_lower : (other : EntityFault) → number_of_fault other < number_of_fault fault → ¬ IsFault major first i v other
+pub record IsLowest (members : List Member) (major : ℕ) (first : Json) (i : ℕ) (v : Json) (fault : EntityFault) : Type 0 where
+  pub is_fault : IsFault members major first i v fault
+  pub no_lower : (other : EntityFault) → number_of_fault other < number_of_fault fault → ¬ IsFault members major first i v other
 
 -- the fault is the lowest of the first entity that has one
-pub record IsFirstOf (major : ℕ) (entities : List Json) (fault : EntityFault) : Type 0 where
+pub record IsFirstOf (members : List Member) (major : ℕ) (entities : List Json) (fault : EntityFault) : Type 0 where
   pub first : Json
   pub is_first : HasEntity entities 0 first
   pub index : ℕ
   pub v : Json
   pub is_v : HasEntity entities index v
-  pub lowest : IsLowest major first index v fault
-  pub none_before : (i : ℕ) (w : Json) (other : EntityFault) → i < index → HasEntity entities i w → ¬ IsFault major first i w other
+  pub lowest : IsLowest members major first index v fault
+  pub none_before : (i : ℕ) (w : Json) (other : EntityFault) → i < index → HasEntity entities i w → ¬ IsFault members major first i w other
 
 -- the root has a blueprint of no more than the most entities, and the fault is their first
-pub record IsFirstFault (root : Json) (fault : EntityFault) : Type 0 where
+pub record IsFirstFault (members : List Member) (root : Json) (fault : EntityFault) : Type 0 where
   pub major : ℕ
   pub entities : List Json
   pub is_blueprint : IsBlueprint root major entities
   pub few : length entities ≤ MOST_ENTITIES
-  pub first : IsFirstOf major entities fault
+  pub first : IsFirstOf members major entities fault
 
--- the root is refused with this fault; want of memory refuses nothing, since no entity has it
-abbrev pub IsRefused : Json → EntityFault → Type 0
-IsRefused root NotBlueprint = IsNotBlueprint root
-IsRefused root Book = IsBook root
-IsRefused root TooMany = HasTooMany root
-IsRefused root other = IsFirstFault root other
+-- the root is refused with this fault, where these members may not be special; want of memory refuses nothing, since no entity has it
+abbrev pub IsRefused : List Member → Json → EntityFault → Type 0
+IsRefused members root NotBlueprint = IsNotBlueprint root
+IsRefused members root Book = IsBook root
+IsRefused members root TooMany = HasTooMany root
+IsRefused members root other = IsFirstFault members root other

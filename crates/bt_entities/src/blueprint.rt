@@ -1,7 +1,7 @@
 //! From the JSON value of a text to the parts of its blueprint: the root's own members, then one entity
 //! after another, since entity 0 sets the grid of all.
 
-ghost use Rattle.std.specs.Prelude.{◌≡◌, ◌⊎◌, ℕ, map, codes, MatchOption, MatchResult};
+ghost use Rattle.std.specs.Prelude.{◌≡◌, ◌⊎◌, ℕ, List, map, codes, MatchOption, MatchResult};
 ghost use Rattle.bt_answers.specs.Answers.{seen, UnlessMemory, Answers};
 ghost use Rattle.bt_json.specs.Json.{Json};
 ghost use Rattle.bt_json.specs.Stands.{json_of};
@@ -9,20 +9,31 @@ ghost use Rattle.bt_entities.specs.declared.fault.EntityFault.TheVariants.{Memor
 ghost use Rattle.bt_entities.specs.Members.{HasMember, IsObject};
 ghost use Rattle.bt_entities.specs.Entities.{SetsShift, IsEntity};
 ghost use Rattle.bt_entities.specs.Blueprints.{HasEntities, HasMajor, IsVersion, IsBlueprint};
-ghost use Rattle.bt_entities.specs.Refusals.{HasWrong, IsList, IsRefused, IsLowest};
-ghost use Rattle.bt_entities.specs.Answers.{IsPartsOf, parts_in};
-ghost use Rattle.bt_entities.specs.inner.Pieces.{IsPiece, IsFirstShift, IsEntityRead, AreRead};
+ghost use Rattle.bt_entities.specs.declared.fault.Member.{Member};
+ghost use Rattle.bt_entities.specs.Refusals.{HasWrong, IsList, IsLowest};
+ghost use Rattle.bt_entities.specs.Answers.{IsPartsOf, IsReadOf, IsPrioritisedOf, parts_in, parts_and_priorities_in};
+ghost use Rattle.bt_entities.specs.inner.Pieces.{special_of, IsPiece, IsFirstShift, IsEntityRead, AreRead, RefusesRoot};
 
 use crate::fault::EntityFault;
 use crate::member::{as_list, as_number, has_member, is_object, member};
-use crate::piece::{Piece, piece_of};
+use crate::piece::{Piece, Reading, piece_of};
 use crate::shift::Shift;
+use bt_hands::Priority;
 use bt_json::Tree;
 use bt_parts::Part;
 use std::alloc::Global;
 
 /// The most entities of a blueprint that is read.
 pub const MOST_ENTITIES: usize = 4096;
+
+/// The parts of a blueprint, and the priorities of each: one that is no splitter has none.
+#[derive(Drop)]
+pub struct Prioritised {
+    /// In the order of the entities.
+    pub parts: Vec<Part>,
+    /// In the same order.
+    pub priorities: Vec<Priority>,
+}
 
 /// A blueprint's major version and its entities.
 #[derive(Clone, Copy)]
@@ -35,7 +46,7 @@ struct Blueprint<'a> {
 fn blueprint_member(root: &Tree) -> Result<&Tree, EntityFault>
     ensures { MatchResult result
         (λ b. HasMember (json_of root.now) (codes "blueprint") (json_of b.now) × IsObject (json_of b.now))
-        (IsRefused (json_of root.now)) }
+        (RefusesRoot (json_of root.now)) }
 {
     match member(root, "blueprint") {
         Some(blueprint) => {
@@ -88,7 +99,7 @@ fn major_of(blueprint: &Tree) -> Option<u64>
 fn blueprint_of(root: &Tree) -> Result<Blueprint, EntityFault>
     ensures { MatchResult result
         (λ b. IsBlueprint (json_of root.now) b.major (map json_of b.entities.now))
-        (IsRefused (json_of root.now)) }
+        (RefusesRoot (json_of root.now)) }
 {
     let blueprint = blueprint_member(root)?;
     let Some(entities) = entities_of(blueprint) else {
@@ -103,7 +114,8 @@ fn blueprint_of(root: &Tree) -> Result<Blueprint, EntityFault>
 /// The shift that is set, or else the one that the piece sets as entity 0.
 fn shift_by(set: Option<Shift>, place: usize, piece: &Piece) -> Result<Shift, EntityFault>
     ensures { (major : ℕ) (first v : Json) → IsPiece major v piece.now → IsFirstShift major first v set
-        → MatchResult result (SetsShift major first) (IsLowest major first place v) }
+        → MatchResult result (SetsShift major first)
+        (λ fault. (members : List Member) → IsLowest members major first place v fault) }
 {
     if let Some(shift) = set {
         return Ok(shift);
@@ -115,17 +127,23 @@ fn shift_by(set: Option<Shift>, place: usize, piece: &Piece) -> Result<Shift, En
 }
 
 /// The part of the entity with this index, which was read as this piece.
-fn part_of(shift: Shift, place: usize, entity: &Tree, piece: &Piece) -> Result<Part, EntityFault>
+fn part_of(
+    reading: Reading,
+    shift: Shift,
+    place: usize,
+    entity: &Tree,
+    piece: &Piece,
+) -> Result<Part, EntityFault>
     ensures { (major : ℕ) (first : Json) → IsPiece major (json_of entity.now) piece.now
         → SetsShift major first shift
         → MatchResult result
-        (IsEntity major first (json_of entity.now))
-        (IsLowest major first place (json_of entity.now)) }
+        (IsEntity (special_of reading) major first (json_of entity.now))
+        (IsLowest (special_of reading) major first place (json_of entity.now)) }
 {
     let Some(cell) = piece.cell(shift) else {
         return Err(EntityFault::OffGrid(place));
     };
-    if let Some(member) = piece.special(entity) {
+    if let Some(member) = piece.special(reading, entity) {
         return Err(EntityFault::Special(place, member));
     }
     Ok(Part {
@@ -136,49 +154,81 @@ fn part_of(shift: Shift, place: usize, entity: &Tree, piece: &Piece) -> Result<P
     })
 }
 
-/// The part of the entity with this index, and the shift, which entity 0 sets.
+/// The part and the priorities of the entity with this index, and the shift, which entity 0 sets.
 fn entity_of(
     alloc: Global,
+    reading: Reading,
     major: u64,
     set: Option<Shift>,
     place: usize,
     entity: &Tree,
-) -> Result<(Shift, Part), EntityFault>
+) -> Result<(Shift, Part, Priority), EntityFault>
     ensures { (first : Json) → IsFirstShift major first (json_of entity.now) set
-        → UnlessMemory Memory (IsEntityRead major first place (json_of entity.now)) result }
+        → UnlessMemory Memory
+        (IsEntityRead (special_of reading) major first place (json_of entity.now)) result }
 {
     let piece = piece_of(alloc, major, place, entity)?;
     let shift = shift_by(set, place, &piece)?;
-    let part = part_of(shift, place, entity, &piece)?;
-    Ok((shift, part))
+    let part = part_of(reading, shift, place, entity, &piece)?;
+    Ok((shift, part, piece.priority))
 }
 
-/// The parts of the entities, in their order.
-fn parts_with(alloc: Global, major: u64, entities: &[Tree]) -> Result<Vec<Part>, EntityFault>
-    ensures { UnlessMemory Memory (AreRead major (map json_of entities.now)) (seen parts_in result) }
+/// The parts and the priorities of the entities, in their order.
+fn parts_with(
+    alloc: Global,
+    reading: Reading,
+    major: u64,
+    entities: &[Tree],
+) -> Result<Prioritised, EntityFault>
+    ensures { UnlessMemory Memory (AreRead (special_of reading) major (map json_of entities.now))
+        (seen parts_and_priorities_in result) }
 {
     let mut set = None;
     let mut parts = Vec::new(alloc);
+    let mut priorities = Vec::new(alloc);
     for (place, entity) in entities.iter().enumerate() {
-        let (shift, part) = entity_of(alloc, major, set, place, entity)?;
+        let (shift, part, priority) = entity_of(alloc, reading, major, set, place, entity)?;
         set = Some(shift);
         parts.push(part)?;
+        priorities.push(priority)?;
     }
-    Ok(parts)
+    Ok(Prioritised { parts, priorities })
 }
 
-/// The parts of a blueprint, in the order of its entities.
-///
-/// # Errors
-///
-/// The first fault: that of the root, else the lowest of the lowest entity that has one.
-#[tactic(auto, using(crate::proofs::OneAnswer::parts_answers))]
-pub fn parts_of(alloc: Global, tree: &Tree) -> Result<Vec<Part>, EntityFault>
-    ensures { Answers Memory (IsPartsOf (json_of tree.now)) (seen parts_in result) }
+/// The parts of a blueprint and their priorities, where it is read so.
+fn read_as(alloc: Global, reading: Reading, tree: &Tree) -> Result<Prioritised, EntityFault>
+    ensures { UnlessMemory Memory (IsReadOf (special_of reading) (json_of tree.now))
+        (seen parts_and_priorities_in result) }
 {
     let blueprint = blueprint_of(tree)?;
     if blueprint.entities.len() > MOST_ENTITIES {
         return Err(EntityFault::TooMany);
     }
-    parts_with(alloc, blueprint.major, blueprint.entities)
+    parts_with(alloc, reading, blueprint.major, blueprint.entities)
+}
+
+/// The parts of a blueprint, in the order of its entities, whose splitters prefer no side.
+///
+/// # Errors
+///
+/// The first fault: that of the root, else the lowest of the lowest entity that has one. A splitter
+/// that prefers a side is `Special`.
+pub fn parts_of(alloc: Global, tree: &Tree) -> Result<Vec<Part>, EntityFault>
+    ensures { Answers Memory (IsPartsOf (json_of tree.now)) (seen parts_in result) }
+{
+    match read_as(alloc, Reading::Layouts, tree) {
+        Ok(Prioritised { parts, .. }) => Ok(parts),
+        Err(fault) => Err(fault),
+    }
+}
+
+/// The parts of a blueprint, in the order of its entities, and the priorities of each.
+///
+/// # Errors
+///
+/// The first fault: that of the root, else the lowest of the lowest entity that has one.
+pub fn parts_and_priorities(alloc: Global, tree: &Tree) -> Result<Prioritised, EntityFault>
+    ensures { Answers Memory (IsPrioritisedOf (json_of tree.now)) (seen parts_and_priorities_in result) }
+{
+    read_as(alloc, Reading::Designs, tree)
 }

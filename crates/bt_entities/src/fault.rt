@@ -91,7 +91,7 @@ pub enum EntityFault {
     /// A coordinate isn't a multiple of a half, or is more than `bt_json::MOST_HALVES` of them, or the
     /// entity isn't on the grid of entity 0.
     OffGrid(usize),
-    /// The entity has `control_behavior`, `filter`, or is a splitter that prefers a side.
+    /// The entity has `control_behavior` or `filter`, or is a splitter of a layout that prefers a side.
     Special(usize, Member),
     /// Memory ran out.
     Memory,

@@ -9,7 +9,7 @@ mod name;
 mod piece;
 mod shift;
 
-pub use blueprint::{MOST_ENTITIES, parts_of};
+pub use blueprint::{MOST_ENTITIES, Prioritised, parts_and_priorities, parts_of};
 pub use fault::{EntityFault, EntityName, Member};
 pub use law::limits_are;
 pub use std::alloc::AllocError as Memory;

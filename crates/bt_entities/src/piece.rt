@@ -12,9 +12,9 @@ ghost use Rattle.bt_entities.specs.Members.{HasText, HasNumber};
 ghost use Rattle.bt_entities.specs.Names.{name_of};
 ghost use Rattle.bt_entities.specs.declared.fault.EntityFault.TheVariants.{Memory};
 ghost use Rattle.bt_entities.specs.Entities.{HasFamily, HasKind, HasDirection, HasPosition, direction_value};
-ghost use Rattle.bt_entities.specs.Entities.{IsEven, IsSided};
+ghost use Rattle.bt_entities.specs.Entities.{IsEven, IsSided, Prefers, HasPriority};
 ghost use Rattle.bt_entities.specs.Refusals.{IsBadMember};
-ghost use Rattle.bt_entities.specs.inner.Pieces.{AreHalves, IsPriority, ArePriorities, IsWrongPriority};
+ghost use Rattle.bt_entities.specs.inner.Pieces.{AreHalves, IsWrongPriority};
 ghost use Rattle.bt_entities.specs.inner.Pieces.{IsPiece, IsOn, IsNameRead, IsPieceRead};
 
 use crate::fault::{EntityFault, EntityName, Member};
@@ -23,17 +23,18 @@ use crate::member::{
 };
 use crate::name::{Family, named};
 use crate::shift::{Shift, first_tile, height, shift_of, width};
+use bt_hands::{Hand, Priority};
 use bt_json::{Decimal, Tree};
 use bt_parts::{Cell, Dir, Kind, Tier};
 use std::alloc::Global;
 
-/// Which of its two sides a splitter prefers.
+/// For what entities are read.
 #[derive(Clone, Copy)]
-pub enum Priority {
-    /// None of them.
-    Even,
-    /// One of them.
-    Sided,
+pub enum Reading {
+    /// For the parts of layouts, whose splitters prefer no side.
+    Layouts,
+    /// For designs, whose splitters may prefer sides.
+    Designs,
 }
 
 /// An entity as its members tell it.
@@ -49,10 +50,8 @@ pub struct Piece {
     pub x: Option<i32>,
     /// Twice the centre's y, where that is a whole number in range.
     pub y: Option<i32>,
-    /// Which side a splitter takes from first.
-    pub input: Priority,
-    /// Which side a splitter gives to first.
-    pub output: Priority,
+    /// Which sides a splitter prefers.
+    pub priority: Priority,
 }
 
 /// The coordinates that a position tells.
@@ -149,52 +148,53 @@ fn kind_of(family: Family, entity: &Tree) -> Option<Kind>
     }
 }
 
-/// The priority of that name of a splitter.
-fn side_of(entity: &Tree, name: &str) -> Option<Priority>
+/// The side that a splitter prefers by the priority of that name.
+fn side_of(entity: &Tree, name: &str) -> Option<Option<Hand>>
     requires { HasFamily (json_of entity.now) Splitters }
     ensures { MatchOption result
         ((¬ IsEven (json_of entity.now) name.now) × (¬ IsSided (json_of entity.now) name.now))
-        (IsPriority (json_of entity.now) name.now) }
+        (Prefers (json_of entity.now) name.now) }
 {
     let Some(side) = member(entity, name) else {
-        return Some(Priority::Even);
+        return Some(None);
     };
     match as_text(side) {
-        Some("none") => Some(Priority::Even),
-        Some("left" | "right") => Some(Priority::Sided),
+        Some("none") => Some(None),
+        Some("left") => Some(Some(Hand::Left)),
+        Some("right") => Some(Some(Hand::Right)),
         _ => None,
     }
 }
 
-/// The priority of that name of an entity of this family.
-fn priority_of(family: Family, entity: &Tree, name: &str) -> Option<Priority>
+/// The side that an entity of this family prefers by the priority of that name.
+fn preferred_of(family: Family, entity: &Tree, name: &str) -> Option<Option<Hand>>
     requires { HasFamily (json_of entity.now) family }
     ensures { MatchOption result
         (HasFamily (json_of entity.now) Splitters
         × (¬ IsEven (json_of entity.now) name.now)
         × (¬ IsSided (json_of entity.now) name.now))
-        (IsPriority (json_of entity.now) name.now) }
+        (Prefers (json_of entity.now) name.now) }
 {
     match family {
         Family::Splitters => side_of(entity, name),
-        Family::Belts | Family::Undergrounds => Some(Priority::Even),
+        Family::Belts | Family::Undergrounds => Some(None),
     }
 }
 
 /// The priorities of an entity of this family, or the first wrong one.
-fn priorities(family: Family, entity: &Tree) -> Result<(Priority, Priority), Member>
+fn priority_of(family: Family, entity: &Tree) -> Result<Priority, Member>
     requires { HasFamily (json_of entity.now) family }
     ensures { MatchResult result
-        (λ told. ArePriorities (json_of entity.now) told.0 told.1)
+        (HasPriority (json_of entity.now))
         (IsWrongPriority (json_of entity.now)) }
 {
-    let Some(input) = priority_of(family, entity, "input_priority") else {
+    let Some(take) = preferred_of(family, entity, "input_priority") else {
         return Err(Member::InputPriority);
     };
-    let Some(output) = priority_of(family, entity, "output_priority") else {
+    let Some(give) = preferred_of(family, entity, "output_priority") else {
         return Err(Member::OutputPriority);
     };
-    Ok((input, output))
+    Ok(Priority { give, take })
 }
 
 /// The entity of this family and tier, or its first wrong member.
@@ -213,15 +213,14 @@ fn with_members(major: u64, family: Family, tier: Tier, entity: &Tree) -> Result
     let Some(kind) = kind_of(family, entity) else {
         return Err(Member::PieceType);
     };
-    let (input, output) = priorities(family, entity)?;
+    let priority = priority_of(family, entity)?;
     Ok(Piece {
         kind,
         tier,
         dir,
         x: halves(x),
         y: halves(y),
-        input,
-        output,
+        priority,
     })
 }
 
@@ -278,9 +277,8 @@ impl Piece {
 }
 
 impl Piece {
-    ghost use Rattle.bt_entities.specs.Entities.{IsPlain};
-    ghost use Rattle.bt_entities.specs.Refusals.{IsFirstSpecial};
-    ghost use Rattle.bt_entities.specs.inner.Pieces.{HasShift};
+    ghost use Rattle.bt_entities.specs.Entities.{IsPlain, IsFirstSpecial};
+    ghost use Rattle.bt_entities.specs.inner.Pieces.{HasShift, special_of};
 
     /// The shift of the grid that it stands on.
     pub fn shift(&self) -> Option<Shift>
@@ -295,10 +293,12 @@ impl Piece {
         Some(Shift { x, y })
     }
 
-    /// The first of its members that no layout has.
-    pub fn special(&self, entity: &Tree) -> Option<Member>
+    /// The first of its members that may not be special where it is read so.
+    pub fn special(&self, reading: Reading, entity: &Tree) -> Option<Member>
         ensures { (major : ℕ) → IsPiece major (json_of entity.now) self.now
-            → MatchOption result (IsPlain (json_of entity.now)) (IsFirstSpecial (json_of entity.now)) }
+            → MatchOption result
+            (IsPlain (special_of reading) (json_of entity.now))
+            (IsFirstSpecial (special_of reading) (json_of entity.now)) }
     {
         if has_member(entity, "control_behavior") {
             return Some(Member::ControlBehavior);
@@ -306,10 +306,11 @@ impl Piece {
         if has_member(entity, "filter") {
             return Some(Member::Filter);
         }
-        match (self.input, self.output) {
-            (Priority::Sided, _) => Some(Member::InputPriority),
-            (Priority::Even, Priority::Sided) => Some(Member::OutputPriority),
-            (Priority::Even, Priority::Even) => None,
+        match (reading, self.priority.take, self.priority.give) {
+            (Reading::Designs, _, _) => None,
+            (Reading::Layouts, Some(_), _) => Some(Member::InputPriority),
+            (Reading::Layouts, None, Some(_)) => Some(Member::OutputPriority),
+            (Reading::Layouts, None, None) => None,
         }
     }
 }

@@ -23,6 +23,7 @@ use Rattle.bt_json.specs.inner.Reading.{has_name}
 use Rattle.bt_json.proofs.Joins.{join}
 use Rattle.bt_json.proofs.Digits.{number_append}
 use Rattle.bt_json.proofs.Kept.{named_there}
+use Rattle.bt_hands.specs.declared.hand.Priority.{Priority}
 use Rattle.bt_parts.specs.declared.part.Dir.{Dir}
 use Rattle.bt_parts.specs.declared.part.Dir.TheVariants.{North, East, South, West}
 use Rattle.bt_parts.specs.declared.part.Kind.{Kind}
@@ -36,8 +37,9 @@ use Rattle.bt_entities.specs.declared.blueprint.TheConstants.{MOST_ENTITIES}
 use Rattle.bt_entities.specs.Members.{IsWhole}
 use Rattle.bt_entities.specs.Names.{name_of}
 use Rattle.bt_entities.specs.Places.{width_of, height_of, IsMiddle}
-use Rattle.bt_entities.specs.Entities.{HasKind, HasDirection, direction_value, IsHalves, IsPlaced, IsPlain, IsEntity}
+use Rattle.bt_entities.specs.Entities.{HasKind, HasDirection, direction_value, IsHalves, IsPlaced, HasPriority, IsPlain, IsEntity, special_in_layouts}
 use Rattle.bt_entities.specs.Blueprints.{AreParts, IsBlueprintOf}
+use Rattle.bt_entities.proofs.Placed.{plain_layout}
 use Rattle.bt_entities.proofs.Whole.{all_in_range}
 use Rattle.bt_write.specs.Written.{family_of, half_text, halves_text, twice_middle, entity_text, blueprint_text, type_member}
 use Rattle.bt_write.specs.ReadBack.{HasCentreInRange, WrittenIsRead}
@@ -357,10 +359,17 @@ type_lacks Entrance = record { input = refl; output = refl; condition = refl; fi
 type_lacks Exit = record { input = refl; output = refl; condition = refl; filter = refl }
 type_lacks Splitter = record { input = refl; output = refl; condition = refl; filter = refl }
 
-entity_plain : (n : ℕ) (p : Part) → IsPlain (entity_json n p)
-entity_plain n p = let lacks = type_lacks p.kind in record { even_input = λ f. inl lacks.input; even_output = λ f. inl lacks.output; no_condition = lacks.condition; no_filter = lacks.filter }
+-- it prefers no side
+abbrev even : Priority
+even = record { give = None; take = None }
 
-entity_is : (m n : ℕ) (first p : Part) → HasCentreInRange first → HasCentreInRange p → IsEntity 1 (entity_json m first) (entity_json n p) p
+entity_even : (n : ℕ) (p : Part) → HasPriority (entity_json n p) even
+entity_even n p = let lacks = type_lacks p.kind in record { gives = λ f. inl lacks.output; takes = λ f. inl lacks.input }
+
+entity_plain : (n : ℕ) (p : Part) → IsPlain special_in_layouts (entity_json n p)
+entity_plain n p = let lacks = type_lacks p.kind in plain_layout (entity_json n p) even lacks.condition lacks.filter refl refl (entity_even n p)
+
+entity_is : (m n : ℕ) (first p : Part) → HasCentreInRange first → HasCentreInRange p → IsEntity special_in_layouts 1 (entity_json m first) (entity_json n p) p
 entity_is m n first p near_first near = record {
   has_kind = family_kind n p p.kind refl;
   has_tier = (family_of p.kind, refl);
@@ -370,6 +379,8 @@ entity_is m n first p near_first near = record {
     sets = record { small_x = omega arith; small_y = omega arith; cell = first.cell; placed = entity_placed m first near_first };
     placed = entity_placed n p near;
   };
+  priority = even;
+  has_priority = entity_even n p;
   plain = entity_plain n p;
 }
 
@@ -380,7 +391,7 @@ entity_there n (p ∷ ps) (suc i) v is =
     let on = entity_there (n + 1) ps i v is in
     (on.0, on.1, on.2 ∙ ap (λ k. entity_json k on.0) (omega arith))
 
-parts_are : (parts : List Part) → All HasCentreInRange parts → AreParts 1 (map numbered_json (enumerate_from 1 parts)) parts
+parts_are : (parts : List Part) → All HasCentreInRange parts → AreParts special_in_layouts 1 (map numbered_json (enumerate_from 1 parts)) parts
 parts_are parts near = record {
   same_length = sym (length-map (enumerate_from 1 parts) numbered_json ∙ length-enumerate_from 1 parts);
   each = λ first v part i is_first is_v is_part.
@@ -388,11 +399,11 @@ parts_are parts near = record {
       let b = entity_there 1 parts i v is_v in
       let same = same_Some b.0 part (sym b.1 ∙ is_part) in
       let near_of : (j : ℕ) (p : Part) → slice_get parts j ≡ Some p → HasCentreInRange p = λ j p h. subst HasCentreInRange (get_or_from_slice_get parts j p p h) (near j p (slice_get_within parts j p h)) in
-      subst (λ p. IsEntity 1 first v p) same (subst (λ w. IsEntity 1 first w b.0) (sym b.2) (subst (λ w. IsEntity 1 w (entity_json (1 + i) b.0) b.0) (sym a.2)
+      subst (λ p. IsEntity special_in_layouts 1 first v p) same (subst (λ w. IsEntity special_in_layouts 1 first w b.0) (sym b.2) (subst (λ w. IsEntity special_in_layouts 1 w (entity_json (1 + i) b.0) b.0) (sym a.2)
       (entity_is (1 + 0) (1 + i) a.0 b.0 (near_of 0 a.0 a.1) (near_of i b.0 b.1))));
 }
 
-blueprint_of : (parts : List Part) → length parts ≤ MOST_ENTITIES → All HasCentreInRange parts → IsBlueprintOf (root_json (map numbered_json (enumerate_from 1 parts))) parts
+blueprint_of : (parts : List Part) → length parts ≤ MOST_ENTITIES → All HasCentreInRange parts → IsBlueprintOf special_in_layouts (root_json (map numbered_json (enumerate_from 1 parts))) parts
 blueprint_of parts few near = record {
   major = 1;
   entities = map numbered_json (enumerate_from 1 parts);
@@ -426,5 +437,5 @@ written_read parts few near =
         distinct = root_names xs;
       });
       line_feed = ap (drop (length (root_text all))) is ∙ drop-append_seam (root_text all) (10 ∷ []);
-      is_parts = (blueprint, all_in_range _ parts blueprint);
+      is_parts = (blueprint, all_in_range special_in_layouts _ parts blueprint);
     }

@@ -1,6 +1,7 @@
 -- What is read of an entity before its cell is.
 use Rattle.std.specs.Prelude.{◌≡◌, ◌<◌, ℕ, ℤ, List, Option, Some, None, Result, Ok, Err, [], ◌∷◌, MatchOption, codes}
 use Rattle.bt_json.specs.Json.{Json, Number}
+use Rattle.bt_hands.specs.declared.hand.Priority.{Priority}
 use Rattle.bt_parts.specs.declared.part.Cell.{Cell}
 use Rattle.bt_parts.specs.declared.part.Part.{Part}
 use Rattle.bt_parts.specs.declared.part.Tier.{Tier}
@@ -8,30 +9,25 @@ use Rattle.bt_entities.specs.declared.fault.EntityFault.{EntityFault}
 use Rattle.bt_entities.specs.declared.fault.Member.{Member}
 use Rattle.bt_entities.specs.declared.fault.Member.TheVariants.{InputPriority, OutputPriority}
 use Rattle.bt_entities.specs.declared.name.Family.{Family}
-use Rattle.bt_entities.specs.declared.name.Family.TheVariants.{Splitters}
 use Rattle.bt_entities.specs.declared.piece.Piece.{Piece}
-use Rattle.bt_entities.specs.declared.piece.Priority.{Priority}
-use Rattle.bt_entities.specs.declared.piece.Priority.TheVariants.{Even, Sided}
+use Rattle.bt_entities.specs.declared.piece.Reading.{Reading}
+use Rattle.bt_entities.specs.declared.piece.Reading.TheVariants.{Layouts, Designs}
 use Rattle.bt_entities.specs.declared.shift.Shift.{Shift}
 use Rattle.bt_entities.specs.Members.{HasText}
 use Rattle.bt_entities.specs.Names.{name_of}
-use Rattle.bt_entities.specs.Blueprints.{AreParts}
-use Rattle.bt_entities.specs.Entities.{HasFamily, HasKind, HasTier, HasDirection, HasPosition, IsHalves, IsEven, IsSided, SetsShift, IsEntity}
+use Rattle.bt_entities.specs.Blueprints.{AreParts, ArePriorities}
+use Rattle.bt_entities.specs.Entities.{HasKind, HasTier, HasDirection, HasPosition, IsHalves, HasPriority, SetsShift, IsFirst, IsEntity, special_in_designs, special_in_layouts}
 use Rattle.bt_entities.specs.Places.{width_of, height_of, IsMiddle}
-use Rattle.bt_entities.specs.Refusals.{IsWrong, IsFirst, IsLowest, IsFirstOf}
+use Rattle.bt_entities.specs.Refusals.{IsWrong, IsLowest, IsFirstOf, IsRefused}
 
 -- the number's halves, where it has some
 abbrev pub AreHalves : Number → Option ℤ → Type 0
 AreHalves n halves = MatchOption halves ((z : ℤ) → ¬ IsHalves n z) (IsHalves n)
 
--- the priority of that name, which only a splitter has
-abbrev pub IsPriority : Json → List ℕ → Priority → Type 0
-IsPriority v name Even = HasFamily v Splitters → IsEven v name
-IsPriority v name Sided = HasFamily v Splitters × IsSided v name
-
--- the entity has these two priorities
-abbrev pub ArePriorities : Json → Priority → Priority → Type 0
-ArePriorities v input output = IsPriority v (codes "input_priority") input × IsPriority v (codes "output_priority") output
+-- the members that may not be special where an entity is read so
+abbrev pub special_of : Reading → List Member
+special_of Layouts = special_in_layouts
+special_of Designs = special_in_designs
 
 -- the member is the first of the two priorities that is wrong, in every version
 abbrev pub IsWrongPriority : Json → Member → Type 0
@@ -47,8 +43,7 @@ pub record IsPiece (major : ℕ) (v : Json) (piece : Piece) : Type 0 where
   pub has_position : HasPosition v x y
   pub halves_x : AreHalves x piece.x
   pub halves_y : AreHalves y piece.y
-  pub input : IsPriority v (codes "input_priority") piece.input
-  pub output : IsPriority v (codes "output_priority") piece.output
+  pub has_priority : HasPriority v piece.priority
 
 -- the piece has this cell on the shifted grid
 pub record IsOn (piece : Piece) (shift : Shift) (cell : Cell) : Type 0 where
@@ -74,19 +69,23 @@ IsFirstShift major first v (Some shift) = SetsShift major first shift
 -- the family and the tier of the entity's name, or its lowest fault, whatever the rest of the blueprint is
 abbrev pub IsNameRead : ℕ → Json → Result (Family × Tier) EntityFault → Type 0
 IsNameRead i v (Ok named) = HasText v (codes "name") (name_of named.0 named.1)
-IsNameRead i v (Err fault) = (major : ℕ) (first : Json) → IsLowest major first i v fault
+IsNameRead i v (Err fault) = (members : List Member) (major : ℕ) (first : Json) → IsLowest members major first i v fault
 
 -- the entity is this piece, or has this lowest fault, whatever entity 0 is
 abbrev pub IsPieceRead : ℕ → ℕ → Json → Result Piece EntityFault → Type 0
 IsPieceRead major i v (Ok piece) = IsPiece major v piece
-IsPieceRead major i v (Err fault) = (first : Json) → IsLowest major first i v fault
+IsPieceRead major i v (Err fault) = (members : List Member) (first : Json) → IsLowest members major first i v fault
 
--- the entity stands for this part, where entity 0 sets this shift, or has this lowest fault
-abbrev pub IsEntityRead : ℕ → Json → ℕ → Json → Result (Shift × Part) EntityFault → Type 0
-IsEntityRead major first i v (Ok read) = SetsShift major first read.0 × IsEntity major first v read.1
-IsEntityRead major first i v (Err fault) = IsLowest major first i v fault
+-- the entity stands for this part and has this priority, where entity 0 sets this shift, or has this lowest fault
+abbrev pub IsEntityRead : List Member → ℕ → Json → ℕ → Json → Result (Shift × Part × Priority) EntityFault → Type 0
+IsEntityRead members major first i v (Ok read) = SetsShift major first read.0 × IsEntity members major first v read.1 × HasPriority v read.2
+IsEntityRead members major first i v (Err fault) = IsLowest members major first i v fault
 
--- the entities stand for these parts, or have this first fault
-abbrev pub AreRead : ℕ → List Json → Result (List Part) EntityFault → Type 0
-AreRead major entities (Ok parts) = AreParts major entities parts
-AreRead major entities (Err fault) = IsFirstOf major entities fault
+-- the entities stand for these parts and have these priorities, or have this first fault
+abbrev pub AreRead : List Member → ℕ → List Json → Result (List Part × List Priority) EntityFault → Type 0
+AreRead members major entities (Ok read) = AreParts members major entities read.0 × ArePriorities entities read.1
+AreRead members major entities (Err fault) = IsFirstOf members major entities fault
+
+-- the root is refused with this fault, whichever members may not be special
+abbrev pub RefusesRoot : Json → EntityFault → Type 0
+RefusesRoot root fault = (members : List Member) → IsRefused members root fault

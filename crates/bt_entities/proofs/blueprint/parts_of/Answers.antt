@@ -1,29 +1,10 @@
-use Rattle.std.proofs.Common.{◌≤◌, Err, arith, map, length, inl}
-use Rattle.std.proofs.lemmas.List.{length-map}
-use Rattle.std.proofs.lemmas.Result.{err_from_is_err_and}
-use Rattle.bt_answers.specs.Answers.{seen}
+use Rattle.std.specs.Prelude.{Ok, Err}
 use Rattle.bt_json.specs.Stands.{json_of}
-use Rattle.bt_entities.specs.declared.blueprint.TheConstants.{MOST_ENTITIES}
-use Rattle.bt_entities.specs.declared.fault.EntityFault.TheVariants.{TooMany}
-use Rattle.bt_entities.specs.Answers.{parts_in}
-use Rattle.bt_entities.proofs.Whole.{told_of_root}
-use Rattle.bt_entities.proofs.OneAnswer.{parts_answers}
+use Rattle.bt_entities.proofs.OneAnswer.{parts_answers, parts_alone}
 use Rattle.bt_entities.proofs.blueprint.parts_of.Goals as goal
 
-pub returns-in_err-blueprint : goal.returns-in_err-blueprint
-returns-in_err-blueprint c =
-    let p = err_from_is_err_and c.from_residual.result c.from_residual.ensures.1 in
-    rw (p.1, p.2) (parts_answers (json_of c.args.tree.now) (Err _) (inl c.in_err-blueprint.ensures))
-
-pub returns-then-blueprint-gt-MOST_ENTITIES : goal.returns-then-blueprint-gt-MOST_ENTITIES
-returns-then-blueprint-gt-MOST_ENTITIES c =
-    let es = c.in_ok-blueprint.blueprint.entities.now in
-    parts_answers (json_of c.args.tree.now) (Err TooMany)
-    (inl (c.in_ok-blueprint.blueprint.major, map json_of es, c.in_ok-blueprint.ensures, omega (arith, length-map es json_of)))
+pub returns-in-Ok : goal.returns-in-Ok
+returns-in-Ok c = parts_answers (json_of c.args.tree.now) (Ok _) (parts_alone (json_of c.args.tree.now) _ c.in-Ok.ensures)
 
 pub returns : goal.returns
-returns c =
-    let es = c.in_ok-blueprint.blueprint.entities.now in
-    let few : length (map json_of es) ≤ MOST_ENTITIES = omega (arith, length-map es json_of) in
-    parts_answers (json_of c.args.tree.now) (seen parts_in c.parts_with.result)
-    (told_of_root (json_of c.args.tree.now) c.in_ok-blueprint.blueprint.major (map json_of es) c.in_ok-blueprint.ensures few (seen parts_in c.parts_with.result) c.parts_with.ensures)
+returns c = parts_answers (json_of c.args.tree.now) (Err c.in-Err.fault) c.in-Err.ensures

@@ -9,10 +9,10 @@ returns-in_default-kind_of c =
     let v = json_of c.args.entity.now in
     bad_type c.args.major v (begun c.args.major v _ _ _ c.in-Some-direction.dir c.requires c.in-Some.ensures c.in-Some-direction.ensures) c.in_default-kind_of.ensures
 
-pub returns-in_err-input : goal.returns-in_err-input
-returns-in_err-input c =
+pub returns-in_err-priority : goal.returns-in_err-priority
+returns-in_err-priority c =
     let v = json_of c.args.entity.now in
     let p = err_from_is_err_and c.from_residual.result c.from_residual.ensures.1 in
     rw (p.1, p.2) (bad_priority c.args.major v _
     (begun c.args.major v _ _ _ c.in-Some-direction.dir c.requires c.in-Some.ensures c.in-Some-direction.ensures)
-    (kind_typed c.args.major v c.in-Some-kind_of.kind c.in-Some-kind_of.ensures) c.in_err-input.ensures)
+    (kind_typed c.args.major v c.in-Some-kind_of.kind c.in-Some-kind_of.ensures) c.in_err-priority.ensures)

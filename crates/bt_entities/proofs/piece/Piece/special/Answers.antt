@@ -1,12 +1,11 @@
+use Rattle.std.proofs.Common.{sym, subst}
 use Rattle.bt_json.specs.Stands.{json_of}
-use Rattle.bt_entities.proofs.Placed.{special_input, special_output, is_plain}
+use Rattle.bt_entities.specs.Entities.{IsPlain}
+use Rattle.bt_entities.specs.inner.Pieces.{special_of}
+use Rattle.bt_entities.proofs.Placed.{plain_layout}
 use Rattle.bt_entities.proofs.piece.Piece.special.Goals as goal
 
-pub returns-in-Sided-default : goal.returns-in-Sided-default
-returns-in-Sided-default c = λ major p. special_input major (json_of c.args.entity.now) c.args.self.now c.if-has_member.ensures c.if-has_member-2.ensures c.in-Sided-default.is-0 p
-
-pub returns-in-Even-Sided : goal.returns-in-Even-Sided
-returns-in-Even-Sided c = λ major p. special_output major (json_of c.args.entity.now) c.args.self.now c.if-has_member.ensures c.if-has_member-2.ensures c.in-Even-Sided.is-0 c.in-Even-Sided.is-1 p
-
-pub returns-in-Even-Even : goal.returns-in-Even-Even
-returns-in-Even-Even c = λ major p. is_plain major (json_of c.args.entity.now) c.args.self.now c.if-has_member.ensures c.if-has_member-2.ensures c.in-Even-Even.is-0 c.in-Even-Even.is-1 p
+pub returns-in-Layouts-None-None : goal.returns-in-Layouts-None-None
+returns-in-Layouts-None-None c = λ major p.
+    subst (λ r. IsPlain (special_of r) (json_of c.args.entity.now)) (sym c.in-Layouts-None-None.is-0)
+    (plain_layout (json_of c.args.entity.now) c.args.self.now.priority c.if-has_member.ensures c.if-has_member-2.ensures c.in-Layouts-None-None.is-1 c.in-Layouts-None-None.is-2 p.has_priority)
