@@ -1,5 +1,5 @@
 -- One edge for each chain: following a chain to its end, and adding edges in the order of their starts.
-use Rattle.std.proofs.Common.{◌≡◌, ◌≢◌, ◌⊎◌, ℕ, ◌+◌, ◌<◌, ◌≤◌, List, [], ◌∷◌, ◌++◌, length, get_or, Some, refl, sym, ◌∙◌, ap, subst, inl, inr, ⊎_elim, arith}
+use Rattle.std.proofs.Common.{◌≡◌, ◌≢◌, ◌⊎◌, ℕ, ◌+◌, ◌<◌, ◌≤◌, List, [], ◌∷◌, ◌++◌, length, get_or, Option, Some, None, refl, sym, ◌∙◌, ap, subst, inl, inr, ⊎_elim, arith}
 use Rattle.std.specs.List.{slice_get, AllPairs, Contains}
 use Rattle.std.proofs.lemmas.Int.{ints}
 use Rattle.std.proofs.lemmas.Option.{same_Some, slice_get_within, get_or_from_slice_get}
@@ -17,23 +17,23 @@ use Rattle.bt_parts.specs.Layouts.{HasPart, IsAt}
 use Rattle.bt_net.specs.declared.network.Edge.{Edge}
 use Rattle.bt_net.specs.declared.network.Target.TheVariants as to
 use Rattle.bt_model.specs.Handing.{FeedsFrom, Hands}
-use Rattle.bt_model.specs.Chains.{IsSplitter, IsLink, Path, one, IsInput, IsOutput, Source, begins, leaves, ends, enters, Chain, IsChain, StartsAs}
+use Rattle.bt_model.specs.Chains.{IsSplitter, IsLink, Path, one, IsInput, IsOutput, Source, begins, leaves, Sink, ends, enters, Chain, IsChain, StartsAs}
 use Rattle.bt_model.specs.Clean.{IsClean}
 use Rattle.bt_model.specs.Speeds.{HasSpeed, IsLeastSpeed, IsOnWay, IsSpeedOf}
 use Rattle.bt_model.specs.Shown.{Naming, ListsEach, Precedes, IsPlacedBefore, ComesBefore, IsEdgeOf}
-use Rattle.bt_parts.proofs.Places.{same_part}
+use Rattle.bt_parts.proofs.Places.{same_part, own_cell, covers_at}
 use Rattle.bt_model.proofs.HandLemmas.{taker_at}
 use Rattle.bt_model.proofs.PathLemmas.{path_snoc}
 use Rattle.bt_model.proofs.SpeedLemmas.{least_more, least_alone, least_at_splitter, least_to_output, least_to_splitter, speed_from_input, speed_from_splitter}
 use Rattle.bt_recover.specs.declared.edges.Way.{Way}
-use Rattle.bt_recover.specs.inner.Edges.{AreNames, LeadsTo, LeadsFrom, StartsNone, AreEdges, HasEdges, AllDone}
+use Rattle.bt_recover.specs.inner.Edges.{AreNames, IsFrontOf, EntersAt, EndsAtAny, LeadsTo, LeadsFrom, StartsNone, AreEdges, HasEdges, AllDone}
 use Rattle.bt_recover.specs.inner.Speeds.{IsSlowedBy}
 use Rattle.bt_recover.proofs.Done.{InputsDone, SplittersDone, HalfDone}
 use Rattle.bt_model.proofs.HandLaws.{front_fed}
 use Rattle.bt_model.proofs.ChainLemmas.{orderly_of, chain_from}
 use Rattle.bt_model.proofs.ExistLemmas.{no_long_path, input_chain, half_chain, empty_chain}
 use Rattle.bt_model.proofs.Places.{contained_at}
-use Rattle.bt_model.proofs.SameChain.{begins_cell, leaves_half}
+use Rattle.bt_model.proofs.SameChain.{begins_cell, leaves_half, into_splitter}
 use Rattle.bt_recover.proofs.Counts.{zip_push}
 
 -- ---- following a chain
@@ -78,7 +78,7 @@ following_more parts first last next steps speed least on hands link within slow
 }
 
 pub following_output : (parts : List Part) (numbers : List ℕ) (first last steps speed number : ℕ) → IsFollowing parts first last steps speed → IsOutput parts last
-    → number ≡ get_or numbers last 0 → LeadsTo parts numbers first (record { target = to.Output number; speed = speed })
+    → number ≡ get_or numbers last 0 → LeadsTo parts numbers first (record { target = to.Output number; sink_half = None; speed = speed })
 following_output parts numbers first last steps speed number on output at = record {
   last = last;
   links = on.links;
@@ -86,18 +86,30 @@ following_output parts numbers first last steps speed number on output at = reco
   sink = ends last;
   ends_as = (refl, output);
   target_is = ap to.Output at;
+  enters_at = refl;
   speed_is = least_to_output parts on.links last speed on.speed_is;
 }
 
-pub following_splitter : (parts : List Part) (numbers : List ℕ) (first last next steps speed least number : ℕ) → IsFollowing parts first last steps speed → Hands parts last next → IsSplitter parts next
-    → IsSlowedBy parts speed next least → number ≡ get_or numbers next 0 → LeadsTo parts numbers first (record { target = to.Split number; speed = least })
-following_splitter parts numbers first last next steps speed least number on hands splitter slowed at = record {
+-- what a part of one cell that hands to a splitter has in front is the half to which it hands
+enters_front : (parts : List Part) (last s : ℕ) (ahead : Cell) → IsLink parts last → IsSplitter parts s → Hands parts last s → IsFrontOf parts last ahead → EntersAt parts last (enters s) (Some ahead)
+enters_front parts last s ahead link splitter hands is =
+    let feeds = into_splitter parts last s splitter hands in
+    let look = feeds.1.look in
+    let same : look.giver.part ≡ is.0 = same_part parts last look.giver.part is.0 look.giver.is_i is.1 in
+    let own : feeds.0 ≡ link.0.cell = own_cell link.0 feeds.0 link.2 (covers_at parts last link.0 feeds.0 link.1 look.giver) in
+    let here : link.0.cell ≡ is.0.cell = ap (λ p. p.cell) (same_part parts last link.0 is.0 link.1 is.1) in
+    (feeds.0, feeds.1, ap Some (is.2 ∙ ap (λ p. step p.dir is.0.cell) (sym same) ∙ ap (step look.giver.part.dir) (sym (own ∙ here))))
+
+pub following_splitter : (parts : List Part) (numbers : List ℕ) (first last next steps speed least number : ℕ) (ahead : Cell) → IsFollowing parts first last steps speed → Hands parts last next → IsSplitter parts next
+    → IsFrontOf parts last ahead → IsSlowedBy parts speed next least → number ≡ get_or numbers next 0 → LeadsTo parts numbers first (record { target = to.Split number; sink_half = Some ahead; speed = least })
+following_splitter parts numbers first last next steps speed least number ahead on hands splitter faces slowed at = record {
   last = last;
   links = on.links;
   path = on.path;
   sink = enters next;
   ends_as = (splitter, hands);
   target_is = ap to.Split at;
+  enters_at = enters_front parts last next ahead on.link splitter hands faces;
   speed_is = subst (λ x. IsLeastSpeed parts (IsOnWay on.links (enters next)) x) (sym slowed.2)
       (least_to_splitter parts on.links next speed slowed.0 on.speed_is slowed.1);
 }
@@ -105,6 +117,15 @@ following_splitter parts numbers first last next steps speed least number on han
 pub following_too_long : (parts : List Part) → IsClean parts → (first last steps speed : ℕ) → IsFollowing parts first last steps speed → length parts ≤ steps → ⊥
 following_too_long parts clean first last steps speed on many =
     no_long_path parts clean.no_ring first last on.links on.path (let e = on.count in omega arith)
+
+-- the half at which a chain with these parts ends
+ends_at_any : (parts : List Part) (source : Source) (first last : ℕ) (links : List ℕ) (sink : Sink) (told : Option Cell) → Path parts first last links → EntersAt parts last sink told
+    → EndsAtAny parts (record { source = source; links = links; sink = sink }) told
+ends_at_any parts source first last links (ends i) told path is =
+    subst (EndsAtAny parts (record { source = source; links = links; sink = ends i })) (sym is) (λ s half at. absurd (let e = at.sink in cc))
+ends_at_any parts source first last links (enters s) told path is =
+    subst (EndsAtAny parts (record { source = source; links = links; sink = enters s })) (sym is.2)
+    (s, record { sink = refl; giver = last; cell = is.0; hands_on = inl (first, path); feeds = is.1; faces = refl })
 
 -- the chain from an input, from the cell of its first part
 pub leads_from_input : (parts : List Part) → IsClean parts → (numbers : List ℕ) (i : ℕ) (way : Way) (input : IsInput parts i) → LeadsTo parts numbers i way
@@ -115,6 +136,7 @@ leads_from_input parts clean numbers i way input leads = record {
       (record { part = input.part; is_i = input.is_i; covers = inl refl }) leads.path leads.ends_as;
   source_is = refl;
   target_is = leads.target_is;
+  ends_at = ends_at_any parts (begins i input.part.cell) i leads.last leads.links leads.sink way.sink_half leads.path leads.enters_at;
   speed_is = speed_from_input parts (record { source = begins i input.part.cell; links = leads.links; sink = leads.sink }) way.speed
       (λ j none. none) leads.speed_is;
 }
@@ -129,26 +151,38 @@ pub half_feeds : (parts : List Part) → IsClean parts → (s next : ℕ) (half 
 half_feeds parts clean s next half there part is_s splitter here e at =
     front_fed parts (orderly_of parts clean) s next half part is_s here (splitter_above parts s part is_s splitter) (subst (λ c. IsAt parts next c) e at)
 
-pub leads_at_once : (parts : List Part) (numbers : List ℕ) (s next speed least number : ℕ) (half : Cell) → IsSplitter parts s → FeedsFrom parts s half next → IsSplitter parts next
-    → HasSpeed parts next speed → IsSlowedBy parts speed s least → number ≡ get_or numbers next 0
-    → LeadsFrom parts numbers (leaves s half) (record { target = to.Split number; speed = least })
-leads_at_once parts numbers s next speed least number half splitter feeds into has slowed at = record {
+pub leads_at_once : (parts : List Part) (numbers : List ℕ) (s next speed least number : ℕ) (half ahead : Cell) (part : Part) → HasPart parts s part → ahead ≡ step part.dir half → IsSplitter parts s → FeedsFrom parts s half next
+    → IsSplitter parts next → HasSpeed parts next speed → IsSlowedBy parts speed s least → number ≡ get_or numbers next 0
+    → LeadsFrom parts numbers (leaves s half) (record { target = to.Split number; sink_half = Some ahead; speed = least })
+leads_at_once parts numbers s next speed least number half ahead part is_s faces splitter feeds into has slowed at = record {
   chain = record { source = leaves s half; links = []; sink = enters next };
   is_chain = empty_chain parts s next half splitter into feeds;
   source_is = refl;
   target_is = ap to.Split at;
+  ends_at = (
+    next,
+    record {
+      sink = refl;
+      giver = s;
+      cell = half;
+      hands_on = inr (refl, refl);
+      feeds = feeds;
+      faces = faces ∙ ap (λ p. step p.dir half) (same_part parts s part feeds.look.giver.part is_s feeds.look.giver.is_i);
+    },
+  );
   speed_is = subst (λ x. IsSpeedOf parts (record { source = leaves s half; links = []; sink = enters next }) x) (sym slowed.2)
       (speed_from_splitter parts (record { source = leaves s half; links = []; sink = enters next }) s speed slowed.0 (λ j e. e) refl
       (least_at_splitter parts next speed has) slowed.1);
 }
 
 pub leads_from_half : (parts : List Part) → IsClean parts → (numbers : List ℕ) (s next least : ℕ) (half : Cell) (way : Way) → IsSplitter parts s → FeedsFrom parts s half next
-    → LeadsTo parts numbers next way → IsSlowedBy parts way.speed s least → LeadsFrom parts numbers (leaves s half) (record { target = way.target; speed = least })
+    → LeadsTo parts numbers next way → IsSlowedBy parts way.speed s least → LeadsFrom parts numbers (leaves s half) (record { target = way.target; sink_half = way.sink_half; speed = least })
 leads_from_half parts clean numbers s next least half way splitter feeds leads slowed = record {
   chain = record { source = leaves s half; links = leads.links; sink = leads.sink };
   is_chain = half_chain parts (orderly_of parts clean) s next leads.last half leads.links leads.sink splitter feeds leads.path leads.ends_as;
   source_is = refl;
   target_is = leads.target_is;
+  ends_at = ends_at_any parts (leaves s half) next leads.last leads.links leads.sink way.sink_half leads.path leads.enters_at;
   speed_is = subst (λ x. IsSpeedOf parts (record { source = leaves s half; links = leads.links; sink = leads.sink }) x) (sym slowed.2)
       (speed_from_splitter parts (record { source = leaves s half; links = leads.links; sink = leads.sink }) s way.speed slowed.0 (λ j e. e) refl
       leads.speed_is slowed.1);
@@ -171,17 +205,17 @@ half_starts_none parts s half there part is_s e none chain is_chain source =
 
 -- ---- one more edge
 
--- the chain that starts here, and the edge that stands for it
-pub record IsEdgeFrom (parts : List Part) (naming : Naming) (source : Source) (edge : Edge) : Type 0 where
+-- the chain that starts here, and what stands for it
+pub record IsEdgeFrom {X : Type 0} (parts : List Part) (IsFor : Chain → X → Type 0) (source : Source) (edge : X) : Type 0 where
   pub chain : Chain
   pub is_chain : IsChain parts chain
   pub source_is : chain.source ≡ source
-  pub named : IsEdgeOf parts naming chain edge
+  pub named : IsFor chain edge
 
 -- the edge of the chain that starts here is added, if one does
-abbrev pub AddsEdgeFrom : List Part → Naming → Source → List Edge → List Edge → Type 0
-AddsEdgeFrom parts naming source old new =
-    (StartsNone parts source × (new ≡ old)) ⊎ ((edge : Edge) × IsEdgeFrom parts naming source edge × (new ≡ old ++ edge ∷ []))
+abbrev pub AddsEdgeFrom : {X : Type 0} → List Part → (Chain → X → Type 0) → Source → List X → List X → Type 0
+AddsEdgeFrom {X} parts IsFor source old new =
+    (StartsNone parts source × (new ≡ old)) ⊎ ((edge : X) × IsEdgeFrom parts IsFor source edge × (new ≡ old ++ edge ∷ []))
 
 -- once a source more is done, the chains are those of before and the one from there
 record IsNext (parts : List Part) (done later : Source → Type 0) (source : Source) : Type 0 where
@@ -190,11 +224,11 @@ record IsNext (parts : List Part) (done later : Source → Type 0) (source : Sou
   cases : (c : Chain) → IsChain parts c → later c.source → done c.source ⊎ (c.source ≡ source)
   before : (c : Chain) → IsChain parts c → done c.source → ComesBefore c.source source
 
-edge_more : (parts : List Part) → IsClean parts → (naming : Naming) (done later : Source → Type 0) (source : Source) (chains : List Chain) (edges : List Edge) (edge : Edge)
-    → IsNext parts done later source → (n : IsEdgeFrom parts naming source edge) → AreEdges parts naming done chains edges
-    → AreEdges parts naming later (chains ++ n.chain ∷ []) (edges ++ edge ∷ [])
-edge_more parts clean naming done later source chains edges edge next n are = record {
-  named = zip_push (IsEdgeOf parts naming) chains edges n.chain edge are.named n.named;
+edge_more : {X : Type 0} (parts : List Part) → IsClean parts → (IsFor : Chain → X → Type 0) (done later : Source → Type 0) (source : Source) (chains : List Chain) (edges : List X) (edge : X)
+    → IsNext parts done later source → (n : IsEdgeFrom parts IsFor source edge) → AreEdges parts IsFor done chains edges
+    → AreEdges parts IsFor later (chains ++ n.chain ∷ []) (edges ++ edge ∷ [])
+edge_more parts clean IsFor done later source chains edges edge next n are = record {
+  named = zip_push IsFor chains edges n.chain edge are.named n.named;
   only = λ c there. ⊎_elim
       (λ had. let known = are.only c had in (known.0, next.widen c.source known.1))
       (λ e. (subst (λ x. IsChain parts x) e n.is_chain, subst (λ x. later x.source) e (subst later (sym n.source_is) next.here)))
@@ -211,10 +245,10 @@ edge_more parts clean naming done later source chains edges edge next n are = re
 }
 
 -- no more chains, though more sources are done
-edges_same : (parts : List Part) (naming : Naming) (done later : Source → Type 0) (edges : List Edge)
+edges_same : {X : Type 0} (parts : List Part) (IsFor : Chain → X → Type 0) (done later : Source → Type 0) (edges : List X)
     → ((x : Source) → done x → later x) → ((c : Chain) → IsChain parts c → later c.source → done c.source)
-    → HasEdges parts naming done edges → HasEdges parts naming later edges
-edges_same parts naming done later edges widen cases has = (
+    → HasEdges parts IsFor done edges → HasEdges parts IsFor later edges
+edges_same parts IsFor done later edges widen cases has = (
   has.0,
   record {
     named = has.1.named;
@@ -224,15 +258,15 @@ edges_same parts naming done later edges widen cases has = (
   },
 )
 
-edges_add : (parts : List Part) → IsClean parts → (naming : Naming) (done later : Source → Type 0) (source : Source) (old new : List Edge)
-    → IsNext parts done later source → AddsEdgeFrom parts naming source old new → HasEdges parts naming done old → HasEdges parts naming later new
-edges_add parts clean naming done later source old new next (inl none) has =
-    subst (λ es. HasEdges parts naming later es) (sym none.1)
-    (edges_same parts naming done later old next.widen
+edges_add : {X : Type 0} (parts : List Part) → IsClean parts → (IsFor : Chain → X → Type 0) (done later : Source → Type 0) (source : Source) (old new : List X)
+    → IsNext parts done later source → AddsEdgeFrom parts IsFor source old new → HasEdges parts IsFor done old → HasEdges parts IsFor later new
+edges_add parts clean IsFor done later source old new next (inl none) has =
+    subst (λ es. HasEdges parts IsFor later es) (sym none.1)
+    (edges_same parts IsFor done later old next.widen
     (λ c is_c is_later. ⊎_elim (λ was. was) (λ e. absurd (none.0 c is_c e)) (next.cases c is_c is_later)) has)
-edges_add parts clean naming done later source old new next (inr some) has =
-    subst (λ es. HasEdges parts naming later es) (sym some.2)
-    (has.0 ++ some.1.chain ∷ [], edge_more parts clean naming done later source has.0 old some.0 next some.1 has.1)
+edges_add parts clean IsFor done later source old new next (inr some) has =
+    subst (λ es. HasEdges parts IsFor later es) (sym some.2)
+    (has.0 ++ some.1.chain ∷ [], edge_more parts clean IsFor done later source has.0 old some.0 next some.1 has.1)
 
 -- ---- the inputs
 
@@ -240,8 +274,8 @@ no_input_done : (x : Source) (inputs : List ℕ) → InputsDone inputs 0 x → �
 no_input_done (begins i cell) inputs done = let lt = done.1 in omega arith
 no_input_done (leaves s half) inputs done = done
 
-pub edges_none : (parts : List Part) (naming : Naming) → HasEdges parts naming (InputsDone naming.inputs 0) []
-edges_none parts naming = (
+pub edges_none : {X : Type 0} (parts : List Part) (IsFor : Chain → X → Type 0) (naming : Naming) → HasEdges parts IsFor (InputsDone naming.inputs 0) []
+edges_none parts IsFor naming = (
   [],
   record {
     named = tt;
@@ -286,11 +320,11 @@ before_input parts inputs k i part up at is_i c is_c (begins j other) source don
     (subst (λ y. Precedes y place.other.cell) (ap (λ p. p.cell) (same_part parts j place.one at_j.0 place.is_i at_j.1) ∙ sym at_j.2) place.before)
 before_input parts inputs k i part up at is_i c is_c (leaves s half) source done = absurd done
 
-pub edges_input : (parts : List Part) → IsClean parts → (naming : Naming) → AreNames parts naming → (k i : ℕ) (edges : List Edge) (edge : Edge) (input : IsInput parts i)
-    → slice_get naming.inputs k ≡ Some i → IsEdgeFrom parts naming (begins i input.part.cell) edge → HasEdges parts naming (InputsDone naming.inputs k) edges
-    → HasEdges parts naming (InputsDone naming.inputs (k + 1)) (edges ++ edge ∷ [])
-edges_input parts clean naming names k i edges edge input at n has =
-    edges_add parts clean naming (InputsDone naming.inputs k) (InputsDone naming.inputs (k + 1)) (begins i input.part.cell) edges (edges ++ edge ∷ []) (record {
+pub edges_input : {X : Type 0} (parts : List Part) → IsClean parts → (IsFor : Chain → X → Type 0) (naming : Naming) → AreNames parts naming → (k i : ℕ) (edges : List X) (edge : X) (input : IsInput parts i)
+    → slice_get naming.inputs k ≡ Some i → IsEdgeFrom parts IsFor (begins i input.part.cell) edge → HasEdges parts IsFor (InputsDone naming.inputs k) edges
+    → HasEdges parts IsFor (InputsDone naming.inputs (k + 1)) (edges ++ edge ∷ [])
+edges_input parts clean IsFor naming names k i edges edge input at n has =
+    edges_add parts clean IsFor (InputsDone naming.inputs k) (InputsDone naming.inputs (k + 1)) (begins i input.part.cell) edges (edges ++ edge ∷ []) (record {
       widen = widen_inputs naming.inputs k;
       here = (k, omega arith, at);
       cases = λ c is_c done. later_inputs parts naming.inputs k i input.part input.is_i at c is_c c.source refl done;
@@ -318,10 +352,10 @@ all_inputs : (parts : List Part) (inputs splitters : List ℕ) → ListsEach (Is
 all_inputs parts inputs splitters each c is_c (begins i cell) e done = contained_at inputs i (each.all i (input_of parts c i cell is_c e))
 all_inputs parts inputs splitters each c is_c (leaves s half) e done = let lt = done.1 in absurd (omega arith)
 
-pub edges_inputs : (parts : List Part) (naming : Naming) (edges : List Edge) → AreNames parts naming
-    → HasEdges parts naming (InputsDone naming.inputs (length naming.inputs)) edges → HasEdges parts naming (SplittersDone naming.splitters 0) edges
-edges_inputs parts naming edges names has =
-    edges_same parts naming (InputsDone naming.inputs (length naming.inputs)) (SplittersDone naming.splitters 0) edges (widen_all naming.inputs naming.splitters)
+pub edges_inputs : {X : Type 0} (parts : List Part) (IsFor : Chain → X → Type 0) (naming : Naming) (edges : List X) → AreNames parts naming
+    → HasEdges parts IsFor (InputsDone naming.inputs (length naming.inputs)) edges → HasEdges parts IsFor (SplittersDone naming.splitters 0) edges
+edges_inputs parts IsFor naming edges names has =
+    edges_same parts IsFor (InputsDone naming.inputs (length naming.inputs)) (SplittersDone naming.splitters 0) edges (widen_all naming.inputs naming.splitters)
     (λ c is_c done. all_inputs parts naming.inputs naming.splitters names.inputs c is_c c.source refl done) has
 
 -- ---- the splitters
@@ -388,21 +422,21 @@ greater_next parts naming k s part names is_s at = record {
   before = λ c is_c done. before_both naming.splitters k s part names.in_order.splitters at c.source done;
 }
 
-pub edges_halves : (parts : List Part) → IsClean parts → (naming : Naming) → AreNames parts naming → (k s : ℕ) (part : Part) (old mid new : List Edge) → HasPart parts s part
-    → slice_get naming.splitters k ≡ Some s → AddsEdgeFrom parts naming (leaves s part.cell) old mid → AddsEdgeFrom parts naming (leaves s (beside part.dir part.cell)) mid new
-    → HasEdges parts naming (SplittersDone naming.splitters k) old → HasEdges parts naming (SplittersDone naming.splitters (k + 1)) new
-edges_halves parts clean naming names k s part old mid new is_s at lesser greater has =
-    edges_add parts clean naming (HalfDone naming.splitters k s part.cell) (SplittersDone naming.splitters (k + 1)) (leaves s (beside part.dir part.cell)) mid new
+pub edges_halves : {X : Type 0} (parts : List Part) → IsClean parts → (IsFor : Chain → X → Type 0) (naming : Naming) → AreNames parts naming → (k s : ℕ) (part : Part) (old mid new : List X) → HasPart parts s part
+    → slice_get naming.splitters k ≡ Some s → AddsEdgeFrom parts IsFor (leaves s part.cell) old mid → AddsEdgeFrom parts IsFor (leaves s (beside part.dir part.cell)) mid new
+    → HasEdges parts IsFor (SplittersDone naming.splitters k) old → HasEdges parts IsFor (SplittersDone naming.splitters (k + 1)) new
+edges_halves parts clean IsFor naming names k s part old mid new is_s at lesser greater has =
+    edges_add parts clean IsFor (HalfDone naming.splitters k s part.cell) (SplittersDone naming.splitters (k + 1)) (leaves s (beside part.dir part.cell)) mid new
     (greater_next parts naming k s part names is_s at) greater
-    (edges_add parts clean naming (SplittersDone naming.splitters k) (HalfDone naming.splitters k s part.cell) (leaves s part.cell) old mid
+    (edges_add parts clean IsFor (SplittersDone naming.splitters k) (HalfDone naming.splitters k s part.cell) (leaves s part.cell) old mid
     (lesser_next parts naming k s part.cell names at) lesser has)
 
 all_splitters : (parts : List Part) (splitters : List ℕ) → ListsEach (IsSplitter parts) splitters → (c : Chain) → IsChain parts c → (x : Source) → c.source ≡ x → SplittersDone splitters (length splitters) x
 all_splitters parts splitters each c is_c (begins i cell) e = tt
 all_splitters parts splitters each c is_c (leaves s half) e = contained_at splitters s (each.all s (splitter_of parts c s half is_c e))
 
-pub edges_all : (parts : List Part) (naming : Naming) (edges : List Edge) → AreNames parts naming
-    → HasEdges parts naming (SplittersDone naming.splitters (length naming.splitters)) edges → HasEdges parts naming AllDone edges
-edges_all parts naming edges names has =
-    edges_same parts naming (SplittersDone naming.splitters (length naming.splitters)) AllDone edges (λ x done. tt)
+pub edges_all : {X : Type 0} (parts : List Part) (IsFor : Chain → X → Type 0) (naming : Naming) (edges : List X) → AreNames parts naming
+    → HasEdges parts IsFor (SplittersDone naming.splitters (length naming.splitters)) edges → HasEdges parts IsFor AllDone edges
+edges_all parts IsFor naming edges names has =
+    edges_same parts IsFor (SplittersDone naming.splitters (length naming.splitters)) AllDone edges (λ x done. tt)
     (λ c is_c done. all_splitters parts naming.splitters names.splitters c is_c c.source refl) has

@@ -7,5 +7,6 @@ pub mod MarkLemmas
 pub mod NetworkLemmas
 pub mod OneRecovery
 pub mod PartnerLaws
+pub mod PreferLemmas
 pub mod RefusalLemmas
 pub mod WiredLemmas

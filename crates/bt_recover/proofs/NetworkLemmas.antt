@@ -1,6 +1,6 @@
 -- From the numbers of the parts and the edges of the chains to the numbered network.
-use Rattle.std.proofs.Common.{◌≡◌, ℕ, zero, suc, ◌+◌, ◌<◌, ◌≤◌, List, [], ◌∷◌, ◌++◌, length, get_or, Option, Some, None, ◌↔◌, Err, Bool, true, false, IsTrue, refl, sym, ◌∙◌, ap, subst, inl, inr, ◌⊎◌, ⊎_elim, arith}
-use Rattle.std.specs.List.{slice_get, All}
+use Rattle.std.proofs.Common.{◌≡◌, ℕ, zero, suc, ◌+◌, ◌<◌, ◌≤◌, List, [], ◌∷◌, ◌++◌, map, length, get_or, Option, Some, None, ◌↔◌, Err, Bool, true, false, IsTrue, refl, sym, ◌∙◌, ap, subst, inl, inr, ◌⊎◌, ⊎_elim, arith}
+use Rattle.std.specs.List.{slice_get, All, AllZip}
 use Rattle.std.proofs.lemmas.Option.{same_Some, none-some, slice_get_within, slice_get-get_or}
 use Rattle.std.proofs.lemmas.Bool.{false≢true}
 use Rattle.std.proofs.lemmas.List.{get_or_default}
@@ -20,14 +20,15 @@ use Rattle.bt_net.specs.Network.{Network, HasNoPriorities, IsLarge, IsNetOf, net
 use Rattle.bt_model.specs.Handing.{FeedsFrom}
 use Rattle.bt_model.specs.Chains.{IsSplitter, IsLink, IsInput, IsOutput, Source, begins, leaves, Sink, ends, enters, Chain, IsChain, EndsAs}
 use Rattle.bt_model.specs.Clean.{IsClean}
-use Rattle.bt_model.specs.Shown.{Naming, ListsEach, ComesBefore, IsStartOf, IsTargetOf, IsNumbered, IsNaming}
+use Rattle.bt_model.specs.Shown.{IsEdgeOf, Naming, ListsEach, ComesBefore, IsStartOf, IsTargetOf, IsNumbered, IsNaming}
 use Rattle.bt_model.specs.Speeds.{IsSpeedOf, HasOneTier, IsCapOf}
 use Rattle.bt_model.proofs.Orders.{sources_asymmetric}
 use Rattle.bt_model.proofs.SpeedLemmas.{cap_exists}
 use Rattle.bt_parts.proofs.Places.{same_part}
+use Rattle.bt_recover.specs.declared.edges.Joint.{Joint}
 use Rattle.bt_recover.specs.declared.edges.Labels.{Labels}
 use Rattle.bt_recover.specs.declared.edges.Way.{Way}
-use Rattle.bt_recover.specs.inner.Edges.{AreNames, HasMany, KeepsOthers, AreNumbered, AreNumbers, AreLabels, target_at, LeadsTo, LeadsFrom, cap_at, edge_to, AddsEdge, AddsHalves, HasEdges, AllDone, net_with}
+use Rattle.bt_recover.specs.inner.Edges.{AreNames, HasMany, KeepsOthers, AreNumbered, AreNumbers, AreLabels, target_at, LeadsTo, LeadsFrom, cap_at, edge_to, half_of, joint_of, IsJoint, AddsEdge, AddsHalves, HasEdges, AllDone, net_with}
 use Rattle.bt_recover.specs.inner.Refused.{size_fault, IsNetTold}
 use Rattle.bt_recover.proofs.Done.{InputsDone, SplittersDone}
 use Rattle.bt_model.proofs.ChainLemmas.{orderly_of, no_link}
@@ -97,50 +98,78 @@ cap_named parts chain true speed same is = inl (same.0 refl, refl)
 cap_named parts chain false speed same is = inr (λ one. false≢true (same.1 one), is)
 
 -- the edge to the target to which the chain leads
-pub edge_from : (parts : List Part) (naming : Naming) (labels : Labels) → AreNames parts naming → AreLabels parts naming labels → (source : Source) (start : Start) (way : Way)
-    → IsStartOf naming source start → LeadsFrom parts labels.numbers.items source way → IsEdgeFrom parts naming source (edge_to labels.one_tier start way)
-edge_from parts naming labels names are source start way starts leads = record {
+named_edge : (parts : List Part) (naming : Naming) (labels : Labels) → AreNames parts naming → AreLabels parts naming labels → (source : Source) (start : Start) (way : Way)
+    → IsStartOf naming source start → (leads : LeadsFrom parts labels.numbers.items source way) → IsEdgeOf parts naming leads.chain (edge_to labels.one_tier start way)
+named_edge parts naming labels names are source start way starts leads = record {
+  start = subst (λ x. IsStartOf naming x start) (sym leads.source_is) starts;
+  target = subst (λ t. IsTargetOf naming leads.chain.sink t) (sym leads.target_is)
+      (target_named parts naming labels.numbers.items names are.numbers leads.chain.sink (sink_is parts leads.chain leads.is_chain));
+  cap = cap_named parts leads.chain labels.one_tier way.speed are.one_tier leads.speed_is;
+}
+
+-- and with the halves that it joins
+pub joint_from : (parts : List Part) (naming : Naming) (labels : Labels) → AreNames parts naming → AreLabels parts naming labels → (source : Source) (start : Start) (way : Way)
+    → IsStartOf naming source start → LeadsFrom parts labels.numbers.items source way → IsEdgeFrom parts (IsJoint parts naming) source (joint_of labels.one_tier source start way)
+joint_from parts naming labels names are source start way starts leads = record {
   chain = leads.chain;
   is_chain = leads.is_chain;
   source_is = leads.source_is;
   named = record {
-    start = subst (λ x. IsStartOf naming x start) (sym leads.source_is) starts;
-    target = subst (λ t. IsTargetOf naming leads.chain.sink t) (sym leads.target_is)
-        (target_named parts naming labels.numbers.items names are.numbers leads.chain.sink (sink_is parts leads.chain leads.is_chain));
-    cap = cap_named parts leads.chain labels.one_tier way.speed are.one_tier leads.speed_is;
+    edge = named_edge parts naming labels names are source start way starts leads;
+    starts_at = ap half_of (sym leads.source_is);
+    ends_at = leads.ends_at;
   };
 }
 
-adds_from : (parts : List Part) (naming : Naming) (labels : Labels) → AreNames parts naming → AreLabels parts naming labels → (source : Source) (start : Start) (old new : List Edge)
-    → IsStartOf naming source start → AddsEdge parts labels source start old new → AddsEdgeFrom parts naming source old new
+adds_from : (parts : List Part) (naming : Naming) (labels : Labels) → AreNames parts naming → AreLabels parts naming labels → (source : Source) (start : Start) (old new : List Joint)
+    → IsStartOf naming source start → AddsEdge parts labels source start old new → AddsEdgeFrom parts (IsJoint parts naming) source old new
 adds_from parts naming labels names are source start old new starts (inl none) = inl none
 adds_from parts naming labels names are source start old new starts (inr some) =
-    inr (edge_to labels.one_tier start some.0, edge_from parts naming labels names are source start some.0 starts some.1, some.2)
+    inr (joint_of labels.one_tier source start some.0, joint_from parts naming labels names are source start some.0 starts some.1, some.2)
 
 -- ---- the loops over the inputs and the splitters
 
-pub input_step : (parts : List Part) → IsClean parts → (naming : Naming) (labels : Labels) → AreNames parts naming → AreLabels parts naming labels → (k : ℕ) (edges : List Edge) (way : Way)
-    → k < length naming.inputs → LeadsTo parts labels.numbers.items (get_or naming.inputs k 0) way → HasEdges parts naming (InputsDone naming.inputs k) edges
-    → HasEdges parts naming (InputsDone naming.inputs (k + 1)) (edges ++ edge_to labels.one_tier (from.Input k) way ∷ [])
-input_step parts clean naming labels names are k edges way lt leads has =
+-- the cell of the first part makes no difference
+joint_same : (one_tier : Bool) (start : Start) (way : Way) (i : ℕ) (cell : Cell) (joint : Joint) → ((source : Source) → None ≡ half_of source → joint ≡ joint_of one_tier source start way)
+    → joint ≡ joint_of one_tier (begins i cell) start way
+joint_same one_tier start way i cell joint is = is (begins i cell) refl
+
+pub input_step : (parts : List Part) → IsClean parts → (naming : Naming) (labels : Labels) → AreNames parts naming → AreLabels parts naming labels → (k : ℕ) (joints : List Joint) (way : Way) (joint : Joint)
+    → ((source : Source) → None ≡ half_of source → joint ≡ joint_of labels.one_tier source (from.Input k) way)
+    → k < length naming.inputs → LeadsTo parts labels.numbers.items (get_or naming.inputs k 0) way → HasEdges parts (IsJoint parts naming) (InputsDone naming.inputs k) joints
+    → HasEdges parts (IsJoint parts naming) (InputsDone naming.inputs (k + 1)) (joints ++ joint ∷ [])
+input_step parts clean naming labels names are k joints way joint is lt leads has =
     let i = get_or naming.inputs k 0 in
     let input = each_at (IsInput parts) naming.inputs k names.inputs lt in
     let at = slice_get-get_or naming.inputs k 0 lt in
-    edges_input parts clean naming names k i edges (edge_to labels.one_tier (from.Input k) way) input at
-    (edge_from parts naming labels names are (begins i input.part.cell) (from.Input k) way at (leads_from_input parts clean labels.numbers.items i way input leads)) has
+    subst (λ j. HasEdges parts (IsJoint parts naming) (InputsDone naming.inputs (k + 1)) (joints ++ j ∷ [])) (sym (joint_same labels.one_tier (from.Input k) way i input.part.cell joint is))
+    (edges_input parts clean (IsJoint parts naming) naming names k i joints (joint_of labels.one_tier (begins i input.part.cell) (from.Input k) way) input at
+    (joint_from parts naming labels names are (begins i input.part.cell) (from.Input k) way at (leads_from_input parts clean labels.numbers.items i way input leads)) has)
 
-pub halves_step : (parts : List Part) → IsClean parts → (naming : Naming) (labels : Labels) → AreNames parts naming → AreLabels parts naming labels → (k : ℕ) (old new : List Edge)
-    → k < length naming.splitters → AddsHalves parts labels (get_or naming.splitters k 0) (from.Split k) old new → HasEdges parts naming (SplittersDone naming.splitters k) old
-    → HasEdges parts naming (SplittersDone naming.splitters (k + 1)) new
+pub halves_step : (parts : List Part) → IsClean parts → (naming : Naming) (labels : Labels) → AreNames parts naming → AreLabels parts naming labels → (k : ℕ) (old new : List Joint)
+    → k < length naming.splitters → AddsHalves parts labels (get_or naming.splitters k 0) (from.Split k) old new → HasEdges parts (IsJoint parts naming) (SplittersDone naming.splitters k) old
+    → HasEdges parts (IsJoint parts naming) (SplittersDone naming.splitters (k + 1)) new
 halves_step parts clean naming labels names are k old new lt adds has =
     let s = get_or naming.splitters k 0 in
     let at = slice_get-get_or naming.splitters k 0 lt in
-    edges_halves parts clean naming names k s adds.part old adds.mid new adds.is_s at
+    edges_halves parts clean (IsJoint parts naming) naming names k s adds.part old adds.mid new adds.is_s at
     (adds_from parts naming labels names are (leaves s adds.part.cell) (from.Split k) old adds.mid at adds.lesser)
     (adds_from parts naming labels names are (leaves s (beside adds.part.dir adds.part.cell)) (from.Split k) adds.mid new at adds.greater) has
 
+-- what stands for a chain with its halves stands for it without them
+pub halves_off : (parts : List Part) (naming : Naming) (chains : List Chain) (joints : List Joint) → AllZip (IsJoint parts naming) chains joints → AllZip (IsEdgeOf parts naming) chains (map (λ joint. joint.edge) joints)
+halves_off parts naming [] [] z = tt
+halves_off parts naming [] (j ∷ js) z = absurd z
+halves_off parts naming (c ∷ cs) [] z = absurd z
+halves_off parts naming (c ∷ cs) (j ∷ js) z = (z.0.edge, halves_off parts naming cs js z.1)
+
+abbrev pub edges_alone : (parts : List Part) (naming : Naming) (done : Source → Type 0) (joints : List Joint) → HasEdges parts (IsJoint parts naming) done joints
+    → HasEdges parts (IsEdgeOf parts naming) done (map (λ joint. joint.edge) joints)
+edges_alone parts naming done joints has =
+    (has.0, record { named = halves_off parts naming has.0 joints has.1.named; only = has.1.only; all = has.1.all; in_order = has.1.in_order })
+
 -- the edges from both halves
-pub adds_both : (parts : List Part) (labels : Labels) (old mid new : List Edge) (start : Start) (s : ℕ) (part : Part) (first half : Cell) (second : Option Cell) → HasPart parts s part → first ≡ part.cell
+pub adds_both : (parts : List Part) (labels : Labels) (old mid new : List Joint) (start : Start) (s : ℕ) (part : Part) (first half : Cell) (second : Option Cell) → HasPart parts s part → first ≡ part.cell
     → ((c : Cell) → (second ≡ Some c) ↔ IsGreaterHalf part c) → second ≡ Some half → AddsEdge parts labels (leaves s first) start old mid → AddsEdge parts labels (leaves s half) start mid new
     → AddsHalves parts labels s start old new
 adds_both parts labels old mid new start s part first half second is_s e is_second some lesser greater = record {
@@ -163,7 +192,7 @@ target_exists parts naming names (ends i) output = let there = contained_at nami
 target_exists parts naming names (enters s) splitter = let there = contained_at naming.splitters s (names.splitters.all s splitter) in (to.Split there.0, there.2)
 
 edge_exists : (parts : List Part) (naming : Naming) → AreNames parts naming → (chain : Chain) (start : Start) → IsChain parts chain → IsStartOf naming chain.source start
-    → (edge : Edge) × IsEdgeFrom parts naming chain.source edge
+    → (edge : Edge) × IsEdgeFrom parts (IsEdgeOf parts naming) chain.source edge
 edge_exists parts naming names chain start is_chain starts =
     let target = target_exists parts naming names chain.sink (sink_is parts chain is_chain) in
     let cap = cap_exists parts chain is_chain in (
@@ -172,8 +201,8 @@ edge_exists parts naming names chain start is_chain starts =
     )
 
 inputs_exist : (parts : List Part) → IsClean parts → (naming : Naming) → AreNames parts naming → (k : ℕ) → k ≤ length naming.inputs
-    → (edges : List Edge) × HasEdges parts naming (InputsDone naming.inputs k) edges
-inputs_exist parts clean naming names zero few = ([], edges_none parts naming)
+    → (edges : List Edge) × HasEdges parts (IsEdgeOf parts naming) (InputsDone naming.inputs k) edges
+inputs_exist parts clean naming names zero few = ([], edges_none parts (IsEdgeOf parts naming) naming)
 inputs_exist parts clean naming names (suc k) few =
     let before = inputs_exist parts clean naming names k (omega arith) in
     let lt : k < length naming.inputs = omega arith in
@@ -185,12 +214,12 @@ inputs_exist parts clean naming names (suc k) few =
     (input_chain parts clean.well_placed i run.last input.part.cell run.links run.sink input (record { part = input.part; is_i = input.is_i; covers = inl refl }) run.path run.ends) at in
     let more : k + 1 ≡ suc k = omega arith in (
       before.0 ++ edge.0 ∷ [],
-      subst (λ n. HasEdges parts naming (InputsDone naming.inputs n) (before.0 ++ edge.0 ∷ [])) more
-          (edges_input parts clean naming names k i before.0 edge.0 input at edge.1 before.1),
+      subst (λ n. HasEdges parts (IsEdgeOf parts naming) (InputsDone naming.inputs n) (before.0 ++ edge.0 ∷ [])) more
+          (edges_input parts clean (IsEdgeOf parts naming) naming names k i before.0 edge.0 input at edge.1 before.1),
     )
 
 half_exists : (parts : List Part) → IsClean parts → (naming : Naming) → AreNames parts naming → (k s : ℕ) (part : Part) (half : Cell) (old : List Edge) → slice_get naming.splitters k ≡ Some s
-    → HasPart parts s part → part.kind ≡ Splitter → IsAt parts s half → (new : List Edge) × AddsEdgeFrom parts naming (leaves s half) old new
+    → HasPart parts s part → part.kind ≡ Splitter → IsAt parts s half → (new : List Edge) × AddsEdgeFrom parts (IsEdgeOf parts naming) (leaves s half) old new
 half_exists parts clean naming names k s part half old at is_s splits here =
     ⊎_elim (λ next. taken next.0 (half_feeds parts clean s next.0 half (step part.dir half) part is_s splitter here refl next.1) (part_cases parts next.0 next.1.part next.1.is_i))
     (λ none. (old, inl (half_starts_none parts s half (step part.dir half) part is_s refl none, refl)))
@@ -199,10 +228,10 @@ half_exists parts clean naming names k s part half old at is_s splits here =
     splitter : IsSplitter parts s
     splitter = (part, is_s, splits)
 
-    adds : (edge : Edge) → IsEdgeFrom parts naming (leaves s half) edge → (new : List Edge) × AddsEdgeFrom parts naming (leaves s half) old new
+    adds : (edge : Edge) → IsEdgeFrom parts (IsEdgeOf parts naming) (leaves s half) edge → (new : List Edge) × AddsEdgeFrom parts (IsEdgeOf parts naming) (leaves s half) old new
     adds edge n = (old ++ edge ∷ [], inr (edge, n, refl))
 
-    taken : (next : ℕ) → FeedsFrom parts s half next → IsSplitter parts next ⊎ IsLink parts next → (new : List Edge) × AddsEdgeFrom parts naming (leaves s half) old new
+    taken : (next : ℕ) → FeedsFrom parts s half next → IsSplitter parts next ⊎ IsLink parts next → (new : List Edge) × AddsEdgeFrom parts (IsEdgeOf parts naming) (leaves s half) old new
     taken next feeds (inl into) =
         let edge = edge_exists parts naming names (record { source = leaves s half; links = []; sink = enters next }) (from.Split k) (empty_chain parts s next half splitter into feeds) at in
         adds edge.0 edge.1
@@ -213,10 +242,10 @@ half_exists parts clean naming names k s part half old at is_s splits here =
         adds edge.0 edge.1
 
 splitters_exist : (parts : List Part) → IsClean parts → (naming : Naming) → AreNames parts naming → (k : ℕ) → k ≤ length naming.splitters
-    → (edges : List Edge) × HasEdges parts naming (SplittersDone naming.splitters k) edges
+    → (edges : List Edge) × HasEdges parts (IsEdgeOf parts naming) (SplittersDone naming.splitters k) edges
 splitters_exist parts clean naming names zero few =
     let before = inputs_exist parts clean naming names (length naming.inputs) (omega arith) in
-    (before.0, edges_inputs parts naming before.0 names before.1)
+    (before.0, edges_inputs parts (IsEdgeOf parts naming) naming before.0 names before.1)
 splitters_exist parts clean naming names (suc k) few =
     let before = splitters_exist parts clean naming names k (omega arith) in
     let lt : k < length naming.splitters = omega arith in
@@ -229,18 +258,18 @@ splitters_exist parts clean naming names (suc k) few =
     (record { part = part; is_i = splitter.1; covers = inr (splitter.2, refl) }) in
     let more : k + 1 ≡ suc k = omega arith in (
       greater.0,
-      subst (λ n. HasEdges parts naming (SplittersDone naming.splitters n) greater.0) more
-          (edges_halves parts clean naming names k s part before.0 lesser.0 greater.0 splitter.1 at lesser.1 greater.1 before.1),
+      subst (λ n. HasEdges parts (IsEdgeOf parts naming) (SplittersDone naming.splitters n) greater.0) more
+          (edges_halves parts clean (IsEdgeOf parts naming) naming names k s part before.0 lesser.0 greater.0 splitter.1 at lesser.1 greater.1 before.1),
     )
 
-edges_exist : (parts : List Part) → IsClean parts → (naming : Naming) → AreNames parts naming → (edges : List Edge) × HasEdges parts naming AllDone edges
+edges_exist : (parts : List Part) → IsClean parts → (naming : Naming) → AreNames parts naming → (edges : List Edge) × HasEdges parts (IsEdgeOf parts naming) AllDone edges
 edges_exist parts clean naming names =
     let found = splitters_exist parts clean naming names (length naming.splitters) (omega arith) in
-    (found.0, edges_all parts naming found.0 names found.1)
+    (found.0, edges_all parts (IsEdgeOf parts naming) naming found.0 names found.1)
 
 -- ---- the network
 
-each_once : (parts : List Part) (naming : Naming) (edges : List Edge) → (has : HasEdges parts naming AllDone edges) → ListsEach (IsChain parts) has.0
+pub each_once : (parts : List Part) (naming : Naming) (edges : List Edge) → (has : HasEdges parts (IsEdgeOf parts naming) AllDone edges) → ListsEach (IsChain parts) has.0
 each_once parts naming edges has = record {
   all = λ c is_c. has.1.all c is_c tt;
   only = λ c there. (has.1.only c there).0;
@@ -249,7 +278,7 @@ each_once parts naming edges has = record {
       (subst (λ x. ComesBefore (get_or has.0 i d).source x.source) (sym same) (has.1.in_order i j d lt in')));
 }
 
-named : (parts : List Part) (naming : Naming) (edges : List Edge) → AreNames parts naming → IsNaming parts (net_with naming edges) naming
+pub named : (parts : List Part) (naming : Naming) (edges : List Edge) → AreNames parts naming → IsNaming parts (net_with naming edges) naming
 named parts naming edges names = record {
   splitters = names.splitters;
   inputs = names.inputs;
@@ -260,7 +289,7 @@ named parts naming edges names = record {
 }
 
 -- with edges for all chains the network is numbered
-pub numbered : (parts : List Part) → IsClean parts → (naming : Naming) (edges : List Edge) → AreNames parts naming → HasEdges parts naming AllDone edges
+abbrev pub numbered : (parts : List Part) → IsClean parts → (naming : Naming) (edges : List Edge) → AreNames parts naming → HasEdges parts (IsEdgeOf parts naming) AllDone edges
     → IsNumbered parts (net_with naming edges) naming
 numbered parts clean naming edges names has = record {
   clean = clean;

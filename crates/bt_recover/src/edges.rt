@@ -3,12 +3,12 @@
 //! An edge names a splitter or an output by its number, so the numbers are written into a table by
 //! part first. With it each chain is walked once, the least speed so far is carried along, and the work
 //! is that of the parts.
-ghost use Rattle.std.specs.Prelude.{◌≡◌, ◌≢◌, ◌↔◌, ℕ, ◌<◌, ◌≤◌, length, OnOk, IfOk, MatchOption, All, AllPairs, Contains};
+ghost use Rattle.std.specs.Prelude.{◌≡◌, ◌≢◌, map, ◌↔◌, ℕ, ◌<◌, ◌≤◌, length, OnOk, IfOk, MatchOption, All, AllPairs, Contains};
 ghost use Rattle.bt_parts.specs.Layouts.{IsAt};
 ghost use Rattle.bt_grid.specs.Pairing.{ArePartners};
-ghost use Rattle.bt_model.specs.Chains.{IsLink, IsSplitter, leaves};
+ghost use Rattle.bt_model.specs.Chains.{IsLink, IsSplitter, Source, leaves};
 ghost use Rattle.bt_model.specs.Clean.{IsClean};
-ghost use Rattle.bt_recover.specs.inner.Edges.{naming_of, AreNames, HasMany, AreNumbered, AreNumbers, AreLabels, KeepsOthers, edge_to, LeadsTo, LeadsIfAny, AddsEdge, AddsHalves, HasEdges, AllDone};
+ghost use Rattle.bt_recover.specs.inner.Edges.{naming_of, AreNames, HasMany, AreNumbered, AreNumbers, AreLabels, KeepsOthers, edge_to, half_of, joint_of, IsFrontOf, LeadsTo, LeadsIfAny, AddsEdge, AddsHalves, IsJoint, HasEdges, AllDone};
 
 use crate::ends::Names;
 use crate::following::taker;
@@ -27,10 +27,21 @@ struct Labels {
     one_tier: bool,
 }
 
+/// An edge, with the half of a splitter at which its chain starts, and the one at which it ends.
+#[derive(Clone, Copy)]
+pub(crate) struct Joint {
+    pub(crate) edge: Edge,
+    pub(crate) source_half: Option<Cell>,
+    pub(crate) sink_half: Option<Cell>,
+}
+
 /// Where a chain leads, and the least speed on the way there. The splitter at which it ends counts too.
 #[derive(Clone, Copy)]
 struct Way {
     target: Target,
+
+    /// The half of the splitter at which it ends.
+    sink_half: Option<Cell>,
 
     /// As a multiple of the basic tier's.
     speed: u32,
@@ -87,6 +98,27 @@ fn edge_to(labels: &Labels, start: Start, way: Way) -> Edge
     }
 }
 
+/// The edge of this start and of where the way ends, with the halves that it joins.
+fn joint_of(labels: &Labels, start: Start, source_half: Option<Cell>, way: Way) -> Joint
+    ensures { (source : Source) → source_half ≡ half_of source
+        → result ≡ joint_of labels.now.one_tier source start way }
+{
+    Joint {
+        edge: edge_to(labels, start, way),
+        source_half,
+        sink_half: way.sink_half,
+    }
+}
+
+/// The cell in front of a belt or an exit.
+fn front_of(grid: &Grid, i: usize) -> Cell
+    requires { i < length grid.now }
+    ensures { IsFrontOf grid.now i result }
+{
+    let part = grid.part(i);
+    front(part, part.cell)
+}
+
 /// Where the chain that goes on with this belt or underground piece leads, at the least speed from there
 /// on.
 fn way_from(grid: &Grid, pairs: &Pairs, labels: &Labels, first: usize) -> Way
@@ -103,6 +135,7 @@ fn way_from(grid: &Grid, pairs: &Pairs, labels: &Labels, first: usize) -> Way
         let Some(next) = taker(grid, pairs, last) else {
             return Way {
                 target: Target::Output(labels.numbers[last]),
+                sink_half: None,
                 speed,
             };
         };
@@ -110,6 +143,7 @@ fn way_from(grid: &Grid, pairs: &Pairs, labels: &Labels, first: usize) -> Way
         if is_kind(grid.part(next), Kind::Splitter) {
             return Way {
                 target: Target::Split(labels.numbers[next]),
+                sink_half: Some(front_of(grid, last)),
                 speed,
             };
         }
@@ -128,25 +162,28 @@ fn way_from_half(grid: &Grid, pairs: &Pairs, labels: &Labels, s: usize, half: Ce
     requires count { length labels.now.numbers.items ≡ length grid.now }
     ensures { LeadsIfAny grid.now labels.now.numbers.items (leaves s half) result }
 {
-    let Some(next) = grid.at(front(grid.part(s), half)) else {
+    let ahead = front(grid.part(s), half);
+    let Some(next) = grid.at(ahead) else {
         return None;
     };
     if is_kind(grid.part(next), Kind::Splitter) {
         return Some(Way {
             target: Target::Split(labels.numbers[next]),
+            sink_half: Some(ahead),
             speed: slowed_by(grid, speed_at(grid, next), s),
         });
     }
     let way = way_from(grid, pairs, labels, next);
     Some(Way {
         target: way.target,
+        sink_half: way.sink_half,
         speed: slowed_by(grid, way.speed, s),
     })
 }
 
 /// Adds the edge of the chain from this half, if there is one.
 fn push_half(
-    edges: &mut Vec<Edge>,
+    joints: &mut Vec<Joint>,
     grid: &Grid,
     pairs: &Pairs,
     labels: &Labels,
@@ -161,18 +198,18 @@ fn push_half(
     requires clean { IsClean grid.now }
     requires count { length labels.now.numbers.items ≡ length grid.now }
     ensures { OnOk result
-        (AddsEdge grid.now labels.now (leaves s half) start edges.old.items edges.new.items) }
+        (AddsEdge grid.now labels.now (leaves s half) start joints.old.items joints.new.items) }
 {
     let Some(way) = way_from_half(grid, pairs, labels, s, half) else {
         return Ok(());
     };
-    edges.push(edge_to(labels, start, way))?;
+    joints.push(joint_of(labels, start, Some(half), way))?;
     Ok(())
 }
 
 /// Adds the edges of the chains from the splitter, that from the lesser half first.
 fn push_halves(
-    edges: &mut Vec<Edge>,
+    joints: &mut Vec<Joint>,
     grid: &Grid,
     pairs: &Pairs,
     labels: &Labels,
@@ -184,38 +221,53 @@ fn push_halves(
     requires partners { ArePartners grid.now pairs.now }
     requires clean { IsClean grid.now }
     requires count { length labels.now.numbers.items ≡ length grid.now }
-    ensures { OnOk result (AddsHalves grid.now labels.now s start edges.old.items edges.new.items) }
+    ensures { OnOk result (AddsHalves grid.now labels.now s start joints.old.items joints.new.items) }
 {
     let (lesser, greater) = cells_of(grid.part(s));
-    push_half(edges, grid, pairs, labels, start, s, lesser)?;
+    push_half(joints, grid, pairs, labels, start, s, lesser)?;
     match greater {
-        Some(greater) => push_half(edges, grid, pairs, labels, start, s, greater),
+        Some(greater) => push_half(joints, grid, pairs, labels, start, s, greater),
         None => Ok(()),
     }
 }
 
 /// The edges of all chains, in the order of their starts: the inputs, then the splitters, and of a
 /// splitter the lesser half first.
-pub(crate) fn edges_of(
+pub(crate) fn joints_of(
     alloc: Global,
     grid: &Grid,
     pairs: &Pairs,
     names: &Names,
-) -> Result<Vec<Edge>, AllocError>
+) -> Result<Vec<Joint>, AllocError>
     requires partners { ArePartners grid.now pairs.now }
     requires clean { IsClean grid.now }
     requires names { AreNames grid.now (naming_of names.now) }
     requires few { HasMany (naming_of names.now) → ⊥ }
-    ensures { IfOk result (λ edges. HasEdges grid.now (naming_of names.now) AllDone edges.items) }
+    ensures { IfOk result (λ joints.
+        HasEdges grid.now (IsJoint grid.now (naming_of names.now)) AllDone joints.items) }
 {
     let labels = labels_of(alloc, grid, names)?;
-    let mut edges = Vec::new(alloc);
+    let mut joints = Vec::new(alloc);
     for (k, i) in names.inputs.iter().enumerate() {
         let way = way_from(grid, pairs, &labels, *i);
-        edges.push(edge_to(&labels, Start::Input(k as u32), way))?;
+        joints.push(joint_of(&labels, Start::Input(k as u32), None, way))?;
     }
     for (k, s) in names.splitters.iter().enumerate() {
-        push_halves(&mut edges, grid, pairs, &labels, Start::Split(k as u32), *s)?;
+        push_halves(
+            &mut joints,
+            grid,
+            pairs,
+            &labels,
+            Start::Split(k as u32),
+            *s,
+        )?;
     }
-    Ok(edges)
+    Ok(joints)
+}
+
+/// The edges without the halves that they join.
+pub(crate) fn edges_in(alloc: Global, joints: &[Joint]) -> Result<Vec<Edge>, AllocError>
+    ensures { IfOk result (λ edges. edges.items ≡ map (λ joint. joint.edge) joints.now) }
+{
+    joints.iter().map(|joint| joint.edge).collect(alloc)
 }

@@ -9,12 +9,15 @@ mod edges;
 mod ends;
 mod fault;
 mod following;
+mod law;
 mod marks;
+mod preferring;
 mod recovery;
 mod refusals;
 mod sight;
 mod speeds;
 
 pub use fault::RecoverFault;
-pub use recovery::{Traced, recover};
+pub use law::one_preferring;
+pub use recovery::{Traced, recover, recover_with};
 pub use std::alloc::AllocError as Memory;

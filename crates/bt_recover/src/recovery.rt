@@ -1,18 +1,22 @@
 //! The network of a layout: refuse what isn't clean, number the ends and the splitters, and follow
 //! each chain to its end.
 ghost use Rattle.std.specs.Prelude.{◌≡◌};
-ghost use Rattle.bt_answers.specs.Answers.{Answers, seen};
+ghost use Rattle.bt_answers.specs.Answers.{Answers, UnlessMemory, seen};
 ghost use Rattle.bt_net.specs.Network.{IsWired};
 ghost use Rattle.bt_recover.specs.declared.fault.RecoverFault.TheVariants.{Memory};
 ghost use Rattle.bt_recover.specs.Recovered.{IsRecovered, network_and_naming};
+ghost use Rattle.bt_recover.specs.Preferred.{IsRecoveredWith};
+ghost use Rattle.bt_recover.specs.inner.Found.{HasJoints, IsFound};
 ghost use Rattle.bt_recover.specs.inner.Refused.{size_fault, IsNetTold};
 ghost use Rattle.bt_recover.specs.inner.Edges.{naming_of, HasMany, net_with};
 
 use crate::clean::clean_pairs;
-use crate::edges::edges_of;
+use crate::edges::{Joint, edges_in, joints_of};
 use crate::ends::{Names, has_many, names_of};
 use crate::fault::RecoverFault;
+use crate::preferring::{gives_of, takes_of};
 use bt_grid::Grid;
+use bt_hands::Priority;
 use bt_net::{Edge, Net, NetFault};
 use std::alloc::Global;
 
@@ -54,6 +58,42 @@ fn net_of(names: &Names, edges: Vec<Edge>) -> Result<Net, RecoverFault>
     }
 }
 
+/// What is found of a layout: its network, which part bears each number, and the edges with the halves
+/// that they join.
+#[derive(Drop)]
+struct Found {
+    net: Net,
+    names: Names,
+    joints: Vec<Joint>,
+}
+
+/// What is found of the layout.
+fn found_in(alloc: Global, grid: &Grid) -> Result<Found, RecoverFault>
+    ensures { UnlessMemory Memory (IsFound grid.now) result }
+{
+    let pairs = clean_pairs(alloc, grid)?;
+    let names = names_of(alloc, grid, &pairs)?;
+    if has_many(&names) {
+        return Err(RecoverFault::TooLarge);
+    }
+    let joints = joints_of(alloc, grid, &pairs, &names)?;
+    let edges = edges_in(alloc, &joints)?;
+    let net = net_of(&names, edges)?;
+    Ok(Found { net, names, joints })
+}
+
+/// The network with the parts that its numbers name.
+fn told_as(net: Net, names: Names) -> Traced
+    ensures { network_and_naming result ≡ (net, naming_of names) }
+{
+    Traced {
+        net,
+        splitters: names.splitters,
+        inputs: names.inputs,
+        outputs: names.outputs,
+    }
+}
+
 /// Recovers the network that a layout shows, with its own numbering.
 ///
 /// Splitters are numbered in the order of the parts, inputs by the cells of their first parts and
@@ -67,21 +107,50 @@ fn net_of(names: &Names, edges: Vec<Edge>) -> Result<Net, RecoverFault>
 /// # Errors
 ///
 /// The first of the faults in the order of [`RecoverFault`].
-#[tactic(auto, using(crate::proofs::OneRecovery::recovery_answers))]
 pub fn recover(alloc: Global, grid: &Grid) -> Result<Traced, RecoverFault>
     ensures { Answers Memory (IsRecovered grid.now) (seen network_and_naming result) }
 {
-    let pairs = clean_pairs(alloc, grid)?;
-    let names = names_of(alloc, grid, &pairs)?;
-    if has_many(&names) {
-        return Err(RecoverFault::TooLarge);
+    match found_in(alloc, grid) {
+        Ok(Found { net, names, .. }) => Ok(told_as(net, names)),
+        Err(fault) => Err(fault),
     }
-    let edges = edges_of(alloc, grid, &pairs, &names)?;
-    let net = net_of(&names, edges)?;
-    Ok(Traced {
-        net,
-        splitters: names.splitters,
-        inputs: names.inputs,
-        outputs: names.outputs,
-    })
+}
+
+/// Recovers the network that a layout shows, as [`recover`] does, with the edges that its splitters
+/// prefer: the one whose chain starts at the half to which the splitter gives first, and the one whose
+/// chain ends at the half from which it takes first.
+///
+/// The priorities are those of the parts, in their order. A half at which no chain starts, or none ends,
+/// prefers nothing there.
+///
+/// # Errors
+///
+/// The first of the faults in the order of [`RecoverFault`].
+pub fn recover_with(
+    alloc: Global,
+    grid: &Grid,
+    priorities: &[Priority],
+) -> Result<Traced, RecoverFault>
+    ensures { Answers Memory (IsRecoveredWith grid.now priorities.now) (seen network_and_naming result) }
+{
+    match found_in(alloc, grid) {
+        Ok(found) => preferring(alloc, grid, priorities, found),
+        Err(fault) => Err(fault),
+    }
+}
+
+/// The network that was found, in which splitters prefer edges.
+fn preferring(
+    alloc: Global,
+    grid: &Grid,
+    priorities: &[Priority],
+    found: Found,
+) -> Result<Traced, RecoverFault>
+    requires { HasJoints grid.now found }
+    ensures { UnlessMemory Memory (IsRecoveredWith grid.now priorities.now) (seen network_and_naming result) }
+{
+    let Found { net, names, joints } = found;
+    let gives = gives_of(alloc, grid, priorities, &names.splitters, &joints)?;
+    let takes = takes_of(alloc, grid, priorities, &names.splitters, &joints)?;
+    Ok(told_as(net.preferring(gives, takes), names))
 }

@@ -13,7 +13,7 @@ push_half-requires-in-Some-clause-half c = record {
 pub returns-in-Some : goal.returns-in-Some
 returns-in-Some c =
     on_ok_weaker c.push_half-in-Some.result
-    (adds_both c.args.grid.now c.args.labels.now c.args.edges.now.items c.push_half.new.edges.items c.push_half-in-Some.new.edges.items c.args.start c.args.s c.part.result.now
+    (adds_both c.args.grid.now c.args.labels.now c.args.joints.now.items c.push_half.new.joints.items c.push_half-in-Some.new.joints.items c.args.start c.args.s c.part.result.now
     c.cells_of-greater.result.0 c.in-Some.greater c.cells_of-greater.result.1 c.part.ensures.value c.cells_of-greater.ensures.first c.cells_of-greater.ensures.second c.in-Some.is
     c.in_ok-push_half.ensures)
     c.push_half-in-Some.ensures

@@ -23,8 +23,8 @@ returns-in_default c =
 
 pub returns-then-is_kind : goal.returns-then-is_kind
 returns-then-is_kind c =
-    following_splitter c.args.grid.now c.args.labels.now.numbers.items c.args.first c.loop-steps.last c.in-Some.next c.loop-steps._steps c.loop-steps.speed c.slowed_by-speed.result c.index-then-is_kind.result.now
-    c.loop-steps.invariant c.in-Some.ensures.takes (c.part.result.now, c.part.ensures.value, c.is_kind.ensures.0 c.if-is_kind.true) c.slowed_by-speed.ensures
+    following_splitter c.args.grid.now c.args.labels.now.numbers.items c.args.first c.loop-steps.last c.in-Some.next c.loop-steps._steps c.loop-steps.speed c.slowed_by-speed.result c.index-then-is_kind.result.now c.front_of.result
+    c.loop-steps.invariant c.in-Some.ensures.takes (c.part.result.now, c.part.ensures.value, c.is_kind.ensures.0 c.if-is_kind.true) c.front_of.ensures c.slowed_by-speed.ensures
     (number_at c.args.grid.now c.args.labels.now.numbers.items c.in-Some.next c.index-then-is_kind.result.now c.requires.count c.in-Some.ensures.within c.index-then-is_kind.ensures)
 
 pub loop-steps-preserved : goal.loop-steps-preserved

@@ -1,40 +1,14 @@
-use Rattle.std.proofs.Common.{inl, refl}
+use Rattle.std.proofs.Common.{sym, subst, ap, ◌∙◌}
 use Rattle.std.specs.Prelude.{Ok, Err}
-use Rattle.std.proofs.lemmas.Result.{err_from_is_err_and}
-use Rattle.bt_recover.specs.declared.fault.RecoverFault.TheVariants.{TooLarge}
-use Rattle.bt_recover.specs.inner.Edges.{naming_of, net_with}
-use Rattle.bt_recover.proofs.OneRecovery.{recovery_answers, net_found, net_refused}
-use Rattle.bt_recover.proofs.NetworkLemmas.{numbered, large_exists}
-use Rattle.bt_recover.proofs.WiredLemmas.{wired}
+use Rattle.bt_recover.specs.Recovered.{IsRecovered}
+use Rattle.bt_recover.proofs.OneRecovery.{recovery_answers}
+use Rattle.bt_recover.proofs.PreferLemmas.{found_recovered}
 use Rattle.bt_recover.proofs.recovery.recover.Goals as goal
 
-pub returns-then-has_many : goal.returns-then-has_many
-returns-then-has_many c =
-    recovery_answers c.args.grid.now (Err TooLarge) (inl
-    (large_exists c.args.grid.now c.in_ok-pairs.ensures.clean (naming_of c.in_ok-names.names) c.in_ok-names.ensures (c.has_many.ensures.0 c.if-has_many.true)))
-
-pub net_of-requires-clause-wired : goal.net_of-requires-clause-wired
-net_of-requires-clause-wired c =
-    wired c.args.grid.now (net_with (naming_of c.in_ok-names.names) c.in_ok-edges.edges.items) (naming_of c.in_ok-names.names)
-    (numbered c.args.grid.now c.in_ok-pairs.ensures.clean (naming_of c.in_ok-names.names) c.in_ok-edges.edges.items c.in_ok-names.ensures c.in_ok-edges.ensures)
-
-pub returns-in_err-pairs : goal.returns-in_err-pairs
-returns-in_err-pairs c =
-    let p = err_from_is_err_and c.from_residual.result c.from_residual.ensures.1 in
-    rw (p.1, p.2) (recovery_answers c.args.grid.now _ c.in_err-pairs.ensures.refused)
-
-pub returns-in_err-net : goal.returns-in_err-net
-returns-in_err-net c =
-    let p = err_from_is_err_and c.from_residual-in_err-net.result c.from_residual-in_err-net.ensures.1 in
-    rw (p.1, p.2)
-    (recovery_answers c.args.grid.now _
-    (net_refused c.args.grid.now (net_with (naming_of c.in_ok-names.names) c.in_ok-edges.edges.items) (naming_of c.in_ok-names.names) _
-    (numbered c.args.grid.now c.in_ok-pairs.ensures.clean (naming_of c.in_ok-names.names) c.in_ok-edges.edges.items c.in_ok-names.ensures c.in_ok-edges.ensures)
-    (record { gives = refl; takes = refl }) c.in_err-net.ensures))
+pub returns-in-Ok : goal.returns-in-Ok
+returns-in-Ok c =
+    recovery_answers c.args.grid.now (Ok _)
+    (subst (λ found. IsRecovered c.args.grid.now (Ok found)) (sym c.told_as.ensures) (found_recovered c.args.grid.now c.in-Ok.field-0 c.in-Ok.ensures))
 
 pub returns : goal.returns
-returns c =
-    recovery_answers c.args.grid.now (Ok (c.in_ok-net.net, naming_of c.in_ok-names.names))
-    (net_found c.args.grid.now (net_with (naming_of c.in_ok-names.names) c.in_ok-edges.edges.items) c.in_ok-net.net (naming_of c.in_ok-names.names)
-    (numbered c.args.grid.now c.in_ok-pairs.ensures.clean (naming_of c.in_ok-names.names) c.in_ok-edges.edges.items c.in_ok-names.ensures c.in_ok-edges.ensures)
-    (record { gives = refl; takes = refl }) c.in_ok-net.ensures)
+returns c = recovery_answers c.args.grid.now (Err c.in-Err.fault) c.in-Err.ensures
