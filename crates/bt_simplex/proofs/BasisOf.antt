@@ -1,8 +1,7 @@
 -- The list of a basis: its members, and that it ascends.
-use Rattle.std.proofs.Common.{◌≡◌, ◌⊎◌, ◌↔◌, inl, inr, ℕ, zero, suc, ◌+◌, ◌<◌, ◌≤◌, arith, List, [], ◌∷◌, length, Option, Some, None, sym, ◌∙◌, refl, subst}
+use Rattle.std.proofs.Common.{◌≡◌, ◌⊎◌, inl, inr, ℕ, zero, suc, ◌+◌, ◌≤◌, arith, List, [], ◌∷◌, length, Some, None, refl, subst}
 use Rattle.bt_simplex.specs.Counting.{AscendsFrom}
-use Rattle.bt_simplex.specs.Lines.{Terms}
-use Rattle.bt_simplex.specs.SolvedForms.{Slots, slot_at, basis_from, basis_of}
+use Rattle.bt_simplex.specs.SolvedForms.{Slots, basis_from, basis_of}
 use Rattle.bt_simplex.specs.Turns.{InBasis}
 
 -- a number is one of a list

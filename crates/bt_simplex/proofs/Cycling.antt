@@ -1,7 +1,5 @@
 -- No run of Bland's turns comes back to a basis.
-use Rattle.std.proofs.Common.{◌≡◌, ◌≢◌, ◌⊎◌, ◌↔◌, inl, inr, ℕ, zero, suc, ◌+◌, ◌<◌, ◌≤◌, arith, ℤ, pos, ◌<ℤ◌, List, [], ◌∷◌, length, Option, Some, None, ap, sym, ◌∙◌, refl, subst}
-use Rattle.std.specs.List.{All}
-use Rattle.std.proofs.lemmas.Int.{ints}
+use Rattle.std.proofs.Common.{◌≡◌, ◌≢◌, ◌⊎◌, ◌↔◌, inl, inr, ℕ, ◌<◌, ◌≤◌, arith, List, ◌∷◌, Some, None, ap, sym, ◌∙◌, refl, subst}
 use Rattle.bt_frac.specs.Deltas.{IsLessDelta}
 use Rattle.bt_frac.specs.Ratio.{Ratio}
 use Rattle.bt_frac.specs.Rows.{RowParts}
@@ -10,11 +8,10 @@ use Rattle.bt_frac.specs.declared.delta.Delta.{Delta}
 use Rattle.bt_frac.specs.declared.row.Relation.TheVariants.{Equal}
 use Rattle.bt_lin.specs.WeightedRows.{coefficient_at}
 use Rattle.bt_simplex.specs.Laws.{NoBasisComesBack}
-use Rattle.bt_simplex.specs.Lines.{Terms}
 use Rattle.bt_simplex.specs.Points.{bound_value, bound_row, value_or_zero, resting, standing, point_at}
-use Rattle.bt_simplex.specs.SolvedForms.{Slots, slot_at, basis_of, IsOutside}
+use Rattle.bt_simplex.specs.SolvedForms.{Slots, IsOutside}
 use Rattle.bt_simplex.specs.Tableaus.{TableauParts, IsTableau}
-use Rattle.bt_simplex.specs.Turns.{InBasis, Breaks, Fails, MovesTowards, MayMove, CanEnter, IsBlandTurn, Follows}
+use Rattle.bt_simplex.specs.Turns.{InBasis, Breaks, Fails, MovesTowards, MayMove, IsBlandTurn, Follows}
 use Rattle.bt_simplex.specs.declared.tableau.Turn.{Turn}
 use Rattle.bt_simplex.specs.inner.Bases.{with_slots}
 use Rattle.bt_simplex.proofs.Failing.{row_is}

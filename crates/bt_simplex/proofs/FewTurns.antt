@@ -1,12 +1,12 @@
 -- A run of Bland's turns has fewer turns than there are bases.
-use Rattle.std.proofs.Common.{◌≡◌, ◌≢◌, ℕ, suc, ◌+◌, ◌<◌, ◌≤◌, arith, List, [], ◌∷◌, ◌++◌, length, ap, sym, ◌∙◌, refl, subst}
+use Rattle.std.proofs.Common.{◌≡◌, ◌≢◌, ℕ, suc, ◌+◌, ◌<◌, arith, List, [], ◌∷◌, ◌++◌, length, ap, sym, refl, subst}
 use Rattle.std.specs.List.{All, AllPairs}
 use Rattle.std.proofs.lemmas.List.Elements.{All-cons, All-nil}
 use Rattle.std.proofs.lemmas.List.Kept.{AllPairs-cons}
 use Rattle.bt_simplex.specs.Counting.{IsAscendingOf, most_bases}
 use Rattle.bt_simplex.specs.SolvedForms.{basis_of}
 use Rattle.bt_simplex.specs.Tableaus.{TableauParts, IsTableau}
-use Rattle.bt_simplex.specs.Turns.{IsTurnedBy, Follows}
+use Rattle.bt_simplex.specs.Turns.{Follows}
 use Rattle.bt_simplex.specs.declared.tableau.Turn.{Turn}
 use Rattle.bt_simplex.proofs.BasisOf.{basis_ascends}
 use Rattle.bt_simplex.proofs.Counting.{ascending_lists_are_few}

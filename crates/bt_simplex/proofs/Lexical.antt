@@ -1,5 +1,5 @@
 -- Sums of products that stand at 0 or above it, by value and then by the infinitesimal.
-use Rattle.std.proofs.Common.{◌≡◌, ◌⊎◌, inl, inr, ℕ, zero, suc, ◌*◌, arith, ℤ, pos, negsuc, neg_ℤ, ◌<ℤ◌, ◌≤ℤ◌, ◌+ℤ◌, ◌*ℤ◌, List, [], ◌∷◌, ap, sym, ◌∙◌, refl, subst}
+use Rattle.std.proofs.Common.{◌≡◌, ◌⊎◌, inl, inr, ℕ, zero, suc, ◌*◌, arith, ℤ, pos, negsuc, neg_ℤ, ◌<ℤ◌, ◌≤ℤ◌, ◌+ℤ◌, ◌*ℤ◌, [], ◌∷◌, ap, sym, ◌∙◌, refl, subst}
 use Rattle.std.specs.List.{All}
 use Rattle.std.proofs.lemmas.Int.{ints}
 use Rattle.std.proofs.lemmas.List.Elements.{All-head, All-tail}
@@ -7,7 +7,7 @@ use Rattle.std.proofs.Math.IntN.{zero-*ℤ}
 use Rattle.bt_frac.proofs.Order.{mul_lt, lt_from_mul}
 use Rattle.bt_frac.proofs.Ring.{neg_mul, mul_neg, turn_last}
 use Rattle.bt_frac.specs.Deltas.{IsLessDelta, SameDelta}
-use Rattle.bt_frac.specs.Ratio.{Ratio, SameRatio, IsLess, IsAtMost, negated}
+use Rattle.bt_frac.specs.Ratio.{Ratio, SameRatio, IsLess, negated}
 use Rattle.bt_frac.specs.Values.{AreValues, nothing, plus, times}
 use Rattle.bt_frac.specs.declared.delta.Delta.{Delta}
 use Rattle.bt_lin.proofs.SameNumbers.{same_trans}
@@ -15,7 +15,7 @@ use Rattle.bt_simplex.specs.Lines.{Terms, HasNumber, total}
 use Rattle.bt_simplex.proofs.Failing.{less_left, less_right, less_delta_right}
 use Rattle.bt_simplex.proofs.Indicators.{over_zero_of}
 use Rattle.bt_simplex.proofs.Meeting.{negated_plus}
-use Rattle.bt_simplex.proofs.Numbers.{Positive, Alike, alike, itself, back, next, both_plus, swap_plus, pair_plus, plus_positive, times_positive, times_zero, spread, nothing_some, differ_none, none_differ, drop_zero}
+use Rattle.bt_simplex.proofs.Numbers.{Positive, Alike, back, next, both_plus, swap_plus, pair_plus, plus_positive, times_positive, times_zero, spread, nothing_some, differ_none, none_differ, drop_zero}
 use Rattle.bt_simplex.proofs.Signs.{IsAbove, IsNotBelow, above_plus, above_times, not_below_plus, not_below_times, above_by, not_below_by, less_of, of_less, at_most_of, compared}
 use Rattle.bt_simplex.proofs.Totals.{total_positive}
 

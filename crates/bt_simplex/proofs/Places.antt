@@ -1,24 +1,19 @@
 -- Where positions stand by the line of their class, and what can enter for them.
 use Rattle.std.proofs.Common.{◌≡◌, ℕ, ◌-◌, ◌^◌, ◌<◌, Bool, true, false, [], ◌∷◌, Some, sym, subst}
 use Rattle.std.specs.List.{All}
-use Rattle.bt_frac.specs.Ratio.{Ratio, negated}
 use Rattle.bt_frac.specs.Rows.{IsRow}
 use Rattle.bt_frac.specs.Values.{AreValues}
 use Rattle.bt_frac.specs.declared.delta.Delta.{Delta}
-use Rattle.bt_lin.specs.WeightedRows.{coefficient_at}
 use Rattle.bt_simplex.specs.Lines.{one, Terms, HasNumber, IsLine, total}
 use Rattle.bt_simplex.specs.Classes.{signed_terms}
-use Rattle.bt_simplex.specs.SolvedForms.{Slots, slot_at}
+use Rattle.bt_simplex.specs.SolvedForms.{slot_at}
 use Rattle.bt_simplex.specs.Tableaus.{TableauParts}
 use Rattle.bt_simplex.specs.Points.{resting, standing, point_at}
-use Rattle.bt_simplex.specs.Turns.{CanTurn}
-use Rattle.bt_simplex.specs.declared.tableau.Turn.{Turn}
 use Rattle.bt_simplex.specs.inner.Bases.{IsSamePoint, signed_point}
-use Rattle.bt_simplex.proofs.Entering.{number_here}
 use Rattle.bt_simplex.proofs.Failing.{point_is}
 use Rattle.bt_simplex.proofs.Numbers.{alike, back, next}
 use Rattle.bt_simplex.proofs.Resting.{rest_value, rest_tiny}
-use Rattle.bt_simplex.proofs.SignedLines.{negated_total, negated_named, alone_line}
+use Rattle.bt_simplex.proofs.SignedLines.{negated_total, alone_line}
 use Rattle.bt_simplex.proofs.Zeros.{one_some, one_term, one_times, negated_alike}
 
 -- a line with the other sign adds up to the point with the other sign
@@ -49,12 +44,3 @@ like_place t rows position other told d slot fits is =
         let value = back (next (one_term (λ p. (resting t p).value) values other one one_some) (one_times (resting t other).value (values other))) in
         let tiny = back (next (one_term (λ p. (resting t p).tiny) tinies other one one_some) (one_times (resting t other).tiny (tinies other))) in
         record { left_value = value.left; left_tiny = tiny.left; right_value = value.right; right_tiny = tiny.right; same = (value.same, tiny.same) }
-
--- what a line names, the line with the other sign names
-pub line_can : (slots : Slots) (turn : Turn) (told : Bool) (terms : Terms) (number : Ratio) → slot_at slots turn.leaves ≡ Some (signed_terms told terms) → coefficient_at turn.enters terms ≡ Some number
-    → CanTurn slots turn
-line_can slots turn false terms number slot named = (terms, slot, (number, named))
-line_can slots turn true terms number slot named = (signed_terms true terms, slot, (negated number, negated_named turn.enters terms number named))
-
-pub like_can : (slots : Slots) (turn : Turn) (told : Bool) (other : ℕ) → slot_at slots turn.leaves ≡ Some (signed_terms told ((other, one) ∷ [])) → other ≡ turn.enters → CanTurn slots turn
-like_can slots turn told other slot same = line_can slots turn told ((other, one) ∷ []) one slot (number_here (other, one) [] turn.enters same)

@@ -3,7 +3,7 @@ use Rattle.std.proofs.Common.{◌≡◌, ℕ, ◌+◌, ◌<◌, ◌≤◌, arith
 use Rattle.std.proofs.lemmas.List.{get_or_past}
 use Rattle.bt_simplex.specs.SolvedForms.{Slots, slot_at, basis_of, IsOutside, IsSolvedForm}
 use Rattle.bt_simplex.specs.Tableaus.{TableauParts, IsTableau}
-use Rattle.bt_simplex.specs.Turns.{CanTurn, CanEnter, IsBlandTurn, IsMet, IsStuckAt, IsFinal, IsTurnedBy, Follows}
+use Rattle.bt_simplex.specs.Turns.{CanEnter, IsBlandTurn, IsMet, IsStuckAt, IsFinal, IsTurnedBy, Follows}
 use Rattle.bt_simplex.specs.declared.tableau.Turn.{Turn}
 use Rattle.bt_simplex.specs.inner.Bases.{with_slots}
 use Rattle.bt_lin.specs.WeightedRows.{coefficient_at}
@@ -14,7 +14,7 @@ use Rattle.bt_simplex.specs.Causes.{IsStepAt, IsCause}
 use Rattle.bt_simplex.specs.declared.causes.Cause.{Cause}
 use Rattle.bt_simplex.specs.inner.UnfitTurns.{CanPart, IsUnfitTurn}
 use Rattle.bt_simplex.proofs.Zeros.{named_has}
-use Rattle.bt_simplex.specs.inner.Runs.{IsAt, IsMade, IsEnd, IsRun}
+use Rattle.bt_simplex.specs.inner.Runs.{CanTurn, IsAt, IsMade, IsEnd, IsRun}
 use Rattle.bt_simplex.specs.declared.running.End.{End}
 use Rattle.bt_simplex.specs.declared.running.End.TheVariants.{Met, Stuck, Pivots, Wide}
 use Rattle.bt_simplex.specs.inner.TurnedSlots.{IsTurned}

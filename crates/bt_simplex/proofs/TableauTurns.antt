@@ -4,7 +4,8 @@ use Rattle.bt_frac.specs.Rows.{RowParts}
 use Rattle.bt_simplex.specs.Lines.{Terms}
 use Rattle.bt_simplex.specs.SolvedForms.{Slots, slot_at, IsOutside, IsSolvedForm}
 use Rattle.bt_simplex.specs.Tableaus.{TableauParts, IsTableau}
-use Rattle.bt_simplex.specs.Turns.{InBasis, CanTurn, IsTurnedBy}
+use Rattle.bt_simplex.specs.Turns.{InBasis, IsTurnedBy}
+use Rattle.bt_simplex.specs.inner.Runs.{CanTurn}
 use Rattle.bt_simplex.specs.declared.tableau.Turn.{Turn}
 use Rattle.bt_simplex.specs.inner.TurnedSlots.{IsSubstituted, IsTurned}
 use Rattle.bt_simplex.proofs.Indicators.{decide}

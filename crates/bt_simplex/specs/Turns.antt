@@ -16,10 +16,6 @@ use Rattle.bt_simplex.specs.declared.tableau.Turn.{Turn}
 abbrev pub InBasis : Slots → ℕ → Type 0
 InBasis slots position = (terms : Terms) × (slot_at slots position ≡ Some terms)
 
--- the line of the first position names the second, which is outside the basis
-abbrev pub CanTurn : Slots → Turn → Type 0
-CanTurn slots turn = (terms : Terms) × (slot_at slots turn.leaves ≡ Some terms) × ((number : Ratio) × (coefficient_at turn.enters terms ≡ Some number))
-
 -- a bound row doesn't hold where it stands: it is below its bound value, or it is an equation and above it
 abbrev pub Breaks : RowParts → Delta → Type 0
 Breaks row point = IsLessDelta point (bound_value row) ⊎ ((row.relation ≡ Equal) × IsLessDelta (bound_value row) point)

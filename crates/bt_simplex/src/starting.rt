@@ -1,5 +1,5 @@
 //! The first basis of a tableau: the rows, whose terms are their lines as they are given.
-ghost use Rattle.std.specs.Prelude.{◌≡◌, ◌<◌, IfOk, IsTrue, replicate, None, false};
+ghost use Rattle.std.specs.Prelude.{◌≡◌, ◌↔◌, ◌<◌, IfOk, IsTrue, replicate, None, false};
 ghost use Rattle.std.specs.List.{All};
 ghost use Rattle.bt_frac.specs.Rows.{IsRow};
 ghost use Rattle.bt_simplex.specs.Lines.{IsLine};
@@ -117,24 +117,14 @@ pub fn unbound(alloc: Global, count: usize) -> Result<Vec<bool>, AllocError>
 
 /// Whether the rows name only columns below this number.
 pub fn are_over(rows: &[Row], columns: usize) -> bool
-    ensures { IsTrue result → AreOverColumns columns rows.now }
+    ensures { IsTrue result ↔ AreOverColumns columns rows.now }
 {
-    for row in rows {
-        if !terms_are_over(row.terms(), columns) {
-            return false;
-        }
-    }
-    true
+    rows.iter().all(|row| terms_are_over(row.terms(), columns))
 }
 
 /// Whether the terms name only columns below this number.
 fn terms_are_over(terms: &[Term], columns: usize) -> bool
-    ensures { IsTrue result → All (λ t. t.0 < columns) terms.now }
+    ensures { IsTrue result ↔ All (λ t. t.0 < columns) terms.now }
 {
-    for (column, _) in terms {
-        if *column >= columns {
-            return false;
-        }
-    }
-    true
+    terms.iter().all(|(column, _)| *column < columns)
 }

@@ -6,10 +6,9 @@ ghost use Rattle.bt_simplex.specs.inner.Checking.{IsWideFor};
 ghost use Rattle.bt_simplex.specs.inner.Rests.{IsRestOf, relation_of};
 ghost use Rattle.bt_simplex.specs.Points.{bound_row};
 ghost use Rattle.bt_simplex.specs.Tableaus.{AreOverColumns, IsNew, IsBoundAs, IsTableau};
-ghost use Rattle.bt_simplex.specs.Turns.{CanTurn, IsTurnedBy};
 
 use crate::answers::{Check, Trail, Wide};
-use crate::basis::{Basis, Place};
+use crate::basis::Basis;
 use crate::causes::Cause;
 use crate::kept::Kept;
 use crate::lemmas::lemma;
@@ -18,7 +17,6 @@ use crate::running::{End, Run, turned_from};
 use crate::settling::settled;
 use crate::starting::{all_known, copied, first_basis, unbound};
 use crate::trails::{bound_rows, positions};
-use crate::turning::turned_copy;
 use crate::workspace::{Rooms, Workspace};
 use bt_frac::{Relation, Row};
 use std::alloc::{AllocError, Global};
@@ -292,40 +290,6 @@ impl Tableau {
         ensures { IsTableau self.now }
     {
         let _ = &self.rows;
-    }
-
-    /// Whether the first position of the turn is in the basis, and its line names the second.
-    pub fn can_turn(&self, turn: Turn) -> bool
-        ensures { IsTrue result → CanTurn self.now.slots turn }
-    {
-        match self.basis.place(turn.leaves) {
-            Place::Line { line, .. } => match line.number_at(turn.enters) {
-                Some(_) => true,
-                None => false,
-            },
-            Place::Like { other, .. } => {
-                if other == turn.enters {
-                    return true;
-                }
-                false
-            }
-            Place::Outside => false,
-        }
-    }
-
-    /// Turns the basis. False where a number of the new lines doesn't fit. The tableau is then as before,
-    /// and after a want of memory too.
-    pub fn turn(&mut self, alloc: Global, turn: Turn) -> Result<bool, AllocError>
-        requires { CanTurn self.old.slots turn }
-        ensures turned { IfOk result (λ done. IsTrue done → IsTurnedBy turn self.old self.new) }
-        ensures wide { IfOk result (λ done. done ≡ false → self.new ≡ self.old) }
-        ensures memory { OnErr result (self.new ≡ self.old) }
-    {
-        let Some(basis) = turned_copy(self, alloc, &self.basis, turn.leaves, turn.enters)? else {
-            return Ok(false);
-        };
-        self.basis = basis;
-        Ok(true)
     }
 }
 

@@ -378,30 +378,3 @@ pub fn turn(
     rooms.give(Some(zero));
     Ok(Ok(()))
 }
-
-/// The basis after a turn. None where a quotient, a product or a sum doesn't fit.
-pub fn turned_copy(
-    tableau: &Tableau,
-    alloc: Global,
-    basis: &Basis,
-    leaves: usize,
-    enters: usize,
-) -> Result<Option<Basis>, AllocError>
-    requires leaves { leaves < length basis.now }
-    requires enters { enters < length basis.now }
-    requires apart { leaves ≢ enters }
-    requires can { CanPart (slot_at basis.now leaves) leaves enters }
-    requires outside { slot_at basis.now enters ≡ None }
-    requires lines { AreLines basis.now }
-    ensures { IfOk result (λ o. IfSome o (λ b. IsTurned basis.now leaves enters b)) }
-{
-    let mut copy = Workspace::none(alloc).copy_of(alloc, basis)?.basis;
-    let mut rooms = Rooms::none(alloc);
-    let mut kept = Kept::none(alloc);
-    match turn(
-        tableau, alloc, &mut rooms, &mut copy, &mut kept, leaves, enters,
-    )? {
-        Ok(()) => Ok(Some(copy)),
-        Err(_) => Ok(None),
-    }
-}

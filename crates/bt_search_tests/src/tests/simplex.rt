@@ -1,15 +1,10 @@
-//! Turns of tableaux, and what checks answer, worked out by hand.
+//! What checks of tableaux answer, worked out by hand.
 use super::{fields, number_of, rows_of};
 use bt_frac::{Frac, Row};
 use bt_lin::{eval, farkas};
-use bt_simplex::{Check, Operation, Tableau, Turn, Wide, WidePlace, are_over};
+use bt_simplex::{Check, Operation, Tableau, Wide, WidePlace, are_over};
 use std::alloc::{AllocError, Global};
 use std::test::Fail;
-
-/// The position that leaves, the one that enters, and whether the tableau takes the turn, after those above.
-const TURNS: &[&str] = &[
-    "0|1|no", "1|2|no", "1|0|yes", "1|0|no", "2|1|yes", "0|1|no", "0|2|yes",
-];
 
 /// Two rows, and a letter for what each of four checks answers: values, a refutation, or too many turns.
 const ANSWERS: &[&str] = &[
@@ -86,38 +81,6 @@ fn bind(tableau: &mut Tableau, row: usize, bound: bool) {
     } else {
         tableau.clear_bound(row);
     }
-}
-
-/// Whether the tableau takes the turn.
-fn takes(alloc: Global, tableau: &mut Tableau, turn: Turn) -> Result<bool, AllocError> {
-    if !tableau.can_turn(turn) {
-        return Ok(false);
-    }
-    tableau.turn(alloc, turn)
-}
-
-/// Whether the tableau takes the turn of a row or not, as the row says.
-fn is_taken(alloc: Global, tableau: &mut Tableau, row: &str) -> Result<bool, AllocError> {
-    let [leaves, enters, answer, ..] = fields(row, '|');
-    let turn = Turn {
-        leaves: number_of(leaves),
-        enters: number_of(enters),
-    };
-    Ok(takes(alloc, tableau, turn)? == (answer == "yes"))
-}
-
-/// Whether the tableau of two rows takes the turns that it may take, one after the other.
-fn are_taken(alloc: Global) -> Result<bool, AllocError> {
-    let rows = rows_of(alloc, &["> 0 1", ">= -1 -1"])?;
-    let Some(mut tableau) = bound_tableau(alloc, &rows, 1)? else {
-        return Ok(false);
-    };
-    for row in TURNS {
-        if !is_taken(alloc, &mut tableau, row)? {
-            return Ok(false);
-        }
-    }
-    Ok(true)
 }
 
 /// Whether all rows hold of the values.
@@ -243,12 +206,6 @@ fn is_wide(alloc: Global, row: &str) -> Result<bool, AllocError> {
         }
         None => Ok(false),
     }
-}
-
-#[test]
-fn turns(rt: HostRuntime) -> Result<(), Fail> {
-    assert!(rt; are_taken(rt.alloc())?);
-    Ok(())
 }
 
 #[test]

@@ -1,6 +1,9 @@
 -- Runs of Bland's turns from a basis on.
-use Rattle.std.specs.Prelude.{◌≡◌, ℕ, ◌≤◌, List, length}
-use Rattle.bt_simplex.specs.SolvedForms.{Slots, basis_of}
+use Rattle.std.specs.Prelude.{◌≡◌, ℕ, ◌≤◌, List, Some, length}
+use Rattle.bt_frac.specs.Ratio.{Ratio}
+use Rattle.bt_lin.specs.WeightedRows.{coefficient_at}
+use Rattle.bt_simplex.specs.Lines.{Terms}
+use Rattle.bt_simplex.specs.SolvedForms.{Slots, slot_at, basis_of}
 use Rattle.bt_simplex.specs.Causes.{IsCause}
 use Rattle.bt_simplex.specs.Tableaus.{TableauParts, IsTableau}
 use Rattle.bt_simplex.specs.Turns.{IsMet, IsStuckAt, IsFinal, IsTurnedBy, Follows}
@@ -9,6 +12,10 @@ use Rattle.bt_simplex.specs.declared.running.Run.{Run}
 use Rattle.bt_simplex.specs.declared.running.End.{End}
 use Rattle.bt_simplex.specs.declared.running.End.TheVariants.{Met, Stuck, Pivots, Wide}
 use Rattle.bt_simplex.specs.inner.Bases.{with_slots}
+
+-- the line of the first position names the second, which is outside the basis
+abbrev pub CanTurn : Slots → Turn → Type 0
+CanTurn slots turn = (terms : Terms) × (slot_at slots turn.leaves ≡ Some terms) × ((number : Ratio) × (coefficient_at turn.enters terms ≡ Some number))
 
 -- the turns lead from the tableau to the one with these slots
 pub record IsAt (t : TableauParts) (turns : List Turn) (slots : Slots) : Type 0 where
