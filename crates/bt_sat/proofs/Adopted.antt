@@ -19,8 +19,8 @@ use Rattle.bt_sat.specs.inner.Propagating.{IsSettledTo, IsWhole, Keeps, root_of}
 use Rattle.bt_sat.specs.inner.Reasons.{AreSame, lit_at, IsReason, AreNumbered, AreReasons}
 use Rattle.bt_sat.specs.inner.Truths.{IsTrueIn, IsFalseIn}
 use Rattle.bt_sat.proofs.Advancing.{root_more}
-use Rattle.bt_sat.proofs.Back.{take_all_of, take_in}
-use Rattle.bt_sat.proofs.Cutting.{past}
+use Rattle.bt_sat.proofs.Backjumped.{take_all_of, take_in}
+use Rattle.bt_sat.proofs.ConflictLevels.{past}
 use Rattle.bt_sat.proofs.Keeping.{rest_grows, truths_more, watched_grows}
 use Rattle.bt_sat.proofs.Lists.{nat_or}
 use Rattle.bt_sat.proofs.Reasoning.{lt_or_eq, reasons_more}

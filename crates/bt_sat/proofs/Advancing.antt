@@ -23,7 +23,7 @@ use Rattle.bt_sat.specs.inner.Propagating.{GoesOn, Visiting, Advances, root_of}
 use Rattle.bt_sat.specs.inner.Truths.{IsTrueIn, IsFalseIn, unset}
 use Rattle.bt_sat.specs.inner.Watchers.{watchers, watches_of, Resets, Watches, Unwatches}
 use Rattle.bt_sat.specs.inner.WatchersParts.{WatchersParts}
-use Rattle.bt_sat.proofs.Back.{take_in, take_wider}
+use Rattle.bt_sat.proofs.Backjumped.{take_in, take_wider}
 use Rattle.bt_sat.proofs.Keeping.{rest_kept, rest_left, watchable_kept, watched_kept, kept_set}
 use Rattle.bt_sat.proofs.Reasoning.{got_none, reasons_more, unit_reason}
 use Rattle.bt_sat.proofs.Visiting.{all_more, done_none, done_true, drops, first_among, goes_on, grows, keeps, moves, passes, resets, roots, satisfied_first, strays}

@@ -1,11 +1,10 @@
 -- Lists of variables that ascend, and what choosers pick among them.
-use Rattle.std.proofs.Common.{◌≡◌, ◌≢◌, ◌<◌, ◌≤◌, ◌⊎◌, inl, inr, ℕ, zero, suc, arith, false, List, [], ◌∷◌, length, get_or, refl, sym, subst, Some}
-use Rattle.std.specs.Prelude.{slice_get, Contains}
+use Rattle.std.proofs.Common.{◌≡◌, ◌≢◌, ◌<◌, ◌≤◌, inl, inr, ℕ, zero, suc, arith, false, List, [], ◌∷◌, length, get_or, refl, subst}
+use Rattle.std.specs.Prelude.{Contains}
 use Rattle.std.proofs.lemmas.Bool.{cases_lt}
 use Rattle.bt_cnf.specs.Choosing.{Ascends}
-use Rattle.bt_cnf.specs.declared.chooser.Pick.{Pick}
 use Rattle.bt_cnf.specs.declared.literal.Lit.{Lit}
-use Rattle.bt_sat.specs.Picks.{PicksLowest, PicksRecent}
+use Rattle.bt_sat.specs.Picks.{PicksRecent}
 use Rattle.bt_sat.specs.inner.Choices.{IsFirstUnset}
 use Rattle.bt_sat.proofs.Lists.{got_at, got_within}
 

@@ -1,4 +1,4 @@
--- What is learnt from a conflict is asserted where the search goes back.
+-- What is learnt from a conflict is asserted where the search jumps back.
 use Rattle.std.proofs.Common.{◌≡◌, ℕ, ◌≤◌, ◌<◌, inl, inr, arith, List, length, get_or, sym, subst, refl, ap, ◌∙◌}
 use Rattle.std.specs.Prelude.{Contains, take}
 use Rattle.std.specs.List.{All}
@@ -7,12 +7,12 @@ use Rattle.bt_cnf.specs.declared.literal.Lit.{Lit}
 use Rattle.bt_log.specs.Units.{opposite}
 use Rattle.bt_sat.specs.declared.search.Search.{Search}
 use Rattle.bt_sat.specs.inner.Analysing.{false_at, falses_at, IsLearnable}
-use Rattle.bt_sat.specs.inner.Asserting.{AreCut, IsAsserting, IsHinted, IsPrepared}
+use Rattle.bt_sat.specs.inner.Asserting.{HaveUniquePoint, IsAsserting, IsHinted, IsPrepared}
 use Rattle.bt_sat.specs.inner.Attending.{no_lit}
-use Rattle.bt_sat.specs.inner.Levels.{start_of, IsOrdered, IsHeld, GoesBack, IsAssertionLevel}
+use Rattle.bt_sat.specs.inner.Levels.{start_of, IsOrdered, IsHeld, Backjumps, IsAssertionLevel}
 use Rattle.bt_sat.specs.inner.Reasons.{lit_at}
 use Rattle.bt_sat.specs.inner.Truths.{IsTrueIn, IsFalseIn}
-use Rattle.bt_sat.proofs.Back.{apart_places, place_in_take}
+use Rattle.bt_sat.proofs.Backjumped.{apart_places, place_in_take}
 use Rattle.bt_sat.proofs.Deriving.{before_place, in_map, lt_or, nil_or}
 use Rattle.bt_sat.proofs.Ending.{false_of, twice_opposite}
 use Rattle.bt_sat.proofs.Keeping.{not_both}
@@ -21,10 +21,10 @@ use Rattle.bt_sat.proofs.Reasoning.{lit_in}
 use Rattle.bt_sat.proofs.Settled.{all_of}
 
 -- places of which the first is alone at its level
-module _ (all : List (List Lit)) (old new : Search) (picked : List ℕ) (level : ℕ) (ordered : IsOrdered all old) (cut : AreCut old picked)
-    (at : IsAssertionLevel old.starts.items picked level) (back : GoesBack level old new) (held : 0 < length old.starts.items → All (IsHeld old) all) where
+module _ (all : List (List Lit)) (old new : Search) (picked : List ℕ) (level : ℕ) (ordered : IsOrdered all old) (unique : HaveUniquePoint old picked)
+    (at : IsAssertionLevel old.starts.items picked level) (back : Backjumps level old new) (held : 0 < length old.starts.items → All (IsHeld old) all) where
   inside : (i : ℕ) → i < length picked → get_or picked i 0 < length old.assignment.trail.items
-  inside i small = cut.within (get_or picked i 0) (i, small, get_or_default picked i (get_or picked i 0) 0 small)
+  inside i small = unique.within (get_or picked i 0) (i, small, get_or_default picked i (get_or picked i 0) 0 small)
 
   named : (i : ℕ) → i < length picked → lit_at (falses_at old.assignment.trail.items picked) i ≡ false_at old.assignment.trail.items (get_or picked i 0)
   named i small = get_or-map (false_at old.assignment.trail.items) picked i 0 no_lit small
@@ -35,23 +35,23 @@ module _ (all : List (List Lit)) (old new : Search) (picked : List ℕ) (level :
   start_is : (j : ℕ) → j < length old.starts.items → start_of old j ≡ get_or old.starts.items j 0
   start_is j small = get_or_default old.starts.items j (length old.assignment.trail.items) 0 small
 
-  -- the search goes back to a level before that of the first place
-  order : 0 < length picked → level ≤ cut.level
+  -- the search jumps back to a level before that of the first place
+  order : 0 < length picked → level ≤ unique.level
   order some = elim (lt_or 1 (length picked)) [
     | inl many ↦
         let is = at.many many in
-        elim (lt_or cut.level level) [
+        elim (lt_or unique.level level) [
           | inl less ↦
-              let low = is.before cut.level less in
-              let high = cut.rest 1 (omega arith) many in
-              absurd (omega (arith, low, high, start_is cut.level (cut.known some)))
+              let low = is.before unique.level less in
+              let high = unique.rest 1 (omega arith) many in
+              absurd (omega (arith, low, high, start_is unique.level (unique.known some)))
           | inr fine ↦ fine
         ]
     | inr one ↦ omega (arith, at.one one)
   ]
 
   known : 0 < length picked → level < length old.starts.items
-  known some = omega (arith, order some, cut.known some)
+  known some = omega (arith, order some, unique.known some)
 
   -- the variable of the first place is unset
   unset : 0 < length picked → (m : Lit) → m.var ≡ (lit_at old.assignment.trail.items (get_or picked 0 0)).var → Contains new.assignment.trail.items m → ⊥
@@ -60,8 +60,8 @@ module _ (all : List (List Lit)) (old new : Search) (picked : List ℕ) (level :
       let within = Leveled.start_within old ordered.levels level in
       let at_q : lit_at old.assignment.trail.items q ≡ m = sym (Leveled.lit_same all old new level ordered back q small) ∙ get_or_default new.assignment.trail.items q no_lit m small ∙ is in
       let one : q ≡ get_or picked 0 0 = apart_places old.assignment ordered.reasoned.placed q (get_or picked 0 0) (omega (arith, small, fits, within)) (inside 0 some) (ap (λ (x : Lit). x.var) at_q ∙ same) in
-      let rises = Leveled.start_rises old ordered.levels level cut.level (order some) in
-      omega (arith, small, fits, one, rises, cut.first some)
+      let rises = Leveled.start_rises old ordered.levels level unique.level (order some) in
+      omega (arith, small, fits, one, rises, unique.first some)
 
   -- a literal that was true before the level is true still
   true_still : (k : ℕ) → k < start_of old level → k < length old.assignment.trail.items → IsTrueIn new.assignment.values (lit_at old.assignment.trail.items k)
@@ -75,7 +75,7 @@ module _ (all : List (List Lit)) (old new : Search) (picked : List ℕ) (level :
       let is = at.many (omega (arith, after, small)) in
       let high = is.after level (omega arith) (known (omega (arith, small))) in
       let first : get_or picked i 0 ≤ get_or picked 1 0 = elim (lt_or 1 i) [
-        | inl later ↦ omega (arith, cut.descend 1 i later small)
+        | inl later ↦ omega (arith, unique.descend 1 i later small)
         | inr same ↦
             let e : i ≡ 1 = omega (arith, same, after) in
             subst (λ n. get_or picked n 0 ≤ get_or picked 1 0) (sym e) (omega arith)
@@ -123,10 +123,10 @@ module _ (all : List (List Lit)) (old new : Search) (picked : List ℕ) (level :
       below_vars : All (λ (l : Lit). l.var < length old.assignment.values) (falses_at old.assignment.trail.items picked)
       below_vars = all_of (λ (l : Lit). l.var < length old.assignment.values) (falses_at old.assignment.trail.items picked) (λ l among.
           let (k, there, is) = in_map (false_at old.assignment.trail.items) picked l among in
-          subst (λ (x : Lit). x.var < length old.assignment.values) is (ordered.whole.truths.below k no_lit (cut.within k there)))
+          subst (λ (x : Lit). x.var < length old.assignment.values) is (ordered.whole.truths.below k no_lit (unique.within k there)))
 
 -- so are those that are learnt
-cut_of : (all : List (List Lit)) (s : Search) (picked hints : List ℕ) → IsLearnable all s picked hints → AreCut s picked
+cut_of : (all : List (List Lit)) (s : Search) (picked hints : List ℕ) → IsLearnable all s picked hints → HaveUniquePoint s picked
 cut_of all s picked hints learn = record {
   within = learn.within;
   descend = learn.descend;
@@ -137,7 +137,7 @@ cut_of all s picked hints learn = record {
 }
 
 module _ (all : List (List Lit)) (old new : Search) (picked hints : List ℕ) (level : ℕ) (ordered : IsOrdered all old) (learn : IsLearnable all old picked hints)
-    (at : IsAssertionLevel old.starts.items picked level) (back : GoesBack level old new) (held : 0 < length old.starts.items → All (IsHeld old) all) where
+    (at : IsAssertionLevel old.starts.items picked level) (back : Backjumps level old new) (held : 0 < length old.starts.items → All (IsHeld old) all) where
   pub hinted : IsHinted all (length old.assignment.values) (falses_at old.assignment.trail.items picked) hints
   hinted = record {
     below = all_of (λ (l : Lit). l.var < length old.assignment.values) (falses_at old.assignment.trail.items picked) (λ l among.

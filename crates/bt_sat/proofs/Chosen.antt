@@ -17,7 +17,7 @@ use Rattle.bt_sat.specs.inner.Propagating.{IsWhole, root_of}
 use Rattle.bt_sat.specs.inner.Reasons.{AreReasons, AreSame}
 use Rattle.bt_sat.specs.inner.Truths.{IsTrueIn, IsFalseIn, unset}
 use Rattle.bt_sat.proofs.Advancing.{room_kept}
-use Rattle.bt_sat.proofs.Back.{take_all_of, take_in}
+use Rattle.bt_sat.proofs.Backjumped.{take_all_of, take_in}
 use Rattle.bt_sat.proofs.Deriving.{lt_or}
 use Rattle.bt_sat.proofs.Keeping.{rest_grows, truths_more, watched_grows}
 use Rattle.bt_sat.proofs.Reasoning.{lt_or_eq, reasons_more}

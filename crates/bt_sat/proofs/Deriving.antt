@@ -7,15 +7,15 @@ use Rattle.std.proofs.lemmas.List.Elements.{All-contains, All-nil, All-push, Con
 use Rattle.bt_cnf.specs.declared.literal.Lit.{Lit}
 use Rattle.bt_log.specs.Units.{opposite, IsUnit, UnitsRefute}
 use Rattle.bt_log.specs.Validity.{clause_at}
-use Rattle.bt_sat.specs.declared.analysis.Cut.{Cut}
+use Rattle.bt_sat.specs.declared.analysis.ConflictLevel.{ConflictLevel}
 use Rattle.bt_sat.specs.declared.search.Search.{Search}
 use Rattle.bt_sat.specs.inner.Agendas.{IsGreatest}
-use Rattle.bt_sat.specs.inner.Analysing.{false_at, falses_at, IsNoted, Notes, IsUnderway, IsDerived, IsLevelled, IsGrounded, IsTracing, IsTaken, IsTraced, MayTrace, IsLearnable}
+use Rattle.bt_sat.specs.inner.Analysing.{false_at, falses_at, IsSeen, MarksSeen, IsUnderway, IsDerived, IsLevelled, IsGrounded, IsTracing, IsTaken, IsTraced, MayTrace, IsLearnable}
 use Rattle.bt_sat.specs.inner.Attending.{no_lit}
 use Rattle.bt_sat.specs.inner.Levels.{start_of, IsOrdered}
 use Rattle.bt_sat.specs.inner.Reasons.{lit_at, IsReason}
 use Rattle.bt_sat.specs.inner.Truths.{IsFalseIn}
-use Rattle.bt_sat.proofs.Back.{apart_places}
+use Rattle.bt_sat.proofs.Backjumped.{apart_places}
 use Rattle.bt_sat.proofs.Ending.{twice_opposite}
 use Rattle.bt_sat.proofs.Keeping.{not_both}
 use Rattle.bt_sat.proofs.Lists.{contains_here, contains_there, first_or, none_in, nat_or}
@@ -84,10 +84,10 @@ module _ (all : List (List Lit)) (s : Search) (ordered : IsOrdered all s) where
   false_is : (m : Lit) (q : ℕ) → lit_at s.assignment.trail.items q ≡ opposite m → false_at s.assignment.trail.items q ≡ m
   false_is m q is = ap opposite is ∙ twice_opposite m
 
-  -- its place is noted
-  is_noted : (clause : List Lit) (m : Lit) (q but : ℕ) → Contains clause m → q < length s.assignment.trail.items → lit_at s.assignment.trail.items q ≡ opposite m → q ≢ but
-      → IsNoted s.assignment.places.items clause but (length clause) q
-  is_noted clause m q but (i, small, at) inside is differs =
+  -- its place is seen
+  is_seen : (clause : List Lit) (m : Lit) (q but : ℕ) → Contains clause m → q < length s.assignment.trail.items → lit_at s.assignment.trail.items q ≡ opposite m → q ≢ but
+      → IsSeen s.assignment.places.items clause but (length clause) q
+  is_seen clause m q but (i, small, at) inside is differs =
       (i, small, ap (λ (x : Lit). get_or s.assignment.places.items x.var 0) (get_or_default clause i no_lit m small ∙ at) ∙ false_place m q inside is, differs)
 
   -- the literals of a reason are of variables
@@ -108,12 +108,12 @@ module _ (all : List (List Lit)) (s : Search) (ordered : IsOrdered all s) where
     | inr same ↦ subst (λ k. start_of s i ≤ start_of s k) same (omega arith)
   ]
 
-  root_below : (cut : Cut) (level : ℕ) → level < length s.starts.items → cut.root ≡ start_of s 0 → cut.current ≡ start_of s level → cut.root ≤ cut.current
-  root_below cut level small root current =
+  root_below : (conflict_level : ConflictLevel) (level : ℕ) → level < length s.starts.items → conflict_level.root ≡ start_of s 0 → conflict_level.current ≡ start_of s level → conflict_level.root ≤ conflict_level.current
+  root_below conflict_level level small root current =
       let order = ascends 0 level (omega arith) small in
       omega (arith, order, root, current)
 
-  module _ (cut : Cut) (place : ℕ) (agenda picked hints : List ℕ) (taken : IsTaken all s cut place agenda picked hints) where
+  module _ (conflict_level : ConflictLevel) (place : ℕ) (agenda picked hints : List ℕ) (taken : IsTaken all s conflict_level place agenda picked hints) where
     below_place : (k : ℕ) → Contains agenda k → k < place
     below_place k among =
         let was = (taken.takes.1 k).0 among in
@@ -128,7 +128,7 @@ module _ (all : List (List Lit)) (s : Search) (ordered : IsOrdered all s) where
     place_inside = omega (arith, taken.tracing.derived.before place taken.takes.0.0, taken.tracing.derived.bounded)
 
     module _ (n : ℕ) (now : List ℕ) (reason : IsReason all (take place s.assignment.trail.items) (lit_at s.assignment.trail.items place) n)
-        (notes : Notes s.assignment.places.items (clause_at all n) place agenda now) where
+        (marks : MarksSeen s.assignment.places.items (clause_at all n) place agenda now) where
       -- another literal of the clause is false at an earlier place
       other_place : (m : Lit) → Contains (clause_at all n) m
           → (m ≡ lit_at s.assignment.trail.items place) ⊎ ((q : ℕ) × (q < place) × (q < length s.assignment.trail.items) × (lit_at s.assignment.trail.items q ≡ opposite m))
@@ -139,7 +139,7 @@ module _ (all : List (List Lit)) (s : Search) (ordered : IsOrdered all s) where
           ]
 
       now_before : (k : ℕ) → Contains now k → k < place
-      now_before k among = elim ((notes k).0 among) [
+      now_before k among = elim ((marks k).0 among) [
         | inl old ↦ below_place k old
         | inr (i, small, is, differs) ↦
             let m = lit_at (clause_at all n) i in
@@ -169,7 +169,7 @@ module _ (all : List (List Lit)) (s : Search) (ordered : IsOrdered all s) where
               | inl same ↦ inl same
               | inr (q, before, small_q, at) ↦
                   let differs : q ≢ place = λ e. absurd (omega (arith, before, e)) in
-                  let waits : Contains now q = (notes q).1 (inr (is_noted (clause_at all n) m q place among small_q at differs)) in
+                  let waits : Contains now q = (marks q).1 (inr (is_seen (clause_at all n) m q place among small_q at differs)) in
                   inr (subst (Contains falses) (false_is m q at) (way.waits q waits))
             ]);
           } in
@@ -181,7 +181,7 @@ module _ (all : List (List Lit)) (s : Search) (ordered : IsOrdered all s) where
             ];
             waits = λ k among. elim (place_or k among) [
               | inl same ↦ contains_here (opposite (lit_at T place)) (false_at T k) falses (ap (false_at T) (sym same))
-              | inr rest ↦ contains_there (opposite (lit_at T place)) (false_at T k) falses (way.waits k ((notes k).1 (inl rest)))
+              | inr rest ↦ contains_there (opposite (lit_at T place)) (false_at T k) falses (way.waits k ((marks k).1 (inl rest)))
             ];
             picks = λ k among. contains_there (opposite (lit_at T place)) (false_at T k) falses (way.picks k among);
             beyond = λ k after small among. elim (first_or (opposite (lit_at T place)) (false_at T k) falses among) [
@@ -206,7 +206,7 @@ module _ (all : List (List Lit)) (s : Search) (ordered : IsOrdered all s) where
         descend = taken.tracing.derived.descend;
       }
 
-      pub resolved_cuts : MayTrace cut agenda place → IsGrounded s now picked ⊎ IsLevelled s cut now picked
+      pub resolved_cuts : MayTrace conflict_level agenda place → IsGrounded s now picked ⊎ IsLevelled s conflict_level now picked
       resolved_cuts traced = elim taken.tracing.cuts [
         | inl ground ↦ inl (record {
           none = ground.none;
@@ -223,9 +223,9 @@ module _ (all : List (List Lit)) (s : Search) (ordered : IsOrdered all s) where
               elim traced [
                 | inl has ↦ elim has [
                   | inl low ↦
-                      let order = root_below cut is.level is.within taken.tracing.root is.current in
+                      let order = root_below conflict_level is.level is.within taken.tracing.root is.current in
                       absurd (omega (arith, low, high, top, order))
-                  | inr (above, (i, waits, reached)) ↦ (i, (notes i).1 (inl waits), reached)
+                  | inr (above, (i, waits, reached)) ↦ (i, (marks i).1 (inl waits), reached)
                 ]
                 | inr low ↦ absurd (omega (arith, low, high, top))
               ];
@@ -278,7 +278,7 @@ module _ (all : List (List Lit)) (s : Search) (ordered : IsOrdered all s) where
           ];
         }
 
-    pub picked_cuts : (IsTraced cut agenda place → ⊥) → IsGrounded s agenda (picked ++ place ∷ []) ⊎ IsLevelled s cut agenda (picked ++ place ∷ [])
+    pub picked_cuts : (IsTraced conflict_level agenda place → ⊥) → IsGrounded s agenda (picked ++ place ∷ []) ⊎ IsLevelled s conflict_level agenda (picked ++ place ∷ [])
     picked_cuts not_traced =
         let size : length (picked ++ place ∷ []) ≡ length picked + 1 = length-append picked (place ∷ []) in
         elim taken.tracing.cuts [
@@ -286,8 +286,8 @@ module _ (all : List (List Lit)) (s : Search) (ordered : IsOrdered all s) where
               let low = ground.under place taken.takes.0.0 in
               absurd (not_traced (inl (omega (arith, low, taken.tracing.root))))
           | inr is ↦
-              let order = root_below cut is.level is.within taken.tracing.root is.current in
-              let high_if : picked ≡ [] → cut.current ≤ place = λ e.
+              let order = root_below conflict_level is.level is.within taken.tracing.root is.current in
+              let high_if : picked ≡ [] → conflict_level.current ≤ place = λ e.
               let reached = is.none e in
               let top = taken.takes.0.1 reached.0 reached.1 in
               omega (arith, reached.2, top) in
@@ -315,7 +315,7 @@ module _ (all : List (List Lit)) (s : Search) (ordered : IsOrdered all s) where
                       omega (arith, at, left)
                 ];
                 left = λ some k among. elim (nil_or picked) [
-                  | inl none ↦ elim (lt_or k cut.current) [
+                  | inl none ↦ elim (lt_or k conflict_level.current) [
                     | inl less ↦ less
                     | inr reached ↦ absurd (not_traced (inr (high_if none, (k, among, reached))))
                   ]
@@ -325,7 +325,7 @@ module _ (all : List (List Lit)) (s : Search) (ordered : IsOrdered all s) where
         ]
 
     -- what is traced back wasn't chosen
-    pub not_chosen : IsTraced cut agenda place → get_or s.assignment.reasons.items place None ≡ None → ⊥
+    pub not_chosen : IsTraced conflict_level agenda place → get_or s.assignment.reasons.items place None ≡ None → ⊥
     not_chosen traced none =
         let (j, small, is) = ordered.reasoned.chosen place place_inside none in
         let at : start_of s j ≡ place = get_or_default s.starts.items j (length s.assignment.trail.items) place small ∙ is in
@@ -361,9 +361,9 @@ module _ (all : List (List Lit)) (s : Search) (ordered : IsOrdered all s) where
 
   -- the conflict is the first clause of all
   module _ (conflict : ℕ) (agenda : List ℕ) (below : conflict < length all) (falses : All (IsFalseIn s.assignment.values) (clause_at all conflict))
-      (notes : Notes s.assignment.places.items (clause_at all conflict) (length s.assignment.trail.items) [] agenda) where
+      (marks : MarksSeen s.assignment.places.items (clause_at all conflict) (length s.assignment.trail.items) [] agenda) where
     pub conflict_inside : (k : ℕ) → Contains agenda k → k < length s.assignment.trail.items
-    conflict_inside k among = elim ((notes k).0 among) [
+    conflict_inside k among = elim ((marks k).0 among) [
       | inl never ↦ absurd (none_in k never)
       | inr (i, small, is, differs) ↦
           let m = lit_at (clause_at all conflict) i in
@@ -375,7 +375,7 @@ module _ (all : List (List Lit)) (s : Search) (ordered : IsOrdered all s) where
     begun = record {
       refutes = λ lits way. all_of (Contains lits) (clause_at all conflict) (λ m among.
           let (q, inside, at) = conflict_place conflict falses m among in
-          let waits : Contains agenda q = (notes q).1 (inr (is_noted (clause_at all conflict) m q (length s.assignment.trail.items) among inside at (λ e. absurd (omega (arith, e, inside))))) in
+          let waits : Contains agenda q = (marks q).1 (inr (is_seen (clause_at all conflict) m q (length s.assignment.trail.items) among inside at (λ e. absurd (omega (arith, e, inside))))) in
           subst (Contains lits) (false_is m q at) (way.waits q waits));
       numbers = All-push (λ n. n < length all) [] conflict (All-nil (λ n. n < length all)) below;
       before = conflict_inside;
@@ -385,8 +385,8 @@ module _ (all : List (List Lit)) (s : Search) (ordered : IsOrdered all s) where
     }
 
   -- where the agenda is empty, all is learnt
-  pub learnt : (cut : Cut) (agenda picked hints back : List ℕ) (bound : ℕ) → IsTracing all s cut agenda picked bound hints → IsGreatest agenda None → back ≡ reverse hints → IsLearnable all s picked back
-  learnt cut agenda picked hints back bound tracing empty is =
+  pub learnt : (conflict_level : ConflictLevel) (agenda picked hints back : List ℕ) (bound : ℕ) → IsTracing all s conflict_level agenda picked bound hints → IsGreatest agenda None → back ≡ reverse hints → IsLearnable all s picked back
+  learnt conflict_level agenda picked hints back bound tracing empty is =
       let T = s.assignment.trail.items in
       let d = tracing.derived in
       let way : IsUnderway T agenda picked bound (falses_at T picked) = record {

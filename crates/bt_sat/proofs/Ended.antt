@@ -21,7 +21,7 @@ use Rattle.bt_sat.specs.declared.progress.Progress.{Progress}
 use Rattle.bt_sat.specs.declared.solver.Answer.{Answer}
 use Rattle.bt_sat.specs.declared.solver.Answer.TheVariants as answer
 use Rattle.bt_sat.specs.inner.Choices.{IsComplete}
-use Rattle.bt_sat.specs.inner.Hunting.{HasSpent, IsRefuted}
+use Rattle.bt_sat.specs.inner.Searching.{HasSpent, IsRefuted}
 use Rattle.bt_sat.specs.inner.Kernels.{AddsTo, AnswersBy, Comes, MayGoOn, StandsAt, model_of, parts_of, stage_after}
 use Rattle.bt_sat.specs.inner.Progressing.{IsLogged, IsNextStep}
 use Rattle.bt_sat.specs.inner.Truths.{IsFalseIn}

@@ -1,4 +1,4 @@
--- What going back, going on and choosing keep of the levels.
+-- What backjumps, propagation and decisions keep of the levels.
 use Rattle.std.proofs.Common.{◌≡◌, ℕ, ◌≤◌, ◌<◌, inl, inr, arith, List, [], length, get_or, min, sym, subst, ap, ◌∙◌, None, length-append}
 use Rattle.std.specs.Prelude.{Contains, take}
 use Rattle.std.specs.List.{All}
@@ -8,13 +8,13 @@ use Rattle.bt_cnf.specs.declared.literal.Lit.{Lit}
 use Rattle.bt_sat.specs.declared.search.Search.{Search}
 use Rattle.bt_sat.specs.inner.Attending.{no_lit}
 use Rattle.bt_sat.specs.inner.Keeping.{kept_at, AreWatched, IsAtRest}
-use Rattle.bt_sat.specs.inner.Levels.{start_of, front_of, AreLevels, IsOrdered, IsHeld, among_watched, alone, GoesBack}
+use Rattle.bt_sat.specs.inner.Levels.{start_of, front_of, AreLevels, IsOrdered, IsHeld, among_watched, alone, Backjumps}
 use Rattle.bt_sat.specs.inner.Propagating as kept
 use Rattle.bt_sat.specs.inner.Propagating.{GoesOn, IsKept, IsSettledTo, IsWhole, root_of}
 use Rattle.bt_sat.specs.inner.Reasons.{AreSame, lit_at, IsReason, AreNumbered, IsReasoned}
 use Rattle.bt_sat.proofs.Advancing.{all_here, numbered_goes, root_more, same_permuted}
-use Rattle.bt_sat.proofs.Back.{take_take, take_all_of, take_in, place_in_take}
-use Rattle.bt_sat.proofs.Cutting.{past}
+use Rattle.bt_sat.proofs.Backjumped.{take_take, take_all_of, take_in, place_in_take}
+use Rattle.bt_sat.proofs.ConflictLevels.{past}
 use Rattle.bt_sat.proofs.Deriving.{lt_or}
 use Rattle.bt_sat.proofs.Keeping.{watched_grows}
 use Rattle.bt_sat.proofs.Reasoning.{lt_or_eq}
@@ -41,8 +41,8 @@ pub held_kept : (s : Search) (clause : List Lit) → IsHeld s clause → IsKept 
 held_kept s clause (among_watched id small same) = kept.among_watched id small same
 held_kept s clause (alone l among only true_l) = kept.alone l among only (take_in (start_of s 0) s.assignment.trail.items l true_l)
 
--- going back
-module _ (all : List (List Lit)) (old new : Search) (level : ℕ) (ordered : IsOrdered all old) (back : GoesBack level old new) where
+-- a backjump
+module _ (all : List (List Lit)) (old new : Search) (level : ℕ) (ordered : IsOrdered all old) (back : Backjumps level old new) where
   pub size : length new.assignment.trail.items ≡ start_of old level
   size = ap length back.forgets.trail ∙ length-take-le (start_of old level) old.assignment.trail.items (start_within old ordered.levels level)
 

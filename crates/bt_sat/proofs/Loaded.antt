@@ -25,8 +25,8 @@ use Rattle.bt_sat.specs.inner.Truths.{IsTrueIn, IsFalseIn}
 use Rattle.bt_sat.specs.inner.Watchers.{watches_of}
 use Rattle.bt_sat.specs.inner.WatchersParts.{WatchersParts}
 use Rattle.bt_sat.proofs.Adopted.{with_assignment, held_longer, held_more, numbered_kept, ordered_longer}
-use Rattle.bt_sat.proofs.Back.{take_all_of}
-use Rattle.bt_sat.proofs.Cutting.{past}
+use Rattle.bt_sat.proofs.Backjumped.{take_all_of}
+use Rattle.bt_sat.proofs.ConflictLevels.{past}
 use Rattle.bt_sat.proofs.Deriving.{lt_or}
 use Rattle.bt_sat.proofs.Lists.{none_in}
 use Rattle.bt_sat.proofs.Reasoning.{lt_or_eq}

@@ -26,7 +26,7 @@ use Rattle.bt_sat.specs.inner.Progressing.{IsNextStep, Stands}
 use Rattle.bt_sat.specs.inner.Propagating.{IsKept, falses_of}
 use Rattle.bt_sat.specs.inner.Truths.{IsFalseIn, IsTrueIn}
 use Rattle.bt_sat.proofs.Advancing.{goes_not}
-use Rattle.bt_sat.proofs.Back.{take_in}
+use Rattle.bt_sat.proofs.Backjumped.{take_in}
 use Rattle.bt_sat.proofs.Counting.{all_negated}
 use Rattle.bt_sat.proofs.Ending.{contains_opposite, propagated, twice_opposite}
 use Rattle.bt_sat.proofs.Leveled.{held_kept}

@@ -8,7 +8,7 @@ use Rattle.bt_cnf.specs.declared.literal.Lit.{Lit}
 use Rattle.bt_log.specs.Units.{opposite}
 use Rattle.bt_sat.specs.declared.search.Search.{Search}
 use Rattle.bt_sat.specs.inner.Agendas.{IsGreatest, Takes}
-use Rattle.bt_sat.specs.inner.Analysing.{false_at, falses_at, IsNoted, Notes}
+use Rattle.bt_sat.specs.inner.Analysing.{false_at, falses_at, IsSeen, MarksSeen}
 use Rattle.bt_sat.specs.inner.Attending.{no_lit}
 use Rattle.bt_sat.specs.inner.Lemmas.{ArePicked, IsListing, IsTraceable}
 use Rattle.bt_sat.specs.inner.Reasons.{lit_at}
@@ -34,7 +34,7 @@ listed_next places clause size agenda picked bound place new old takes =
             | inr same ↦ inl (subst (Contains agenda) same takes.0.0)
           ]
         ])),
-        (λ noted. elim ((old.among k).1 noted) [
+        (λ seen. elim ((old.among k).1 seen) [
           | inl waits ↦ elim (nat_or k place) [
             | inl same ↦ inr (subst (Contains (picked ++ place ∷ [])) (sym same) (Contains-push picked place))
             | inr differs ↦ inl ((takes.1 k).1 (waits, differs))
@@ -84,25 +84,25 @@ module _ (s : Search) (clause : List Lit) (traceable : IsTraceable s) (falses : 
       let var : (lit_at s.assignment.trail.items q).var ≡ (get_or clause k d).var = ap (λ (m : Lit). m.var) (at ∙ ap opposite (get_or_default clause k no_lit d small)) in
       subst (λ n. (get_or clause k d).var < n) (sym traceable.room) (subst (λ v. v < length s.assignment.values) var (traceable.whole.truths.below q no_lit inside))
 
-  noted_small : (but k : ℕ) → IsNoted s.assignment.places.items clause but (length clause) k → k < length s.assignment.trail.items
-  noted_small but k (i, small, is, differs) =
+  seen_small : (but k : ℕ) → IsSeen s.assignment.places.items clause but (length clause) k → k < length s.assignment.trail.items
+  seen_small but k (i, small, is, differs) =
       let (q, inside, at, place) = false_place i small in
       subst (λ j. j < length s.assignment.trail.items) (sym place ∙ is) inside
 
   -- the places are on the agenda, and nothing is picked
-  pub begun : (agenda : List ℕ) → Notes s.assignment.places.items clause (length s.assignment.trail.items) [] agenda
+  pub begun : (agenda : List ℕ) → MarksSeen s.assignment.places.items clause (length s.assignment.trail.items) [] agenda
       → IsListing s.assignment.places.items clause (length s.assignment.trail.items) agenda [] (length s.assignment.trail.items)
-  begun agenda notes =
-      let noted : (k : ℕ) → Contains agenda k → IsNoted s.assignment.places.items clause (length s.assignment.trail.items) (length clause) k = λ k waits. elim ((notes k).0 waits) [
+  begun agenda marks =
+      let seen : (k : ℕ) → Contains agenda k → IsSeen s.assignment.places.items clause (length s.assignment.trail.items) (length clause) k = λ k waits. elim ((marks k).0 waits) [
         | inl none ↦ absurd (none_in k none)
         | inr is ↦ is
       ] in
       record {
         among = λ k. (
-          (λ one. elim one [ inl waits ↦ noted k waits | inr none ↦ absurd (none_in k none) ]),
-          (λ is. inl ((notes k).1 (inr is))),
+          (λ one. elim one [ inl waits ↦ seen k waits | inr none ↦ absurd (none_in k none) ]),
+          (λ is. inl ((marks k).1 (inr is))),
         );
-        before = λ k waits. noted_small (length s.assignment.trail.items) k (noted k waits);
+        before = λ k waits. seen_small (length s.assignment.trail.items) k (seen k waits);
         bounded = omega arith;
         after = λ k none. absurd (none_in k none);
         descend = λ i j order small. absurd (omega (arith, small));

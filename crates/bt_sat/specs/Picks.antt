@@ -1,5 +1,5 @@
 -- What choosers pick.
-use Rattle.std.specs.Prelude.{◌≡◌, ◌⊎◌, ◌≤◌, ℕ, Bool, true, false, List, [], ◌∷◌, length, slice_index_or, Contains, nat_lt}
+use Rattle.std.specs.Prelude.{◌≡◌, ◌⊎◌, ◌≤◌, ℕ, true, false, List, [], ◌∷◌, length, slice_index_or, Contains, nat_lt}
 use Rattle.std.specs.List.{All, IsFirstBest}
 use Rattle.bt_cnf.specs.declared.chooser.Pick.{Pick}
 use Rattle.bt_cnf.specs.declared.literal.Lit.{Lit}

@@ -7,7 +7,7 @@ pub mod Attending
 pub mod AttendingIn
 pub mod Choices
 pub mod Codes
-pub mod Hunting
+pub mod Searching
 pub mod Keeping
 pub mod Kernels
 pub mod Known

@@ -1,7 +1,7 @@
 //! Tracing a conflict back to the clause that is learnt from it.
 ghost use Rattle.std.specs.Prelude.{◌≡◌, ◌<◌, ◌↔◌, ℕ, length, Contains, IfOk, OnOk, IsTrue};
 ghost use Rattle.std.specs.List.{All};
-ghost use Rattle.bt_sat.specs.inner.Analysing.{IsCut, IsLearnable, IsReasonFor, IsTaken, IsTopLevel, IsTraced, IsTracing, Notes};
+ghost use Rattle.bt_sat.specs.inner.Analysing.{IsConflictLevel, IsLearnable, IsReasonFor, IsTaken, IsTopLevel, IsTraced, IsTracing, MarksSeen};
 ghost use Rattle.bt_sat.specs.inner.Known.{clauses_in};
 ghost use Rattle.bt_sat.specs.inner.Levels.{AreLevels, IsInConflict, IsOrdered};
 
@@ -22,22 +22,23 @@ pub struct Analysis {
     pub hints: Vec<usize>,
 }
 
-/// Where the first level begins, and the one from which a clause is to have one literal alone.
+/// The level of a conflict: where it begins on the trail, from where on a learnt clause is to have one literal alone (the
+/// first unique implication point), and where the first level begins.
 #[derive(Clone, Copy)]
-pub struct Cut {
+pub struct ConflictLevel {
     pub root: usize,
     pub current: usize,
 }
 
-/// Puts the places of a clause's literals on the agenda, but for one.
-pub fn note(
+/// Marks the places of a clause's literals as seen, so that they are on the agenda, but for one.
+pub fn mark_seen(
     agenda: &mut Agenda,
     places: &[usize],
     clause: &[Lit],
     but: usize,
 ) -> Result<(), AllocError>
     requires { All (λ l. l.var < length places.now) clause.now }
-    ensures { OnOk result (Notes places.now clause.now but agenda.old agenda.new) }
+    ensures { OnOk result (MarksSeen places.now clause.now but agenda.old agenda.new) }
 {
     for lit in clause {
         let place = places[lit.var.place()];
@@ -49,21 +50,28 @@ pub fn note(
 }
 
 /// Whether the literal at a place has to be traced back: it was true before the first choice, or another of
-/// the level at which the conflict is cut waits.
-fn is_traced(agenda: &Agenda, cut: Cut, place: usize) -> bool
-    ensures { IsTrue result ↔ IsTraced cut agenda.now place }
+/// the conflict's level waits.
+fn is_traced(agenda: &Agenda, conflict_level: ConflictLevel, place: usize) -> bool
+    ensures { IsTrue result ↔ IsTraced conflict_level agenda.now place }
 {
-    place < cut.root || (cut.current <= place && agenda.reaches(cut.current))
+    place < conflict_level.root
+        || (conflict_level.current <= place && agenda.reaches(conflict_level.current))
 }
 
 /// Whether each literal of a clause but the one at this place waits already, or is traced back anyway, so
 /// that by this clause the one at this place can be left out of the clause that is learnt.
-fn adds_none(agenda: &Agenda, places: &[usize], clause: &[Lit], cut: Cut, place: usize) -> bool
+fn adds_none(
+    agenda: &Agenda,
+    places: &[usize],
+    clause: &[Lit],
+    conflict_level: ConflictLevel,
+    place: usize,
+) -> bool
     requires { All (λ l. l.var < length places.now) clause.now }
 {
     for lit in clause {
         let other = places[lit.var.place()];
-        if other != place && cut.root <= other && !agenda.has(other) {
+        if other != place && conflict_level.root <= other && !agenda.has(other) {
             return false;
         }
     }
@@ -72,30 +80,30 @@ fn adds_none(agenda: &Agenda, places: &[usize], clause: &[Lit], cut: Cut, place:
 
 /// The reason of the literal at a place, where it is traced back: because it has to be, or because the
 /// clause that is learnt gets shorter. The second literal of that clause is kept, since it tells how far the
-/// search goes back.
+/// search jumps back.
 fn reason_for(
     known: &Known,
     search: &Search,
     analysis: &Analysis,
-    cut: Cut,
+    conflict_level: ConflictLevel,
     place: usize,
 ) -> Option<usize>
     requires ordered { IsOrdered (clauses_in known.now) search.now }
     requires inside { place < length search.now.assignment.trail.items }
-    ensures { IsReasonFor search.now cut analysis.now.agenda place result }
+    ensures { IsReasonFor search.now conflict_level analysis.now.agenda place result }
 {
     let agenda = &analysis.agenda;
     let Some(number) = search.assignment.reasons[place] else {
         return None;
     };
-    if is_traced(agenda, cut, place) {
+    if is_traced(agenda, conflict_level, place) {
         return Some(number);
     }
-    if place >= cut.current || analysis.picked.len() < 2 {
+    if place >= conflict_level.current || analysis.picked.len() < 2 {
         return None;
     }
     let places = &search.assignment.places;
-    if adds_none(agenda, places, known.clause(number), cut, place) {
+    if adds_none(agenda, places, known.clause(number), conflict_level, place) {
         Some(number)
     } else {
         None
@@ -107,19 +115,19 @@ fn deal(
     analysis: &mut Analysis,
     known: &Known,
     search: &Search,
-    cut: Cut,
+    conflict_level: ConflictLevel,
     place: usize,
 ) -> Result<(), AllocError>
     requires ordered { IsOrdered (clauses_in known.now) search.now }
-    requires taken { IsTaken (clauses_in known.now) search.now cut place
+    requires taken { IsTaken (clauses_in known.now) search.now conflict_level place
         analysis.old.agenda analysis.old.picked.items analysis.old.hints.items }
-    ensures { OnOk result (IsTracing (clauses_in known.now) search.now cut
+    ensures { OnOk result (IsTracing (clauses_in known.now) search.now conflict_level
         analysis.new.agenda analysis.new.picked.items place analysis.new.hints.items) }
 {
-    match reason_for(known, search, analysis, cut, place) {
+    match reason_for(known, search, analysis, conflict_level, place) {
         Some(number) => {
             analysis.hints.push(number)?;
-            note(
+            mark_seen(
                 &mut analysis.agenda,
                 &search.assignment.places,
                 known.clause(number),
@@ -134,19 +142,19 @@ fn deal(
     }
 }
 
-/// Where a conflict is cut: from the level of its greatest place on, one literal is to be picked.
-fn cut_at(search: &Search, agenda: &Agenda) -> Cut
+/// The level of a conflict, which is that of its greatest place: from there on one literal is to be picked.
+fn conflict_level(search: &Search, agenda: &Agenda) -> ConflictLevel
     requires ordered { AreLevels search.now }
     requires inside { (k : ℕ) → Contains agenda.now k → k < length search.now.assignment.trail.items }
-    ensures { IsCut search.now agenda.now result }
+    ensures { IsConflictLevel search.now agenda.now result }
 {
     let root = start(search, 0);
     let level = top_level(search, agenda);
     if level > 0 {
         let current = start(search, level - 1);
-        Cut { root, current }
+        ConflictLevel { root, current }
     } else {
-        Cut {
+        ConflictLevel {
             root,
             current: root,
         }
@@ -177,10 +185,10 @@ pub fn analyse(
     ensures { OnOk result (IsLearnable (clauses_in known.now) search.now
         analysis.new.picked.items analysis.new.hints.items) }
 {
-    let cut = begin(analysis, known, search, conflict)?;
+    let conflict_level = begin(analysis, known, search, conflict)?;
     let mut bound = search.assignment.trail.len();
     while let Some(place) = analysis.agenda.take_greatest() {
-        deal(analysis, known, search, cut, place)?;
+        deal(analysis, known, search, conflict_level, place)?;
         bound = place;
     }
     analysis.hints.reverse();
@@ -193,9 +201,9 @@ fn begin(
     known: &Known,
     search: &Search,
     conflict: usize,
-) -> Result<Cut, AllocError>
+) -> Result<ConflictLevel, AllocError>
     requires { IsInConflict (clauses_in known.now) conflict search.now }
-    ensures { IfOk result (λ cut. IsTracing (clauses_in known.now) search.now cut analysis.new.agenda
+    ensures { IfOk result (λ level. IsTracing (clauses_in known.now) search.now level analysis.new.agenda
         analysis.new.picked.items (length search.now.assignment.trail.items) analysis.new.hints.items) }
 {
     analysis.agenda.clear();
@@ -204,11 +212,11 @@ fn begin(
     analysis.hints.push(conflict)?;
     let size = search.assignment.trail.len();
     let clause = known.clause(conflict);
-    note(
+    mark_seen(
         &mut analysis.agenda,
         &search.assignment.places,
         clause,
         size,
     )?;
-    Ok(cut_at(search, &analysis.agenda))
+    Ok(conflict_level(search, &analysis.agenda))
 }

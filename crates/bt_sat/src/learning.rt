@@ -10,7 +10,7 @@ ghost use Rattle.bt_sat.specs.inner.Levels.{IsAssertionLevel, IsInConflict, IsRe
 use crate::analysis::{Analysis, analyse};
 use crate::assignment::assign;
 use crate::known::Known;
-use crate::levels::{go_back, level_of};
+use crate::levels::{backjump, level_of};
 use crate::search::{Search, keep};
 use crate::truth::negation;
 use bt_cnf::Lit;
@@ -18,7 +18,7 @@ use std::alloc::AllocError;
 
 /// A clause that is learnt, and how.
 #[derive(Drop)]
-pub struct Lesson {
+pub struct LearntClause {
     pub analysis: Analysis,
     /// Its literals.
     pub lits: Vec<Lit>,
@@ -48,22 +48,22 @@ pub fn assertion_level(starts: &[usize], picked: &[usize]) -> usize
     }
 }
 
-/// Finds the clause that is learnt from a conflict, and goes back to where it asserts its first literal.
+/// Finds the clause that is learnt from a conflict, and backjumps to where it asserts its first literal.
 pub fn prepare(
-    lesson: &mut Lesson,
+    learnt_clause: &mut LearntClause,
     known: &Known,
     search: &mut Search,
     conflict: usize,
 ) -> Result<(), AllocError>
     requires { IsInConflict (clauses_in known.now) conflict search.old }
     ensures { OnOk result (IsPrepared (clauses_in known.now) (length search.old.assignment.values) search.new
-        lesson.new.lits.items lesson.new.analysis.hints.items) }
+        learnt_clause.new.lits.items learnt_clause.new.analysis.hints.items) }
 {
-    analyse(&mut lesson.analysis, known, search, conflict)?;
-    let picked = &lesson.analysis.picked;
-    name_lits(&mut lesson.lits, picked, &search.assignment.trail)?;
+    analyse(&mut learnt_clause.analysis, known, search, conflict)?;
+    let picked = &learnt_clause.analysis.picked;
+    name_lits(&mut learnt_clause.lits, picked, &search.assignment.trail)?;
     let level = assertion_level(&search.starts, picked);
-    go_back(search, level);
+    backjump(search, level);
     Ok(())
 }
 

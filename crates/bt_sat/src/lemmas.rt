@@ -4,14 +4,14 @@ ghost use Rattle.std.specs.List.{All};
 ghost use Rattle.bt_log.specs.Logs.{Lemma};
 ghost use Rattle.bt_sat.specs.inner.Choices.{IsComplete};
 ghost use Rattle.bt_sat.specs.inner.Known.{clauses_in};
-ghost use Rattle.bt_sat.specs.inner.Lemmas.{Admits, ArePicked, CanAdmit, IsTraceable, Retreats, TakesLemma};
+ghost use Rattle.bt_sat.specs.inner.Lemmas.{Admits, ArePicked, CanAdmit, IsTraceable, BackjumpsFor, TakesLemma};
 ghost use Rattle.bt_sat.specs.inner.Progressing.{IsNextStep, KeepsFormula};
 ghost use Rattle.bt_sat.specs.inner.Truths.{IsFalseIn};
 
-use crate::analysis::{Analysis, note};
+use crate::analysis::{Analysis, mark_seen};
 use crate::known::Known;
-use crate::learning::{Lesson, adopt, assertion_level, name_lits};
-use crate::levels::go_back;
+use crate::learning::{LearntClause, adopt, assertion_level, name_lits};
+use crate::levels::backjump;
 use crate::progress::Progress;
 use crate::search::{Search, keep};
 use crate::truth::is_false;
@@ -28,7 +28,7 @@ fn pick(analysis: &mut Analysis, search: &Search, lits: &[Lit]) -> Result<(), Al
     analysis.agenda.clear();
     analysis.picked.clear();
     let mut bound = search.assignment.trail.len();
-    note(&mut analysis.agenda, &search.assignment.places, lits, bound)?;
+    mark_seen(&mut analysis.agenda, &search.assignment.places, lits, bound)?;
     while let Some(place) = analysis.agenda.take_greatest() {
         analysis.picked.push(place)?;
         bound = place;
@@ -36,18 +36,22 @@ fn pick(analysis: &mut Analysis, search: &Search, lits: &[Lit]) -> Result<(), Al
     Ok(())
 }
 
-/// Goes back to where a clause whose literals are all false asserts the one that became false last, or to
+/// Backjumps to where a clause whose literals are all false asserts the one that became false last, or to
 /// the end of the level at which two of them became false last. Names its literals, those first.
-fn retreat(lesson: &mut Lesson, search: &mut Search, lits: &[Lit]) -> Result<(), AllocError>
+fn backjump_for(
+    learnt_clause: &mut LearntClause,
+    search: &mut Search,
+    lits: &[Lit],
+) -> Result<(), AllocError>
     requires traceable { IsTraceable search.old }
     requires falses { All (IsFalseIn search.old.assignment.values) lits.now }
-    ensures { OnOk result (Retreats search.old lits.now search.new lesson.new.lits.items) }
+    ensures { OnOk result (BackjumpsFor search.old lits.now search.new learnt_clause.new.lits.items) }
 {
-    pick(&mut lesson.analysis, search, lits)?;
-    let picked = &lesson.analysis.picked;
-    name_lits(&mut lesson.lits, picked, &search.assignment.trail)?;
+    pick(&mut learnt_clause.analysis, search, lits)?;
+    let picked = &learnt_clause.analysis.picked;
+    name_lits(&mut learnt_clause.lits, picked, &search.assignment.trail)?;
     let level = assertion_level(&search.starts, picked);
-    go_back(search, level);
+    backjump(search, level);
     Ok(())
 }
 
@@ -77,9 +81,13 @@ pub fn take_lemma(progress: &mut Progress, lits: &[Lit], weights: &[Frac]) -> Re
     ensures kept { KeepsFormula progress.old progress.new }
     ensures takes { OnOk result (TakesLemma progress.old lits.now weights.now progress.new) }
 {
-    retreat(&mut progress.lesson, &mut progress.search, lits)?;
+    backjump_for(&mut progress.learnt_clause, &mut progress.search, lits)?;
     progress.settled = progress.search.assignment.trail.len();
-    progress.conflict = admit(&mut progress.search, &progress.known, &progress.lesson.lits)?;
+    progress.conflict = admit(
+        &mut progress.search,
+        &progress.known,
+        &progress.learnt_clause.lits,
+    )?;
     progress.known.log.add_lemma(lits, weights)?;
     Ok(())
 }

@@ -1,18 +1,18 @@
-//! Going back to what was true before a level began.
+//! Backjumps: back to what was true before a level began.
 ghost use Rattle.std.specs.Prelude.{◌≡◌, ◌<◌, length};
 ghost use Rattle.bt_sat.specs.inner.Keeping.{AreTrue};
 ghost use Rattle.std.specs.List.Sorted.{IsNonDecreasing};
-ghost use Rattle.bt_sat.specs.inner.Levels.{ArePlaced, Forgets, GoesBack, IsLevelOf, start_of};
+ghost use Rattle.bt_sat.specs.inner.Levels.{ArePlaced, Unassigns, Backjumps, IsLevelOf, start_of};
 
 use crate::assignment::Assignment;
 use crate::search::Search;
 use crate::truth::Worth;
 
 /// Unsets all variables but those of the first so many literals of the trail.
-fn forget(assignment: &mut Assignment, size: usize)
+fn unassign(assignment: &mut Assignment, size: usize)
     requires truths { AreTrue assignment.old.values assignment.old.trail.items }
     requires placed { ArePlaced assignment.old }
-    ensures { Forgets size assignment.old assignment.new }
+    ensures { Unassigns size assignment.old assignment.new }
 {
     while assignment.trail.len() > size {
         if let Some(lit) = assignment.trail.pop() {
@@ -32,14 +32,14 @@ pub fn start(search: &Search, level: usize) -> usize
     }
 }
 
-/// Goes back to what was true before a level began. Where there is no such level, nothing changes.
-pub fn go_back(search: &mut Search, level: usize)
+/// Backjumps to what was true before a level began. Where there is no such level, nothing changes.
+pub fn backjump(search: &mut Search, level: usize)
     requires truths { AreTrue search.old.assignment.values search.old.assignment.trail.items }
     requires placed { ArePlaced search.old.assignment }
-    ensures { GoesBack level search.old search.new }
+    ensures { Backjumps level search.old search.new }
 {
     let size = start(search, level);
-    forget(&mut search.assignment, size);
+    unassign(&mut search.assignment, size);
     search.starts.truncate(level);
 }
 

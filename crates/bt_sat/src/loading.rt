@@ -11,7 +11,7 @@ use crate::agenda::Agenda;
 use crate::analysis::Analysis;
 use crate::assignment::{Assignment, assign};
 use crate::known::Known;
-use crate::learning::Lesson;
+use crate::learning::LearntClause;
 use crate::plan::Plan;
 use crate::progress::Progress;
 use crate::search::{Search, keep};
@@ -174,9 +174,9 @@ fn load_clauses(
     Ok(None)
 }
 
-/// A lesson over so many variables that is still to be learnt.
-fn no_lesson(alloc: Global, vars: usize) -> Result<Lesson, AllocError> {
-    Ok(Lesson {
+/// A learnt_clause over so many variables that is still to be learnt.
+fn no_lesson(alloc: Global, vars: usize) -> Result<LearntClause, AllocError> {
+    Ok(LearntClause {
         analysis: Analysis {
             agenda: Agenda::new(alloc, vars)?,
             picked: Vec::new(alloc),
@@ -193,11 +193,11 @@ pub fn load(alloc: Global, formula: Formula, limit: u64, plan: Plan) -> Result<P
     let mut search = empty_search(alloc, &formula)?;
     let conflict = load_clauses(&mut search, &formula, &mut Vec::new(alloc))?;
     let log = Log::new(alloc, formula.clauses())?;
-    let lesson = no_lesson(alloc, formula.vars())?;
+    let learnt_clause = no_lesson(alloc, formula.vars())?;
     Ok(Progress {
         known: Known { formula, log },
         search,
-        lesson,
+        learnt_clause,
         unset: Vec::new(alloc),
         plan,
         limit,

@@ -162,7 +162,7 @@ impl Plan {
     }
 
     /// The choice of the first part that makes one after so many steps.
-    pub fn pick(&mut self, steps: u64, values: &Values, unset: &[Var]) -> Option<Pick>
+    pub(crate) fn pick(&mut self, steps: u64, values: &Values, unset: &[Var]) -> Option<Pick>
         requires { Ascends unset.now }
         ensures { IfSome result (λ pick. pick.place < length unset.now) }
     {
@@ -177,14 +177,14 @@ impl Plan {
     }
 
     /// Has each part begin with its first literal again, since literals may be unset by now.
-    pub fn begin(&mut self) {
+    pub(crate) fn begin(&mut self) {
         for part in &mut self.parts {
             part.at = 0;
         }
     }
 
     /// Whether the search restarts after so many steps.
-    pub fn is_restart_due(&mut self, steps: u64) -> bool {
+    pub(crate) fn is_restart_due(&mut self, steps: u64) -> bool {
         self.restarts.is_due(steps)
     }
 }

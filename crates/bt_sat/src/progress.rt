@@ -1,9 +1,9 @@
 //! A search in progress: propagation, learning, and the log.
 ghost use Rattle.std.specs.Prelude.{◌≡◌, OnOk, IfOk, None, Some};
-ghost use Rattle.bt_sat.specs.inner.Progressing.{Infers, IsRunning, KeepsFormula, Teaches};
+ghost use Rattle.bt_sat.specs.inner.Progressing.{PropagatesAll, IsRunning, KeepsFormula, Learns};
 
 use crate::known::Known;
-use crate::learning::{Lesson, adopt, prepare};
+use crate::learning::{LearntClause, adopt, prepare};
 use crate::plan::Plan;
 use crate::search::{Search, number_of, propagate};
 use bt_cnf::Var;
@@ -14,8 +14,8 @@ use std::alloc::AllocError;
 pub struct Progress {
     pub known: Known,
     pub search: Search,
-    pub lesson: Lesson,
-    /// The variables that have no value, in ascending order, while the search goes down.
+    pub learnt_clause: LearntClause,
+    /// The variables that have no value, in ascending order, while the search decides.
     pub unset: Vec<Var>,
     /// What is decided first.
     pub plan: Plan,
@@ -31,20 +31,20 @@ pub struct Progress {
 
 /// What comes of a conflict.
 #[derive(Clone, Copy)]
-pub enum Taught {
+pub enum Learning {
     /// A clause was learnt, and the search goes on.
-    Goes,
+    GoesOn,
     /// The empty clause was learnt.
     Refutes,
     /// The log has no room for the clause that would be learnt.
     Spent,
 }
 
-/// Lets follow what follows.
-pub fn infer(progress: &mut Progress) -> Result<(), AllocError>
+/// Propagates what is true.
+pub fn propagate_all(progress: &mut Progress) -> Result<(), AllocError>
     requires running { IsRunning progress.old }
     requires ready { progress.old.conflict ≡ None }
-    ensures infers { OnOk result (Infers progress.old progress.new) }
+    ensures propagates { OnOk result (PropagatesAll progress.old progress.new) }
     ensures kept { KeepsFormula progress.old progress.new }
 {
     match propagate(&mut progress.search, progress.settled)? {
@@ -55,29 +55,36 @@ pub fn infer(progress: &mut Progress) -> Result<(), AllocError>
 }
 
 /// Learns from a conflict.
-pub fn learn(progress: &mut Progress, conflict: usize) -> Result<Taught, AllocError>
+pub fn learn(progress: &mut Progress, conflict: usize) -> Result<Learning, AllocError>
     requires running { IsRunning progress.old }
     requires conflict { progress.old.conflict ≡ Some conflict }
-    ensures teaches { IfOk result (Teaches progress.old progress.new) }
+    ensures learns { IfOk result (Learns progress.old progress.new) }
     ensures kept { KeepsFormula progress.old progress.new }
 {
     prepare(
-        &mut progress.lesson,
+        &mut progress.learnt_clause,
         &progress.known,
         &mut progress.search,
         conflict,
     )?;
     if progress.known.log.len() as u64 == progress.limit {
-        return Ok(Taught::Spent);
+        return Ok(Learning::Spent);
     }
-    let hints = &progress.lesson.analysis.hints;
-    if progress.lesson.lits.is_empty() {
+    let hints = &progress.learnt_clause.analysis.hints;
+    if progress.learnt_clause.lits.is_empty() {
         progress.known.log.add_learnt(&[], hints)?;
-        return Ok(Taught::Refutes);
+        return Ok(Learning::Refutes);
     }
     progress.settled = progress.search.assignment.trail.len();
-    adopt(&mut progress.search, &progress.known, &progress.lesson.lits)?;
-    progress.known.log.add_learnt(&progress.lesson.lits, hints)?;
+    adopt(
+        &mut progress.search,
+        &progress.known,
+        &progress.learnt_clause.lits,
+    )?;
+    progress
+        .known
+        .log
+        .add_learnt(&progress.learnt_clause.lits, hints)?;
     progress.conflict = None;
-    Ok(Taught::Goes)
+    Ok(Learning::GoesOn)
 }

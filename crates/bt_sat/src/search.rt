@@ -218,7 +218,7 @@ pub fn settle(search: &mut Search, gone: &Packed) -> Result<Option<PackedId>, Al
     Ok(failed)
 }
 
-/// Lets follow what follows from the literals that are true, the first so many of which are settled. Where
+/// Propagates the literals that are true, the first so many of which are settled. Where
 /// it ends without a clause whose literals are all false, none of the clauses that were given is false, and
 /// none is a unit. Else it tells such a clause.
 pub fn propagate(search: &mut Search, settled: usize) -> Result<Option<PackedId>, AllocError>

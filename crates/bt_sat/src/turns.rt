@@ -8,7 +8,7 @@ ghost use Rattle.bt_sat.specs.inner.Kernels.{AddsTo, AnswersBy, model_of, value_
 ghost use Rattle.bt_sat.specs.inner.Progressing.{HasRoom, IsNextStep, IsRunning, KeepsFormula};
 ghost use Rattle.bt_sat.specs.inner.Truths.{IsFalseIn};
 
-use crate::hunt::{Found, hunt, restart};
+use crate::cdcl::{Found, find_model, restart};
 use crate::lemmas::take_lemma;
 use crate::progress::Progress;
 use crate::serving::tell;
@@ -49,7 +49,7 @@ pub fn answer<C: Chooser>(
     ensures answers { IfOk result (AnswersBy progress.old (map C.told_lengths choosers.old.items)
         progress.new (map C.told_lengths choosers.new.items)) }
 {
-    match hunt(progress, choosers)? {
+    match find_model(progress, choosers)? {
         Found::Model => {
             let alloc = progress.unset.allocator().clone()?;
             let model = list_model(alloc, &progress.search.assignment.values)?;

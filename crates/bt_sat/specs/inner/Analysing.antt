@@ -4,7 +4,7 @@ use Rattle.std.specs.List.{All}
 use Rattle.bt_cnf.specs.declared.literal.Lit.{Lit}
 use Rattle.bt_log.specs.Units.{opposite, UnitsRefute}
 use Rattle.bt_log.specs.Validity.{clause_at}
-use Rattle.bt_sat.specs.declared.analysis.Cut.{Cut}
+use Rattle.bt_sat.specs.declared.analysis.ConflictLevel.{ConflictLevel}
 use Rattle.bt_sat.specs.declared.search.Search.{Search}
 use Rattle.bt_sat.specs.inner.Agendas.{Takes, Reaches}
 use Rattle.bt_sat.specs.inner.Levels.{start_of}
@@ -19,12 +19,12 @@ abbrev pub falses_at : List Lit → List ℕ → List Lit
 falses_at trail places = map (false_at trail) places
 
 -- one of the first so many literals of the clause has this place, and it isn't the one that is left out
-abbrev pub IsNoted : List ℕ → List Lit → ℕ → ℕ → ℕ → Type 0
-IsNoted places clause but count place = (i : ℕ) × (i < count) × (slice_index_or places (lit_at clause i).var 0 ≡ place) × (place ≢ but)
+abbrev pub IsSeen : List ℕ → List Lit → ℕ → ℕ → ℕ → Type 0
+IsSeen places clause but count place = (i : ℕ) × (i < count) × (slice_index_or places (lit_at clause i).var 0 ≡ place) × (place ≢ but)
 
 -- the places of the clause's literals are on the agenda, but for one
-abbrev pub Notes : List ℕ → List Lit → ℕ → List ℕ → List ℕ → Type 0
-Notes places clause but old new = (k : ℕ) → Contains new k ↔ (Contains old k ⊎ IsNoted places clause but (length clause) k)
+abbrev pub MarksSeen : List ℕ → List Lit → ℕ → List ℕ → List ℕ → Type 0
+MarksSeen places clause but old new = (k : ℕ) → Contains new k ↔ (Contains old k ⊎ IsSeen places clause but (length clause) k)
 
 -- these literals are false; among them are those on the agenda and those that were picked, and beyond the bound no
 -- others
@@ -45,15 +45,15 @@ pub record IsDerived (all : List (List Lit)) (trail : List Lit) (agenda picked :
   pub descend : (i j : ℕ) → i < j → j < length picked → slice_index_or picked j 0 < slice_index_or picked i 0
 
 -- of the places at one level one alone is picked, the first; until then one is on the agenda
-pub record IsLevelled (s : Search) (cut : Cut) (agenda picked : List ℕ) : Type 0 where
+pub record IsLevelled (s : Search) (conflict_level : ConflictLevel) (agenda picked : List ℕ) : Type 0 where
   pub level : ℕ
   pub within : level < length s.starts.items
-  pub current : cut.current ≡ start_of s level
+  pub current : conflict_level.current ≡ start_of s level
   pub under : (k : ℕ) → Contains agenda k → k < start_of s (level + 1)
-  pub none : picked ≡ [] → Reaches agenda cut.current
-  pub first : 0 < length picked → cut.current ≤ slice_index_or picked 0 0
-  pub rest : (i : ℕ) → 0 < i → i < length picked → slice_index_or picked i 0 < cut.current
-  pub left : 0 < length picked → (k : ℕ) → Contains agenda k → k < cut.current
+  pub none : picked ≡ [] → Reaches agenda conflict_level.current
+  pub first : 0 < length picked → conflict_level.current ≤ slice_index_or picked 0 0
+  pub rest : (i : ℕ) → 0 < i → i < length picked → slice_index_or picked i 0 < conflict_level.current
+  pub left : 0 < length picked → (k : ℕ) → Contains agenda k → k < conflict_level.current
 
 -- nothing is picked, and all on the agenda was true before the first choice
 pub record IsGrounded (s : Search) (agenda picked : List ℕ) : Type 0 where
@@ -61,30 +61,30 @@ pub record IsGrounded (s : Search) (agenda picked : List ℕ) : Type 0 where
   pub under : (k : ℕ) → Contains agenda k → k < start_of s 0
 
 -- what is kept true while a conflict is traced back
-pub record IsTracing (all : List (List Lit)) (s : Search) (cut : Cut) (agenda picked : List ℕ) (bound : ℕ) (hints : List ℕ) : Type 0 where
+pub record IsTracing (all : List (List Lit)) (s : Search) (conflict_level : ConflictLevel) (agenda picked : List ℕ) (bound : ℕ) (hints : List ℕ) : Type 0 where
   pub derived : IsDerived all s.assignment.trail.items agenda picked bound hints
-  pub root : cut.root ≡ start_of s 0
-  pub cuts : IsGrounded s agenda picked ⊎ IsLevelled s cut agenda picked
+  pub root : conflict_level.root ≡ start_of s 0
+  pub cuts : IsGrounded s agenda picked ⊎ IsLevelled s conflict_level agenda picked
 
 -- the greatest place was taken off the agenda
-pub record IsTaken (all : List (List Lit)) (s : Search) (cut : Cut) (place : ℕ) (agenda picked hints : List ℕ) : Type 0 where
+pub record IsTaken (all : List (List Lit)) (s : Search) (conflict_level : ConflictLevel) (place : ℕ) (agenda picked hints : List ℕ) : Type 0 where
   pub before : List ℕ
   pub bound : ℕ
-  pub tracing : IsTracing all s cut before picked bound hints
+  pub tracing : IsTracing all s conflict_level before picked bound hints
   pub takes : Takes before (Some place) agenda
 
 -- the literal at a place is traced back: it was true before the first choice, or another of its level waits
-abbrev pub IsTraced : Cut → List ℕ → ℕ → Type 0
-IsTraced cut agenda place = (place < cut.root) ⊎ ((cut.current ≤ place) × Reaches agenda cut.current)
+abbrev pub IsTraced : ConflictLevel → List ℕ → ℕ → Type 0
+IsTraced conflict_level agenda place = (place < conflict_level.root) ⊎ ((conflict_level.current ≤ place) × Reaches agenda conflict_level.current)
 
--- the literal at a place may be traced back: it has to be, or it was true before the level at which the conflict is cut
-abbrev pub MayTrace : Cut → List ℕ → ℕ → Type 0
-MayTrace cut agenda place = IsTraced cut agenda place ⊎ (place < cut.current)
+-- the literal at a place may be traced back: it has to be, or it was true before the conflict's level
+abbrev pub MayTrace : ConflictLevel → List ℕ → ℕ → Type 0
+MayTrace conflict_level agenda place = IsTraced conflict_level agenda place ⊎ (place < conflict_level.current)
 
 -- the reason of the literal at a place, where it is traced back; one that has to be is, but where it was chosen
-abbrev pub IsReasonFor : Search → Cut → List ℕ → ℕ → Option ℕ → Type 0
-IsReasonFor s cut agenda place (Some n) = MayTrace cut agenda place × (slice_index_or s.assignment.reasons.items place None ≡ Some n)
-IsReasonFor s cut agenda place None = (IsTraced cut agenda place → ⊥) ⊎ (slice_index_or s.assignment.reasons.items place None ≡ None)
+abbrev pub IsReasonFor : Search → ConflictLevel → List ℕ → ℕ → Option ℕ → Type 0
+IsReasonFor s conflict_level agenda place (Some n) = MayTrace conflict_level agenda place × (slice_index_or s.assignment.reasons.items place None ≡ Some n)
+IsReasonFor s conflict_level agenda place None = (IsTraced conflict_level agenda place → ⊥) ⊎ (slice_index_or s.assignment.reasons.items place None ≡ None)
 
 -- where the literals at the picked places are false, the hints lead to a false clause; the first place is the only one
 -- from where a level begins on
@@ -98,10 +98,10 @@ pub record IsLearnable (all : List (List Lit)) (s : Search) (picked hints : List
   pub first : 0 < length picked → start_of s level ≤ slice_index_or picked 0 0
   pub rest : (i : ℕ) → 0 < i → i < length picked → slice_index_or picked i 0 < start_of s level
 
--- a conflict is cut at the level of its greatest place
-pub record IsCut (s : Search) (agenda : List ℕ) (cut : Cut) : Type 0 where
-  pub root : cut.root ≡ start_of s 0
-  pub cuts : IsGrounded s agenda [] ⊎ IsLevelled s cut agenda []
+-- the level of a conflict is that of its greatest place
+pub record IsConflictLevel (s : Search) (agenda : List ℕ) (conflict_level : ConflictLevel) : Type 0 where
+  pub root : conflict_level.root ≡ start_of s 0
+  pub cuts : IsGrounded s agenda [] ⊎ IsLevelled s conflict_level agenda []
 
 -- all on the agenda is before the level of this number, counted from 1 on, ends, and where there is such a level, one
 -- place isn't before it begins

@@ -11,7 +11,7 @@ use Rattle.bt_sat.specs.inner.Reasons.{lit_at}
 use Rattle.bt_sat.specs.inner.Truths.{IsTrueIn, IsFalseIn}
 
 -- the places are of the trail, the greatest first, and the first is the only one from where a level begins on
-pub record AreCut (s : Search) (picked : List ℕ) : Type 0 where
+pub record HaveUniquePoint (s : Search) (picked : List ℕ) : Type 0 where
   pub within : (k : ℕ) → Contains picked k → k < length s.assignment.trail.items
   pub descend : (i j : ℕ) → i < j → j < length picked → slice_index_or picked j 0 < slice_index_or picked i 0
   pub level : ℕ
@@ -38,7 +38,7 @@ pub record IsHinted (all : List (List Lit)) (vars : ℕ) (lits : List Lit) (hint
   pub numbers : All (λ n. n < length all) hints
   pub units : UnitsRefute lits (map (clause_at all) hints)
 
--- what is learnt from a conflict: a clause that follows, which is empty, or which the search, gone back, asserts
+-- what is learnt from a conflict: a clause that follows, which is empty, or which the search, jumped back, asserts
 pub record IsPrepared (all : List (List Lit)) (vars : ℕ) (s : Search) (lits : List Lit) (hints : List ℕ) : Type 0 where
   pub variables : length s.assignment.values ≡ vars
   pub hinted : IsHinted all vars lits hints

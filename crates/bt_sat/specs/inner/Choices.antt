@@ -64,8 +64,8 @@ pub record IsAtChoice (p : Progress) : Type 0 where
   pub settled : p.conflict ≡ None → p.settled ≡ length p.search.assignment.trail.items
   pub listed : p.conflict ≡ None → ListsUnset p
 
--- what follows was found, and the search may choose where no clause is known to be false
-pub record Follows (old new : Progress) : Type 0 where
+-- what is true was propagated, and the search may decide where no clause is known to be false
+pub record HasPropagated (old new : Progress) : Type 0 where
   pub keeps : KeepsLog old new
   pub running : IsRunning new
   pub choice : IsAtChoice new
@@ -79,9 +79,9 @@ Decides old new true =
 Decides old new false = KeepsLog old new × IsComplete new
 
 -- a clause was found whose literals are all false, or all variables have a value
-abbrev pub Descends : Progress → Progress → Option ℕ → Type 0
-Descends old new (Some conflict) = KeepsLog old new × IsRunning new × (new.conflict ≡ Some conflict)
-Descends old new None = KeepsLog old new × IsComplete new
+abbrev pub DecidesUntilConflict : Progress → Progress → Option ℕ → Type 0
+DecidesUntilConflict old new (Some conflict) = KeepsLog old new × IsRunning new × (new.conflict ≡ Some conflict)
+DecidesUntilConflict old new None = KeepsLog old new × IsComplete new
 
 -- the variable at this place is the first of the clause's variables that is among those without a value; or none of them
 -- is, and the place is the first

@@ -10,7 +10,7 @@ use Rattle.bt_sat.specs.declared.solver.Answer.TheVariants as answer
 use Rattle.bt_sat.specs.declared.kernel.Stage.{Stage}
 use Rattle.bt_sat.specs.declared.kernel.Stage.TheVariants.{Running, Complete, Refuted, Spent, Lost}
 use Rattle.bt_sat.specs.inner.Choices.{IsComplete}
-use Rattle.bt_sat.specs.inner.Hunting.{HuntsOn, HasSpent, IsRefuted}
+use Rattle.bt_sat.specs.inner.Searching.{SearchesOn, HasSpent, IsRefuted}
 use Rattle.bt_sat.specs.inner.Progressing.{IsRunning, LogsStep}
 use Rattle.bt_sat.specs.inner.Telling.{Tells}
 
@@ -62,7 +62,7 @@ Comes p answer.Spent = HasSpent p
 
 -- learnt steps were added, and the answer holds
 abbrev pub AnswersBy : Progress → List (Option (List ℕ)) → Progress → List (Option (List ℕ)) → Answer → Type 0
-AnswersBy old waiting new left answer = HuntsOn old waiting new left × Comes new answer
+AnswersBy old waiting new left answer = SearchesOn old waiting new left × Comes new answer
 
 -- the stage to which an answer leads
 abbrev pub stage_after : Answer → Stage

@@ -8,7 +8,7 @@ use Rattle.bt_log.specs.Logs.{Lemma}
 use Rattle.bt_log.specs.Units.{opposite}
 use Rattle.bt_sat.specs.declared.progress.Progress.{Progress}
 use Rattle.bt_sat.specs.declared.search.Search.{Search}
-use Rattle.bt_sat.specs.inner.Analysing.{falses_at, IsNoted}
+use Rattle.bt_sat.specs.inner.Analysing.{falses_at, IsSeen}
 use Rattle.bt_sat.specs.inner.Asserting.{IsAsserting}
 use Rattle.bt_sat.specs.inner.Levels.{front_of, AreLevels, ArePlaced, IsHeld, IsOrdered, IsReady}
 use Rattle.bt_sat.specs.inner.Progressing.{IsRunning, LogsStep, Stands}
@@ -32,7 +32,7 @@ pub record IsTraceable (s : Search) : Type 0 where
 
 -- the places of the clause's literals are on the agenda, before the bound, or were picked, the greatest first
 pub record IsListing (places : List ℕ) (clause : List Lit) (size : ℕ) (agenda picked : List ℕ) (bound : ℕ) : Type 0 where
-  pub among : (k : ℕ) → (Contains agenda k ⊎ Contains picked k) ↔ IsNoted places clause size (length clause) k
+  pub among : (k : ℕ) → (Contains agenda k ⊎ Contains picked k) ↔ IsSeen places clause size (length clause) k
   pub before : (k : ℕ) → Contains agenda k → k < bound
   pub bounded : bound ≤ size
   pub after : (k : ℕ) → Contains picked k → (bound ≤ k) × (k < size)
@@ -62,7 +62,7 @@ abbrev pub CanAdmit : List (List Lit) → Search → List Lit → Type 0
 CanAdmit all s lits = IsAsserting all s lits ⊎ IsFailing all s lits
 
 -- the search went back to where the clause with the same literals, in another order and without repeats, can be added
-pub record Retreats (old : Search) (clause : List Lit) (new : Search) (lits : List Lit) : Type 0 where
+pub record BackjumpsFor (old : Search) (clause : List Lit) (new : Search) (lits : List Lit) : Type 0 where
   pub same : AreSame clause lits
   pub variables : length new.assignment.values ≡ length old.assignment.values
   pub admits : (all : List (List Lit)) (settled : ℕ) → IsReady all settled old → 0 < length lits → CanAdmit all new lits

@@ -55,7 +55,7 @@ abbrev pub ArePlaced : Assignment → Type 0
 ArePlaced a = (k : ℕ) → k < length a.trail.items → slice_index_or a.places.items (lit_at a.trail.items k).var 0 ≡ k
 
 -- the trail has its first so many literals alone, which are all that are true
-pub record Forgets (size : ℕ) (old new : Assignment) : Type 0 where
+pub record Unassigns (size : ℕ) (old new : Assignment) : Type 0 where
   pub trail : new.trail.items ≡ take size old.trail.items
   pub reasons : new.reasons.items ≡ take size old.reasons.items
   pub places : new.places ≡ old.places
@@ -63,8 +63,8 @@ pub record Forgets (size : ℕ) (old new : Assignment) : Type 0 where
   pub truths : AreTrue new.values new.trail.items
 
 -- what was true before the level is true, and nothing else; the clauses stay
-pub record GoesBack (level : ℕ) (old new : Search) : Type 0 where
-  pub forgets : Forgets (start_of old level) old.assignment new.assignment
+pub record Backjumps (level : ℕ) (old new : Search) : Type 0 where
+  pub forgets : Unassigns (start_of old level) old.assignment new.assignment
   pub starts : new.starts.items ≡ take level old.starts.items
   pub clauses : new.clauses ≡ old.clauses
   pub watchers : new.watchers ≡ old.watchers

@@ -8,8 +8,8 @@ use Rattle.bt_sat.specs.Freshness.{IsFreshStep}
 use Rattle.bt_sat.specs.Solving.{AreFresh, AreNonempty}
 use Rattle.bt_sat.specs.declared.known.Known.{Known}
 use Rattle.bt_sat.specs.declared.progress.Progress.{Progress}
-use Rattle.bt_sat.specs.declared.progress.Taught.{Taught}
-use Rattle.bt_sat.specs.declared.progress.Taught.TheVariants.{Goes, Refutes, Spent}
+use Rattle.bt_sat.specs.declared.progress.Learning.{Learning}
+use Rattle.bt_sat.specs.declared.progress.Learning.TheVariants.{GoesOn, Refutes, Spent}
 use Rattle.bt_sat.specs.declared.search.Search.{Search}
 use Rattle.bt_sat.specs.inner.Known.{clauses_in}
 use Rattle.bt_sat.specs.inner.Levels.{IsReady, IsInConflict}
@@ -52,14 +52,14 @@ pub record HasRoom (p : Progress) : Type 0 where
 
 -- what comes of a conflict: a clause was learnt and the search goes on, or it is the empty clause, or the log has no
 -- room for it
-abbrev pub Teaches : Progress → Progress → Taught → Type 0
-Teaches old new Goes =
+abbrev pub Learns : Progress → Progress → Learning → Type 0
+Learns old new GoesOn =
     IsRunning new × (new.conflict ≡ None) × HasRoom old × (new.limit ≡ old.limit) × (new.served ≡ old.served)
-    × ((hints : List ℕ) × LogsStep old.known new.known (Learnt new.lesson.lits.items hints) × IsNextStep old.known (Learnt new.lesson.lits.items hints))
-Teaches old new Refutes =
-    (new.limit ≡ old.limit) × (new.served ≡ old.served) × HasRoom old × (new.lesson.lits.items ≡ [])
+    × ((hints : List ℕ) × LogsStep old.known new.known (Learnt new.learnt_clause.lits.items hints) × IsNextStep old.known (Learnt new.learnt_clause.lits.items hints))
+Learns old new Refutes =
+    (new.limit ≡ old.limit) × (new.served ≡ old.served) × HasRoom old × (new.learnt_clause.lits.items ≡ [])
     × ((hints : List ℕ) × LogsStep old.known new.known (Learnt [] hints) × IsNextStep old.known (Learnt [] hints))
-Teaches old new Spent =
+Learns old new Spent =
     (new.known ≡ old.known) × (new.limit ≡ old.limit) × (new.served ≡ old.served) × (length old.known.log.steps ≡ old.limit)
     × ((step : Step) × IsNextStep old.known step)
 
@@ -69,8 +69,8 @@ pub record Grows (old new : Progress) : Type 0 where
   pub trail : new.search.assignment.trail.items ≡ old.search.assignment.trail.items ++ more
   pub unset : new.unset ≡ old.unset
 
--- what follows was found: nothing is unsettled by the whole trail, or a clause has only false literals
-pub record Infers (old new : Progress) : Type 0 where
+-- what is true was propagated: nothing is unsettled by the whole trail, or a clause has only false literals
+pub record PropagatesAll (old new : Progress) : Type 0 where
   pub running : IsRunning new
   pub known : new.known ≡ old.known
   pub limit : new.limit ≡ old.limit

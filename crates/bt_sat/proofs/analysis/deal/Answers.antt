@@ -2,44 +2,44 @@ use Rattle.std.proofs.Common.{◌<◌, inl, inr, length, sym, subst}
 use Rattle.std.specs.List.{All}
 use Rattle.bt_cnf.specs.declared.literal.Lit.{Lit}
 use Rattle.bt_log.specs.Validity.{clause_at}
-use Rattle.bt_sat.specs.inner.Analysing.{IsTraced, IsTracing, Notes}
+use Rattle.bt_sat.specs.inner.Analysing.{IsTraced, IsTracing, MarksSeen}
 use Rattle.bt_sat.specs.inner.Known.{clauses_in}
 use Rattle.bt_sat.proofs.Deriving
 use Rattle.bt_sat.proofs.analysis.deal.Goals as goal
 
 pub reason_for-requires-clause-inside : goal.reason_for-requires-clause-inside
-reason_for-requires-clause-inside c = Deriving.place_inside (clauses_in c.args.known.now) c.args.search.now c.requires.ordered c.args.cut c.args.place c.args.analysis.now.agenda c.args.analysis.now.picked.items c.args.analysis.now.hints.items c.requires.taken
+reason_for-requires-clause-inside c = Deriving.place_inside (clauses_in c.args.known.now) c.args.search.now c.requires.ordered c.args.conflict_level c.args.place c.args.analysis.now.agenda c.args.analysis.now.picked.items c.args.analysis.now.hints.items c.requires.taken
 
 pub clause-requires : goal.clause-requires
 clause-requires c =
     let all = clauses_in c.args.known.now in
-    let inside = Deriving.place_inside all c.args.search.now c.requires.ordered c.args.cut c.args.place c.args.analysis.now.agenda c.args.analysis.now.picked.items c.args.analysis.now.hints.items c.requires.taken in
+    let inside = Deriving.place_inside all c.args.search.now c.requires.ordered c.args.conflict_level c.args.place c.args.analysis.now.agenda c.args.analysis.now.picked.items c.args.analysis.now.hints.items c.requires.taken in
     (c.requires.ordered.reasoned.reasons c.args.place c.in-Some.number inside c.in-Some.ensures.1).below
 
-pub note-requires : goal.note-requires
-note-requires c =
+pub mark_seen-requires : goal.mark_seen-requires
+mark_seen-requires c =
     let all = clauses_in c.args.known.now in
     let s = c.args.search.now in
-    let inside = Deriving.place_inside all s c.requires.ordered c.args.cut c.args.place c.args.analysis.now.agenda c.args.analysis.now.picked.items c.args.analysis.now.hints.items c.requires.taken in
+    let inside = Deriving.place_inside all s c.requires.ordered c.args.conflict_level c.args.place c.args.analysis.now.agenda c.args.analysis.now.picked.items c.args.analysis.now.hints.items c.requires.taken in
     let reason = c.requires.ordered.reasoned.reasons c.args.place c.in-Some.number inside c.in-Some.ensures.1 in
     subst (λ ps. All (λ (l : Lit). l.var < length ps) c.clause.result.now) (sym c.deref.ensures.value)
     (subst (All (λ (l : Lit). l.var < length s.assignment.places.items)) (sym c.clause.ensures) (Deriving.reason_below all s c.requires.ordered c.args.place c.in-Some.number inside reason))
 
-pub returns-in_ok-note-in-Some : goal.returns-in_ok-note-in-Some
-returns-in_ok-note-in-Some c =
+pub returns-in_ok-mark_seen-in-Some : goal.returns-in_ok-mark_seen-in-Some
+returns-in_ok-mark_seen-in-Some c =
     let all = clauses_in c.args.known.now in
     let s = c.args.search.now in
     let old = c.args.analysis.now in
-    let inside = Deriving.place_inside all s c.requires.ordered c.args.cut c.args.place old.agenda old.picked.items old.hints.items c.requires.taken in
+    let inside = Deriving.place_inside all s c.requires.ordered c.args.conflict_level c.args.place old.agenda old.picked.items old.hints.items c.requires.taken in
     let reason = c.requires.ordered.reasoned.reasons c.args.place c.in-Some.number inside c.in-Some.ensures.1 in
-    let notes : Notes s.assignment.places.items (clause_at all c.in-Some.number) c.args.place old.agenda c.note.new.agenda =
-    subst (λ ps. Notes ps (clause_at all c.in-Some.number) c.args.place old.agenda c.note.new.agenda) c.deref.ensures.value
-    (subst (λ cl. Notes c.deref.result.now cl c.args.place old.agenda c.note.new.agenda) c.clause.ensures c.in_ok-note-in-Some.ensures) in
-    subst (IsTracing all s c.args.cut c.note.new.agenda old.picked.items c.args.place) (sym c.in_ok-push-in-Some.ensures.items)
+    let marks : MarksSeen s.assignment.places.items (clause_at all c.in-Some.number) c.args.place old.agenda c.mark_seen.new.agenda =
+    subst (λ ps. MarksSeen ps (clause_at all c.in-Some.number) c.args.place old.agenda c.mark_seen.new.agenda) c.deref.ensures.value
+    (subst (λ cl. MarksSeen c.deref.result.now cl c.args.place old.agenda c.mark_seen.new.agenda) c.clause.ensures c.in_ok-mark_seen-in-Some.ensures) in
+    subst (IsTracing all s c.args.conflict_level c.mark_seen.new.agenda old.picked.items c.args.place) (sym c.in_ok-push-in-Some.ensures.items)
     (record {
-      derived = Deriving.resolved all s c.requires.ordered c.args.cut c.args.place old.agenda old.picked.items old.hints.items c.requires.taken c.in-Some.number c.note.new.agenda reason notes;
+      derived = Deriving.resolved all s c.requires.ordered c.args.conflict_level c.args.place old.agenda old.picked.items old.hints.items c.requires.taken c.in-Some.number c.mark_seen.new.agenda reason marks;
       root = c.requires.taken.tracing.root;
-      cuts = Deriving.resolved_cuts all s c.requires.ordered c.args.cut c.args.place old.agenda old.picked.items old.hints.items c.requires.taken c.in-Some.number c.note.new.agenda reason notes c.in-Some.ensures.0;
+      cuts = Deriving.resolved_cuts all s c.requires.ordered c.args.conflict_level c.args.place old.agenda old.picked.items old.hints.items c.requires.taken c.in-Some.number c.mark_seen.new.agenda reason marks c.in-Some.ensures.0;
     })
 
 pub returns-in_ok-push-in-None : goal.returns-in_ok-push-in-None
@@ -47,13 +47,13 @@ returns-in_ok-push-in-None c =
     let all = clauses_in c.args.known.now in
     let s = c.args.search.now in
     let old = c.args.analysis.now in
-    let not_traced : IsTraced c.args.cut old.agenda c.args.place → ⊥ = elim c.in-None.ensures [
+    let not_traced : IsTraced c.args.conflict_level old.agenda c.args.place → ⊥ = elim c.in-None.ensures [
       | inl never ↦ never
-      | inr chosen ↦ λ traced. Deriving.not_chosen all s c.requires.ordered c.args.cut c.args.place old.agenda old.picked.items old.hints.items c.requires.taken traced chosen
+      | inr chosen ↦ λ traced. Deriving.not_chosen all s c.requires.ordered c.args.conflict_level c.args.place old.agenda old.picked.items old.hints.items c.requires.taken traced chosen
     ] in
-    subst (λ ps. IsTracing all s c.args.cut old.agenda ps c.args.place old.hints.items) (sym c.in_ok-push-in-None.ensures.items)
+    subst (λ ps. IsTracing all s c.args.conflict_level old.agenda ps c.args.place old.hints.items) (sym c.in_ok-push-in-None.ensures.items)
     (record {
-      derived = Deriving.picked_up all s c.requires.ordered c.args.cut c.args.place old.agenda old.picked.items old.hints.items c.requires.taken;
+      derived = Deriving.picked_up all s c.requires.ordered c.args.conflict_level c.args.place old.agenda old.picked.items old.hints.items c.requires.taken;
       root = c.requires.taken.tracing.root;
-      cuts = Deriving.picked_cuts all s c.requires.ordered c.args.cut c.args.place old.agenda old.picked.items old.hints.items c.requires.taken not_traced;
+      cuts = Deriving.picked_cuts all s c.requires.ordered c.args.conflict_level c.args.place old.agenda old.picked.items old.hints.items c.requires.taken not_traced;
     })

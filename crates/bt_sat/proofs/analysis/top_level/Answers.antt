@@ -1,11 +1,11 @@
 use Rattle.std.proofs.Common.{◌<◌, arith, subst}
 use Rattle.bt_sat.specs.inner.Levels.{IsLevelOf}
-use Rattle.bt_sat.proofs.Cutting
+use Rattle.bt_sat.proofs.ConflictLevels
 use Rattle.bt_sat.proofs.analysis.top_level.Goals as goal
 
 pub returns-in-Some : goal.returns-in-Some
 returns-in-Some c =
-    Cutting.top_level c.args.search.now c.args.agenda.now c.in-Some.place c.level_of.result c.requires.inside c.in-Some.ensures
+    ConflictLevels.top_level c.args.search.now c.args.agenda.now c.in-Some.place c.level_of.result c.requires.inside c.in-Some.ensures
     (subst (λ ns. IsLevelOf ns c.in-Some.place c.level_of.result) c.deref.ensures.value c.level_of.ensures)
 
 pub returns-in-None : goal.returns-in-None

@@ -37,5 +37,5 @@ returns c =
     subst (λ ss. IsAssertionLevel ss picked level) c.deref-3.ensures.value (subst (λ ps. IsAssertionLevel c.deref-3.result.now ps level) c.deref-4.ensures.value c.assertion_level-level.ensures) in
     let lits : falses_at s.assignment.trail.items picked ≡ c.name_lits.new.lits.items =
     sym (c.in_ok-name_lits.ensures ∙ ap (λ ts. falses_at ts c.deref.result.now) c.deref-2.ensures.value ∙ ap (falses_at s.assignment.trail.items) c.deref.ensures.value) in
-    subst (λ ls. IsPrepared all (length s.assignment.values) c.go_back.new.search ls c.analyse.new.analysis.hints.items) lits
-    (Asserted.prepared all s c.go_back.new.search picked c.analyse.new.analysis.hints.items level c.requires.ordered c.in_ok-analyse.ensures at c.go_back.ensures c.requires.held)
+    subst (λ ls. IsPrepared all (length s.assignment.values) c.backjump.new.search ls c.analyse.new.analysis.hints.items) lits
+    (Asserted.prepared all s c.backjump.new.search picked c.analyse.new.analysis.hints.items level c.requires.ordered c.in_ok-analyse.ensures at c.backjump.ensures c.requires.held)

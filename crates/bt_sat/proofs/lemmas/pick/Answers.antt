@@ -1,5 +1,5 @@
 use Rattle.std.proofs.Common.{◌≡◌, [], arith, length, subst, sym}
-use Rattle.bt_sat.specs.inner.Analysing.{Notes}
+use Rattle.bt_sat.specs.inner.Analysing.{MarksSeen}
 use Rattle.bt_sat.specs.inner.Lemmas.{IsListing}
 use Rattle.bt_sat.proofs.Picking
 use Rattle.bt_sat.proofs.lemmas.pick.Goals as goal
@@ -10,11 +10,11 @@ loop-place-init c =
     let lits = c.args.lits.now in
     let end = length s.assignment.trail.items in
     let size : c.len-bound.result ≡ end = omega (arith, c.len-bound.ensures) in
-    let notes : Notes s.assignment.places.items lits end [] c.note.new.agenda =
-    subst (λ xs. Notes xs lits end [] c.note.new.agenda) c.deref.ensures.value
-    (subst (λ n. Notes c.deref.result.now lits n [] c.note.new.agenda) size (subst (λ xs. Notes c.deref.result.now lits c.len-bound.result xs c.note.new.agenda) c.clear.ensures c.in_ok-note.ensures)) in
-    subst (λ xs. IsListing s.assignment.places.items lits end c.note.new.agenda xs c.len-bound.result) (sym c.clear-2.ensures.items)
-    (subst (IsListing s.assignment.places.items lits end c.note.new.agenda []) (sym size) (Picking.begun s lits c.requires.traceable c.requires.falses c.note.new.agenda notes))
+    let marks : MarksSeen s.assignment.places.items lits end [] c.mark_seen.new.agenda =
+    subst (λ xs. MarksSeen xs lits end [] c.mark_seen.new.agenda) c.deref.ensures.value
+    (subst (λ n. MarksSeen c.deref.result.now lits n [] c.mark_seen.new.agenda) size (subst (λ xs. MarksSeen c.deref.result.now lits c.len-bound.result xs c.mark_seen.new.agenda) c.clear.ensures c.in_ok-mark_seen.ensures)) in
+    subst (λ xs. IsListing s.assignment.places.items lits end c.mark_seen.new.agenda xs c.len-bound.result) (sym c.clear-2.ensures.items)
+    (subst (IsListing s.assignment.places.items lits end c.mark_seen.new.agenda []) (sym size) (Picking.begun s lits c.requires.traceable c.requires.falses c.mark_seen.new.agenda marks))
 
 pub loop-place-smaller : goal.loop-place-smaller
 loop-place-smaller c = c.loop-place.invariant.before c.in-Some.place c.in-Some.ensures.0.0

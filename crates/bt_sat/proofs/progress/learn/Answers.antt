@@ -8,21 +8,21 @@ use Rattle.bt_sat.specs.inner.Progressing.{IsNextStep, LogsStep}
 use Rattle.bt_sat.proofs.Logging
 use Rattle.bt_sat.proofs.progress.learn.Goals as goal
 
-pub returns-then-len-progress-clause-teaches : goal.returns-then-len-progress-clause-teaches
-returns-then-len-progress-clause-teaches c =
+pub returns-then-len-progress-clause-learns : goal.returns-then-len-progress-clause-learns
+returns-then-len-progress-clause-learns c =
     let p = c.args.progress.now in
-    let lits = c.prepare.new.lesson.lits.items in
-    let hints = c.prepare.new.lesson.analysis.hints.items in
+    let lits = c.prepare.new.learnt_clause.lits.items in
+    let hints = c.prepare.new.learnt_clause.analysis.hints.items in
     let is : IsPrepared (clauses_in p.known) p.known.formula.vars c.prepare.new.search lits hints =
     subst (λ n. IsPrepared (clauses_in p.known) n c.prepare.new.search lits hints) c.requires.running.variables c.in_ok-prepare.ensures in
     (refl, refl, refl, sym c.len.ensures ∙ c.if-len-progress.true, (Learnt lits hints, Logging.prepared_next p.known c.prepare.new.search lits hints is))
 
-pub returns-clause-teaches : goal.returns-clause-teaches
-returns-clause-teaches c =
+pub returns-clause-learns : goal.returns-clause-learns
+returns-clause-learns c =
     let p = c.args.progress.now in
     let s = c.prepare.new.search in
-    let lits = c.prepare.new.lesson.lits.items in
-    let hints = c.prepare.new.lesson.analysis.hints.items in
+    let lits = c.prepare.new.learnt_clause.lits.items in
+    let hints = c.prepare.new.learnt_clause.analysis.hints.items in
     let all = clauses_in p.known in
     let is : IsPrepared all p.known.formula.vars s lits hints = subst (λ n. IsPrepared all n s lits hints) c.requires.running.variables c.in_ok-prepare.ensures in
     let next : IsNextStep p.known (Learnt lits hints) = Logging.prepared_next p.known s lits hints is in

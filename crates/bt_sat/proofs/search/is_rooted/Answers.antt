@@ -2,7 +2,7 @@ use Rattle.std.proofs.Common.{◌≡◌, ◌<◌, length, subst, Some}
 use Rattle.std.specs.Prelude.{Contains, slice_get, take}
 use Rattle.bt_cnf.specs.declared.literal.Lit.{Lit}
 use Rattle.bt_sat.specs.inner.Levels.{start_of}
-use Rattle.bt_sat.proofs.Back.{place_in_take}
+use Rattle.bt_sat.proofs.Backjumped.{place_in_take}
 use Rattle.bt_sat.proofs.Lists.{got_at, got_within}
 use Rattle.bt_sat.proofs.Roots.{before_root}
 use Rattle.bt_sat.proofs.search.is_rooted.Goals as goal

@@ -5,7 +5,7 @@ use Rattle.bt_sat.specs.Solving.{SolverParts, IsLemmaOf, IsSpent}
 use Rattle.bt_sat.specs.declared.kernel.Stage.TheVariants.{Running}
 use Rattle.bt_sat.specs.inner.Kernels.{parts_of}
 use Rattle.bt_sat.proofs.Ended
-use Rattle.bt_sat.proofs.Hunted.{fair_map}
+use Rattle.bt_sat.proofs.Searched.{fair_map}
 use Rattle.bt_sat.proofs.kernel.Kernel.add_lemma.Goals as goal
 
 pub returns-then-len-self-clause-added : goal.returns-then-len-self-clause-added

@@ -3,7 +3,7 @@ use Rattle.bt_sat.specs.Answering.{GivesNext}
 use Rattle.bt_sat.specs.Solving.{SolverParts}
 use Rattle.bt_sat.specs.inner.Kernels.{MayGoOn, parts_of}
 use Rattle.bt_sat.proofs.Ended
-use Rattle.bt_sat.proofs.Hunted.{fair_count}
+use Rattle.bt_sat.proofs.Searched.{fair_count}
 use Rattle.bt_sat.proofs.Served.{fair_after}
 use Rattle.bt_sat.proofs.kernel.Kernel.go_on.Goals as goal
 

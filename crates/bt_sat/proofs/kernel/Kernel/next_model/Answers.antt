@@ -4,7 +4,7 @@ use Rattle.bt_sat.specs.Serving.{IsFair}
 use Rattle.bt_sat.specs.Solving.{SolverParts}
 use Rattle.bt_sat.specs.declared.solver.Answer.TheVariants as answer
 use Rattle.bt_sat.proofs.Ended
-use Rattle.bt_sat.proofs.Hunted.{fair_map}
+use Rattle.bt_sat.proofs.Searched.{fair_map}
 use Rattle.bt_sat.proofs.kernel.Kernel.next_model.Goals as goal
 
 pub returns-in-Refuted-clause-given : goal.returns-in-Refuted-clause-given

@@ -1,0 +1,119 @@
+-- The search, from conflict to conflict.
+use Rattle.std.proofs.Common.{◌≡◌, ℕ, ◌≤◌, ◌<◌, ◌+◌, inl, inr, arith, List, [], ◌∷◌, ◌++◌, length, map, sym, subst, refl, ap, ◌∙◌, Option, None, Some, length-append, append-nil, append_assoc, vec_len}
+use Rattle.std.specs.Global.{Vec}
+use Rattle.std.specs.List.{All}
+use Rattle.std.proofs.lemmas.List.{length-map, map-append}
+use Rattle.std.proofs.lemmas.List.Elements.{All-nil, All-push}
+use Rattle.bt_cnf.specs.declared.literal.Lit.{Lit}
+use Rattle.bt_log.specs.Logs.{Step, LogParts, clause_of}
+use Rattle.bt_sat.specs.Answering.{lengths_of}
+use Rattle.bt_sat.specs.Serving.{ServesOn, IsFair}
+use Rattle.bt_sat.specs.Solving.{IsLearnt}
+use Rattle.bt_sat.specs.declared.cdcl.Found.{Found}
+use Rattle.bt_sat.specs.declared.cdcl.Found.TheVariants.{Model, Refuted, Spent}
+use Rattle.bt_sat.specs.declared.known.Known.{Known}
+use Rattle.bt_sat.specs.declared.progress.Progress.{Progress}
+use Rattle.bt_sat.specs.declared.search.Search.{Search}
+use Rattle.bt_sat.specs.inner.Choices.{KeepsLog}
+use Rattle.bt_sat.specs.inner.Searching.{Finds, SearchesOn, LearnsAndTells, StepsOn}
+use Rattle.bt_sat.specs.inner.Levels.{Backjumps, IsHeld, IsOrdered, IsReady}
+use Rattle.bt_sat.specs.inner.Progressing.{KeepsFormula, Stands}
+use Rattle.bt_sat.proofs.Leveled
+use Rattle.bt_sat.proofs.Served.{served_next, served_none}
+use Rattle.bt_sat.proofs.Visiting.{all_more}
+
+-- the search jumps back to a level that it has
+pub ready_back : (all : List (List Lit)) (level : ℕ) (old new : Search) → IsOrdered all old → All (IsHeld old) all → Backjumps level old new → level < length old.starts.items
+    → IsReady all (length new.assignment.trail.items) new
+ready_back all level old new ordered held back known = record {
+  ordered = Leveled.back_ordered all old new level ordered back;
+  held = all_more (IsHeld old) (IsHeld new) all (Leveled.back_held all old new level ordered back) held;
+  settles = Leveled.back_settled all old new level ordered back known;
+}
+
+-- the trail is in order, whether a clause is false or not
+pub stands_ordered : (all : List (List Lit)) (settled : ℕ) (s : Search) (conflict : Option ℕ) → Stands all settled s conflict → IsOrdered all s
+stands_ordered all settled s None stands = stands.ordered
+stands_ordered all settled s (Some conflict) stands = stands.ordered
+
+-- all clauses are kept where something was chosen
+pub stands_held : (all : List (List Lit)) (settled : ℕ) (s : Search) (conflict : Option ℕ) → Stands all settled s conflict → 0 < length s.starts.items → All (IsHeld s) all
+stands_held all settled s None stands some = stands.held
+stands_held all settled s (Some conflict) stands some = stands.held some
+
+-- the log is of the same formula still
+pub kept_next : (old mid new : Progress) → KeepsFormula old mid → KeepsFormula mid new → KeepsFormula old new
+kept_next old mid new was is = record {
+  formula = is.formula ∙ was.formula;
+  first = is.first ∙ was.first;
+}
+
+-- at first no step was added
+pub searches_none : (p : Progress) (waiting : List (Option (List ℕ))) → IsFair p.served (length waiting) → p.served ≤ length p.known.log.steps → SearchesOn p waiting p waiting
+searches_none p waiting fair paced = record {
+  added = [];
+  learnt = All-nil IsLearnt;
+  formula = refl;
+  log = ap (λ ss. record_of p.known.log.first ss) (sym (append-nil p.known.log.steps));
+  limit = refl;
+  serves = served_none p.served waiting fair;
+  paced = paced;
+}
+  where
+    record_of : ℕ → List Step → LogParts
+    record_of first steps = record { first = first; steps = steps }
+
+-- nothing of the log has changed
+pub searches_kept : (old mid new : Progress) (waiting left left' : List (Option (List ℕ))) → SearchesOn old waiting mid left → KeepsLog mid new → left' ≡ left → SearchesOn old waiting new left'
+searches_kept old mid new waiting left left' on keeps same = record {
+  added = on.added;
+  learnt = on.learnt;
+  formula = ap (λ (k : Known). k.formula) keeps.known ∙ on.formula;
+  log = ap (λ (k : Known). k.log) keeps.known ∙ on.log;
+  limit = keeps.limit ∙ on.limit;
+  serves = subst (λ n. ServesOn old.served waiting (lengths_of on.added) n left') (sym keeps.served) (subst (ServesOn old.served waiting (lengths_of on.added) mid.served) (sym same) on.serves);
+  paced = subst (λ n. n ≤ length new.known.log.steps) (sym keeps.served) (subst (λ (k : Known). mid.served ≤ length k.log.steps) (sym keeps.known) on.paced);
+}
+
+-- one step more
+pub searches_step : (old mid new : Progress) (waiting left left' : List (Option (List ℕ))) → SearchesOn old waiting mid left → StepsOn mid left new left' → SearchesOn old waiting new left'
+searches_step old mid new waiting left left' on steps =
+    let mid_steps : mid.known.log.steps ≡ old.known.log.steps ++ on.added = ap (λ (l : LogParts). l.steps) on.log in
+    let new_steps : new.known.log.steps ≡ mid.known.log.steps ++ steps.step ∷ [] = ap (λ (l : LogParts). l.steps) steps.logs.log in
+    let mid_first : mid.known.log.first ≡ old.known.log.first = ap (λ (l : LogParts). l.first) on.log in
+    let make : ℕ → List Step → LogParts = λ first ss. record { first = first; steps = ss } in
+    let more : length new.known.log.steps ≡ length mid.known.log.steps + 1 = ap length new_steps ∙ length-append mid.known.log.steps (steps.step ∷ []) in
+    record {
+      added = on.added ++ steps.step ∷ [];
+      learnt = All-push IsLearnt on.added steps.step on.learnt steps.learnt;
+      formula = steps.logs.formula ∙ on.formula;
+      log =
+          steps.logs.log ∙ ap (λ n. make n (mid.known.log.steps ++ steps.step ∷ [])) mid_first
+          ∙ ap (make old.known.log.first) (ap (λ ss. ss ++ steps.step ∷ []) mid_steps ∙ append_assoc old.known.log.steps on.added (steps.step ∷ []));
+      limit = steps.limit ∙ on.limit;
+      serves =
+          subst (λ ls. ServesOn old.served waiting ls new.served left') (sym (map-append (λ step. length (clause_of step)) on.added (steps.step ∷ [])))
+          (served_next old.served waiting (lengths_of on.added) mid.served left (length (clause_of steps.step)) new.served left' on.serves steps.tells);
+      paced = elim steps.tells [
+        | inl told ↦ omega (arith, told.counted, on.paced, more)
+        | inr passed ↦ omega (arith, passed.begins)
+      ];
+    }
+
+-- the search came to its end at a conflict
+pub searches_end : (old mid new : Progress) (waiting left left' : List (Option (List ℕ))) (found : Found) → SearchesOn old waiting mid left → LearnsAndTells mid left new left' (Some found)
+    → SearchesOn old waiting new left' × Finds new found
+searches_end old mid new waiting left left' Model on learns = absurd learns
+searches_end old mid new waiting left left' Refuted on learns = (searches_step old mid new waiting left left' on learns.0, learns.1)
+searches_end old mid new waiting left left' Spent on learns = (searches_kept old mid new waiting left left' on learns.0 learns.1, learns.2)
+
+-- what vectors count
+pub fair_map : {X : Type 0} (f : X → Option (List ℕ)) (v : Vec X) (served : ℕ) → IsFair served (vec_len v) → IsFair served (length (map f v.items))
+fair_map f v served fair =
+    let size = length-map v.items f in
+    elim fair [ inl small ↦ inl small | inr one ↦ inr (omega (arith, one, size, v.ok.0)) ]
+
+pub fair_count : {X : Type 0} (f : X → Option (List ℕ)) (v : Vec X) (served : ℕ) → IsFair served (length (map f v.items)) → IsFair served (vec_len v)
+fair_count f v served fair =
+    let size = length-map v.items f in
+    elim fair [ inl small ↦ inl small | inr one ↦ inr (omega (arith, one, size, v.ok.0)) ]

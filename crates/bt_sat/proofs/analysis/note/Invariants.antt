@@ -1,7 +1,0 @@
-use Rattle.std.proofs.Common.{◌⊎◌, ◌↔◌, ℕ}
-use Rattle.std.specs.Prelude.{Contains}
-use Rattle.bt_sat.specs.inner.Analysing.{IsNoted}
-use Rattle.bt_sat.proofs.analysis.note.Given as goal
-
-abbrev pub invariant-loop-lit : goal.invariant-loop-lit
-invariant-loop-lit l = (k : ℕ) → Contains l.agenda k ↔ (Contains l.fn.agenda k ⊎ IsNoted l.places l.clause l.but l.lit-index k)

@@ -1,0 +1,18 @@
+use Rattle.std.proofs.Common.{◌≡◌, map, vec_len}
+use Rattle.bt_sat.specs.inner.Choices.{IsAtChoice, KeepsLog}
+use Rattle.bt_sat.specs.inner.Progressing.{IsRunning, KeepsFormula}
+use Rattle.bt_sat.specs.inner.Truths.{unset}
+use Rattle.bt_sat.proofs.deciding.decide_until_conflict.Given as goal
+
+abbrev pub invariant-loop-progress : goal.invariant-loop-progress
+invariant-loop-progress g l = record {
+  keeps : KeepsLog l.fn.progress l.progress;
+  running : IsRunning l.progress;
+  choice : IsAtChoice l.progress;
+  kept : KeepsFormula l.fn.progress l.progress;
+  same : map g.C.Chooser.told_lengths l.choosers.items ≡ map g.C.Chooser.told_lengths l.fn.choosers.items;
+  count : vec_len l.choosers ≡ vec_len l.fn.choosers;
+}
+
+abbrev pub decreases-loop-progress : goal.decreases-loop-progress
+decreases-loop-progress g l = unset l.progress.search.assignment.values

@@ -1,0 +1,87 @@
+//! The search: decisions down to a conflict, and on with the clause that is learnt from it.
+ghost use Rattle.std.specs.Prelude.{◌≡◌, ◌≤◌, length, map, IfOk, None, Some, vec_len};
+ghost use Rattle.bt_sat.specs.Serving.{IsFair};
+ghost use Rattle.bt_sat.specs.inner.Searching.{SearchesTo, LearnsAndTells, Restarts};
+ghost use Rattle.bt_sat.specs.inner.Progressing.{IsRunning, KeepsFormula};
+
+use crate::deciding::decide_until_conflict;
+use crate::levels::backjump;
+use crate::progress::{Learning, Progress, learn};
+use crate::serving::tell;
+use bt_cnf::Chooser;
+use std::alloc::AllocError;
+
+/// What the search comes to.
+#[derive(Clone, Copy)]
+pub enum Found {
+    /// All variables have a value, and each clause a true literal.
+    Model,
+    /// The empty clause was learnt.
+    Refuted,
+    /// The log has no room for one more step.
+    Spent,
+}
+
+/// Backjumps to what was true before the first decision. There no clause is known to be false.
+pub fn restart(progress: &mut Progress)
+    requires { IsRunning progress.old }
+    ensures { Restarts progress.old progress.new }
+{
+    if progress.search.starts.len() > 0 {
+        backjump(&mut progress.search, 0);
+        progress.settled = progress.search.assignment.trail.len();
+        progress.conflict = None;
+    }
+}
+
+/// Learns from a conflict, and tells the chooser that serves.
+fn learn_and_tell<C: Chooser>(
+    progress: &mut Progress,
+    choosers: &mut Vec<C>,
+    conflict: usize,
+) -> Result<Option<Found>, AllocError>
+    requires running { IsRunning progress.old }
+    requires conflict { progress.old.conflict ≡ Some conflict }
+    requires paced { progress.old.served ≤ length progress.old.known.log.steps }
+    requires fair { IsFair progress.old.served (vec_len choosers.old) }
+    ensures kept { KeepsFormula progress.old progress.new }
+    ensures learns { IfOk result (LearnsAndTells progress.old (map C.told_lengths choosers.old.items)
+        progress.new (map C.told_lengths choosers.new.items)) }
+{
+    let served = progress.served;
+    match learn(progress, conflict)? {
+        Learning::GoesOn => {
+            progress.served = tell(choosers, served, &progress.learnt_clause.lits)?;
+            let steps = progress.known.log.len() as u64;
+            if progress.plan.is_restart_due(steps) || progress.served <= served {
+                restart(progress);
+            }
+            Ok(None)
+        }
+        Learning::Refutes => {
+            progress.served = tell(choosers, served, &progress.learnt_clause.lits)?;
+            Ok(Some(Found::Refuted))
+        }
+        Learning::Spent => Ok(Some(Found::Spent)),
+    }
+}
+
+/// Searches until there is a model, or the log refutes, or it has no room.
+pub fn find_model<C: Chooser>(
+    progress: &mut Progress,
+    choosers: &mut Vec<C>,
+) -> Result<Found, AllocError>
+    requires running { IsRunning progress.old }
+    requires paced { progress.old.served ≤ length progress.old.known.log.steps }
+    requires fair { IsFair progress.old.served (vec_len choosers.old) }
+    ensures kept { KeepsFormula progress.old progress.new }
+    ensures searches { IfOk result (SearchesTo progress.old (map C.told_lengths choosers.old.items)
+        progress.new (map C.told_lengths choosers.new.items)) }
+{
+    while let Some(conflict) = decide_until_conflict(progress, choosers)? {
+        if let Some(found) = learn_and_tell(progress, choosers, conflict)? {
+            return Ok(found);
+        }
+    }
+    Ok(Found::Model)
+}

@@ -1,0 +1,64 @@
+//! Decisions and what they propagate, until there is a conflict or a model.
+ghost use Rattle.std.specs.Prelude.{◌≡◌, map, IfOk, OnOk, None, vec_len};
+ghost use Rattle.bt_sat.specs.inner.Choices.{DecidesUntilConflict, HasPropagated, ListsUnset};
+ghost use Rattle.bt_sat.specs.inner.Progressing.{IsRunning, KeepsFormula};
+
+use crate::choosing::decide;
+use crate::progress::{Progress, propagate_all};
+use crate::unset::{drop_later, list_unset};
+use bt_cnf::Chooser;
+use std::alloc::AllocError;
+
+/// Propagates what is true at first, and lists what has no value then.
+fn propagate_first(progress: &mut Progress) -> Result<(), AllocError>
+    requires { IsRunning progress.old }
+    ensures propagates { OnOk result (HasPropagated progress.old progress.new) }
+    ensures kept { KeepsFormula progress.old progress.new }
+{
+    progress.plan.begin();
+    if progress.conflict.is_none() {
+        propagate_all(progress)?;
+    }
+    if progress.conflict.is_none() {
+        list_unset(&mut progress.unset, &progress.search.assignment.values)?;
+    }
+    Ok(())
+}
+
+/// Propagates a decision, and drops what has got a value off the list.
+fn propagate_decision(progress: &mut Progress) -> Result<(), AllocError>
+    requires running { IsRunning progress.old }
+    requires ready { progress.old.conflict ≡ None }
+    requires listed { ListsUnset progress.old }
+    ensures propagates { OnOk result (HasPropagated progress.old progress.new) }
+    ensures kept { KeepsFormula progress.old progress.new }
+{
+    let known = progress.search.assignment.trail.len();
+    propagate_all(progress)?;
+    if progress.conflict.is_none() {
+        drop_later(&mut progress.unset, &progress.search.assignment, known);
+    }
+    Ok(())
+}
+
+/// Decides and propagates until all literals of a clause are false, which is a conflict, or all variables have a value.
+/// Tells such a clause.
+pub fn decide_until_conflict<C: Chooser>(
+    progress: &mut Progress,
+    choosers: &mut Vec<C>,
+) -> Result<Option<usize>, AllocError>
+    requires { IsRunning progress.old }
+    ensures decides { IfOk result (DecidesUntilConflict progress.old progress.new) }
+    ensures kept { KeepsFormula progress.old progress.new }
+    ensures same { map C.told_lengths choosers.new.items ≡ map C.told_lengths choosers.old.items }
+    ensures count { vec_len choosers.new ≡ vec_len choosers.old }
+{
+    propagate_first(progress)?;
+    while progress.conflict.is_none() {
+        if !decide(progress, choosers)? {
+            return Ok(None);
+        }
+        propagate_decision(progress)?;
+    }
+    Ok(progress.conflict)
+}
