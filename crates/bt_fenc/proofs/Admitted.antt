@@ -16,7 +16,7 @@ use Rattle.bt_flow.proofs.Adding.{no_edge}
 use Rattle.bt_fenc.specs.declared.claim.Side.{Side}
 use Rattle.bt_fenc.specs.declared.claim.Side.TheVariants.{Out, In}
 use Rattle.bt_fenc.specs.declared.claim.Pair.{Pair}
-use Rattle.bt_fenc.specs.declared.claim.Pair.TheVariants.{Even, Empty}
+use Rattle.bt_fenc.specs.declared.claim.Pair.TheVariants.{Even}
 use Rattle.bt_fenc.specs.declared.claim.Claim.{Claim}
 use Rattle.bt_fenc.specs.declared.claim.Claim.TheVariants.{Mark, Says, First}
 use Rattle.bt_fenc.specs.declared.family.Family.{Family}

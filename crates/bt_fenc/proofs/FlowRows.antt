@@ -27,7 +27,7 @@ use Rattle.bt_fenc.specs.Families.{clauses_at, places, family_clauses, families,
 use Rattle.bt_fenc.proofs.Sides.{beside_edge}
 use Rattle.bt_fenc.specs.Pairs.{pair_clause, beside, side_pairs, full, loaded, filled}
 use Rattle.bt_fenc.specs.Properties.{property_clauses, loaded_clauses, open_clauses, short_clauses, unequal_clause, differ}
-use Rattle.bt_fenc.specs.FlowFormula.{flow_clauses}
+use Rattle.bt_fenc.specs.FlowFormula.{steady_clauses, flow_clauses}
 use Rattle.bt_fenc.specs.Numbering.{mentioned, rows_in}
 use Rattle.bt_fenc.proofs.Numbers.{all_from, all_to}
 use Rattle.bt_fenc.proofs.Columns.{splitter_columns, output_columns}
@@ -268,3 +268,8 @@ module _ (n : Network) (is : IsNetwork n) where
       each-flat_map IsRow (AllByRecursion MentionsRow) (flat_map mentioned) (flow_clauses n p)
       (each-append (AllByRecursion MentionsRow) (flat_map (family_clauses n) families) (property_clauses n p) families_rows (property_rows p))
       (λ claims h. each-flat_map IsRow MentionsRow mentioned claims h (λ claim r. r))
+
+  -- so are those that the clauses of the laws mention
+  pub steady_rows : AllByRecursion IsRow (rows_in (steady_clauses n))
+  steady_rows =
+      each-flat_map IsRow (AllByRecursion MentionsRow) (flat_map mentioned) (steady_clauses n) families_rows (λ claims h. each-flat_map IsRow MentionsRow mentioned claims h (λ claim r. r))

@@ -6,10 +6,10 @@ use Rattle.bt_cnf.specs.Formulas.{LitsBelow, AscendBelow, IsFormula}
 use Rattle.bt_fenc.specs.declared.claim.Pair.{Pair}
 use Rattle.bt_fenc.specs.declared.claim.Claim.{Claim}
 use Rattle.bt_fenc.specs.Numbering.{mentioned, rows_in, literals_from, clauses_from, atoms_from, formula_of, IsNamed, AreNamed}
-use Rattle.bt_fenc.specs.FlowFormula.{flow_formula, flow_clauses, variable_of}
+use Rattle.bt_fenc.specs.FlowFormula.{flow_formula, steady_formula, flow_clauses, steady_clauses, variable_of}
 use Rattle.bt_fenc.proofs.Numbers.{all_from, literals_below, named_in_range}
-use Rattle.bt_fenc.proofs.Named.{flow_named}
-use Rattle.bt_fenc.proofs.FlowRows.{flow_rows}
+use Rattle.bt_fenc.proofs.Named.{families_named, flow_named}
+use Rattle.bt_fenc.proofs.FlowRows.{flow_rows, steady_rows}
 use Rattle.bt_net.specs.Network.{Network, IsNetwork}
 use Rattle.bt_flow.specs.declared.property.Property.{Property}
 
@@ -43,3 +43,7 @@ numbered_is_formula at marks clauses h rows =
 -- the flow formula of a network is a formula
 pub is_formula : (n : Network) (p : Property) → IsNetwork n → IsFormula (flow_formula n p)
 is_formula n p is = numbered_is_formula (variable_of n) (length n.edges) (flow_clauses n p) (flow_named n is p) (flow_rows n is p)
+
+-- so is that of a network's steady states
+pub steady_is_formula : (n : Network) → IsNetwork n → IsFormula (steady_formula n)
+steady_is_formula n is = numbered_is_formula (variable_of n) (length n.edges) (steady_clauses n) (families_named n is) (steady_rows n is)

@@ -19,10 +19,10 @@ use Rattle.bt_fenc.specs.declared.family.Family.TheVariants as of
 use Rattle.bt_fenc.specs.declared.variables.PairVars.{PairVars}
 use Rattle.bt_fenc.specs.Columns.{edges_at, preferred_at}
 use Rattle.bt_fenc.specs.Pairs.{pair_clause, side_pairs, pairs_at}
-use Rattle.bt_fenc.specs.Families.{clauses_at, places, family_clauses, bounds, laws}
+use Rattle.bt_fenc.specs.Families.{clauses_at, places, family_clauses, bounds, laws, families}
 use Rattle.bt_fenc.specs.Properties.{unequal_clause, differ}
 use Rattle.bt_fenc.specs.Numbering.{mentioned, rows_in, literals_from, clauses_from, atoms_from, formula_of}
-use Rattle.bt_fenc.specs.FlowFormula.{flow_clauses, flow_formula, clauses_till, lower_first, variable_of}
+use Rattle.bt_fenc.specs.FlowFormula.{steady_clauses, steady_formula, flow_clauses, flow_formula, clauses_till, lower_first, variable_of}
 use Rattle.bt_fenc.specs.inner.Variables.{at_in, side_rows, side_starts, vars_till, AreVariables}
 use Rattle.bt_fenc.specs.inner.Within.{IsWithin, AreWithin}
 use Rattle.bt_fenc.proofs.Numbers.{named_within}
@@ -247,6 +247,12 @@ module _ (n : Network) where
         ap {A = List (List Lit)} {B = FormulaParts}
         (λ l. record { vars = length n.edges + length (rows_in (flow_clauses n p)); clauses = l; atoms = atoms_from (length n.edges) (rows_in (flow_clauses n p)) })
         (clauses_kept (length n.edges) (flow_clauses n p) (flow_of n is p))
+
+    pub steady_kept : IsNetwork n → formula_of (at_in v) (length n.edges) (steady_clauses n) ≡ steady_formula n
+    steady_kept is =
+        ap {A = List (List Lit)} {B = FormulaParts}
+        (λ l. record { vars = length n.edges + length (rows_in (steady_clauses n)); clauses = l; atoms = atoms_from (length n.edges) (rows_in (steady_clauses n)) })
+        (clauses_kept (length n.edges) (steady_clauses n) (all_of n is families))
 
 -- ---- clauses of rows alone
 

@@ -1,6 +1,6 @@
 -- The edges and the pairs that the claims of the flow formula name are of the network, and the variable of each
 -- pair is that of its first row.
-use Rattle.std.proofs.Common.{◌≡◌, ℕ, ◌<◌, ◌≤◌, ◌+◌, ◌⊎◌, inl, inr, Bool, true, false, Option, Some, None, List, [], ◌∷◌, ◌++◌, length, map, cond, ltb, ap, sym, ◌∙◌, refl, subst, arith, zero, suc, append_assoc, append-nil}
+use Rattle.std.proofs.Common.{◌≡◌, ℕ, ◌<◌, ◌+◌, ◌⊎◌, inl, inr, Bool, true, false, Option, Some, None, List, [], ◌∷◌, ◌++◌, length, map, cond, ltb, ap, sym, ◌∙◌, refl, subst, arith, zero, suc, append_assoc, append-nil}
 use Rattle.std.specs.List.{AllByRecursion, flat_map, range_with_len}
 use Rattle.std.proofs.lemmas.Bool.{lt-ltb, le-ltb}
 use Rattle.std.proofs.lemmas.Grind.{flat_map-append}
@@ -10,7 +10,6 @@ use Rattle.bt_net.specs.declared.network.Edge.{Edge}
 use Rattle.bt_net.specs.Network.{Network, IsNetwork, leaves, enters}
 use Rattle.bt_flow.specs.declared.property.Property.{Property}
 use Rattle.bt_flow.specs.declared.property.Property.TheVariants.{Balanced, DrawnEvenly, Unlimited, Full as FullProperty}
-use Rattle.bt_flow.specs.Ports.{numbers_where}
 use Rattle.bt_fenc.specs.declared.claim.Side.{Side}
 use Rattle.bt_fenc.specs.declared.claim.Side.TheVariants.{Out, In}
 use Rattle.bt_fenc.specs.declared.claim.Pair.{Pair}

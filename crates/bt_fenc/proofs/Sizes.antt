@@ -22,8 +22,8 @@ use Rattle.bt_fenc.specs.Columns.{input_edge, output_edge, input_edges, output_e
 use Rattle.bt_fenc.specs.Families.{clauses_at, places, family_clauses, families, even_clause, even_clauses, side_clauses, backing_clause}
 use Rattle.bt_fenc.specs.Properties.{property_clauses, loaded_clauses, open_clauses, short_clauses, unequal_clause, differ}
 use Rattle.bt_fenc.specs.Numbering.{mentioned, rows_in, clauses_from}
-use Rattle.bt_fenc.specs.FlowFormula.{flow_clauses, variable_of}
-use Rattle.bt_fenc.specs.Sizes.{FlowFormulasAreSmall}
+use Rattle.bt_fenc.specs.FlowFormula.{steady_clauses, flow_clauses, variable_of}
+use Rattle.bt_fenc.specs.Sizes.{FlowFormulasAreSmall, SteadyFormulasAreSmall}
 
 -- there are at most so many clauses, which mention at most so many rows
 pub record AreFew (clauses : List (List Claim)) (c r : ℕ) : Type 0 where
@@ -206,4 +206,13 @@ flow_formulas_small n p is =
     let rows = few.rows in
     let edges = is.few_edges in
     let same = clauses_as_many (variable_of n) (length n.edges) (flow_clauses n p) in
+    record { vars = omega (arith, rows, edges); clauses = omega (arith, count, same) }
+
+pub steady_formulas_small : SteadyFormulasAreSmall
+steady_formulas_small n is =
+    let few = each_few n is families in
+    let count = few.count in
+    let rows = few.rows in
+    let edges = is.few_edges in
+    let same = clauses_as_many (variable_of n) (length n.edges) (steady_clauses n) in
     record { vars = omega (arith, rows, edges); clauses = omega (arith, count, same) }

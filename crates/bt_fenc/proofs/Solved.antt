@@ -32,15 +32,15 @@ use Rattle.bt_fenc.specs.Families.{clauses_at, places, family_clauses, families,
 use Rattle.bt_fenc.specs.Pairs.{first_row, full, filled}
 use Rattle.bt_fenc.specs.Pairs.{loaded as has_load}
 use Rattle.bt_fenc.specs.Properties.{property_clauses, loaded_clauses, open_clauses, short_clauses, unequal_clause, differ}
-use Rattle.bt_fenc.specs.FlowFormula.{flow_clauses, variable_of}
+use Rattle.bt_fenc.specs.FlowFormula.{steady_clauses, flow_clauses, variable_of}
 use Rattle.bt_fenc.specs.Laws.{HasTrue}
-use Rattle.bt_fenc.specs.Solutions.{HasValues, MeetingBreaks}
+use Rattle.bt_fenc.specs.Solutions.{HasValues, MeetingBreaks, MeetingIsSteady}
 use Rattle.bt_fenc.proofs.Withins.{each-left, each-right, each-map, each-range, from_flat_map, from_map, at_range, in_range}
 use Rattle.bt_fenc.proofs.NetEdges.{cap_is, input_is, output_is, edge_of_input, edge_of_output}
 use Rattle.bt_fenc.proofs.RowValues.{At, AllAt, at_least_says, at_most_says, not_below_says, above_says, conserve_says, above_outputs_says}
 use Rattle.bt_fenc.proofs.Claimed.{met_claims}
 use Rattle.bt_fenc.proofs.Sides.{beside_other}
-use Rattle.bt_fenc.proofs.Named.{flow_named}
+use Rattle.bt_fenc.proofs.Named.{families_named, flow_named}
 
 never_both : (x y : Bool) → x ≡ y → x ≡ not y → ⊥
 never_both true true p q = false≢true (sym q)
@@ -354,3 +354,8 @@ module _ (n : Network) (is : IsNetwork n) (f : ℕ → Bool) (v : ℕ → Ratio)
 pub meeting_breaks : MeetingBreaks
 meeting_breaks n p assignment values s is some met has =
     breaks n is assignment values s some has p (met_claims (variable_of n) (length n.edges) (flow_clauses n p) assignment values (flow_named n is p) met)
+
+pub meeting_is_steady : MeetingIsSteady
+meeting_is_steady n assignment values s is some met has =
+    let all = each_family n is assignment values s some has (met_claims (variable_of n) (length n.edges) (steady_clauses n) assignment values (families_named n is) met) in
+    (admissible n is assignment values s some has all, steady n is assignment values s some has all)

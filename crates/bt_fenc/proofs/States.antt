@@ -35,7 +35,7 @@ over_at v d first (suc count) (w ∷ ws) h (suc i) l =
     subst (λ c. IsOver (v c) (get_or ws i (pos 0)) d) (let z : first + 1 + i ≡ first + suc i = omega arith in z) (over_at v d (first + 1) count ws h.1 i (omega arith))
 
 module _ (n : Network) (mark : ℕ → Bool) (v : ℕ → Ratio) where
-  fits : Fits n (state_at n mark v)
+  pub fits : Fits n (state_at n mark v)
   fits = record {
     flows = length-map-range_with_len v 0 (length n.edges);
     backed = length-map-range_with_len mark 0 (length n.edges);
@@ -43,13 +43,13 @@ module _ (n : Network) (mark : ℕ → Bool) (v : ℕ → Ratio) where
     rooms = length-map-range_with_len v (room_column n 0) n.outputs;
   }
 
-  lowest : ((column : ℕ) → IsLowest (v column)) → AreLowest (state_at n mark v)
+  pub lowest : ((column : ℕ) → IsLowest (v column)) → AreLowest (state_at n mark v)
   lowest low =
       let part : (first count : ℕ) → All IsLowest (map v (range_with_len first count)) = λ first count.
       all_from IsLowest (map v (range_with_len first count)) (each-map IsLowest (λ x. Unit {0}) v (range_with_len first count) (each_any (range_with_len first count)) (λ c t. low c)) in
       record { flows = part 0 (length n.edges); loads = part (load_column n 0) n.inputs; rooms = part (room_column n 0) n.outputs }
 
-  has_values : (s : Flows) → StandsFor n (state_at n mark v) s → HasValues n s mark v
+  pub has_values : (s : Flows) → StandsFor n (state_at n mark v) s → HasValues n s mark v
   has_values s stands =
       let d = s.denominator in
       record {

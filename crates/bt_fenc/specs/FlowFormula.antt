@@ -15,9 +15,13 @@ use Rattle.bt_fenc.specs.Pairs.{pair_clause}
 use Rattle.bt_fenc.specs.Properties.{property_clauses}
 use Rattle.bt_fenc.specs.Numbering.{rows_in, formula_of}
 
--- the clauses of the network's laws, family by family, and then those of the property
+-- the clauses of the network's laws, family by family
+abbrev pub steady_clauses : Network → List (List Claim)
+steady_clauses n = flat_map (family_clauses n) families
+
+-- the clauses of the network's laws, and then those of the property
 abbrev pub flow_clauses : Network → Property → List (List Claim)
-flow_clauses n p = flat_map (family_clauses n) families ++ property_clauses n p
+flow_clauses n p = steady_clauses n ++ property_clauses n p
 
 -- the clauses that stand before a place of a family, which has these families before it
 abbrev pub clauses_till : Network → List Family → Family → ℕ → List (List Claim)
@@ -44,3 +48,7 @@ variable_of n pair = length n.edges + length (rows_in (clauses_before n pair))
 -- the flow formula: variable e is the mark of edge e, true where it is backed, and the rows follow
 abbrev pub flow_formula : Network → Property → FormulaParts
 flow_formula n p = formula_of (variable_of n) (length n.edges) (flow_clauses n p)
+
+-- the formula of the network's admissible steady states, numbered in the same way
+abbrev pub steady_formula : Network → FormulaParts
+steady_formula n = formula_of (variable_of n) (length n.edges) (steady_clauses n)

@@ -1,6 +1,6 @@
 -- What follows from claims that are true, the claims that are true of steady states and of states that
 -- break a property, and what follows from a log that refutes the flow formula.
-use Rattle.std.specs.Prelude.{◌≡◌, ◌↔◌, ℕ, ◌<◌, ◌⊎◌, Bool, true, List, [], ◌∷◌, ◌++◌, pos, length, flat_map, slice_index_or}
+use Rattle.std.specs.Prelude.{◌≡◌, ◌↔◌, ℕ, ◌<◌, ◌⊎◌, Bool, true, List, [], ◌∷◌, ◌++◌, pos, length, slice_index_or}
 use Rattle.std.specs.List.{All, AllByRecursion}
 use Rattle.bt_frac.specs.Ratio.{Ratio}
 use Rattle.bt_frac.specs.Values.{RowHolds, AreValues}
@@ -17,8 +17,7 @@ use Rattle.bt_fenc.specs.declared.claim.Claim.{Claim}
 use Rattle.bt_fenc.specs.declared.claim.Claim.TheVariants.{Mark, Says, First}
 use Rattle.bt_fenc.specs.Pairs.{first_row}
 use Rattle.bt_fenc.specs.Numbering.{formula_of, AreNamed}
-use Rattle.bt_fenc.specs.Families.{family_clauses, families}
-use Rattle.bt_fenc.specs.FlowFormula.{flow_clauses, flow_formula, variable_of}
+use Rattle.bt_fenc.specs.FlowFormula.{steady_clauses, flow_clauses, flow_formula, variable_of}
 
 -- the claim is true of marks and values: the edge has this mark, the row holds, or the first row of the pair
 abbrev pub IsTrueOf : (ℕ → Bool) → (ℕ → Ratio) → Claim → Type 0
@@ -54,7 +53,7 @@ values_of s column =
 -- the marks and values of each state that is admissible and steady meet the formula of the families' clauses
 abbrev pub SteadyMeets : Type 0
 SteadyMeets = (n : Network) → IsNetwork n → (s : Flows) → IsStateOf n s → IsAdmissible n s → IsSteady n s
-    → IsMetWith (variable_of n) (length n.edges) (flat_map (family_clauses n) families) (backed_at s) (values_of s)
+    → IsMetWith (variable_of n) (length n.edges) (steady_clauses n) (backed_at s) (values_of s)
 
 -- the marks and values of each state that breaks a property meet the flow formula
 abbrev pub BreakingMeets : Type 0

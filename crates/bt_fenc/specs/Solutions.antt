@@ -6,10 +6,11 @@ use Rattle.bt_frac.specs.Values.{AreValues}
 use Rattle.bt_net.specs.Network.{Network, IsNetwork}
 use Rattle.bt_flow.specs.declared.property.Property.{Property}
 use Rattle.bt_flow.specs.States.{Flows, Fractions, IsStateOf, IsTrueOf, flow_at, backed_at, load_at, room_at}
-use Rattle.bt_flow.specs.Properties.{Breaks}
+use Rattle.bt_flow.specs.Steady.{IsSteady}
+use Rattle.bt_flow.specs.Properties.{IsAdmissible, Breaks}
 use Rattle.bt_cnf.specs.Meeting.{Meets}
 use Rattle.bt_fenc.specs.Columns.{load_column, room_column}
-use Rattle.bt_fenc.specs.FlowFormula.{flow_formula}
+use Rattle.bt_fenc.specs.FlowFormula.{flow_formula, steady_formula}
 
 -- the state has these marks, and its flows, loads and rooms are the values of their columns
 pub record HasValues (n : Network) (s : Flows) (mark : ℕ → Bool) (values : ℕ → Ratio) : Type 0 where
@@ -24,6 +25,12 @@ pub record HasValues (n : Network) (s : Flows) (mark : ℕ → Bool) (values : �
 abbrev pub MeetingBreaks : Type 0
 MeetingBreaks = (n : Network) (p : Property) (assignment : ℕ → Bool) (values : ℕ → Ratio) (s : Flows) → IsNetwork n → AreValues values
     → Meets (flow_formula n p) assignment values → HasValues n s assignment values → Breaks n p s
+
+-- where an assignment with values meets the formula of a network's steady states, each state with these marks and values
+-- is admissible and steady
+abbrev pub MeetingIsSteady : Type 0
+MeetingIsSteady = (n : Network) (assignment : ℕ → Bool) (values : ℕ → Ratio) (s : Flows) → IsNetwork n → AreValues values
+    → Meets (steady_formula n) assignment values → HasValues n s assignment values → IsAdmissible n s × IsSteady n s
 
 -- the state of marks and values: a mark and a flow for each edge, a load for each input, a room for each output
 abbrev pub state_at : Network → (ℕ → Bool) → (ℕ → Ratio) → Fractions

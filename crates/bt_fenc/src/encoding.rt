@@ -1,11 +1,12 @@
 //! The flow formula of a network and a property.
-ghost use Rattle.std.specs.Prelude.{◌≡◌, OnOk, IfOk, flat_map};
+ghost use Rattle.std.specs.Prelude.{◌≡◌, OnOk, IfOk, flat_map, length};
 ghost use Rattle.bt_net.specs.Network.{IsNetwork};
 ghost use Rattle.bt_flow.specs.Ports.{ArePorts};
 ghost use Rattle.bt_fenc.specs.Families.{family_clauses};
-ghost use Rattle.bt_fenc.specs.FlowFormula.{flow_formula};
+ghost use Rattle.bt_fenc.specs.FlowFormula.{flow_formula, steady_formula, steady_clauses};
+ghost use Rattle.bt_fenc.specs.Numbering.{formula_of};
 ghost use Rattle.bt_fenc.specs.inner.Adding.{with_clauses};
-ghost use Rattle.bt_fenc.specs.inner.Variables.{at_in};
+ghost use Rattle.bt_fenc.specs.inner.Variables.{at_in, AreVariables};
 ghost use Rattle.bt_fenc.specs.inner.Within.{AreWithin};
 
 use crate::families::{add_at, places};
@@ -58,6 +59,20 @@ fn write_families(
     Ok(())
 }
 
+/// The clauses of a network's laws, numbered by these variables.
+fn laws_of(alloc: Global, net: &Net, ports: &Ports, pairs: &PairVars) -> Result<Formula, AllocError>
+    requires ports { ArePorts net.now ports.now }
+    requires variables { AreVariables net.now pairs.now }
+    ensures formula { IfOk result (λ formula. formula
+        ≡ formula_of (at_in pairs.now) (length net.now.edges) (steady_clauses net.now)) }
+    ensures network { IsNetwork net.now }
+{
+    let mut formula = Formula::new(alloc, net.edges().len())?;
+    write_families(alloc, net, ports, pairs, &mut formula, &NAMELESS)?;
+    write_families(alloc, net, ports, pairs, &mut formula, &LAWS)?;
+    Ok(formula)
+}
+
 /// The flow formula of a network and a property. Its variables are the marks of the edges, true where
 /// an edge is backed, and then an atom for each mention of a row; the first row of a pair is one atom
 /// wherever it is mentioned. The rows' columns are the flows of the edges, the loads of the inputs and
@@ -68,9 +83,19 @@ pub fn encode(alloc: Global, net: &Net, property: Property) -> Result<Formula, A
 {
     let ports = Ports::of(net);
     let pairs = PairVars::of(alloc, net, &ports)?;
-    let mut formula = Formula::new(alloc, net.edges().len())?;
-    write_families(alloc, net, &ports, &pairs, &mut formula, &NAMELESS)?;
-    write_families(alloc, net, &ports, &pairs, &mut formula, &LAWS)?;
+    let mut formula = laws_of(alloc, net, &ports, &pairs)?;
     add_property(alloc, net, &ports, &pairs, &mut formula, property)?;
+    Ok(formula)
+}
+
+/// The formula of a network's admissible steady states: the flow formula without a property. Its variables and
+/// columns are numbered in the same way.
+pub fn encode_steady(alloc: Global, net: &Net) -> Result<Formula, AllocError>
+    ensures formula { IfOk result (λ formula. formula ≡ steady_formula net.now) }
+    ensures network { IsNetwork net.now }
+{
+    let ports = Ports::of(net);
+    let pairs = PairVars::of(alloc, net, &ports)?;
+    let formula = laws_of(alloc, net, &ports, &pairs)?;
     Ok(formula)
 }

@@ -1,7 +1,7 @@
 //! Laws of the flow formula, as contracts of functions that do nothing.
 ghost use Rattle.bt_fenc.specs.Laws.{TrueClaimsMeet, SteadyMeets, BreakingMeets, RefutedHolds};
-ghost use Rattle.bt_fenc.specs.Solutions.{MeetingBreaks};
-ghost use Rattle.bt_fenc.specs.Sizes.{FlowFormulasAreSmall};
+ghost use Rattle.bt_fenc.specs.Solutions.{MeetingBreaks, MeetingIsSteady};
+ghost use Rattle.bt_fenc.specs.Sizes.{FlowFormulasAreSmall, SteadyFormulasAreSmall};
 
 /// Marks and values of which each clause has a true claim give an assignment, which begins with the marks
 /// and meets the formula of the clauses with the values. So nothing is lost by the numbering.
@@ -37,4 +37,15 @@ pub fn refuted_holds()
 /// are short in a text.
 pub fn flow_formulas_are_small()
     ensures { FlowFormulasAreSmall }
+{}
+
+/// Each state whose marks and values are those of an assignment that meets the formula of a network's steady states
+/// is admissible and steady. So that formula is met by nothing but such states.
+pub fn meeting_is_steady()
+    ensures { MeetingIsSteady }
+{}
+
+/// The same of the formulas of networks' steady states.
+pub fn steady_formulas_are_small()
+    ensures { SteadyFormulasAreSmall }
 {}

@@ -3,6 +3,7 @@ use Rattle.std.proofs.Common.{◌≡◌, ℕ, ◌<◌, ◌≤◌, ◌+◌, Bool,
 use Rattle.std.proofs.lemmas.Bool.{false≢true, cases_lt, cases_eq}
 use Rattle.bt_net.specs.Network.{Network}
 use Rattle.bt_flow.specs.declared.property.Property.{Property}
+use Rattle.bt_flow.specs.declared.property.Property.TheVariants.{Unlimited}
 use Rattle.bt_flow.specs.declared.judgement.Test.{Test}
 use Rattle.bt_flow.specs.declared.judgement.Test.TheVariants as test
 use Rattle.bt_flow.specs.declared.judgement.Judgement.{Judgement}
@@ -10,10 +11,10 @@ use Rattle.bt_flow.specs.declared.judgement.Judgement.TheVariants.{Passes, Fails
 use Rattle.bt_flow.specs.declared.judgement.WideSum.{WideSum}
 use Rattle.bt_flow.specs.States.{Flows, Fractions, StandsFor}
 use Rattle.bt_flow.specs.Steady.{IsSteady}
-use Rattle.bt_flow.specs.Properties.{Breaks}
+use Rattle.bt_flow.specs.Properties.{IsAdmissible, Breaks}
 use Rattle.bt_flow.specs.Tests.{order_of, places, PassesAt, IsAmong, IsEarlier, FailsFirst}
 use Rattle.bt_flow.specs.Sums.{sums_of, AllFit, IsFirstWide}
-use Rattle.bt_flow.specs.Judging.{IsWideSum, JudgesSteady, JudgesBreaking, NeedsFit, IsBreakingAnswer, IsSteadyAnswer}
+use Rattle.bt_flow.specs.Judging.{IsWideSum, JudgesSteady, JudgesBreaking, JudgesState, NeedsFit, IsBreakingAnswer, IsSteadyAnswer, IsStateAnswer}
 use Rattle.bt_flow.specs.inner.Trials.{Subject, IsTestedAt, IsClear, FailsAt, IsWideAt, IsJudged}
 
 pub clear_more : (x : Subject) (u : Test) (place : ℕ) → ((a : ℕ) → a < place → IsClear x u a) → IsClear x u place → (a : ℕ) → a < place + 1 → IsClear x u a
@@ -264,3 +265,20 @@ pub steady_answer : (n : Network) (p : Property) (t : Fractions) (r : Result Jud
     → IsJudged (record { network = n; property = p; state = t }) 2 10 r → IsSteadyAnswer n t r
 steady_answer n p t (Ok j) some h = (record { some = some; each = judges_steady _ j h }, λ q. fit_alone n p q t j (needs_fit _ 2 10 j h))
 steady_answer n p t (Err w) some h = λ q. wide_alone n p q t w h
+
+-- a judgement of loads, rooms and the laws is a right answer of `admissible_steady`
+passed_state : (n : Network) (t : Fractions) (s : Flows) → StandsFor n t s → IsJudged (record { network = n; property = Unlimited; state = t }) 0 10 (Ok Passes) → IsAdmissible n s × IsSteady n s
+passed_state n t s g h =
+    let passes : (u : Test) (b : ℕ) → order_of u ≤ 10 → b < places n u → PassesAt n Unlimited s u b = λ u b l q. (h u b (omega arith, l) q).passes s g in (
+      record { loads = λ i l. (passes test.Load i (lit≤ tt) l).0; rooms = λ i l. (passes test.Room i (lit≤ tt) l).0 },
+      steady_from n Unlimited s (λ u b low high q. passes u b high q),
+    )
+
+judges_state : (n : Network) (t : Fractions) (j : Judgement) → IsJudged (record { network = n; property = Unlimited; state = t }) 0 10 (Ok j) → (s : Flows) → StandsFor n t s → JudgesState n j s
+judges_state n t Passes h s g = passed_state n t s g h
+judges_state n t (Fails v a) h s g = first_fails _ s 0 10 v a g h
+
+pub state_answer : (n : Network) (t : Fractions) (r : Result Judgement WideSum) → (s : Flows) × StandsFor n t s
+    → IsJudged (record { network = n; property = Unlimited; state = t }) 0 10 r → IsStateAnswer n t r
+state_answer n t (Ok j) some h = (record { some = some; each = judges_state n t j h }, needs_fit _ 0 10 j h)
+state_answer n t (Err w) some h = h

@@ -1,6 +1,6 @@
 -- There is one right answer.
 use Rattle.std.proofs.Common.{◌≡◌, ℕ, ◌<◌, ◌≤◌, ◌⊎◌, inl, inr, sym, subst, refl, ap, ◌∙◌, arith, Result, Ok, Err}
-use Rattle.std.proofs.lemmas.Bool.{cases_order}
+use Rattle.std.proofs.lemmas.Bool.{cases_order, false≢true}
 use Rattle.bt_net.specs.Network.{Network}
 use Rattle.bt_flow.specs.declared.property.Property.{Property}
 use Rattle.bt_flow.specs.declared.property.Property.TheVariants.{Unlimited}
@@ -11,11 +11,11 @@ use Rattle.bt_flow.specs.declared.judgement.Judgement.TheVariants.{Passes, Fails
 use Rattle.bt_flow.specs.declared.judgement.WideSum.{WideSum}
 use Rattle.bt_flow.specs.States.{Flows, Fractions, StandsFor}
 use Rattle.bt_flow.specs.Steady.{IsSteady}
-use Rattle.bt_flow.specs.Properties.{Breaks}
+use Rattle.bt_flow.specs.Properties.{IsAdmissible, Breaks}
 use Rattle.bt_flow.specs.Tests.{order_of, places, PassesAt, IsAmong, IsEarlier, FailsFirst}
 use Rattle.bt_answers.specs.Answers.{HasOneAnswer}
 use Rattle.bt_flow.specs.Sums.{sums_of, IsFirstWide}
-use Rattle.bt_flow.specs.Judging.{JudgesBreaking, JudgesSteady, NeedsFit, IsWideSum, IsBreakingAnswer, IsSteadyAnswer}
+use Rattle.bt_flow.specs.Judging.{JudgesBreaking, JudgesSteady, JudgesState, NeedsFit, IsWideSum, IsBreakingAnswer, IsSteadyAnswer, IsStateAnswer}
 use Rattle.bt_flow.proofs.Judged.{same_order}
 use Rattle.bt_flow.proofs.OneWide.{one_first_wide, all_fit_or_wide}
 
@@ -155,3 +155,35 @@ pub one_steady_answer : (n : Network) (t : Fractions) → HasOneAnswer (IsSteady
 one_steady_answer n t x y h k =
     let some = steady_some n t x h in
     one_answer n Unlimited t some.0 some.1 2 10 x y (steady_answers n t some.0 some.1 x h) (steady_answers n t some.0 some.1 y k)
+
+state_passes : (n : Network) (s : Flows) → IsAdmissible n s × IsSteady n s → (u : Test) (b : ℕ) → order_of u ≤ 10 → b < places n u → PassesAt n Unlimited s u b
+state_passes n s h test.Load b high l = (h.0.loads b l, λ asks. absurd (false≢true asks))
+state_passes n s h test.Room b high l = (h.0.rooms b l, λ asks. absurd (false≢true asks))
+state_passes n s h test.Range b high l = h.1.range b l
+state_passes n s h test.Conserve b high l = h.1.conserve b l
+state_passes n s h test.EvenOut b high l = h.1.even_out b l
+state_passes n s h test.EvenIn b high l = h.1.even_in b l
+state_passes n s h test.PriorOut b high l = h.1.prior_out b l
+state_passes n s h test.PriorIn b high l = h.1.prior_in b l
+state_passes n s h test.Backing b high l = h.1.backing b l
+state_passes n s h test.Input b high l = h.1.input b l
+state_passes n s h test.Output b high l = h.1.output b l
+state_passes n s h test.Conclusion b high l = absurd (omega (arith, high))
+
+state_says : (n : Network) (s : Flows) (j : Judgement) → JudgesState n j s → Says n Unlimited s 0 10 j
+state_says n s Passes h = λ u b m l. state_passes n s h u b m.1 l
+state_says n s (Fails t a) h = h
+
+state_answers : (n : Network) (t : Fractions) (s : Flows) → StandsFor n t s → (x : Result Judgement WideSum) → IsStateAnswer n t x → Answers n Unlimited t s 0 10 x
+state_answers n t s g (Ok j) h = (state_says n s j (h.0.each s g), h.1)
+state_answers n t s g (Err w) h = h
+
+pub state_some : (n : Network) (t : Fractions) (x : Result Judgement WideSum) → IsStateAnswer n t x → (s : Flows) × StandsFor n t s
+state_some n t (Ok j) h = h.0.some
+state_some n t (Err w) h = h.earlier.some
+
+-- `admissible_steady` has one right answer
+pub one_state_answer : (n : Network) (t : Fractions) → HasOneAnswer (IsStateAnswer n t)
+one_state_answer n t x y h k =
+    let some = state_some n t x h in
+    one_answer n Unlimited t some.0 some.1 0 10 x y (state_answers n t some.0 some.1 x h) (state_answers n t some.0 some.1 y k)

@@ -2,6 +2,7 @@
 use Rattle.std.specs.Prelude.{Result, Ok, Err, ◌≡◌, ℕ, ◌<◌, ◌⊎◌, ⊤}
 use Rattle.bt_net.specs.Network.{Network}
 use Rattle.bt_flow.specs.declared.property.Property.{Property}
+use Rattle.bt_flow.specs.declared.property.Property.TheVariants.{Unlimited}
 use Rattle.bt_flow.specs.declared.judgement.TheConstants.{FIRST_LAW, LAST_LAW, LAST_TEST}
 use Rattle.bt_flow.specs.declared.judgement.Test.{Test}
 use Rattle.bt_flow.specs.declared.judgement.Judgement.{Judgement}
@@ -9,7 +10,7 @@ use Rattle.bt_flow.specs.declared.judgement.Judgement.TheVariants.{Passes, Fails
 use Rattle.bt_flow.specs.declared.judgement.WideSum.{WideSum}
 use Rattle.bt_flow.specs.States.{Flows, Fractions, IsTrueOf}
 use Rattle.bt_flow.specs.Steady.{IsSteady}
-use Rattle.bt_flow.specs.Properties.{Breaks}
+use Rattle.bt_flow.specs.Properties.{IsAdmissible, Breaks}
 use Rattle.bt_flow.specs.Tests.{places, IsAmong, IsEarlier, PassesUpTo, FailsFirst}
 use Rattle.bt_flow.specs.Sums.{sums_of, AllFit, IsFirstWide}
 
@@ -54,3 +55,14 @@ IsBreakingAnswer n p t (Err w) = IsWideSum n p t 0 LAST_TEST w
 abbrev pub IsSteadyAnswer : Network → Fractions → Result Judgement WideSum → Type 0
 IsSteadyAnswer n t (Ok j) = IsTrueOf n t (JudgesSteady n j) × ((p : Property) → NeedsFit n p t FIRST_LAW LAST_LAW j)
 IsSteadyAnswer n t (Err w) = (p : Property) → IsWideSum n p t FIRST_LAW LAST_LAW w
+
+-- the judgement is that of the tests of loads and rooms and of the nine laws: they pass, and the state is admissible and
+-- steady; or this test is the first that fails, at this place. `unlimited` asks nothing of loads and rooms.
+abbrev pub JudgesState : Network → Judgement → Flows → Type 0
+JudgesState n Passes s = IsAdmissible n s × IsSteady n s
+JudgesState n (Fails t a) s = FailsFirst n Unlimited s 0 LAST_LAW t a
+
+-- the right answer of `admissible_steady`: the same for these tests
+abbrev pub IsStateAnswer : Network → Fractions → Result Judgement WideSum → Type 0
+IsStateAnswer n t (Ok j) = IsTrueOf n t (JudgesState n j) × NeedsFit n Unlimited t 0 LAST_LAW j
+IsStateAnswer n t (Err w) = IsWideSum n Unlimited t 0 LAST_LAW w

@@ -1,8 +1,9 @@
-//! The two questions that are asked of a state: whether it is steady, and whether it breaks a property.
+//! The questions that are asked of a state: whether it is steady, whether it is admissible too, and whether it breaks a
+//! property.
 ghost use Rattle.std.specs.Prelude.{◌<◌, ◌≤◌};
 ghost use Rattle.bt_answers.specs.Answers.{AnswersAlways};
 ghost use Rattle.bt_flow.specs.States.{Fits, Flows, StandsFor};
-ghost use Rattle.bt_flow.specs.Judging.{IsSteadyAnswer, IsBreakingAnswer};
+ghost use Rattle.bt_flow.specs.Judging.{IsSteadyAnswer, IsStateAnswer, IsBreakingAnswer};
 ghost use Rattle.bt_flow.specs.inner.Trials.{IsJudged};
 
 use crate::judgement::{FIRST_LAW, Judgement, LAST_LAW, LAST_TEST, TESTS, WideSum};
@@ -23,6 +24,16 @@ pub fn steady(net: &Net, state: &State) -> Result<Judgement, WideSum>
         FIRST_LAW,
         LAST_LAW,
     )
+}
+
+/// Whether a state is admissible and steady, or the first test that fails, of loads, rooms and the nine laws, and its
+/// first place. A sum that leaves 128 bits before that is named by the two numbers of its addition.
+pub fn admissible_steady(net: &Net, state: &State) -> Result<Judgement, WideSum>
+    requires { Fits net.now state.now }
+    ensures { AnswersAlways (IsStateAnswer net.now state.now) result }
+{
+    // This property asks nothing of loads and rooms.
+    judge(&Trial::new(net, Property::Unlimited, state), 0, LAST_LAW)
 }
 
 /// Whether a state breaks a property, or the first test that fails and its first place. A sum that

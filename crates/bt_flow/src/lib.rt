@@ -17,7 +17,7 @@ mod theorems;
 mod trial;
 
 pub use fault::StateFault;
-pub use judge::{breaks, steady};
+pub use judge::{admissible_steady, breaks, steady};
 pub use judgement::{FIRST_LAW, Judgement, LAST_LAW, LAST_TEST, TESTS, Test, WideSum};
 pub use ports::{Port, Ports, Role};
 pub use printing::{print_state, printed_state_is_read};

@@ -1,0 +1,71 @@
+//! The formula of two networks.
+ghost use Rattle.std.specs.Prelude.{◌≡◌, IfOk, OnOk};
+ghost use Rattle.bt_net.specs.Network.{IsNetwork};
+ghost use Rattle.bt_cnf.specs.Formulas.{IsFormula};
+ghost use Rattle.bt_fenc.specs.FlowFormula.{steady_formula};
+ghost use Rattle.bt_same.specs.Sameness.{HaveEqualEnds};
+ghost use Rattle.bt_same.specs.SameFormula.{same_formula};
+ghost use Rattle.bt_same.specs.inner.Joining.{networks_formula};
+
+use crate::difference::add_difference;
+use crate::joining::{add_clauses, add_rows};
+use crate::shift::Shift;
+use bt_cnf::Formula;
+use bt_fenc::encode_steady;
+use bt_net::Net;
+use std::alloc::{AllocError, Global};
+
+/// The formulas of the steady states of two networks, side by side.
+fn side_by_side(
+    alloc: Global,
+    first: &Net,
+    second: &Net,
+    of_first: &Formula,
+    of_second: &Formula,
+) -> Result<Formula, AllocError>
+    requires first { of_first.now ≡ steady_formula first.now }
+    requires second { of_second.now ≡ steady_formula second.now }
+    ensures { IfOk result (λ formula. formula ≡ networks_formula first.now second.now) }
+{
+    let edges = first.edges().len();
+    let more = second.edges().len();
+    let first_shift = Shift {
+        edges,
+        near: 0,
+        far: more,
+    };
+    let second_columns = Shift {
+        edges: more,
+        near: edges,
+        far: edges,
+    };
+    let second_vars = Shift {
+        edges: more,
+        near: edges,
+        far: of_first.vars(),
+    };
+    let mut formula = Formula::new(alloc, edges + more)?;
+    add_rows(alloc, &mut formula, of_first, first_shift)?;
+    add_rows(alloc, &mut formula, of_second, second_columns)?;
+    add_clauses(alloc, &mut formula, of_first, first_shift)?;
+    add_clauses(alloc, &mut formula, of_second, second_vars)?;
+    Ok(formula)
+}
+
+/// The formula of two networks, which is met by just the pairs of steady states with equal loads and rooms in which
+/// the flow of some output differs. Its columns are the flows of the first network, those of the second, the loads and
+/// the rooms. Its variables are the marks of the first, those of the second, and the atoms in the order of mention.
+pub fn encode_same(alloc: Global, first: &Net, second: &Net) -> Result<Formula, AllocError>
+    requires { HaveEqualEnds first.now second.now }
+    ensures formula { IfOk result (λ formula. formula ≡ same_formula first.now second.now) }
+    ensures known { IfOk result IsFormula }
+    ensures networks { OnOk result (IsNetwork first.now × IsNetwork second.now) }
+{
+    let of_first = encode_steady(alloc, first)?;
+    let of_second = encode_steady(alloc, second)?;
+    let mut formula = side_by_side(alloc, first, second, &of_first, &of_second)?;
+    add_difference(alloc, first, second, &mut formula)?;
+    // It is known as a formula by this call.
+    let _vars = formula.vars();
+    Ok(formula)
+}

@@ -1,0 +1,12 @@
+//! Whether two networks behave the same: the formula of the pairs of steady states that show a difference.
+#![tactic(auto)]
+
+mod difference;
+mod encoding;
+mod joining;
+mod law;
+mod shift;
+
+pub use encoding::encode_same;
+pub use law::{meeting_shows, refuted_are_same, same_exactly, showing_meets};
+pub use std::alloc::AllocError as Memory;
