@@ -6,3 +6,5 @@ pub mod Meeting
 pub mod Showing
 pub mod Decided
 pub mod Refuted
+pub mod Pairs
+pub mod Judged

@@ -1,5 +1,6 @@
 pub mod Sameness
 pub mod Pairs
+pub mod Judging
 pub mod SameFormula
 pub mod Laws
 pub mod inner
