@@ -8,3 +8,4 @@ pub mod Answering
 mod Ranks
 pub mod Passed
 pub mod Passing
+mod Smaller

@@ -3,4 +3,6 @@ pub mod Laws
 pub mod Grids
 pub mod Smallest
 pub mod SmallestText
+pub mod Early
+pub mod Small
 pub mod inner

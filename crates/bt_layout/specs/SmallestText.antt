@@ -1,4 +1,4 @@
--- The text of what a search for the least grid comes to.
+-- The text of what a search for the least grid comes to, and one for small grids.
 use Rattle.std.specs.Prelude.{ℕ, List, [], ◌++◌, codes, decimal, length}
 use Rattle.std.specs.List.{flat_map}
 use Rattle.bt_text.specs.Lines.{line}
@@ -7,6 +7,8 @@ use Rattle.bt_log.specs.Logs.{Step}
 use Rattle.bt_log.specs.LogText.{log_text}
 use Rattle.bt_write.specs.Written.{blueprint_text}
 use Rattle.bt_layout.specs.declared.outcome.RuledOut.{RuledOut}
+use Rattle.bt_layout.specs.declared.outcome.Small.{Small}
+use Rattle.bt_layout.specs.declared.outcome.Small.TheVariants as small
 use Rattle.bt_layout.specs.declared.outcome.Smallest.{Smallest}
 use Rattle.bt_layout.specs.declared.outcome.Smallest.TheVariants.{Found, Nowhere, Spent}
 
@@ -45,3 +47,17 @@ abbrev pub smallest_text : Smallest → List ℕ
 smallest_text (Found earlier grid parts) = earlier_text earlier.items ++ grid_line grid ++ blueprint_text parts.items
 smallest_text (Nowhere earlier) = earlier_text earlier.items
 smallest_text (Spent earlier grid log) = spent_on_text grid log.steps
+
+-- the blueprint of the parts that are found on a small grid; else nothing
+abbrev pub blueprint_of_small : Small → List ℕ
+blueprint_of_small (small.Found grid parts) = blueprint_text parts.items
+blueprint_of_small (small.Spent steps) = []
+
+-- that none is found in so many steps: `spent` and their number, and `end`
+abbrev pub found_none_text : ℕ → List ℕ
+found_none_text steps = line (codes "spent " ++ decimal steps) ++ line (codes "end")
+
+-- the text of a search for small grids: the line of the grid of the parts, and their blueprint; or that none is found
+abbrev pub small_text : Small → List ℕ
+small_text (small.Found grid parts) = grid_line grid ++ blueprint_text parts.items
+small_text (small.Spent steps) = found_none_text steps

@@ -2,3 +2,4 @@
 pub mod Ends
 pub mod Ranks
 pub mod Passing
+pub mod Progressing

@@ -66,7 +66,7 @@ fn layout_on(
 }
 
 /// The request for the network on this grid.
-fn request_on(alloc: Global, net: &Net, tier: Tier, grid: Rect) -> Result<Request, AllocError>
+pub fn request_on(alloc: Global, net: &Net, tier: Tier, grid: Rect) -> Result<Request, AllocError>
     requires request { IsRequest (request_on net.now tier grid) }
     requires plain { HasNoPriorities net.now }
     ensures { IfOk result (λ request. request ≡ request_on net.now tier grid) }

@@ -1,20 +1,25 @@
-//! Layouts: parts that lay a request, or a log that shows that there are none; and the least grid on which parts show a
-//! network.
+//! Layouts: parts that lay a request, or a log that shows that there are none; the least grid on which parts show a
+//! network; and small grids on which parts that show it are found.
 #![tactic(auto)]
 
+mod early;
 mod law;
 mod least;
 mod order;
 mod outcome;
 mod printing;
+mod progress;
 mod searching;
+mod small;
 
+pub use early::lay_early;
 pub use law::{
     laid_is_read_back, nowhere_is_certificate, passed_has_no_layout, refuted_has_no_layout,
 };
 pub use least::smallest;
 pub use order::grids;
-pub use outcome::{Layout, RuledOut, Smallest};
-pub use printing::{blueprint_of, print_none, print_smallest};
+pub use outcome::{Early, Layout, RuledOut, Small, Smallest};
+pub use printing::{blueprint_of, blueprint_of_small, print_none, print_small, print_smallest};
 pub use searching::layout;
+pub use small::find_small;
 pub use std::alloc::AllocError as Memory;

@@ -1,4 +1,4 @@
-//! What a search for a layout of a request comes to, and a search for the least grid.
+//! What a search for a layout comes to: of a request, of one of several, on the least grid, and on small ones.
 use bt_log::Log;
 use bt_parts::{Part, Rect};
 
@@ -40,4 +40,22 @@ pub enum Smallest {
         grid: Rect,
         log: Log,
     },
+}
+
+/// What looking for a layout of one of several requests comes to.
+#[derive(Drop)]
+pub enum Early {
+    /// The parts lay the request at this place. They come in ascending order of y and then x of their cells.
+    Laid { place: usize, parts: Vec<Part> },
+    /// None was found in so many steps.
+    Spent(u64),
+}
+
+/// What looking for small layouts of a network comes to.
+#[derive(Drop)]
+pub enum Small {
+    /// The parts show the network on this grid. They come in ascending order of y and then x of their cells.
+    Found { grid: Rect, parts: Vec<Part> },
+    /// None was found in so many steps.
+    Spent(u64),
 }

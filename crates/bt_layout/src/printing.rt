@@ -1,11 +1,12 @@
-//! Writing what a search for the least grid comes to, line by line, without memory.
+//! Writing what a search for the least grid comes to, and one for small grids, line by line, without memory.
 ghost use Rattle.std.specs.Prelude.{◌≡◌, ◌++◌, IfOk};
 ghost use Rattle.bt_io.specs.Bytes.{WritesText};
 ghost use Rattle.bt_io.specs.Passages.{passage};
 ghost use Rattle.bt_layout.specs.SmallestText.{blueprint_of, earlier_text, grid_line, nowhere_text};
 ghost use Rattle.bt_layout.specs.SmallestText.{ruled_out_text, smallest_text, spent_on_text};
+ghost use Rattle.bt_layout.specs.SmallestText.{blueprint_of_small, found_none_text, small_text};
 
-use crate::outcome::{RuledOut, Smallest};
+use crate::outcome::{RuledOut, Small, Smallest};
 use bt_io::{Sink, WriteFault, write_all_of, write_pieces};
 use bt_log::Log;
 use bt_parts::Rect;
@@ -38,6 +39,41 @@ pub fn print_smallest<K: Sink>(
         Smallest::Nowhere(earlier) => print_earlier(earlier, sink),
         Smallest::Spent { grid, log, .. } => print_spent(*grid, log, sink),
     }
+}
+
+/// The blueprint of the parts that were found on a small grid; else nothing.
+pub fn blueprint_of_small(alloc: Global, small: &Small) -> Result<Vec<u8>, AllocError>
+    ensures { IfOk result (λ text. text.items ≡ blueprint_of_small small.now) }
+{
+    match small {
+        Small::Found { parts, .. } => bt_write::text_of(alloc, parts),
+        Small::Spent(_) => Ok(Vec::new(alloc)),
+    }
+}
+
+/// Writes the text of what looking for small layouts comes to, where this is the blueprint of the parts that
+/// were found.
+///
+/// Where the sink fails, which its count of faults shows, a proper prefix of the text was written.
+pub fn print_small<K: Sink>(small: &Small, blueprint: &[u8], sink: &mut K) -> Result<(), WriteFault>
+    requires { blueprint.now ≡ blueprint_of_small small.now }
+    ensures { WritesText (passage K.held K.faults sink.old sink.new) (small_text small.now) result }
+{
+    match small {
+        Small::Found { grid, .. } => print_found(&[], *grid, blueprint, sink),
+        Small::Spent(steps) => print_found_none(*steps, sink),
+    }
+}
+
+/// Writes that none was found in so many steps.
+fn print_found_none<K: Sink>(steps: u64, sink: &mut K) -> Result<(), WriteFault>
+    ensures { WritesText (passage K.held K.faults sink.old sink.new) (found_none_text steps) result }
+{
+    let mut buffer = Buffer::new();
+    write_pieces(
+        sink,
+        &[b"spent ", buffer.format(steps).as_bytes(), b"\nend\n"],
+    )
 }
 
 /// Writes the certificate that no layout lays a request.

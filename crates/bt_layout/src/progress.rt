@@ -2,10 +2,11 @@
 ghost use Rattle.std.specs.Prelude.{◌≡◌, ◌≤◌, ◌<◌, ℕ, List, IfOk, length};
 ghost use Rattle.bt_model.specs.Requests.{LayoutRequest};
 ghost use Rattle.bt_layout.specs.Layouts.{IsLayout};
-ghost use Rattle.bt_early.specs.Early.{IsLaid};
-ghost use Rattle.bt_early.specs.inner.Progressing.{IsProgress, IsSearched, at_index};
+ghost use Rattle.bt_layout.specs.Early.{IsLaid};
+ghost use Rattle.bt_layout.specs.inner.Progressing.{IsProgress, IsSearched, at_index};
 
-use bt_layout::{Layout, layout};
+use crate::outcome::Layout;
+use crate::searching::layout;
 use bt_model::Request;
 use bt_parts::Part;
 use bt_sat::Highest;

@@ -1,5 +1,5 @@
-use Rattle.bt_early.specs.inner.Progressing.{IsProgress}
-use Rattle.bt_early.proofs.early.lay_early.Given as goal
+use Rattle.bt_layout.specs.inner.Progressing.{IsProgress}
+use Rattle.bt_layout.proofs.early.lay_early.Given as goal
 
 -- what was found lays its request
 abbrev pub invariant-loop-round : goal.invariant-loop-round

@@ -5,8 +5,8 @@ use Rattle.bt_parts.specs.declared.part.Part.{Part}
 use Rattle.bt_model.specs.Laying.{Lays}
 use Rattle.bt_model.specs.Requests.{LayoutRequest}
 use Rattle.bt_decode.specs.Solutions.{ComesAbove}
-use Rattle.bt_early.specs.declared.outcome.Early.{Early}
-use Rattle.bt_early.specs.declared.outcome.Early.TheVariants.{Laid, Spent}
+use Rattle.bt_layout.specs.declared.outcome.Early.{Early}
+use Rattle.bt_layout.specs.declared.outcome.Early.TheVariants.{Laid, Spent}
 
 -- the parts lay the request at this place of the list, and come in ascending order of y and then x
 pub record IsLaid (requests : List LayoutRequest) (place : ℕ) (parts : Vec Part Global) : Type 0 where

@@ -1,6 +1,6 @@
 use Rattle.std.proofs.Common.{◌≤◌, length}
-use Rattle.bt_early.specs.inner.Progressing.{IsProgress}
-use Rattle.bt_early.proofs.early.after_round.Given as goal
+use Rattle.bt_layout.specs.inner.Progressing.{IsProgress}
+use Rattle.bt_layout.proofs.early.after_round.Given as goal
 
 -- the places before this one are still to be looked at
 abbrev pub invariant-loop-place : goal.invariant-loop-place

@@ -1,10 +1,16 @@
 -- What was found so far, and what is left.
-use Rattle.std.specs.Prelude.{◌≡◌, ℕ, ◌<◌, List, All, IfSome, get_or, length}
+use Rattle.std.specs.Prelude.{◌≡◌, ℕ, ◌<◌, List, All, IfSome, Option, get_or, length}
+use Rattle.bt_parts.specs.declared.part.Rect.{Rect}
+use Rattle.bt_parts.specs.declared.part.Tier.{Tier}
+use Rattle.bt_net.specs.Network.{Network}
 use Rattle.bt_model.specs.Requests.{LayoutRequest}
 use Rattle.bt_layout.specs.declared.outcome.Layout.{Layout}
 use Rattle.bt_layout.specs.declared.outcome.Layout.TheVariants.{Found, Nowhere, Spent}
-use Rattle.bt_early.specs.declared.progress.Progress.{Progress}
-use Rattle.bt_early.specs.Early.{IsLaid}
+use Rattle.bt_layout.specs.declared.progress.Progress.{Progress}
+use Rattle.bt_layout.specs.Early.{IsLaid}
+use Rattle.bt_layout.specs.Grids.{IsWithin}
+use Rattle.bt_layout.specs.Small.{HasFewer}
+use Rattle.bt_layout.specs.Smallest.{request_on}
 
 -- each place that is open is one of the list, and the parts that were found lay the request at their place
 pub record IsProgress (requests : List LayoutRequest) (progress : Progress) : Type 0 where
@@ -20,3 +26,7 @@ abbrev pub IsSearched : List LayoutRequest → Progress → ℕ → Layout → T
 IsSearched requests progress at (Found parts) = IsLaid requests (at_index progress at) parts
 IsSearched requests progress at (Nowhere log) = Unit {0}
 IsSearched requests progress at (Spent log) = Unit {0}
+
+-- the request is for the network on a grid that is within the greatest one and has fewer cells than so many
+abbrev pub AsksSmall : Network → Tier → Rect → Option ℕ → LayoutRequest → Type 0
+AsksSmall net tier most cells request = (grid : Rect) × IsWithin most grid × HasFewer cells grid × (request ≡ request_on net tier grid)

@@ -1,8 +1,8 @@
 //! Rounds of searches, each of which goes from the back of the list to its front.
 ghost use Rattle.std.specs.Prelude.{List, IfOk};
 ghost use Rattle.bt_model.specs.Requests.{LayoutRequest};
-ghost use Rattle.bt_early.specs.Early.{IsEarly};
-ghost use Rattle.bt_early.specs.inner.Progressing.{IsProgress};
+ghost use Rattle.bt_layout.specs.Early.{IsEarly};
+ghost use Rattle.bt_layout.specs.inner.Progressing.{IsProgress};
 
 use crate::outcome::Early;
 use crate::progress::{Progress, begun, looked};

@@ -1,2 +1,0 @@
--- Definitions that private functions alone cite.
-pub mod Progressing
