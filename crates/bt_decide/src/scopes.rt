@@ -1,7 +1,9 @@
-//! The scopes of a flow formula: for each splitter the rows that speak of its edges alone.
+//! The scopes of a flow formula: for each splitter the rows that speak of its edges alone, and one of all rows that
+//! compare flows.
 //!
 //! What a search refutes is mostly refuted at one splitter, so these rows are worth asking before all. A proof by
-//! hand goes from the outputs back, splitter by splitter, and so do the scopes.
+//! hand goes from the outputs back, splitter by splitter, and so do the scopes. What is left then is a matter of
+//! comparisons alone: flows that are equal at each splitter, and ends whose flows differ.
 ghost use Rattle.std.specs.Prelude.{ℕ, ◌<◌, length, IfOk, OnOk};
 ghost use Rattle.std.specs.List.{All};
 ghost use Rattle.bt_decide.specs.inner.Places.{AreBelow};
@@ -53,8 +55,22 @@ impl Sides {
 
 /// The scopes of the rows of a network's flow formula, as lists of their places. Each splitter has one: the rows
 /// whose columns are all flows of its edges, or the load or the room at one of these. The splitters nearest to the
-/// outputs come first, and for `drawn-evenly` the farthest.
+/// outputs come first, and for `drawn-evenly` the farthest. Behind them comes a scope of the rows that compare flows.
 pub fn scopes_of(
+    alloc: Global,
+    net: &Net,
+    property: Property,
+    rows: &[Row],
+) -> Result<Vec<Vec<usize>>, AllocError>
+    ensures { IfOk result (λ scopes. All (λ scope. AreBelow (length rows.now) scope.items) scopes.items) }
+{
+    let mut scopes = splitter_scopes(alloc, net, property, rows)?;
+    scopes.push(comparisons(alloc, net, property, rows)?)?;
+    Ok(scopes)
+}
+
+/// The scopes of the splitters, in their order.
+fn splitter_scopes(
     alloc: Global,
     net: &Net,
     property: Property,
@@ -65,6 +81,41 @@ pub fn scopes_of(
     let mut lists = lists_of(alloc, net, rows)?;
     let order = ranked_splitters(alloc, net, property == Property::DrawnEvenly)?;
     in_order(alloc, &mut lists, &order)
+}
+
+/// The rows that compare flows or add them up: those of two flows or more, and of nothing else. A check takes rows in
+/// this order, so for `drawn-evenly`, whose conclusion is about the inputs, the last one comes first.
+fn comparisons(
+    alloc: Global,
+    net: &Net,
+    property: Property,
+    rows: &[Row],
+) -> Result<Vec<usize>, AllocError>
+    ensures { IfOk result (λ scope. AreBelow (length rows.now) scope.items) }
+{
+    let flows = net.edges().len();
+    let last_first = property == Property::DrawnEvenly;
+    let mut scope = Vec::new(alloc);
+    for step in 0..rows.len() {
+        let place = place_after(rows.len(), step, last_first);
+        if compares(rows[place].terms(), flows) {
+            scope.push(place)?;
+        }
+    }
+    Ok(scope)
+}
+
+/// The place that comes after so many, from the first of so many on or from the last.
+fn place_after(count: usize, step: usize, last_first: bool) -> usize
+    requires { step < count }
+    ensures { result < count }
+{
+    if last_first { count - 1 - step } else { step }
+}
+
+/// Whether these are terms of two flows or more, which are the first so many columns, and of nothing else.
+fn compares(terms: &[(usize, Frac)], flows: usize) -> bool {
+    terms.len() > 1 && terms.iter().all(|(column, _)| *column < flows)
 }
 
 /// The lists in this order. A list that it names once more is empty there.

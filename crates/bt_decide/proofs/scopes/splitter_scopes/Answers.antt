@@ -1,7 +1,7 @@
 use Rattle.std.proofs.Common.{ℕ, List, Vec, Global, length, sym, subst}
 use Rattle.std.specs.List.{All}
 use Rattle.bt_decide.specs.inner.Places.{AreBelow}
-use Rattle.bt_decide.proofs.scopes.scopes_of.Goals as goal
+use Rattle.bt_decide.proofs.scopes.splitter_scopes.Goals as goal
 
 pub returns : goal.returns
 returns c =
