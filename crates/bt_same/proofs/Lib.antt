@@ -7,4 +7,5 @@ pub mod Showing
 pub mod Decided
 pub mod Refuted
 pub mod Pairs
+pub mod Solved
 pub mod Judged

@@ -3,4 +3,5 @@ pub mod Pairs
 pub mod Judging
 pub mod SameFormula
 pub mod Laws
+pub mod Solutions
 pub mod inner

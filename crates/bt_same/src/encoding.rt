@@ -27,24 +27,14 @@ fn side_by_side(
     requires second { of_second.now ≡ steady_formula second.now }
     ensures { IfOk result (λ formula. formula ≡ networks_formula first.now second.now) }
 {
-    let edges = first.edges().len();
-    let more = second.edges().len();
-    let first_shift = Shift {
-        edges,
-        near: 0,
-        far: more,
-    };
-    let second_columns = Shift {
-        edges: more,
-        near: edges,
-        far: edges,
-    };
+    let first_shift = Shift::of_first(first, second);
+    let second_columns = Shift::of_second(first, second);
     let second_vars = Shift {
-        edges: more,
-        near: edges,
         far: of_first.vars(),
+        ..second_columns
     };
-    let mut formula = Formula::new(alloc, edges + more)?;
+    let marks = first.edges().len() + second.edges().len();
+    let mut formula = Formula::new(alloc, marks)?;
     add_rows(alloc, &mut formula, of_first, first_shift)?;
     add_rows(alloc, &mut formula, of_second, second_columns)?;
     add_clauses(alloc, &mut formula, of_first, first_shift)?;

@@ -14,13 +14,13 @@ use std::alloc::{AllocError, Global};
 pub const MOST_FOUND: usize = 3;
 
 /// The most simulations that are tried.
-const MOST_TRIES: usize = 256;
+pub const MOST_TRIES: usize = 256;
 
 /// After so many steps in all no further simulation is tried.
-const ENOUGH_STEPS: u32 = 16_384;
+pub const ENOUGH_STEPS: u32 = 16_384;
 
 /// The least that a conclusion has to fail by, in parts of `UNIT`.
-const LEAST_FAILURE: u64 = UNIT as u64 / 256;
+pub const LEAST_FAILURE: u64 = UNIT as u64 / 256;
 
 /// By how much the number of a few grows from one such try to the next, counted round.
 const SPREAD: usize = 7;
@@ -101,7 +101,7 @@ fn tries(property: Property) -> usize {
 }
 
 /// The choice of a try: half of them of a few, a quarter of parts, and a quarter of each end in turn.
-fn choice_of(full: &Case, number: usize) -> Choice {
+pub fn choice_of(full: &Case, number: usize) -> Choice {
     let ends = full.loads.len().min(full.rooms.len());
     match number % 4 {
         1 => Choice::Parts,

@@ -4,6 +4,7 @@
 
 mod belt;
 mod case;
+mod comparing;
 mod finding;
 mod random;
 mod simulation;
@@ -11,6 +12,7 @@ mod splitter;
 
 pub use belt::UNIT;
 pub use case::Case;
+pub use comparing::differing;
 pub use finding::{Found, MOST_FOUND, breaking};
 pub use simulation::{Simulated, simulate};
 pub use std::alloc::AllocError as Memory;

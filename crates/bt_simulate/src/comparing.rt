@@ -1,0 +1,96 @@
+//! Looking for simulations in which two networks behave otherwise.
+use crate::case::Case;
+use crate::finding::{ENOUGH_STEPS, Found, LEAST_FAILURE, MOST_FOUND, MOST_TRIES, choice_of};
+use crate::random::Random;
+use crate::simulation::{Simulated, simulate};
+use bt_flow::{Property, Role};
+use bt_net::Net;
+use std::alloc::{AllocError, Global};
+
+/// Simulations of two networks under equal loads and rooms in which nothing moves any more and the flow of some output
+/// differs. Each has the flows and marks of the first network, and behind them those of the second. They are at most
+/// `MOST_FOUND`, those first that are found first.
+pub fn differing(alloc: Global, first: &Net, second: &Net) -> Result<Vec<Found>, AllocError> {
+    let full = lesser(Case::full(alloc, first)?, &Case::full(alloc, second)?);
+    let mut random = Random::new();
+    let mut found = Vec::new(alloc);
+    let mut steps: u32 = 0;
+    for number in 0..MOST_TRIES {
+        let shown = tried(alloc, first, second, &full, number, &mut random)?;
+        steps = steps.saturating_add(shown.simulated.steps);
+        if shown.simulated.is_still && differs(alloc, first, second, &shown.simulated.flows)? {
+            found.push(shown)?;
+        }
+        if found.len() >= MOST_FOUND || steps >= ENOUGH_STEPS {
+            break;
+        }
+    }
+    Ok(found)
+}
+
+/// The loads and rooms that two cases both have.
+fn lesser(case: Case, other: &Case) -> Case {
+    let mut case = case;
+    lower_to(&mut case.loads, &other.loads);
+    lower_to(&mut case.rooms, &other.rooms);
+    case
+}
+
+/// Lowers numbers to others.
+fn lower_to(numbers: &mut [u32], others: &[u32]) {
+    for (number, other) in numbers.iter_mut().zip(others) {
+        *number = (*number).min(*other);
+    }
+}
+
+/// The simulations of both networks of the try with a number.
+fn tried(
+    alloc: Global,
+    first: &Net,
+    second: &Net,
+    full: &Case,
+    number: usize,
+    random: &mut Random,
+) -> Result<Found, AllocError> {
+    let case = full.chosen(alloc, Property::Unlimited, choice_of(full, number), random)?;
+    let one = simulate(alloc, first, &case.loads, &case.rooms)?;
+    let other = simulate(alloc, second, &case.loads, &case.rooms)?;
+    let simulated = joined(one, &other)?;
+    Ok(Found { case, simulated })
+}
+
+/// One simulation behind another.
+fn joined(one: Simulated, other: &Simulated) -> Result<Simulated, AllocError> {
+    let mut both = one;
+    both.flows.extend_from_slice(&other.flows)?;
+    both.backed.extend_from_slice(&other.backed)?;
+    both.steps = both.steps.saturating_add(other.steps);
+    both.is_still = both.is_still && other.is_still;
+    Ok(both)
+}
+
+/// Whether the flow of some output differs, clearly.
+fn differs(alloc: Global, first: &Net, second: &Net, flows: &[u32]) -> Result<bool, AllocError> {
+    let edges = first.edges().len().min(flows.len());
+    let ones = output_flows(alloc, first, &flows[..edges])?;
+    let others = output_flows(alloc, second, &flows[edges..])?;
+    for (one, other) in ones.iter().zip(&others) {
+        if u64::from(one.abs_diff(*other)) > LEAST_FAILURE {
+            return Ok(true);
+        }
+    }
+    Ok(false)
+}
+
+/// For each output of a network its flow.
+fn output_flows(alloc: Global, net: &Net, flows: &[u32]) -> Result<Vec<u32>, AllocError> {
+    let mut outputs = vec![in alloc; 0u32; net.outputs() as usize]?;
+    for (edge, flow) in net.edges().iter().zip(flows) {
+        if let Some(output) = Role::ToOutput.number_in(edge) {
+            if let Some(found) = outputs.get_mut(output as usize) {
+                *found = *flow;
+            }
+        }
+    }
+    Ok(outputs)
+}
