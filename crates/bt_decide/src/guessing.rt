@@ -6,7 +6,7 @@ use bt_cnf::Formula;
 use bt_flow::Property;
 use bt_frac::{Frac, Relation, Row};
 use bt_net::Net;
-use bt_simulate::{Case, Found, UNIT, breaking};
+use bt_simulate::{Case, Found, UNIT, breaking, differing};
 use std::alloc::{AllocError, Global};
 
 /// By how much the sides of a row may differ that a simulation shows as equal, in parts of `UNIT`.
@@ -25,6 +25,23 @@ pub fn guesses_of(
 {
     let mut guesses = Vec::new(alloc);
     let shown = breaking(alloc, net, property)?;
+    for found in &shown {
+        guesses.push(guess_of(alloc, formula, found)?)?;
+    }
+    Ok(guesses)
+}
+
+/// The same of the formula of two networks, whose columns and marks are those of simulations of the one behind the other.
+pub fn guesses_of_both(
+    alloc: Global,
+    first: &Net,
+    second: &Net,
+    formula: &Formula,
+) -> Result<Vec<Vec<bool>>, AllocError>
+    ensures { IfOk result (λ guesses. All (λ guess. length guess.items ≡ formula.now.vars) guesses.items) }
+{
+    let mut guesses = Vec::new(alloc);
+    let shown = differing(alloc, first, second)?;
     for found in &shown {
         guesses.push(guess_of(alloc, formula, found)?)?;
     }

@@ -1,16 +1,19 @@
-//! Decisions: whether every steady state of a network has a property, with the evidence.
+//! Decisions: whether every steady state of a network has a property, and whether two networks behave the same, with the
+//! evidence.
 #![tactic(auto)]
 
 mod deciding;
 mod distances;
 mod guessing;
 mod law;
+mod same;
 mod scopes;
 mod verdict;
 
 pub use bt_theory::{GaveUp, Limits};
 pub use deciding::decide;
-pub use guessing::guesses_of;
+pub use guessing::{guesses_of, guesses_of_both};
 pub use law::yes_is_certificate;
+pub use same::decide_same;
 pub use std::alloc::AllocError as Memory;
-pub use verdict::Verdict;
+pub use verdict::{SameVerdict, Verdict};

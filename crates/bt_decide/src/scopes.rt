@@ -53,6 +53,13 @@ impl Sides {
     }
 }
 
+/// How many columns that are of no edge of a network stand before the flows of its edges, and how many behind these.
+#[derive(Clone, Copy)]
+struct Gaps {
+    before: usize,
+    behind: usize,
+}
+
 /// The scopes of the rows of a network's flow formula, as lists of their places. Each splitter has one: the rows
 /// whose columns are all flows of its edges, or the load or the room at one of these. The splitters nearest to the
 /// outputs come first, and for `drawn-evenly` the farthest. Behind them comes a scope of the rows that compare flows.
@@ -64,37 +71,69 @@ pub fn scopes_of(
 ) -> Result<Vec<Vec<usize>>, AllocError>
     ensures { IfOk result (λ scopes. All (λ scope. AreBelow (length rows.now) scope.items) scopes.items) }
 {
-    let mut scopes = splitter_scopes(alloc, net, property, rows)?;
-    scopes.push(comparisons(alloc, net, property, rows)?)?;
+    let gaps = Gaps {
+        before: 0,
+        behind: 0,
+    };
+    let farthest_first = property == Property::DrawnEvenly;
+    let mut scopes = splitter_scopes(alloc, Vec::new(alloc), net, gaps, farthest_first, rows)?;
+    scopes.push(comparisons(alloc, net.edges().len(), farthest_first, rows)?)?;
     Ok(scopes)
 }
 
-/// The scopes of the splitters, in their order.
-fn splitter_scopes(
+/// The scopes of the rows of two networks' formula: those of the splitters of the first, of the second, and then one of
+/// the rows that compare flows. The splitters nearest to the outputs come first.
+pub fn scopes_of_both(
     alloc: Global,
-    net: &Net,
-    property: Property,
+    first: &Net,
+    second: &Net,
     rows: &[Row],
 ) -> Result<Vec<Vec<usize>>, AllocError>
     ensures { IfOk result (λ scopes. All (λ scope. AreBelow (length rows.now) scope.items) scopes.items) }
 {
-    let mut lists = lists_of(alloc, net, rows)?;
-    let order = ranked_splitters(alloc, net, property == Property::DrawnEvenly)?;
-    in_order(alloc, &mut lists, &order)
+    let edges = first.edges().len();
+    let more = second.edges().len();
+    let of_first = Gaps {
+        before: 0,
+        behind: more,
+    };
+    let of_second = Gaps {
+        before: edges,
+        behind: 0,
+    };
+    let ones = splitter_scopes(alloc, Vec::new(alloc), first, of_first, false, rows)?;
+    let mut scopes = splitter_scopes(alloc, ones, second, of_second, false, rows)?;
+    scopes.push(comparisons(alloc, edges + more, false, rows)?)?;
+    Ok(scopes)
+}
+
+/// The scopes of a network's splitters in their order, behind others.
+fn splitter_scopes(
+    alloc: Global,
+    before: Vec<Vec<usize>>,
+    net: &Net,
+    gaps: Gaps,
+    farthest_first: bool,
+    rows: &[Row],
+) -> Result<Vec<Vec<usize>>, AllocError>
+    requires { All (λ scope. AreBelow (length rows.now) scope.items) before.items }
+    ensures { IfOk result (λ scopes. All (λ scope. AreBelow (length rows.now) scope.items) scopes.items) }
+{
+    let mut lists = lists_of(alloc, net, gaps, rows)?;
+    let order = ranked_splitters(alloc, net, farthest_first)?;
+    in_order(alloc, before, &mut lists, &order)
 }
 
 /// The rows that compare flows or add them up: those of two flows or more, and of nothing else. A check takes rows in
 /// this order, so for `drawn-evenly`, whose conclusion is about the inputs, the last one comes first.
 fn comparisons(
     alloc: Global,
-    net: &Net,
-    property: Property,
+    flows: usize,
+    last_first: bool,
     rows: &[Row],
 ) -> Result<Vec<usize>, AllocError>
     ensures { IfOk result (λ scope. AreBelow (length rows.now) scope.items) }
 {
-    let flows = net.edges().len();
-    let last_first = property == Property::DrawnEvenly;
     let mut scope = Vec::new(alloc);
     for step in 0..rows.len() {
         let place = place_after(rows.len(), step, last_first);
@@ -118,16 +157,18 @@ fn compares(terms: &[(usize, Frac)], flows: usize) -> bool {
     terms.len() > 1 && terms.iter().all(|(column, _)| *column < flows)
 }
 
-/// The lists in this order. A list that it names once more is empty there.
+/// The lists in this order, behind others. A list that it names once more is empty there.
 fn in_order(
     alloc: Global,
+    before: Vec<Vec<usize>>,
     lists: &mut [Vec<usize>],
     order: &[usize],
 ) -> Result<Vec<Vec<usize>>, AllocError>
-    ensures { (end : ℕ) → All (λ list. AreBelow end list.items) lists.old
+    ensures { (end : ℕ) → All (λ list. AreBelow end list.items) before.items
+        → All (λ list. AreBelow end list.items) lists.old
         → IfOk result (λ scopes. All (λ list. AreBelow end list.items) scopes.items) }
 {
-    let mut scopes = Vec::new(alloc);
+    let mut scopes = before;
     for splitter in order {
         if *splitter < lists.len() {
             scopes.push(replace(&mut lists[*splitter], Vec::new(alloc)))?;
@@ -137,10 +178,15 @@ fn in_order(
 }
 
 /// For each splitter the rows that speak of its edges alone.
-fn lists_of(alloc: Global, net: &Net, rows: &[Row]) -> Result<Vec<Vec<usize>>, AllocError>
+fn lists_of(
+    alloc: Global,
+    net: &Net,
+    gaps: Gaps,
+    rows: &[Row],
+) -> Result<Vec<Vec<usize>>, AllocError>
     ensures { IfOk result (λ lists. All (λ list. AreBelow (length rows.now) list.items) lists.items) }
 {
-    let columns = columns_of(alloc, net)?;
+    let columns = columns_of(alloc, net, gaps)?;
     let mut lists = empty_lists(alloc, net.splitters())?;
     for (place, row) in rows.iter().enumerate() {
         let sides = sides_of(&columns, row.terms());
@@ -179,8 +225,8 @@ pub fn add(lists: &mut [Vec<usize>], splitter: Option<u32>, number: usize) -> Re
 }
 
 /// For each column the sides of the edge whose flow it is, or of which it is the load or the room.
-fn columns_of(alloc: Global, net: &Net) -> Result<Vec<Sides>, AllocError> {
-    let mut columns = Vec::new(alloc);
+fn columns_of(alloc: Global, net: &Net, gaps: Gaps) -> Result<Vec<Sides>, AllocError> {
+    let mut columns = vec![in alloc; Sides::NONE; gaps.before]?;
     let mut loads = vec![in alloc; Sides::NONE; net.inputs() as usize]?;
     let mut rooms = vec![in alloc; Sides::NONE; net.outputs() as usize]?;
     for edge in net.edges() {
@@ -188,6 +234,9 @@ fn columns_of(alloc: Global, net: &Net) -> Result<Vec<Sides>, AllocError> {
         columns.push(sides)?;
         put(&mut loads, Role::FromInput.number_in(edge), sides);
         put(&mut rooms, Role::ToOutput.number_in(edge), sides);
+    }
+    for _ in 0..gaps.behind {
+        columns.push(Sides::NONE)?;
     }
     columns.extend_from_slice(&loads)?;
     columns.extend_from_slice(&rooms)?;

@@ -1,6 +1,7 @@
-//! What deciding a property of a network comes to.
+//! What deciding a property of a network, or two networks, comes to.
 use bt_flow::State;
 use bt_log::Log;
+use bt_same::Pair;
 use bt_theory::GaveUp;
 
 /// What deciding a property of a network comes to.
@@ -10,6 +11,17 @@ pub enum Verdict {
     Yes(Log),
     /// The state breaks the property.
     No(State),
+    /// Neither is found within the limits and 128 bits.
+    GaveUp(GaveUp),
+}
+
+/// What deciding whether two networks behave the same comes to.
+#[derive(Drop)]
+pub enum SameVerdict {
+    /// They do: the log refutes that a pair of states shows a difference.
+    Yes(Log),
+    /// The pair of states shows a difference.
+    No(Pair),
     /// Neither is found within the limits and 128 bits.
     GaveUp(GaveUp),
 }

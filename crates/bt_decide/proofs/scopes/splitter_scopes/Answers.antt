@@ -6,4 +6,4 @@ use Rattle.bt_decide.proofs.scopes.splitter_scopes.Goals as goal
 pub returns : goal.returns
 returns c =
     let end = length c.args.rows.now in
-    c.in_order.ensures end (subst (λ (lists : List (Vec ℕ Global)). All (λ (list : Vec ℕ Global). AreBelow end list.items) lists) (sym c.deref_mut.ensures.value) c.in_ok-lists.ensures)
+    c.in_order.ensures end c.requires (subst (λ (lists : List (Vec ℕ Global)). All (λ (list : Vec ℕ Global). AreBelow end list.items) lists) (sym c.deref_mut.ensures.value) c.in_ok-lists.ensures)
