@@ -17,7 +17,7 @@ WORDS = {
     24: "the member {1} of {0} isn't what it has to be",
     25: "{0} stands off the grid of the first entity, or too far out",
     26: "{0} is of another tier than the first entity",
-    27: "{0} has a condition, a filter or a preferred side, in its member {1}",
+    27: "{0} has a condition or a filter, in its member {1}",
     30: "{0} and {1} stand on the same tile",
     31: "{0} has no other end: none of its tier in reach that faces the right way",
     32: "{0} is loaded from its side, or by two at once",

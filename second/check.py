@@ -11,8 +11,8 @@ shares no code with the program. Words, statuses and texts are those of README.m
                                           3 and `refused formula N` where line N of it may not stand there
 
 This reads priorities: behind the edges of a network text, `give sN E` and `take sN E` say that edge E out of, or into,
-splitter N comes first; in a blueprint, where the program refuses them, a splitter's preferred sides do. All numbers are
-exact; where a sum or a product leaves 128 bits, this says so, as the program does (`plus`)."""
+splitter N comes first; in a blueprint a splitter's preferred sides do. Requests for layouts have neither. All numbers
+are exact; where a sum or a product leaves 128 bits, this says so, as the program does (`plus`)."""
 
 import functools, json, re, sys
 from collections import Counter, defaultdict, namedtuple

@@ -6,8 +6,7 @@
 The inputs are all of examples/, what the program decides and lays out of it, networks and blueprints that are thrown
 together, and so many mutants of all these (20000 where none is told). It prints counts by kind and every difference,
 and ends with 1 where there is one. `--short` runs about a hundred. Nothing is written but, with `--keep`, the inputs
-of differences into that folder. The generator is fixed: with one program the inputs are always the same. Priorities
-of blueprints, which the program refuses and `check.py` reads, are left out."""
+of differences into that folder. The generator is fixed: with one program the inputs are always the same."""
 
 import argparse
 import random
@@ -241,7 +240,7 @@ WORDS = {
     b'"position"': (
         b'"filter":null,"position"', b'"control_behavior":{},"position"', b'"Position"', b'"pos\\u0069tion"',
         b'"input_priority":"none","position"', b'"output_priority":"up","position"', b'"x":[[[]]],"position"',
-        b'"name":1,"position"', b'"\\ud83d\\ude00":"\\ud800","position"', b'"\\ud800":1,"\\udc00":2,"position"'),
+        b'"output_priority":"left","position"', b'"input_priority":"right","position"', b'"name":1,"position"', b'"\\ud83d\\ude00":"\\ud800","position"', b'"\\ud800":1,"\\udc00":2,"position"'),
     b'"direction"': (b'"dir"', b'"direction":0,"direction"'), b'"x"': (b'"z"', b'"x":1,"x"'),
     b"entities": (b"tiles", b"entities\\"), b'"blueprint"': (b'"blueprint_book"', b'"blue"', b"1"),
     b"version": (b"versio", b'version":562949953421312,"z'), b".5": (b".50", b".25", b".5e0", b"e1", b".", b""),
@@ -323,7 +322,8 @@ def thrown_blueprint(chance):
                 other = chance.choice((way,) * 9 + (chance.randrange(4),))
                 put(tier + "underground-belt", other, x + steps * dx, y + steps * dy, ',"type":"output"')
         else:
-            put(tier + ("transport-belt" if kind == "b" else "splitter"), way, x, y)
+            side = chance.choice(('', '', ',"input_priority":"left"', ',"output_priority":"right"'))
+            put(tier + ("transport-belt" if kind == "b" else "splitter"), way, x, y, side)
     version = 562949953421312 if eighths == 4 else 281479271677952
     return f'{{"blueprint":{{"entities":[{",".join(entities)}],"version":{version}}}}}'.encode()
 

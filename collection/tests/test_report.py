@@ -111,7 +111,7 @@ class Refusals(Case):
             "refused 23 Unsupported 1": "refused 23 Unsupported: entity 2 (inserter at x 1.5, y 0.5) is no belt, "
             "underground belt or splitter",
             "refused 27 Special 0 filter": "refused 27 Special: entity 1 (transport-belt at x 0.5, y 0.5) has a "
-            "condition, a filter or a preferred side, in its member filter",
+            "condition or a filter, in its member filter",
             "refused 30 Overlap 0 9": "refused 30 Overlap: entity 1 (transport-belt at x 0.5, y 0.5) and entity 10 "
             "(no name) stand on the same tile",
             "refused 42 NoEnds": "refused 42 NoEnds: there is no input, or no output",

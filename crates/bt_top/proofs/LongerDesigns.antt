@@ -26,7 +26,7 @@ use Rattle.bt_top.specs.declared.fault.DesignFault.{DesignFault}
 use Rattle.bt_top.specs.declared.fault.DesignFault.TheVariants.{Refused}
 use Rattle.bt_top.specs.declared.refusal.Refusal.TheVariants.{NetLine}
 use Rattle.bt_top.specs.declared.refusal.Refusal.TheVariants as refusal
-use Rattle.bt_top.specs.Designs.{IsJsonText, IsJsonDesign, IsTextDesign, IsDesign}
+use Rattle.bt_top.specs.Designs.{IsJsonText, IsPreferringNet, IsJsonNet, IsTextDesign, IsDesign}
 use Rattle.bt_top.specs.Longer.{DesignStays, IsOtherText, IsSettled, RefusalStays}
 use Rattle.bt_top.specs.Refusals.{json_told, net_told}
 use Rattle.bt_top.specs.Steps.{InTurn, stopped, went_on}
@@ -104,10 +104,10 @@ ends_anyhow bytes v after (rest, s) front =
     all_blank (x ∷ xs) all = (blank_is x all.0, all_blank xs all.1)
 
 -- what comes of the JSON text of longer bytes
-pub json_design_stays : (bytes more : List ℕ) (answer : Result (Network × ℕ) DesignFault) → IsJsonText bytes → ((fault : JsonFault) → answer ≡ Err (json_told fault) → fault ≢ json.Json (length bytes))
-    → IsJsonDesign bytes answer → IsJsonDesign (bytes ++ more) answer
-json_design_stays bytes more answer is settled (stopped fault h e) = stopped fault (fault_stays bytes more fault (settled fault e) h) e
-json_design_stays bytes more answer is settled (went_on read h k) = went_on read (value_stays bytes more read.0 read.1 (ends_anyhow bytes read.0 read.1 is h.front) h) k
+pub json_design_stays : (IsNetOf : Json → Result Network DesignFault → Type 0) (bytes more : List ℕ) (answer : Result (Network × ℕ) DesignFault) → IsJsonText bytes → ((fault : JsonFault) → answer ≡ Err (json_told fault) → fault ≢ json.Json (length bytes))
+    → IsJsonNet IsNetOf bytes answer → IsJsonNet IsNetOf (bytes ++ more) answer
+json_design_stays IsNetOf bytes more answer is settled (stopped fault h e) = stopped fault (fault_stays bytes more fault (settled fault e) h) e
+json_design_stays IsNetOf bytes more answer is settled (went_on read h k) = went_on read (value_stays bytes more read.0 read.1 (ends_anyhow bytes read.0 read.1 is h.front) h) k
 
 -- ---- network text
 
@@ -130,9 +130,9 @@ net_first (b ∷ bytes) rest n ls begins =
 
 -- ---- designs
 
-pub json_within : (bytes : List ℕ) (n : Network) (used : ℕ) → IsJsonDesign bytes (Ok (n, used)) → used ≤ length bytes
-json_within bytes n used (stopped fault h e) = absurd (not_both (n, used) (json_told fault) e)
-json_within bytes n used (went_on read h k) =
+pub json_within : (IsNetOf : Json → Result Network DesignFault → Type 0) (bytes : List ℕ) (n : Network) (used : ℕ) → IsJsonNet IsNetOf bytes (Ok (n, used)) → used ≤ length bytes
+json_within IsNetOf bytes n used (stopped fault h e) = absurd (not_both (n, used) (json_told fault) e)
+json_within IsNetOf bytes n used (went_on read h k) =
     let net = seen_ok (λ m. (m, read.1)) k.0 (n, used) k.2 in
     let same = ap (λ (x : Network × ℕ). x.1) net.2 in
     omega (arith, same, h.front.within)
@@ -145,7 +145,7 @@ text_within bytes n used (went_on read h e) =
 
 -- a design ends within the bytes
 pub design_within : (bytes : List ℕ) (n : Network) (used : ℕ) → IsDesign bytes (Ok (n, used)) → used ≤ length bytes
-design_within bytes n used (inl h) = json_within bytes n used h.1
+design_within bytes n used (inl h) = json_within IsPreferringNet bytes n used h.1
 design_within bytes n used (inr h) = text_within bytes n used h.1
 
 module _ (bytes : List ℕ) (n : Network) (used : ℕ) where
@@ -169,7 +169,7 @@ module _ (bytes : List ℕ) (n : Network) (used : ℕ) where
 
   design_stays_of : IsDesign bytes (Ok (n, used)) → Stays
   design_stays_of (inl (is, h)) =
-      inl (λ more. inl (json_text_stays bytes more is, json_design_stays bytes more (Ok (n, used)) is (λ fault e. absurd (not_both (n, used) (json_told fault) e)) h))
+      inl (λ more. inl (json_text_stays bytes more is, json_design_stays IsPreferringNet bytes more (Ok (n, used)) is (λ fault e. absurd (not_both (n, used) (json_told fault) e)) h))
   design_stays_of (inr (none, h)) = text_stays h
 
 -- a design at the front of bytes stands at the front of longer ones
@@ -204,7 +204,7 @@ not_json bytes (byte, rest, s, unlike) (after, t) = let same : byte ∷ rest ≡
 
 module _ (bytes more : List ℕ) (fault : DesignFault) where
   refusal_stays_of : IsSettled bytes fault → IsDesign bytes (Err fault) → IsDesign (bytes ++ more) (Err fault)
-  refusal_stays_of (inl (is, other)) (inl (json, h)) = inl (json_text_stays bytes more is, json_design_stays bytes more (Err fault) is (json_settled bytes fault other) h)
+  refusal_stays_of (inl (is, other)) (inl (json, h)) = inl (json_text_stays bytes more is, json_design_stays IsPreferringNet bytes more (Err fault) is (json_settled bytes fault other) h)
   refusal_stays_of (inl (is, other)) (inr (none, h)) = absurd (none is)
   refusal_stays_of (inr (text, (lines, e), other)) (inl (is, h)) = absurd (not_json bytes text is)
   refusal_stays_of (inr (text, (lines, e), other)) (inr (none, h)) =

@@ -7,7 +7,7 @@ use Rattle.bt_net.proofs.Longer.{reading_stays, stays_refused}
 use Rattle.bt_top.specs.declared.fault.DesignFault.{DesignFault}
 use Rattle.bt_top.specs.declared.fault.DesignFault.TheVariants.{Refused}
 use Rattle.bt_top.specs.declared.refusal.Refusal.TheVariants as refusal
-use Rattle.bt_top.specs.Designs.{IsJsonText}
+use Rattle.bt_top.specs.Designs.{IsJsonText, IsBlueprintNet}
 use Rattle.bt_top.specs.Longer.{IsSettled}
 use Rattle.bt_top.specs.Refusals.{net_told}
 use Rattle.bt_top.specs.Requested.{PinnedNet, pinned_net, IsPinnedText, IsPinnedJson, IsPinned}
@@ -41,7 +41,7 @@ module _ (bytes : List ℕ) (n : PinnedNet) (used : ℕ) where
   pinned_json_stays : IsJsonText bytes → IsPinnedJson bytes (Ok (n, used)) → (more : List ℕ) → IsPinnedJson (bytes ++ more) (Ok (n, used))
   pinned_json_stays is (stopped fault h e) more = absurd (not_both (n, used) fault e)
   pinned_json_stays is (went_on found h e) more =
-      went_on found (json_design_stays bytes more (Ok found) is (λ fault other. absurd (not_both found _ other)) h) e
+      went_on found (json_design_stays IsBlueprintNet bytes more (Ok found) is (λ fault other. absurd (not_both found _ other)) h) e
 
   -- it stands at the front of longer ones
   pub pinned_stays : IsPinned bytes (Ok (n, used)) → PinnedStays
@@ -51,7 +51,7 @@ module _ (bytes : List ℕ) (n : PinnedNet) (used : ℕ) where
   pinned_json_within : IsPinnedJson bytes (Ok (n, used)) → used ≤ length bytes
   pinned_json_within (stopped fault h e) = absurd (not_both (n, used) fault e)
   pinned_json_within (went_on found h e) =
-      let same = place_of n (pinned_net found.0 [] []) used found.1 e in omega (arith, same, json_within bytes found.0 found.1 h)
+      let same = place_of n (pinned_net found.0 [] []) used found.1 e in omega (arith, same, json_within IsBlueprintNet bytes found.0 found.1 h)
 
   pinned_text_within : IsPinnedText bytes (Ok (n, used)) → used ≤ length bytes
   pinned_text_within (stopped fault h e) = absurd (not_both (n, used) (net_told fault) e)
@@ -77,7 +77,7 @@ module _ (bytes more : List ℕ) (fault : DesignFault) where
   pinned_json_refused is other (went_on found h e) = absurd (not_both (pinned_net found.0 [] [], found.1) fault (sym e))
   pinned_json_refused is other (stopped why h e) =
       let same : why ≡ fault = sym (same_fault_of {A = PinnedNet × ℕ} fault why e) in
-      stopped why (json_design_stays bytes more (Err why) is (json_settled bytes why (subst (λ f. f ≢ Refused (refusal.Json (length bytes))) (sym same) other)) h) e
+      stopped why (json_design_stays IsBlueprintNet bytes more (Err why) is (json_settled bytes why (subst (λ f. f ≢ Refused (refusal.Json (length bytes))) (sym same) other)) h) e
 
   pub pinned_refusal_stays : IsSettled bytes fault → IsPinned bytes (Err fault) → IsPinned (bytes ++ more) (Err fault)
   pinned_refusal_stays (inl (is, other)) (inl (json, h)) = inl (json_text_stays bytes more is, pinned_json_refused is other h)

@@ -4,17 +4,20 @@ use Rattle.bt_answers.specs.Answers.{HasOneAnswer, seen}
 use Rattle.bt_json.specs.Json.{Json}
 use Rattle.bt_json.specs.Answers.{IsRead}
 use Rattle.bt_json.proofs.OneRead.{one_read}
-use Rattle.bt_entities.specs.Answers.{IsPartsOf}
-use Rattle.bt_entities.proofs.OneAnswer.{one_parts}
+use Rattle.bt_entities.specs.Answers.{IsPartsOf, IsPrioritisedOf}
+use Rattle.bt_entities.proofs.OneAnswer.{one_parts, one_reading}
 use Rattle.bt_net.specs.Network.{Network, IsNetwork}
 use Rattle.bt_net.specs.Readings.{IsPlainRead}
 use Rattle.bt_net.proofs.OnePlain.{one_plain}
+use Rattle.bt_hands.specs.declared.hand.Priority.{Priority}
 use Rattle.bt_parts.specs.declared.part.Part.{Part}
 use Rattle.bt_grid.specs.Placing.{IsPlaced}
 use Rattle.bt_grid.proofs.OneAnswer.{one_placed}
 use Rattle.bt_recover.specs.Recovered.{IsRecovered}
+use Rattle.bt_recover.specs.Preferred.{IsRecoveredWith}
 use Rattle.bt_recover.proofs.OneRecovery.{one_recovery}
-use Rattle.bt_top.specs.Designs.{IsPlacedNet, IsLayoutNet, IsBlueprintNet, IsJsonDesign, IsTextDesign, IsDesign}
+use Rattle.bt_recover.proofs.PreferLemmas.{one_recovery_with}
+use Rattle.bt_top.specs.Designs.{IsPlacedNet, IsLayoutNet, IsBlueprintNet, IsPlacedWith, IsLayoutWith, IsPreferringNet, IsJsonNet, IsJsonDesign, IsJsonLayout, IsTextDesign, IsDesign}
 use Rattle.bt_top.specs.declared.fault.DesignFault.{DesignFault}
 use Rattle.bt_top.specs.Refusals.{json_told, entity_told, grid_told, layout_told, net_told}
 use Rattle.bt_top.specs.Steps.{stopped, went_on}
@@ -29,10 +32,25 @@ one_layout_net parts = one_in_turn (IsPlaced parts) _ _ (one_placed parts) one_p
 one_blueprint_net : (value : Json) → HasOneAnswer (IsBlueprintNet value)
 one_blueprint_net value = one_in_turn (IsPartsOf value) _ _ (one_parts value) one_layout_net
 
+one_placed_with : (priorities : List Priority) (parts : List Part) → HasOneAnswer (IsPlacedWith priorities parts)
+one_placed_with priorities parts = one_in_turn (IsRecoveredWith parts priorities) _ _ (one_recovery_with parts priorities) (λ found a b h k. h ∙ sym k)
+
+one_layout_with : (read : List Part × List Priority) → HasOneAnswer (IsLayoutWith read)
+one_layout_with read = one_in_turn (IsPlaced read.0) _ _ (one_placed read.0) (one_placed_with read.1)
+
+one_preferring_net : (value : Json) → HasOneAnswer (IsPreferringNet value)
+one_preferring_net value = one_in_turn (IsPrioritisedOf value) _ _ (one_reading value) one_layout_with
+
 -- two right answers to JSON text are equal
+one_json_net : (IsNetOf : Json → Result Network DesignFault → Type 0) → ((value : Json) → HasOneAnswer (IsNetOf value)) → (bytes : List ℕ) → HasOneAnswer (IsJsonNet IsNetOf bytes)
+one_json_net IsNetOf one bytes = one_in_turn (IsRead bytes) _ _ (one_read bytes)
+    (λ read a b h k. h.2 ∙ ap (seen (λ n. (n, read.1))) (one read.0 h.0 k.0 h.1 k.1) ∙ sym k.2)
+
 pub one_json_design : (bytes : List ℕ) → HasOneAnswer (IsJsonDesign bytes)
-one_json_design bytes = one_in_turn (IsRead bytes) _ _ (one_read bytes)
-    (λ read a b h k. h.2 ∙ ap (seen (λ n. (n, read.1))) (one_blueprint_net read.0 h.0 k.0 h.1 k.1) ∙ sym k.2)
+one_json_design bytes = one_json_net IsPreferringNet one_preferring_net bytes
+
+pub one_json_layout : (bytes : List ℕ) → HasOneAnswer (IsJsonLayout bytes)
+one_json_layout bytes = one_json_net IsBlueprintNet one_blueprint_net bytes
 
 -- two right answers to network text are equal
 pub one_text_design : (bytes : List ℕ) → HasOneAnswer (IsTextDesign bytes)
@@ -47,17 +65,17 @@ one_design bytes a b (inr h) (inr k) = one_text_design bytes a b h.1 k.1
 
 -- ---- what is found is a network
 
-placed_network : (parts : List Part) (answer : Result Network DesignFault) (n : Network) → answer ≡ Ok n → IsPlacedNet parts answer → IsNetwork n
-placed_network parts answer n is (stopped fault h e) = absurd (not_both n (layout_told fault) (sym is ∙ e))
-placed_network parts answer n is (went_on found h e) = subst IsNetwork (same_value found.0 n (sym e ∙ is)) h.1
+placed_network : (priorities : List Priority) (parts : List Part) (answer : Result Network DesignFault) (n : Network) → answer ≡ Ok n → IsPlacedWith priorities parts answer → IsNetwork n
+placed_network priorities parts answer n is (stopped fault h e) = absurd (not_both n (layout_told fault) (sym is ∙ e))
+placed_network priorities parts answer n is (went_on found h e) = subst IsNetwork (same_value found.0 n (sym e ∙ is)) h.1
 
-layout_network : (parts : List Part) (answer : Result Network DesignFault) (n : Network) → answer ≡ Ok n → IsLayoutNet parts answer → IsNetwork n
-layout_network parts answer n is (stopped fault h e) = absurd (not_both n (grid_told fault) (sym is ∙ e))
-layout_network parts answer n is (went_on placed h k) = placed_network placed answer n is k
+layout_network : (read : List Part × List Priority) (answer : Result Network DesignFault) (n : Network) → answer ≡ Ok n → IsLayoutWith read answer → IsNetwork n
+layout_network read answer n is (stopped fault h e) = absurd (not_both n (grid_told fault) (sym is ∙ e))
+layout_network read answer n is (went_on placed h k) = placed_network read.1 placed answer n is k
 
-blueprint_network : (value : Json) (answer : Result Network DesignFault) (n : Network) → answer ≡ Ok n → IsBlueprintNet value answer → IsNetwork n
+blueprint_network : (value : Json) (answer : Result Network DesignFault) (n : Network) → answer ≡ Ok n → IsPreferringNet value answer → IsNetwork n
 blueprint_network value answer n is (stopped fault h e) = absurd (not_both n (entity_told fault) (sym is ∙ e))
-blueprint_network value answer n is (went_on parts h k) = layout_network parts answer n is k
+blueprint_network value answer n is (went_on read h k) = layout_network read answer n is k
 
 -- what is seen of a result is a value's where the result is one
 pub seen_ok : {A B E : Type 0} (f : A → B) (r : Result A E) (b : B) → Ok b ≡ seen f r → (a : A) × (r ≡ Ok a) × (b ≡ f a)

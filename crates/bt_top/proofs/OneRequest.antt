@@ -12,20 +12,20 @@ use Rattle.bt_model.proofs.Requested.{one_made}
 use Rattle.bt_layout.specs.Smallest.{request_on}
 use Rattle.bt_top.specs.declared.fault.DesignFault.{DesignFault}
 use Rattle.bt_top.specs.Alone.{IsAlone}
-use Rattle.bt_top.specs.Designs.{IsJsonDesign, IsTextDesign}
+use Rattle.bt_top.specs.Designs.{IsJsonLayout, IsTextDesign}
 use Rattle.bt_top.specs.Refusals.{request_told}
 use Rattle.bt_top.specs.Requested.{PinnedNet, pinned_net, IsPinnedText, IsPinnedJson, IsPinned, IsRequestFor, IsLoneRequest, IsFrontRequest}
 use Rattle.bt_top.specs.Searching.{IsPlainRequest, IsPlainText, IsUnpreferring}
 use Rattle.bt_top.specs.Steps.{stopped, went_on}
 use Rattle.bt_top.proofs.InTurns.{one_in_turn, same_value, not_both}
-use Rattle.bt_top.proofs.OneDesign.{one_json_design, one_text_design, seen_ok}
+use Rattle.bt_top.proofs.OneDesign.{one_json_layout, one_text_design, seen_ok}
 use Rattle.bt_top.proofs.StandingAlone.{one_alone}
 
 one_pinned_text : (bytes : List ℕ) → HasOneAnswer (IsPinnedText bytes)
 one_pinned_text bytes = one_in_turn (IsNetRead bytes) _ _ (one_read bytes) (λ read a b h k. h ∙ sym k)
 
 one_pinned_json : (bytes : List ℕ) → HasOneAnswer (IsPinnedJson bytes)
-one_pinned_json bytes = one_in_turn (IsJsonDesign bytes) Err _ (one_json_design bytes) (λ found a b h k. h ∙ sym k)
+one_pinned_json bytes = one_in_turn (IsJsonLayout bytes) Err _ (one_json_layout bytes) (λ found a b h k. h ∙ sym k)
 
 -- two right answers to the bytes of a design with pins and blocks are equal
 one_pinned : (bytes : List ℕ) → HasOneAnswer (IsPinned bytes)

@@ -17,7 +17,7 @@ use Rattle.bt_top.specs.declared.answer.Answer.TheVariants as answer
 use Rattle.bt_top.specs.declared.fault.DesignFault.{DesignFault}
 use Rattle.bt_top.specs.declared.input.TheConstants.{MOST_CHECKED}
 use Rattle.bt_top.specs.Answers.{none_word, nowhere_text}
-use Rattle.bt_top.specs.Designs.{IsJsonText}
+use Rattle.bt_top.specs.Designs.{IsJsonText, IsBlueprintNet}
 use Rattle.bt_top.specs.LayingOut.{layout_told, IsLaidOut}
 use Rattle.bt_top.specs.NoneCertificates.{IsLayoutChecked}
 use Rattle.bt_top.specs.Refusals.{net_told}
@@ -58,7 +58,7 @@ module _ (bytes : List ℕ) (n : PinnedNet) (used : ℕ) where
   pinned_json_stays : IsJsonText bytes → IsPinnedJson bytes (Ok (n, used)) → (more : List ℕ) → IsPinnedJson (bytes ++ more) (Ok (n, used))
   pinned_json_stays is (stopped fault h e) more = absurd (not_both (n, used) fault e)
   pinned_json_stays is (went_on found h e) more =
-      went_on found (json_design_stays bytes more (Ok found) is (λ fault other. absurd (not_both found _ other)) h) e
+      went_on found (json_design_stays IsBlueprintNet bytes more (Ok found) is (λ fault other. absurd (not_both found _ other)) h) e
 
   pinned_stays : IsPinned bytes (Ok (n, used)) → PinnedStays
   pinned_stays (inl (is, h)) = inl (λ more. inl (json_text_stays bytes more is, pinned_json_stays is h more))
@@ -67,7 +67,7 @@ module _ (bytes : List ℕ) (n : PinnedNet) (used : ℕ) where
   pinned_json_within : IsPinnedJson bytes (Ok (n, used)) → used ≤ length bytes
   pinned_json_within (stopped fault h e) = absurd (not_both (n, used) fault e)
   pinned_json_within (went_on found h e) =
-      let same = place_of n (pinned_net found.0 [] []) used found.1 e in omega (arith, same, json_within bytes found.0 found.1 h)
+      let same = place_of n (pinned_net found.0 [] []) used found.1 e in omega (arith, same, json_within IsBlueprintNet bytes found.0 found.1 h)
 
   pinned_text_within : IsPinnedText bytes (Ok (n, used)) → used ≤ length bytes
   pinned_text_within (stopped fault h e) = absurd (not_both (n, used) (net_told fault) e)

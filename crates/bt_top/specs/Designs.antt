@@ -4,10 +4,12 @@ use Rattle.bt_answers.specs.Answers.{seen}
 use Rattle.bt_text.specs.Blanks.{SkipsBlanks}
 use Rattle.bt_json.specs.Json.{Json}
 use Rattle.bt_json.specs.Answers.{IsRead}
-use Rattle.bt_entities.specs.Answers.{IsPartsOf}
+use Rattle.bt_entities.specs.Answers.{IsPartsOf, IsPrioritisedOf}
+use Rattle.bt_hands.specs.declared.hand.Priority.{Priority}
 use Rattle.bt_parts.specs.declared.part.Part.{Part}
 use Rattle.bt_grid.specs.Placing.{IsPlaced}
 use Rattle.bt_recover.specs.Recovered.{IsRecovered}
+use Rattle.bt_recover.specs.Preferred.{IsRecoveredWith}
 use Rattle.bt_net.specs.Network.{Network}
 use Rattle.bt_net.specs.Readings.{IsPlainRead}
 use Rattle.bt_top.specs.declared.fault.DesignFault.{DesignFault}
@@ -26,14 +28,34 @@ IsPlacedNet parts = InTurn (IsRecovered parts) (λ fault. Err (layout_told fault
 abbrev pub IsLayoutNet : List Part → Result Network DesignFault → Type 0
 IsLayoutNet parts = InTurn (IsPlaced parts) (λ fault. Err (grid_told fault)) IsPlacedNet
 
--- what comes of a JSON value: the network of the parts of which it is a blueprint, or the first refusal
+-- what comes of a JSON value that is to be a layout: the network of the parts of which it is a blueprint, or the first refusal
 abbrev pub IsBlueprintNet : Json → Result Network DesignFault → Type 0
 IsBlueprintNet value = InTurn (IsPartsOf value) (λ fault. Err (entity_told fault)) IsLayoutNet
 
--- what comes of JSON text: the network of the value at its front and the place after it, or the first refusal
+-- what comes of parts that are placed and their priorities: the network of their layout with its own numbering and the edges that its splitters prefer, or the first refusal of the layout
+abbrev pub IsPlacedWith : List Priority → List Part → Result Network DesignFault → Type 0
+IsPlacedWith priorities parts = InTurn (IsRecoveredWith parts priorities) (λ fault. Err (layout_told fault)) (λ found answer. answer ≡ Ok found.0)
+
+-- what comes of parts and their priorities: the network of their layout, or the first refusal, of two that share a cell or of the layout
+abbrev pub IsLayoutWith : List Part × List Priority → Result Network DesignFault → Type 0
+IsLayoutWith read = InTurn (IsPlaced read.0) (λ fault. Err (grid_told fault)) (IsPlacedWith read.1)
+
+-- what comes of a JSON value that is to be a design: the network of the parts of which it is a blueprint, with their priorities, or the first refusal
+abbrev pub IsPreferringNet : Json → Result Network DesignFault → Type 0
+IsPreferringNet value = InTurn (IsPrioritisedOf value) (λ fault. Err (entity_told fault)) IsLayoutWith
+
+-- what comes of JSON text: the network that comes of the value at its front and the place after it, or the first refusal
+abbrev pub IsJsonNet : (Json → Result Network DesignFault → Type 0) → List ℕ → Result (Network × ℕ) DesignFault → Type 0
+IsJsonNet IsNetOf bytes = InTurn (IsRead bytes) (λ fault. Err (json_told fault)) (λ read answer.
+    (net : Result Network DesignFault) × IsNetOf read.0 net × (answer ≡ seen (λ n. (n, read.1)) net))
+
+-- what comes of the JSON text of a design
 abbrev pub IsJsonDesign : List ℕ → Result (Network × ℕ) DesignFault → Type 0
-IsJsonDesign bytes = InTurn (IsRead bytes) (λ fault. Err (json_told fault)) (λ read answer.
-    (net : Result Network DesignFault) × IsBlueprintNet read.0 net × (answer ≡ seen (λ n. (n, read.1)) net))
+IsJsonDesign bytes = IsJsonNet IsPreferringNet bytes
+
+-- what comes of the JSON text of a layout that is asked for, in which no splitter prefers a side
+abbrev pub IsJsonLayout : List ℕ → Result (Network × ℕ) DesignFault → Type 0
+IsJsonLayout bytes = IsJsonNet IsBlueprintNet bytes
 
 -- what comes of network text: the network at its front and the place after it, or the first refusal
 abbrev pub IsTextDesign : List ℕ → Result (Network × ℕ) DesignFault → Type 0

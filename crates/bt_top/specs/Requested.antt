@@ -11,7 +11,7 @@ use Rattle.bt_model.specs.Requests.{LayoutRequest, request_of}
 use Rattle.bt_model.specs.RequestFaults.{IsMade}
 use Rattle.bt_top.specs.declared.fault.DesignFault.{DesignFault}
 use Rattle.bt_top.specs.Alone.{IsAlone}
-use Rattle.bt_top.specs.Designs.{IsJsonText, IsJsonDesign}
+use Rattle.bt_top.specs.Designs.{IsJsonText, IsJsonLayout}
 use Rattle.bt_top.specs.Refusals.{net_told, request_told}
 use Rattle.bt_top.specs.Steps.{InTurn}
 
@@ -31,7 +31,7 @@ IsPinnedText bytes = InTurn (IsNetRead bytes) (λ fault. Err (net_told fault)) (
 
 -- what comes of JSON text: the network of the design at its front, with neither pins nor blocks, and the place after it, or the first refusal
 abbrev pub IsPinnedJson : List ℕ → Result (PinnedNet × ℕ) DesignFault → Type 0
-IsPinnedJson bytes = InTurn (IsJsonDesign bytes) Err (λ found answer. answer ≡ Ok (pinned_net found.0 [] [], found.1))
+IsPinnedJson bytes = InTurn (IsJsonLayout bytes) Err (λ found answer. answer ≡ Ok (pinned_net found.0 [] [], found.1))
 
 -- what comes of bytes: the network of the design at their front with its pins and blocks, and the place after it, or the first refusal; they are read as JSON text, or else as network text
 abbrev pub IsPinned : List ℕ → Result (PinnedNet × ℕ) DesignFault → Type 0

@@ -6,16 +6,19 @@ ghost use Rattle.std.specs.Prelude.{◌≡◌, ◌↔◌, ◌≤◌, ◌∷◌, 
 ghost use Rattle.bt_answers.specs.Answers.{UnlessMemory, seen};
 ghost use Rattle.bt_parts.specs.Layouts.{AreInRange};
 ghost use Rattle.bt_json.specs.Stands.{json_of};
-ghost use Rattle.bt_top.specs.inner.Found.{net_and_used};
-ghost use Rattle.bt_top.specs.Designs.{IsJsonText, IsPlacedNet, IsLayoutNet, IsBlueprintNet, IsJsonDesign, IsTextDesign, IsDesign};
+ghost use Rattle.bt_entities.specs.Answers.{parts_and_priorities_in};
+ghost use Rattle.bt_top.specs.inner.Found.{net_and_used, net_by};
+ghost use Rattle.bt_top.specs.Designs.{IsJsonText, IsPlacedNet, IsLayoutNet, IsBlueprintNet};
+ghost use Rattle.bt_top.specs.Designs.{IsPlacedWith, IsLayoutWith, IsPreferringNet, IsJsonNet, IsTextDesign, IsDesign};
 
 use crate::fault::DesignFault;
-use bt_entities::parts_of;
+use bt_entities::{Prioritised, parts_and_priorities, parts_of};
 use bt_grid::Grid;
+use bt_hands::Priority;
 use bt_json::Tree;
 use bt_net::Net;
 use bt_parts::Part;
-use bt_recover::{Traced, recover};
+use bt_recover::{Traced, recover, recover_with};
 use bt_text::skip_blanks;
 use std::alloc::Global;
 
@@ -48,7 +51,7 @@ pub fn read_design(alloc: Global, bytes: &[u8]) -> Result<Design, DesignFault>
     ensures within { IfOk result (λ design. design.used ≤ length bytes.now) }
 {
     if is_json(bytes) {
-        read_json(alloc, bytes)
+        read_json(alloc, Reading::Design, bytes)
     } else {
         read_text(alloc, bytes)
     }
@@ -68,13 +71,23 @@ pub fn read_text(alloc: Global, bytes: &[u8]) -> Result<Design, DesignFault>
     }
 }
 
-/// The design whose JSON text stands at the front of the bytes.
-pub fn read_json(alloc: Global, bytes: &[u8]) -> Result<Design, DesignFault>
-    ensures design { UnlessMemory DesignFault.Memory (IsJsonDesign bytes.now) (seen net_and_used result) }
+/// For what a blueprint is read.
+#[derive(Clone, Copy)]
+pub enum Reading {
+    /// As a design, whose splitters may prefer sides.
+    Design,
+    /// As a layout that is asked for, whose splitters prefer none.
+    Layout,
+}
+
+/// The network whose JSON text stands at the front of the bytes, read so.
+pub fn read_json(alloc: Global, reading: Reading, bytes: &[u8]) -> Result<Design, DesignFault>
+    ensures design { UnlessMemory DesignFault.Memory (IsJsonNet (net_by reading) bytes.now)
+        (seen net_and_used result) }
     ensures within { IfOk result (λ design. design.used ≤ length bytes.now) }
 {
     match bt_json::read(alloc, bytes) {
-        Ok((tree, used)) => match net_of_tree(alloc, tree) {
+        Ok((tree, used)) => match net_of_tree(alloc, reading, tree) {
             Ok(net) => Ok(Design { net, used }),
             Err(fault) => Err(fault),
         },
@@ -82,8 +95,52 @@ pub fn read_json(alloc: Global, bytes: &[u8]) -> Result<Design, DesignFault>
     }
 }
 
-/// The network of a blueprint.
-fn net_of_tree(alloc: Global, tree: Tree) -> Result<Net, DesignFault>
+/// The network of a blueprint, read so.
+fn net_of_tree(alloc: Global, reading: Reading, tree: Tree) -> Result<Net, DesignFault>
+    ensures { UnlessMemory DesignFault.Memory (net_by reading (json_of tree)) result }
+{
+    match reading {
+        Reading::Design => net_of_design(alloc, tree),
+        Reading::Layout => net_of_blueprint(alloc, tree),
+    }
+}
+
+/// The network of a blueprint whose splitters may prefer sides.
+fn net_of_design(alloc: Global, tree: Tree) -> Result<Net, DesignFault>
+    ensures { UnlessMemory DesignFault.Memory (IsPreferringNet (json_of tree)) result }
+{
+    let read = parts_and_priorities(alloc, &tree);
+    drop(tree);
+    match read {
+        Ok(read) => net_of_prioritised(alloc, read),
+        Err(fault) => Err(fault.into()),
+    }
+}
+
+/// The network of a layout with priorities.
+fn net_of_prioritised(alloc: Global, read: Prioritised) -> Result<Net, DesignFault>
+    requires { AreInRange read.parts.items }
+    ensures { UnlessMemory DesignFault.Memory (IsLayoutWith (parts_and_priorities_in read)) result }
+{
+    let Prioritised { parts, priorities } = read;
+    match Grid::place(alloc, parts) {
+        Ok(grid) => net_of_grid_with(alloc, &grid, &priorities),
+        Err(fault) => Err(fault.into()),
+    }
+}
+
+/// The network of parts that are placed, with their priorities.
+fn net_of_grid_with(alloc: Global, grid: &Grid, priorities: &[Priority]) -> Result<Net, DesignFault>
+    ensures { UnlessMemory DesignFault.Memory (IsPlacedWith priorities.now grid.now) result }
+{
+    match recover_with(alloc, grid, priorities) {
+        Ok(Traced { net, .. }) => Ok(net),
+        Err(fault) => Err(fault.into()),
+    }
+}
+
+/// The network of a blueprint whose splitters prefer no side.
+fn net_of_blueprint(alloc: Global, tree: Tree) -> Result<Net, DesignFault>
     ensures { UnlessMemory DesignFault.Memory (IsBlueprintNet (json_of tree)) result }
 {
     let parts = parts_of(alloc, &tree);

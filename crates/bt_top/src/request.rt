@@ -9,7 +9,7 @@ ghost use Rattle.bt_top.specs.Requested.{IsPinned, IsPinnedJson, IsPinnedText};
 ghost use Rattle.bt_top.specs.Requested.{IsFrontRequest, IsLoneRequest, IsRequestFor};
 
 use crate::alone::refused_behind;
-use crate::design::{Design, is_json, read_json};
+use crate::design::{Design, Reading, is_json, read_json};
 use crate::fault::DesignFault;
 use bt_model::Request;
 use bt_net::{Block, Net, Pin};
@@ -127,7 +127,7 @@ fn read_pinned_json(alloc: Global, bytes: &[u8]) -> Result<PinnedDesign, DesignF
     ensures design { UnlessMemory DesignFault.Memory (IsPinnedJson bytes.now) (seen pinned_and_used result) }
     ensures within { IfOk result (λ design. design.used ≤ length bytes.now) }
 {
-    match read_json(alloc, bytes) {
+    match read_json(alloc, Reading::Layout, bytes) {
         Ok(Design { net, used }) => {
             let pins = Vec::new(alloc);
             let blocks = Vec::new(alloc);

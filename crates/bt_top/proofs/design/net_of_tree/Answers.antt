@@ -1,18 +1,14 @@
-use Rattle.std.proofs.Common.{refl, ap, Err}
+use Rattle.std.proofs.Common.{subst, sym}
+use Rattle.bt_answers.specs.Answers.{UnlessMemory}
 use Rattle.bt_json.specs.Stands.{json_of}
-use Rattle.bt_entities.specs.Answers.{IsPartsOf}
-use Rattle.bt_entities.specs.declared.fault.EntityFault.TheVariants as entity
 use Rattle.bt_top.specs.declared.fault.DesignFault.TheVariants.{Memory}
-use Rattle.bt_top.specs.Refusals.{entity_told}
-use Rattle.bt_top.specs.Designs.{IsLayoutNet}
-use Rattle.bt_top.proofs.InTurns.{stops, went}
+use Rattle.bt_top.specs.inner.Found.{net_by}
 use Rattle.bt_top.proofs.design.net_of_tree.Goals as goal
 
-pub returns-in-Ok : goal.returns-in-Ok
-returns-in-Ok c =
-    went Memory (IsPartsOf (json_of c.args.tree)) (λ fault. Err (entity_told fault)) IsLayoutNet _ _ c.in-Ok.ensures.right c.net_of_layout.ensures
+pub returns-in-Design : goal.returns-in-Design
+returns-in-Design c =
+    subst (λ r. UnlessMemory Memory (net_by r (json_of c.args.tree)) c.net_of_design.result) (sym c.in-Design.is) c.net_of_design.ensures
 
-pub returns-in-Err : goal.returns-in-Err
-returns-in-Err c =
-    stops entity.Memory Memory (IsPartsOf (json_of c.args.tree)) (λ fault. Err (entity_told fault)) IsLayoutNet c.in-Err.fault (Err c.into.result) refl
-    c.in-Err.ensures.right (ap Err c.into.ensures)
+pub returns-in-Layout : goal.returns-in-Layout
+returns-in-Layout c =
+    subst (λ r. UnlessMemory Memory (net_by r (json_of c.args.tree)) c.net_of_blueprint.result) (sym c.in-Layout.is) c.net_of_blueprint.ensures

@@ -4,7 +4,7 @@ use Rattle.bt_net.specs.declared.network.Pin.{Pin}
 use Rattle.bt_net.specs.Network.{Network}
 use Rattle.bt_top.specs.declared.fault.DesignFault.{DesignFault}
 use Rattle.bt_top.specs.declared.fault.DesignFault.TheVariants.{Memory}
-use Rattle.bt_top.specs.Designs.{IsJsonDesign}
+use Rattle.bt_top.specs.Designs.{IsJsonLayout}
 use Rattle.bt_top.specs.Requested.{PinnedNet, pinned_net}
 use Rattle.bt_top.specs.Steps.{went_on}
 use Rattle.bt_top.proofs.InTurns.{stops}
@@ -20,5 +20,5 @@ returns-in-Ok-clause-design c = went_on _ c.in-Ok.ensures.design (without _ _ _ 
 
 pub returns-in-Err-clause-design : goal.returns-in-Err-clause-design
 returns-in-Err-clause-design c =
-    stops Memory Memory (IsJsonDesign c.args.bytes.now) Err (λ found answer. answer ≡ Ok (pinned_net found.0 [] [], found.1))
+    stops Memory Memory (IsJsonLayout c.args.bytes.now) Err (λ found answer. answer ≡ Ok (pinned_net found.0 [] [], found.1))
     c.in-Err.fault (Err c.in-Err.fault) refl c.in-Err.ensures.design refl
