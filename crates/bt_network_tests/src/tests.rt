@@ -10,6 +10,7 @@ mod net;
 mod parts;
 mod place;
 mod recover;
+mod same;
 mod simulate;
 mod states;
 
