@@ -1,5 +1,6 @@
 //! One file for each subject. A row of a table is one text, whose fields stand between bars: a table of structs or tuples
 //! takes far longer to prove. What judges a row lacks memory at most, since an error of its own is dear too.
+mod decided;
 mod fenc;
 mod grid;
 mod judgements;

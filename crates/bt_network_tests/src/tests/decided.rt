@@ -1,0 +1,122 @@
+//! Random networks of up to six splitters: one verdict whoever steers the search, with scopes and guesses and without.
+use super::{net_of, property_named};
+use bt_cnf::Chooser;
+use bt_decide::{Limits, Verdict, decide};
+use bt_fenc::encode;
+use bt_flow::Property;
+use bt_net::Net;
+use bt_sat::{Active, Highest, Lowest, Recent};
+use bt_theory::{Outcome, solve};
+use std::alloc::{AllocError, Global};
+use std::test::Fail;
+
+const NETWORKS: &[&str] = &[
+    "net 2 4 2\nedge i0 o2 4\nedge i1 s0 4\nedge s0 o0\nedge s0 o1 4\nedge s1 s1 3\nedge s1 o3 2\n\
+     end\n",
+    "net 2 2 1\nedge i0 s0 2\nedge i1 o1\nedge s0 o0 2\nend\n",
+    "net 3 2 2\nedge i0 o1 4\nedge i1 s1 4\nedge i2 s1 4\nedge s0 s0 2\nedge s0 s0 2\n\
+     edge s1 o0 2\nend\n",
+    "net 1 3 4\nedge i0 s2\nedge s0 s3\nedge s0 o0\nedge s1 s3\nedge s1 s0\nedge s2 s2\n\
+     edge s2 s1\nedge s3 o2\nedge s3 o1\nend\n",
+    "net 1 1 3\nedge i0 s1\nedge s0 s2 3\nedge s0 s2 2\nedge s1 s0\nedge s1 s0 3\nedge s2 s1 4\n\
+     edge s2 o0 4\nend\n",
+    "net 1 1 2\nedge i0 s0\nedge s0 s1\nedge s1 s1\nedge s1 o0\nend\n",
+    "net 1 2 2\nedge i0 s0 3\nedge s0 o1 2\nedge s0 o0 3\nedge s1 s1\nedge s1 s1 3\nend\n",
+    "net 2 1 5\nedge i0 s0 2\nedge i1 s3 2\nedge s0 s2 4\nedge s0 s3 4\nedge s1 s1 2\n\
+     edge s2 s4 4\nedge s2 o0 3\nedge s3 s2 3\nedge s4 s1 2\nend\n",
+    "net 2 1 5\nedge i0 s4 2\nedge i1 s0\nedge s0 s0\nedge s0 s1 3\nedge s1 s4 3\nedge s1 s2 2\n\
+     edge s2 o0\nedge s2 s3 3\nedge s3 s3\nedge s3 s1 3\nedge s4 s2 2\nend\n",
+    "net 1 2 4\nedge i0 s1\nedge s0 s3\nedge s0 s2\nedge s1 s1\nedge s1 o1\nedge s2 s2\n\
+     edge s2 o0\nedge s3 s0\nedge s3 s3\nend\n",
+    "net 2 1 5\nedge i0 s0 4\nedge i1 s3 3\nedge s0 s4\nedge s0 s2\nedge s1 s3 2\nedge s2 s1 3\n\
+     edge s2 o0\nedge s3 s0 2\nedge s3 s1 3\nedge s4 s2 3\nedge s4 s4 2\nend\n",
+    "net 2 2 3\nedge i0 s0\nedge i1 s1 4\nedge s0 s0 2\nedge s0 s1 2\nedge s1 o1 3\nedge s1 s2 2\n\
+     edge s2 s2\nedge s2 o0\nend\n",
+    "net 2 1 4\nedge i0 s1\nedge i1 o0\nedge s0 s3\nedge s0 s2\nedge s1 s3\nedge s1 s0\n\
+     edge s2 s1\nedge s3 s2\nedge s3 s0\nend\n",
+    "net 3 2 6\nedge i0 s0 4\nedge i1 s0 4\nedge i2 s3 4\nedge s0 s3 2\nedge s1 s5\nedge s1 s1 2\n\
+     edge s2 s2 3\nedge s2 s4 2\nedge s3 o0\nedge s3 s1\nedge s4 o1 4\nedge s4 s2 4\n\
+     edge s5 s4 3\nend\n",
+    "net 2 1 4\nedge i0 o0 4\nedge i1 s3 2\nedge s0 s0 2\nedge s0 s3 2\nedge s1 s0 2\n\
+     edge s1 s2 3\nedge s2 s1 4\nedge s3 s2 2\nend\n",
+    "net 1 2 3\nedge i0 o1 3\nedge s0 s1 2\nedge s0 o0 3\nedge s1 s1\nedge s1 s0\nedge s2 s2 4\n\
+     edge s2 s0 4\nend\n",
+    "net 1 2 2\nedge i0 s1\nedge s0 o0\nedge s0 s0\nedge s1 s1\nedge s1 o1\nend\n",
+    "net 3 1 5\nedge i0 s3\nedge i1 s4\nedge i2 s0\nedge s0 s0\nedge s1 s1\nedge s1 s2\n\
+     edge s2 s4\nedge s3 s2\nedge s3 o0\nedge s4 s3\nedge s4 s1\nend\n",
+    "net 1 2 5\nedge i0 s4\nedge s0 o0 3\nedge s0 s2\nedge s1 s3 2\nedge s1 s4\nedge s2 s0 3\n\
+     edge s2 s1 3\nedge s3 s2 4\nedge s4 o1 2\nedge s4 s0 4\nend\n",
+    "net 1 2 4\nedge i0 s0\nedge s0 s1\nedge s0 o1\nedge s1 s2\nedge s2 s1\nedge s2 o0\n\
+     edge s3 s2\nedge s3 s3\nend\n",
+];
+
+const LIMITS: Limits = Limits {
+    learnt: 100000,
+    pivots: 100000,
+};
+
+/// A letter for the verdict of a decision that one chooser steers: yes, no, or neither.
+fn decided<C: Chooser>(
+    alloc: Global,
+    net: &Net,
+    property: Property,
+    chooser: C,
+) -> Result<u8, AllocError> {
+    let mut choosers = Vec::new(alloc);
+    choosers.push(chooser)?;
+    match decide(alloc, net, property, LIMITS, choosers)? {
+        Verdict::Yes(_) => Ok(b'y'),
+        Verdict::No(_) => Ok(b'n'),
+        Verdict::GaveUp(_) => Ok(b'?'),
+    }
+}
+
+/// The same of a search without scopes, guesses and choosers.
+fn searched(alloc: Global, net: &Net, property: Property) -> Result<u8, AllocError> {
+    let choosers: Vec<Lowest> = Vec::new(alloc);
+    match solve(
+        alloc,
+        encode(alloc, net, property)?,
+        &[],
+        &[],
+        choosers,
+        LIMITS,
+    )? {
+        Outcome::Refuted(_) => Ok(b'y'),
+        Outcome::Sat { .. } => Ok(b'n'),
+        Outcome::GaveUp(_) => Ok(b'?'),
+    }
+}
+
+/// Whether one verdict on a property comes of every search.
+fn has_one_verdict(alloc: Global, net: &Net, property: Property) -> Result<bool, AllocError> {
+    let verdict = searched(alloc, net, property)?;
+    Ok(
+        verdict != b'?'
+            && decided(alloc, net, property, Lowest::new())? == verdict
+            && decided(alloc, net, property, Highest::new())? == verdict
+            && decided(alloc, net, property, Recent::new(alloc)?)? == verdict
+            && decided(alloc, net, property, Active::new(alloc)?)? == verdict,
+    )
+}
+
+/// Whether each property of a network has one verdict.
+fn is_settled(alloc: Global, text: &str) -> Result<bool, AllocError> {
+    let Some(net) = net_of(alloc, text) else {
+        return Ok(false);
+    };
+    for name in ["balanced", "drawn-evenly", "unlimited", "full"] {
+        if !has_one_verdict(alloc, &net, property_named(name))? {
+            return Ok(false);
+        }
+    }
+    Ok(true)
+}
+
+#[test]
+fn random_networks_have_one_verdict(rt: HostRuntime) -> Result<(), Fail> {
+    for text in NETWORKS {
+        assert!(rt; is_settled(rt.alloc(), text)?, "{text}");
+    }
+    Ok(())
+}
