@@ -44,7 +44,7 @@ use Rattle.bt_model.proofs.PathLemmas.{path_head, path_next}
 use Rattle.bt_model.proofs.SameChain.{Hop, same_hop}
 use Rattle.bt_model.proofs.Sorted.{one_place, same_ascending}
 use Rattle.bt_recover.specs.declared.edges.Joint.{Joint}
-use Rattle.bt_recover.specs.Preferred.{HandsOnFrom, EndsAtHalf, priority_of, IsHalfOn, IsGivenFirst, IsTakenFirst, ArePreferred, IsPreferring, IsRecoveredWith}
+use Rattle.bt_recover.specs.Preferred.{HandsOnFrom, EndsAtHalf, no_priority, priority_of, IsHalfOn, IsGivenFirst, IsTakenFirst, ArePreferred, IsPreferring, IsRecoveredWith}
 use Rattle.bt_recover.specs.inner.Edges.{naming_of, AreNames, half_of, EndsAtAny, IsJoint, HasEdges, AllDone, net_with}
 use Rattle.bt_recover.specs.inner.Found.{TellsPreferred, HasJoints}
 use Rattle.bt_recover.specs.declared.fault.RecoverFault.{RecoverFault}
@@ -567,3 +567,42 @@ found_with parts priorities found gives takes h given taken =
       own_here,
       (subst (λ m. IsPreferring parts priorities (preferring m gives takes) naming) (sym h.net_is) numbered_so, preferring_network found.net gives takes h.network own_here),
     )
+
+-- ---- without priorities
+
+none_listed : (edges : List (Option ℕ)) (count : ℕ) → length edges ≡ count → ((k : ℕ) → k < count → get_or edges k None ≡ None) → edges ≡ none_each count
+none_listed [] zero is none = refl
+none_listed [] (suc c) is none = absurd (omega (arith, is))
+none_listed (e ∷ edges) zero is none = absurd (omega (arith, is))
+none_listed (e ∷ edges) (suc c) is none =
+    let first : e ≡ None = none 0 (omega arith) in
+    let others = none_listed edges c (omega (arith, is)) (λ k small. none (suc k) (omega (arith, small))) in
+    λ i. first i ∷ others i
+
+none_of : (Prefers : Chain → ℕ → Type 0) (chains : List Chain) (s : ℕ) (o : Option ℕ) → ((c : Chain) (t : ℕ) → Prefers c t → ⊥) → MatchOption o ((chain : Chain) → Contains chains chain → Prefers chain s → ⊥) (HasPlace Prefers chains s)
+    → o ≡ None
+none_of Prefers chains s None never is = refl
+none_of Prefers chains s (Some a) never is = absurd (never is.0 s is.2)
+
+never_preferred : (Prefers : Chain → ℕ → Type 0) (splitters : List ℕ) (chains : List Chain) (edges : List (Option ℕ)) (count : ℕ) → count ≡ length splitters → ((c : Chain) (s : ℕ) → Prefers c s → ⊥)
+    → ArePreferred Prefers splitters chains edges → edges ≡ none_each count
+never_preferred Prefers splitters chains edges count is never are = none_listed edges count (are.count ∙ sym is) (λ k lt.
+    let at = slice_get-get_or splitters k 0 (omega (arith, is, lt)) in
+    none_of Prefers chains (get_or splitters k 0) (get_or edges k None) never (are.each k (get_or splitters k 0) at))
+
+never_on : (parts : List Part) (s : ℕ) (hand : Option Hand) (half : Cell) → hand ≡ None → IsHalfOn parts s hand half → ⊥
+never_on parts s hand half none on = (subst (λ h. IsHalfOn parts s h half) none on).2
+
+-- where no part has a priority, what is recovered with priorities is what is recovered without
+pub plain_recovery : (parts : List Part) (priorities : List Priority) → ((i : ℕ) → priority_of priorities i ≡ no_priority) → (told : Told) → IsRecoveredWith parts priorities told → IsRecovered parts told
+plain_recovery parts priorities none (Ok found) h = (
+  h.0.numbered,
+  h.1,
+  record {
+    gives = never_preferred (IsGivenFirst parts priorities) found.1.splitters h.0.numbered.chains found.0.gives found.0.splitters h.0.numbered.names.splitter_count
+        (λ c s given. never_on parts s (priority_of priorities s).give given.0 (ap (λ p. p.give) (none s)) given.2) h.0.gives;
+    takes = never_preferred (IsTakenFirst parts priorities) found.1.splitters h.0.numbered.chains found.0.takes found.0.splitters h.0.numbered.names.splitter_count
+        (λ c s taken. never_on parts s (priority_of priorities s).take taken.0 (ap (λ p. p.take) (none s)) taken.2) h.0.takes;
+  },
+)
+plain_recovery parts priorities none (Err fault) h = h

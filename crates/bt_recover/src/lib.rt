@@ -18,6 +18,6 @@ mod sight;
 mod speeds;
 
 pub use fault::RecoverFault;
-pub use law::one_preferring;
+pub use law::{one_preferring, plain_recovery};
 pub use recovery::{Traced, recover, recover_with};
 pub use std::alloc::AllocError as Memory;
