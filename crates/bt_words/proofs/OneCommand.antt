@@ -8,17 +8,17 @@ use Rattle.bt_model.specs.Requests.{IsGrid}
 use Rattle.bt_parts.specs.declared.part.Rect.{Rect}
 use Rattle.bt_parts.specs.declared.part.Tier.{Tier}
 use Rattle.bt_words.specs.declared.argument.Argument.{Argument}
-use Rattle.bt_words.specs.declared.argument.Argument.TheVariants.{Named, Order, Chain, Learnt, Pivots, Grid, OfTier, Most}
+use Rattle.bt_words.specs.declared.argument.Argument.TheVariants.{Named, Order, Chain, Learnt, Pivots, Grid, OfTier, Most, Found}
 use Rattle.bt_words.specs.declared.given.Given.{Given}
 use Rattle.bt_words.specs.declared.verb.Verb.{Verb}
 use Rattle.bt_words.specs.declared.verb.Verb.TheVariants as verb
 use Rattle.bt_words.specs.declared.command.Family.{Family}
 use Rattle.bt_words.specs.declared.command.Family.TheVariants as family
 use Rattle.bt_words.specs.declared.command.Command.{Command}
-use Rattle.bt_words.specs.declared.command.Command.TheVariants.{FlowCheck, Recover, Check, Decide, Make, Layout, CheckLayout, Smallest, FlowFormula, PlaceFormula}
+use Rattle.bt_words.specs.declared.command.Command.TheVariants.{FlowCheck, Recover, Check, Decide, Make, Layout, CheckLayout, Smallest, FindSmall, FlowFormula, PlaceFormula}
 use Rattle.bt_words.specs.Arguments.{AreArguments}
 use Rattle.bt_words.specs.Verbs.{verb_name, verb_of}
-use Rattle.bt_words.specs.Commands.{Gives, IsGiven, Suits, IsCommand, IsUsage, IsToDecide, IsToMake, IsToLay, IsToCheckLayout, IsToSearch, greatest_grid, is_chain, nothing, mark, grid_in, most_in}
+use Rattle.bt_words.specs.Commands.{Gives, IsGiven, Suits, IsCommand, IsUsage, IsToDecide, IsToMake, IsToLay, IsToCheckLayout, IsToSearch, IsToFind, greatest_grid, is_chain, nothing, mark, grid_in, most_in}
 use Rattle.bt_words.proofs.Fronts.{some_word}
 use Rattle.bt_words.proofs.OneFront.{one_front}
 
@@ -83,7 +83,8 @@ same_given g h words (ones, are, gives) (others, be, give) =
     let r = same_option g.grid h.grid (sym gives.grid ∙ give.grid) in
     let t = same_option g.tier h.tier (sym gives.tier ∙ give.tier) in
     let m = same_option g.most h.most (sym gives.most ∙ give.most) in
-    λ i. record { property = p i; order = o i; chain = c i; learnt = l i; pivots = v i; grid = r i; tier = t i; most = m i }
+    let f = same_mark g.found h.found (sym gives.found ∙ give.found) in
+    λ i. record { property = p i; order = o i; chain = c i; learnt = l i; pivots = v i; grid = r i; tier = t i; most = m i; found = f i }
 
 -- what no command of this word is given
 pub none_checks_flow : (g : Given) → ((p : _) → g ≡ record nothing { property = Some p } → ⊥) → (c : Command) → verb.FlowCheck ≡ verb_of c → Suits c g → ⊥
@@ -110,9 +111,10 @@ pub none_checks_layouts : (g : Given) → ((r : _) → IsToCheckLayout r g → �
 none_checks_layouts g none (CheckLayout r t) v s = none r s.0
 none_checks_layouts g none c v s = cc
 
-pub none_searches : (g : Given) → ((r : _) → IsToSearch r g → ⊥) → (c : Command) → verb.Smallest ≡ verb_of c → Suits c g → ⊥
-none_searches g none (Smallest r t n) v s = none r s.0
-none_searches g none c v s = cc
+pub none_searches : (g : Given) → ((r : _) → IsToFind r g → ⊥) → ((r : _) → IsToSearch r g → ⊥) → (c : Command) → verb.Smallest ≡ verb_of c → Suits c g → ⊥
+none_searches g not none (Smallest r t n) v s = none r s.0
+none_searches g not none (FindSmall r t n) v s = not r s.0
+none_searches g not none c v s = cc
 
 pub none_formula : (g : Given) → ((p : _) → g ≡ record nothing { property = Some p } → ⊥) → ((r : _) → IsToCheckLayout r g → ⊥) → (c : Command) → verb.Formula ≡ verb_of c → Suits c g → ⊥
 none_formula g none not (FlowFormula p) v s = none p s
@@ -156,6 +158,9 @@ same_suited (Make f i l) (Make n j m) g v (h, x, a) (k, y, b) =
 same_suited (Layout r t n) (Layout s u m) g v (h, x, a) (k, y, b) = let e = ap (λ x. x.grid) (sym h ∙ k) in cc
 same_suited (CheckLayout r t) (CheckLayout s u) g v (h, x) (k, y) = let e = ap (λ x. x.grid) (sym h ∙ k) in cc
 same_suited (Smallest r t n) (Smallest s u m) g v (h, x, a) (k, y, b) = let e = h.1 ∙ sym k.1 in cc
+same_suited (FindSmall r t n) (FindSmall s u m) g v (h, x, a) (k, y, b) = let e = h.1 ∙ sym k.1 in cc
+same_suited (Smallest r t n) (FindSmall s u m) g v (h, x, a) (k, y, b) = let e = ap (λ x. x.found) (sym h.0 ∙ k.0) in cc
+same_suited (FindSmall r t n) (Smallest s u m) g v (h, x, a) (k, y, b) = let e = ap (λ x. x.found) (sym h.0 ∙ k.0) in cc
 same_suited (FlowFormula p) (FlowFormula q) g v h k = let e = ap (λ x. x.property) (sym h ∙ k) in cc
 same_suited (PlaceFormula r t) (PlaceFormula s u) g v (h, x) (k, y) = let e = ap (λ x. x.grid) (sym h ∙ k) in cc
 same_suited (FlowFormula p) (PlaceFormula s u) g v h (k, y) = let e = ap (λ x. x.grid) (sym h ∙ k) in cc
@@ -183,6 +188,7 @@ grid_given (Learnt n ∷ more) words grid (front, rest, is, at, are) e = grid_gi
 grid_given (Pivots n ∷ more) words grid (front, rest, is, at, are) e = grid_given more rest grid are e
 grid_given (OfTier t ∷ more) words grid (front, rest, is, at, are) e = grid_given more rest grid are e
 grid_given (Most r ∷ more) words grid (front, rest, is, at, are) e = grid_given more rest grid are e
+grid_given (Found ∷ more) words grid (front, rest, is, at, are) e = grid_given more rest grid are e
 
 -- the grid of `layout`, of `check-layout` and of `formula` has from 1 to `MOST_ACROSS` cells each way
 pub grid_to_lay : (grid : Rect) (tier : Tier) (learnt : ℕ) (words : List (List ℕ)) → IsCommand (Layout grid tier learnt) words → IsGrid grid
@@ -205,18 +211,24 @@ most_given (Learnt n ∷ more) words grid (front, rest, is, at, are) e = most_gi
 most_given (Pivots n ∷ more) words grid (front, rest, is, at, are) e = most_given more rest grid are e
 most_given (Grid r ∷ more) words grid (front, rest, is, at, are) e = most_given more rest grid are e
 most_given (OfTier t ∷ more) words grid (front, rest, is, at, are) e = most_given more rest grid are e
+most_given (Found ∷ more) words grid (front, rest, is, at, are) e = most_given more rest grid are e
 
 -- the greatest of all is a grid
 greatest_is_grid : IsGrid greatest_grid
 greatest_is_grid = record { some_width = omega arith; few_across = omega arith; some_height = omega arith; few_down = omega arith }
 
--- and that of `smallest`
+-- and so is the one that is given, or else that one
+greatest_given : (arguments : List Argument) (words : List (List ℕ)) (most : Rect) (given : Option Rect) → AreArguments arguments words
+    → filter_map most_in arguments ≡ option_to_list given → most ≡ unwrap_or given greatest_grid → IsGrid most
+greatest_given arguments words most None are none is = subst IsGrid (sym is) greatest_is_grid
+greatest_given arguments words most (Some grid) are one is = subst IsGrid (sym is) (most_given arguments words grid are one)
+
+-- and that of `smallest`, with `--found` or without
 pub grid_to_search : (most : Rect) (tier : Tier) (learnt : ℕ) (words : List (List ℕ)) → IsCommand (Smallest most tier learnt) words → IsGrid most
-grid_to_search most tier learnt words (behind, g, e, (arguments, are, gives), suits) = by g.most gives.most suits.0.1
-  where
-    by : (given : Option Rect) → filter_map most_in arguments ≡ option_to_list given → most ≡ unwrap_or given greatest_grid → IsGrid most
-    by None none is = subst IsGrid (sym is) greatest_is_grid
-    by (Some grid) one is = subst IsGrid (sym is) (most_given arguments behind grid are one)
+grid_to_search most tier learnt words (behind, g, e, (arguments, are, gives), suits) = greatest_given arguments behind most g.most are gives.most suits.0.1
+
+pub grid_to_find : (most : Rect) (tier : Tier) (learnt : ℕ) (words : List (List ℕ)) → IsCommand (FindSmall most tier learnt) words → IsGrid most
+grid_to_find most tier learnt words (behind, g, e, (arguments, are, gives), suits) = greatest_given arguments behind most g.most are gives.most suits.0.1
 
 -- and that of `formula`
 pub grid_of_formula : (grid : Rect) (tier : Tier) (words : List (List ℕ)) → IsCommand (PlaceFormula grid tier) words → IsGrid grid

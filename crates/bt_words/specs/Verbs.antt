@@ -27,5 +27,6 @@ verb_of (command.Make family order limits) = Make
 verb_of (command.Layout grid tier learnt) = Layout
 verb_of (command.CheckLayout grid tier) = CheckLayout
 verb_of (command.Smallest most tier learnt) = Smallest
+verb_of (command.FindSmall most tier learnt) = Smallest
 verb_of (command.FlowFormula p) = Formula
 verb_of (command.PlaceFormula grid tier) = Formula

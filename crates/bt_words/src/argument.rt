@@ -38,6 +38,8 @@ pub enum Argument {
     OfTier(Tier),
     /// `--most`: the greatest grid that is searched.
     Most(Rect),
+    /// `--found`: small layouts are looked for.
+    Found,
 }
 
 /// The argument at the front of the words, and the words behind it.
@@ -64,6 +66,9 @@ fn plain(word: &str) -> Option<Argument>
 {
     if word == "--chain" {
         return Some(Argument::Chain);
+    }
+    if word == "--found" {
+        return Some(Argument::Found);
     }
     if let Some(property) = Property::named(word) {
         return Some(Argument::Named(property));

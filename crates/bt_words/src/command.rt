@@ -45,6 +45,9 @@ pub enum Command {
     /// `smallest`: what is the least grid, of at most so many cells each way, on which parts of this tier show
     /// the network, found in at most so many steps of a log for each grid?
     Smallest(Rect, Tier, u64),
+    /// `smallest --found`: on which small grids, of at most so many cells each way and within the design's own
+    /// cells, do parts of this tier show the design's network, found in at most so many steps of all searches?
+    FindSmall(Rect, Tier, u64),
     /// `formula`: which formula do the states meet in which the design hasn't the property?
     FlowFormula(Property),
     /// `formula`: which formula do the layouts meet of parts of this tier on this grid?
@@ -107,13 +110,17 @@ fn layout_checked(given: Given) -> Option<Command>
     Some(Command::CheckLayout(grid, given.tier()))
 }
 
-/// `smallest`, where what is given suits it.
+/// `smallest`, where what is given suits it, with `--found` or without.
 fn smallest(given: Given) -> Option<Command>
     ensures { MatchOption result ((c : ACommand) → Smallest ≡ verb_of c → Suits c given → ⊥)
         (λ c. (Smallest ≡ verb_of c) × Suits c given) }
 {
+    let learnt = given.limits().learnt;
+    if let Some(most) = given.most_to_find() {
+        return Some(Command::FindSmall(most, given.tier(), learnt));
+    }
     let most = given.most_to_search()?;
-    Some(Command::Smallest(most, given.tier(), given.limits().learnt))
+    Some(Command::Smallest(most, given.tier(), learnt))
 }
 
 /// `formula`, where what is given suits it: a property, or a grid.

@@ -3,7 +3,7 @@ ghost use Rattle.std.specs.Prelude.{◌≡◌, ℕ, List, [], ◌∷◌, Some, M
 ghost use Rattle.std.specs.Prelude.{◌↔◌, IsTrue};
 ghost use Rattle.bt_flow.specs.declared.property.Property.{Property as AProperty};
 ghost use Rattle.bt_parts.specs.declared.part.Rect.{Rect as ARect};
-ghost use Rattle.bt_words.specs.Commands.{IsGiven, IsToDecide, IsToMake, IsToLay, IsToCheckLayout, IsToSearch};
+ghost use Rattle.bt_words.specs.Commands.{IsGiven, IsToDecide, IsToMake, IsToLay, IsToCheckLayout, IsToSearch, IsToFind};
 ghost use Rattle.bt_words.specs.Commands.{is_chain, limits_of, tier_of, nothing};
 ghost use Rattle.bt_words.specs.inner.Reading.{Adds};
 ghost use Rattle.bt_words.specs.declared.argument.Argument.{Argument as AnArgument};
@@ -27,6 +27,7 @@ pub struct Given {
     pub grid: Option<Rect>,
     pub tier: Option<Tier>,
     pub most: Option<Rect>,
+    pub found: bool,
 }
 
 /// The greatest grid.
@@ -45,6 +46,7 @@ pub const NOTHING: Given = Given {
     grid: None,
     tier: None,
     most: None,
+    found: false,
 };
 
 /// What the words behind a command's word give.
@@ -102,6 +104,10 @@ impl Given {
                 most: Some(most),
                 ..self
             }),
+            Argument::Found if !self.found => Some(Given {
+                found: true,
+                ..self
+            }),
             _ => None,
         }
     }
@@ -122,6 +128,7 @@ impl Given {
                 grid: None,
                 tier: None,
                 most: None,
+                found: false,
             } => true,
             _ => false,
         }
@@ -142,6 +149,7 @@ impl Given {
                 grid: None,
                 tier: None,
                 most: None,
+                found: false,
             } => Some(property),
             _ => None,
         }
@@ -159,6 +167,7 @@ impl Given {
                 grid: None,
                 tier: None,
                 most: None,
+                found: false,
                 ..
             } => Some(property),
             _ => None,
@@ -176,6 +185,7 @@ impl Given {
                 grid: None,
                 tier: None,
                 most: None,
+                found: false,
                 ..
             } => order,
             _ => None,
@@ -205,6 +215,7 @@ impl Given {
                 pivots: None,
                 grid,
                 most: None,
+                found: false,
                 ..
             } => grid,
             _ => None,
@@ -225,6 +236,7 @@ impl Given {
                 pivots: None,
                 grid,
                 most: None,
+                found: false,
                 ..
             } => grid,
             _ => None,
@@ -244,6 +256,26 @@ impl Given {
                 pivots: None,
                 grid: None,
                 most,
+                found: false,
+                ..
+            } => Some(most.unwrap_or(GREATEST_GRID)),
+            _ => None,
+        }
+    }
+
+    /// The same where `--found` is given too.
+    pub fn most_to_find(self) -> Option<Rect>
+        ensures { MatchOption result ((r : ARect) → IsToFind r self → ⊥) (λ r. IsToFind r self) }
+    {
+        match self {
+            Given {
+                property: None,
+                order: None,
+                chain: false,
+                pivots: None,
+                grid: None,
+                most,
+                found: true,
                 ..
             } => Some(most.unwrap_or(GREATEST_GRID)),
             _ => None,
