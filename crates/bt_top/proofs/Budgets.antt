@@ -35,7 +35,7 @@ use Rattle.bt_model.specs.Requests.{LayoutRequest}
 use Rattle.bt_place.specs.PlaceFormula.{place_formula}
 use Rattle.bt_words.specs.declared.command.Command.{Command}
 use Rattle.bt_words.specs.Commands.{IsCommand}
-use Rattle.bt_words.specs.declared.command.Command.TheVariants.{FlowCheck, Recover, Check, Decide, Make, Layout, CheckLayout, Smallest, FlowFormula, PlaceFormula}
+use Rattle.bt_words.specs.declared.command.Command.TheVariants.{FlowCheck, Recover, Check, Decide, Make, Layout, CheckLayout, Smallest, FindSmall, FlowFormula, PlaceFormula}
 use Rattle.bt_words.specs.declared.command.Family.{Family}
 use Rattle.bt_words.specs.declared.command.Family.TheVariants.{Butterfly, Chain}
 use Rattle.bt_top.specs.declared.answer.Answer.{Answer}
@@ -175,6 +175,7 @@ ample_is_never_spent (Make Chain order limits) bytes a ample h = chain_other 4 h
 ample_is_never_spent (Layout rect tier learnt) bytes a ample h = lay_never rect tier learnt bytes a ample h
 ample_is_never_spent (CheckLayout rect tier) bytes a ample h = absurd ample
 ample_is_never_spent (Smallest most tier learnt) bytes a ample h = search_never most tier learnt bytes a ample h
+ample_is_never_spent (FindSmall most tier learnt) bytes a ample h = absurd ample
 ample_is_never_spent (FlowFormula p) bytes a ample h = absurd ample
 ample_is_never_spent (PlaceFormula rect tier) bytes a ample h = absurd ample
 
@@ -199,6 +200,7 @@ ample_turns_are_never_made (Make Chain order limits) bytes a ample h = chain_oth
 ample_turns_are_never_made (Layout rect tier learnt) bytes a ample h = absurd ample
 ample_turns_are_never_made (CheckLayout rect tier) bytes a ample h = absurd ample
 ample_turns_are_never_made (Smallest most tier learnt) bytes a ample h = absurd ample
+ample_turns_are_never_made (FindSmall most tier learnt) bytes a ample h = absurd ample
 ample_turns_are_never_made (FlowFormula p) bytes a ample h = absurd ample
 ample_turns_are_never_made (PlaceFormula rect tier) bytes a ample h = absurd ample
 

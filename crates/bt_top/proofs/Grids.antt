@@ -1,9 +1,9 @@
 -- The rectangle of a command is the grid of a request.
 use Rattle.std.proofs.Common.{ℕ, List}
 use Rattle.bt_words.specs.declared.command.Command.{Command}
-use Rattle.bt_words.specs.declared.command.Command.TheVariants.{FlowCheck, Recover, Check, Decide, Make, Layout, CheckLayout, Smallest, FlowFormula, PlaceFormula}
+use Rattle.bt_words.specs.declared.command.Command.TheVariants.{FlowCheck, Recover, Check, Decide, Make, Layout, CheckLayout, Smallest, FindSmall, FlowFormula, PlaceFormula}
 use Rattle.bt_words.specs.Commands.{IsCommand}
-use Rattle.bt_words.proofs.OneCommand.{grid_to_lay, grid_to_check, grid_to_search, grid_of_formula}
+use Rattle.bt_words.proofs.OneCommand.{grid_to_lay, grid_to_check, grid_to_search, grid_to_find, grid_of_formula}
 use Rattle.bt_top.specs.inner.Grids.{HasGrid}
 
 pub has_grid : (command : Command) (words : List (List ℕ)) → IsCommand command words → HasGrid command
@@ -15,5 +15,6 @@ has_grid (Make family order limits) words is = tt
 has_grid (Layout rect tier learnt) words is = grid_to_lay rect tier learnt words is
 has_grid (CheckLayout rect tier) words is = grid_to_check rect tier words is
 has_grid (Smallest most tier learnt) words is = grid_to_search most tier learnt words is
+has_grid (FindSmall most tier learnt) words is = grid_to_find most tier learnt words is
 has_grid (FlowFormula p) words is = tt
 has_grid (PlaceFormula rect tier) words is = grid_of_formula rect tier words is

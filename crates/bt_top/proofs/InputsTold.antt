@@ -5,7 +5,7 @@ use Rattle.bt_io.specs.Passages.{Passage}
 use Rattle.bt_io.specs.declared.fault.ReadAll.TheVariants.{TooLong, Memory}
 use Rattle.bt_io.proofs.Told.{all_told, takes_told}
 use Rattle.bt_words.specs.declared.command.Command.{Command}
-use Rattle.bt_words.specs.declared.command.Command.TheVariants.{FlowCheck, Recover, Check, Decide, Make, Layout, CheckLayout, Smallest, FlowFormula, PlaceFormula}
+use Rattle.bt_words.specs.declared.command.Command.TheVariants.{FlowCheck, Recover, Check, Decide, Make, Layout, CheckLayout, Smallest, FindSmall, FlowFormula, PlaceFormula}
 use Rattle.bt_top.specs.Inputs.{ReadsInput, IsInput, input_limit}
 
 read_before_in : (limit : ℕ) (source : Passage) (bytes : List ℕ) → ReadsAll limit source (Ok bytes) → ReadsAll limit source (Err Memory)
@@ -21,6 +21,7 @@ read_before (Make family order limits) source bytes h = h.0
 read_before (Layout rect tier learnt) source bytes h = read_before_in (input_limit (Layout rect tier learnt)) source bytes h
 read_before (CheckLayout rect tier) source bytes h = read_before_in (input_limit (CheckLayout rect tier)) source bytes h
 read_before (Smallest most tier learnt) source bytes h = read_before_in (input_limit (Smallest most tier learnt)) source bytes h
+read_before (FindSmall most tier learnt) source bytes h = read_before_in (input_limit (FindSmall most tier learnt)) source bytes h
 read_before (FlowFormula p) source bytes h = read_before_in (input_limit (FlowFormula p)) source bytes h
 read_before (PlaceFormula rect tier) source bytes h = read_before_in (input_limit (PlaceFormula rect tier)) source bytes h
 
@@ -37,6 +38,7 @@ input_told (Make family order limits) source bytes all is r = r.1 ∙ sym is
 input_told (Layout rect tier learnt) source bytes all is r = told_in (input_limit (Layout rect tier learnt)) source bytes all is.0 r
 input_told (CheckLayout rect tier) source bytes all is r = told_in (input_limit (CheckLayout rect tier)) source bytes all is.0 r
 input_told (Smallest most tier learnt) source bytes all is r = told_in (input_limit (Smallest most tier learnt)) source bytes all is.0 r
+input_told (FindSmall most tier learnt) source bytes all is r = told_in (input_limit (FindSmall most tier learnt)) source bytes all is.0 r
 input_told (FlowFormula p) source bytes all is r = told_in (input_limit (FlowFormula p)) source bytes all is.0 r
 input_told (PlaceFormula rect tier) source bytes all is r = told_in (input_limit (PlaceFormula rect tier)) source bytes all is.0 r
 
@@ -54,6 +56,7 @@ not_too_long (Make family order limits) source bytes is r = r
 not_too_long (Layout rect tier learnt) source bytes is r = few_in (input_limit (Layout rect tier learnt)) source bytes is.0 is.1 r
 not_too_long (CheckLayout rect tier) source bytes is r = few_in (input_limit (CheckLayout rect tier)) source bytes is.0 is.1 r
 not_too_long (Smallest most tier learnt) source bytes is r = few_in (input_limit (Smallest most tier learnt)) source bytes is.0 is.1 r
+not_too_long (FindSmall most tier learnt) source bytes is r = few_in (input_limit (FindSmall most tier learnt)) source bytes is.0 is.1 r
 not_too_long (FlowFormula p) source bytes is r = few_in (input_limit (FlowFormula p)) source bytes is.0 is.1 r
 not_too_long (PlaceFormula rect tier) source bytes is r = few_in (input_limit (PlaceFormula rect tier)) source bytes is.0 is.1 r
 
@@ -70,5 +73,6 @@ within_limit (Make family order limits) source bytes r = subst (λ xs. length xs
 within_limit (Layout rect tier learnt) source bytes r = within_in (input_limit (Layout rect tier learnt)) source bytes r
 within_limit (CheckLayout rect tier) source bytes r = within_in (input_limit (CheckLayout rect tier)) source bytes r
 within_limit (Smallest most tier learnt) source bytes r = within_in (input_limit (Smallest most tier learnt)) source bytes r
+within_limit (FindSmall most tier learnt) source bytes r = within_in (input_limit (FindSmall most tier learnt)) source bytes r
 within_limit (FlowFormula p) source bytes r = within_in (input_limit (FlowFormula p)) source bytes r
 within_limit (PlaceFormula rect tier) source bytes r = within_in (input_limit (PlaceFormula rect tier)) source bytes r

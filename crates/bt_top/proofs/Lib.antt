@@ -16,6 +16,8 @@ pub mod NoneCertified
 pub mod Grids
 pub mod LaidOut
 pub mod LeastFound
+pub mod SmallFound
+pub mod Spanning
 pub mod Preferring
 pub mod Formed
 pub mod Lasting

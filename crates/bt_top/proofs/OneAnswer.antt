@@ -19,7 +19,7 @@ use Rattle.bt_flow.proofs.OneAnswer.{one_breaking_answer}
 use Rattle.bt_flow.proofs.StateTexts.{one_state_read}
 use Rattle.bt_top.specs.declared.answer.Answer.{Answer}
 use Rattle.bt_top.specs.declared.answer.Answer.TheVariants as answer
-use Rattle.bt_words.specs.declared.command.Command.TheVariants.{FlowCheck, Recover, Check, Decide, Make, Layout, CheckLayout, Smallest, FlowFormula, PlaceFormula}
+use Rattle.bt_words.specs.declared.command.Command.TheVariants.{FlowCheck, Recover, Check, Decide, Make, Layout, CheckLayout, Smallest, FindSmall, FlowFormula, PlaceFormula}
 use Rattle.bt_words.specs.declared.command.Family.TheVariants.{Butterfly, Chain}
 use Rattle.bt_theory.specs.declared.outcome.GaveUp.{GaveUp}
 use Rattle.bt_theory.specs.declared.outcome.GaveUp.TheVariants as gave
@@ -27,6 +27,8 @@ use Rattle.bt_decide.specs.declared.verdict.Verdict.{Verdict}
 use Rattle.bt_decide.specs.declared.verdict.Verdict.TheVariants as verdict
 use Rattle.bt_layout.specs.declared.outcome.Layout.{Layout as ALayout}
 use Rattle.bt_layout.specs.declared.outcome.Layout.TheVariants as layout
+use Rattle.bt_layout.specs.declared.outcome.Small.{Small as ASmall}
+use Rattle.bt_layout.specs.declared.outcome.Small.TheVariants as small
 use Rattle.bt_layout.specs.declared.outcome.Smallest.{Smallest as ASmallest}
 use Rattle.bt_layout.specs.declared.outcome.Smallest.TheVariants as smallest
 use Rattle.bt_gen.specs.declared.butterflies.TheConstants.{MOST_STAGES}
@@ -41,6 +43,7 @@ use Rattle.bt_top.specs.Alone.{IsLoneNet}
 use Rattle.bt_top.specs.Answering.{OneRightAnswer}
 use Rattle.bt_top.specs.Answers.{status_of}
 use Rattle.bt_top.specs.Deciding.{IsDecided, verdict_told}
+use Rattle.bt_top.specs.Finding.{IsDesignRequest, IsFound}
 use Rattle.bt_top.specs.Formulas.{IsFlowFormulaFrom, IsPlaceFormulaFrom}
 use Rattle.bt_top.specs.LayingOut.{IsLaidOut, layout_told}
 use Rattle.bt_top.specs.Making.{IsSaidBalanced, IsBalanceDecided, balance_told, gen_told}
@@ -54,7 +57,7 @@ use Rattle.bt_top.specs.Steps.{InTurn, stopped, went_on}
 use Rattle.bt_top.proofs.Blanks.{one_rest}
 use Rattle.bt_top.proofs.InTurns.{one_in_turn, one_in_turn_of, same_value, same_fault, not_both}
 use Rattle.bt_top.proofs.OneDesign.{one_design, design_network}
-use Rattle.bt_top.proofs.OneRequest.{one_front_request, one_lone_request, one_plain_request, front_request}
+use Rattle.bt_top.proofs.OneRequest.{one_front_request, one_lone_request, one_plain_request, one_design_request, front_request}
 use Rattle.bt_top.proofs.StandingAlone.{one_alone}
 
 -- ---- flow-check
@@ -175,6 +178,10 @@ least_apart (smallest.Found earlier grid parts) is = omega (arith, is)
 least_apart (smallest.Nowhere earlier) is = omega (arith, is)
 least_apart (smallest.Spent earlier grid log) is = omega (arith, is)
 
+small_apart : (found : ASmall) → status_of (answer.Small found) ≢ 3
+small_apart (small.Found grid parts) is = omega (arith, is)
+small_apart (small.Spent steps) is = omega (arith, is)
+
 -- ---- make
 
 one_butterfly : (order : ℕ) → HasOneAnswer (InTurn (IsGenerated MOST_STAGES butterfly_net order) gen_told (IsSaidBalanced order))
@@ -198,5 +205,7 @@ only_right (Layout rect tier learnt) bytes a b only h k =
 only_right (CheckLayout rect tier) bytes a b only h k = same_value a b (one_layout_checked rect tier bytes (Ok a) (Ok b) h k)
 only_right (Smallest most tier learnt) bytes a b only h k =
     refused_only (IsPlainRequest most tier bytes) design_told (IsSearched learnt) (one_plain_request most tier bytes) (λ r c d. apart c (answer.Least d.0) d.3 (least_apart d.0)) a b only h k
+only_right (FindSmall most tier learnt) bytes a b only h k =
+    refused_only (IsDesignRequest most tier bytes) design_told (IsFound bytes learnt) (one_design_request most tier bytes) (λ r c d. apart c (answer.Small d.0) d.3 (small_apart d.0)) a b only h k
 only_right (FlowFormula p) bytes a b only h k = same_value a b (one_flow_formula p bytes (Ok a) (Ok b) h k)
 only_right (PlaceFormula rect tier) bytes a b only h k = same_value a b (one_place_formula rect tier bytes (Ok a) (Ok b) h k)

@@ -6,7 +6,7 @@ use Rattle.bt_json.specs.Answers.{IsRead}
 use Rattle.bt_json.proofs.OneRead.{one_read}
 use Rattle.bt_entities.specs.Answers.{IsPartsOf, IsPrioritisedOf}
 use Rattle.bt_entities.proofs.OneAnswer.{one_parts, one_reading}
-use Rattle.bt_net.specs.Network.{Network, IsNetwork}
+use Rattle.bt_net.specs.Network.{Network, HasNoPriorities, IsNetwork}
 use Rattle.bt_net.specs.Readings.{IsPlainRead}
 use Rattle.bt_net.proofs.OnePlain.{one_plain}
 use Rattle.bt_hands.specs.declared.hand.Priority.{Priority}
@@ -88,6 +88,26 @@ json_network bytes answer found is (stopped fault h e) = absurd (not_both found 
 json_network bytes answer found is (went_on read h k) =
     let net = seen_ok (λ n. (n, read.1)) k.0 found (sym is ∙ k.2) in
     subst IsNetwork (ap (λ (pair : Network × ℕ). pair.0) (sym net.2)) (blueprint_network read.0 k.0 net.0 net.1 k.1)
+
+-- in the network of a layout that is asked for no splitter prefers an edge
+placed_plain : (parts : List Part) (answer : Result Network DesignFault) (n : Network) → answer ≡ Ok n → IsPlacedNet parts answer → HasNoPriorities n
+placed_plain parts answer n is (stopped fault h e) = absurd (not_both n (layout_told fault) (sym is ∙ e))
+placed_plain parts answer n is (went_on found h e) = subst HasNoPriorities (same_value found.0 n (sym e ∙ is)) h.2
+
+layout_plain : (parts : List Part) (answer : Result Network DesignFault) (n : Network) → answer ≡ Ok n → IsLayoutNet parts answer → HasNoPriorities n
+layout_plain parts answer n is (stopped fault h e) = absurd (not_both n (grid_told fault) (sym is ∙ e))
+layout_plain parts answer n is (went_on placed h k) = placed_plain placed answer n is k
+
+blueprint_plain : (value : Json) (answer : Result Network DesignFault) (n : Network) → answer ≡ Ok n → IsBlueprintNet value answer → HasNoPriorities n
+blueprint_plain value answer n is (stopped fault h e) = absurd (not_both n (entity_told fault) (sym is ∙ e))
+blueprint_plain value answer n is (went_on parts h k) = layout_plain parts answer n is k
+
+pub json_plain : (bytes : List ℕ) (answer : Result (Network × ℕ) DesignFault) (found : Network × ℕ) → answer ≡ Ok found
+    → IsJsonLayout bytes answer → HasNoPriorities found.0
+json_plain bytes answer found is (stopped fault h e) = absurd (not_both found (json_told fault) (sym is ∙ e))
+json_plain bytes answer found is (went_on read h k) =
+    let net = seen_ok (λ n. (n, read.1)) k.0 found (sym is ∙ k.2) in
+    subst HasNoPriorities (ap (λ (pair : Network × ℕ). pair.0) (sym net.2)) (blueprint_plain read.0 k.0 net.0 net.1 k.1)
 
 text_network : (bytes : List ℕ) (answer : Result (Network × ℕ) DesignFault) (found : Network × ℕ) → answer ≡ Ok found
     → IsTextDesign bytes answer → IsNetwork found.0

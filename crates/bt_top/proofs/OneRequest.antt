@@ -12,13 +12,14 @@ use Rattle.bt_model.proofs.Requested.{one_made}
 use Rattle.bt_layout.specs.Smallest.{request_on}
 use Rattle.bt_top.specs.declared.fault.DesignFault.{DesignFault}
 use Rattle.bt_top.specs.Alone.{IsAlone}
-use Rattle.bt_top.specs.Designs.{IsJsonLayout, IsTextDesign}
+use Rattle.bt_top.specs.Finding.{IsDesignRequest}
+use Rattle.bt_top.specs.Designs.{IsJsonLayout, IsJsonText, IsTextDesign}
 use Rattle.bt_top.specs.Refusals.{request_told}
 use Rattle.bt_top.specs.Requested.{PinnedNet, pinned_net, IsPinnedText, IsPinnedJson, IsPinned, IsRequestFor, IsLoneRequest, IsFrontRequest}
 use Rattle.bt_top.specs.Searching.{IsPlainRequest, IsPlainText, IsUnpreferring}
 use Rattle.bt_top.specs.Steps.{stopped, went_on}
 use Rattle.bt_top.proofs.InTurns.{one_in_turn, same_value, not_both}
-use Rattle.bt_top.proofs.OneDesign.{one_json_layout, one_text_design, seen_ok}
+use Rattle.bt_top.proofs.OneDesign.{json_plain, one_json_layout, one_text_design, seen_ok}
 use Rattle.bt_top.proofs.StandingAlone.{one_alone}
 
 one_pinned_text : (bytes : List ℕ) → HasOneAnswer (IsPinnedText bytes)
@@ -59,6 +60,13 @@ one_plain_text bytes = one_in_turn (IsAlone IsTextDesign bytes) Err IsUnpreferri
 pub one_plain_request : (most : Rect) (tier : Tier) (bytes : List ℕ) → HasOneAnswer (IsPlainRequest most tier bytes)
 one_plain_request most tier bytes =
     one_in_turn (IsPlainText bytes) Err (λ n. IsRequestFor most tier (pinned_net n [] [])) (one_plain_text bytes) (λ n. one_request_for most tier (pinned_net n [] []))
+
+-- and of a request for a design alone
+pub one_design_request : (most : Rect) (tier : Tier) (bytes : List ℕ) → HasOneAnswer (IsDesignRequest most tier bytes)
+one_design_request most tier bytes a b (inl h) (inl k) = one_lone_request most tier bytes a b h.1 k.1
+one_design_request most tier bytes a b (inl h) (inr k) = absurd (k.0 h.0)
+one_design_request most tier bytes a b (inr h) (inl k) = absurd (h.0 k.0)
+one_design_request most tier bytes a b (inr h) (inr k) = one_plain_request most tier bytes a b h.1 k.1
 
 -- ---- what is found is a request
 
@@ -104,3 +112,49 @@ plain_net most tier bytes r (went_on n h (stopped fault k e)) = absurd (not_both
 plain_net most tier bytes r (went_on n h (went_on made k e)) =
     let same : r ≡ request_on n tier most = same_value r made e ∙ k.0 in
     subst (λ (x : LayoutRequest). HasNoPriorities x.net) (sym same) (plain_text_net bytes n h)
+
+-- JSON text names neither pins nor blocks, nor does a splitter of its network prefer an edge
+record IsUnpinned (n : PinnedNet) : Type 0 where
+  net : Network
+  is_net : n ≡ pinned_net net [] []
+  plain : HasNoPriorities net
+
+front_unpinned : (bytes : List ℕ) (found : PinnedNet × ℕ) → IsJsonText bytes → IsPinned bytes (Ok found) → IsUnpinned found.0
+front_unpinned bytes found json (inl (is, stopped fault h e)) = absurd (not_both found fault e)
+front_unpinned bytes found json (inl (is, went_on read h e)) =
+    record { net = read.0; is_net = ap (λ (pair : PinnedNet × ℕ). pair.0) (same_value found _ e); plain = json_plain bytes (Ok read) read refl h }
+front_unpinned bytes found json (inr h) = absurd (h.0 json)
+
+alone_unpinned : (bytes : List ℕ) (n : PinnedNet) → IsJsonText bytes → IsAlone IsPinned bytes (Ok n) → IsUnpinned n
+alone_unpinned bytes n json (stopped fault h e) = absurd (not_both n fault e)
+alone_unpinned bytes n json (went_on found h (text, skips, inl ended)) = subst IsUnpinned (sym (same_value n found.0 ended.1)) (front_unpinned bytes found json h)
+alone_unpinned bytes n json (went_on found h (text, skips, inr (more, r, at, e))) = absurd (not_both n _ e)
+
+-- what JSON text is found to ask for
+record IsDrawn (most : Rect) (tier : Tier) (r : LayoutRequest) : Type 0 where
+  net : Network
+  is_request : r ≡ request_on net tier most
+  made : IsRequest (request_on net tier most)
+  plain : HasNoPriorities net
+
+drawn : (most : Rect) (tier : Tier) (bytes : List ℕ) (r : LayoutRequest) → IsJsonText bytes → IsLoneRequest most tier bytes (Ok r) → IsDrawn most tier r
+drawn most tier bytes r json (stopped fault h e) = absurd (not_both r fault e)
+drawn most tier bytes r json (went_on n h (stopped fault k e)) = absurd (not_both r (request_told fault) e)
+drawn most tier bytes r json (went_on n h (went_on made k e)) =
+    let unpinned = alone_unpinned bytes n json h in
+    let asked = ap (λ (x : PinnedNet). request_of x.net most tier x.pins x.blocks) unpinned.is_net in
+    let same : made ≡ request_on unpinned.net tier most = k.0 ∙ asked in
+    record { net = unpinned.net; is_request = same_value r made e ∙ same; made = subst IsRequest same k.1; plain = unpinned.plain }
+
+-- what a design is found to ask for names neither pins nor blocks, and no splitter of its network prefers an edge
+pub design_request : (most : Rect) (tier : Tier) (bytes : List ℕ) (r : LayoutRequest) → IsDesignRequest most tier bytes (Ok r) → IsRequest (request_on r.net r.tier r.rect)
+design_request most tier bytes r (inl h) =
+    let is = drawn most tier bytes r h.0 h.1 in
+    subst (λ (x : LayoutRequest). IsRequest (request_on x.net x.tier x.rect)) (sym is.is_request) is.made
+design_request most tier bytes r (inr h) = plain_request most tier bytes r h.1
+
+pub design_net : (most : Rect) (tier : Tier) (bytes : List ℕ) (r : LayoutRequest) → IsDesignRequest most tier bytes (Ok r) → HasNoPriorities r.net
+design_net most tier bytes r (inl h) =
+    let is = drawn most tier bytes r h.0 h.1 in
+    subst (λ (x : LayoutRequest). HasNoPriorities x.net) (sym is.is_request) is.plain
+design_net most tier bytes r (inr h) = plain_net most tier bytes r h.1

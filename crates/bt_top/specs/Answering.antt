@@ -1,12 +1,13 @@
 -- What a command answers to the bytes of its input.
 use Rattle.std.specs.Prelude.{◌≡◌, ℕ, List, Ok}
 use Rattle.bt_words.specs.declared.command.Command.{Command}
-use Rattle.bt_words.specs.declared.command.Command.TheVariants.{FlowCheck, Recover, Check, Decide, Make, Layout, CheckLayout, Smallest, FlowFormula, PlaceFormula}
+use Rattle.bt_words.specs.declared.command.Command.TheVariants.{FlowCheck, Recover, Check, Decide, Make, Layout, CheckLayout, Smallest, FindSmall, FlowFormula, PlaceFormula}
 use Rattle.bt_words.specs.declared.command.Family.TheVariants.{Butterfly, Chain}
 use Rattle.bt_top.specs.declared.answer.Answer.{Answer}
 use Rattle.bt_top.specs.Answers.{status_of}
 use Rattle.bt_top.specs.Certificates.{IsCertified}
 use Rattle.bt_top.specs.Deciding.{IsDecidedFrom}
+use Rattle.bt_top.specs.Finding.{IsFoundFrom}
 use Rattle.bt_top.specs.Formulas.{IsFlowFormulaFrom, IsPlaceFormulaFrom}
 use Rattle.bt_top.specs.LayingOut.{IsLaidOutFrom}
 use Rattle.bt_top.specs.Making.{IsMade}
@@ -26,6 +27,7 @@ IsRightTo (Make family order limits) bytes = IsMade family order limits
 IsRightTo (Layout rect tier learnt) bytes = IsLaidOutFrom rect tier learnt bytes
 IsRightTo (CheckLayout rect tier) bytes = IsLayoutChecked rect tier bytes
 IsRightTo (Smallest most tier learnt) bytes = IsSearchedFrom most tier learnt bytes
+IsRightTo (FindSmall most tier learnt) bytes = IsFoundFrom most tier learnt bytes
 IsRightTo (FlowFormula p) bytes = IsFlowFormulaFrom p bytes
 IsRightTo (PlaceFormula rect tier) bytes = IsPlaceFormulaFrom rect tier bytes
 
@@ -40,6 +42,7 @@ IsOnly (Make Chain order limits) a = status_of a ≡ 3
 IsOnly (Layout rect tier learnt) a = status_of a ≡ 3
 IsOnly (CheckLayout rect tier) a = Unit {0}
 IsOnly (Smallest most tier learnt) a = status_of a ≡ 3
+IsOnly (FindSmall most tier learnt) a = status_of a ≡ 3
 IsOnly (FlowFormula p) a = Unit {0}
 IsOnly (PlaceFormula rect tier) a = Unit {0}
 

@@ -12,7 +12,9 @@ use Rattle.bt_theory.specs.declared.outcome.GaveUp as gave
 use Rattle.bt_theory.specs.declared.outcome.GaveUp.TheVariants.{Spent, Pivots, Wide}
 use Rattle.bt_layout.specs.declared.outcome.Smallest as smallest
 use Rattle.bt_layout.specs.declared.outcome.Smallest.TheVariants.{Found, Nowhere as NoGrid, Spent as SpentOn}
-use Rattle.bt_layout.specs.SmallestText.{smallest_text}
+use Rattle.bt_layout.specs.declared.outcome.Small.{Small as ASmall}
+use Rattle.bt_layout.specs.declared.outcome.Small.TheVariants as small
+use Rattle.bt_layout.specs.SmallestText.{small_text, smallest_text}
 pub use Rattle.bt_layout.specs.SmallestText.{none_word, nowhere_text}
 use Rattle.bt_dimacs.specs.Legends.{flow_formula_text, place_formula_text}
 use Rattle.bt_trail.specs.TrailText.{pivots_text, wide_text}
@@ -21,7 +23,7 @@ use Rattle.bt_words.specs.declared.command.Family.{Family}
 use Rattle.bt_words.specs.declared.command.Family.TheVariants.{Butterfly, Chain}
 use Rattle.bt_top.specs.declared.making.Made as making
 use Rattle.bt_top.specs.declared.answer.Answer.{Answer}
-use Rattle.bt_top.specs.declared.answer.Answer.TheVariants.{Breaks, Yes, No, Recovered, Proved, Broken, GaveUp, Made, LaidOut, Nowhere, NoLayout, Least, Usage, Refused, WideState, CertLine, BadStep, NoVerdict, CertWide, NotBreaking, TooLong, FlowFormula, PlaceFormula}
+use Rattle.bt_top.specs.declared.answer.Answer.TheVariants.{Breaks, Yes, No, Recovered, Proved, Broken, GaveUp, Made, LaidOut, Nowhere, NoLayout, Least, Small, Usage, Refused, WideState, CertLine, BadStep, NoVerdict, CertWide, NotBreaking, TooLong, FlowFormula, PlaceFormula}
 use Rattle.bt_top.specs.Refusals.{refusal_text}
 
 -- the status of a network that was made: 0 where it is balanced, and 1 where it isn't
@@ -40,6 +42,11 @@ least_status (Found earlier grid parts) = 0
 least_status (NoGrid earlier) = 1
 least_status (SpentOn earlier grid log) = 4
 
+-- the status of a search for small grids: 0 where one is found, else 4
+abbrev pub small_status : ASmall → ℕ
+small_status (small.Found grid parts) = 0
+small_status (small.Spent steps) = 4
+
 -- the status of an answer
 abbrev pub status_of : Answer → ℕ
 status_of (Breaks p) = 0
@@ -54,6 +61,7 @@ status_of (LaidOut parts) = 0
 status_of (Nowhere log) = 1
 status_of NoLayout = 1
 status_of (Least found) = least_status found
+status_of (Small found) = small_status found
 status_of Usage = 2
 status_of (Refused r) = 3
 status_of (WideState t a) = 5
@@ -117,6 +125,7 @@ text_of (LaidOut parts) = blueprint_text parts.items
 text_of (Nowhere log) = nowhere_text log.steps
 text_of NoLayout = line none_word
 text_of (Least found) = smallest_text found
+text_of (Small found) = small_text found
 text_of Usage = line (codes "usage")
 text_of (Refused r) = line (codes "refused " ++ refusal_text r)
 text_of (WideState t a) = line (codes "wide state " ++ test_name t ++ codes " " ++ decimal a)

@@ -5,7 +5,7 @@ use Rattle.bt_io.specs.Passages.{Passage}
 use Rattle.bt_io.specs.declared.fault.ReadAll.{ReadAll}
 use Rattle.bt_io.specs.declared.fault.ReadAll.TheVariants.{ReadFault, TooLong, Memory}
 use Rattle.bt_words.specs.declared.command.Command.{Command}
-use Rattle.bt_words.specs.declared.command.Command.TheVariants.{FlowCheck, Recover, Check, Decide, Make, Layout, CheckLayout, Smallest, FlowFormula, PlaceFormula}
+use Rattle.bt_words.specs.declared.command.Command.TheVariants.{FlowCheck, Recover, Check, Decide, Make, Layout, CheckLayout, Smallest, FindSmall, FlowFormula, PlaceFormula}
 use Rattle.bt_words.specs.Commands.{IsCommand}
 use Rattle.bt_top.specs.declared.input.TheConstants.{MOST_CHECKED, MOST_OF_DESIGN}
 
@@ -23,6 +23,7 @@ input_limit (Make family order limits) = 0
 input_limit (Layout rect tier learnt) = MOST_OF_DESIGN
 input_limit (CheckLayout rect tier) = MOST_CHECKED
 input_limit (Smallest most tier learnt) = MOST_OF_DESIGN
+input_limit (FindSmall most tier learnt) = MOST_OF_DESIGN
 input_limit (FlowFormula p) = MOST_OF_DESIGN
 input_limit (PlaceFormula rect tier) = MOST_OF_DESIGN
 

@@ -13,6 +13,7 @@ pub mod Making
 pub mod Requested
 pub mod LayingOut
 pub mod Searching
+pub mod Finding
 pub mod NoneCertificates
 pub mod Formulas
 pub mod Answering

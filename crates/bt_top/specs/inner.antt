@@ -5,4 +5,5 @@ pub mod Found
 pub mod Fronts
 pub mod Grids
 pub mod Lines
+pub mod Spans
 pub mod Telling

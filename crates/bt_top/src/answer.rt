@@ -1,6 +1,6 @@
 //! The answers of the program. Each has a status and a text.
 ghost use Rattle.std.specs.Prelude.{◌≡◌};
-ghost use Rattle.bt_top.specs.Answers.{gave_up_status, least_status, status_of};
+ghost use Rattle.bt_top.specs.Answers.{gave_up_status, least_status, small_status, status_of};
 ghost use Rattle.bt_top.specs.Replies.{design_told};
 
 use crate::fault::DesignFault;
@@ -10,7 +10,7 @@ use bt_cert::Cause;
 use bt_cnf::Formula;
 use bt_dimacs::Columns;
 use bt_flow::{Property, State, Test};
-use bt_layout::Smallest;
+use bt_layout::{Small, Smallest};
 use bt_log::Log;
 use bt_net::Net;
 use bt_parts::Part;
@@ -45,6 +45,8 @@ pub enum Answer {
     NoLayout,
     /// What a search for the least grid on which parts show a network comes to.
     Least(Smallest),
+    /// What looking for small grids on which parts show a network comes to.
+    Small(Small),
     /// The words are no command.
     Usage,
     /// The design is refused.
@@ -85,6 +87,7 @@ impl Answer {
             Answer::No(_) | Answer::Broken(..) | Answer::Nowhere(_) | Answer::NoLayout => 1,
             Answer::Made(made) => made.status(),
             Answer::Least(found) => least_status(found),
+            Answer::Small(found) => small_status(found),
             Answer::Usage => 2,
             Answer::Refused(_) => 3,
             Answer::GaveUp(cause) => gave_up_status(cause),
@@ -107,6 +110,16 @@ fn least_status(found: &Smallest) -> u8
         Smallest::Found { .. } => 0,
         Smallest::Nowhere(_) => 1,
         Smallest::Spent { .. } => 4,
+    }
+}
+
+/// The status of a search for small grids.
+fn small_status(found: &Small) -> u8
+    ensures { result ≡ small_status found.now }
+{
+    match found {
+        Small::Found { .. } => 0,
+        Small::Spent(_) => 4,
     }
 }
 

@@ -25,6 +25,7 @@ fn input_limit(command: Command) -> usize
         | Command::Decide(..)
         | Command::Layout(..)
         | Command::Smallest(..)
+        | Command::FindSmall(..)
         | Command::FlowFormula(_)
         | Command::PlaceFormula(..) => MOST_OF_DESIGN,
         Command::Make(..) => 0,

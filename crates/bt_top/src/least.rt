@@ -35,7 +35,7 @@ pub fn searched(
 }
 
 /// The request for the network whose text the bytes are, on the greatest grid.
-fn read_plain_request(
+pub fn read_plain_request(
     alloc: Global,
     most: Rect,
     tier: Tier,

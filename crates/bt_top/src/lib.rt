@@ -1,7 +1,7 @@
 //! All that the program does, over words, a source of bytes and a sink of bytes.
 //!
 //! `program` reads the words and the source and writes the answer; `design`, `alone`, `request`, `flow_check`,
-//! `certificate`, `recover`, `decision`, `making`, `laying`, `least`, `none_certificate` and `formula` find the answer to
+//! `certificate`, `recover`, `decision`, `making`, `laying`, `least`, `finding`, `none_certificate` and `formula` find the answer to
 //! an input that is read whole, and `blocks` that of `check` and `check-layout` as the input is read, by what
 //! `flow_front` and `layout_front` tell of its front; `text` and `printing` write it.
 #![tactic(auto)]
@@ -15,6 +15,7 @@ mod claim;
 mod decision;
 mod design;
 mod fault;
+mod finding;
 mod flow_check;
 mod flow_front;
 mod formula;

@@ -17,6 +17,7 @@ use crate::certificate::certified;
 use crate::choosers::Choosers;
 use crate::claim::Claim;
 use crate::decision::decided;
+use crate::finding::found_small;
 use crate::flow_check::check;
 use crate::formula::{flow_formula, place_formula};
 use crate::input::read_input;
@@ -151,6 +152,7 @@ fn right_answer(
         }
         Command::CheckLayout(rect, tier) => layout_checked(alloc, rect, tier, bytes),
         Command::Smallest(most, tier, learnt) => searched(alloc, most, tier, learnt, bytes),
+        Command::FindSmall(most, tier, learnt) => found_small(alloc, most, tier, learnt, bytes),
         Command::FlowFormula(property) => flow_formula(alloc, property, bytes),
         Command::PlaceFormula(rect, tier) => place_formula(alloc, rect, tier, bytes),
     }
@@ -204,6 +206,7 @@ fn write_formed<K: Sink>(answer: &Answer, formed: &[u8], sink: &mut K) -> Result
 {
     match answer {
         Answer::Least(found) => bt_layout::print_smallest(found, formed, sink),
+        Answer::Small(found) => bt_layout::print_small(found, formed, sink),
         _ => write_all_of(sink, formed),
     }
 }

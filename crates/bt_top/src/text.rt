@@ -88,6 +88,7 @@ pub fn text_of_answer(alloc: Global, answer: &Answer) -> Result<Vec<u8>, AllocEr
     match answer {
         Answer::LaidOut(parts) => bt_write::text_of(alloc, parts),
         Answer::Least(found) => bt_layout::blueprint_of(alloc, found),
+        Answer::Small(found) => bt_layout::blueprint_of_small(alloc, found),
         _ => text_of(alloc, &answer_line(answer)),
     }
 }
@@ -105,6 +106,7 @@ fn answer_line(answer: &Answer) -> Line
         | Answer::LaidOut(_)
         | Answer::Nowhere(_)
         | Answer::Least(_)
+        | Answer::Small(_)
         | Answer::FlowFormula(..)
         | Answer::PlaceFormula(..) => Line("", Detail::Nothing),
         Answer::NoLayout => Line("none", Detail::Nothing),

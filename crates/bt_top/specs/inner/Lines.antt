@@ -1,9 +1,9 @@
 -- Lines while they are formed: words, and numbers and names that are said with them.
 use Rattle.std.specs.Prelude.{ℕ, List, [], ◌++◌, codes, decimal}
 use Rattle.bt_net.specs.NetText.{line}
-use Rattle.bt_layout.specs.SmallestText.{blueprint_of}
+use Rattle.bt_layout.specs.SmallestText.{blueprint_of, blueprint_of_small}
 use Rattle.bt_top.specs.declared.answer.Answer.{Answer}
-use Rattle.bt_top.specs.declared.answer.Answer.TheVariants.{Recovered, Proved, Broken, GaveUp, Made, LaidOut, Nowhere, Least, CertLine, BadStep, NoVerdict, CertWide, FlowFormula, PlaceFormula}
+use Rattle.bt_top.specs.declared.answer.Answer.TheVariants.{Recovered, Proved, Broken, GaveUp, Made, LaidOut, Nowhere, Least, Small, CertLine, BadStep, NoVerdict, CertWide, FlowFormula, PlaceFormula}
 use Rattle.bt_top.specs.Answers.{text_of}
 use Rattle.bt_top.specs.declared.text.Detail.{Detail}
 use Rattle.bt_top.specs.declared.text.Detail.TheVariants.{Nothing, Name, Number, Numbers, ThreeNumbers, NameAndNumber, NumberAndName}
@@ -35,15 +35,17 @@ IsLine (FlowFormula columns f) = ⊥
 IsLine (PlaceFormula starts f) = ⊥
 IsLine other = Unit {0}
 
--- what is formed of an answer's text: of a search for the least grid the blueprint that is found, and else all of it
+-- what is formed of an answer's text: of a search for the least grid or for small ones the blueprint that is found, and else all of it
 abbrev pub formed_text : Answer → List ℕ
 formed_text (Least found) = blueprint_of found
+formed_text (Small found) = blueprint_of_small found
 formed_text other = text_of other
 
 -- and the line is one of fixed words, numbers and names
 abbrev pub IsFixedLine : Answer → Type 0
 IsFixedLine (LaidOut parts) = ⊥
 IsFixedLine (Least found) = ⊥
+IsFixedLine (Small found) = ⊥
 IsFixedLine other = IsLine other
 
 -- the answer is that a text is no certificate
