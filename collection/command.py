@@ -14,7 +14,7 @@ from . import files, inputs, report
 from .program import NoProgram, find
 from .rows import LABELS, Row
 from .states import PROPERTIES
-from .work import Folder, Limits, Worker, all_of, stands
+from .work import DESIGN_JSON, Folder, Limits, Worker, all_of, is_looked_for, stands
 
 ENDED_WELL, FAILED, WRONG_WORDS, STOPPED = 0, 1, 2, 130
 REDRAWN_EACH = 0.5
@@ -49,6 +49,7 @@ def words_of(arguments):
     parser.add_argument("--seconds", type=at_least(0.001, float), help="how long a decision, or its check, may take")
     parser.add_argument("--learnt", type=at_least(0), help="how many steps a log may have, as for decide")
     parser.add_argument("--pivots", type=at_least(0), help="how many turns there may be, as for decide")
+    parser.add_argument("--smaller", action="store_true", help="looks for a smaller layout of each design laid out")
     parser.add_argument("--program", metavar="FILE", help="the program to run, in place of that of bin/beltproof")
     other = parser.add_mutually_exclusive_group()
     other.add_argument("--plan", action="store_true", help="prints a command for each design, and runs nothing")
@@ -113,6 +114,7 @@ def fill(rows):
     for row in rows:
         if row.folder and row.found.text is not None and row.folder.record.get("design") == row.found.digest():
             row.network = row.network or row.folder.network()
+            row.smaller = row.smaller or row.folder.smaller()
             for prop in PROPERTIES:
                 told = row.decided.get(prop) or row.folder.decided(prop)
                 if told:
@@ -149,6 +151,19 @@ def decide(worker, row, prop):
         row.decided[prop] = {"verdict": "failed", "why": f"the answer can't be written: {fault.strerror or fault}"}
 
 
+def shrink(worker, row):
+    try:
+        row.smaller = worker.shrink(row.folder)
+    except OSError as fault:
+        row.smaller = {"verdict": "failed", "why": f"the smaller layout can't be written: {fault.strerror or fault}"}
+
+
+def is_to_shrink(row, worker):
+    """Whether a smaller layout of this design is still to be looked for."""
+    laid_out = row.folder.file(DESIGN_JSON).is_file()
+    return worker.smaller and laid_out and not is_looked_for(row.folder.smaller(), worker.limits)
+
+
 def tasks_of(rows, worker):
     """What is to be done for each design and property, with its name."""
     for row in rows:
@@ -158,6 +173,9 @@ def tasks_of(rows, worker):
                 row.decided[prop] = told
             else:
                 yield f"{row.found.name} {prop}", (decide, worker, row, prop)
+        row.smaller = row.folder.smaller()
+        if is_to_shrink(row, worker):
+            yield f"{row.found.name} smaller", (shrink, worker, row)
 
 
 def run_all(tasks, jobs, program):
@@ -201,10 +219,13 @@ def plan(rows, worker, asked):
     """Prints a command for each design that has work left."""
     given = [(f"--{name}", getattr(asked, name)) for name in ("seconds", "learnt", "pivots", "program")]
     limits = [word for name, value in given if value is not None for word in (name, str(value))]
+    limits += ["--smaller"] if worker.smaller else []
     for row in own_rows(rows):
         if not begin(worker, row):
             print(f"collection: {row.found.name}: {row.trouble}", file=sys.stderr)
-        elif any(not stands(row.folder.decided(prop), worker.limits) for prop in PROPERTIES):
+            continue
+        undecided = any(not stands(row.folder.decided(prop), worker.limits) for prop in PROPERTIES)
+        if undecided or is_to_shrink(row, worker):
             command = os.environ.get("COLLECTION_COMMAND", "bin/collection")
             print(shlex.join([command, *limits, "--one", str(row.folder.path)]))
 
@@ -214,12 +235,16 @@ def write_report(rows, output, program):
     for row in rows:
         if row.same_as:
             row.network, row.decided, row.trouble = row.same_as.network, row.same_as.decided, row.same_as.trouble
+            row.smaller = row.same_as.smaller
     report.write(output, rows, program)
     with_network = [row for row in rows if row.net]
     verdicts = Counter(row.answer(prop)["verdict"] for row in with_network for prop in PROPERTIES)
     told = ", ".join(f"{number} {LABELS[verdict]}" for verdict, number in verdicts.items())
     print(f"{output / 'index.html'}: {len(rows)} found, {len(with_network)} with a network{': ' * bool(told)}{told}")
-    failed = verdicts["failed"] or any(row.trouble for row in rows)
+    found = sum(row.smaller is not None and row.smaller["verdict"] == "found" for row in with_network)
+    if any(row.smaller for row in with_network):
+        print(f"{found} with a smaller layout")
+    failed = verdicts["failed"] or any(row.trouble or (row.smaller or {}).get("verdict") == "failed" for row in rows)
     return FAILED if failed else ENDED_WELL
 
 
@@ -233,7 +258,7 @@ def main(arguments):
             if folder.design_file() is None:
                 print(f"collection: there is no design in {asked.one}", file=sys.stderr)
                 return FAILED
-            worker = Worker(find(asked.program), limits)
+            worker = Worker(find(asked.program), limits, asked.smaller)
             file = folder.design_file()
             clean(folder)
             worker.begin(folder, folder.record.get("name", folder.path.name), file.read_bytes(), file.name)
@@ -248,7 +273,7 @@ def main(arguments):
             fill(rows)
             programs = Counter(row.folder.record.get("program", "") for row in own_rows(rows))
             return write_report(rows, output, max(programs, key=programs.get, default=""))
-        worker = Worker(find(asked.program), limits)
+        worker = Worker(find(asked.program), limits, asked.smaller)
         if asked.plan:
             plan(rows, worker, asked)
             return ENDED_WELL

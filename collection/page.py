@@ -8,7 +8,7 @@ from . import files, states, strings
 from .picture import flows
 from .rows import LABELS
 from .states import PROMISES, PROPERTIES
-from .work import NETWORK, SETTLED
+from .work import NETWORK, SETTLED, SMALLER, SMALLER_STRING
 
 HERE = Path(__file__).resolve().parent
 SIGNS = {"yes": "✓", "no": "✕"}
@@ -211,6 +211,24 @@ def breaking(row, prop):
     return element("section", *content, class_="breaking")
 
 
+def smaller(row):
+    """The smaller layout that was found: its size, its picture and its string; or why there is none."""
+    told, heading = row.smaller, element("h3", "A smaller layout")
+    if told["verdict"] != "found":
+        return element("section", heading, element("p", shown(told["why"])), class_="smaller")
+    width, height = told["size"]
+    own = row.size()
+    than = f", where the design has {own[0]} × {own[1]}, {count(own[0] * own[1], 'cell')}" if own else ""
+    links = " and ".join(element("a", it, href=f"designs/{row.id()}/{it}") for it in (SMALLER, SMALLER_STRING))
+    said = element("p", f"{width} × {height}, {count(width * height, 'cell')}{than}: ", links)
+    picture = row.smaller_picture
+    label = f"{files.plain(row.found.name)}, laid out smaller"
+    drawn = figure(picture, picture.parts(f"s-{row.id()}") + picture.ends(), label)
+    summary = element("summary", "Blueprint string of the smaller layout, to paste into the game")
+    string = element("details", summary, element("code", row.smaller_string(), class_="string"))
+    return element("section", heading, said, drawn, string, class_="smaller")
+
+
 def page(row, before, after):
     """A design's page, with the ways to those before and after it."""
     picture, lack = row.picture
@@ -232,7 +250,8 @@ def page(row, before, after):
     if row.found.is_json():
         summary = element("summary", "Blueprint string, to paste into the game")
         string = element("details", summary, element("code", strings.deflate(row.found.text), class_="string"))
-    content = ways, element("h2", shown(name)), refused, both, shows, string
+    less = smaller(row) if row.smaller else ""
+    content = ways, element("h2", shown(name)), refused, both, shows, less, string
     return element("article", *content, class_="page", id=row.id())
 
 

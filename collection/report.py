@@ -4,7 +4,7 @@ from pathlib import Path
 
 from . import files, page
 from .states import PROPERTIES
-from .work import SETTLED
+from .work import SETTLED, SMALLER
 
 COLUMNS = "design place source property verdict why steps seconds accepted file design_digest program_digest".split()
 
@@ -25,6 +25,12 @@ def table(rows, program):
             accepted = ("yes" if told["verdict"] in SETTLED else "no") if file else ""
             numbers = [told.get("steps", 0), told.get("seconds", 0)]
             lines.append([*start, prop, told["verdict"], told.get("why", ""), *numbers, accepted, file, *digests])
+        if row.smaller:
+            told = row.smaller
+            found = told["verdict"] == "found"
+            why = "{} x {}".format(*told["size"]) if found else told["why"]
+            file = f"designs/{row.id()}/{SMALLER}" if found else ""
+            lines.append([*start, "smaller", told["verdict"], why, 0, told.get("seconds", 0), "", file, *digests])
     return "".join("\t".join(files.plain(str(word)) for word in line) + "\n" for line in lines)
 
 

@@ -5,7 +5,7 @@ from functools import cached_property
 
 from . import design, refusals, states, trace
 from .picture import Picture
-from .work import NETWORK
+from .work import NETWORK, SMALLER, SMALLER_STRING
 
 LABELS = {
     "yes": "yes",
@@ -31,6 +31,7 @@ class Row:
     same_as: "Row | None" = None
     network: dict | None = None
     decided: dict = field(default_factory=dict)
+    smaller: dict | None = None
 
     def id(self):
         return self.folder.path.name if self.folder else ""
@@ -85,6 +86,21 @@ class Row:
             return None
         least_x, least_y, most_x, most_y = parts.box()
         return most_x - least_x + 1, most_y - least_y + 1
+
+    @cached_property
+    def smaller_picture(self):
+        """The picture of the smaller layout that was found, or None."""
+        if not self.smaller or self.smaller["verdict"] != "found":
+            return None
+        parts = design.read(self.folder.text(SMALLER))
+        try:
+            return Picture(parts, trace.Layout(parts.parts).network())
+        except trace.Untraced:
+            return Picture(parts)
+
+    def smaller_string(self):
+        """The smaller layout as a string to paste."""
+        return self.folder.text(SMALLER_STRING).strip()
 
     @cached_property
     def picture(self):

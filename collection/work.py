@@ -1,4 +1,4 @@
-"""What is done for each design: its network, each property decided, and each answer checked.
+"""What is done for each design: its network, each property decided, each answer checked, and a smaller layout.
 
 All of it is kept in the design's folder, with a record of what was done by which program. What the record tells is not
 done again, as long as the files are there and are what they were."""
@@ -8,17 +8,22 @@ import threading
 from dataclasses import dataclass, field
 from pathlib import Path
 
-from . import files
+from . import design, files, strings
 from .program import EXACT_STATUSES
 from .states import PROPERTIES
 
 RECORD = "record.json"
 NETWORK = "network.net"
+DESIGN_JSON = "design.json"
 LONGEST_LINE = 4096
 SETTLED = ("yes", "no")
 GAVE_UP = ("spent", "pivots", "wide", "late", "unaccepted")
 ANSWERS = {"yes": "yes", "no": "not"}
 """How the name of a file begins that holds a certificate, or a breaking state."""
+SMALLER, SMALLER_STRING, SMALLER_NETWORK = "smaller.json", "smaller.txt", "smaller.net"
+"""A smaller blueprint, the string to paste of it, and the network that is recovered from it."""
+FOUND = ("found", "none", "refused", "late")
+"""What looking for a smaller layout may come to, but for failures."""
 VERDICT_OF = {0: "yes", 1: "no", 4: "spent", 5: "wide", 10: "pivots"}
 
 
@@ -37,6 +42,10 @@ class Limits:
 
     def told(self):
         return [self.seconds, self.learnt, self.pivots]
+
+    def words_to_find(self):
+        """The words that tell the program of them where it looks for layouts, which takes no turns."""
+        return ["--learnt", str(self.learnt)] if self.learnt is not None else []
 
 
 class Folder:
@@ -64,7 +73,7 @@ class Folder:
 
     def design_file(self):
         """The design's own file, or None."""
-        there = [it for it in (self.file("design.json"), self.file("design.net")) if it.is_file()]
+        there = [it for it in (self.file(DESIGN_JSON), self.file("design.net")) if it.is_file()]
         return there[0] if there else None
 
     def digest(self):
@@ -89,11 +98,22 @@ class Folder:
             return None
         return told
 
+    def smaller(self):
+        """What the record tells of a smaller layout, where the files are what they were."""
+        told = self.record.get("smaller")
+        if not isinstance(told, dict) or told.get("verdict") not in FOUND:
+            return None
+        kept = told.get("digests", {})
+        if not isinstance(kept, dict) or any(files.digest_of_file(self.file(it)) != kept[it] for it in kept):
+            return None
+        return None if told["verdict"] == "found" and SMALLER not in kept else told
+
     def forget(self, record):
         """Takes away what another program answered, or what was answered to another design."""
         with self.guard:
             self.record = record
-            for name in [NETWORK, *(f"{word}-{prop}.txt" for word in ANSWERS.values() for prop in PROPERTIES)]:
+            answers = (f"{word}-{prop}.txt" for word in ANSWERS.values() for prop in PROPERTIES)
+            for name in [NETWORK, SMALLER, SMALLER_STRING, *answers]:
                 self.file(name).unlink(missing_ok=True)
 
     def keep(self, **told):
@@ -112,6 +132,26 @@ def stands(told, limits):
     if told is None:
         return False
     return told["verdict"] in SETTLED or told["verdict"] in GAVE_UP and told.get("limits") == limits.told()
+
+
+def is_looked_for(told, limits):
+    """Whether a smaller layout needs no second run: a refusal, or the same limits once more."""
+    return told is not None and (told["verdict"] == "refused" or told.get("limits") == limits.told())
+
+
+def sizes(text):
+    """How many inputs, outputs, splitters and edges a network text tells of."""
+    lines = text.splitlines()
+    return [*lines[0].split(" ")[1:4], sum(line.startswith("edge ") for line in lines)] if lines else []
+
+
+def tier_words(text):
+    """The words that name the tier of a layout's parts, where all have one."""
+    try:
+        tiers = list(design.read(text).tiers())
+    except design.Unreadable:
+        return []
+    return ["--tier", tiers[0]] if len(tiers) == 1 else []
 
 
 def first_line(path):
@@ -150,6 +190,8 @@ class Worker:
 
     program: object
     limits: Limits = field(default_factory=Limits)
+    smaller: bool = False
+    """Whether smaller layouts are looked for."""
 
     def begin(self, folder, name, design, file):
         """Puts a design into its folder. What is there of another design or program is forgotten."""
@@ -237,10 +279,64 @@ class Worker:
         return told | {"verdict": "unaccepted" if exact else "failed", "why": why}
 
 
+    def shrink(self, folder):
+        """Looks for a smaller layout of a design that is laid out; what the record tells is not done again."""
+        told = folder.smaller()
+        if is_looked_for(told, self.limits):
+            return told
+        answer = folder.file(f"smaller.answer{files.UNDONE}")
+        try:
+            told = self.shrink_anew(folder, answer)
+        finally:
+            answer.unlink(missing_ok=True)
+        if told["verdict"] in FOUND:
+            folder.keep(smaller=told)
+        return told
+
+    def shrink_anew(self, folder, answer):
+        for name in (SMALLER, SMALLER_STRING):
+            folder.file(name).unlink(missing_ok=True)
+        tier = tier_words(folder.design_file().read_text("utf-8", "replace"))
+        with open(answer, "wb") as out:
+            words = ["smallest", "--found", *tier, *self.limits.words_to_find()]
+            ended = self.program.run(words, [folder.design_file()], out, self.limits.seconds)
+        told = {"seconds": round(ended.seconds, 3), "limits": self.limits.told()}
+        if ended.late:
+            return told | {"verdict": "late", "why": f"the time was up after {self.limits.seconds:g} seconds"}
+        line = first_line(answer)
+        if ended.status == 0:
+            return told | self.keep_smaller(folder, answer)
+        if ended.status == 4:
+            return told | {"verdict": "none", "why": f"none was found in {line.split(' ')[1]} steps"}
+        if ended.status in EXACT_STATUSES:
+            return told | {"verdict": "refused", "why": line}
+        return told | {"verdict": "failed", "why": line or how_it_ended(ended)}
+
+    def keep_smaller(self, folder, answer):
+        """Keeps a smaller blueprint and its string, where its network has the sizes of the design's."""
+        grid, _, blueprint = answer.read_bytes().partition(b"\n")
+        asked = folder.file(f"{SMALLER_NETWORK}{files.UNDONE}")
+        try:
+            with open(asked, "wb") as out:
+                ended = self.program.run(["recover"], [blueprint], out)
+            shown = asked.read_text("ascii", "replace")
+        finally:
+            asked.unlink(missing_ok=True)
+        if ended.status != 0 or sizes(shown) != sizes(folder.text(NETWORK)):
+            return {"verdict": "failed", "why": f"what was found shows another network: {shown[:LONGEST_LINE]!r}"}
+        files.write(folder.file(SMALLER), blueprint)
+        files.write(folder.file(SMALLER_STRING), strings.deflate(blueprint.rstrip(b"\n")) + "\n")
+        digests = {name: files.digest_of_file(folder.file(name)) for name in (SMALLER, SMALLER_STRING)}
+        width, _, height = grid.decode("ascii", "replace").removeprefix("grid ").partition("x")
+        return {"verdict": "found", "size": [int(width), int(height)], "digests": digests}
+
+
 def all_of(worker, folder):
     """Does all work on one folder, one thing after the other; gives what failed, in words."""
     network = worker.recover(folder)
     if network["status"] not in EXACT_STATUSES:
         return [network["line"]]
     answers = [worker.decide(folder, prop) for prop in PROPERTIES] if network["status"] == 0 else []
+    if worker.smaller and network["status"] == 0 and folder.design_file().name == DESIGN_JSON:
+        answers.append(worker.shrink(folder))
     return [it["why"] for it in answers if it["verdict"] == "failed"]

@@ -47,6 +47,13 @@ FAKE = '''#!/bin/sh
 echo "$@" >>"{log}"
 cat >/dev/null
 case "$1 $2 {how}" in
+  'smallest --found small') printf 'grid 1x1\n%s\n' '{small}' ;;
+  'smallest --found other') touch "{log}.asked"; printf 'grid 1x1\n%s\n' '{small}' ;;
+  'smallest --found refused') echo 'refused 45 Cap 0'; exit 3 ;;
+  'smallest --found killed') kill -9 $$ ;;
+  'smallest --found slow') exec sleep 60 ;;
+  smallest*) printf 'spent 7\nend\n'; exit 4 ;;
+  recover*other) [ -e "{log}.asked" ] && printf 'net 2 2 0\n' || printf 'net 1 1 0\nedge i0 o0\nend\n' ;;
   recover*) printf 'net 1 1 0\\nedge i0 o0\\nend\\n' ;;
   check*unaccepted) echo 'refused 52 NoVerdict'; exit 9 ;;
   check*) echo "yes $2" ;;
@@ -75,7 +82,7 @@ class Case(unittest.TestCase):
 
     def fake(self, how=""):
         """A program that answers at once, or else as told."""
-        path = self.write("fake", FAKE.format(log=self.folder / "log", how=how))
+        path = self.write("fake", FAKE.format(log=self.folder / "log", how=how, small=blueprint(belt(0, 0))))
         os.chmod(path, 0o755)
         return path
 

@@ -7,9 +7,9 @@ import subprocess
 import sys
 import time
 
-from .. import states
+from .. import states, strings
 from ..files import replacing
-from . import EXAMPLES, TOP, Case, belt, blueprint, run
+from . import EXAMPLES, TOP, Case, belt, blueprint, run, test_report
 
 DECISIONS = {f"decide {prop}" for prop in states.PROPERTIES}
 
@@ -184,6 +184,83 @@ class Resuming(Case):
         self.assertTrue(all(it == self.report or self.report in it.parents for it in new))
         self.assertEqual(len(list((self.report / "designs").iterdir())), len(names))
         self.assertEqual(len(self.results()), 4 * len(names))
+
+
+class Smaller(Case):
+    def setUp(self):
+        super().setUp()
+        belts = (belt(0, y, name="fast-transport-belt") for y in (0, 1))
+        self.write("in/one.json", blueprint(*belts))
+        self.kept = self.report / "designs" / "one"
+
+    def run_on(self, *more, how="small"):
+        words = [self.folder / "in", "-o", self.report, "--jobs", "2", "--smaller", "--program", self.fake(how), *more]
+        return run(*words)[0]
+
+    def searches(self):
+        return [it for it in self.log() if it.startswith("smallest")]
+
+    def told(self):
+        (line,) = [it for it in self.results() if it["property"] == "smaller"]
+        return line["verdict"], line["why"], line["file"]
+
+    def test_it_is_kept_as_json_and_as_a_string(self):
+        self.assertEqual(self.run_on(), 0)
+        self.assertEqual(self.searches(), ["smallest --found --tier fast"])
+        self.assertEqual(self.told(), ("found", "1 x 1", "designs/one/smaller.json"))
+        json, string = (self.kept / name for name in ("smaller.json", "smaller.txt"))
+        self.assertEqual(strings.inflate(string.read_text()), json.read_bytes().rstrip(b"\n"))
+        said = "1 × 1, 1 cell, where the design has 1 × 2, 2 cells"
+        for text in ("A smaller layout", said, string.read_text().strip()):
+            self.assertIn(text, self.page())
+        page, found = self.page(), test_report.Tags()
+        found.feed(page)
+        self.assertEqual((found.wrong, found.open, len(found.ids)), ([], [], len(set(found.ids))))
+        self.assertEqual([it for it in found.links if it[0] != "#" and not (self.report / it).is_file()], [])
+        self.assertEqual((self.run_on(), len(self.searches()), self.page()), (0, 1, page))
+
+    def test_a_lost_or_changed_file_or_another_limit_looks_again(self):
+        self.run_on()
+        (self.kept / "smaller.json").write_text("{}")
+        self.run_on()
+        (self.kept / "smaller.txt").unlink()
+        self.run_on()
+        self.run_on("--learnt", 5)
+        words = "smallest --found --tier fast"
+        self.assertEqual(self.searches()[1:], [words, words, f"{words} --learnt 5"])
+
+    def test_it_is_looked_for_where_it_is_asked_and_a_design_is_laid_out(self):
+        self.write("in/two.net", "net 1 1 0\nedge i0 o0\nend\n")
+        run(self.folder / "in", "-o", self.report, "--program", self.fake("small"))
+        self.assertEqual(self.searches(), [])
+        self.run_on()
+        self.assertEqual(len(self.searches()), 1)
+
+    def test_each_failure_is_a_line(self):
+        cases = {
+            "": (0, "none", "none was found in 7 steps"),
+            "refused": (0, "refused", "refused 45 Cap 0"),
+            "killed": (1, "failed", "the program was ended by signal 9"),
+            "other": (1, "failed", "what was found shows another network: 'net 2 2 0\\n'"),
+        }
+        for how, (status, verdict, why) in cases.items():
+            with self.subTest(how=how):
+                self.assertEqual((self.run_on(how=how), self.told()), (status, (verdict, why, "")))
+                self.assertIn("A smaller layout", self.page())
+                self.assertEqual(list(self.kept.glob("smaller*")), [])
+
+    def test_the_time_is_kept(self):
+        self.assertEqual(self.run_on("--seconds", 0.3, how="slow"), 0)
+        self.assertEqual(self.told(), ("late", "the time was up after 0.3 seconds", ""))
+        self.assertEqual(self.left_undone(), [])
+
+    def test_it_is_planned_and_done_elsewhere(self):
+        words = [self.folder / "in", "-o", self.report]
+        _, plan, _ = run(*words, "--plan", "--smaller", "--program", self.fake("small"))
+        self.assertIn(" --smaller --one ", plan)
+        self.assertEqual(run(*plan.split()[1:]), (0, "", ""))
+        self.assertEqual(run(*words, "--gather")[0], 0)
+        self.assertEqual(self.told()[0], "found")
 
 
 class Elsewhere(Case):
