@@ -1,13 +1,3 @@
-pub mod Spots
-pub mod Rules
-pub mod Contents
-pub mod Standing
-pub mod Going
-pub mod Ends
-pub mod Underground
-pub mod Labels
-pub mod Ports
-pub mod Pinning
 pub mod Numbering
 pub mod Blocks
 pub mod Within
