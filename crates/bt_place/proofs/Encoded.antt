@@ -1,8 +1,10 @@
 -- What writes the clauses of a request's rules may rely on.
-use Rattle.std.proofs.Common.{◌≡◌, ℕ, ◌<◌, ◌≤◌, ◌+◌, List, [], length, take, get_or, refl, sym, ◌∙◌, ap, subst, arith}
+use Rattle.std.proofs.Common.{◌≡◌, ℕ, ◌<◌, ◌≤◌, ◌+◌, List, [], ◌++◌, length, map, take, get_or, refl, sym, ◌∙◌, ap, subst, arith}
 use Rattle.std.specs.List.{AllByRecursion, flat_map}
 use Rattle.bt_cnf.specs.Formulas.{FormulaParts}
 use Rattle.bt_model.specs.Requests.{LayoutRequest, IsRequest}
+use Rattle.bt_rules.specs.declared.plan.Gate.{Gate}
+use Rattle.bt_rules.specs.Classes.{splitters_of}
 use Rattle.bt_rules.specs.PlaceRules.{rules_of}
 use Rattle.bt_rules.specs.Rules.{Rule}
 use Rattle.bt_arena.proofs.Loops.{taken_more, taken_all}
@@ -10,6 +12,7 @@ use Rattle.bt_place.specs.Numbering.{Sizes, variables, variable_of}
 use Rattle.bt_place.specs.PlaceFormula.{sizes_of, splitter_order, place_formula}
 use Rattle.bt_place.specs.Within.{IsNumbered, HasNumbered}
 use Rattle.bt_place.specs.inner.Writing.{IsEncoding, with_rules}
+use Rattle.bt_place.proofs.Counting.{get_map, length_map, length_range, get_range}
 use Rattle.bt_place.proofs.Inverse.{fact_at}
 use Rattle.bt_place.proofs.Ranking.{ranked}
 use Rattle.bt_place.proofs.Written.{with_more, has_after}
@@ -27,6 +30,15 @@ encoding_of r is z vars same count = record {
         omega (arith, lt, count);
   };
 }
+
+-- the splitter of a gate is one of the request's
+pub gate_there : (r : LayoutRequest) (gates : List Gate) (i : ℕ) (d : Gate) → map (λ g. g.splitter) gates ≡ splitters_of r → i < length gates
+    → (get_or gates i d).splitter < r.net.splitters
+gate_there r gates i d same lt =
+    let n = r.net.splitters in
+    let long : length gates ≡ n = sym (length_map (λ (g : Gate). g.splitter) gates) ∙ ap length same ∙ length_range 0 n in
+    let is : (get_or gates i d).splitter ≡ 0 + i = sym (get_map (λ (g : Gate). g.splitter) gates i 0 d lt) ∙ ap (λ l. get_or l i 0) same ∙ get_range 0 n i 0 (omega (arith, long, lt)) in
+    omega (arith, is, long, lt)
 
 -- ---- rules that are written
 

@@ -2,7 +2,7 @@ pub mod Counting
 pub mod Inverse
 pub mod Ranking
 pub mod Ordering
-pub mod Numbers
+pub mod Sizing
 pub mod Numbered
 pub mod Written
 pub mod Encoded

@@ -1,5 +1,5 @@
 //! The placement formula of a request.
-ghost use Rattle.std.specs.Prelude.{◌≡◌, map, flat_map, IfOk, OnOk};
+ghost use Rattle.std.specs.Prelude.{◌≡◌, ◌<◌, map, flat_map, IfOk, OnOk};
 ghost use Rattle.std.specs.List.{AllByRecursion};
 ghost use Rattle.bt_parts.specs.Cells.{IsInside};
 ghost use Rattle.bt_model.specs.Requests.{IsRequest};

@@ -1,7 +1,7 @@
 use Rattle.std.proofs.Common.{◌≡◌, ap, arith}
 use Rattle.bt_place.specs.Numbering.{spots}
 use Rattle.bt_place.specs.inner.Blocks.{sizes_with}
-use Rattle.bt_place.proofs.Numbers.{along_within}
+use Rattle.bt_place.proofs.Sizing.{along_within}
 use Rattle.bt_place.proofs.numbering.Numbers.from_last.Goals as goal
 
 pub overflow_sub-result-2 : goal.overflow_sub-result-2

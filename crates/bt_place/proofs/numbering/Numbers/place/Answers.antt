@@ -1,7 +1,7 @@
 use Rattle.std.proofs.Common.{◌<◌, sym, subst, arith}
 use Rattle.bt_place.specs.Numbering.{Sizes}
 use Rattle.bt_place.specs.inner.Blocks.{sizes_with}
-use Rattle.bt_place.proofs.Numbers.{ranks_long, rank_within, rank_read, place_is}
+use Rattle.bt_place.proofs.Sizing.{ranks_long, rank_within, rank_read, place_is}
 use Rattle.bt_place.proofs.numbering.Numbers.place.Goals as goal
 
 pub index-requires : goal.index-requires

@@ -1,7 +1,7 @@
 use Rattle.std.proofs.Common.{◌≡◌, ◌<◌, ◌^◌, ◌∙◌, ap, arith}
 use Rattle.bt_place.specs.Numbering.{variables, variable_of}
 use Rattle.bt_place.specs.inner.Blocks.{sizes_with}
-use Rattle.bt_place.proofs.Numbers.{fact_few, fact_below}
+use Rattle.bt_place.proofs.Sizing.{fact_few, fact_below}
 use Rattle.bt_place.proofs.numbering.Numbers.variable.Goals as goal
 
 pub number-variable-requires-clause-few : goal.number-variable-requires-clause-few
