@@ -5,10 +5,9 @@ ghost use Rattle.bt_layout.specs.inner.Ends.{EndsWith};
 
 use crate::outcome::Layout;
 use bt_cnf::Chooser;
-use bt_decode::decode;
 use bt_log::Log;
 use bt_model::Request;
-use bt_place::encode_place;
+use bt_place::{decode, encode_place};
 use bt_sat::{Answer, Solver};
 use std::alloc::{AllocError, Global};
 

@@ -8,3 +8,7 @@ pub mod Written
 pub mod Encoded
 pub mod Meeting
 pub mod Laying
+pub mod Cells
+pub mod Solving
+pub mod Marking
+pub mod Gathering

@@ -3,4 +3,5 @@ pub mod Blocks
 pub mod Within
 pub mod PlaceFormula
 pub mod Laws
+pub mod Solutions
 pub mod inner

@@ -1,14 +1,20 @@
-//! The placement formula of a request: the rules that layouts keep, as a formula over numbered facts.
+//! The placement formula of a request: the rules that layouts keep, as a formula over numbered facts, and the
+//! layout that an assignment of it describes.
 #![tactic(auto)]
 
 mod blocks;
+mod decoding;
 mod encoding;
+mod grid;
 mod law;
 mod numbering;
 mod order;
+mod reaching;
+mod reading;
 mod writing;
 
 pub use blocks::Starts;
+pub use decoding::decode;
 pub use encoding::encode_place;
 pub use law::{laying_meets, meeting_keeps};
 pub use numbering::Numbers;
