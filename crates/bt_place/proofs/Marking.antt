@@ -5,6 +5,7 @@ use Rattle.std.proofs.lemmas.List.{get_or-set_same, get_or-set_other, length-set
 use Rattle.bt_parts.specs.declared.part.Cell.{Cell}
 use Rattle.bt_parts.specs.declared.part.Dir.{Dir}
 use Rattle.bt_parts.specs.Cells.{step, steps, IsInside}
+use Rattle.bt_model.specs.Requests.{IsGrid}
 use Rattle.bt_rules.specs.declared.fact.Content.TheVariants.{Empty}
 use Rattle.bt_rules.specs.declared.fact.Fact.TheVariants.{Kind, Goes, Pair}
 use Rattle.bt_rules.specs.declared.fact.Shape.{Shape}
@@ -17,9 +18,9 @@ use Rattle.bt_rules.proofs.kept.GoingFacts.{giver_there, going_inside}
 use Rattle.bt_rules.proofs.kept.TunnelFacts.{one_pair, entrance_there}
 use Rattle.bt_rules.proofs.kept.Arrivals.{reached_inside}
 use Rattle.bt_rules.proofs.kept.HandFacts.{giver_no_entrance}
-use Rattle.bt_place.specs.inner.Grid.{spots_in, spot_in, TellsAhead}
+use Rattle.bt_place.specs.inner.Grid.{IsNumberOf, spots_in, spot_in, TellsAhead}
 use Rattle.bt_place.specs.inner.Told.{Told, IsSolved}
-use Rattle.bt_place.specs.inner.Reaching.{Says, Reached, IsNext, by_hand, by_pair, IsStart, cell_in, TellsHanded, PairsAt, TellsExit, TellsNext, IsMarked, AreMarks, Keeps, HasStarts}
+use Rattle.bt_place.specs.inner.Reaching.{Says, Reached, IsNext, by_hand, by_pair, IsStart, cell_in, TellsHanded, PairsAt, TellsPaired, TellsExit, TellsNext, IsMarked, AreMarks, Keeps, HasStarts}
 use Rattle.bt_place.proofs.Cells.{spot_within, spot_numbered, numbered_inside, one_number}
 use Rattle.bt_place.proofs.Solving.{solved_of}
 
@@ -33,6 +34,12 @@ pub record IsMarking (t : Told) (before marks : List Bool) (start i : ℕ) : Typ
       → IsNext t (cell_in t k) (cell_in t j) → IsMarked marks j ⊎ (j ≡ i)
   pub keeps : Keeps before marks
   pub started : IsMarked marks start ⊎ (i ≡ start)
+
+-- a pair whose exit has this number
+pub paired_by : (t : Told) (i : ℕ) (dir : Dir) (k j : ℕ) → IsGrid t.request.rect → Says t (Pair (cell_in t i) dir k)
+    → IsNumberOf t.request.rect (steps k dir (cell_in t i)) j → TellsPaired t i dir k (Some j)
+paired_by t i dir k j grid pair at =
+    ((subst (IsInside t.request.rect) at.1 (numbered_inside t.request.rect j grid at.0), pair), at)
 
 module _ (t : Told) (solved : IsSolved t) where
   rect_inside : (i : ℕ) → i < spots_in t.request.rect → IsInside t.request.rect (cell_in t i)

@@ -12,7 +12,7 @@ use Rattle.bt_rules.specs.Rules.{Rule}
 use Rattle.bt_rules.specs.Spots.{cells_of}
 use Rattle.bt_rules.specs.Within.{IsWithin, HasWithin}
 use Rattle.bt_rules.proofs.Geometry.{in_cells}
-use Rattle.bt_rules.proofs.Keeping.{In, in_range, all_there}
+use Rattle.bt_rules.proofs.Keeping.{in_range, all_there}
 use Rattle.bt_rules.proofs.RulesWithin.{rules_within}
 use Rattle.bt_place.specs.PlaceFormula.{sizes_of}
 use Rattle.bt_place.specs.Within.{IsNumbered, HasNumbered}

@@ -1,5 +1,5 @@
 -- Rules that are written as clauses.
-use Rattle.std.proofs.Common.{◌≡◌, ℕ, zero, suc, ◌<◌, ◌+◌, Bool, true, false, cond, not, List, [], ◌∷◌, ◌++◌, length, map, take, get_or, refl, sym, ◌∙◌, ap, subst, arith, append_assoc, append-nil, Some}
+use Rattle.std.proofs.Common.{◌≡◌, ℕ, ◌<◌, ◌+◌, Bool, true, false, cond, not, List, [], ◌∷◌, ◌++◌, length, map, take, get_or, refl, sym, ◌∙◌, ap, subst, append_assoc, append-nil, Some}
 use Rattle.std.specs.List.{AllByRecursion, All, flat_map, filter, slice_get}
 use Rattle.std.proofs.lemmas.List.{map-append, map_push, take_more}
 use Rattle.std.proofs.lemmas.Option.{get_or_from_slice_get}

@@ -1,5 +1,5 @@
 -- Where the blocks of variables begin, and the sizes of which they are.
-use Rattle.std.specs.Prelude.{◌≡◌, ℕ, ◌+◌, ◌-◌, ◌*◌, length, List, slice_index}
+use Rattle.std.specs.Prelude.{◌≡◌, ℕ, ◌+◌, ◌-◌, ◌*◌, List, slice_index}
 use Rattle.bt_parts.specs.declared.part.Cell.{Cell}
 use Rattle.bt_model.specs.Requests.{LayoutRequest, IsRequest}
 use Rattle.bt_rules.specs.declared.fact.Class.{Class}

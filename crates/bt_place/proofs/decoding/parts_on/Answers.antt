@@ -1,9 +1,19 @@
 use Rattle.std.proofs.Common.{◌≡◌, ◌+◌, ◌<◌, ap, sym, ◌∙◌, subst, arith}
+use Rattle.std.proofs.lemmas.Bool.{both_ways}
 use Rattle.bt_place.specs.inner.Grid.{spots_in}
 use Rattle.bt_place.specs.inner.Reaching.{IsMarked}
-use Rattle.bt_place.proofs.Gathering.{IsGathered, gathered_none, gathered_more, gathered_lays, gathered_order}
+use Rattle.bt_place.proofs.Gathering.{IsGathered, gathered_unmarked, gathered_none, gathered_more, gathered_lays, gathered_order}
 use Rattle.bt_place.proofs.decoding.parts_on.Goals as goal
 use Rattle.bt_place.proofs.decoding.parts_on.Goals.{in-Some+in_ok-push, in_default}
+
+pub loop-i-preserved-then-not-marks-i : goal.loop-i-preserved-then-not-marks-i
+loop-i-preserved-then-not-marks-i c =
+    let t = c.args.reading.now in
+    let marks = c.args.marks.now in
+    let end : c.spots-i-end.result ≡ spots_in t.request.rect = c.spots-i-end.ensures.spots ∙ ap spots_in c.rect.ensures.rect in
+    let within : c.loop-i.i < spots_in t.request.rect = subst (λ n. c.loop-i.i < n) end c.loop-i-test.true in
+    gathered_unmarked t c.requires.solved marks c.requires.marks c.loop-i.i within c.loop-i.parts.items c.loop-i.invariant c.requires.starts
+    (λ (marked : IsMarked marks c.loop-i.i). both_ways _ c.if-not-marks-i.true marked)
 
 pub loop-i-preserved : goal.loop-i-preserved
 loop-i-preserved c =
