@@ -95,7 +95,7 @@ found_content (Turned (shape.Half Greater) South) = record { within = omega arit
 found_content (Turned (shape.Half Greater) West) = record { within = omega arith; is = refl }
 
 -- a class at its place
-found_class : (xs : List Class) (k : Class) → Contains xs k → Found xs (position_or_len (same_class k) xs) k
+pub found_class : (xs : List Class) (k : Class) → Contains xs k → Found xs (position_or_len (same_class k) xs) k
 found_class [] k h = absurd (contains_none k h)
 found_class (x ∷ xs) k h = by (same_class k x) refl (contains_cases x xs k h) (found_class xs k)
   where
@@ -110,6 +110,19 @@ found_class (x ∷ xs) k h = by (same_class k x) refl (contains_cases x xs k h) 
           within = omega (arith, lt);
           is = ap (λ n. get_or (x ∷ xs) n k) (let z : 1 + position_or_len (same_class k) xs ≡ suc (position_or_len (same_class k) xs) = omega arith in z) ∙ found.is;
         }
+
+-- what has a place among the classes is one of them
+pub class_there : (xs : List Class) (k : Class) → position_or_len (same_class k) xs < length xs → Contains xs k
+class_there [] k lt = absurd (omega (arith, lt))
+class_there (x ∷ xs) k lt = by (same_class k x) refl lt (class_there xs k)
+  where
+    by : (b : Bool) → same_class k x ≡ b → cond (not b) (1 + position_or_len (same_class k) xs) 0 < length (x ∷ xs)
+        → (position_or_len (same_class k) xs < length xs → Contains xs k) → Contains (x ∷ xs) k
+    by true t lt rest = (0, omega arith, sym (class_same k x t))
+    by false t lt rest = let more = rest (omega (arith, lt)) in let within = more.1 in (suc more.0, omega (arith, within), more.2)
+
+pub class_placed : (xs : List Class) (k : Class) → Contains xs k → position_or_len (same_class k) xs < length xs
+class_placed xs k h = (found_class xs k h).within
 
 module _ (z : Sizes) where
   abbrev pub rect : Rect

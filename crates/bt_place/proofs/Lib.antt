@@ -12,3 +12,4 @@ pub mod Cells
 pub mod Solving
 pub mod Marking
 pub mod Gathering
+pub mod Longer

@@ -1,6 +1,7 @@
 //! The variables of facts.
-ghost use Rattle.std.specs.Prelude.{◌≡◌, ◌<◌, ◌+◌, ◌-◌, ◌*◌, ◌^◌, length, IfOk};
+ghost use Rattle.std.specs.Prelude.{◌≡◌, ◌↔◌, ◌<◌, ◌+◌, ◌-◌, ◌*◌, ◌^◌, length, IfOk, IfNone, IfSome, IsTrue, Contains};
 ghost use Rattle.std.specs.List.{position_or_len};
+ghost use Rattle.bt_parts.specs.Cells.{IsInside};
 ghost use Rattle.bt_model.specs.Requests.{IsRequest};
 ghost use Rattle.bt_rules.specs.Classes as classing;
 ghost use Rattle.bt_place.specs.Numbering as numbering;
@@ -108,6 +109,24 @@ fn place_among(classes: &[Class], class: Class) -> usize
         rest = others;
     }
     place
+}
+
+/// Whether a class is one of classes.
+#[tactic(auto, using(crate::proofs::Inverse::class_there, crate::proofs::Inverse::class_placed))]
+fn is_among(classes: &[Class], class: Class) -> bool
+    ensures { IsTrue result ↔ Contains classes.now class }
+{
+    place_among(classes, class) < classes.len()
+}
+
+/// Whether the cell is one of a rectangle of this width and height.
+fn is_inside(width: usize, height: usize, cell: Cell) -> bool
+    ensures { IsTrue result ↔ IsInside (record { width = width; height = height }) cell }
+{
+    cell.x >= 0
+        && cell.y >= 0
+        && (cell.x.unsigned_abs() as usize) < width
+        && (cell.y.unsigned_abs() as usize) < height
 }
 
 /// The extent of a request.
@@ -276,5 +295,62 @@ impl Numbers {
         let variable = self.number(fact);
         prove!(variable < end);
         variable
+    }
+
+    /// Whether the cell is one of the rectangle.
+    fn has_spot(&self, cell: Cell) -> bool
+        ensures { IsTrue result ↔ IsSpot self.now cell }
+    {
+        is_inside(self.extent.width, self.extent.height, cell)
+    }
+
+    /// Whether the class is one of the classes.
+    fn has_class(&self, class: Class) -> bool
+        ensures { IsTrue result ↔ Contains self.now.classes class }
+    {
+        is_among(&self.classes, class)
+    }
+
+    /// Whether there is such a splitter.
+    fn has_splitter(&self, splitter: usize) -> bool
+        ensures { IsTrue result ↔ (splitter < self.now.splitters) }
+    {
+        splitter < self.extent.splitters
+    }
+
+    /// Whether the fact has a variable.
+    fn has(&self, fact: Fact) -> bool
+        ensures { IsTrue result ↔ IsNumbered self.now fact }
+    {
+        let extent = self.extent;
+        match fact {
+            Fact::Carries(cell, class) => self.has_spot(cell) && self.has_class(class),
+            Fact::HalfOn(cell) => self.has_spot(cell),
+            Fact::BeltOn(cell) => self.has_spot(cell),
+            Fact::Begins(cell) => self.has_spot(cell),
+            Fact::Starts(cell, i) => self.has_spot(cell) && i < extent.inputs,
+            Fact::Pair(cell, _, k) => self.has_spot(cell) && 1 <= k && k <= extent.distances,
+            Fact::Tunnel(cell, _) => self.has_spot(cell),
+            Fact::Goes(cell, _) => self.has_spot(cell),
+            Fact::Column(s, x) => self.has_splitter(s) && x < extent.width,
+            Fact::Row(s, y) => self.has_splitter(s) && y < extent.height,
+            Fact::Points(s, _) => self.has_splitter(s),
+            Fact::EntersLesser(s) => self.has_splitter(s),
+            Fact::LeavesLesser(s) => self.has_splitter(s),
+            Fact::Kind(cell, _) => self.has_spot(cell),
+            Fact::At(s, cell, _) => self.has_splitter(s) && self.has_spot(cell),
+        }
+    }
+
+    /// The variable of a fact, where it has one.
+    pub fn find(&self, fact: Fact) -> Option<usize>
+        ensures none { IfNone result (IsNumbered self.now fact → ⊥) }
+        ensures some { IfSome result (λ variable. variable ≡ numbering.variable_of self.now fact) }
+    {
+        if self.has(fact) {
+            Some(self.variable(fact))
+        } else {
+            None
+        }
     }
 }
