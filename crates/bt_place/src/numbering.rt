@@ -112,7 +112,6 @@ fn place_among(classes: &[Class], class: Class) -> usize
 }
 
 /// Whether a class is one of classes.
-#[tactic(auto, using(crate::proofs::Inverse::class_there, crate::proofs::Inverse::class_placed))]
 fn is_among(classes: &[Class], class: Class) -> bool
     ensures { IsTrue result ↔ Contains classes.now class }
 {
