@@ -31,7 +31,7 @@ few_map {X} {Y} {xs} f h = let a = h.few in let e = length_map f xs in record { 
 pub few_range : {m : ℕ} (a n : ℕ) → n ≤ m → HasFew (range_with_len a n) m
 few_range a n le = let e = length_range a n in record { few = omega (arith, e, le) }
 
-flat_length : {X Y : Type 0} (f : X → List Y) (xs : List X) (n : ℕ) → ((x : X) → IN → HasFew (f x) n) → length (flat_map f xs) ≤ length xs * n
+flat_length : {X Y : Type 0} (f : X → List Y) (xs : List X) (n : ℕ) → ((x : X) → In xs x → HasFew (f x) n) → length (flat_map f xs) ≤ length xs * n
 flat_length f [] n each = omega arith
 flat_length f (x ∷ xs) n each =
     let here = (each x (inl refl)).few in
@@ -39,7 +39,7 @@ flat_length f (x ∷ xs) n each =
     let e = length-append (f x) (flat_map f xs) in
     omega (arith, e, here, later)
 
-pub few_flat : {X Y : Type 0} {xs : List X} {m : ℕ} (f : X → List Y) (n : ℕ) → HasFew xs m → ((x : X) → IN → HasFew (f x) n) → HasFew (flat_map f xs) (m * n)
+pub few_flat : {X Y : Type 0} {xs : List X} {m : ℕ} (f : X → List Y) (n : ℕ) → HasFew xs m → ((x : X) → In xs x → HasFew (f x) n) → HasFew (flat_map f xs) (m * n)
 few_flat {X} {Y} {xs} {m} f n h each =
     let all = flat_length f xs n each in let le : length xs * n ≤ m * n = mul-le-mul_right n h.few in record { few = omega (arith, all, le) }
 

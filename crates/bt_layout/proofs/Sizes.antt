@@ -1,5 +1,5 @@
 -- The placement formula of a request is small, since the request is.
-use Rattle.std.proofs.Common.{◌≡◌, ℕ, ◌+◌, ◌-◌, ◌*◌, ◌<◌, ◌≤◌, Bool, List, [], ◌∷◌, ◌++◌, length, map, not, Option, Some, None, sym, ◌∙◌, ap, arith, length-append}
+use Rattle.std.proofs.Common.{◌≡◌, ℕ, ◌+◌, ◌-◌, ◌*◌, ◌<◌, ◌≤◌, List, [], ◌∷◌, length, map, not, Option, Some, None, sym, ◌∙◌, ap, arith, length-append}
 use Rattle.std.specs.Prelude.{unsigned_abs}
 use Rattle.std.specs.List.{flat_map, filter, range_with_len}
 use Rattle.std.proofs.lemmas.Nat.{mul-le}
@@ -30,10 +30,10 @@ use Rattle.bt_rules.specs.Carrying.{carried_rules, taken_rule, kept_in_rules, on
 use Rattle.bt_rules.specs.Classes.{classes_of, input_classes, occurs, ends_out, is_through, same_class, classes_into, splitters_of}
 use Rattle.bt_rules.specs.Contents.{holds, contents, content_rules, shape_rules, mate_rules, class_rules}
 use Rattle.bt_rules.specs.Going.{going_rules, inner_rules, goes_into, fed_belt, fed_entrance, begin_rules, once_rules, handing_rules}
-use Rattle.bt_rules.specs.Pinning.{is_edge_of, pin_class_rules, end_shapes, turned_rules, pin_rules, clashes, clash_rules, block_rule}
+use Rattle.bt_rules.specs.Pinning.{is_edge_of, end_shapes, turned_rules, pin_rules, clashes, clash_rules, block_rule}
 use Rattle.bt_rules.specs.PlaceRules.{cell_rules, splitter_rules, end_rules, rules_of}
 use Rattle.bt_rules.specs.Ports.{two_in_rules, in_rules, out_rules, standing_port_rules, port_rules}
-use Rattle.bt_rules.specs.Rules.{Rule, rule, rule_by, some_of, not_all}
+use Rattle.bt_rules.specs.Rules.{rule, rule_by, some_of, not_all}
 use Rattle.bt_rules.specs.Spots.{dirs, halves, others_than, behind, mate, half_at, other_half, is_inside, row_cells, cells_of, is_border, border_of, where_inside}
 use Rattle.bt_rules.specs.Standing.{owner_rule, at_rules, name_rule, standing_rules, place_rules}
 use Rattle.bt_rules.specs.Starts.{start_rules, input_rules}
