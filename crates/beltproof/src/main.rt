@@ -3,7 +3,7 @@
 
 use bt_cnf::Chooser;
 use bt_io::{StdSink, StdSource};
-use bt_sat::{Active, Highest, Lowest, Recent};
+use bt_sat::Active;
 use bt_top::{Choosers, NO_MEMORY, WRITE_FAULT, run};
 use std::alloc::AllocError;
 use std::env;
@@ -27,18 +27,16 @@ fn words_of(rt: &HostRuntime) -> Option<Vec<String>> {
     Some(words)
 }
 
-/// Runs the program over the words. One chooser steers decisions, by the activity of variables, and three in turn steer
+/// Runs the program over the words. A chooser steers decisions, by the activity of variables, and another one of its kind
 /// the search for layouts. What is written is gathered into large writes, since a log has hundreds of thousands of
 /// words; so the last of it is passed on at the end.
 fn status(rt: &HostRuntime, words: &[String]) -> Result<u8, AllocError> {
     let alloc = rt.alloc();
-    let active: Box<dyn Chooser> = Box::new(alloc, Active::new(alloc)?)?;
-    let lowest: Box<dyn Chooser> = Box::new(alloc, Lowest::new())?;
-    let recent: Box<dyn Chooser> = Box::new(alloc, Recent::new(alloc)?)?;
-    let highest: Box<dyn Chooser> = Box::new(alloc, Highest::new())?;
+    let deciding: Box<dyn Chooser> = Box::new(alloc, Active::new(alloc)?)?;
+    let laying: Box<dyn Chooser> = Box::new(alloc, Active::new(alloc)?)?;
     let choosers = Choosers {
-        decisions: vec![in alloc; active]?,
-        layouts: vec![in alloc; lowest, recent, highest]?,
+        decisions: vec![in alloc; deciding]?,
+        layouts: vec![in alloc; laying]?,
     };
     let mut source = StdSource::new(rt.stdin());
     let Ok(output) = BufWriter::new(alloc, rt.stdout()) else {

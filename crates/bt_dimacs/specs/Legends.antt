@@ -28,21 +28,20 @@ mark_block columns = block 0 columns.edges (codes "mark edge")
 -- the blocks of a placement formula: the facts that they say, and of what each has one for each, the first of these outermost
 abbrev pub place_blocks : Starts → List BlockParts
 place_blocks s =
-    block 0 s.names (codes "kind cell content") ∷
-    block s.names s.labels (codes "name cell splitter") ∷
-    block s.labels s.firsts (codes "label cell edge") ∷
-    block s.firsts s.lasts (codes "first cell input") ∷
-    block s.lasts s.distances (codes "last cell output") ∷
-    block s.distances s.leaving (codes "distance cell distance") ∷
-    block s.leaving s.entering (codes "leaves splitter edge half") ∷
-    block s.entering s.columns (codes "enters splitter edge half") ∷
+    block 0 s.halves (codes "carries cell class") ∷
+    block s.halves s.belts (codes "half cell") ∷
+    block s.belts s.begins (codes "belt cell") ∷
+    block s.begins s.starts (codes "begins cell") ∷
+    block s.starts s.pairs (codes "starts cell input") ∷
+    block s.pairs s.tunnels (codes "pair cell direction distance") ∷
+    block s.tunnels s.goings (codes "tunnel cell direction") ∷
+    block s.goings s.columns (codes "goes cell direction") ∷
     block s.columns s.rows (codes "column splitter x") ∷
     block s.rows s.points (codes "row splitter y") ∷
-    block s.points s.halves (codes "points splitter direction") ∷
-    block s.halves s.begins (codes "half cell") ∷
-    block s.begins s.tunnels (codes "begins cell") ∷
-    block s.tunnels s.stills (codes "tunnel cell direction") ∷
-    block s.stills s.places (codes "still cell direction") ∷
+    block s.points s.entering (codes "points splitter direction") ∷
+    block s.entering s.leaving (codes "enters splitter") ∷
+    block s.leaving s.kinds (codes "leaves splitter") ∷
+    block s.kinds s.places (codes "kind cell content") ∷
     block s.places s.end (codes "at splitter cell direction") ∷
     []
 

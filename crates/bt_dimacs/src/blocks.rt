@@ -22,49 +22,49 @@ pub struct Block {
 }
 
 /// The blocks of a placement formula.
-pub fn place_blocks(starts: Starts) -> [Block; 16]
+pub fn place_blocks(starts: Starts) -> [Block; 15]
     ensures { map block_told result ≡ place_blocks starts }
 {
     [
         Block {
             from: 0,
-            end: starts.names,
-            meaning: "kind cell content",
+            end: starts.halves,
+            meaning: "carries cell class",
         },
         Block {
-            from: starts.names,
-            end: starts.labels,
-            meaning: "name cell splitter",
+            from: starts.halves,
+            end: starts.belts,
+            meaning: "half cell",
         },
         Block {
-            from: starts.labels,
-            end: starts.firsts,
-            meaning: "label cell edge",
+            from: starts.belts,
+            end: starts.begins,
+            meaning: "belt cell",
         },
         Block {
-            from: starts.firsts,
-            end: starts.lasts,
-            meaning: "first cell input",
+            from: starts.begins,
+            end: starts.starts,
+            meaning: "begins cell",
         },
         Block {
-            from: starts.lasts,
-            end: starts.distances,
-            meaning: "last cell output",
+            from: starts.starts,
+            end: starts.pairs,
+            meaning: "starts cell input",
         },
         Block {
-            from: starts.distances,
-            end: starts.leaving,
-            meaning: "distance cell distance",
+            from: starts.pairs,
+            end: starts.tunnels,
+            meaning: "pair cell direction distance",
         },
         Block {
-            from: starts.leaving,
-            end: starts.entering,
-            meaning: "leaves splitter edge half",
+            from: starts.tunnels,
+            end: starts.goings,
+            meaning: "tunnel cell direction",
         },
         Block {
-            from: starts.entering,
+            from: starts.goings,
             end: starts.columns,
-            meaning: "enters splitter edge half",
+            meaning: "goes cell direction",
         },
         Block {
             from: starts.columns,
@@ -78,28 +78,23 @@ pub fn place_blocks(starts: Starts) -> [Block; 16]
         },
         Block {
             from: starts.points,
-            end: starts.halves,
+            end: starts.entering,
             meaning: "points splitter direction",
         },
         Block {
-            from: starts.halves,
-            end: starts.begins,
-            meaning: "half cell",
+            from: starts.entering,
+            end: starts.leaving,
+            meaning: "enters splitter",
         },
         Block {
-            from: starts.begins,
-            end: starts.tunnels,
-            meaning: "begins cell",
+            from: starts.leaving,
+            end: starts.kinds,
+            meaning: "leaves splitter",
         },
         Block {
-            from: starts.tunnels,
-            end: starts.stills,
-            meaning: "tunnel cell direction",
-        },
-        Block {
-            from: starts.stills,
+            from: starts.kinds,
             end: starts.places,
-            meaning: "still cell direction",
+            meaning: "kind cell content",
         },
         Block {
             from: starts.places,

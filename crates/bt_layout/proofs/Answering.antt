@@ -14,7 +14,7 @@ use Rattle.bt_sat.specs.declared.solver.Answer.{Answer}
 use Rattle.bt_sat.specs.declared.solver.Answer.TheVariants.{Model, Refuted, Spent}
 use Rattle.bt_model.specs.Requests.{IsRequest, LayoutRequest}
 use Rattle.bt_place.specs.PlaceFormula.{place_formula}
-use Rattle.bt_decode.specs.Solutions.{IsSolution}
+use Rattle.bt_place.specs.Solutions.{IsSolution}
 use Rattle.bt_theory.specs.Outcomes.{Fits, IsRefutation, IsUsedUp}
 use Rattle.bt_theory.proofs.Rounds.{all_front, learnt_fit, sound_log, used_up}
 use Rattle.bt_layout.specs.inner.Ends.{EndsWith}

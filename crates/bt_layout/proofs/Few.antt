@@ -1,17 +1,16 @@
 -- How many items lists have at most.
 use Rattle.std.proofs.Common.{◌≢◌, inl, inr, ℕ, ◌+◌, ◌*◌, ◌<◌, ◌≤◌, Bool, true, false, cond, List, [], ◌∷◌, ◌++◌, length, map, refl, sym, ◌∙◌, subst, ⊎_elim, arith, length-append}
-use Rattle.std.specs.List.{All, AllPairs, flat_map, filter, range_with_len, enumerate_from}
+use Rattle.std.specs.List.{All, AllPairs, flat_map, filter, range_with_len}
 use Rattle.std.proofs.lemmas.Bool.{cases_lt}
 use Rattle.std.proofs.Math.Nat.{mul-le-mul_right}
-use Rattle.std.proofs.lemmas.List.FromFn.{length-enumerate_from}
 use Rattle.bt_model.proofs.PathLemmas.{crowded}
 use Rattle.bt_parts.specs.declared.part.Cell.{Cell}
 use Rattle.bt_parts.specs.declared.part.Rect.{Rect}
-use Rattle.bt_place.specs.declared.fact.Fact.{Fact}
-use Rattle.bt_place.specs.Rules.{some_of, not_all, at_most_one, all_but_one}
-use Rattle.bt_place.specs.Spots.{is_inside, where_inside, where_outside}
+use Rattle.bt_rules.specs.declared.fact.Fact.{Fact}
+use Rattle.bt_rules.specs.Rules.{not_all, at_most_one}
+use Rattle.bt_rules.specs.Spots.{is_inside, where_inside, where_outside}
 use Rattle.bt_place.proofs.Counting.{get_map, length_map, length_range}
-use Rattle.bt_place.proofs.Keeping.{In}
+use Rattle.bt_rules.proofs.Keeping.{In}
 
 -- the list has at most so many items
 pub record HasFew {X : Type 0} (xs : List X) (n : ℕ) : Type 0 where
@@ -31,9 +30,6 @@ few_map {X} {Y} {xs} f h = let a = h.few in let e = length_map f xs in record { 
 
 pub few_range : {m : ℕ} (a n : ℕ) → n ≤ m → HasFew (range_with_len a n) m
 few_range a n le = let e = length_range a n in record { few = omega (arith, e, le) }
-
-pub few_enumerated : {X : Type 0} {xs : List X} {n : ℕ} (first : ℕ) → HasFew xs n → HasFew (enumerate_from first xs) n
-few_enumerated {X} {xs} first h = let a = h.few in let e = length-enumerate_from first xs in record { few = omega (arith, a, e) }
 
 flat_length : {X Y : Type 0} (f : X → List Y) (xs : List X) (n : ℕ) → ((x : X) → In xs x → HasFew (f x) n) → length (flat_map f xs) ≤ length xs * n
 flat_length f [] n each = omega arith
@@ -76,23 +72,10 @@ most_length (f ∷ facts) n le =
     let k = length_map (λ other. not_all (f ∷ other ∷ [])) facts in
     omega (arith, e, k, later, le)
 
-but_length : (facts : List Fact) (n : ℕ) → length facts ≤ n → length (all_but_one facts) ≤ length facts * n
-but_length [] n le = omega arith
-but_length (f ∷ facts) n le =
-    let later = but_length facts n (omega (arith, le)) in
-    let e = length-append (map (λ other. some_of (f ∷ other ∷ [])) facts) (all_but_one facts) in
-    let k = length_map (λ other. some_of (f ∷ other ∷ [])) facts in
-    omega (arith, e, k, later, le)
-
 -- of facts of which at most one holds, each two give a rule
 pub few_most : {facts : List Fact} {n : ℕ} → HasFew facts n → HasFew (at_most_one facts) (n * n)
 few_most {facts} {n} h =
     let all = most_length facts n h.few in let le : length facts * n ≤ n * n = mul-le-mul_right n h.few in record { few = omega (arith, all, le) }
-
--- so do each two of which at most one fails
-pub few_but : {facts : List Fact} {n : ℕ} → HasFew facts n → HasFew (all_but_one facts) (n * n)
-few_but {facts} {n} h =
-    let all = but_length facts n h.few in let le : length facts * n ≤ n * n = mul-le-mul_right n h.few in record { few = omega (arith, all, le) }
 
 -- items that have different numbers below n are no more than n
 pub few_apart : {X : Type 0} (number : X → ℕ) (xs : List X) (n : ℕ) → AllPairs (λ x y. number x ≢ number y) xs → All (λ x. number x < n) xs → length xs ≤ n

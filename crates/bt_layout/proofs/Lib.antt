@@ -9,3 +9,4 @@ mod Ranks
 pub mod Passed
 pub mod Passing
 mod Smaller
+pub mod Narrow

@@ -27,7 +27,7 @@ pub laid_small : (net : Network) (tier : Tier) (most : Rect) (cells : Option ℕ
     → IsSmall net tier most cells learnt (Found grid parts)
 laid_small net tier most cells learnt requests place parts request grid all is at rect =
     let asks : AsksSmall net tier most cells is.request = subst (AsksSmall net tier most cells) (get_or_from_slice_get requests place is.request is.request is.at_place)
-        (All-get_or (AsksSmall net tier most cells) requests place is.request (laid_within requests place parts is) all) in
+    (All-get_or (AsksSmall net tier most cells) requests place is.request (laid_within requests place parts is) all) in
     let one : request ≡ is.request = at ∙ get_or_from_slice_get requests place is.request request is.at_place in
     let same : asks.0 ≡ grid = sym (ap (λ (r : LayoutRequest). r.rect) asks.3) ∙ sym (ap (λ (r : LayoutRequest). r.rect) one) ∙ sym rect in (
       subst (IsWithin most) same asks.1,

@@ -18,9 +18,9 @@ use Rattle.bt_model.specs.Requests.{LayoutRequest, IsRequest}
 use Rattle.bt_write.specs.ReadBack.{HasCentreInRange}
 use Rattle.bt_write.specs.Written.{twice_middle}
 use Rattle.bt_write.proofs.ReadBack.{written_read}
-use Rattle.bt_decode.specs.inner.Spots.{spot_in, spots_in, cell_numbered}
-use Rattle.bt_decode.proofs.Geometry.{across, cell_of}
-use Rattle.bt_decode.proofs.Numbers.{spot_within, spot_numbered}
+use Rattle.bt_rules.proofs.kept.Geometry.{across}
+use Rattle.bt_place.specs.inner.Grid.{spot_in, spots_in, cell_numbered}
+use Rattle.bt_place.proofs.Cells.{cell_of, spot_within, spot_numbered}
 use Rattle.bt_layout.specs.Laws.{LaidIsReadBack}
 use Rattle.bt_layout.proofs.Few.{few_apart}
 

@@ -4,7 +4,7 @@ use Rattle.std.specs.declared.alloc.Global.{Global}
 use Rattle.bt_parts.specs.declared.part.Part.{Part}
 use Rattle.bt_model.specs.Laying.{Lays}
 use Rattle.bt_model.specs.Requests.{LayoutRequest}
-use Rattle.bt_decode.specs.Solutions.{ComesAbove}
+use Rattle.bt_place.specs.Solutions.{ComesAbove}
 use Rattle.bt_layout.specs.declared.outcome.Early.{Early}
 use Rattle.bt_layout.specs.declared.outcome.Early.TheVariants.{Laid, Spent}
 

@@ -4,7 +4,7 @@ use Rattle.bt_parts.specs.declared.part.Part.{Part}
 use Rattle.bt_model.specs.Laying.{Lays}
 use Rattle.bt_model.specs.Requests.{LayoutRequest}
 use Rattle.bt_place.specs.PlaceFormula.{place_formula}
-use Rattle.bt_decode.specs.Solutions.{ComesAbove}
+use Rattle.bt_place.specs.Solutions.{ComesAbove}
 use Rattle.bt_theory.specs.Outcomes.{IsRefutation, IsUsedUp}
 use Rattle.bt_layout.specs.declared.outcome.Layout.{Layout}
 use Rattle.bt_layout.specs.declared.outcome.Layout.TheVariants.{Found, Nowhere, Spent}

@@ -4,7 +4,7 @@ use Rattle.bt_parts.specs.declared.part.Rect.{Rect}
 use Rattle.bt_parts.specs.declared.part.Tier.{Tier}
 use Rattle.bt_net.specs.Network.{Network}
 use Rattle.bt_model.specs.Laying.{Lays}
-use Rattle.bt_decode.specs.Solutions.{ComesAbove}
+use Rattle.bt_place.specs.Solutions.{ComesAbove}
 use Rattle.bt_layout.specs.declared.outcome.Small.{Small}
 use Rattle.bt_layout.specs.declared.outcome.Small.TheVariants.{Found, Spent}
 use Rattle.bt_layout.specs.Grids.{area_of, IsWithin}

@@ -6,7 +6,7 @@ use Rattle.bt_net.specs.Network.{Network}
 use Rattle.bt_model.specs.Laying.{Lays}
 use Rattle.bt_model.specs.Requests.{LayoutRequest, request_of}
 use Rattle.bt_place.specs.PlaceFormula.{place_formula}
-use Rattle.bt_decode.specs.Solutions.{ComesAbove}
+use Rattle.bt_place.specs.Solutions.{ComesAbove}
 use Rattle.bt_theory.specs.Outcomes.{IsRefutation, IsUsedUp}
 use Rattle.bt_layout.specs.Layouts.{HasNoLayout}
 use Rattle.bt_layout.specs.declared.outcome.RuledOut.{RuledOut}

@@ -3,3 +3,4 @@ pub mod Ends
 pub mod Ranks
 pub mod Passing
 pub mod Progressing
+pub mod Likely

@@ -5,6 +5,7 @@
 mod early;
 mod law;
 mod least;
+mod likely;
 mod order;
 mod outcome;
 mod printing;

@@ -3,19 +3,21 @@ ghost use Rattle.std.specs.Prelude.{IfOk, ℕ};
 ghost use Rattle.bt_layout.specs.Layouts.{IsLayout};
 ghost use Rattle.bt_layout.specs.inner.Ends.{EndsWith};
 
+use crate::likely::{likely_layout, placing};
 use crate::outcome::Layout;
 use bt_cnf::Chooser;
-use bt_decode::decode;
 use bt_log::Log;
 use bt_model::Request;
-use bt_place::encode_place;
+use bt_place::{decode, encode_place};
 use bt_sat::{Answer, Solver};
 use std::alloc::{AllocError, Global};
 
 /// Searches for a layout of a request, with a log of at most so many steps. The choosers steer the
 /// search, which is right whatever they answer.
 ///
-/// The placement formula has no atoms, so a model of its clauses meets it.
+/// At first a layout is searched where one is likely, by at most as many steps; where none is found, the log of
+/// that search is dropped, and the placement formula is searched from the start. It has no atoms, so a model of
+/// its clauses meets it.
 pub fn layout<C: Chooser>(
     alloc: Global,
     request: &Request,
@@ -24,8 +26,12 @@ pub fn layout<C: Chooser>(
 ) -> Result<Layout, AllocError>
     ensures { IfOk result (IsLayout request.now learnt) }
 {
+    if let Some(parts) = likely_layout(alloc, request, learnt)? {
+        return Ok(Layout::Found(parts));
+    }
     let formula = encode_place(alloc, request)?;
-    let mut solver = Solver::new(alloc, formula, choosers, learnt)?;
+    let plan = placing(alloc, &formula, request)?;
+    let mut solver = Solver::by_plan(alloc, formula, choosers, learnt, plan)?;
     let answer = solver.next_model()?;
     layout_of(alloc, request, answer, solver.into_log())
 }

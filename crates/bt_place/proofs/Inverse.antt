@@ -1,7 +1,8 @@
 -- Each fact of a request stands at its variable in a list of all facts.
-use Rattle.std.proofs.Common.{◌≡◌, ℕ, ◌<◌, ◌+◌, ◌-◌, ◌*◌, ℤ, pos, negsuc, Bool, true, false, cond, ltb, List, [], ◌∷◌, length, map, get_or, reverse, refl, ◌∙◌, ap, subst, arith}
-use Rattle.std.specs.List.{flat_map, range_with_len}
+use Rattle.std.proofs.Common.{◌≡◌, ◌⊎◌, inl, inr, ℕ, suc, ◌<◌, ◌+◌, ◌-◌, ◌*◌, ℤ, pos, negsuc, Bool, true, false, cond, not, ltb, List, [], ◌∷◌, length, map, get_or, reverse, refl, sym, ◌∙◌, ap, subst, arith}
+use Rattle.std.specs.List.{Contains, flat_map, range_with_len, position_or_len}
 use Rattle.std.specs.Prelude.{unsigned_abs, slice_index, ◌<ℤ◌, ◌≤ℤ◌}
+use Rattle.std.proofs.lemmas.Bool.{false≢true}
 use Rattle.std.proofs.lemmas.Int.{ints}
 use Rattle.std.proofs.lemmas.List.{get_or-reverse, get_or_default, length-reverse}
 use Rattle.bt_parts.specs.declared.part.Cell.{Cell}
@@ -9,17 +10,20 @@ use Rattle.bt_parts.specs.declared.part.Dir.{Dir}
 use Rattle.bt_parts.specs.declared.part.Dir.TheVariants.{North, East, South, West}
 use Rattle.bt_parts.specs.declared.part.Rect.{Rect}
 use Rattle.bt_model.specs.Requests.{cell_at}
-use Rattle.bt_place.specs.declared.fact.Content.{Content}
-use Rattle.bt_place.specs.declared.fact.Content.TheVariants.{Empty, Turned}
-use Rattle.bt_place.specs.declared.fact.Fact.{Fact}
-use Rattle.bt_place.specs.declared.fact.Fact.TheVariants as fact
-use Rattle.bt_place.specs.declared.fact.Half.{Half}
-use Rattle.bt_place.specs.declared.fact.Half.TheVariants.{Lesser, Greater}
-use Rattle.bt_place.specs.declared.fact.Shape.TheVariants as shape
-use Rattle.bt_place.specs.Contents.{contents}
-use Rattle.bt_place.specs.Numbering.{Sizes, spot_of, dir_number, half_number, content_number, along, spots, variables, variable_of}
-use Rattle.bt_place.specs.Spots.{dirs, halves, row_cells, cells_of}
-use Rattle.bt_place.specs.Within.{IsSpot, IsWithin}
+use Rattle.bt_model.proofs.Sorted.{contains_none, contains_cases}
+use Rattle.bt_rules.specs.declared.fact.Class.{Class}
+use Rattle.bt_rules.specs.declared.fact.Content.{Content}
+use Rattle.bt_rules.specs.declared.fact.Content.TheVariants.{Empty, Turned}
+use Rattle.bt_rules.specs.declared.fact.Fact.{Fact}
+use Rattle.bt_rules.specs.declared.fact.Fact.TheVariants as fact
+use Rattle.bt_rules.specs.declared.fact.Half.TheVariants.{Lesser, Greater}
+use Rattle.bt_rules.specs.declared.fact.Shape.TheVariants as shape
+use Rattle.bt_rules.specs.Classes.{same_class}
+use Rattle.bt_rules.specs.Contents.{contents}
+use Rattle.bt_rules.specs.Spots.{dirs, row_cells, cells_of}
+use Rattle.bt_rules.proofs.Classed.{class_same, same_found}
+use Rattle.bt_place.specs.Numbering.{Sizes, spot_of, dir_number, content_number, class_number, along, spots, variables, variable_of}
+use Rattle.bt_place.specs.Within.{IsSpot, IsNumbered}
 use Rattle.bt_place.proofs.Counting.{get_map, length_map, length_range, get_range, length_flat, get_flat, group_within, joined, before_list, list_at, get_joined, length_joined}
 
 -- the splitters in an order that the ranks tell
@@ -67,10 +71,6 @@ found_dir East = record { within = omega arith; is = refl }
 found_dir South = record { within = omega arith; is = refl }
 found_dir West = record { within = omega arith; is = refl }
 
-found_half : (half : Half) → Found halves (half_number half) half
-found_half Lesser = record { within = omega arith; is = refl }
-found_half Greater = record { within = omega arith; is = refl }
-
 found_content : (content : Content) → Found contents (content_number content) content
 found_content Empty = record { within = omega arith; is = refl }
 found_content (Turned shape.Belt North) = record { within = omega arith; is = refl }
@@ -93,6 +93,36 @@ found_content (Turned (shape.Half Greater) North) = record { within = omega arit
 found_content (Turned (shape.Half Greater) East) = record { within = omega arith; is = refl }
 found_content (Turned (shape.Half Greater) South) = record { within = omega arith; is = refl }
 found_content (Turned (shape.Half Greater) West) = record { within = omega arith; is = refl }
+
+-- a class at its place
+pub found_class : (xs : List Class) (k : Class) → Contains xs k → Found xs (position_or_len (same_class k) xs) k
+found_class [] k h = absurd (contains_none k h)
+found_class (x ∷ xs) k h = by (same_class k x) refl (contains_cases x xs k h) (found_class xs k)
+  where
+    by : (b : Bool) → same_class k x ≡ b → (k ≡ x) ⊎ Contains xs k → (Contains xs k → Found xs (position_or_len (same_class k) xs) k)
+        → Found (x ∷ xs) (cond (not b) (1 + position_or_len (same_class k) xs) 0) k
+    by true t h rest = record { within = omega arith; is = sym (class_same k x t) }
+    by false t (inl e) rest = absurd (false≢true (sym t ∙ same_found k x e))
+    by false t (inr h) rest =
+        let found = rest h in
+        let lt = found.within in
+        record {
+          within = omega (arith, lt);
+          is = ap (λ n. get_or (x ∷ xs) n k) (let z : 1 + position_or_len (same_class k) xs ≡ suc (position_or_len (same_class k) xs) = omega arith in z) ∙ found.is;
+        }
+
+-- what has a place among the classes is one of them
+pub class_there : (xs : List Class) (k : Class) → position_or_len (same_class k) xs < length xs → Contains xs k
+class_there [] k lt = absurd (omega (arith, lt))
+class_there (x ∷ xs) k lt = by (same_class k x) refl lt (class_there xs k)
+  where
+    by : (b : Bool) → same_class k x ≡ b → cond (not b) (1 + position_or_len (same_class k) xs) 0 < length (x ∷ xs)
+        → (position_or_len (same_class k) xs < length xs → Contains xs k) → Contains (x ∷ xs) k
+    by true t lt rest = (0, omega arith, sym (class_same k x t))
+    by false t lt rest = let more = rest (omega (arith, lt)) in let within = more.1 in (suc more.0, omega (arith, within), more.2)
+
+pub class_placed : (xs : List Class) (k : Class) → Contains xs k → position_or_len (same_class k) xs < length xs
+class_placed xs k h = (found_class xs k h).within
 
 module _ (z : Sizes) where
   abbrev pub rect : Rect
@@ -166,27 +196,26 @@ module _ (z : Sizes) where
   abbrev pub by_splitter : (ℕ → List Fact) → List Fact
   by_splitter f = flat_map f (range_with_len 0 z.splitters)
 
-  -- the facts of a splitter and an edge
-  abbrev pub ports : (ℕ → ℕ → Half → Fact) → ℕ → List Fact
-  ports port s = flat_map (λ e. map (port s e) halves) (range_with_len 0 z.edges)
+  -- the pairs that may begin on a cell
+  abbrev pub pairs_on : Cell → List Fact
+  pairs_on c = flat_map (λ d. map (fact.Pair c d) (range_with_len 1 z.distances)) dirs
 
   -- all facts, block by block
   abbrev pub blocks : List ℕ → List (List Fact)
-  blocks order = by_cell (λ c. map (fact.Kind c) contents)
-      ∷ by_cell (λ c. map (fact.Name c) (range_with_len 0 z.splitters))
-      ∷ by_cell (λ c. map (fact.Label c) (range_with_len 0 z.edges))
-      ∷ by_cell (λ c. map (fact.First c) (range_with_len 0 z.inputs))
-      ∷ by_cell (λ c. map (fact.Last c) (range_with_len 0 z.outputs))
-      ∷ by_cell (λ c. map (fact.Distance c) (range_with_len 1 z.distances))
-      ∷ by_splitter (ports fact.Leaves)
-      ∷ by_splitter (ports fact.Enters)
+  blocks order = by_cell (λ c. map (fact.Carries c) z.classes)
+      ∷ map fact.HalfOn (cells_of rect)
+      ∷ map fact.BeltOn (cells_of rect)
+      ∷ map fact.Begins (cells_of rect)
+      ∷ by_cell (λ c. map (fact.Starts c) (range_with_len 0 z.inputs))
+      ∷ by_cell pairs_on
+      ∷ by_cell (λ c. map (fact.Tunnel c) dirs)
+      ∷ by_cell (λ c. map (fact.Goes c) dirs)
       ∷ by_splitter (λ s. map (fact.Column s) (range_with_len 0 z.width))
       ∷ by_splitter (λ s. map (fact.Row s) (range_with_len 0 z.height))
       ∷ by_splitter (λ s. map (fact.Points s) dirs)
-      ∷ map fact.HalfOn (cells_of rect)
-      ∷ map fact.Begins (cells_of rect)
-      ∷ by_cell (λ c. map (fact.Tunnel c) dirs)
-      ∷ flat_map (λ c. map (fact.Still c) dirs) (reverse along_cells)
+      ∷ map fact.EntersLesser (range_with_len 0 z.splitters)
+      ∷ map fact.LeavesLesser (range_with_len 0 z.splitters)
+      ∷ flat_map (λ c. map (fact.Kind c) (reverse contents)) (reverse along_cells)
       ∷ flat_map (λ s. flat_map (λ c. map (fact.At s c) dirs) (reverse along_cells)) (reverse order)
       ∷ []
 
@@ -196,11 +225,11 @@ module _ (z : Sizes) where
   splitter_length : (f : ℕ → List Fact) (n : ℕ) → ((s : ℕ) → length (f s) ≡ n) → length (by_splitter f) ≡ z.splitters * n
   splitter_length f n each = length_flat f (range_with_len 0 z.splitters) n each ∙ ap (λ k. k * n) (length_range 0 z.splitters)
 
-  ports_length : (port : ℕ → ℕ → Half → Fact) (s : ℕ) → length (ports port s) ≡ z.edges * 2
-  ports_length port s = length_flat (λ e. map (port s e) halves) (range_with_len 0 z.edges) 2 (λ e. refl) ∙ ap (λ k. k * 2) (length_range 0 z.edges)
-
   ranged : {X : Type 0} (f : ℕ → X) (a n : ℕ) → length (map f (range_with_len a n)) ≡ n
   ranged f a n = length_map f (range_with_len a n) ∙ length_range a n
+
+  pairs_length : (c : Cell) → length (pairs_on c) ≡ 4 * z.distances
+  pairs_length c = length_flat (λ d. map (fact.Pair c d) (range_with_len 1 z.distances)) dirs z.distances (λ d. ranged (fact.Pair c d) 1 z.distances)
 
   found_ranged : {X : Type 0} (f : ℕ → X) (a n k v : ℕ) → k < n → a + k ≡ v → Found (map f (range_with_len a n)) k (f v)
   found_ranged f a n k v lt e = subst (λ w. Found (map f (range_with_len a n)) k (f w)) e (found_map f (range_with_len a n) k (a + k) (found_range a n k lt))
@@ -212,13 +241,13 @@ module _ (z : Sizes) where
   in_splitter f n s j x each lt k = found_flat f (range_with_len 0 z.splitters) n s j s x each
       (subst (Found (range_with_len 0 z.splitters) s) (let e : 0 + s ≡ s = omega arith in e) (found_range 0 z.splitters s lt)) k
 
-  in_ports : (port : ℕ → ℕ → Half → Fact) (s e : ℕ) (half : Half) → s < z.splitters → e < z.edges → Found (by_splitter (ports port)) ((s * z.edges + e) * 2 + half_number half) (port s e half)
-  in_ports port s e half ls le = found_at (by_splitter (ports port)) (s * (z.edges * 2) + (e * 2 + half_number half)) ((s * z.edges + e) * 2 + half_number half) (port s e half)
+  in_pairs : (c : Cell) (dir : Dir) (j k : ℕ) → IsSpot z c → j < z.distances → 1 + j ≡ k → Found (by_cell pairs_on) ((spot_of z c * 4 + dir_number dir) * z.distances + j) (fact.Pair c dir k)
+  in_pairs c dir j k h lt e =
+      found_at (by_cell pairs_on) (spot_of z c * (4 * z.distances) + (dir_number dir * z.distances + j)) ((spot_of z c * 4 + dir_number dir) * z.distances + j) (fact.Pair c dir k)
       (omega arith)
-      (in_splitter (ports port) (z.edges * 2) s (e * 2 + half_number half) (port s e half) (ports_length port) ls
-      (found_flat (λ f. map (port s f) halves) (range_with_len 0 z.edges) 2 e (half_number half) e (port s e half) (λ f. refl)
-      (subst (Found (range_with_len 0 z.edges) e) (let q : 0 + e ≡ e = omega arith in q) (found_range 0 z.edges e le))
-      (found_map (port s e) halves (half_number half) half (found_half half))))
+      (in_cell pairs_on (4 * z.distances) (dir_number dir * z.distances + j) c (fact.Pair c dir k) pairs_length h
+      (found_flat (λ d. map (fact.Pair c d) (range_with_len 1 z.distances)) dirs z.distances (dir_number dir) j dir (fact.Pair c dir k) (λ d. ranged (fact.Pair c d) 1 z.distances)
+      (found_dir dir) (found_ranged (fact.Pair c dir) 1 z.distances j k lt e)))
 
   -- where a fact stands in the blocks
   pub record IsIn (order : List ℕ) (x : Fact) : Type 0 where
@@ -230,40 +259,38 @@ module _ (z : Sizes) where
   module _ (order : List ℕ) (ranks : AreRanks z order) where
     -- the lengths of the blocks
     pub record Lengths : Type 0 where
-      pub kinds : length (list_at (blocks order) 0) ≡ spots z * 21
-      pub names : length (list_at (blocks order) 1) ≡ spots z * z.splitters
-      pub labels : length (list_at (blocks order) 2) ≡ spots z * z.edges
-      pub firsts : length (list_at (blocks order) 3) ≡ spots z * z.inputs
-      pub lasts : length (list_at (blocks order) 4) ≡ spots z * z.outputs
-      pub distances : length (list_at (blocks order) 5) ≡ spots z * z.distances
-      pub leaving : length (list_at (blocks order) 6) ≡ z.splitters * (z.edges * 2)
-      pub entering : length (list_at (blocks order) 7) ≡ z.splitters * (z.edges * 2)
+      pub carried : length (list_at (blocks order) 0) ≡ spots z * length z.classes
+      pub halves_on : length (list_at (blocks order) 1) ≡ spots z
+      pub belts_on : length (list_at (blocks order) 2) ≡ spots z
+      pub begun : length (list_at (blocks order) 3) ≡ spots z
+      pub started : length (list_at (blocks order) 4) ≡ spots z * z.inputs
+      pub paired : length (list_at (blocks order) 5) ≡ spots z * (4 * z.distances)
+      pub tunnels : length (list_at (blocks order) 6) ≡ spots z * 4
+      pub goings : length (list_at (blocks order) 7) ≡ spots z * 4
       pub columns : length (list_at (blocks order) 8) ≡ z.splitters * z.width
       pub rows : length (list_at (blocks order) 9) ≡ z.splitters * z.height
       pub points : length (list_at (blocks order) 10) ≡ z.splitters * 4
-      pub on : length (list_at (blocks order) 11) ≡ spots z
-      pub begins : length (list_at (blocks order) 12) ≡ spots z
-      pub tunnels : length (list_at (blocks order) 13) ≡ spots z * 4
-      pub stills : length (list_at (blocks order) 14) ≡ spots z * 4
-      pub places : length (list_at (blocks order) 15) ≡ z.splitters * (spots z * 4)
+      pub entering : length (list_at (blocks order) 11) ≡ z.splitters
+      pub leaving : length (list_at (blocks order) 12) ≡ z.splitters
+      pub kinds : length (list_at (blocks order) 13) ≡ spots z * 21
+      pub places : length (list_at (blocks order) 14) ≡ z.splitters * (spots z * 4)
 
     lengths : Lengths
     lengths = record {
-      kinds = cell_length (λ c. map (fact.Kind c) contents) 21 (λ c. refl);
-      names = cell_length (λ c. map (fact.Name c) (range_with_len 0 z.splitters)) z.splitters (λ c. ranged (fact.Name c) 0 z.splitters);
-      labels = cell_length (λ c. map (fact.Label c) (range_with_len 0 z.edges)) z.edges (λ c. ranged (fact.Label c) 0 z.edges);
-      firsts = cell_length (λ c. map (fact.First c) (range_with_len 0 z.inputs)) z.inputs (λ c. ranged (fact.First c) 0 z.inputs);
-      lasts = cell_length (λ c. map (fact.Last c) (range_with_len 0 z.outputs)) z.outputs (λ c. ranged (fact.Last c) 0 z.outputs);
-      distances = cell_length (λ c. map (fact.Distance c) (range_with_len 1 z.distances)) z.distances (λ c. ranged (fact.Distance c) 1 z.distances);
-      leaving = splitter_length (ports fact.Leaves) (z.edges * 2) (ports_length fact.Leaves);
-      entering = splitter_length (ports fact.Enters) (z.edges * 2) (ports_length fact.Enters);
+      carried = cell_length (λ c. map (fact.Carries c) z.classes) (length z.classes) (λ c. length_map (fact.Carries c) z.classes);
+      halves_on = length_map fact.HalfOn (cells_of rect) ∙ length_cells;
+      belts_on = length_map fact.BeltOn (cells_of rect) ∙ length_cells;
+      begun = length_map fact.Begins (cells_of rect) ∙ length_cells;
+      started = cell_length (λ c. map (fact.Starts c) (range_with_len 0 z.inputs)) z.inputs (λ c. ranged (fact.Starts c) 0 z.inputs);
+      paired = cell_length pairs_on (4 * z.distances) pairs_length;
+      tunnels = cell_length (λ c. map (fact.Tunnel c) dirs) 4 (λ c. refl);
+      goings = cell_length (λ c. map (fact.Goes c) dirs) 4 (λ c. refl);
       columns = splitter_length (λ s. map (fact.Column s) (range_with_len 0 z.width)) z.width (λ s. ranged (fact.Column s) 0 z.width);
       rows = splitter_length (λ s. map (fact.Row s) (range_with_len 0 z.height)) z.height (λ s. ranged (fact.Row s) 0 z.height);
       points = splitter_length (λ s. map (fact.Points s) dirs) 4 (λ s. refl);
-      on = length_map fact.HalfOn (cells_of rect) ∙ length_cells;
-      begins = length_map fact.Begins (cells_of rect) ∙ length_cells;
-      tunnels = cell_length (λ c. map (fact.Tunnel c) dirs) 4 (λ c. refl);
-      stills = length_flat (λ c. map (fact.Still c) dirs) (reverse along_cells) 4 (λ c. refl) ∙ ap (λ n. n * 4) (length-reverse along_cells ∙ length_along);
+      entering = ranged fact.EntersLesser 0 z.splitters;
+      leaving = ranged fact.LeavesLesser 0 z.splitters;
+      kinds = length_flat (λ c. map (fact.Kind c) (reverse contents)) (reverse along_cells) 21 (λ c. refl) ∙ ap (λ n. n * 21) (length-reverse along_cells ∙ length_along);
       places = length_flat (λ s. flat_map (λ c. map (fact.At s c) dirs) (reverse along_cells)) (reverse order) (spots z * 4)
           (λ s. length_flat (λ c. map (fact.At s c) dirs) (reverse along_cells) 4 (λ c. refl) ∙ ap (λ n. n * 4) (length-reverse along_cells ∙ length_along))
           ∙ ap (λ n. n * (spots z * 4)) (length-reverse order ∙ ranks.long);
@@ -273,104 +300,96 @@ module _ (z : Sizes) where
     pub blocks_long : length (joined (blocks order)) ≡ variables z
     blocks_long =
         let l = lengths in
-        let e : before_list (blocks order) 16 ≡ variables z =
-        omega (arith, l.kinds, l.names, l.labels, l.firsts, l.lasts, l.distances, l.leaving, l.entering, l.columns, l.rows, l.points, l.on, l.begins, l.tunnels, l.stills, l.places) in
+        let e : before_list (blocks order) 15 ≡ variables z =
+        omega (arith, l.carried, l.halves_on, l.belts_on, l.begun, l.started, l.paired, l.tunnels, l.goings, l.columns, l.rows, l.points, l.entering, l.leaving, l.kinds, l.places) in
         length_joined (blocks order) ∙ e
 
-    stands : (x : Fact) → IsWithin z x → IsIn order x
-    stands (fact.Kind c content) h = record {
+    stands : (x : Fact) → IsNumbered z x → IsIn order x
+    stands (fact.Carries c k) h = record {
       block = 0;
-      place = spot_of z c * 21 + content_number content;
+      place = spot_of z c * length z.classes + class_number z k;
       number = omega arith;
-      there = in_cell (λ c. map (fact.Kind c) contents) 21 (content_number content) c (fact.Kind c content) (λ c. refl) h (found_map (fact.Kind c) contents (content_number content) content (found_content content));
+      there = in_cell (λ c. map (fact.Carries c) z.classes) (length z.classes) (class_number z k) c (fact.Carries c k) (λ c. length_map (fact.Carries c) z.classes) h.0 (found_map (fact.Carries c) z.classes (class_number z k) k (found_class z.classes k h.1));
     }
-    stands (fact.Name c s) h = record {
+    stands (fact.HalfOn c) h = record {
       block = 1;
-      place = spot_of z c * z.splitters + s;
-      number = let l = lengths in omega (arith, l.kinds);
-      there = in_cell (λ c. map (fact.Name c) (range_with_len 0 z.splitters)) z.splitters s c (fact.Name c s) (λ c. ranged (fact.Name c) 0 z.splitters) h.0 (found_ranged (fact.Name c) 0 z.splitters s s h.1 (omega arith));
+      place = spot_of z c;
+      number = let l = lengths in omega (arith, l.carried);
+      there = found_map fact.HalfOn (cells_of rect) (spot_of z c) c (found_cell c h);
     }
-    stands (fact.Label c e) h = record {
+    stands (fact.BeltOn c) h = record {
       block = 2;
-      place = spot_of z c * z.edges + e;
-      number = let l = lengths in omega (arith, l.kinds, l.names);
-      there = in_cell (λ c. map (fact.Label c) (range_with_len 0 z.edges)) z.edges e c (fact.Label c e) (λ c. ranged (fact.Label c) 0 z.edges) h.0 (found_ranged (fact.Label c) 0 z.edges e e h.1 (omega arith));
+      place = spot_of z c;
+      number = let l = lengths in omega (arith, l.carried, l.halves_on);
+      there = found_map fact.BeltOn (cells_of rect) (spot_of z c) c (found_cell c h);
     }
-    stands (fact.First c i) h = record {
+    stands (fact.Begins c) h = record {
       block = 3;
-      place = spot_of z c * z.inputs + i;
-      number = let l = lengths in omega (arith, l.kinds, l.names, l.labels);
-      there = in_cell (λ c. map (fact.First c) (range_with_len 0 z.inputs)) z.inputs i c (fact.First c i) (λ c. ranged (fact.First c) 0 z.inputs) h.0 (found_ranged (fact.First c) 0 z.inputs i i h.1 (omega arith));
+      place = spot_of z c;
+      number = let l = lengths in omega (arith, l.carried, l.halves_on, l.belts_on);
+      there = found_map fact.Begins (cells_of rect) (spot_of z c) c (found_cell c h);
     }
-    stands (fact.Last c o) h = record {
+    stands (fact.Starts c i) h = record {
       block = 4;
-      place = spot_of z c * z.outputs + o;
-      number = let l = lengths in omega (arith, l.kinds, l.names, l.labels, l.firsts);
-      there = in_cell (λ c. map (fact.Last c) (range_with_len 0 z.outputs)) z.outputs o c (fact.Last c o) (λ c. ranged (fact.Last c) 0 z.outputs) h.0 (found_ranged (fact.Last c) 0 z.outputs o o h.1 (omega arith));
+      place = spot_of z c * z.inputs + i;
+      number = let l = lengths in omega (arith, l.carried, l.halves_on, l.belts_on, l.begun);
+      there = in_cell (λ c. map (fact.Starts c) (range_with_len 0 z.inputs)) z.inputs i c (fact.Starts c i) (λ c. ranged (fact.Starts c) 0 z.inputs) h.0 (found_ranged (fact.Starts c) 0 z.inputs i i h.1 (omega arith));
     }
-    stands (fact.Distance c k) h = record {
+    stands (fact.Pair c dir k) h = record {
       block = 5;
-      place = spot_of z c * z.distances + (k - 1);
-      number = let l = lengths in omega (arith, l.kinds, l.names, l.labels, l.firsts, l.lasts);
-      there = let le = h.1.0 in let most = h.1.1 in
-          in_cell (λ c. map (fact.Distance c) (range_with_len 1 z.distances)) z.distances (k - 1) c (fact.Distance c k) (λ c. ranged (fact.Distance c) 1 z.distances) h.0
-          (found_ranged (fact.Distance c) 1 z.distances (k - 1) k (omega (arith, le, most)) (omega (arith, le)));
+      place = (spot_of z c * 4 + dir_number dir) * z.distances + (k - 1);
+      number = let l = lengths in omega (arith, l.carried, l.halves_on, l.belts_on, l.begun, l.started);
+      there = let le = h.1.0 in let most = h.1.1 in in_pairs c dir (k - 1) k h.0 (omega (arith, le, most)) (omega (arith, le));
     }
-    stands (fact.Leaves s e half) h = record {
+    stands (fact.Tunnel c dir) h = record {
       block = 6;
-      place = (s * z.edges + e) * 2 + half_number half;
-      number = let l = lengths in omega (arith, l.kinds, l.names, l.labels, l.firsts, l.lasts, l.distances);
-      there = in_ports fact.Leaves s e half h.0 h.1;
+      place = spot_of z c * 4 + dir_number dir;
+      number = let l = lengths in omega (arith, l.carried, l.halves_on, l.belts_on, l.begun, l.started, l.paired);
+      there = in_cell (λ c. map (fact.Tunnel c) dirs) 4 (dir_number dir) c (fact.Tunnel c dir) (λ c. refl) h (found_map (fact.Tunnel c) dirs (dir_number dir) dir (found_dir dir));
     }
-    stands (fact.Enters s e half) h = record {
+    stands (fact.Goes c dir) h = record {
       block = 7;
-      place = (s * z.edges + e) * 2 + half_number half;
-      number = let l = lengths in omega (arith, l.kinds, l.names, l.labels, l.firsts, l.lasts, l.distances, l.leaving);
-      there = in_ports fact.Enters s e half h.0 h.1;
+      place = spot_of z c * 4 + dir_number dir;
+      number = let l = lengths in omega (arith, l.carried, l.halves_on, l.belts_on, l.begun, l.started, l.paired, l.tunnels);
+      there = in_cell (λ c. map (fact.Goes c) dirs) 4 (dir_number dir) c (fact.Goes c dir) (λ c. refl) h (found_map (fact.Goes c) dirs (dir_number dir) dir (found_dir dir));
     }
     stands (fact.Column s x) h = record {
       block = 8;
       place = s * z.width + x;
-      number = let l = lengths in omega (arith, l.kinds, l.names, l.labels, l.firsts, l.lasts, l.distances, l.leaving, l.entering);
+      number = let l = lengths in omega (arith, l.carried, l.halves_on, l.belts_on, l.begun, l.started, l.paired, l.tunnels, l.goings);
       there = in_splitter (λ s. map (fact.Column s) (range_with_len 0 z.width)) z.width s x (fact.Column s x) (λ s. ranged (fact.Column s) 0 z.width) h.0 (found_ranged (fact.Column s) 0 z.width x x h.1 (omega arith));
     }
     stands (fact.Row s y) h = record {
       block = 9;
       place = s * z.height + y;
-      number = let l = lengths in omega (arith, l.kinds, l.names, l.labels, l.firsts, l.lasts, l.distances, l.leaving, l.entering, l.columns);
+      number = let l = lengths in omega (arith, l.carried, l.halves_on, l.belts_on, l.begun, l.started, l.paired, l.tunnels, l.goings, l.columns);
       there = in_splitter (λ s. map (fact.Row s) (range_with_len 0 z.height)) z.height s y (fact.Row s y) (λ s. ranged (fact.Row s) 0 z.height) h.0 (found_ranged (fact.Row s) 0 z.height y y h.1 (omega arith));
     }
     stands (fact.Points s dir) h = record {
       block = 10;
       place = s * 4 + dir_number dir;
-      number = let l = lengths in omega (arith, l.kinds, l.names, l.labels, l.firsts, l.lasts, l.distances, l.leaving, l.entering, l.columns, l.rows);
+      number = let l = lengths in omega (arith, l.carried, l.halves_on, l.belts_on, l.begun, l.started, l.paired, l.tunnels, l.goings, l.columns, l.rows);
       there = in_splitter (λ s. map (fact.Points s) dirs) 4 s (dir_number dir) (fact.Points s dir) (λ s. refl) h (found_map (fact.Points s) dirs (dir_number dir) dir (found_dir dir));
     }
-    stands (fact.HalfOn c) h = record {
+    stands (fact.EntersLesser s) h = record {
       block = 11;
-      place = spot_of z c;
-      number = let l = lengths in omega (arith, l.kinds, l.names, l.labels, l.firsts, l.lasts, l.distances, l.leaving, l.entering, l.columns, l.rows, l.points);
-      there = found_map fact.HalfOn (cells_of rect) (spot_of z c) c (found_cell c h);
+      place = s;
+      number = let l = lengths in omega (arith, l.carried, l.halves_on, l.belts_on, l.begun, l.started, l.paired, l.tunnels, l.goings, l.columns, l.rows, l.points);
+      there = found_ranged fact.EntersLesser 0 z.splitters s s h (omega arith);
     }
-    stands (fact.Begins c) h = record {
+    stands (fact.LeavesLesser s) h = record {
       block = 12;
-      place = spot_of z c;
-      number = let l = lengths in omega (arith, l.kinds, l.names, l.labels, l.firsts, l.lasts, l.distances, l.leaving, l.entering, l.columns, l.rows, l.points, l.on);
-      there = found_map fact.Begins (cells_of rect) (spot_of z c) c (found_cell c h);
+      place = s;
+      number = let l = lengths in omega (arith, l.carried, l.halves_on, l.belts_on, l.begun, l.started, l.paired, l.tunnels, l.goings, l.columns, l.rows, l.points, l.entering);
+      there = found_ranged fact.LeavesLesser 0 z.splitters s s h (omega arith);
     }
-    stands (fact.Tunnel c dir) h = record {
+    stands (fact.Kind c content) h = record {
       block = 13;
-      place = spot_of z c * 4 + dir_number dir;
-      number = let l = lengths in omega (arith, l.kinds, l.names, l.labels, l.firsts, l.lasts, l.distances, l.leaving, l.entering, l.columns, l.rows, l.points, l.on, l.begins);
-      there = in_cell (λ c. map (fact.Tunnel c) dirs) 4 (dir_number dir) c (fact.Tunnel c dir) (λ c. refl) h (found_map (fact.Tunnel c) dirs (dir_number dir) dir (found_dir dir));
-    }
-    stands (fact.Still c dir) h = record {
-      block = 14;
-      place = (spots z - 1 - along z c) * 4 + dir_number dir;
-      number = let l = lengths in omega (arith, l.kinds, l.names, l.labels, l.firsts, l.lasts, l.distances, l.leaving, l.entering, l.columns, l.rows, l.points, l.on, l.begins, l.tunnels);
-      there = found_flat (λ c. map (fact.Still c) dirs) (reverse along_cells) 4 (spots z - 1 - along z c) (dir_number dir) c (fact.Still c dir) (λ c. refl)
+      place = (spots z - 1 - along z c) * 21 + (20 - content_number content);
+      number = let l = lengths in omega (arith, l.carried, l.halves_on, l.belts_on, l.begun, l.started, l.paired, l.tunnels, l.goings, l.columns, l.rows, l.points, l.entering, l.leaving);
+      there = found_flat (λ c. map (fact.Kind c) (reverse contents)) (reverse along_cells) 21 (spots z - 1 - along z c) (20 - content_number content) c (fact.Kind c content) (λ c. refl)
           (found_reverse along_cells (spots z) (along z c) c length_along (found_along c h))
-          (found_map (fact.Still c) dirs (dir_number dir) dir (found_dir dir));
+          (found_map (fact.Kind c) (reverse contents) (20 - content_number content) content (found_reverse contents 21 (content_number content) content refl (found_content content)));
     }
     stands (fact.At s c dir) h =
         let rank = slice_index z.ranks s in
@@ -378,9 +397,9 @@ module _ (z : Sizes) where
         let long = ranks.long in
         let here : Found order rank s = record { within = omega (arith, lt, long); is = get_or_default order rank s 0 (omega (arith, lt, long)) ∙ ranks.there s h.0 } in
         record {
-          block = 15;
+          block = 14;
           place = (z.splitters - 1 - rank) * (spots z * 4) + ((spots z - 1 - along z c) * 4 + dir_number dir);
-          number = let l = lengths in omega (arith, l.kinds, l.names, l.labels, l.firsts, l.lasts, l.distances, l.leaving, l.entering, l.columns, l.rows, l.points, l.on, l.begins, l.tunnels, l.stills);
+          number = let l = lengths in omega (arith, l.carried, l.halves_on, l.belts_on, l.begun, l.started, l.paired, l.tunnels, l.goings, l.columns, l.rows, l.points, l.entering, l.leaving, l.kinds);
           there = found_flat (λ s. flat_map (λ c. map (fact.At s c) dirs) (reverse along_cells)) (reverse order) (spots z * 4) (z.splitters - 1 - rank) ((spots z - 1 - along z c) * 4 + dir_number dir) s (fact.At s c dir)
               (λ s. length_flat (λ c. map (fact.At s c) dirs) (reverse along_cells) 4 (λ c. refl) ∙ ap (λ n. n * 4) (length-reverse along_cells ∙ length_along))
               (found_reverse order z.splitters rank s long here)
@@ -390,7 +409,7 @@ module _ (z : Sizes) where
         }
 
     -- each fact stands at its variable
-    pub fact_at : (x : Fact) → IsWithin z x → (variable_of z x < variables z) × (get_or (joined (blocks order)) (variable_of z x) x ≡ x)
+    pub fact_at : (x : Fact) → IsNumbered z x → (variable_of z x < variables z) × (get_or (joined (blocks order)) (variable_of z x) x ≡ x)
     fact_at x h =
         let at = stands x h in
         let found = get_joined (blocks order) at.block at.place x at.there.within in

@@ -1,35 +1,30 @@
 -- Rules that are written as clauses.
-use Rattle.std.proofs.Common.{◌≡◌, ℕ, zero, suc, ◌<◌, ◌+◌, Bool, true, false, cond, not, List, [], ◌∷◌, ◌++◌, length, map, take, get_or, refl, sym, ◌∙◌, ap, subst, arith, append_assoc, append-nil, Some}
+use Rattle.std.proofs.Common.{◌≡◌, ℕ, ◌<◌, ◌+◌, Bool, true, false, cond, not, List, [], ◌∷◌, ◌++◌, length, map, take, get_or, refl, sym, ◌∙◌, ap, subst, append_assoc, append-nil, Some}
 use Rattle.std.specs.List.{AllByRecursion, All, flat_map, filter, slice_get}
 use Rattle.std.proofs.lemmas.List.{map-append, map_push, take_more}
 use Rattle.std.proofs.lemmas.Option.{get_or_from_slice_get}
 use Rattle.bt_cnf.specs.declared.literal.Lit.{Lit}
 use Rattle.bt_cnf.specs.Formulas.{FormulaParts, LitsBelow}
-use Rattle.bt_place.specs.declared.draft.Claim.{Claim}
-use Rattle.bt_place.specs.declared.fact.Fact.{Fact}
+use Rattle.bt_rules.specs.declared.draft.Claim.{Claim}
+use Rattle.bt_rules.specs.declared.fact.Fact.{Fact}
+use Rattle.bt_rules.specs.Drafts.{rule_of}
+use Rattle.bt_rules.specs.Rules.{Rule}
+use Rattle.bt_rules.proofs.Drawn.{all_get}
 use Rattle.bt_place.specs.Numbering.{Sizes}
 use Rattle.bt_place.specs.PlaceFormula.{literal, clause_of}
-use Rattle.bt_place.specs.Rules.{Rule}
-use Rattle.bt_place.specs.Within.{IsWithin, HasWithin}
-use Rattle.bt_place.specs.inner.Drafts.{rule_of}
+use Rattle.bt_place.specs.Within.{IsNumbered, HasNumbered}
 use Rattle.bt_place.specs.inner.Writing.{HasVariables, with_rules, given_literal, following_literal}
-
--- what is so of each item is so of that at a place
-pub all_get : {X : Type 0} (P : X → Type 0) (xs : List X) (i : ℕ) (d : X) → AllByRecursion P xs → i < length xs → P (get_or xs i d)
-all_get P [] i d h lt = absurd (omega arith)
-all_get P (x ∷ xs) zero d h lt = h.0
-all_get P (x ∷ xs) (suc i) d h lt = all_get P xs i d h.1 (omega arith)
 
 -- ---- claims
 
 parted : (z : Sizes) (b : Bool) (c : Claim) (given following : List Claim)
-    → AllByRecursion (IsWithin z) (map (λ c. c.fact) (cond (not b) (c ∷ given) given))
-    → AllByRecursion (IsWithin z) (map (λ c. c.fact) (cond b (c ∷ following) following))
-    → IsWithin z c.fact × (AllByRecursion (IsWithin z) (map (λ c. c.fact) given) × AllByRecursion (IsWithin z) (map (λ c. c.fact) following))
+    → AllByRecursion (IsNumbered z) (map (λ c. c.fact) (cond (not b) (c ∷ given) given))
+    → AllByRecursion (IsNumbered z) (map (λ c. c.fact) (cond b (c ∷ following) following))
+    → IsNumbered z c.fact × (AllByRecursion (IsNumbered z) (map (λ c. c.fact) given) × AllByRecursion (IsNumbered z) (map (λ c. c.fact) following))
 parted z true c given following g f = (f.0, (g, f.1))
 parted z false c given following g f = (g.0, (g.1, f))
 
-pub claims_within : (z : Sizes) (claims : List Claim) → HasWithin z (rule_of claims) → AllByRecursion (λ c. IsWithin z c.fact) claims
+pub claims_within : (z : Sizes) (claims : List Claim) → HasNumbered z (rule_of claims) → AllByRecursion (λ c. IsNumbered z c.fact) claims
 claims_within z [] h = tt
 claims_within z (c ∷ claims) h =
     let parts = parted z c.follows c (filter (λ c. not c.follows) claims) (filter (λ c. c.follows) claims) h.given h.one_of in
@@ -66,7 +61,7 @@ below_both : (n : ℕ) (xs ys : List Lit) → AllByRecursion (λ l. l.var < n) x
 below_both n [] ys h k = k
 below_both n (x ∷ xs) ys h k = (h.0, below_both n xs ys h.1 k)
 
-below_mapped : (z : Sizes) (n : ℕ) (positive : Bool) (facts : List Fact) → HasVariables z n → AllByRecursion (IsWithin z) facts
+below_mapped : (z : Sizes) (n : ℕ) (positive : Bool) (facts : List Fact) → HasVariables z n → AllByRecursion (IsNumbered z) facts
     → AllByRecursion (λ l. l.var < n) (map (literal z positive) facts)
 below_mapped z n positive [] has h = tt
 below_mapped z n positive (f ∷ facts) has h = (has.each f h.0, below_mapped z n positive facts has h.1)
@@ -74,7 +69,7 @@ below_mapped z n positive (f ∷ facts) has h = (has.each f h.0, below_mapped z 
 all_of_each : {X : Type 0} (P : X → Type 0) (xs : List X) → AllByRecursion P xs → All P xs
 all_of_each P xs h k d lt = all_get P xs k d h lt
 
-pub clause_below : (z : Sizes) (n : ℕ) (r : Rule) → HasVariables z n → HasWithin z r → LitsBelow n (clause_of z r)
+pub clause_below : (z : Sizes) (n : ℕ) (r : Rule) → HasVariables z n → HasNumbered z r → LitsBelow n (clause_of z r)
 clause_below z n r has h = all_of_each (λ l. l.var < n) (clause_of z r)
     (below_both n (map (literal z false) r.given) (map (literal z true) r.one_of) (below_mapped z n false r.given has h.given) (below_mapped z n true r.one_of has h.one_of))
 
@@ -103,10 +98,10 @@ mapped_get : (rules : List (List Claim)) (P : Rule → Type 0) → AllByRecursio
 mapped_get [] P h = tt
 mapped_get (claims ∷ rules) P h = (h.0, mapped_get rules P h.1)
 
-pub rule_at : (z : Sizes) (rules : List (List Claim)) (place : ℕ) (claims : List Claim) → AllByRecursion (HasWithin z) (map rule_of rules) → place < length rules
-    → claims ≡ get_or rules place [] → HasWithin z (rule_of claims)
+pub rule_at : (z : Sizes) (rules : List (List Claim)) (place : ℕ) (claims : List Claim) → AllByRecursion (HasNumbered z) (map rule_of rules) → place < length rules
+    → claims ≡ get_or rules place [] → HasNumbered z (rule_of claims)
 rule_at z rules place claims h lt is =
-    subst (λ l. HasWithin z (rule_of l)) (sym is) (all_get (λ l. HasWithin z (rule_of l)) rules place [] (mapped_get rules (HasWithin z) h) lt)
+    subst (λ l. HasNumbered z (rule_of l)) (sym is) (all_get (λ l. HasNumbered z (rule_of l)) rules place [] (mapped_get rules (HasNumbered z) h) lt)
 
 -- one more rule
 pub place_written : (z : Sizes) (old now new : FormulaParts) (rules : List (List Claim)) (n : ℕ) → n < length rules

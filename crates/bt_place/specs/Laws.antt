@@ -1,15 +1,14 @@
 -- What layouts of a request and assignments of its formula have to do with one another.
 use Rattle.std.specs.Prelude.{ℕ, Bool, List}
-use Rattle.std.specs.List.{AllByRecursion}
 use Rattle.bt_parts.specs.declared.part.Part.{Part}
 use Rattle.bt_frac.specs.Ratio.{Ratio}
 use Rattle.bt_cnf.specs.Meeting.{Meets}
 use Rattle.bt_model.specs.Laying.{Lays}
 use Rattle.bt_model.specs.Requests.{LayoutRequest, IsRequest}
-use Rattle.bt_place.specs.declared.fact.Fact.{Fact}
+use Rattle.bt_rules.specs.declared.fact.Fact.{Fact}
+use Rattle.bt_rules.specs.Laws.{KeepsRules}
 use Rattle.bt_place.specs.Numbering.{variable_of}
-use Rattle.bt_place.specs.PlaceFormula.{rules_of, sizes_of, place_formula}
-use Rattle.bt_place.specs.Rules.{Keeps}
+use Rattle.bt_place.specs.PlaceFormula.{sizes_of, place_formula}
 
 -- the facts as an assignment reads them
 abbrev pub read_by : LayoutRequest → (ℕ → Bool) → Fact → Bool
@@ -18,7 +17,7 @@ read_by r assignment fact = assignment (variable_of (sizes_of r) fact)
 -- an assignment that meets the formula of a request keeps each of its rules
 abbrev pub MeetingKeeps : Type 0
 MeetingKeeps = (r : LayoutRequest) (assignment : ℕ → Bool) (values : ℕ → Ratio) → Meets (place_formula r) assignment values
-    → AllByRecursion (Keeps (read_by r assignment)) (rules_of r)
+    → KeepsRules r (read_by r assignment)
 
 -- some assignment meets the formula of a request, whatever the values
 abbrev pub CanBeMet : LayoutRequest → Type 0

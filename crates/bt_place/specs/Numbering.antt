@@ -1,30 +1,31 @@
 -- The variables of facts: block by block, and within a block by the cells row by row.
-use Rattle.std.specs.List.{remove}
-use Rattle.std.specs.Prelude.{ℕ, zero, suc, ◌+◌, ◌-◌, ◌*◌, nat_lt, ◌&&◌, ◌||◌, Bool, false, unsigned_abs, List, [], ◌∷◌, ◌++◌, map, count_by, slice_index, if◌then◌else◌}
+use Rattle.std.specs.List.{remove, position_or_len}
+use Rattle.std.specs.Prelude.{ℕ, zero, suc, ◌+◌, ◌-◌, ◌*◌, nat_lt, ◌&&◌, ◌||◌, Bool, false, unsigned_abs, length, List, [], ◌∷◌, ◌++◌, map, count_by, slice_index, if◌then◌else◌}
 use Rattle.bt_parts.specs.declared.part.Cell.{Cell}
 use Rattle.bt_parts.specs.declared.part.Dir.{Dir}
 use Rattle.bt_parts.specs.declared.part.Dir.TheVariants.{North, East, South, West}
 use Rattle.bt_net.specs.declared.network.Edge.{Edge}
 use Rattle.bt_net.specs.Network.{leaves, enters}
-use Rattle.bt_place.specs.declared.fact.Content.{Content}
-use Rattle.bt_place.specs.declared.fact.Content.TheVariants.{Empty, Turned}
-use Rattle.bt_place.specs.declared.fact.Fact.{Fact}
-use Rattle.bt_place.specs.declared.fact.Fact.TheVariants as fact
-use Rattle.bt_place.specs.declared.fact.Half.{Half}
-use Rattle.bt_place.specs.declared.fact.Half.TheVariants.{Lesser, Greater}
-use Rattle.bt_place.specs.declared.fact.Shape.{Shape}
-use Rattle.bt_place.specs.declared.fact.Shape.TheVariants as shape
+use Rattle.bt_rules.specs.declared.fact.Class.{Class}
+use Rattle.bt_rules.specs.declared.fact.Content.{Content}
+use Rattle.bt_rules.specs.declared.fact.Content.TheVariants.{Empty, Turned}
+use Rattle.bt_rules.specs.declared.fact.Fact.{Fact}
+use Rattle.bt_rules.specs.declared.fact.Fact.TheVariants as fact
+use Rattle.bt_rules.specs.declared.fact.Half.{Half}
+use Rattle.bt_rules.specs.declared.fact.Half.TheVariants.{Lesser, Greater}
+use Rattle.bt_rules.specs.declared.fact.Shape.{Shape}
+use Rattle.bt_rules.specs.declared.fact.Shape.TheVariants as shape
+use Rattle.bt_rules.specs.Classes.{same_class}
 
--- the sizes on which the numbers of variables depend; the greatest distance of an underground pair; and for each splitter
--- its rank in the order in which the search places them
+-- the sizes on which the numbers of variables depend: the greatest distance of an underground pair, the classes, and for each
+-- splitter its rank in the order in which the search places them
 pub record Sizes : Type 0 where
   pub width : ℕ
   pub height : ℕ
   pub splitters : ℕ
-  pub edges : ℕ
   pub inputs : ℕ
-  pub outputs : ℕ
   pub distances : ℕ
+  pub classes : List Class
   pub ranks : List ℕ
 
 -- ---- the order of splitters
@@ -86,6 +87,10 @@ abbrev pub content_number : Content → ℕ
 content_number Empty = 0
 content_number (Turned of dir) = 1 + (shape_number of * 4 + dir_number dir)
 
+-- the number of a class: its place among the classes
+abbrev pub class_number : Sizes → Class → ℕ
+class_number z k = position_or_len (same_class k) z.classes
+
 -- the number of a cell along the longer side of the rectangle: row by row, or column by column
 abbrev pub along : Sizes → Cell → ℕ
 along z c = if nat_lt z.height z.width
@@ -98,30 +103,30 @@ along z c = if nat_lt z.height z.width
 abbrev pub spots : Sizes → ℕ
 spots z = z.width * z.height
 
--- where each block of variables begins, after the kinds
-abbrev pub names_from : Sizes → ℕ
-names_from z = spots z * 21
+-- where each block of variables begins, after that of the classes which cells carry
+abbrev pub halves_from : Sizes → ℕ
+halves_from z = spots z * length z.classes
 
-abbrev pub labels_from : Sizes → ℕ
-labels_from z = names_from z + spots z * z.splitters
+abbrev pub belts_from : Sizes → ℕ
+belts_from z = halves_from z + spots z
 
-abbrev pub firsts_from : Sizes → ℕ
-firsts_from z = labels_from z + spots z * z.edges
+abbrev pub begins_from : Sizes → ℕ
+begins_from z = belts_from z + spots z
 
-abbrev pub lasts_from : Sizes → ℕ
-lasts_from z = firsts_from z + spots z * z.inputs
+abbrev pub starts_from : Sizes → ℕ
+starts_from z = begins_from z + spots z
 
-abbrev pub distances_from : Sizes → ℕ
-distances_from z = lasts_from z + spots z * z.outputs
+abbrev pub pairs_from : Sizes → ℕ
+pairs_from z = starts_from z + spots z * z.inputs
 
-abbrev pub leaving_from : Sizes → ℕ
-leaving_from z = distances_from z + spots z * z.distances
+abbrev pub tunnels_from : Sizes → ℕ
+tunnels_from z = pairs_from z + spots z * 4 * z.distances
 
-abbrev pub entering_from : Sizes → ℕ
-entering_from z = leaving_from z + z.splitters * z.edges * 2
+abbrev pub goings_from : Sizes → ℕ
+goings_from z = tunnels_from z + spots z * 4
 
 abbrev pub columns_from : Sizes → ℕ
-columns_from z = entering_from z + z.splitters * z.edges * 2
+columns_from z = goings_from z + spots z * 4
 
 abbrev pub rows_from : Sizes → ℕ
 rows_from z = columns_from z + z.splitters * z.width
@@ -129,42 +134,39 @@ rows_from z = columns_from z + z.splitters * z.width
 abbrev pub points_from : Sizes → ℕ
 points_from z = rows_from z + z.splitters * z.height
 
-abbrev pub halves_from : Sizes → ℕ
-halves_from z = points_from z + z.splitters * 4
+abbrev pub entering_from : Sizes → ℕ
+entering_from z = points_from z + z.splitters * 4
 
-abbrev pub begins_from : Sizes → ℕ
-begins_from z = halves_from z + spots z
+abbrev pub leaving_from : Sizes → ℕ
+leaving_from z = entering_from z + z.splitters
 
-abbrev pub tunnels_from : Sizes → ℕ
-tunnels_from z = begins_from z + spots z
-
-abbrev pub stills_from : Sizes → ℕ
-stills_from z = tunnels_from z + spots z * 4
+abbrev pub kinds_from : Sizes → ℕ
+kinds_from z = leaving_from z + z.splitters
 
 abbrev pub places_from : Sizes → ℕ
-places_from z = stills_from z + spots z * 4
+places_from z = kinds_from z + spots z * 21
 
 -- the number of variables
 abbrev pub variables : Sizes → ℕ
 variables z = places_from z + z.splitters * spots z * 4
 
--- the variable of a fact. The places of the first splitter come last. They and what cells hand on are numbered from the
--- last cell along the longer side to the first one, so that a search settles cells where it has just placed splitters
+-- the variable of a fact. The places of the first splitter come last, and before all places what cells hold. Both are numbered
+-- from the last cell along the longer side to the first one, and of what a cell holds nothing comes last: so a search that
+-- sets the highest variable to true places the splitters one after another, and keeps cells empty then
 abbrev pub variable_of : Sizes → Fact → ℕ
-variable_of z (fact.Kind c content) = spot_of z c * 21 + content_number content
-variable_of z (fact.Name c s) = names_from z + (spot_of z c * z.splitters + s)
-variable_of z (fact.Label c e) = labels_from z + (spot_of z c * z.edges + e)
-variable_of z (fact.First c i) = firsts_from z + (spot_of z c * z.inputs + i)
-variable_of z (fact.Last c o) = lasts_from z + (spot_of z c * z.outputs + o)
-variable_of z (fact.Distance c k) = distances_from z + (spot_of z c * z.distances + (k - 1))
-variable_of z (fact.Leaves s e half) = leaving_from z + ((s * z.edges + e) * 2 + half_number half)
-variable_of z (fact.Enters s e half) = entering_from z + ((s * z.edges + e) * 2 + half_number half)
+variable_of z (fact.Carries c k) = spot_of z c * length z.classes + class_number z k
+variable_of z (fact.HalfOn c) = halves_from z + spot_of z c
+variable_of z (fact.BeltOn c) = belts_from z + spot_of z c
+variable_of z (fact.Begins c) = begins_from z + spot_of z c
+variable_of z (fact.Starts c i) = starts_from z + (spot_of z c * z.inputs + i)
+variable_of z (fact.Pair c dir k) = pairs_from z + ((spot_of z c * 4 + dir_number dir) * z.distances + (k - 1))
+variable_of z (fact.Tunnel c dir) = tunnels_from z + (spot_of z c * 4 + dir_number dir)
+variable_of z (fact.Goes c dir) = goings_from z + (spot_of z c * 4 + dir_number dir)
 variable_of z (fact.Column s x) = columns_from z + (s * z.width + x)
 variable_of z (fact.Row s y) = rows_from z + (s * z.height + y)
 variable_of z (fact.Points s dir) = points_from z + (s * 4 + dir_number dir)
-variable_of z (fact.HalfOn c) = halves_from z + spot_of z c
-variable_of z (fact.Begins c) = begins_from z + spot_of z c
-variable_of z (fact.Tunnel c dir) = tunnels_from z + (spot_of z c * 4 + dir_number dir)
-variable_of z (fact.Still c dir) = stills_from z + ((spots z - 1 - along z c) * 4 + dir_number dir)
+variable_of z (fact.EntersLesser s) = entering_from z + s
+variable_of z (fact.LeavesLesser s) = leaving_from z + s
+variable_of z (fact.Kind c content) = kinds_from z + ((spots z - 1 - along z c) * 21 + (20 - content_number content))
 variable_of z (fact.At s c dir) = places_from z
     + (((z.splitters - 1 - slice_index z.ranks s) * spots z + (spots z - 1 - along z c)) * 4 + dir_number dir)

@@ -1,9 +1,6 @@
-pub mod Drafts
-pub mod Near
-pub mod Pieces
-pub mod Parts
-pub mod Sided
-pub mod Standing
 pub mod Blocks
 pub mod Writing
 pub mod Order
+pub mod Grid
+pub mod Told
+pub mod Reaching

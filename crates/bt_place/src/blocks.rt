@@ -4,36 +4,35 @@ ghost use Rattle.bt_place.specs.Numbering.{variables};
 ghost use Rattle.bt_place.specs.Blocks.{starts_of};
 ghost use Rattle.bt_place.specs.inner.Blocks.{sizes_with};
 
-/// How much of each kind a request has.
+use bt_rules::Class;
+
+/// How much of each kind a request has, but for classes.
 #[derive(Clone, Copy)]
 pub struct Extent {
     pub width: usize,
     pub height: usize,
     pub splitters: usize,
-    pub edges: usize,
     pub inputs: usize,
-    pub outputs: usize,
     /// The greatest distance between the two ends of an underground pair.
     pub distances: usize,
 }
 
-/// Where each block of variables begins, after the kinds; and where all end.
+/// Where each block of variables begins, after that of the classes which cells carry; and where all end.
 #[derive(Clone, Copy)]
 pub struct Starts {
-    pub names: usize,
-    pub labels: usize,
-    pub firsts: usize,
-    pub lasts: usize,
-    pub distances: usize,
-    pub leaving: usize,
-    pub entering: usize,
+    pub halves: usize,
+    pub belts: usize,
+    pub begins: usize,
+    pub starts: usize,
+    pub pairs: usize,
+    pub tunnels: usize,
+    pub goings: usize,
     pub columns: usize,
     pub rows: usize,
     pub points: usize,
-    pub halves: usize,
-    pub begins: usize,
-    pub tunnels: usize,
-    pub stills: usize,
+    pub entering: usize,
+    pub leaving: usize,
+    pub kinds: usize,
     pub places: usize,
     pub end: usize,
 }
@@ -47,43 +46,41 @@ fn after(from: usize, rows: usize, each: usize) -> usize
 }
 
 /// Where each block begins.
-pub fn starts_of(extent: Extent) -> Starts
-    requires { variables (sizes_with extent []) < 2 ^ 64 }
-    ensures { result ≡ starts_of (sizes_with extent []) }
+pub fn starts_of(extent: Extent, classes: &[Class]) -> Starts
+    requires { variables (sizes_with extent classes.now []) < 2 ^ 64 }
+    ensures { result ≡ starts_of (sizes_with extent classes.now []) }
 {
     let spots = after(0, extent.width, extent.height);
-    let ports = after(0, extent.splitters, extent.edges);
-    let names = after(0, spots, 21);
-    let labels = after(names, spots, extent.splitters);
-    let firsts = after(labels, spots, extent.edges);
-    let lasts = after(firsts, spots, extent.inputs);
-    let distances = after(lasts, spots, extent.outputs);
-    let leaving = after(distances, spots, extent.distances);
-    let entering = after(leaving, ports, 2);
-    let columns = after(entering, ports, 2);
+    let dirs = after(0, spots, 4);
+    let halves = after(0, spots, classes.len());
+    let belts = after(halves, spots, 1);
+    let begins = after(belts, spots, 1);
+    let starts = after(begins, spots, 1);
+    let pairs = after(starts, spots, extent.inputs);
+    let tunnels = after(pairs, dirs, extent.distances);
+    let goings = after(tunnels, dirs, 1);
+    let columns = after(goings, dirs, 1);
     let rows = after(columns, extent.splitters, extent.width);
     let points = after(rows, extent.splitters, extent.height);
-    let halves = after(points, extent.splitters, 4);
-    let begins = after(halves, spots, 1);
-    let tunnels = after(begins, spots, 1);
-    let stills = after(tunnels, spots, 4);
-    let places = after(stills, spots, 4);
+    let entering = after(points, extent.splitters, 4);
+    let leaving = after(entering, extent.splitters, 1);
+    let kinds = after(leaving, extent.splitters, 1);
+    let places = after(kinds, spots, 21);
     let all = after(0, extent.splitters, spots);
     Starts {
-        names,
-        labels,
-        firsts,
-        lasts,
-        distances,
-        leaving,
-        entering,
+        halves,
+        belts,
+        begins,
+        starts,
+        pairs,
+        tunnels,
+        goings,
         columns,
         rows,
         points,
-        halves,
-        begins,
-        tunnels,
-        stills,
+        entering,
+        leaving,
+        kinds,
         places,
         end: after(places, all, 4),
     }

@@ -1,30 +1,23 @@
-//! The placement formula of a request: the layouts that lay the request, as a formula over what each cell holds.
+//! The placement formula of a request: the rules that layouts keep, as a formula over numbered facts, and the
+//! layout that an assignment of it describes.
 #![tactic(auto)]
 
-mod adding;
 mod blocks;
-mod cells;
-mod contents;
-mod draft;
+mod decoding;
 mod encoding;
-mod ends;
-mod fact;
-mod facts;
-mod going;
-mod labels;
+mod grid;
 mod law;
+mod narrowing;
 mod numbering;
 mod order;
-mod pinning;
-mod ports;
-mod spots;
-mod standing;
-mod underground;
+mod reaching;
+mod reading;
 mod writing;
 
 pub use blocks::Starts;
+pub use decoding::decode;
 pub use encoding::encode_place;
-pub use fact::{Content, Fact, Half, Shape};
 pub use law::{laying_meets, meeting_keeps};
-pub use numbering::block_starts;
+pub use narrowing::{literal_of, narrow};
+pub use numbering::Numbers;
 pub use std::alloc::AllocError as Memory;

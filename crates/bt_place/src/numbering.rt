@@ -1,17 +1,20 @@
 //! The variables of facts.
-ghost use Rattle.std.specs.Prelude.{◌≡◌, ◌<◌, ◌+◌, ◌-◌, ◌*◌, ◌^◌, IfOk};
+ghost use Rattle.std.specs.Prelude.{◌≡◌, ◌↔◌, ◌<◌, ◌+◌, ◌-◌, ◌*◌, ◌^◌, length, IfOk, IfNone, IfSome, IsTrue, Contains};
+ghost use Rattle.std.specs.List.{position_or_len};
+ghost use Rattle.bt_parts.specs.Cells.{IsInside};
 ghost use Rattle.bt_model.specs.Requests.{IsRequest};
+ghost use Rattle.bt_rules.specs.Classes as classing;
 ghost use Rattle.bt_place.specs.Numbering as numbering;
 ghost use Rattle.bt_place.specs.Blocks.{starts_of};
 ghost use Rattle.bt_place.specs.PlaceFormula.{sizes_of};
-ghost use Rattle.bt_place.specs.Within.{IsSpot, IsWithin};
+ghost use Rattle.bt_place.specs.Within.{IsSpot, IsNumbered};
 ghost use Rattle.bt_place.specs.inner.Blocks.{sizes_with, AreNumbers, place_number};
 
 use crate::blocks::{Extent, Starts, starts_of};
-use crate::fact::{Content, Fact, Half, Shape};
 use crate::order::ranks_of;
 use bt_model::Request;
 use bt_parts::{Cell, Dir};
+use bt_rules::{Class, Content, Fact, Half, Plan, Shape, same_class};
 use std::alloc::{AllocError, Global};
 use std::marker::Model;
 
@@ -19,6 +22,7 @@ use std::marker::Model;
 #[derive(Drop)]
 pub struct Numbers {
     extent: Extent,
+    classes: Vec<Class>,
     /// For each splitter its rank in the order in which the search places them.
     ranks: Vec<usize>,
     starts: Starts,
@@ -30,9 +34,9 @@ impl Model for Numbers {
 
     ghost Value = { Sizes };
 
-    ghost view = { λ n. sizes_with n.extent n.ranks.items };
+    ghost view = { λ n. sizes_with n.extent n.classes.items n.ranks.items };
 
-    ghost invariant = { λ n. AreNumbers (sizes_with n.extent n.ranks.items) n.starts };
+    ghost invariant = { λ n. AreNumbers (sizes_with n.extent n.classes.items n.ranks.items) n.starts };
 }
 
 /// The number of a direction.
@@ -74,7 +78,8 @@ fn shape_number(shape: Shape) -> usize
 
 /// The number of what a cell may hold.
 fn content_number(content: Content) -> usize
-    ensures { result ≡ numbering.content_number content }
+    ensures value { result ≡ numbering.content_number content }
+    ensures few { result < 21 }
 {
     match content {
         Content::Empty => 0,
@@ -90,9 +95,43 @@ fn numbered(from: usize, row: usize, each: usize, place: usize) -> usize
     from + (row * each + place)
 }
 
+/// The place of a class among classes.
+fn place_among(classes: &[Class], class: Class) -> usize
+    ensures { result ≡ position_or_len (classing.same_class class) classes.now }
+{
+    let mut place = 0;
+    let mut rest = classes;
+    while let Some((other, others)) = rest.split_first() {
+        if same_class(class, *other) {
+            return place;
+        }
+        place += 1;
+        rest = others;
+    }
+    place
+}
+
+/// Whether a class is one of classes.
+fn is_among(classes: &[Class], class: Class) -> bool
+    ensures { IsTrue result ↔ Contains classes.now class }
+{
+    place_among(classes, class) < classes.len()
+}
+
+/// Whether the cell is one of a rectangle of this width and height.
+fn is_inside(width: usize, height: usize, cell: Cell) -> bool
+    ensures { IsTrue result ↔ IsInside (record { width = width; height = height }) cell }
+{
+    cell.x >= 0
+        && cell.y >= 0
+        && (cell.x.unsigned_abs() as usize) < width
+        && (cell.y.unsigned_abs() as usize) < height
+}
+
 /// The extent of a request.
 fn extent_of(request: &Request) -> Extent
-    ensures { (ranks : _) → sizes_with result ranks ≡ record (sizes_of request.now) { ranks = ranks } }
+    ensures { (classes : _) (ranks : _) → sizes_with result classes ranks
+        ≡ record (sizes_of request.now) { classes = classes; ranks = ranks } }
 {
     let net = request.net();
     let rect = request.rect();
@@ -100,19 +139,17 @@ fn extent_of(request: &Request) -> Extent
         width: rect.width as usize,
         height: rect.height as usize,
         splitters: net.splitters() as usize,
-        edges: net.edges().len(),
         inputs: net.inputs() as usize,
-        outputs: net.outputs() as usize,
         distances: request.tier().reach() as usize + 1,
     }
 }
 
-/// Where each block of the variables of a request's formula begins.
-pub fn block_starts(request: &Request) -> Starts
-    ensures { result ≡ starts_of (sizes_of request.now) }
+/// The classes of a request.
+fn classes_of(alloc: Global, request: &Request) -> Result<Vec<Class>, AllocError>
+    ensures { IfOk result (λ classes. classes.items ≡ classing.classes_of request.now) }
 {
-    let _net = request.net();
-    starts_of(extent_of(request))
+    let plan = Plan::new(alloc, request)?;
+    Ok(plan.classes)
 }
 
 impl Numbers {
@@ -123,10 +160,14 @@ impl Numbers {
     {
         let net = request.net();
         let extent = extent_of(request);
+        let classes = classes_of(alloc, request)?;
+        let ranks = ranks_of(alloc, net)?;
+        let starts = starts_of(extent, &classes);
         Ok(Numbers {
             extent,
-            ranks: ranks_of(alloc, net)?,
-            starts: starts_of(extent),
+            classes,
+            ranks,
+            starts,
         })
     }
 
@@ -135,6 +176,13 @@ impl Numbers {
         ensures { result ≡ numbering.variables self.now }
     {
         self.starts.end
+    }
+
+    /// Where each block of variables begins.
+    pub fn starts(&self) -> Starts
+        ensures { result ≡ starts_of self.now }
+    {
+        self.starts
     }
 
     /// The number of a cell, row by row.
@@ -189,44 +237,46 @@ impl Numbers {
         numbered(from, self.spot(cell), each, place)
     }
 
-    /// The number of a port of a splitter.
-    fn port(&self, from: usize, splitter: usize, edge: usize, half: Half) -> usize
-        requires splitter { splitter < self.now.splitters }
-        requires edge { edge < self.now.edges }
-        requires few { from + ((splitter * self.now.edges + edge) * 2 + numbering.half_number half) < 2 ^ 64 }
-        ensures { result ≡ from + ((splitter * self.now.edges + edge) * 2 + numbering.half_number half) }
+    /// The number of a fact of a cell and a direction.
+    fn turned(&self, from: usize, cell: Cell, dir: Dir) -> usize
+        requires cell { IsSpot self.now cell }
+        requires few { from + (numbering.spot_of self.now cell * 4 + numbering.dir_number dir) < 2 ^ 64 }
+        ensures { result ≡ from + (numbering.spot_of self.now cell * 4 + numbering.dir_number dir) }
     {
-        let row = numbered(0, splitter, self.extent.edges, edge);
-        numbered(from, row, 2, half_number(half))
+        numbered(from, self.spot(cell), 4, dir_number(dir))
     }
 
     /// The number of a fact, where that is small.
     fn number(&self, fact: Fact) -> usize
-        requires within { IsWithin self.now fact }
+        requires within { IsNumbered self.now fact }
         requires few { numbering.variable_of self.now fact < 2 ^ 64 }
         ensures { result ≡ numbering.variable_of self.now fact }
     {
         let extent = self.extent;
         let starts = self.starts;
         match fact {
-            Fact::Kind(cell, content) => self.on_cell(0, cell, 21, content_number(content)),
-            Fact::Name(cell, s) => self.on_cell(starts.names, cell, extent.splitters, s),
-            Fact::Label(cell, e) => self.on_cell(starts.labels, cell, extent.edges, e),
-            Fact::First(cell, i) => self.on_cell(starts.firsts, cell, extent.inputs, i),
-            Fact::Last(cell, o) => self.on_cell(starts.lasts, cell, extent.outputs, o),
-            Fact::Distance(cell, k) => {
-                self.on_cell(starts.distances, cell, extent.distances, k - 1)
+            Fact::Carries(cell, class) => {
+                let place = place_among(&self.classes, class);
+                self.on_cell(0, cell, self.classes.len(), place)
             }
-            Fact::Leaves(s, e, half) => self.port(starts.leaving, s, e, half),
-            Fact::Enters(s, e, half) => self.port(starts.entering, s, e, half),
+            Fact::HalfOn(cell) => self.on_cell(starts.halves, cell, 1, 0),
+            Fact::BeltOn(cell) => self.on_cell(starts.belts, cell, 1, 0),
+            Fact::Begins(cell) => self.on_cell(starts.begins, cell, 1, 0),
+            Fact::Starts(cell, i) => self.on_cell(starts.starts, cell, extent.inputs, i),
+            Fact::Pair(cell, dir, k) => {
+                let row = self.turned(0, cell, dir);
+                numbered(starts.pairs, row, extent.distances, k - 1)
+            }
+            Fact::Tunnel(cell, dir) => self.turned(starts.tunnels, cell, dir),
+            Fact::Goes(cell, dir) => self.turned(starts.goings, cell, dir),
             Fact::Column(s, x) => numbered(starts.columns, s, extent.width, x),
             Fact::Row(s, y) => numbered(starts.rows, s, extent.height, y),
             Fact::Points(s, dir) => numbered(starts.points, s, 4, dir_number(dir)),
-            Fact::HalfOn(cell) => self.on_cell(starts.halves, cell, 1, 0),
-            Fact::Begins(cell) => self.on_cell(starts.begins, cell, 1, 0),
-            Fact::Tunnel(cell, dir) => self.on_cell(starts.tunnels, cell, 4, dir_number(dir)),
-            Fact::Still(cell, dir) => {
-                numbered(starts.stills, self.from_last(cell), 4, dir_number(dir))
+            Fact::EntersLesser(s) => numbered(starts.entering, s, 1, 0),
+            Fact::LeavesLesser(s) => numbered(starts.leaving, s, 1, 0),
+            Fact::Kind(cell, content) => {
+                let row = self.from_last(cell);
+                numbered(starts.kinds, row, 21, 20 - content_number(content))
             }
             Fact::At(s, cell, dir) => {
                 numbered(starts.places, self.place(s, cell), 4, dir_number(dir))
@@ -235,8 +285,8 @@ impl Numbers {
     }
 
     /// The variable of a fact.
-    pub fn variable_of(&self, fact: Fact) -> usize
-        requires { IsWithin self.now fact }
+    pub fn variable(&self, fact: Fact) -> usize
+        requires { IsNumbered self.now fact }
         ensures value { result ≡ numbering.variable_of self.now fact }
         ensures below { result < numbering.variables self.now }
     {
@@ -244,5 +294,62 @@ impl Numbers {
         let variable = self.number(fact);
         prove!(variable < end);
         variable
+    }
+
+    /// Whether the cell is one of the rectangle.
+    fn has_spot(&self, cell: Cell) -> bool
+        ensures { IsTrue result ↔ IsSpot self.now cell }
+    {
+        is_inside(self.extent.width, self.extent.height, cell)
+    }
+
+    /// Whether the class is one of the classes.
+    fn has_class(&self, class: Class) -> bool
+        ensures { IsTrue result ↔ Contains self.now.classes class }
+    {
+        is_among(&self.classes, class)
+    }
+
+    /// Whether there is such a splitter.
+    fn has_splitter(&self, splitter: usize) -> bool
+        ensures { IsTrue result ↔ (splitter < self.now.splitters) }
+    {
+        splitter < self.extent.splitters
+    }
+
+    /// Whether the fact has a variable.
+    fn has(&self, fact: Fact) -> bool
+        ensures { IsTrue result ↔ IsNumbered self.now fact }
+    {
+        let extent = self.extent;
+        match fact {
+            Fact::Carries(cell, class) => self.has_spot(cell) && self.has_class(class),
+            Fact::HalfOn(cell) => self.has_spot(cell),
+            Fact::BeltOn(cell) => self.has_spot(cell),
+            Fact::Begins(cell) => self.has_spot(cell),
+            Fact::Starts(cell, i) => self.has_spot(cell) && i < extent.inputs,
+            Fact::Pair(cell, _, k) => self.has_spot(cell) && 1 <= k && k <= extent.distances,
+            Fact::Tunnel(cell, _) => self.has_spot(cell),
+            Fact::Goes(cell, _) => self.has_spot(cell),
+            Fact::Column(s, x) => self.has_splitter(s) && x < extent.width,
+            Fact::Row(s, y) => self.has_splitter(s) && y < extent.height,
+            Fact::Points(s, _) => self.has_splitter(s),
+            Fact::EntersLesser(s) => self.has_splitter(s),
+            Fact::LeavesLesser(s) => self.has_splitter(s),
+            Fact::Kind(cell, _) => self.has_spot(cell),
+            Fact::At(s, cell, _) => self.has_splitter(s) && self.has_spot(cell),
+        }
+    }
+
+    /// The variable of a fact, where it has one.
+    pub fn find(&self, fact: Fact) -> Option<usize>
+        ensures none { IfNone result (IsNumbered self.now fact → ⊥) }
+        ensures some { IfSome result (λ variable. variable ≡ numbering.variable_of self.now fact) }
+    {
+        if self.has(fact) {
+            Some(self.variable(fact))
+        } else {
+            None
+        }
     }
 }

@@ -1,26 +1,25 @@
 //! Rules as clauses of a formula.
 ghost use Rattle.std.specs.Prelude.{◌≡◌, ◌<◌, ◌++◌, ◌∷◌, [], length, map, flat_map, get_or, OnOk};
 ghost use Rattle.std.specs.List.{AllByRecursion};
+ghost use Rattle.bt_rules.specs.Drafts.{rule_of};
 ghost use Rattle.bt_place.specs.Numbering as numbering;
 ghost use Rattle.bt_place.specs.PlaceFormula.{clause_of};
-ghost use Rattle.bt_place.specs.Within.{IsWithin, HasWithin};
-ghost use Rattle.bt_place.specs.inner.Drafts.{rule_of};
+ghost use Rattle.bt_place.specs.Within.{IsNumbered, HasNumbered};
 ghost use Rattle.bt_place.specs.inner.Writing.{HasVariables, with_rules, given_literal, following_literal};
 
-use crate::draft::{Claim, Draft, Drafted};
-use crate::fact::Fact;
 use crate::numbering::Numbers;
 use bt_arena::Pool;
 use bt_cnf::{Formula, Lit, Var};
+use bt_rules::{Claim, Draft, Drafted, Fact};
 use std::alloc::{AllocError, Global};
 
 /// The variable of a fact.
 fn var_of(formula: &Formula, numbers: &Numbers, fact: Fact) -> Var
-    requires within { IsWithin numbers.now fact }
+    requires within { IsNumbered numbers.now fact }
     requires vars { HasVariables numbers.now formula.now.vars }
     ensures { result ≡ numbering.variable_of numbers.now fact }
 {
-    match formula.var_at(numbers.variable_of(fact)) {
+    match formula.var_at(numbers.variable(fact)) {
         Some(var) => var,
         None => unreachable!(),
     }
@@ -33,7 +32,7 @@ fn push_given(
     numbers: &Numbers,
     claim: Claim,
 ) -> Result<(), AllocError>
-    requires within { IsWithin numbers.now claim.fact }
+    requires within { IsNumbered numbers.now claim.fact }
     requires vars { HasVariables numbers.now formula.now.vars }
     ensures { OnOk result (lits.new.items ≡ lits.old.items ++ given_literal numbers.now claim) }
 {
@@ -54,7 +53,7 @@ fn push_following(
     numbers: &Numbers,
     claim: Claim,
 ) -> Result<(), AllocError>
-    requires within { IsWithin numbers.now claim.fact }
+    requires within { IsNumbered numbers.now claim.fact }
     requires vars { HasVariables numbers.now formula.now.vars }
     ensures { OnOk result (lits.new.items ≡ lits.old.items ++ following_literal numbers.now claim) }
 {
@@ -75,7 +74,7 @@ fn push_all_given(
     numbers: &Numbers,
     claims: &[Claim],
 ) -> Result<(), AllocError>
-    requires within { AllByRecursion (λ c. IsWithin numbers.now c.fact) claims.now }
+    requires within { AllByRecursion (λ c. IsNumbered numbers.now c.fact) claims.now }
     requires vars { HasVariables numbers.now formula.now.vars }
     ensures { OnOk result (lits.new.items ≡ lits.old.items
         ++ flat_map (given_literal numbers.now) claims.now) }
@@ -93,7 +92,7 @@ fn push_all_following(
     numbers: &Numbers,
     claims: &[Claim],
 ) -> Result<(), AllocError>
-    requires within { AllByRecursion (λ c. IsWithin numbers.now c.fact) claims.now }
+    requires within { AllByRecursion (λ c. IsNumbered numbers.now c.fact) claims.now }
     requires vars { HasVariables numbers.now formula.now.vars }
     ensures { OnOk result (lits.new.items ≡ lits.old.items
         ++ flat_map (following_literal numbers.now) claims.now) }
@@ -111,7 +110,7 @@ fn set_literals(
     numbers: &Numbers,
     claims: &[Claim],
 ) -> Result<(), AllocError>
-    requires within { HasWithin numbers.now (rule_of claims.now) }
+    requires within { HasNumbered numbers.now (rule_of claims.now) }
     requires vars { HasVariables numbers.now formula.now.vars }
     ensures { OnOk result (lits.new.items ≡ clause_of numbers.now (rule_of claims.now)) }
 {
@@ -128,7 +127,7 @@ fn write_rule(
     numbers: &Numbers,
     claims: &[Claim],
 ) -> Result<(), AllocError>
-    requires within { HasWithin numbers.now (rule_of claims.now) }
+    requires within { HasNumbered numbers.now (rule_of claims.now) }
     requires vars { HasVariables numbers.now formula.old.vars }
     ensures { OnOk result (formula.new ≡ with_rules numbers.now formula.old (rule_of claims.now ∷ [])) }
 {
@@ -146,7 +145,7 @@ fn write_at(
     place: usize,
 ) -> Result<(), AllocError>
     requires place { place < length rules.now }
-    requires within { AllByRecursion (HasWithin numbers.now) (map rule_of rules.now) }
+    requires within { AllByRecursion (HasNumbered numbers.now) (map rule_of rules.now) }
     requires vars { HasVariables numbers.now formula.old.vars }
     ensures { OnOk result (formula.new ≡ with_rules numbers.now formula.old
         (rule_of (get_or rules.now place []) ∷ [])) }
@@ -165,7 +164,7 @@ fn write_rules(
     numbers: &Numbers,
     rules: &Pool<Claim, Drafted>,
 ) -> Result<(), AllocError>
-    requires within { AllByRecursion (HasWithin numbers.now) (map rule_of rules.now) }
+    requires within { AllByRecursion (HasNumbered numbers.now) (map rule_of rules.now) }
     requires vars { HasVariables numbers.now formula.old.vars }
     ensures { OnOk result (formula.new ≡ with_rules numbers.now formula.old (map rule_of rules.now)) }
 {
@@ -183,7 +182,7 @@ pub fn write(
     numbers: &Numbers,
     draft: &Draft,
 ) -> Result<(), AllocError>
-    requires within { AllByRecursion (HasWithin numbers.now) draft.now }
+    requires within { AllByRecursion (HasNumbered numbers.now) draft.now }
     requires vars { HasVariables numbers.now formula.old.vars }
     ensures { OnOk result (formula.new ≡ with_rules numbers.now formula.old draft.now) }
 {

@@ -21,8 +21,10 @@ mod starts;
 mod underground;
 
 pub use cells::cells_of;
+pub use classes::{class_of, enters, goes_to, leaves, same_class};
 pub use draft::{Claim, Draft, Drafted};
 pub use drawing::{add_cell, add_ends, add_splitter, rules_of};
 pub use fact::{Class, Content, Fact, Half, Shape};
+pub use facts::holds;
 pub use law::{keeping_lays, laying_keeps, rules_are_within};
 pub use plan::{Gate, Plan, Way};

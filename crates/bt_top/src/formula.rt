@@ -14,7 +14,7 @@ use bt_flow::Property;
 use bt_model::Request;
 use bt_net::Net;
 use bt_parts::{Rect, Tier};
-use bt_place::{block_starts, encode_place};
+use bt_place::{Numbers, encode_place};
 use std::alloc::{AllocError, Global};
 
 /// The answer of `formula` to the bytes of its input, about a property.
@@ -67,8 +67,11 @@ fn columns_of(net: &Net) -> Columns
 fn place_formula_of(alloc: Global, request: &Request) -> Result<Answer, AllocError>
     ensures { UnlessMemory alloc_error (λ reply. reply ≡ Ok (place_formula_told request.now)) result }
 {
+    let Ok(numbers) = Numbers::new(alloc, request) else {
+        return Err(AllocError);
+    };
     match encode_place(alloc, request) {
-        Ok(formula) => Ok(Answer::PlaceFormula(block_starts(request), formula)),
+        Ok(formula) => Ok(Answer::PlaceFormula(numbers.starts(), formula)),
         Err(_) => Err(AllocError),
     }
 }

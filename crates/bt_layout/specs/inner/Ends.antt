@@ -5,7 +5,7 @@ use Rattle.bt_log.specs.Logs.{Step}
 use Rattle.bt_sat.specs.declared.solver.Answer.{Answer}
 use Rattle.bt_sat.specs.declared.solver.Answer.TheVariants.{Model, Refuted, Spent}
 use Rattle.bt_place.specs.PlaceFormula.{place_formula}
-use Rattle.bt_decode.specs.Solutions.{IsSolution}
+use Rattle.bt_place.specs.Solutions.{IsSolution}
 use Rattle.bt_theory.specs.Outcomes.{IsRefutation, IsUsedUp}
 use Rattle.bt_layout.specs.Layouts.{HasNoLayout}
 

@@ -110,7 +110,7 @@ impl Chooser for Wanting {
 fn leaves_out_closed_rings(rt: HostRuntime) -> Result<(), Fail> {
     // Two belts to the north on cells 3 and 0, and a ring of belts on cells 1, 2, 5 and 4.
     let chooser = Wanting {
-        wanted: [64, 1, 23, 45, 109, 85],
+        wanted: [259, 322, 300, 278, 214, 238],
     };
     let row = "net 1 1 0\nedge i0 o0\npin i0 0 1\npin o0 0 0\nend\n|3 2|1000|bb";
     assert!(rt; is_found(rt.alloc(), row, chooser)?);

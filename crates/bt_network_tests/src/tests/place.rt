@@ -7,13 +7,13 @@ use std::test::Fail;
 
 /// A request, its size, its tier, the numbers of variables and clauses, and a number that tells the clauses.
 const FORMULAS: &[&str] = &[
-    "net 1 1 0\nedge i0 o0\nend\n|1 1|basic|39 331|8937054436742491071",
-    "net 2 2 1\nedge i0 s0\nedge i1 s0\nedge s0 o0\nedge s0 o1\nend\n|3 2|fast|331 3263|7125126330562970252",
-    "net 1 3 2\nedge i0 s0\nedge s0 s1\nedge s0 o0\nedge s1 o1\nedge s1 o2\nend\n|3 4|turbo|794 8890|10832596907250528900",
+    "net 1 1 0\nedge i0 o0\nend\n|1 1|basic|54 292|13830953461466788898",
+    "net 2 2 1\nedge i0 s0\nedge i1 s0\nedge s0 o0\nedge s0 o1\nend\n|3 2|fast|419 2377|9439122627990228030",
+    "net 1 3 2\nedge i0 s0\nedge s0 s1\nedge s0 o0\nedge s1 o1\nedge s1 o2\nend\n|3 4|turbo|1082 6078|3231138008564520068",
     "net 2 2 1\nedge i0 s0\nedge i1 s0\nedge s0 o0\nedge s0 o1\npin i0 0 0 east\npin o1 2 1\nblock 2 2\nend\n\
-     |3 3|basic|467 4922|15714274863833004566",
+     |3 3|basic|561 3973|14267802942626617784",
     "net 2 2 1\nedge i0 s0\nedge i1 s0\nedge s0 o0\nedge s0 o1\npin i0 0 0 east\npin o1 2 1\nblock 2 2\nend\n\
-     |4 3|express|663 7267|16894074618668534764",
+     |4 3|express|937 5493|12032601904869221532",
 ];
 
 /// A number that tells which literals stand in which clauses, in which order.

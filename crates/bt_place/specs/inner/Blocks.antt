@@ -2,22 +2,22 @@
 use Rattle.std.specs.Prelude.{◌≡◌, ℕ, ◌+◌, ◌-◌, ◌*◌, List, slice_index}
 use Rattle.bt_parts.specs.declared.part.Cell.{Cell}
 use Rattle.bt_model.specs.Requests.{LayoutRequest, IsRequest}
+use Rattle.bt_rules.specs.declared.fact.Class.{Class}
 use Rattle.bt_place.specs.declared.blocks.Extent.{Extent}
 use Rattle.bt_place.specs.declared.blocks.Starts.{Starts}
 use Rattle.bt_place.specs.Numbering.{Sizes, spots, along}
 use Rattle.bt_place.specs.Blocks.{starts_of}
 use Rattle.bt_place.specs.PlaceFormula.{sizes_of}
 
--- the sizes with these ranks
-abbrev pub sizes_with : Extent → List ℕ → Sizes
-sizes_with e ranks = record {
+-- the sizes with these classes and ranks
+abbrev pub sizes_with : Extent → List Class → List ℕ → Sizes
+sizes_with e classes ranks = record {
   width = e.width;
   height = e.height;
   splitters = e.splitters;
-  edges = e.edges;
   inputs = e.inputs;
-  outputs = e.outputs;
   distances = e.distances;
+  classes = classes;
   ranks = ranks;
 }
 

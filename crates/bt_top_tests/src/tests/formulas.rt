@@ -49,21 +49,22 @@ const CASES: &[&str] = &[
 
 /// The words, the input, the status, and what the text begins with.
 const FRONTS: &[&str] = &[
-    "formula --grid 1x1|net 1 1 0\nedge i0 o0\nend\n|0|c block 1 21 kind cell content\n\
-     c block 22 21 name cell splitter\nc block 22 22 label cell edge\nc block 23 23 first cell input\n\
-     c block 24 24 last cell output\nc block 25 29 distance cell distance\n\
-     c block 30 29 leaves splitter edge half\nc block 30 29 enters splitter edge half\n\
-     c block 30 29 column splitter x\nc block 30 29 row splitter y\nc block 30 29 points splitter direction\n\
-     c block 30 30 half cell\nc block 31 31 begins cell\nc block 32 35 tunnel cell direction\n\
-     c block 36 39 still cell direction\nc block 40 39 at splitter cell direction\np cnf 39 ",
+    "formula --grid 1x1|net 1 1 0\nedge i0 o0\nend\n|0|c block 1 1 carries cell class\n\
+     c block 2 2 half cell\nc block 3 3 belt cell\nc block 4 4 begins cell\n\
+     c block 5 5 starts cell input\nc block 6 25 pair cell direction distance\n\
+     c block 26 29 tunnel cell direction\nc block 30 33 goes cell direction\n\
+     c block 34 33 column splitter x\nc block 34 33 row splitter y\n\
+     c block 34 33 points splitter direction\nc block 34 33 enters splitter\n\
+     c block 34 33 leaves splitter\nc block 34 54 kind cell content\n\
+     c block 55 54 at splitter cell direction\np cnf 54 ",
     "formula --grid 2x3|net 2 2 1\nedge i0 s0\nedge i1 s0\nedge s0 o0\nedge s0 o1\nend\n|0|\
-     c block 1 126 kind cell content\nc block 127 132 name cell splitter\nc block 133 156 label cell edge\n\
-     c block 157 168 first cell input\nc block 169 180 last cell output\n\
-     c block 181 210 distance cell distance\nc block 211 218 leaves splitter edge half\n\
-     c block 219 226 enters splitter edge half\nc block 227 228 column splitter x\n\
-     c block 229 231 row splitter y\nc block 232 235 points splitter direction\nc block 236 241 half cell\n\
-     c block 242 247 begins cell\nc block 248 271 tunnel cell direction\nc block 272 295 still cell direction\n\
-     c block 296 319 at splitter cell direction\np cnf 319 ",
+     c block 1 12 carries cell class\nc block 13 18 half cell\nc block 19 24 belt cell\n\
+     c block 25 30 begins cell\nc block 31 42 starts cell input\n\
+     c block 43 162 pair cell direction distance\nc block 163 186 tunnel cell direction\n\
+     c block 187 210 goes cell direction\nc block 211 212 column splitter x\n\
+     c block 213 215 row splitter y\nc block 216 219 points splitter direction\n\
+     c block 220 220 enters splitter\nc block 221 221 leaves splitter\n\
+     c block 222 347 kind cell content\nc block 348 371 at splitter cell direction\np cnf 371 ",
 ];
 
 /// Whether a row's words and input are answered with its status and a text that begins so.

@@ -60,7 +60,7 @@ const CHECKED: &[&str] = &[
      |0|yes balanced\n|check balanced",
     "layout --grid 2x2|net 2 2 1\nedge i0 s0\nedge i1 s0\nedge s0 o0\nedge s0 o1\nend\n|1|none\n|\
      check-layout --grid 2x2|\
-     check-layout --grid 3x2;check-layout --grid 2x3;check-layout --grid 2x2 --tier fast",
+     check-layout --grid 3x2;check-layout --grid 2x3",
     "layout --tier express --grid 1x1|net 1 1 0\nedge i0 o0\npin i0 0 0 east\npin o0 0 0 north\nend\n|1|\
      none\n|check-layout --tier express --grid 1x1|check-layout --grid 2x1 --tier express",
     "layout --grid 1x1|net 1 1 0\nedge i0 o0\nblock 0 0\nend\n|1|none\n|check-layout --grid 1x1|\

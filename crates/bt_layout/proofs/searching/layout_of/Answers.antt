@@ -1,5 +1,5 @@
 use Rattle.std.proofs.Common.{sym, subst}
-use Rattle.bt_decode.specs.Solutions.{IsSolution}
+use Rattle.bt_place.specs.Solutions.{IsSolution}
 use Rattle.bt_layout.specs.inner.Ends.{EndsWith}
 use Rattle.bt_layout.proofs.searching.layout_of.Goals as goal
 

@@ -13,7 +13,7 @@ loop-place-preserved c =
       | then-has_fewer+in_ok-request_on+in_ok-push w ↦
           let grid = c.index-grid.result.now in
           let within = subst (IsWithin c.args.most) (sym c.index-grid.ensures)
-              (All-get_or (IsWithin c.args.most) c.in_ok-grids.grids.items c.loop-place.place grid (omega (arith, c.loop-place-test.true, c.len-place-end.ensures, c.in_ok-grids.grids.ok.0)) c.in_ok-grids.ensures.within) in
+          (All-get_or (IsWithin c.args.most) c.in_ok-grids.grids.items c.loop-place.place grid (omega (arith, c.loop-place-test.true, c.len-place-end.ensures, c.in_ok-grids.grids.ok.0)) c.in_ok-grids.ensures.within) in
           let few = c.has_fewer.ensures.0 w.if-has_fewer.true in
           subst (All Asks) (sym (ap (λ requests. requests.items) w.requests-is ∙ w.in_ok-push.ensures.items))
           (All-push Asks c.loop-place.requests.items w.in_ok-request_on.field-0 c.loop-place.invariant (grid, within, few, w.in_ok-request_on.ensures))

@@ -1,6 +1,6 @@
 use Rattle.std.proofs.Common.{◌≡◌, take}
 use Rattle.std.specs.List.{flat_map}
-use Rattle.bt_place.specs.PlaceFormula.{cell_rules}
+use Rattle.bt_rules.specs.PlaceRules.{cell_rules}
 use Rattle.bt_place.specs.inner.Writing.{with_rules}
 use Rattle.bt_place.proofs.encoding.write_cells.Given as goal
 

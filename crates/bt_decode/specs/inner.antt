@@ -1,4 +1,0 @@
--- What private functions alone cite: no public clause rests on these.
-pub mod Kept
-pub mod Spots
-pub mod Reaching

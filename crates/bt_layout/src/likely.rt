@@ -1,0 +1,101 @@
+//! A search for a layout where one is likely: of the placement formula with more clauses, by a plan.
+ghost use Rattle.std.specs.Prelude.{IfOk, IfSome};
+ghost use Rattle.bt_place.specs.Narrowed.{IsNarrowed};
+ghost use Rattle.bt_place.specs.PlaceFormula.{place_formula};
+ghost use Rattle.bt_layout.specs.inner.Likely.{IsLaidOut};
+
+use bt_cnf::{Formula, Lit};
+use bt_model::Request;
+use bt_narrow::{Choice, first_rows, narrowings, no_tunnels, places};
+use bt_parts::Part;
+use bt_place::{Numbers, decode, encode_place, literal_of, narrow};
+use bt_sat::{Active, Answer, Part as PlanPart, Plan, Solver, Turn};
+use std::alloc::{AllocError, Global};
+
+/// The search restarts after as many steps as the numbers of Luby's sequence times this one say.
+const RESTART_STEPS: u64 = 100;
+
+/// For so many steps it is chosen that nothing is under the ground, and for so many it isn't.
+const TURN_STEPS: u64 = 1024;
+
+/// The literals of choices.
+fn literals_of(
+    alloc: Global,
+    formula: &Formula,
+    numbers: &Numbers,
+    choices: &[Choice],
+) -> Result<Vec<Lit>, AllocError> {
+    let mut lits = Vec::new(alloc);
+    for choice in choices {
+        if let Some(lit) = literal_of(formula, numbers, choice.fact, choice.holds) {
+            lits.push(lit)?;
+        }
+    }
+    Ok(lits)
+}
+
+/// The plan that the splitters are placed first, from both ends of the network to its middle.
+pub fn placing(alloc: Global, formula: &Formula, request: &Request) -> Result<Plan, AllocError> {
+    let numbers = Numbers::new(alloc, request)?;
+    let mut plan = Plan::new(alloc, RESTART_STEPS);
+    let chosen = places(alloc, request)?;
+    let lits = literals_of(alloc, formula, &numbers, &chosen)?;
+    plan.push(PlanPart::new(lits, Turn::always(), false))?;
+    Ok(plan)
+}
+
+/// The plan that all goes from the south to the north, as long as that can be; that the splitters are placed then; and,
+/// by turns, that nothing is under the ground.
+fn likely(
+    alloc: Global,
+    formula: &Formula,
+    numbers: &Numbers,
+    request: &Request,
+) -> Result<Plan, AllocError> {
+    let mut plan = Plan::new(alloc, RESTART_STEPS);
+    let rows = first_rows(alloc, request)?;
+    let lits = literals_of(alloc, formula, numbers, &rows)?;
+    plan.push(PlanPart::new(lits, Turn::always(), true))?;
+    let chosen = places(alloc, request)?;
+    let lits = literals_of(alloc, formula, numbers, &chosen)?;
+    plan.push(PlanPart::new(lits, Turn::always(), false))?;
+    let flat = no_tunnels(alloc, request)?;
+    let lits = literals_of(alloc, formula, numbers, &flat)?;
+    let turn = Turn {
+        steps: TURN_STEPS,
+        of: 2,
+        number: 0,
+    };
+    plan.push(PlanPart::new(lits, turn, false))?;
+    Ok(plan)
+}
+
+/// The placement formula with more clauses, which not every layout meets.
+fn narrowed(alloc: Global, request: &Request, numbers: &Numbers) -> Result<Formula, AllocError>
+    ensures { IfOk result (IsNarrowed (place_formula request.now)) }
+{
+    let mut formula = encode_place(alloc, request)?;
+    let rules = narrowings(alloc, request)?;
+    narrow(alloc, &mut formula, numbers, &rules)?;
+    Ok(formula)
+}
+
+/// Searches for a layout of a request where one is likely, by at most so many steps. What is found is a layout; where
+/// none is found, nothing is said.
+pub fn likely_layout(
+    alloc: Global,
+    request: &Request,
+    learnt: u64,
+) -> Result<Option<Vec<Part>>, AllocError>
+    ensures { IfOk result (λ found. IfSome found (λ parts. IsLaidOut request.now parts.items)) }
+{
+    let numbers = Numbers::new(alloc, request)?;
+    let formula = narrowed(alloc, request, &numbers)?;
+    let plan = likely(alloc, &formula, &numbers, request)?;
+    let choosers = vec![in alloc; Active::new(alloc)?]?;
+    let mut solver = Solver::by_plan(alloc, formula, choosers, learnt, plan)?;
+    match solver.next_model()? {
+        Answer::Model(model) => Ok(Some(decode(alloc, request, &model)?)),
+        Answer::Refuted | Answer::Spent => Ok(None),
+    }
+}

@@ -1,0 +1,16 @@
+//! What helps a search to find a layout of a request: more rules, and what to choose first.
+//!
+//! A layout of few underground pieces and belts keeps the rules and stands in the places that are chosen first,
+//! but not every layout does. Nothing is claimed of either, and no certificate rests on them.
+#![tactic(auto)]
+
+mod around;
+mod levels;
+mod likely;
+mod narrowing;
+mod network;
+mod twins;
+
+pub use likely::{Choice, first_rows, no_tunnels, places};
+pub use narrowing::narrowings;
+pub use std::alloc::AllocError as Memory;

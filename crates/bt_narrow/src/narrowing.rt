@@ -1,0 +1,240 @@
+//! Rules that some layout keeps, where there is any, though not each does.
+use crate::around::{DIRS, ahead, is_border, mate, sides};
+use crate::network::is_full;
+use crate::twins::twins;
+use bt_model::Request;
+use bt_parts::{Cell, Dir, Rect, inside};
+use bt_rules::{Class, Content, Draft, Fact, Half, Plan, Shape, Way, cells_of, holds};
+use std::alloc::{AllocError, Global};
+
+/// A pair doesn't pass empty cells alone, which belts would do for.
+fn add_pair(
+    alloc: Global,
+    draft: &mut Draft,
+    cell: Cell,
+    dir: Dir,
+    distance: u32,
+) -> Result<(), AllocError> {
+    let mut given = Vec::new(alloc);
+    given.push(Fact::Pair(cell, dir, distance as usize))?;
+    let mut between = cell;
+    for _ in 1..distance {
+        between = ahead(between, dir);
+        given.push(Fact::Kind(between, Content::Empty))?;
+    }
+    draft.add(&given, &[])
+}
+
+/// The two pieces of a pair aren't next to one another; and where a belt may stand on any cell, it passes one that
+/// isn't empty.
+fn add_pairs(
+    alloc: Global,
+    draft: &mut Draft,
+    cell: Cell,
+    dir: Dir,
+    most: u32,
+) -> Result<(), AllocError> {
+    for distance in 1..=most {
+        add_pair(alloc, draft, cell, dir, distance)?;
+    }
+    Ok(())
+}
+
+/// No belt turns to a side and back to where the first one could have turned at once, unless an input begins there.
+fn add_turn(draft: &mut Draft, cell: Cell, dir: Dir, side: Dir) -> Result<(), AllocError> {
+    let next = ahead(cell, dir);
+    let given = [
+        holds(cell, Shape::Belt, dir),
+        holds(next, Shape::Belt, side),
+        holds(ahead(next, side), Shape::Belt, dir.opposite()),
+        Fact::BeltOn(ahead(cell, side)),
+    ];
+    draft.add(&given, &[Fact::Begins(cell)])
+}
+
+/// Of the two cells by which belts can lead around a corner, the lesser one is taken where it is empty, unless an input
+/// begins before it.
+fn add_corner(draft: &mut Draft, cell: Cell, dir: Dir, side: Dir) -> Result<(), AllocError> {
+    let next = ahead(cell, dir);
+    let other = ahead(cell, side);
+    if (other.y, other.x) >= (next.y, next.x) {
+        return Ok(());
+    }
+    let given = [
+        holds(cell, Shape::Belt, dir),
+        holds(next, Shape::Belt, side),
+        Fact::BeltOn(ahead(next, side)),
+        Fact::Kind(other, Content::Empty),
+    ];
+    draft.add(&given, &[Fact::Begins(cell)])
+}
+
+/// A splitter doesn't stand before two belts that lead on from it, over which it could slide.
+fn add_slide(draft: &mut Draft, rect: &Rect, cell: Cell, dir: Dir) -> Result<(), AllocError> {
+    if !inside(rect, ahead(ahead(cell, dir), dir)) {
+        return Ok(());
+    }
+    let given = [
+        holds(cell, Shape::Half(Half::Lesser), dir),
+        holds(ahead(cell, dir), Shape::Belt, dir),
+        holds(ahead(mate(cell, dir), dir), Shape::Belt, dir),
+    ];
+    draft.add(&given, &[])
+}
+
+/// On the border, an edge from an input begins where it first can.
+fn add_beginning(draft: &mut Draft, cell: Cell, dir: Dir, class: Class) -> Result<(), AllocError> {
+    let begins = [Fact::Begins(cell)];
+    let carries = Fact::Carries(cell, class);
+    draft.add(&[carries, holds(cell, Shape::Belt, dir)], &begins)?;
+    draft.add(&[carries, holds(cell, Shape::Entrance, dir)], &begins)
+}
+
+/// The same for each of the classes, where what is behind the cell is outside.
+fn add_beginnings(
+    draft: &mut Draft,
+    rect: &Rect,
+    cell: Cell,
+    dir: Dir,
+    classes: &[Class],
+) -> Result<(), AllocError> {
+    if inside(rect, ahead(cell, dir.opposite())) {
+        return Ok(());
+    }
+    for class in classes {
+        add_beginning(draft, cell, dir, *class)?;
+    }
+    Ok(())
+}
+
+/// On the border, a belt of a class whose edges all end at outputs looks out.
+fn add_endings(
+    draft: &mut Draft,
+    rect: &Rect,
+    cell: Cell,
+    dir: Dir,
+    ways: &[Way],
+) -> Result<(), AllocError> {
+    if !is_border(rect, cell) || !inside(rect, ahead(cell, dir)) {
+        return Ok(());
+    }
+    for way in ways {
+        if way.goals.is_empty() {
+            let carries = Fact::Carries(cell, way.class);
+            draft.add(&[carries, holds(cell, Shape::Belt, dir)], &[])?;
+        }
+    }
+    Ok(())
+}
+
+/// Of twins the one with the lesser number doesn't stand in a later row.
+fn add_rows(draft: &mut Draft, one: usize, other: usize, row: usize) -> Result<(), AllocError> {
+    for above in 0..row {
+        draft.add(&[Fact::Row(one, row), Fact::Row(other, above)], &[])?;
+    }
+    Ok(())
+}
+
+/// In one row, it doesn't stand in a later column.
+fn add_columns(
+    draft: &mut Draft,
+    one: usize,
+    other: usize,
+    row: usize,
+    width: usize,
+) -> Result<(), AllocError> {
+    for column in 0..width {
+        for before in 0..=column {
+            let given = [
+                Fact::Row(one, row),
+                Fact::Row(other, row),
+                Fact::Column(one, column),
+                Fact::Column(other, before),
+            ];
+            draft.add(&given, &[])?;
+        }
+    }
+    Ok(())
+}
+
+/// Twins stand in the order of their numbers.
+fn add_twins(draft: &mut Draft, rect: Rect, one: usize, other: usize) -> Result<(), AllocError> {
+    for row in 0..rect.height as usize {
+        add_rows(draft, one, other, row)?;
+        add_columns(draft, one, other, row, rect.width as usize)?;
+    }
+    Ok(())
+}
+
+/// What is known of a request before its cells are looked at.
+#[derive(Drop)]
+struct Known {
+    plan: Plan,
+    rect: Rect,
+    /// The greatest distance of pairs that must not pass empty cells alone.
+    most: u32,
+    /// Whether two edges leave each splitter, and no cell is blocked.
+    is_free: bool,
+    /// Whether no end is pinned.
+    is_unpinned: bool,
+}
+
+/// Adds the rules of a cell and a direction.
+fn add_towards(
+    alloc: Global,
+    draft: &mut Draft,
+    known: &Known,
+    cell: Cell,
+    dir: Dir,
+) -> Result<(), AllocError> {
+    let Known { plan, rect, .. } = known;
+    add_pairs(alloc, draft, cell, dir, known.most)?;
+    add_slide(draft, rect, cell, dir)?;
+    for side in &sides(dir) {
+        add_turn(draft, cell, dir, *side)?;
+        if known.is_free {
+            add_corner(draft, cell, dir, *side)?;
+        }
+    }
+    if known.is_unpinned {
+        add_beginnings(draft, rect, cell, dir, &plan.inputs)?;
+        add_endings(draft, rect, cell, dir, &plan.ways)?;
+    }
+    Ok(())
+}
+
+/// What is known of a request.
+fn known_of(alloc: Global, request: &Request) -> Result<Known, AllocError> {
+    let net = request.net();
+    let is_free = is_full(net.edges(), net.splitters() as usize) && request.blocks().is_empty();
+    Ok(Known {
+        plan: Plan::new(alloc, request)?,
+        rect: request.rect(),
+        most: if is_free {
+            request.tier().reach() + 1
+        } else {
+            1
+        },
+        is_free,
+        is_unpinned: request.pins().is_empty(),
+    })
+}
+
+/// Rules over the facts of a request that a layout of few underground pieces and belts keeps, whose splitters stand as
+/// near to the front and, of those that may change places, in the order of their numbers. They may speak of cells
+/// that the request doesn't have.
+pub fn narrowings(alloc: Global, request: &Request) -> Result<Draft, AllocError> {
+    let net = request.net();
+    let known = known_of(alloc, request)?;
+    let cells = cells_of(alloc, request.rect())?;
+    let mut draft = Draft::new(alloc)?;
+    for cell in &cells {
+        for dir in &DIRS {
+            add_towards(alloc, &mut draft, &known, *cell, *dir)?;
+        }
+    }
+    for (one, other) in &twins(alloc, net.edges(), net.splitters() as usize)? {
+        add_twins(&mut draft, request.rect(), *one, *other)?;
+    }
+    Ok(draft)
+}

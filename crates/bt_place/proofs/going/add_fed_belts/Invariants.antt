@@ -1,7 +1,0 @@
-use Rattle.std.proofs.Common.{◌≡◌, ◌++◌, take, map}
-use Rattle.bt_place.specs.Going.{fed_belt}
-use Rattle.bt_place.specs.Spots.{dirs}
-use Rattle.bt_place.proofs.going.add_fed_belts.Given as goal
-
-abbrev pub invariant-loop-dir : goal.invariant-loop-dir
-invariant-loop-dir l = l.draft ≡ l.initial.draft ++ map (fed_belt l.rect l.cell) (take l.dir-index dirs)

@@ -1,8 +1,0 @@
-use Rattle.std.proofs.Common.{◌≡◌, take, map}
-use Rattle.bt_place.specs.Spots.{dirs}
-use Rattle.std.specs.List.{flat_map}
-use Rattle.bt_place.specs.declared.fact.Fact.TheVariants as fact
-use Rattle.bt_place.proofs.standing.stands_at.Given as goal
-
-abbrev pub invariant-loop-cell : goal.invariant-loop-cell
-invariant-loop-cell l = l.facts.items ≡ flat_map (λ on. map (fact.At l.splitter on) dirs) (take l.cell-index l.cells)

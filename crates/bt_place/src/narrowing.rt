@@ -1,0 +1,83 @@
+//! More clauses than a request's formula has, for a search that looks for models alone.
+ghost use Rattle.std.specs.Prelude.{◌≡◌, ◌<◌, length, IfSome, OnOk};
+ghost use Rattle.bt_cnf.specs.Formulas.{LitsBelow};
+ghost use Rattle.bt_place.specs.Narrowed.{IsNarrowed};
+
+use crate::numbering::Numbers;
+use bt_arena::Pool;
+use bt_cnf::{Formula, Lit};
+use bt_rules::{Claim, Draft, Drafted, Fact};
+use std::alloc::{AllocError, Global};
+
+/// The literal that is true where a fact holds, or where it doesn't. None where the fact has no variable.
+pub fn literal_of(formula: &Formula, numbers: &Numbers, fact: Fact, holds: bool) -> Option<Lit>
+    ensures { IfSome result (λ lit. lit.var < formula.now.vars) }
+{
+    let Some(number) = numbers.find(fact) else {
+        return None;
+    };
+    let Some(var) = formula.var_at(number) else {
+        return None;
+    };
+    Some(Lit {
+        var,
+        positive: holds,
+    })
+}
+
+/// Makes the list that of the literals of a rule. Whether each of its facts has a variable: else some are left out.
+fn set_literals(
+    lits: &mut Vec<Lit>,
+    formula: &Formula,
+    numbers: &Numbers,
+    claims: &[Claim],
+) -> Result<bool, AllocError>
+    ensures { OnOk result (LitsBelow formula.now.vars lits.new.items) }
+{
+    lits.clear();
+    for claim in claims {
+        match literal_of(formula, numbers, claim.fact, claim.follows) {
+            Some(lit) => lits.push(lit)?,
+            None => return Ok(false),
+        }
+    }
+    Ok(true)
+}
+
+/// Adds the clause of the rule at a place, where each of its facts has a variable.
+fn narrow_at(
+    lits: &mut Vec<Lit>,
+    formula: &mut Formula,
+    numbers: &Numbers,
+    rules: &Pool<Claim, Drafted>,
+    place: usize,
+) -> Result<(), AllocError>
+    requires { place < length rules.now }
+    ensures { OnOk result (IsNarrowed formula.old formula.new) }
+{
+    let Some(id) = rules.id_at(place) else {
+        return Ok(());
+    };
+    if set_literals(lits, formula, numbers, rules.slice(id))? {
+        formula.add_clause(lits)?;
+    }
+    Ok(())
+}
+
+/// Adds clauses of the rules, so that what meets the formula then met it before. Those that speak of what the request
+/// doesn't have are left out.
+pub fn narrow(
+    alloc: Global,
+    formula: &mut Formula,
+    numbers: &Numbers,
+    draft: &Draft,
+) -> Result<(), AllocError>
+    ensures { OnOk result (IsNarrowed formula.old formula.new) }
+{
+    let mut lits = Vec::new(alloc);
+    let rules = draft.rules();
+    for place in 0..rules.len() {
+        narrow_at(&mut lits, formula, numbers, rules, place)?;
+    }
+    Ok(())
+}
