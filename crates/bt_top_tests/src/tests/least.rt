@@ -63,7 +63,7 @@ fn is_ruled_out(
 }
 
 /// Whether a blueprint shows the network.
-fn is_shown(alloc: Global, network: &str, blueprint: &str) -> Result<bool, AllocError> {
+pub fn is_shown(alloc: Global, network: &str, blueprint: &str) -> Result<bool, AllocError> {
     let blueprint = Vec::from_slice(alloc, blueprint.as_bytes())?;
     let (status, shown) = answer(alloc, "recover", blueprint, smooth(1000))?;
     Ok(status == 0 && shown.as_slice().starts_with(network.trim_end().as_bytes()))
