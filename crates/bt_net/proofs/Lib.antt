@@ -14,5 +14,7 @@ pub mod PrioritySpelling
 pub mod Preferring
 pub mod PlainBodies
 pub mod OnePlain
+pub mod PrintedPriorities
+pub mod ReadAlike
 pub mod PrintedNets
 pub mod Unwritten

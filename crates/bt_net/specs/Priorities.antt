@@ -56,3 +56,21 @@ splitter_text n k = preference_text (codes "give s") k (give_of n k) ++ preferen
 -- the lines of a network's priorities, splitter by splitter
 abbrev pub priorities_text : Network → List ℕ
 priorities_text n = flat_map (splitter_text n) (range_with_len 0 n.splitters)
+
+-- the priority of a splitter's out edge, where it prefers one
+abbrev pub gives_at : ℕ → Option ℕ → List Priority
+gives_at k None = []
+gives_at k (Some a) = Give k a ∷ []
+
+-- the priority of its in edge, where it prefers one
+abbrev pub takes_at : ℕ → Option ℕ → List Priority
+takes_at k None = []
+takes_at k (Some a) = Take k a ∷ []
+
+-- the priorities of a splitter, that of its out edge first
+abbrev pub priorities_at : Network → ℕ → List Priority
+priorities_at n k = gives_at k (give_of n k) ++ takes_at k (take_of n k)
+
+-- the priorities of a network, splitter by splitter
+abbrev pub priorities_of : Network → List Priority
+priorities_of n = flat_map (priorities_at n) (range_with_len 0 n.splitters)

@@ -1,5 +1,5 @@
 -- What is read of a text: the network with which it begins, its pins and its blocks, or why there is none.
-use Rattle.std.specs.Prelude.{◌≡◌, ℕ, ◌+◌, ◌≤◌, List, [], ◌∷◌, ◌++◌, length, drop, codes, Result, Ok, Err}
+use Rattle.std.specs.Prelude.{◌≡◌, ◌↔◌, ℕ, ◌+◌, ◌≤◌, List, [], ◌∷◌, ◌++◌, length, drop, codes, Result, Ok, Err}
 use Rattle.std.specs.List.{AllZip}
 use Rattle.bt_text.specs.Lines.{BeginsWithLines}
 use Rattle.bt_net.specs.declared.fault.NetFault.{NetFault}
@@ -10,6 +10,7 @@ use Rattle.bt_net.specs.Network.{Network, IsNetwork, HasNoPriorities}
 use Rattle.bt_net.specs.NetText.{header, net_text, IsEdgeLine, BeginsWithNet}
 use Rattle.bt_net.specs.PinText.{AreLinesFrom, IsPinLine, IsBlockLine}
 use Rattle.bt_net.specs.PinRefusals.{RefusesAll}
+use Rattle.bt_net.specs.Priorities.{priorities_of}
 use Rattle.bt_net.specs.PriorityRefusals.{Refuses}
 
 -- a network, its pins and blocks, and how many bytes and lines its text has
@@ -61,14 +62,18 @@ abbrev pub IsPlainRead : List ℕ → Result Reading NetFault → Type 0
 IsPlainRead bytes (Ok read) = StandsPlain bytes read
 IsPlainRead bytes (Err fault) = Refuses bytes fault
 
--- what there is to read of a network's own text: that network, no pins, no blocks, and the whole text
+-- what there is to read of a network's own text: that network, no pins, no blocks, and the whole text, which has a line for each priority
 abbrev pub whole_reading : Network → Reading
-whole_reading n = record { net = n; pins = []; blocks = []; used = length (net_text n); lines = length n.edges + 2 }
+whole_reading n = record { net = n; pins = []; blocks = []; used = length (net_text n); lines = length n.edges + length (priorities_of n) + 2 }
 
--- the text that is printed of a network without priorities is read as that network
+-- the text that is printed of a network is read as that network, with the edges that its splitters prefer
+abbrev pub PrintedIsPlain : Type 0
+PrintedIsPlain = (n : Network) → IsNetwork n → IsPlainRead (net_text n) (Ok (whole_reading n))
+
+-- and where none prefers an edge, it is read so where pins and blocks may stand too
 abbrev pub PrintedIsRead : Type 0
 PrintedIsRead = (n : Network) → IsNetwork n → HasNoPriorities n → IsNetRead (net_text n) (Ok (whole_reading n))
 
--- and it is read so where pins and blocks may not stand
-abbrev pub PrintedIsPlain : Type 0
-PrintedIsPlain = (n : Network) → IsNetwork n → HasNoPriorities n → IsPlainRead (net_text n) (Ok (whole_reading n))
+-- a text without pins, blocks and preferred edges is read alike by both calls
+abbrev pub ReadAlike : Type 0
+ReadAlike = (bytes : List ℕ) (read : Reading) → (IsPlainRead bytes (Ok read) × HasNoPriorities read.net) ↔ (IsNetRead bytes (Ok read) × (read.pins ≡ []) × (read.blocks ≡ []))

@@ -2,7 +2,7 @@
 ghost use Rattle.std.specs.Prelude.{◌≡◌, ℕ, List};
 ghost use Rattle.bt_net.specs.Network.{Network, IsNetwork};
 ghost use Rattle.bt_net.specs.NetText.{BeginsWithNet};
-ghost use Rattle.bt_net.specs.Readings.{IsNetRead, IsPlainRead, PrintedIsRead, PrintedIsPlain};
+ghost use Rattle.bt_net.specs.Readings.{IsNetRead, IsPlainRead, PrintedIsRead, PrintedIsPlain, ReadAlike};
 ghost use Rattle.bt_net.specs.Longer.{Stays, StaysRefused};
 
 use crate::network::{MOST_CAP, MOST_OF_EACH, NO_COORDINATE};
@@ -13,10 +13,16 @@ pub fn one_net()
         → BeginsWithNet bytes m r → BeginsWithNet bytes n s → (m ≡ n) × (r ≡ s) }
 {}
 
-/// The text that `print` writes of a network is read as that network, to its end.
+/// The text that `print` writes of a network is read by `read_plain` as that network, with the edges that its
+/// splitters prefer, to its end; and where none prefers an edge, by `read` too.
 pub fn printed_is_read()
-    ensures read { PrintedIsRead }
     ensures plain { PrintedIsPlain }
+    ensures read { PrintedIsRead }
+{}
+
+/// Of a text without pins, blocks and preferred edges `read` and `read_plain` tell the same.
+pub fn read_alike()
+    ensures { ReadAlike }
 {}
 
 /// What is read of bytes is read of longer ones that begin with them, but where the last line lacks its

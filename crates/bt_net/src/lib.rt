@@ -15,7 +15,7 @@ mod wiring;
 mod words;
 
 pub use fault::NetFault;
-pub use law::{limits_are, longer_is_read, one_net, printed_is_read};
+pub use law::{limits_are, longer_is_read, one_net, printed_is_read, read_alike};
 pub use net::Net;
 pub use network::{
     Block, Edge, End, MOST_CAP, MOST_OF_EACH, NO_COORDINATE, Pin, Priority, Start, Target,

@@ -1,0 +1,116 @@
+-- Texts without pins, blocks and preferred edges, as both calls read them.
+use Rattle.std.proofs.Common.{◌≡◌, ◌≢◌, ℕ, ◌+◌, List, [], ◌∷◌, ◌++◌, length, drop, Option, Some, None, Ok, refl, sym, ◌∙◌, ap, subst, arith}
+use Rattle.std.specs.Prelude.{codes}
+use Rattle.std.proofs.lemmas.List.{get_or-set_same, get_or-set_other}
+use Rattle.bt_text.specs.Lines.{BeginsWithLines}
+use Rattle.bt_net.specs.declared.network.Priority.{Priority}
+use Rattle.bt_net.specs.declared.network.Priority.TheVariants.{Give, Take}
+use Rattle.bt_net.specs.Network.{Network, HasNoPriorities, none_each, give_of, take_of}
+use Rattle.bt_net.specs.NetText.{header, alone}
+use Rattle.bt_net.specs.PinText.{AreLinesFrom, IsPinLine, IsBlockLine}
+use Rattle.bt_net.specs.Priorities.{IsPriorityLine, Owns, with_priority, Becomes}
+use Rattle.bt_net.specs.Readings.{Reading, IsNetRead, IsPlainRead, ReadAlike}
+use Rattle.bt_net.proofs.Preference.{none_long, plain_gives, plain_takes}
+
+-- lines of nothing
+no_lines : {X : Type 0} (IsLine : ℕ → List ℕ → X → Type 0) (number : ℕ) (lines : List (List ℕ)) (xs : List X) → AreLinesFrom IsLine number lines xs → xs ≡ [] → lines ≡ []
+no_lines IsLine number [] xs are none = refl
+no_lines IsLine number (l ∷ ls) [] are none = absurd are
+no_lines IsLine number (l ∷ ls) (x ∷ xs) are none = absurd (omega (arith, ap length none))
+
+are_none : {X : Type 0} (IsLine : ℕ → List ℕ → X → Type 0) (number : ℕ) (xs : List X) → xs ≡ [] → AreLinesFrom IsLine number [] xs
+are_none IsLine number xs none = subst (AreLinesFrom IsLine number []) (sym none) tt
+
+not_both : (o : Option ℕ) (a : ℕ) → o ≡ None → o ≡ Some a → ⊥
+not_both o a none some = absurd (cc)
+
+-- an edge that is preferred stays so
+give_stays : (m n : Network) (ps : List Priority) (k a : ℕ) → Becomes m ps n → give_of m k ≡ Some a → give_of n k ≡ Some a
+give_stays m n [] k a is some = ap (λ x. give_of x k) (sym is) ∙ some
+give_stays m n (Give j b ∷ ps) k a is some =
+    let apart : k ≢ j = λ e. not_both (give_of m k) a (ap (give_of m) e ∙ is.0) some in
+    give_stays (with_priority m (Give j b)) n ps k a is.1 (get_or-set_other m.gives j k (Some b) None apart ∙ some)
+give_stays m n (Take j b ∷ ps) k a is some = give_stays (with_priority m (Take j b)) n ps k a is.1 some
+
+take_stays : (m n : Network) (ps : List Priority) (k a : ℕ) → Becomes m ps n → take_of m k ≡ Some a → take_of n k ≡ Some a
+take_stays m n [] k a is some = ap (λ x. take_of x k) (sym is) ∙ some
+take_stays m n (Give j b ∷ ps) k a is some = take_stays (with_priority m (Give j b)) n ps k a is.1 some
+take_stays m n (Take j b ∷ ps) k a is some =
+    let apart : k ≢ j = λ e. not_both (take_of m k) a (ap (take_of m) e ∙ is.0) some in
+    take_stays (with_priority m (Take j b)) n ps k a is.1 (get_or-set_other m.takes j k (Some b) None apart ∙ some)
+
+-- so by some priorities no network becomes one without any
+module _ (n : Network) (plain : HasNoPriorities n) where
+  one_too_many : (p : Priority) (ps : List Priority) → Owns (alone n) p → Becomes (with_priority (alone n) p) ps n → ⊥
+  one_too_many (Give k a) ps owns is =
+      let there : give_of (with_priority (alone n) (Give k a)) k ≡ Some a = get_or-set_same (none_each n.splitters) k (Some a) None (omega (arith, owns.0, none_long n.splitters)) in
+      not_both (give_of n k) a (plain_gives n plain k) (give_stays (with_priority (alone n) (Give k a)) n ps k a is there)
+  one_too_many (Take k a) ps owns is =
+      let there : take_of (with_priority (alone n) (Take k a)) k ≡ Some a = get_or-set_same (none_each n.splitters) k (Some a) None (omega (arith, owns.0, none_long n.splitters)) in
+      not_both (take_of n k) a (plain_takes n plain k) (take_stays (with_priority (alone n) (Take k a)) n ps k a is there)
+
+  none_read : (number : ℕ) (lines : List (List ℕ)) (ps : List Priority) → AreLinesFrom (IsPriorityLine (alone n)) number lines ps → Becomes (alone n) ps n → ps ≡ []
+  none_read number lines [] are is = refl
+  none_read number [] (p ∷ ps) are is = absurd are
+  none_read number (l ∷ ls) (p ∷ ps) are is = absurd (one_too_many p ps are.0.1 is.1)
+
+  -- a network without priorities is itself without them
+  alone_plain : alone n ≡ n
+  alone_plain = let gives = sym plain.gives in let takes = sym plain.takes in λ i. record { inputs = n.inputs; outputs = n.outputs; splitters = n.splitters; edges = n.edges; gives = gives i; takes = takes i }
+
+module _ (bytes : List ℕ) (read : Reading) where
+  -- the lines behind the header
+  abbrev Begins : List (List ℕ) → List (List ℕ) → Type 0
+  Begins edges others = BeginsWithLines bytes (header read.net ∷ edges ++ (others ++ codes "end" ∷ [])) (drop read.used bytes)
+
+  from_plain : IsPlainRead bytes (Ok read) → HasNoPriorities read.net → IsNetRead bytes (Ok read) × (read.pins ≡ []) × (read.blocks ≡ [])
+  from_plain h plain =
+      let b = h.begins in
+      let none = none_read read.net plain (length read.net.edges + 2) b.priority_lines b.priorities b.are_priorities b.becomes in
+      let lines = no_lines (IsPriorityLine (alone read.net)) (length read.net.edges + 2) b.priority_lines b.priorities b.are_priorities none in (
+        record {
+          network = h.network;
+          begins = record {
+            plain = plain;
+            edge_lines = b.edge_lines;
+            are_edges = b.are_edges;
+            pin_lines = [];
+            are_pins = are_none (IsPinLine read.net) (length read.net.edges + 2) read.pins h.pins;
+            block_lines = [];
+            are_blocks = are_none IsBlockLine (length read.net.edges + length read.pins + 2) read.blocks h.blocks;
+            begins = subst (Begins b.edge_lines) lines b.begins;
+          };
+          used = h.used;
+          lines = omega (arith, h.lines, ap length none, ap length h.pins, ap length h.blocks);
+        },
+        h.pins,
+        h.blocks,
+      )
+
+  to_plain : IsNetRead bytes (Ok read) → read.pins ≡ [] → read.blocks ≡ [] → IsPlainRead bytes (Ok read) × HasNoPriorities read.net
+  to_plain h pins blocks =
+      let b = h.begins in
+      let pin_lines = no_lines (IsPinLine read.net) (length read.net.edges + 2) b.pin_lines read.pins b.are_pins pins in
+      let block_lines = no_lines IsBlockLine (length read.net.edges + length read.pins + 2) b.block_lines read.blocks b.are_blocks blocks in
+      let Whole : List (List ℕ) → List (List ℕ) → Type 0 = λ ps bs. BeginsWithLines bytes (header read.net ∷ b.edge_lines ++ (ps ++ (bs ++ codes "end" ∷ []))) (drop read.used bytes) in (
+        record {
+          network = h.network;
+          begins = record {
+            edge_lines = b.edge_lines;
+            are_edges = b.are_edges;
+            priorities = [];
+            priority_lines = [];
+            are_priorities = tt;
+            becomes = alone_plain read.net b.plain;
+            begins = subst (λ bs. Whole [] bs) block_lines (subst (λ ps. Whole ps b.block_lines) pin_lines b.begins);
+          };
+          used = h.used;
+          pins = pins;
+          blocks = blocks;
+          lines = omega (arith, h.lines, ap length pins, ap length blocks);
+        },
+        b.plain,
+      )
+
+pub read_alike : ReadAlike
+read_alike bytes read = (λ h. from_plain bytes read h.0 h.1, λ h. to_plain bytes read h.0 h.1 h.2)
