@@ -85,7 +85,7 @@ less_lowest a b false false = tt
 not_below_row : (a b : ℕ) → IsColumn a → IsColumn b → IsRow (not_below a b)
 not_below_row a b l m = is_row (less a b) AtLeast (whole 0) (less_columns a b l m (ltb a b) (ltb b a) refl refl) (less_lowest a b (ltb a b) (ltb b a)) none_is
 
-above_row : (a b : ℕ) → IsColumn a → IsColumn b → IsRow (above a b)
+pub above_row : (a b : ℕ) → IsColumn a → IsColumn b → IsRow (above a b)
 above_row a b l m = is_row (less a b) Above (whole 0) (less_columns a b l m (ltb a b) (ltb b a) refl refl) (less_lowest a b (ltb a b) (ltb b a)) none_is
 
 edge_lowest : (b c : Bool) (m : ℕ) (terms : List (ℕ × Ratio)) → AreLowest terms → AreLowest (cond b (cond c [] (plus m ∷ [])) (cond c (minus m ∷ []) []) ++ terms)

@@ -22,11 +22,11 @@ clauses_in_range at n marks m rows (claims ∷ clauses) h all l =
       clauses_in_range at n marks (m + length (flat_map mentioned claims)) rows clauses h.1 all (omega (arith, long, l)),
     )
 
-ascend : (least m end : ℕ) (rows : List RowParts) → least ≤ m → m + length rows ≤ end → AscendBelow least end (map (λ a. a.0) (atoms_from m rows))
+pub ascend : (least m end : ℕ) (rows : List RowParts) → least ≤ m → m + length rows ≤ end → AscendBelow least end (map (λ a. a.0) (atoms_from m rows))
 ascend least m end [] l few = tt
 ascend least m end (row ∷ rows) l few = (l, omega arith, ascend (m + 1) (m + 1) end rows (omega arith) (omega arith))
 
-are_rows : (m : ℕ) (rows : List RowParts) → AllByRecursion IsRow rows → AllByRecursion (λ a. IsRow a.1) (atoms_from m rows)
+pub are_rows : (m : ℕ) (rows : List RowParts) → AllByRecursion IsRow rows → AllByRecursion (λ a. IsRow a.1) (atoms_from m rows)
 are_rows m [] h = tt
 are_rows m (row ∷ rows) h = (h.0, are_rows (m + 1) rows h.1)
 

@@ -11,9 +11,11 @@ pub mod NetEdges
 pub mod RowValues
 pub mod Admitted
 pub mod FlowRows
+pub mod Narrow
 pub mod EdgeSums
 pub mod Breaking
 pub mod Formulas
+pub mod EvenFormula
 pub mod Refuted
 pub mod Claimed
 pub mod Solved

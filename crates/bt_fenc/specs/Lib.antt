@@ -3,6 +3,7 @@ pub mod Pairs
 pub mod Families
 pub mod Properties
 pub mod FlowFormula
+pub mod EvenFormula
 pub mod Numbering
 pub mod Laws
 pub mod Solutions

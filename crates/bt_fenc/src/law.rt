@@ -1,4 +1,5 @@
 //! Laws of the flow formula, as contracts of functions that do nothing.
+ghost use Rattle.bt_fenc.specs.EvenFormula.{FlowFormulaIsEven};
 ghost use Rattle.bt_fenc.specs.Laws.{TrueClaimsMeet, SteadyMeets, BreakingMeets, RefutedHolds};
 ghost use Rattle.bt_fenc.specs.Solutions.{MeetingBreaks, MeetingIsSteady};
 ghost use Rattle.bt_fenc.specs.Sizes.{FlowFormulasAreSmall, SteadyFormulasAreSmall};
@@ -48,4 +49,10 @@ pub fn meeting_is_steady()
 /// The same of the formulas of networks' steady states.
 pub fn steady_formulas_are_small()
     ensures { SteadyFormulasAreSmall }
+{}
+
+/// Where no splitter prefers an edge, the flow formula is the one in which nothing speaks of preferred edges. So its
+/// certificates are those of that formula.
+pub fn flow_formula_is_even()
+    ensures { FlowFormulaIsEven }
 {}

@@ -8,6 +8,7 @@ ghost use Rattle.bt_flow.specs.States.{AreLowest};
 ghost use Rattle.bt_fenc.specs.Solutions.{state_at, BreaksWhatIsMet};
 
 use crate::ends::{load_column, room_column};
+use bt_cnf::is_true;
 use bt_flow::State;
 use bt_frac::Frac;
 use bt_net::Net;
@@ -38,16 +39,6 @@ fn values_from(
         found.push(value_of(values, first + place))?;
     }
     Ok(found)
-}
-
-/// Whether a variable is true, or false past the end of the assignment.
-fn is_true(assignment: &[bool], var: usize) -> bool
-    ensures { result ≡ truth_in assignment.now var }
-{
-    match assignment.get(var) {
-        Some(truth) => *truth,
-        None => false,
-    }
 }
 
 /// The marks of so many edges.

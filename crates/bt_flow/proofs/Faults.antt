@@ -6,7 +6,8 @@ use Rattle.bt_text.specs.Pieces.{LeadsTo}
 use Rattle.bt_flow.specs.declared.fault.StateFault.{StateFault}
 use Rattle.bt_flow.specs.declared.fault.StateFault.TheVariants.{CertLine, Memory}
 use Rattle.bt_flow.specs.StateLines.{SpellsItems, Follows}
-use Rattle.bt_flow.specs.inner.Lines.{IsFault, IsLineFault, LeadsOn, StopsAt, StopsInTwo, IsListLine, StopsAtList}
+use Rattle.bt_flow.specs.Parts.{IsFault, LeadsOn, StopsAt, StopsInTwo, IsListLine}
+use Rattle.bt_flow.specs.inner.Lines.{IsLineFault, StopsAtList}
 
 fault_weaker : (P Q : ℕ → Type 0) (fault : StateFault) → ((line : ℕ) → P line → Q line) → IsFault P fault → IsFault Q fault
 fault_weaker P Q (CertLine line) weaker h = weaker line h

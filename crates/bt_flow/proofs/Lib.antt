@@ -3,6 +3,7 @@ pub mod FracTexts
 pub mod MarkTexts
 pub mod Faults
 pub mod WrongLines
+pub mod LineTexts
 pub mod StateTexts
 pub mod StateAnswers
 pub mod Adding
@@ -13,6 +14,7 @@ pub mod Both
 pub mod Compared
 pub mod Each
 pub mod EqualCaps
+pub mod SevenLaws
 pub mod Judged
 pub mod Numbers
 pub mod Printed

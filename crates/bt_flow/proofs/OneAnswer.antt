@@ -156,7 +156,7 @@ one_steady_answer n t x y h k =
     let some = steady_some n t x h in
     one_answer n Unlimited t some.0 some.1 2 10 x y (steady_answers n t some.0 some.1 x h) (steady_answers n t some.0 some.1 y k)
 
-state_passes : (n : Network) (s : Flows) → IsAdmissible n s × IsSteady n s → (u : Test) (b : ℕ) → order_of u ≤ 10 → b < places n u → PassesAt n Unlimited s u b
+pub state_passes : (n : Network) (s : Flows) → IsAdmissible n s × IsSteady n s → (u : Test) (b : ℕ) → order_of u ≤ 10 → b < places n u → PassesAt n Unlimited s u b
 state_passes n s h test.Load b high l = (h.0.loads b l, λ asks. absurd (false≢true asks))
 state_passes n s h test.Room b high l = (h.0.rooms b l, λ asks. absurd (false≢true asks))
 state_passes n s h test.Range b high l = h.1.range b l

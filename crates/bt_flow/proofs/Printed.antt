@@ -7,23 +7,22 @@ use Rattle.bt_frac.specs.Texts.{frac_text}
 use Rattle.bt_flow.specs.declared.property.Property.{Property}
 use Rattle.bt_flow.specs.Names.{property_name}
 use Rattle.bt_flow.specs.States.{Fractions}
-use Rattle.bt_flow.specs.StateText.{mark_text, spaced, printed_state}
+use Rattle.bt_flow.specs.StateText.{mark_text, spaced, edges_text, printed_state}
 use Rattle.bt_flow.specs.StateReading.{PrintedStateIsRead}
-use Rattle.bt_flow.specs.inner.Printing.{words, ends_text, edges_text}
+use Rattle.bt_flow.specs.inner.Printing.{words, head_text}
 
-words_spaced : {A : Type 0} (word : A → List ℕ) (items : List A) → words word items ≡ spaced (map word items)
+pub words_spaced : {A : Type 0} (word : A → List ℕ) (items : List A) → words word items ≡ spaced (map word items)
 words_spaced word [] = refl
 words_spaced word (x ∷ xs) = ap (λ t. (codes " " ++ word x) ++ t) (words_spaced word xs)
 
-six_lines : (a b c d e : List ℕ) → (line a ++ line b ++ line c) ++ (line d ++ line e ++ codes "end\n") ≡ line a ++ line b ++ line c ++ line d ++ line e ++ codes "end" ++ 10 ∷ []
+six_lines : (a b c d e : List ℕ) → (line a ++ (line b ++ line c)) ++ (line d ++ line e) ++ codes "end\n" ≡ line a ++ line b ++ line c ++ line d ++ line e ++ codes "end" ++ 10 ∷ []
 six_lines a b c d e = simp append_assoc
 
 -- the parts of the text make the whole
-pub parts_are : (p : Property) (t : Fractions) → ends_text p t ++ edges_text t ≡ printed_state p t
+pub parts_are : (p : Property) (t : Fractions) → head_text p t ++ edges_text t ++ codes "end\n" ≡ printed_state p t
 parts_are p t =
-    rw (words_spaced frac_text t.loads, words_spaced frac_text t.rooms, words_spaced frac_text t.flows, words_spaced mark_text t.backed)
-    (six_lines (codes "no " ++ property_name p) (codes "load" ++ spaced (map frac_text t.loads)) (codes "room" ++ spaced (map frac_text t.rooms)) (codes "flow" ++ spaced (map frac_text t.flows))
-    (codes "mark" ++ spaced (map mark_text t.backed)))
+    six_lines (codes "no " ++ property_name p) (codes "load" ++ spaced (map frac_text t.loads)) (codes "room" ++ spaced (map frac_text t.rooms)) (codes "flow" ++ spaced (map frac_text t.flows))
+    (codes "mark" ++ spaced (map mark_text t.backed))
 
 -- what is written of a state is read as that state
 pub printed_is_read : PrintedStateIsRead

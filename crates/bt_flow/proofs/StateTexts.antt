@@ -1,9 +1,7 @@
 -- The text of a state: its lines, that every line of it is right, and that it has one state.
-use Rattle.std.proofs.Common.{◌≡◌, ◌≢◌, ℕ, ◌<◌, Bool, List, [], ◌∷◌, ◌++◌, length, map, refl, sym, ◌∙◌, ap, subst, inl, inr, arith, append_assoc, append-nil, codes, Ok, Err}
-use Rattle.std.specs.Bool.{⊤}
+use Rattle.std.proofs.Common.{◌≡◌, ℕ, Bool, List, [], ◌∷◌, ◌++◌, length, map, refl, sym, ◌∙◌, ap, subst, inl, inr, arith, append_assoc, append-nil, codes, Ok, Err}
 use Rattle.std.specs.List.{All, slice_index_or}
-use Rattle.std.proofs.lemmas.List.{append_cancel_left}
-use Rattle.std.proofs.lemmas.List.Elements.{All-head, All-tail, All-cons, All-nil, All-append}
+use Rattle.std.proofs.lemmas.List.Elements.{All-tail}
 use Rattle.bt_text.specs.Blanks.{IsBlank}
 use Rattle.bt_text.specs.Lines.{Lacks, line}
 use Rattle.bt_frac.specs.Ratio.{Ratio, IsLowest}
@@ -15,17 +13,13 @@ use Rattle.bt_flow.specs.States.{Fractions, Fits}
 use Rattle.bt_text.specs.Pieces.{CutsAt, LeadsTo}
 use Rattle.bt_flow.specs.Names.{property_name}
 use Rattle.bt_flow.specs.StateText.{mark_text, spaced, state_text, IsStateText}
-use Rattle.bt_flow.specs.StateLines.{SpellsFractions, SpellsMarks, Follows, just, numbers, marks, Fills, forms, lines_of, IsWrongLine}
+use Rattle.bt_flow.specs.StateLines.{SpellsFractions, SpellsMarks, Follows, just, numbers, marks, forms, lines_of, IsWrongLine}
 use Rattle.bt_answers.specs.Answers.{HasOneAnswer}
 use Rattle.bt_flow.specs.declared.fault.StateFault.TheVariants.{CertLine, Memory}
 use Rattle.bt_flow.specs.StateReading.{IsStateRead}
 use Rattle.bt_text.proofs.Lacking.{lacks}
-use Rattle.bt_text.proofs.Pieces.{piece_is}
-use Rattle.bt_flow.proofs.Words.{spaced_begins}
-use Rattle.bt_frac.proofs.Words.{frac_text_same}
-use Rattle.bt_flow.proofs.FracTexts.{frac_text_lacks, frac_text_in_line}
-use Rattle.bt_flow.proofs.MarkTexts.{mark_same, mark_lacks, mark_in_line}
-use Rattle.bt_flow.proofs.WrongLines.{lines_after, cut_lines, AreRight, all_later, blank_right}
+use Rattle.bt_flow.proofs.LineTexts.{first_line, numbers_lack, marks_lack, numbers_filled, marks_filled, same_numbers, same_marks}
+use Rattle.bt_flow.proofs.WrongLines.{lines_after, cut_lines, AreRight, all_later, blank_right, one_wrong, right_none_wrong}
 
 -- six lines, the last without its line feed, and the rest
 regrouped : (a b c d e f rest : List ℕ) → line a ++ line b ++ line c ++ line d ++ line e ++ f ++ rest
@@ -39,42 +33,11 @@ joined bytes a b c d e f r1 r2 r3 r4 r5 r6 e1 e2 e3 e4 e5 e6 =
     e1 ∙ ap (λ r. a ++ r) (e2 ∙ ap (λ r. 10 ∷ (b ++ r)) (e3 ∙ ap (λ r. 10 ∷ (c ++ r)) (e4 ∙ ap (λ r. 10 ∷ (d ++ r)) (e5 ∙ ap (λ r. 10 ∷ (e ++ r)) e6))))
     ∙ sym (regrouped a b c d e f r6)
 
--- a line without line feeds is the first
-first_line : (a rest : List ℕ) → Lacks 10 a → lines_of (a ++ 10 ∷ rest) ≡ a ∷ lines_of rest
-unfolding lines_after
-first_line a rest lacks =
-    cut_lines (a ++ 10 ∷ rest) a (10 ∷ rest) (record { lacks = lacks; text_is = refl; begins = inr (rest, refl) })
-
 title_lacks : (p : Property) → Lacks 10 (codes "no " ++ property_name p)
 title_lacks Balanced = lacks 10 (codes "no balanced") refl
 title_lacks DrawnEvenly = lacks 10 (codes "no drawn-evenly") refl
 title_lacks Unlimited = lacks 10 (codes "no unlimited") refl
 title_lacks Full = lacks 10 (codes "no full") refl
-
-spaced_lacks : {A : Type 0} (P : A → Type 0) (word : A → List ℕ) → ((x : A) → P x → Lacks 10 (word x)) → (items : List A) → All P items
-    → Lacks 10 (spaced (map word items))
-spaced_lacks P word lacks [] all = All-nil (λ b. b ≢ 10)
-spaced_lacks P word lacks (x ∷ items) all =
-    All-append (λ b. b ≢ 10) (32 ∷ word x) (spaced (map word items))
-    (All-cons (λ b. b ≢ 10) 32 (word x) (omega arith) (lacks x (All-head P x items all)))
-    (spaced_lacks P word lacks items (All-tail P x items all))
-
--- equal words after spaces are equal items
-spaced_same : {A : Type 0} (P : A → Type 0) (word : A → List ℕ) → ((x : A) → P x → Lacks 32 (word x)) → ((x y : A) → P x → P y → word x ≡ word y → x ≡ y)
-    → (xs ys : List A) → All P xs → All P ys → spaced (map word xs) ≡ spaced (map word ys) → xs ≡ ys
-spaced_same P word lacks same [] [] all all' e = refl
-spaced_same P word lacks same [] (y ∷ ys) all all' e = cc
-spaced_same P word lacks same (x ∷ xs) [] all all' e = cc
-spaced_same P word lacks same (x ∷ xs) (y ∷ ys) all all' e =
-    let good = All-head P x xs all in
-    let good' = All-head P y ys all' in
-    let texts : word x ++ spaced (map word xs) ≡ word y ++ spaced (map word ys) = cc in
-    let pieces =
-    piece_is 32 (word x) (spaced (map word xs)) (word y) (spaced (map word ys)) (lacks x good) (lacks y good') (spaced_begins (map word xs))
-    (spaced_begins (map word ys)) texts in
-    let heads = same x y good good' pieces.0 in
-    let tails = spaced_same P word lacks same xs ys (All-tail P x xs all) (All-tail P y ys all') pieces.1 in
-    cc
 
 -- six lines without line feeds, and the rest
 six_lines : (a b c d e f rest : List ℕ) (tail : List (List ℕ)) → Lacks 10 a → Lacks 10 b → Lacks 10 c → Lacks 10 d → Lacks 10 e
@@ -99,17 +62,11 @@ mark_line backed = codes "mark" ++ spaced (map mark_text backed)
 
 fraction_line_lacks : (word : List ℕ) (fractions : List Ratio) → Lacks 10 word → All IsLowest fractions → Lacks 10 (fraction_line word fractions)
 unfolding fraction_line
-fraction_line_lacks word fractions lacks lowest =
-    All-append (λ b. b ≢ 10) word (spaced (map frac_text fractions)) lacks (spaced_lacks IsLowest frac_text frac_text_in_line fractions lowest)
-
-all_marks : (backed : List Bool) → All (λ _. ⊤) backed
-all_marks backed = λ k d below. tt
+fraction_line_lacks word fractions lacks lowest = numbers_lack word fractions lacks lowest
 
 mark_line_lacks : (backed : List Bool) → Lacks 10 (mark_line backed)
 unfolding mark_line
-mark_line_lacks backed =
-    All-append (λ b. b ≢ 10) (codes "mark") (spaced (map mark_text backed)) (lacks 10 (codes "mark") refl)
-    (spaced_lacks (λ _. ⊤) mark_text mark_in_line backed (all_marks backed))
+mark_line_lacks backed = marks_lack backed
 
 -- the lines of a state's text
 record HasLines (p : Property) (t : Fractions) (bytes : List ℕ) : Type 0 where
@@ -154,43 +111,27 @@ all_right n p t bytes fits text =
     let has = has_lines p t bytes text in
     subst (λ ls. AreRight (forms n p) ls) (sym has.lines)
     (all_later (just (title p)) _ (title p) _ refl
-    (all_later (numbers (codes "load") n.inputs) _ (fraction_line (codes "load") t.loads) _ (filled (codes "load") t.loads n.inputs fits.loads text.lowest.loads)
-    (all_later (numbers (codes "room") n.outputs) _ (fraction_line (codes "room") t.rooms) _ (filled (codes "room") t.rooms n.outputs fits.rooms text.lowest.rooms)
-    (all_later (numbers (codes "flow") (length n.edges)) _ (fraction_line (codes "flow") t.flows) _ (filled (codes "flow") t.flows (length n.edges) fits.flows text.lowest.flows)
+    (all_later (numbers (codes "load") n.inputs) _ (fraction_line (codes "load") t.loads) _ (numbers_filled (codes "load") t.loads n.inputs fits.loads text.lowest.loads)
+    (all_later (numbers (codes "room") n.outputs) _ (fraction_line (codes "room") t.rooms) _ (numbers_filled (codes "room") t.rooms n.outputs fits.rooms text.lowest.rooms)
+    (all_later (numbers (codes "flow") (length n.edges)) _ (fraction_line (codes "flow") t.flows) _ (numbers_filled (codes "flow") t.flows (length n.edges) fits.flows text.lowest.flows)
     (all_later (marks (length n.edges)) _ (mark_line t.backed) _
-    (t.backed, record { text = spaced (map mark_text t.backed); line_is = refl; spells = record { counted = fits.backed; meets = all_marks t.backed; text_is = refl } })
+    (marks_filled t.backed (length n.edges) fits.backed)
     (all_later (just (codes "end")) [] (codes "end") has.rest refl has.blank))))))
-  where
-    filled : (word : List ℕ) (fractions : List Ratio) (count : ℕ) → length fractions ≡ count → All IsLowest fractions
-        → Fills (numbers word count) (fraction_line word fractions)
-    filled word fractions count counted lowest =
-        (fractions, record { text = spaced (map frac_text fractions); line_is = refl; spells = record { counted = counted; meets = lowest; text_is = refl } })
 
 -- so none is wrong
-pub none_wrong : (n : Network) (p : Property) (t : Fractions) (bytes : List ℕ) (wrong : ℕ) → Fits n t → IsStateText p t bytes → IsWrongLine n p bytes wrong → ⊥
-none_wrong n p t bytes wrong fits text (k, is, first) = first.wrong ((all_right n p t bytes fits text).at k)
-
--- one line is the first that isn't right
-pub one_wrong : (n : Network) (p : Property) (bytes : List ℕ) (one other : ℕ) → IsWrongLine n p bytes one → IsWrongLine n p bytes other → one ≡ other
-one_wrong n p bytes one other (k, is, first) (j, is', first') =
-    let not_below : k < j → ⊥ = λ below. first.wrong (first'.earlier k below) in
-    let not_above : j < k → ⊥ = λ below. first'.wrong (first.earlier j below) in
-    omega arith
+none_wrong : (n : Network) (p : Property) (t : Fractions) (bytes : List ℕ) (wrong : ℕ) → Fits n t → IsStateText p t bytes → IsWrongLine n p bytes wrong → ⊥
+none_wrong n p t bytes wrong fits text h = right_none_wrong (forms n p) bytes wrong (all_right n p t bytes fits text) h
 
 -- lines with one text have the same lists
 same_fractions : (word : List ℕ) (xs ys : List Ratio) → All IsLowest xs → All IsLowest ys → fraction_line word xs ≡ fraction_line word ys → xs ≡ ys
 unfolding fraction_line
-same_fractions word xs ys all all' e =
-    spaced_same IsLowest frac_text frac_text_lacks frac_text_same xs ys all all'
-    (append_cancel_left word (spaced (map frac_text xs)) (spaced (map frac_text ys)) e)
+same_fractions word xs ys all all' e = same_numbers word xs ys all all' e
 
-same_marks : (xs ys : List Bool) → mark_line xs ≡ mark_line ys → xs ≡ ys
+same_mark_lines : (xs ys : List Bool) → mark_line xs ≡ mark_line ys → xs ≡ ys
 unfolding mark_line
-same_marks xs ys e =
-    spaced_same (λ _. ⊤) mark_text mark_lacks mark_same xs ys (all_marks xs) (all_marks ys)
-    (append_cancel_left (codes "mark") (spaced (map mark_text xs)) (spaced (map mark_text ys)) e)
+same_mark_lines xs ys e = same_marks xs ys e
 
-same_fractions_of : (s t : Fractions) → s.flows ≡ t.flows → s.backed ≡ t.backed → s.loads ≡ t.loads → s.rooms ≡ t.rooms → s ≡ t
+pub same_fractions_of : (s t : Fractions) → s.flows ≡ t.flows → s.backed ≡ t.backed → s.loads ≡ t.loads → s.rooms ≡ t.rooms → s ≡ t
 same_fractions_of s t flows backed loads rooms =
     ap (λ x. record { flows = x; backed = s.backed; loads = s.loads; rooms = s.rooms }) flows
     ∙ ap (λ x. record { flows = t.flows; backed = x; loads = s.loads; rooms = s.rooms }) backed
@@ -205,7 +146,7 @@ one_state p s t bytes hs ht =
     let e = sym has.lines ∙ has'.lines in
     same_fractions_of s t
     (same_fractions (codes "flow") s.flows t.flows hs.lowest.flows ht.lowest.flows (ap (λ ls. slice_index_or ls 3 []) e))
-    (same_marks s.backed t.backed (ap (λ ls. slice_index_or ls 4 []) e))
+    (same_mark_lines s.backed t.backed (ap (λ ls. slice_index_or ls 4 []) e))
     (same_fractions (codes "load") s.loads t.loads hs.lowest.loads ht.lowest.loads (ap (λ ls. slice_index_or ls 1 []) e))
     (same_fractions (codes "room") s.rooms t.rooms hs.lowest.rooms ht.lowest.rooms (ap (λ ls. slice_index_or ls 2 []) e))
 
@@ -215,7 +156,7 @@ one_state_read n p bytes (Ok s) (Ok t) h k = ap Ok (one_state p s t bytes h.1 k.
 one_state_read n p bytes (Ok s) (Err (CertLine line)) h k = absurd (none_wrong n p s bytes line h.0 h.1 k)
 one_state_read n p bytes (Ok s) (Err Memory) h k = absurd k
 one_state_read n p bytes (Err (CertLine line)) (Ok t) h k = absurd (none_wrong n p t bytes line k.0 k.1 h)
-one_state_read n p bytes (Err (CertLine line)) (Err (CertLine other)) h k = ap (λ l. Err (CertLine l)) (one_wrong n p bytes line other h k)
+one_state_read n p bytes (Err (CertLine line)) (Err (CertLine other)) h k = ap (λ l. Err (CertLine l)) (one_wrong (forms n p) bytes line other h k)
 one_state_read n p bytes (Err (CertLine line)) (Err Memory) h k = absurd k
 one_state_read n p bytes (Err Memory) y h k = absurd h
 

@@ -1,5 +1,5 @@
 -- The lines of a text, and the first that isn't right.
-use Rattle.std.proofs.Common.{◌≡◌, ◌≢◌, ℕ, zero, suc, ◌+◌, ◌<◌, ◌≤◌, ◌==◌, true, false, List, [], ◌∷◌, ◌++◌, length, Option, None, Some, refl, sym, ◌∙◌, ap, subst, inl, inr, arith, append-nil, cond}
+use Rattle.std.proofs.Common.{◌≡◌, ◌≢◌, ℕ, zero, suc, ◌+◌, ◌<◌, ◌≤◌, ◌==◌, true, false, List, [], ◌∷◌, ◌++◌, length, Option, None, Some, refl, sym, ◌∙◌, ap, subst, inl, inr, arith, append-nil, cond, codes, Bool}
 use Rattle.std.specs.List.{All, onto_first, slice_get, slice_index_or, count_by}
 use Rattle.std.specs.Option.{MatchOption}
 use Rattle.std.proofs.lemmas.Bool.Decides.{eqb_tells}
@@ -8,11 +8,11 @@ use Rattle.std.proofs.lemmas.List.Sums.{sum_by-cons}
 use Rattle.std.proofs.lemmas.List.Splits.{slice_split_none, slice_split_at, slice_split-cons_yes, slice_split-cons_no}
 use Rattle.bt_text.specs.Blanks.{IsBlank}
 use Rattle.bt_text.specs.Lines.{Lacks}
-use Rattle.bt_net.specs.Network.{Network}
-use Rattle.bt_flow.specs.declared.property.Property.{Property}
 use Rattle.bt_text.specs.Pieces.{BeginsWith, CutsAt, LeadsTo}
-use Rattle.bt_flow.specs.inner.Lines.{LeadsOn, StopsAt, StopsInTwo, HasByteAfter}
-use Rattle.bt_flow.specs.StateLines.{Form, Fills, forms, lines_of, IsRightAt, IsFirstWrong, IsWrongLine, blanks}
+use Rattle.bt_frac.specs.Ratio.{Ratio}
+use Rattle.bt_net.specs.Network.{Network}
+use Rattle.bt_flow.specs.Parts.{LeadsOn, StopsAt, StopsInTwo, HasByteAfter, StopsAtEnd, IsEnds, IsEdges}
+use Rattle.bt_flow.specs.StateLines.{Form, just, Fills, numbers, marks, lines_of, IsRightAt, IsFirstWrong, IsFirstWrongLine, blanks}
 
 -- the test for another byte
 no_feed : (b : ℕ) → b ≢ 10 → (b == 10) ≡ false
@@ -89,42 +89,42 @@ first_here : (wanted : List Form) (lines : List (List ℕ)) → (IsRightAt wante
 first_here wanted lines wrong = record { wrong = wrong; earlier = λ j below. absurd (omega arith) }
 
 -- the lines before this number are right, and this text follows them
-pub record Reaches (n : Network) (p : Property) (bytes : List ℕ) (wanted : List Form) (done : ℕ) (text : List ℕ) : Type 0 where
-  pub fails : (k : ℕ) → IsFirstWrong wanted (lines_after text) k → IsFirstWrong (forms n p) (lines_of bytes) (done + k)
+pub record Reaches (whole : List Form) (bytes : List ℕ) (wanted : List Form) (done : ℕ) (text : List ℕ) : Type 0 where
+  pub fails : (k : ℕ) → IsFirstWrong wanted (lines_after text) k → IsFirstWrong whole (lines_of bytes) (done + k)
   pub begins : BeginsWith 10 text
 
-pub reach_first : (n : Network) (p : Property) (bytes : List ℕ) (form : Form) (wanted : List Form) (line rest : List ℕ)
-    → forms n p ≡ form ∷ wanted → CutsAt 10 bytes line rest → Fills form line → Reaches n p bytes wanted 1 rest
-reach_first n p bytes form wanted line rest are cuts fills = record {
+pub reach_first : (whole : List Form) (bytes : List ℕ) (form : Form) (wanted : List Form) (line rest : List ℕ)
+    → whole ≡ form ∷ wanted → CutsAt 10 bytes line rest → Fills form line → Reaches whole bytes wanted 1 rest
+reach_first whole bytes form wanted line rest are cuts fills = record {
   fails = λ k h.
       let later = first_later form wanted line (lines_after rest) k fills h in
-      let at : IsFirstWrong (forms n p) (lines_of bytes) (suc k) =
+      let at : IsFirstWrong whole (lines_of bytes) (suc k) =
       subst (λ fs. IsFirstWrong fs (lines_of bytes) (suc k)) (sym are)
       (subst (λ ls. IsFirstWrong (form ∷ wanted) ls (suc k)) (sym (cut_lines bytes line rest cuts)) later) in
-      subst (λ m. IsFirstWrong (forms n p) (lines_of bytes) m) (omega arith) at;
+      subst (λ m. IsFirstWrong whole (lines_of bytes) m) (omega arith) at;
   begins = cuts.begins;
 }
 
-reach_next : (n : Network) (p : Property) (bytes : List ℕ) (form : Form) (wanted : List Form) (done : ℕ) (text line rest : List ℕ)
-    → Reaches n p bytes (form ∷ wanted) done text → LeadsTo 10 text line rest → Fills form line → Reaches n p bytes wanted (done + 1) rest
-reach_next n p bytes form wanted done text line rest reach leads fills = record {
+reach_next : (whole : List Form) (bytes : List ℕ) (form : Form) (wanted : List Form) (done : ℕ) (text line rest : List ℕ)
+    → Reaches whole bytes (form ∷ wanted) done text → LeadsTo 10 text line rest → Fills form line → Reaches whole bytes wanted (done + 1) rest
+reach_next whole bytes form wanted done text line rest reach leads fills = record {
   fails = λ k h.
       let later = first_later form wanted line (lines_after rest) k fills h in
       let at = reach.fails (suc k) (subst (λ ls. IsFirstWrong (form ∷ wanted) ls (suc k)) (sym (next_lines text line rest leads)) later) in
-      subst (λ m. IsFirstWrong (forms n p) (lines_of bytes) m) (omega arith) at;
+      subst (λ m. IsFirstWrong whole (lines_of bytes) m) (omega arith) at;
   begins = leads.begins;
 }
 
 -- the line that comes next is right
-pub reach_on : (n : Network) (p : Property) (bytes : List ℕ) (form : Form) (wanted : List Form) (done : ℕ) (text rest : List ℕ)
-    → Reaches n p bytes (form ∷ wanted) done text → LeadsOn (Fills form) text rest → Reaches n p bytes wanted (done + 1) rest
-reach_on n p bytes form wanted done text rest reach h = reach_next n p bytes form wanted done text h.line rest reach h.leads h.right
+pub reach_on : (whole : List Form) (bytes : List ℕ) (form : Form) (wanted : List Form) (done : ℕ) (text rest : List ℕ)
+    → Reaches whole bytes (form ∷ wanted) done text → LeadsOn (Fills form) text rest → Reaches whole bytes wanted (done + 1) rest
+reach_on whole bytes form wanted done text rest reach h = reach_next whole bytes form wanted done text h.line rest reach h.leads h.right
 
 -- no line follows
-stop_missing : (n : Network) (p : Property) (bytes : List ℕ) (form : Form) (wanted : List Form) (done : ℕ) (text : List ℕ)
-    → Reaches n p bytes (form ∷ wanted) done text → ((rest : List ℕ) → text ≡ 10 ∷ rest → ⊥) → IsWrongLine n p bytes (done + 1)
+stop_missing : (whole : List Form) (bytes : List ℕ) (form : Form) (wanted : List Form) (done : ℕ) (text : List ℕ)
+    → Reaches whole bytes (form ∷ wanted) done text → ((rest : List ℕ) → text ≡ 10 ∷ rest → ⊥) → IsFirstWrongLine whole bytes (done + 1)
 unfolding lines_after
-stop_missing n p bytes form wanted done text reach none = (done, refl, at)
+stop_missing whole bytes form wanted done text reach none = (done, refl, at)
   where
     missing : IsFirstWrong (form ∷ wanted) (lines_after text) 0
     missing =
@@ -133,41 +133,41 @@ stop_missing n p bytes form wanted done text reach none = (done, refl, at)
           | inr more ↦ absurd (none more.0 more.1)
         ]
 
-    at : IsFirstWrong (forms n p) (lines_of bytes) done
-    at = subst (λ m. IsFirstWrong (forms n p) (lines_of bytes) m) (omega arith) (reach.fails 0 missing)
+    at : IsFirstWrong whole (lines_of bytes) done
+    at = subst (λ m. IsFirstWrong whole (lines_of bytes) m) (omega arith) (reach.fails 0 missing)
 
 -- the line that follows isn't right
-stop_unfilled : (n : Network) (p : Property) (bytes : List ℕ) (form : Form) (wanted : List Form) (done : ℕ) (text line rest : List ℕ)
-    → Reaches n p bytes (form ∷ wanted) done text → LeadsTo 10 text line rest → (Fills form line → ⊥) → IsWrongLine n p bytes (done + 1)
-stop_unfilled n p bytes form wanted done text line rest reach leads wrong = (done, refl, at)
+stop_unfilled : (whole : List Form) (bytes : List ℕ) (form : Form) (wanted : List Form) (done : ℕ) (text line rest : List ℕ)
+    → Reaches whole bytes (form ∷ wanted) done text → LeadsTo 10 text line rest → (Fills form line → ⊥) → IsFirstWrongLine whole bytes (done + 1)
+stop_unfilled whole bytes form wanted done text line rest reach leads wrong = (done, refl, at)
   where
     unfilled : IsFirstWrong (form ∷ wanted) (lines_after text) 0
     unfilled =
         subst (λ ls. IsFirstWrong (form ∷ wanted) ls 0) (sym (next_lines text line rest leads))
         (first_here (form ∷ wanted) (line ∷ lines_after rest) wrong)
 
-    at : IsFirstWrong (forms n p) (lines_of bytes) done
-    at = subst (λ m. IsFirstWrong (forms n p) (lines_of bytes) m) (omega arith) (reach.fails 0 unfilled)
+    at : IsFirstWrong whole (lines_of bytes) done
+    at = subst (λ m. IsFirstWrong whole (lines_of bytes) m) (omega arith) (reach.fails 0 unfilled)
 
 -- no right line comes next
-pub stop_at : (n : Network) (p : Property) (bytes : List ℕ) (form : Form) (wanted : List Form) (done : ℕ) (text : List ℕ)
-    → Reaches n p bytes (form ∷ wanted) done text → StopsAt (Fills form) text → IsWrongLine n p bytes (done + 1)
-stop_at n p bytes form wanted done text reach (inl none) = stop_missing n p bytes form wanted done text reach none
-stop_at n p bytes form wanted done text reach (inr (rest, other)) = stop_unfilled n p bytes form wanted done text other.line rest reach other.leads other.right
+pub stop_at : (whole : List Form) (bytes : List ℕ) (form : Form) (wanted : List Form) (done : ℕ) (text : List ℕ)
+    → Reaches whole bytes (form ∷ wanted) done text → StopsAt (Fills form) text → IsFirstWrongLine whole bytes (done + 1)
+stop_at whole bytes form wanted done text reach (inl none) = stop_missing whole bytes form wanted done text reach none
+stop_at whole bytes form wanted done text reach (inr (rest, other)) = stop_unfilled whole bytes form wanted done text other.line rest reach other.leads other.right
 
 -- of two lines that are to come next one isn't right
-pub stop_in_two : (n : Network) (p : Property) (bytes : List ℕ) (first second : Form) (wanted : List Form) (done : ℕ) (text : List ℕ) (line : ℕ)
-    → Reaches n p bytes (first ∷ second ∷ wanted) done text → StopsInTwo (done + 1) (Fills first) (Fills second) text line → IsWrongLine n p bytes line
-stop_in_two n p bytes first second wanted done text line reach (inl (is, stops)) =
-    subst (λ k. IsWrongLine n p bytes k) (sym is) (stop_at n p bytes first (second ∷ wanted) done text reach stops)
-stop_in_two n p bytes first second wanted done text line reach (inr (is, more)) =
-    subst (λ k. IsWrongLine n p bytes k) (sym is)
-    (stop_at n p bytes second wanted (done + 1) more.0 (reach_on n p bytes first (second ∷ wanted) done text more.0 reach more.1) more.2)
+pub stop_in_two : (whole : List Form) (bytes : List ℕ) (first second : Form) (wanted : List Form) (done : ℕ) (text : List ℕ) (line : ℕ)
+    → Reaches whole bytes (first ∷ second ∷ wanted) done text → StopsInTwo (done + 1) (Fills first) (Fills second) text line → IsFirstWrongLine whole bytes line
+stop_in_two whole bytes first second wanted done text line reach (inl (is, stops)) =
+    subst (λ k. IsFirstWrongLine whole bytes k) (sym is) (stop_at whole bytes first (second ∷ wanted) done text reach stops)
+stop_in_two whole bytes first second wanted done text line reach (inr (is, more)) =
+    subst (λ k. IsFirstWrongLine whole bytes k) (sym is)
+    (stop_at whole bytes second wanted (done + 1) more.0 (reach_on whole bytes first (second ∷ wanted) done text more.0 reach more.1) more.2)
 
 -- the first line isn't right
-pub stop_first : (n : Network) (p : Property) (bytes : List ℕ) (form : Form) (wanted : List Form) (line rest : List ℕ)
-    → forms n p ≡ form ∷ wanted → CutsAt 10 bytes line rest → (Fills form line → ⊥) → IsWrongLine n p bytes 1
-stop_first n p bytes form wanted line rest are cuts wrong = (
+pub stop_first : (whole : List Form) (bytes : List ℕ) (form : Form) (wanted : List Form) (line rest : List ℕ)
+    → whole ≡ form ∷ wanted → CutsAt 10 bytes line rest → (Fills form line → ⊥) → IsFirstWrongLine whole bytes 1
+stop_first whole bytes form wanted line rest are cuts wrong = (
   0,
   refl,
   subst (λ fs. IsFirstWrong fs (lines_of bytes) 0) (sym are)
@@ -263,10 +263,10 @@ blank_earlier lines (suc k) h = (
 )
 
 -- blank lines follow, and then one that isn't
-pub stop_blank : (n : Network) (p : Property) (bytes : List ℕ) (done : ℕ) (text : List ℕ) (feeds : ℕ)
-    → Reaches n p bytes [] done text → HasByteAfter text feeds → IsWrongLine n p bytes (done + feeds)
+pub stop_blank : (whole : List Form) (bytes : List ℕ) (done : ℕ) (text : List ℕ) (feeds : ℕ)
+    → Reaches whole bytes [] done text → HasByteAfter text feeds → IsFirstWrongLine whole bytes (done + feeds)
 unfolding lines_after
-stop_blank n p bytes done text feeds reach h = at (blank_earlier (lines_after text) feeds after)
+stop_blank whole bytes done text feeds reach h = at (blank_earlier (lines_after text) feeds after)
   where
     some_byte : (front : List ℕ) (byte : ℕ) (rest : List ℕ) → [] ≡ front ++ byte ∷ rest → ⊥
     some_byte [] byte rest e = cc
@@ -285,7 +285,7 @@ stop_blank n p bytes done text feeds reach h = at (blank_earlier (lines_after te
               subst (λ t. IsFirstWrong [] ([] ∷ lines_after t) feeds) (sym more.1) (subst (λ t. IsFirstWrong [] (lines_of t) feeds) more.1 wrong)
         ]
 
-    at : (k : ℕ) × (feeds ≡ suc k) × IsFirstWrong [] (lines_after text) k → IsWrongLine n p bytes (done + feeds)
+    at : (k : ℕ) × (feeds ≡ suc k) × IsFirstWrong [] (lines_after text) k → IsFirstWrongLine whole bytes (done + feeds)
     at (k, is, first) = (done + k, omega arith, reach.fails k first)
 
 blank_onto_right : (byte : ℕ) (lines : List (List ℕ)) → IsBlank byte → ((k : ℕ) → IsRightAt [] lines k) → (k : ℕ) → IsRightAt [] (onto_first byte lines) k
@@ -310,3 +310,43 @@ blank_right (b ∷ text) blank k =
     onto : (k : ℕ) → ((k : ℕ) → IsRightAt [] (lines_of text) k) → IsRightAt [] ([] ∷ lines_of text) k
     onto zero right = All-nil IsBlank
     onto (suc k) right = blank_outer [] (lines_of text) k (right k)
+
+-- the lines of loads and rooms come next
+pub reach_ends : (whole : List Form) (bytes : List ℕ) (n : Network) (wanted : List Form) (done : ℕ) (text rest : List ℕ) (loads rooms : List Ratio)
+    → Reaches whole bytes (numbers (codes "load") n.inputs ∷ numbers (codes "room") n.outputs ∷ wanted) done text → IsEnds n text loads rooms rest
+    → Reaches whole bytes wanted (done + 1 + 1) rest
+reach_ends whole bytes n wanted done text rest loads rooms reach h =
+    reach_on whole bytes (numbers (codes "room") n.outputs) wanted (done + 1) h.middle rest
+    (reach_on whole bytes (numbers (codes "load") n.inputs) (numbers (codes "room") n.outputs ∷ wanted) done text h.middle reach
+    (record { line = h.load_line.line; leads = h.load_line.leads; right = (loads, h.load_line.right) }))
+    (record { line = h.room_line.line; leads = h.room_line.leads; right = (rooms, h.room_line.right) })
+
+-- the lines of flows and marks come next
+pub reach_edges : (whole : List Form) (bytes : List ℕ) (n : Network) (wanted : List Form) (done : ℕ) (text rest : List ℕ) (flows : List Ratio) (backed : List Bool)
+    → Reaches whole bytes (numbers (codes "flow") (length n.edges) ∷ marks (length n.edges) ∷ wanted) done text → IsEdges n text flows backed rest
+    → Reaches whole bytes wanted (done + 1 + 1) rest
+reach_edges whole bytes n wanted done text rest flows backed reach h =
+    reach_on whole bytes (marks (length n.edges)) wanted (done + 1) h.middle rest
+    (reach_on whole bytes (numbers (codes "flow") (length n.edges)) (marks (length n.edges) ∷ wanted) done text h.middle reach
+    (record { line = h.flow_line.line; leads = h.flow_line.leads; right = (flows, h.flow_line.right) }))
+    (record { line = h.mark_line.line; leads = h.mark_line.leads; right = (backed, h.mark_line.right) })
+
+-- the last line doesn't come next, or a byte follows it that isn't blank
+pub stop_end : (whole : List Form) (bytes : List ℕ) (done : ℕ) (text : List ℕ) (line : ℕ)
+    → Reaches whole bytes (just (codes "end") ∷ []) done text → StopsAtEnd (done + 1) text line → IsFirstWrongLine whole bytes line
+stop_end whole bytes done text line reach (inl (is, stops)) =
+    subst (λ k. IsFirstWrongLine whole bytes k) (sym is) (stop_at whole bytes (just (codes "end")) [] done text reach stops)
+stop_end whole bytes done text line reach (inr (feeds, is, more)) =
+    subst (λ k. IsFirstWrongLine whole bytes k) (sym is)
+    (stop_blank whole bytes (done + 1) more.rest feeds (reach_on whole bytes (just (codes "end")) [] done text more.rest reach more.ends) more.more)
+
+-- of a text one line is the first that isn't right
+pub one_wrong : (whole : List Form) (bytes : List ℕ) (one other : ℕ) → IsFirstWrongLine whole bytes one → IsFirstWrongLine whole bytes other → one ≡ other
+one_wrong whole bytes one other (k, is, first) (j, is', first') =
+    let not_below : k < j → ⊥ = λ below. first.wrong (first'.earlier k below) in
+    let not_above : j < k → ⊥ = λ below. first'.wrong (first.earlier j below) in
+    omega arith
+
+-- where every line is right, none is wrong
+pub right_none_wrong : (whole : List Form) (bytes : List ℕ) (wrong : ℕ) → AreRight whole (lines_of bytes) → IsFirstWrongLine whole bytes wrong → ⊥
+right_none_wrong whole bytes wrong right (k, is, first) = first.wrong (right.at k)

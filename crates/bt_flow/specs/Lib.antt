@@ -1,6 +1,7 @@
 pub mod States
 pub mod Steady
 pub mod EqualCaps
+pub mod SevenLaws
 pub mod Properties
 pub mod Tests
 pub mod Sums
@@ -10,4 +11,5 @@ pub mod Names
 pub mod StateText
 pub mod StateLines
 pub mod StateReading
+pub mod Parts
 pub mod inner

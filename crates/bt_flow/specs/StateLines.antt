@@ -67,7 +67,10 @@ pub record IsFirstWrong (wanted : List Form) (lines : List (List ℕ)) (k : ℕ)
   pub wrong : IsRightAt wanted lines k → ⊥
   pub earlier : (j : ℕ) → j < k → IsRightAt wanted lines j
 
--- the line with this number, from 1, is the first that isn't the one that belongs there in the text of a
--- state of the network for the property
+-- the line with this number, from 1, is the first of a text that isn't of the form that belongs there
+abbrev pub IsFirstWrongLine : List Form → List ℕ → ℕ → Type 0
+IsFirstWrongLine wanted bytes line = (k : ℕ) × (line ≡ k + 1) × IsFirstWrong wanted (lines_of bytes) k
+
+-- the same of the text of a state of the network for the property
 abbrev pub IsWrongLine : Network → Property → List ℕ → ℕ → Type 0
-IsWrongLine n p bytes line = (k : ℕ) × (line ≡ k + 1) × IsFirstWrong (forms n p) (lines_of bytes) k
+IsWrongLine n p bytes line = IsFirstWrongLine (forms n p) bytes line

@@ -17,6 +17,14 @@ mark_text false = codes "f"
 abbrev pub spaced : List (List ℕ) → List ℕ
 spaced words = flat_map (λ w. codes " " ++ w) words
 
+-- the line of the loads of a state, and that of its rooms
+abbrev pub ends_text : Fractions → List ℕ
+ends_text t = line (codes "load" ++ spaced (map frac_text t.loads)) ++ line (codes "room" ++ spaced (map frac_text t.rooms))
+
+-- the line of the flows of a state, and that of its marks
+abbrev pub edges_text : Fractions → List ℕ
+edges_text t = line (codes "flow" ++ spaced (map frac_text t.flows)) ++ line (codes "mark" ++ spaced (map mark_text t.backed))
+
 -- the six lines of a state for a property, the last without its line feed
 abbrev pub state_text : Property → Fractions → List ℕ
 state_text p t =

@@ -1,11 +1,11 @@
 //! Writing the text of a state, word by word, without memory.
-ghost use Rattle.std.specs.Prelude.{◌≡◌, ◌≤◌, ◌∷◌, ◌++◌, [], ℕ, List, take, codes};
+ghost use Rattle.std.specs.Prelude.{◌≡◌, ◌≤◌, ◌∷◌, ◌++◌, [], ℕ, List, map, take, codes};
 ghost use Rattle.bt_text.specs.Lines.{line};
 ghost use Rattle.bt_io.specs.Bytes.{WritesText};
 ghost use Rattle.bt_io.specs.Passages.{passage};
-ghost use Rattle.bt_flow.specs.StateText.{mark_text, printed_state};
+ghost use Rattle.bt_flow.specs.StateText.{mark_text, spaced, ends_text, edges_text, printed_state};
 ghost use Rattle.bt_flow.specs.StateReading.{PrintedStateIsRead};
-ghost use Rattle.bt_flow.specs.inner.Printing.{words, title_line, ends_text, edges_text};
+ghost use Rattle.bt_flow.specs.inner.Printing.{words, title_line, head_text};
 
 use crate::property::Property;
 use crate::state::State;
@@ -25,8 +25,9 @@ pub fn print_state<K: Sink>(
     ensures { WritesText (passage K.held K.faults sink.old sink.new)
         (printed_state property state.now) result }
 {
-    print_ends(state, property, sink)?;
-    print_edges(state, sink)
+    print_head(state, property, sink)?;
+    print_edges(state, sink)?;
+    write_all_of(sink, b"end\n")
 }
 
 /// What is written of a state is read as that state.
@@ -34,20 +35,28 @@ pub fn printed_state_is_read()
     ensures { PrintedStateIsRead }
 {}
 
-fn print_ends<K: Sink>(state: &State, property: Property, sink: &mut K) -> Result<(), WriteFault>
-    ensures { WritesText (passage K.held K.faults sink.old sink.new) (ends_text property state.now) result }
+/// Writes the line `load` of a state, with a fraction for each input, and the line `room`, with one for each output.
+pub fn print_ends<K: Sink>(state: &State, sink: &mut K) -> Result<(), WriteFault>
+    ensures { WritesText (passage K.held K.faults sink.old sink.new) (ends_text state.now) result }
 {
-    print_title(property, sink)?;
     print_line(b"load", state.loads(), sink)?;
     print_line(b"room", state.rooms(), sink)
 }
 
-fn print_edges<K: Sink>(state: &State, sink: &mut K) -> Result<(), WriteFault>
+/// Writes the line `flow` of a state, with a fraction for each edge, and the line `mark`, with `f` (free) or `b`
+/// (backed) for each.
+pub fn print_edges<K: Sink>(state: &State, sink: &mut K) -> Result<(), WriteFault>
     ensures { WritesText (passage K.held K.faults sink.old sink.new) (edges_text state.now) result }
 {
     print_line(b"flow", state.flows(), sink)?;
-    print_line(b"mark", state.backed(), sink)?;
-    write_all_of(sink, b"end\n")
+    print_line(b"mark", state.backed(), sink)
+}
+
+fn print_head<K: Sink>(state: &State, property: Property, sink: &mut K) -> Result<(), WriteFault>
+    ensures { WritesText (passage K.held K.faults sink.old sink.new) (head_text property state.now) result }
+{
+    print_title(property, sink)?;
+    print_ends(state, sink)
 }
 
 fn print_title<K: Sink>(property: Property, sink: &mut K) -> Result<(), WriteFault>
@@ -61,7 +70,7 @@ fn print_title<K: Sink>(property: Property, sink: &mut K) -> Result<(), WriteFau
 /// Writes a line: its name, and a word for each item.
 fn print_line<T: Spelled, K: Sink>(name: &[u8], items: &[T], sink: &mut K) -> Result<(), WriteFault>
     ensures { WritesText (passage K.held K.faults sink.old sink.new)
-        (line (name.now ++ words T.word items.now)) result }
+        (line (name.now ++ spaced (map T.word items.now))) result }
 {
     print_words(name, items, sink)?;
     write_all_of(sink, b"\n")

@@ -3,17 +3,18 @@ mod item;
 mod line;
 mod list;
 
-ghost use Rattle.std.specs.Prelude.{◌≡◌, ℕ, List, IfOk, IfErr};
+ghost use Rattle.std.specs.Prelude.{◌≡◌, ◌<◌, ◌^◌, ℕ, List, IfOk, IfErr};
 ghost use Rattle.bt_answers.specs.Answers.{Answers};
 ghost use Rattle.bt_flow.specs.declared.fault.StateFault.TheVariants.{Memory};
 ghost use Rattle.bt_flow.specs.States.{Fractions};
 ghost use Rattle.bt_flow.specs.StateText.{IsStateText};
 ghost use Rattle.bt_flow.specs.StateReading.{IsStateRead};
-ghost use Rattle.bt_flow.specs.inner.Lines.{IsFault, IsEnds, StopsInEnds, IsEdges, StopsInEdges};
+ghost use Rattle.bt_flow.specs.Parts.{IsFault, IsEnds, StopsInEnds, IsEdges, StopsInEdges};
 
 use crate::fault::StateFault;
 use crate::property::Property;
-use crate::reading::line::{FLOWS, LOADS, MARKS, ROOMS, after_title, read_end};
+pub use crate::reading::line::read_end;
+use crate::reading::line::{END, FLOWS, LOADS, ROOMS, after_title};
 use crate::reading::list::read_list;
 use crate::state::State;
 use bt_frac::Frac;
@@ -35,8 +36,8 @@ pub fn read_state(
 {
     let rest = after_title(bytes, property)?;
     let ends = read_ends(alloc, net, rest)?;
-    let edges = read_edges(alloc, net, ends.rest)?;
-    read_end(edges.rest)?;
+    let edges = read_edges(alloc, net, ends.rest, FLOWS)?;
+    read_end(edges.rest, END)?;
     Ok(State::new(edges.flows, edges.backed, ends.loads, ends.rooms))
 }
 
@@ -48,13 +49,18 @@ pub fn one_state()
 
 /// The loads and rooms of a state, and what follows their lines.
 #[derive(Drop)]
-struct Ends<'a> {
-    loads: Vec<Frac>,
-    rooms: Vec<Frac>,
-    rest: &'a [u8],
+pub struct Ends<'a> {
+    /// The load of each input.
+    pub loads: Vec<Frac>,
+    /// The room of each output.
+    pub rooms: Vec<Frac>,
+    /// What follows the two lines.
+    pub rest: &'a [u8],
 }
 
-fn read_ends<'a>(alloc: Global, net: &Net, text: &'a [u8]) -> Result<Ends<'a>, StateFault>
+/// The loads and rooms of a state that come next in a text, as lines 2 and 3 of it: the line `load`, with a fraction for
+/// each input, and the line `room`, with one for each output. `CertLine` names the first that isn't so or is missing.
+pub fn read_ends<'a>(alloc: Global, net: &Net, text: &'a [u8]) -> Result<Ends<'a>, StateFault>
     ensures ok { IfOk result (λ e. IsEnds net.now text.now e.loads.items e.rooms.items e.rest.now) }
     ensures err { IfErr result (IsFault (StopsInEnds net.now text.now)) }
 {
@@ -65,19 +71,31 @@ fn read_ends<'a>(alloc: Global, net: &Net, text: &'a [u8]) -> Result<Ends<'a>, S
 
 /// The flows and marks of a state, and what follows their lines.
 #[derive(Drop)]
-struct Edges<'a> {
-    flows: Vec<Frac>,
-    backed: Vec<bool>,
-    rest: &'a [u8],
+pub struct Edges<'a> {
+    /// The flow of each edge.
+    pub flows: Vec<Frac>,
+    /// Whether each edge is backed.
+    pub backed: Vec<bool>,
+    /// What follows the two lines.
+    pub rest: &'a [u8],
 }
 
-fn read_edges<'a>(alloc: Global, net: &Net, text: &'a [u8]) -> Result<Edges<'a>, StateFault>
+/// The flows and marks of a state that come next in a text, as lines of which the first has this number: the line
+/// `flow`, with a fraction for each edge, and the line `mark`, with `f` (free) or `b` (backed) for each. `CertLine`
+/// names the first that isn't so or is missing.
+pub fn read_edges<'a>(
+    alloc: Global,
+    net: &Net,
+    text: &'a [u8],
+    number: usize,
+) -> Result<Edges<'a>, StateFault>
+    requires { number < 2 ^ 32 }
     ensures ok { IfOk result (λ e. IsEdges net.now text.now e.flows.items e.backed.items e.rest.now) }
-    ensures err { IfErr result (IsFault (StopsInEdges net.now text.now)) }
+    ensures err { IfErr result (IsFault (StopsInEdges net.now number text.now)) }
 {
     let count = net.edges().len();
-    let (flows, rest) = read_list(alloc, text, FLOWS, b"flow", count)?;
-    let (backed, rest) = read_list(alloc, rest, MARKS, b"mark", count)?;
+    let (flows, rest) = read_list(alloc, text, number, b"flow", count)?;
+    let (backed, rest) = read_list(alloc, rest, number + 1, b"mark", count)?;
     Ok(Edges {
         flows,
         backed,

@@ -4,6 +4,7 @@ ghost use Rattle.bt_net.specs.Network.{Network};
 ghost use Rattle.bt_flow.specs.declared.property.Property.{Property};
 ghost use Rattle.bt_flow.specs.States.{Flows, Fractions, AreLowest, StandsFor, Fits};
 ghost use Rattle.bt_flow.specs.EqualCaps.{EqualCapsEven};
+ghost use Rattle.bt_flow.specs.SevenLaws.{SevenLawsAreAll};
 ghost use Rattle.bt_flow.specs.Properties.{Holds, Breaks};
 
 use crate::judgement::{FIRST_LAW, LAST_LAW, LAST_TEST};
@@ -18,6 +19,12 @@ pub fn has_flows()
 /// other edge. So the steady states are those of the laws without that leave.
 pub fn equal_caps_even()
     ensures { EqualCapsEven }
+{}
+
+/// Where no splitter prefers an edge, the steady states are those that keep the seven laws of Couëtoux, Gastaldi and
+/// Naves, which say nothing of preferred edges.
+pub fn seven_laws()
+    ensures { SevenLawsAreAll }
 {}
 
 /// A network has a property exactly where no state breaks it.

@@ -1,11 +1,11 @@
 //! The lines of a state's text: their numbers, and those that hold no list, the first and the last.
-ghost use Rattle.std.specs.Prelude.{◌≡◌, ◌≤◌, ◌∷◌, ◌++◌, ◌↔◌, ℕ, List, IsTrue, IfOk, IfErr, IfSome, IfNone};
+ghost use Rattle.std.specs.Prelude.{◌≡◌, ◌≤◌, ◌<◌, ◌^◌, ◌∷◌, ◌++◌, ◌↔◌, ℕ, List, IsTrue, IfOk, IfErr, IfSome, IfNone};
 ghost use Rattle.std.specs.Prelude.{All, codes, length};
 ghost use Rattle.bt_text.specs.Blanks.{IsBlank};
 ghost use Rattle.bt_text.specs.Pieces.{LeadsTo};
 ghost use Rattle.bt_flow.specs.Names.{property_name};
-ghost use Rattle.bt_flow.specs.inner.Lines.{IsLineFault, IsFault, IsTitled, StopsAtTitle};
-ghost use Rattle.bt_flow.specs.inner.Lines.{Closes, StopsAtEnd, HasByteAfter};
+ghost use Rattle.bt_flow.specs.Parts.{IsFault, Closes, StopsAtEnd, HasByteAfter};
+ghost use Rattle.bt_flow.specs.inner.Lines.{IsLineFault, IsTitled, StopsAtTitle};
 
 use crate::fault::StateFault;
 use crate::property::Property;
@@ -20,11 +20,8 @@ pub const LOADS: usize = 2;
 /// The number of the line of rooms.
 pub const ROOMS: usize = 3;
 
-/// The number of the line of flows.
+/// The number of the line of flows. That of marks comes next.
 pub const FLOWS: usize = 4;
-
-/// The number of the line of marks.
-pub const MARKS: usize = 5;
 
 /// The number of the last line.
 pub const END: usize = 6;
@@ -42,8 +39,9 @@ pub fn next_line(text: &[u8], number: usize) -> Result<(&[u8], &[u8]), StateFaul
 
 /// What follows the first line of a text, which says that the property is broken.
 pub fn after_title(text: &[u8], property: Property) -> Result<&[u8], StateFault>
-    ensures ok { IfOk result (λ rest. IsTitled property text.now rest.now) }
-    ensures err { IfErr result (IsLineFault TITLE (StopsAtTitle property text.now)) }
+    ensures ok { IfOk result (λ rest. IsTitled (codes "no " ++ property_name property) text.now rest.now) }
+    ensures err { IfErr result
+        (IsLineFault TITLE (StopsAtTitle (codes "no " ++ property_name property) text.now)) }
 {
     let (title, rest) = cut(text, b'\n');
     if is_title(title, property) {
@@ -70,17 +68,19 @@ fn is_name(word: &[u8], property: Property) -> bool
     word == property.name().as_bytes()
 }
 
-/// Passes the line `end`, after which only blanks stand.
-pub fn read_end(text: &[u8]) -> Result<(), StateFault>
+/// Passes the line `end` that comes next in a text and has this number, after which only blanks stand. `CertLine` names
+/// that line where it isn't so or is missing, or the first after it that isn't blank.
+pub fn read_end(text: &[u8], number: usize) -> Result<(), StateFault>
+    requires { number < 2 ^ 32 }
     ensures ok { IfOk result (λ _. Closes text.now) }
-    ensures err { IfErr result (IsFault (StopsAtEnd text.now)) }
+    ensures err { IfErr result (IsFault (StopsAtEnd number text.now)) }
 {
-    let (line, rest) = next_line(text, END)?;
+    let (line, rest) = next_line(text, number)?;
     if line != b"end".as_slice() {
-        return Err(StateFault::CertLine(END));
+        return Err(StateFault::CertLine(number));
     }
     match feeds_before_byte(rest) {
-        Some(feeds) => Err(StateFault::CertLine(END + feeds)),
+        Some(feeds) => Err(StateFault::CertLine(number + feeds)),
         None => Ok(()),
     }
 }

@@ -1,7 +1,8 @@
 //! The lines of a state's text that hold a list: a word, and so many items, each after a space.
 ghost use Rattle.std.specs.Prelude.{◌≡◌, ℕ, List, IfOk, IfErr, IfSome, IfNone};
 ghost use Rattle.bt_flow.specs.StateLines.{SpellsItems, Follows};
-ghost use Rattle.bt_flow.specs.inner.Lines.{IsLineFault, IsListLine, StopsAtList, LeadsToItem, HaveNoSpace};
+ghost use Rattle.bt_flow.specs.Parts.{IsListLine};
+ghost use Rattle.bt_flow.specs.inner.Lines.{IsLineFault, StopsAtList, LeadsToItem, HaveNoSpace};
 
 use crate::fault::StateFault;
 use crate::reading::item::Item;

@@ -3,7 +3,8 @@ use Rattle.std.proofs.lemmas.Result.{err_from_is_err_and}
 use Rattle.bt_frac.specs.Ratio.{IsLowest}
 use Rattle.bt_frac.specs.Texts.{frac_text}
 use Rattle.bt_flow.specs.StateLines.{Fills, numbers}
-use Rattle.bt_flow.specs.inner.Lines.{IsLineFault, IsListLine, StopsAtList}
+use Rattle.bt_flow.specs.Parts.{IsListLine}
+use Rattle.bt_flow.specs.inner.Lines.{IsLineFault, StopsAtList}
 use Rattle.bt_flow.proofs.FracTexts.{frac_text_lacks}
 use Rattle.bt_flow.proofs.Faults.{refused_second, some_items}
 use Rattle.bt_flow.proofs.reading.read_ends.Goals as goal

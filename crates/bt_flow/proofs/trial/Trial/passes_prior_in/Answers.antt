@@ -2,7 +2,6 @@ use Rattle.std.proofs.Common.{◌<◌, true, false, length, get_or, sym, subst}
 use Rattle.bt_flow.specs.declared.judgement.Test.TheVariants as test
 use Rattle.bt_flow.specs.declared.ports.Port.TheVariants.{Unused}
 use Rattle.bt_flow.specs.declared.ports.Role.TheVariants.{Into}
-use Rattle.bt_flow.specs.inner.AtPorts.{ComesFirstAt}
 use Rattle.bt_flow.specs.inner.Trials.{Decides}
 use Rattle.bt_flow.proofs.Adding.{no_edge}
 use Rattle.bt_flow.proofs.Each.{port_within}

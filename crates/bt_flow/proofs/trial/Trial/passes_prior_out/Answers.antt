@@ -1,8 +1,7 @@
-use Rattle.std.proofs.Common.{◌<◌, true, false, length, get_or, sym, subst}
+use Rattle.std.proofs.Common.{◌<◌, true, length, get_or, sym, subst}
 use Rattle.bt_flow.specs.declared.judgement.Test.TheVariants as test
 use Rattle.bt_flow.specs.declared.ports.Port.TheVariants.{Unused}
 use Rattle.bt_flow.specs.declared.ports.Role.TheVariants.{OutOf}
-use Rattle.bt_flow.specs.inner.AtPorts.{ComesFirstAt}
 use Rattle.bt_flow.specs.inner.Trials.{Decides}
 use Rattle.bt_flow.proofs.Adding.{no_edge}
 use Rattle.bt_flow.proofs.Each.{port_within}
