@@ -1,6 +1,7 @@
 -- What choosers are asked, and what they tell of the clauses that they were told.
-use Rattle.std.specs.Prelude.{◌≡◌, ℕ, ◌<◌, List, [], ◌∷◌, ◌++◌, Option, Some, None}
+use Rattle.std.specs.Prelude.{◌≡◌, ◌⊎◌, ℕ, ◌<◌, Bool, List, [], ◌∷◌, ◌++◌, Option, Some, None, Contains, slice_get}
 use Rattle.std.specs.List.{All}
+use Rattle.bt_cnf.specs.declared.chooser.Pick.{Pick}
 
 -- each number is below all that follow
 abbrev pub Ascends : List ℕ → Type 0
@@ -13,3 +14,13 @@ Gains None None more = Unit {0}
 Gains None (Some new) more = ⊥
 Gains (Some old) None more = ⊥
 Gains (Some old) (Some new) more = new ≡ old ++ more
+
+-- the first of the variables that is unset is picked, and set by its sign
+abbrev pub PicksFirst : (ℕ → Bool) → List ℕ → List ℕ → Pick → Type 0
+PicksFirst sign [] unset pick = ⊥
+PicksFirst sign (v ∷ vars) unset pick =
+    ((slice_get unset pick.place ≡ Some v) × (pick.positive ≡ sign v)) ⊎ ((Contains unset v → ⊥) × PicksFirst sign vars unset pick)
+
+-- whichever of the variables are unset, the first one of these may be picked, and set by its sign
+abbrev pub AreInPickOrder : (List ℕ → Pick → Type 0) → (ℕ → Bool) → List ℕ → Type 0
+AreInPickOrder may_pick sign vars = (unset : List ℕ) (pick : Pick) → Ascends unset → All (Contains vars) unset → PicksFirst sign vars unset pick → may_pick unset pick

@@ -1,7 +1,8 @@
 //! Choosers, which a search asks which variable to set next, and tells which clauses it learnt.
-ghost use Rattle.std.specs.Prelude.{◌≡◌, ◌<◌, ℕ, List, [], ◌∷◌, length, OnOk, OnErr};
+ghost use Rattle.std.specs.Prelude.{◌≡◌, ◌<◌, ℕ, Bool, false, List, [], ◌∷◌, length, IfSome, IsTrue, OnOk, OnErr};
+ghost use Rattle.std.specs.List.Sorted.{IsPermutation};
 ghost use Rattle.std.specs.declared.option.Option.{Option};
-ghost use Rattle.bt_cnf.specs.Choosing.{Ascends, Gains};
+ghost use Rattle.bt_cnf.specs.Choosing.{AreInPickOrder, Ascends, Gains};
 ghost use Rattle.bt_cnf.specs.declared.chooser.Pick.{Pick};
 
 use crate::literal::{Lit, Var};
@@ -24,6 +25,9 @@ pub trait Chooser: Drop {
     /// What it may pick among unset variables. Where nothing is said, it may pick any.
     ghost may_pick: { Self → List ℕ → Pick → Type 0 } = { λ _ _ _. Unit {0} };
 
+    /// How it sets each variable, where it has an order of variables.
+    ghost sign_of: { Self → ℕ → Bool } = { λ _ _. false };
+
     /// Chooses among the unset variables, of which there is at least one, and which ascend.
     fn pick(&mut self, unset: &[Var]) -> Pick
         requires some { 0 < length unset.now }
@@ -37,6 +41,22 @@ pub trait Chooser: Drop {
         ensures gains { OnOk result
             (Gains (told_lengths self.old) (told_lengths self.new) (length clause.now ∷ [])) }
         ensures keeps { OnErr result (told_lengths self.new ≡ told_lengths self.old) };
+
+    /// Puts variables in the order in which it picks them, and tells whether it has one: until it is told of
+    /// a clause, it may pick the first of them that is unset, whichever are. By default it has none.
+    fn arrange(&self, _vars: &mut [Var]) -> bool
+        ensures same { IsPermutation _vars.old _vars.new }
+        ensures picks { IsTrue result → AreInPickOrder (may_pick self.now) (sign_of self.now) _vars.new }
+    {
+        false
+    }
+
+    /// How it sets a variable of such an order, where it has one.
+    fn sign(&self, _var: Var) -> Option<bool>
+        ensures { IfSome result (λ sign. sign ≡ sign_of self.now _var) }
+    {
+        None
+    }
 }
 
 // A box asks and tells the chooser in it.
@@ -45,11 +65,21 @@ impl Chooser for Box<dyn Chooser> {
 
     ghost may_pick = { λ b. (Chooser-box b).may_pick b.value };
 
+    ghost sign_of = { λ b. (Chooser-box b).sign_of b.value };
+
     fn pick(&mut self, unset: &[Var]) -> Pick {
         (**self).pick(unset)
     }
 
     fn told(&mut self, clause: &[Lit]) -> Result<(), AllocError> {
         (**self).told(clause)
+    }
+
+    fn arrange(&self, vars: &mut [Var]) -> bool {
+        (**self).arrange(vars)
+    }
+
+    fn sign(&self, var: Var) -> Option<bool> {
+        (**self).sign(var)
     }
 }

@@ -10,12 +10,12 @@ use Rattle.bt_cnf.specs.declared.literal.Lit.{Lit}
 use Rattle.bt_log.specs.Units.{opposite}
 use Rattle.bt_sat.specs.declared.search.Search.{Search}
 use Rattle.bt_sat.specs.inner.Attending.{first, second}
-use Rattle.bt_sat.specs.inner.Choices.{IsUnset, AddsUnset, AreUnset, BeginsLevel}
+use Rattle.bt_sat.specs.inner.Choices.{AddsUnset, AreUnset, BeginsLevel}
 use Rattle.bt_sat.specs.inner.Keeping.{kept_at, AreTrue, AreWatched, IsAtRest}
 use Rattle.bt_sat.specs.inner.Levels.{start_of, front_of, AreLevels, IsOrdered, IsHeld, among_watched, alone, IsReady}
 use Rattle.bt_sat.specs.inner.Propagating.{IsWhole, root_of}
 use Rattle.bt_sat.specs.inner.Reasons.{AreReasons, AreSame}
-use Rattle.bt_sat.specs.inner.Truths.{IsTrueIn, IsFalseIn, unset}
+use Rattle.bt_sat.specs.inner.Truths.{IsTrueIn, IsFalseIn, IsUnset, unset}
 use Rattle.bt_sat.proofs.Advancing.{room_kept}
 use Rattle.bt_sat.proofs.Backjumped.{take_all_of, take_in}
 use Rattle.bt_sat.proofs.Deriving.{lt_or}

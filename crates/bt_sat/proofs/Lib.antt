@@ -33,6 +33,7 @@ pub mod Roots
 pub mod Scores
 pub mod Served
 pub mod Settled
+pub mod Sifting
 pub mod Taken
 pub mod Visiting
 pub mod Watches

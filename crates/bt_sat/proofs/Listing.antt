@@ -1,22 +1,24 @@
--- The list of the variables that have no value.
-use Rattle.std.proofs.Common.{◌≡◌, ◌≢◌, ℕ, zero, suc, ◌<◌, arith, Bool, true, false, cond, List, [], ◌∷◌, ◌++◌, ◌⊎◌, inl, inr, length, get_or, sym, subst, refl, ap, ◌∙◌, Option, None, Some, length-append}
+-- The order of variables, which has those that have no value.
+use Rattle.std.proofs.Common.{◌≡◌, ℕ, zero, suc, ◌<◌, ◌≤◌, ◌+◌, arith, Bool, true, false, cond, List, [], ◌∷◌, ◌++◌, ◌⊎◌, inl, inr, length, length-append, length-set, drop, get_or, sym, subst, refl, ap, ◌∙◌, Option, None, Some}
 use Rattle.std.specs.Prelude.{Contains, slice_set}
-use Rattle.std.specs.List.{filter, remove}
+use Rattle.std.specs.List.{filter}
+use Rattle.std.specs.List.Sorted.{IsPermutation}
 use Rattle.std.specs.Option.{is_none}
-use Rattle.std.specs.Global.{Vec}
 use Rattle.std.proofs.lemmas.Grind.{get_or-set_at}
-use Rattle.std.proofs.lemmas.List.{append-nil, get_or-set_other}
-use Rattle.std.proofs.lemmas.List.Elements.{All-contains, All-filter, filter_passes, Contains-append_left}
-use Rattle.bt_cnf.specs.Choosing.{Ascends}
+use Rattle.std.proofs.lemmas.List.{get_or-set_other}
+use Rattle.std.proofs.lemmas.List.Elements.{Contains-append_left, Contains-push}
+use Rattle.std.proofs.lemmas.List.Sorted.{Contains-permutation, length_permutation}
 use Rattle.bt_cnf.specs.declared.literal.Lit.{Lit}
 use Rattle.bt_sat.specs.declared.progress.Progress.{Progress}
-use Rattle.bt_sat.specs.inner.Choices.{IsUnset, is_unset, AreUnset, Covers, ListsUnset}
+use Rattle.bt_sat.specs.inner.Choices.{AreUnset, ListsUnset}
 use Rattle.bt_sat.specs.inner.Keeping.{AreTrue}
 use Rattle.bt_sat.specs.inner.Known.{clauses_in}
 use Rattle.bt_sat.specs.inner.Levels.{IsReady}
+use Rattle.bt_sat.specs.inner.Orders.{FindsUnset, HasFirst, HasUnset, IsAmong, IsLitAt, IsNext}
 use Rattle.bt_sat.specs.inner.Progressing.{Grows, IsRunning, Stands}
-use Rattle.bt_sat.proofs.Lists.{contains_here, contains_there, first_or, nat_or}
-use Rattle.bt_sat.proofs.Settled.{all_of}
+use Rattle.bt_sat.specs.inner.Truths.{IsUnset, LacksValue}
+use Rattle.bt_sat.proofs.Lists.{contains_here, contains_there, first_or, nat_or, none_in}
+use Rattle.bt_sat.proofs.Reasoning.{lt_or_eq}
 
 pub none_if : {X : Type 0} (o : Option X) → is_none o ≡ true → o ≡ None
 none_if None is = refl
@@ -46,80 +48,75 @@ module _ (p : ℕ → Bool) where
       differ : true ≡ false → ⊥
       differ e = cc
 
-  -- what is kept ascends still
-  kept_ascends : (xs : List ℕ) → Ascends xs → Ascends (filter p xs)
-  kept_ascends [] ascends = ascends
-  kept_ascends (x ∷ xs) ascends =
-      either Ascends (p x) (x ∷ filter p xs) (filter p xs) (λ on. (All-filter p (λ m. x < m) xs ascends.0, kept_ascends xs ascends.1)) (λ off. kept_ascends xs ascends.1)
-
-  -- all are kept where all pass
-  all_kept : (xs : List ℕ) → ((v : ℕ) → Contains xs v → p v ≡ true) → filter p xs ≡ xs
-  all_kept [] passes = refl
-  all_kept (x ∷ xs) passes =
-      ap (λ b. cond b (x ∷ filter p xs) (filter p xs)) (passes x (contains_here x x xs refl)) ∙ ap (λ ys. x ∷ ys) (all_kept xs (λ v among. passes v (contains_there x v xs among)))
-
-  -- all but one are kept where all but that one pass
-  filter_removes : (xs : List ℕ) (i var : ℕ) → Ascends xs → i < length xs → get_or xs i var ≡ var → p var ≡ false → ((v : ℕ) → Contains xs v → v ≢ var → p v ≡ true) → filter p xs ≡ remove xs i
-  filter_removes [] i var ascends small is fails others = absurd (omega (arith, small))
-  filter_removes (x ∷ xs) zero var ascends small is fails others =
-      ap (λ b. cond b (x ∷ filter p xs) (filter p xs)) (ap p is ∙ fails)
-      ∙ all_kept xs (λ v among. others v (contains_there x v xs among) (λ e. absurd (omega (arith, All-contains (λ m. x < m) xs v ascends.0 among, is, e))))
-  filter_removes (x ∷ xs) (suc i) var ascends small is fails others =
-      let later : i < length xs = omega (arith, small) in
-      ap (λ b. cond b (x ∷ filter p xs) (filter p xs)) (others x (contains_here x x xs refl) (λ e. absurd (omega (arith, All-contains (λ m. x < m) xs var ascends.0 (i, later, is), e))))
-      ∙ ap (λ ys. x ∷ ys) (filter_removes xs i var ascends.1 later is fails (λ v among. others v (contains_there x v xs among)))
-
--- of a list that has all that have no value, those that have none are left
-pub covers_filter : (values : List (Option Bool)) (count : ℕ) (vars : List ℕ) → Covers values count vars → AreUnset values count (filter (is_unset values) vars)
-covers_filter values count vars covers = record {
-  ascends = kept_ascends (is_unset values) vars covers.ascends;
-  are = λ v among. (
-    All-contains (λ m. m < count) (filter (is_unset values) vars) v (All-filter (is_unset values) (λ m. m < count) vars covers.below) among,
-    none_if (get_or values v None) (All-contains (λ m. is_unset values m ≡ true) (filter (is_unset values) vars) v (filter_passes (is_unset values) vars) among),
-  );
-  complete = λ v small none. passes_kept (is_unset values) vars v (ap is_none none) (covers.complete v small none);
-}
-
--- a list of the variables that have no value has all that have none
-lists_cover : (values : List (Option Bool)) (count : ℕ) (vars : List ℕ) → AreUnset values count vars → Covers values count vars
-lists_cover values count vars are = record {
-  ascends = are.ascends;
-  below = all_of (λ m. m < count) vars (λ m among. (are.are m among).0);
-  complete = are.complete;
-}
-
--- a list of the variables that have no value has all that have none once one of them was set
-set_covers : (values : List (Option Bool)) (vars : List ℕ) (var : ℕ) (value : Bool) → AreUnset values (length values) vars → Covers (slice_set values var (Some value)) (length values) vars
-set_covers values vars var value are = record {
-  ascends = are.ascends;
-  below = all_of (λ m. m < length values) vars (λ m among. (are.are m among).0);
-  complete = λ v small none. are.complete v small (was v small none);
-}
-  where
-    was : (v : ℕ) → v < length values → IsUnset (slice_set values var (Some value)) v → IsUnset values v
-    was v small none = elim (none_or (get_or values v None)) [
-      | inl unset ↦ unset
+-- a variable that has no value had none before one was set
+pub set_lacks : (values : List (Option Bool)) (var : ℕ) (value : Bool) (v : ℕ) → LacksValue (slice_set values var (Some value)) v → LacksValue values v
+set_lacks values var value v (small, none) =
+    let below : v < length values = omega (arith, small, length-set values var (Some value)) in
+    elim (none_or (get_or values v None)) [
+      | inl unset ↦ (below, unset)
       | inr (b, is) ↦ elim (nat_or v var) [
-        | inl same ↦ absurd (some_none value (sym (get_or-set_at values var v (Some value) None same (omega (arith, same, small))) ∙ none))
-        | inr other ↦ sym (get_or-set_other values var v (Some value) None other) ∙ none
+        | inl same ↦ absurd (some_none value (sym (get_or-set_at values var v (Some value) None same (omega (arith, same, below))) ∙ none))
+        | inr other ↦ (below, sym (get_or-set_other values var v (Some value) None other) ∙ none)
       ]
     ]
 
--- a list of the variables that have no value without the one of them that was set
-pub removed_lists : (values : List (Option Bool)) (vars : List ℕ) (place var : ℕ) (value : Bool) → AreUnset values (length values) vars → place < length vars
-    → get_or vars place var ≡ var → AreUnset (slice_set values var (Some value)) (length values) (remove vars place)
-removed_lists values vars place var value are inside is =
-    subst (AreUnset now (length values)) (filter_removes (is_unset now) vars place var are.ascends inside is (ap is_none (get_or-set_at values var var (Some value) None refl small)) others)
-    (covers_filter now (length values) vars (set_covers values vars var value are))
+-- those that have no value are still among these once one was set
+pub set_has : (values : List (Option Bool)) (vars : List ℕ) (var : ℕ) (value : Bool) → HasUnset values vars → HasUnset (slice_set values var (Some value)) vars
+set_has values vars var value has = λ v lacks. has v (set_lacks values var value v lacks)
+
+-- the first so many are among these with one more behind
+pub first_more : (vars : List ℕ) → HasFirst (length vars) vars → HasFirst (length (vars ++ length vars ∷ [])) (vars ++ length vars ∷ [])
+first_more vars has = λ v small. elim (lt_or_eq v (length vars) (omega (arith, small, length-append vars (length vars ∷ [])))) [
+  | inl earlier ↦ Contains-append_left vars (length vars ∷ []) v (has v earlier)
+  | inr same ↦ subst (Contains (vars ++ length vars ∷ [])) (sym same) (Contains-push vars (length vars))
+]
+
+-- one of those from a place on is the one there, or one of those behind it
+drop_or : (vars : List ℕ) (place v : ℕ) → place < length vars → Contains (drop place vars) v → (get_or vars place 0 ≡ v) ⊎ Contains (drop (suc place) vars) v
+drop_or [] place v small among = absurd (omega (arith, small))
+drop_or (x ∷ vars) zero v small among = first_or x v vars among
+drop_or (x ∷ vars) (suc place) v small among = drop_or vars place v (omega (arith, small)) among
+
+-- those from a place on are among all, in whatever order these are put
+pub left_permuted : (old new : List ℕ) (at : ℕ) → IsPermutation old new → (v : ℕ) → Contains (drop at old) v → Contains new v
+left_permuted old new at same v among = Contains-permutation old new v same (in_drop old at among)
   where
-    now : List (Option Bool)
-    now = slice_set values var (Some value)
+    in_drop : (xs : List ℕ) (n : ℕ) → Contains (drop n xs) v → Contains xs v
+    in_drop [] zero there = there
+    in_drop [] (suc n) there = there
+    in_drop (x ∷ xs) zero there = there
+    in_drop (x ∷ xs) (suc n) there = contains_there x v xs (in_drop xs n there)
 
-    small : var < length values
-    small = (are.are var (place, inside, is)).0
+-- the first so many are among all in whatever order these are put
+pub first_permuted : (old new : List ℕ) → IsPermutation old new → HasFirst (length old) old → HasFirst (length new) new
+first_permuted old new same has = λ v small. Contains-permutation old new v same (has v (omega (arith, small, length_permutation old new same)))
 
-    others : (v : ℕ) → Contains vars v → v ≢ var → is_unset now v ≡ true
-    others v among differs = ap is_none (get_or-set_other values var v (Some value) None differs ∙ (are.are v among).1)
+-- none is beyond the end
+pub none_beyond : (vars : List ℕ) (place v : ℕ) → length vars ≤ place → Contains (drop place vars) v → ⊥
+none_beyond [] zero v far among = none_in v among
+none_beyond [] (suc place) v far among = none_in v among
+none_beyond (x ∷ vars) zero v far among = absurd (omega (arith, far))
+none_beyond (x ∷ vars) (suc place) v far among = none_beyond vars place v (omega (arith, far)) among
+
+-- those from a place on that have no value are behind it where the one there has one
+pub pass_more : (values : List (Option Bool)) (vars : List ℕ) (from place : ℕ) → place < length vars → (LacksValue values (get_or vars place 0) → ⊥)
+    → ((v : ℕ) → LacksValue values v → Contains (drop from vars) v → Contains (drop place vars) v) → (v : ℕ) → LacksValue values v → Contains (drop from vars) v → Contains (drop (place + 1) vars) v
+pass_more values vars from place small has left v lacks among =
+    let e : suc place ≡ place + 1 = omega arith in
+    elim (drop_or vars place v small (left v lacks among)) [
+      | inl here ↦ absurd (has (subst (LacksValue values) (sym here) lacks))
+      | inr behind ↦ subst (λ n. Contains (drop n vars) v) e behind
+    ]
+
+-- the place that is found has a variable without a value, or all have one
+pub next_at : (values : List (Option Bool)) (vars : List ℕ) (from place : ℕ) (l : Option Lit) → FindsUnset values vars from place → HasUnset values (drop from vars) → IsLitAt vars place l → IsNext values l
+next_at values vars from place None finds has far = λ v lacks. none_beyond vars place v far (finds.left v lacks (has v lacks))
+next_at values vars from place (Some l) finds has (small, is) = subst (LacksValue values) is (finds.found l.var small)
+
+-- a literal of the variables that have no value, or all have one
+pub next_among : (values : List (Option Bool)) (vars : List ℕ) (l : Option Lit) → AreUnset values (length values) vars → IsAmong vars l → IsNext values l
+next_among values vars None are none = λ v lacks. none_in v (subst (λ vs. Contains vs v) none (are.complete v lacks.0 lacks.1))
+next_among values vars (Some l) are among = are.are l.var among
 
 -- a variable that has no value had none before literals were added to the trail
 pub unset_before : (old new : List (Option Bool)) (trail more : List Lit) → AreTrue old trail → AreTrue new (trail ++ more) → (v : ℕ) → IsUnset new v → IsUnset old v
@@ -135,46 +132,10 @@ truths_of p running none =
     let ready : IsReady (clauses_in p.known) p.settled p.search = subst (Stands (clauses_in p.known) p.settled p.search) none running.stands in
     ready.ordered.whole.truths
 
--- a variable that had no value has none where no literal was added to the trail
-unset_after : (old new : List (Option Bool)) (trail : List Lit) → AreTrue old trail → AreTrue new trail → (v : ℕ) → IsUnset old v → IsUnset new v
-unset_after old new trail before after v none = elim (none_or (get_or new v None)) [
-  | inl unset ↦ unset
-  | inr (b, is) ↦
-      let l : Lit = record { var = v; positive = b } in
-      absurd (some_none b (sym (before.true_in l (after.in_trail l is)) ∙ none))
-]
-
-none_more : (trail more : List Lit) → length (trail ++ more) ≡ length trail → trail ++ more ≡ trail
-none_more trail [] same = append-nil trail
-none_more trail (l ∷ more) same = absurd (omega (arith, same, length-append trail (l ∷ more)))
-
-module _ (old new : Progress) (running : IsRunning old) (goes : IsRunning new) (none : old.conflict ≡ None) (none_yet : new.conflict ≡ None)
-    (size : length new.search.assignment.values ≡ length old.search.assignment.values) (grows : Grows old new) (listed : ListsUnset old) where
-  after : AreTrue new.search.assignment.values (old.search.assignment.trail.items ++ grows.more)
-  after = subst (AreTrue new.search.assignment.values) grows.trail (truths_of new goes none_yet)
-
-  before : (v : ℕ) → IsUnset new.search.assignment.values v → IsUnset old.search.assignment.values v
-  before = unset_before old.search.assignment.values new.search.assignment.values old.search.assignment.trail.items grows.more (truths_of old running none) after
-
-  -- the list has all that have no value still once literals were added to the trail
-  pub grows_covers : Covers new.search.assignment.values (length new.search.assignment.values) new.unset.items
-  grows_covers =
-      let values = new.search.assignment.values in
-      let covers = lists_cover old.search.assignment.values (length old.search.assignment.values) old.unset.items listed in
-      subst (λ (v : Vec ℕ). Covers values (length values) v.items) (sym grows.unset) (subst (λ n. Covers values n old.unset.items) (sym size) (record {
-        ascends = covers.ascends;
-        below = covers.below;
-        complete = λ v small unset. covers.complete v small (before v unset);
-      }))
-
-  -- it has these alone where none was added
-  pub stays_listed : length new.search.assignment.trail.items ≡ length old.search.assignment.trail.items → ListsUnset new
-  stays_listed same =
-      let values = new.search.assignment.values in
-      let trail = old.search.assignment.trail.items in
-      let still : AreTrue values trail = subst (AreTrue values) (none_more trail grows.more (ap length (sym grows.trail) ∙ same)) after in
-      subst (λ (v : Vec ℕ). AreUnset values (length values) v.items) (sym grows.unset) (subst (λ n. AreUnset values n old.unset.items) (sym size) (record {
-        ascends = listed.ascends;
-        are = λ v among. ((listed.are v among).0, unset_after old.search.assignment.values values trail (truths_of old running none) still v (listed.are v among).1);
-        complete = λ v small unset. listed.complete v small (before v unset);
-      }))
+-- the order has all that have no value still once literals were added to the trail
+pub grows_lists : (old new : Progress) → IsRunning old → IsRunning new → old.conflict ≡ None → new.conflict ≡ None
+    → length new.search.assignment.values ≡ length old.search.assignment.values → Grows old new → ListsUnset old → ListsUnset new
+grows_lists old new running goes none none_yet size grows listed = λ v lacks.
+    let after : AreTrue new.search.assignment.values (old.search.assignment.trail.items ++ grows.more) = subst (AreTrue new.search.assignment.values) grows.trail (truths_of new goes none_yet) in
+    let was = unset_before old.search.assignment.values new.search.assignment.values old.search.assignment.trail.items grows.more (truths_of old running none) after v lacks.1 in
+    subst (λ vars. Contains vars v) (sym grows.order) (listed v (omega (arith, lacks.0, size), was))

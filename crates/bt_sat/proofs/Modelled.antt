@@ -17,14 +17,14 @@ use Rattle.bt_sat.specs.Propagation.{IsFalseClause, IsSettled}
 use Rattle.bt_sat.specs.Solving.{SolverParts, IsModel, clauses_of}
 use Rattle.bt_sat.specs.declared.progress.Progress.{Progress}
 use Rattle.bt_sat.specs.declared.search.Search.{Search}
-use Rattle.bt_sat.specs.inner.Choices.{IsComplete, IsUnset}
+use Rattle.bt_sat.specs.inner.Choices.{IsComplete}
 use Rattle.bt_sat.specs.inner.Kernels.{model_of, value_of}
 use Rattle.bt_sat.specs.inner.Keeping.{kept_at, IsWatchable}
 use Rattle.bt_sat.specs.inner.Known.{clauses_in}
 use Rattle.bt_sat.specs.inner.Levels.{IsHeld, among_watched, alone, IsOrdered, IsReady, start_of}
 use Rattle.bt_sat.specs.inner.Progressing.{IsNextStep, Stands}
 use Rattle.bt_sat.specs.inner.Propagating.{IsKept, falses_of}
-use Rattle.bt_sat.specs.inner.Truths.{IsFalseIn, IsTrueIn}
+use Rattle.bt_sat.specs.inner.Truths.{IsFalseIn, IsTrueIn, IsUnset}
 use Rattle.bt_sat.proofs.Advancing.{goes_not}
 use Rattle.bt_sat.proofs.Backjumped.{take_in}
 use Rattle.bt_sat.proofs.Counting.{all_negated}

@@ -15,6 +15,7 @@ pub mod Lemmas
 pub mod Levels
 pub mod Loading
 pub mod Loads
+pub mod Orders
 pub mod Progressing
 pub mod Propagating
 pub mod Reasons

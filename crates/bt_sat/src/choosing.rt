@@ -3,12 +3,15 @@ ghost use Rattle.std.specs.Prelude.{◌≡◌, ◌<◌, length, map, OnOk, IfOk,
 ghost use Rattle.bt_cnf.specs.Choosing.{Ascends};
 ghost use Rattle.bt_sat.specs.Picks.{AsksFirst};
 ghost use Rattle.bt_sat.specs.inner.Choices.{BeginsLevel, Decides, ListsUnset};
+ghost use Rattle.bt_sat.specs.inner.Orders.{HasUnset, IsNext};
 ghost use Rattle.bt_sat.specs.inner.Progressing.{IsRunning, KeepsFormula};
 
 use crate::assignment::assign;
+use crate::order::Order;
 use crate::plan::Plan;
 use crate::progress::Progress;
 use crate::search::Search;
+use crate::truth::Values;
 use bt_cnf::{Chooser, Lit, Pick, Var};
 use std::alloc::AllocError;
 
@@ -31,23 +34,23 @@ pub fn ask<C: Chooser>(choosers: &mut Vec<C>, unset: &[Var]) -> Pick
     choosers[0].pick(unset)
 }
 
-/// The choice of the plan where it makes one, else that of the chooser that serves.
-fn chosen<C: Chooser>(
+/// A literal of a variable that has no value, where there is one: the plan's, else that of the chooser that serves.
+fn next<C: Chooser>(
     plan: &mut Plan,
     steps: u64,
-    search: &Search,
-    unset: &[Var],
+    order: &mut Order,
+    values: &Values,
     choosers: &mut Vec<C>,
-) -> Pick
-    requires some { 0 < length unset.now }
-    requires ascending { Ascends unset.now }
-    ensures in_range { result.place < length unset.now }
+) -> Result<Option<Lit>, AllocError>
+    requires { HasUnset values.now order.old }
+    ensures next { IfOk result (IsNext values.now) }
+    ensures left { HasUnset values.now order.new }
     ensures same { map C.told_lengths choosers.new.items ≡ map C.told_lengths choosers.old.items }
     ensures count { vec_len choosers.new ≡ vec_len choosers.old }
 {
-    match plan.pick(steps, &search.assignment.values, unset) {
-        Some(pick) => pick,
-        None => ask(choosers, unset),
+    match plan.pick(steps, values) {
+        Some(lit) => Ok(Some(lit)),
+        None => order.next(values, choosers),
     }
 }
 
@@ -61,7 +64,7 @@ fn begin_level(search: &mut Search, lit: &Lit) -> Result<(), AllocError>
     Ok(())
 }
 
-/// Chooses a variable and a value, where a variable has none. The variable leaves the list of those.
+/// Chooses a variable and a value, where a variable has none.
 pub fn decide<C: Chooser>(
     progress: &mut Progress,
     choosers: &mut Vec<C>,
@@ -75,21 +78,16 @@ pub fn decide<C: Chooser>(
     ensures same { map C.told_lengths choosers.new.items ≡ map C.told_lengths choosers.old.items }
     ensures count { vec_len choosers.new ≡ vec_len choosers.old }
 {
-    if progress.unset.is_empty() {
-        return Ok(false);
-    }
     let steps = progress.known.log.len() as u64;
-    let pick = chosen(
+    let next = next(
         &mut progress.plan,
         steps,
-        &progress.search,
-        &progress.unset,
+        &mut progress.order,
+        &progress.search.assignment.values,
         choosers,
-    );
-    let var = progress.unset.remove(pick.place);
-    let lit = Lit {
-        var,
-        positive: pick.positive,
+    )?;
+    let Some(lit) = next else {
+        return Ok(false);
     };
     begin_level(&mut progress.search, &lit)?;
     Ok(true)

@@ -5,11 +5,10 @@ ghost use Rattle.bt_sat.specs.inner.Progressing.{IsRunning, KeepsFormula};
 
 use crate::choosing::decide;
 use crate::progress::{Progress, propagate_all};
-use crate::unset::{drop_later, list_unset};
 use bt_cnf::Chooser;
 use std::alloc::AllocError;
 
-/// Propagates what is true at first, and lists what has no value then.
+/// Propagates what is true at first, and begins with all variables again.
 fn propagate_first(progress: &mut Progress) -> Result<(), AllocError>
     requires { IsRunning progress.old }
     ensures propagates { OnOk result (HasPropagated progress.old progress.new) }
@@ -20,12 +19,12 @@ fn propagate_first(progress: &mut Progress) -> Result<(), AllocError>
         propagate_all(progress)?;
     }
     if progress.conflict.is_none() {
-        list_unset(&mut progress.unset, &progress.search.assignment.values)?;
+        progress.order.begin(&progress.search.assignment.values)?;
     }
     Ok(())
 }
 
-/// Propagates a decision, and drops what has got a value off the list.
+/// Propagates a decision.
 fn propagate_decision(progress: &mut Progress) -> Result<(), AllocError>
     requires running { IsRunning progress.old }
     requires ready { progress.old.conflict ≡ None }
@@ -33,11 +32,7 @@ fn propagate_decision(progress: &mut Progress) -> Result<(), AllocError>
     ensures propagates { OnOk result (HasPropagated progress.old progress.new) }
     ensures kept { KeepsFormula progress.old progress.new }
 {
-    let known = progress.search.assignment.trail.len();
     propagate_all(progress)?;
-    if progress.conflict.is_none() {
-        drop_later(&mut progress.unset, &progress.search.assignment, known);
-    }
     Ok(())
 }
 

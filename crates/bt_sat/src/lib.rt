@@ -17,6 +17,7 @@ mod learning;
 mod lemmas;
 mod levels;
 mod loading;
+mod order;
 mod packed;
 mod plan;
 mod progress;

@@ -12,6 +12,7 @@ use crate::analysis::Analysis;
 use crate::assignment::{Assignment, assign};
 use crate::known::Known;
 use crate::learning::LearntClause;
+use crate::order::Order;
 use crate::plan::Plan;
 use crate::progress::Progress;
 use crate::search::{Search, keep};
@@ -198,7 +199,7 @@ pub fn load(alloc: Global, formula: Formula, limit: u64, plan: Plan) -> Result<P
         known: Known { formula, log },
         search,
         learnt_clause,
-        unset: Vec::new(alloc),
+        order: Order::new(alloc),
         plan,
         limit,
         served: 0,

@@ -1,10 +1,10 @@
 //! Plans: what is decided before a chooser is asked, and when the search restarts. Nothing is claimed of a plan.
-ghost use Rattle.std.specs.Prelude.{◌<◌, length, IfSome};
-ghost use Rattle.bt_cnf.specs.Choosing.{Ascends};
+ghost use Rattle.std.specs.Prelude.{IfSome};
+ghost use Rattle.bt_sat.specs.inner.Truths.{LacksValue};
 
-use crate::choosers::place_of;
 use crate::truth::{Values, is_false};
-use bt_cnf::{Lit, Pick, Var};
+use crate::unset::lacks_value;
+use bt_cnf::Lit;
 use std::alloc::{AllocError, Global};
 
 /// While which steps a part of a plan serves. The steps of the log are counted in stretches of `steps` steps, which are
@@ -55,18 +55,17 @@ impl Part {
         }
     }
 
-    /// The choice of the first literal that is unset, where there is one.
-    fn pick(&mut self, values: &Values, unset: &[Var]) -> Option<Pick>
-        requires { Ascends unset.now }
-        ensures { IfSome result (λ pick. pick.place < length unset.now) }
+    /// The first literal whose variable has no value, where there is one.
+    fn pick(&mut self, values: &Values) -> Option<Lit>
+        ensures { IfSome result (λ l. LacksValue values.now l.var) }
     {
         for place in self.at..self.lits.len() {
             let Some(lit) = self.lits.get(place).copied() else {
                 return None;
             };
             self.at = place;
-            if let Some(pick) = choice_of(&lit, unset) {
-                return Some(pick);
+            if lacks_value(values, lit.var) {
+                return Some(lit);
             }
             if self.is_brittle && is_set_false(values, &lit) {
                 self.lits.clear();
@@ -75,20 +74,6 @@ impl Part {
         }
         self.at = self.lits.len();
         None
-    }
-}
-
-/// The choice that makes a literal true, where its variable is one of those that are unset.
-fn choice_of(lit: &Lit, unset: &[Var]) -> Option<Pick>
-    requires { Ascends unset.now }
-    ensures { IfSome result (λ pick. pick.place < length unset.now) }
-{
-    match place_of(unset, lit.var) {
-        Some(place) => Some(Pick {
-            place,
-            positive: lit.positive,
-        }),
-        None => None,
     }
 }
 
@@ -161,15 +146,14 @@ impl Plan {
         Ok(())
     }
 
-    /// The choice of the first part that makes one after so many steps.
-    pub(crate) fn pick(&mut self, steps: u64, values: &Values, unset: &[Var]) -> Option<Pick>
-        requires { Ascends unset.now }
-        ensures { IfSome result (λ pick. pick.place < length unset.now) }
+    /// The literal of the first part that has one after so many steps.
+    pub(crate) fn pick(&mut self, steps: u64, values: &Values) -> Option<Lit>
+        ensures { IfSome result (λ l. LacksValue values.now l.var) }
     {
         for part in &mut self.parts {
             if part.turn.serves(steps) {
-                if let Some(pick) = part.pick(values, unset) {
-                    return Some(pick);
+                if let Some(lit) = part.pick(values) {
+                    return Some(lit);
                 }
             }
         }

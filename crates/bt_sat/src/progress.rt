@@ -4,9 +4,9 @@ ghost use Rattle.bt_sat.specs.inner.Progressing.{PropagatesAll, IsRunning, Keeps
 
 use crate::known::Known;
 use crate::learning::{LearntClause, adopt, prepare};
+use crate::order::Order;
 use crate::plan::Plan;
 use crate::search::{Search, number_of, propagate};
-use bt_cnf::Var;
 use std::alloc::AllocError;
 
 /// What is known, what is true, and how far the search has come.
@@ -15,8 +15,8 @@ pub struct Progress {
     pub known: Known,
     pub search: Search,
     pub learnt_clause: LearntClause,
-    /// The variables that have no value, in ascending order, while the search decides.
-    pub unset: Vec<Var>,
+    /// In which order variables are decided.
+    pub order: Order,
     /// What is decided first.
     pub plan: Plan,
     /// The most steps that the log may have.

@@ -51,7 +51,7 @@ pub fn answer<C: Chooser>(
 {
     match find_model(progress, choosers)? {
         Found::Model => {
-            let alloc = progress.unset.allocator().clone()?;
+            let alloc = progress.learnt_clause.lits.allocator().clone()?;
             let model = list_model(alloc, &progress.search.assignment.values)?;
             Ok(Answer::Model(model))
         }

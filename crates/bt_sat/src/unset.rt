@@ -1,8 +1,8 @@
-//! The list of the variables that have no value, from which a chooser picks one.
-ghost use Rattle.std.specs.Prelude.{◌≡◌, ◌<◌, length, OnOk};
-ghost use Rattle.bt_sat.specs.inner.Choices.{is_unset, AddsUnset, AreUnset, Covers};
+//! The variables that have no value.
+ghost use Rattle.std.specs.Prelude.{◌<◌, ◌↔◌, length, IsTrue, OnOk};
+ghost use Rattle.bt_sat.specs.inner.Choices.{AddsUnset, AreUnset};
+ghost use Rattle.bt_sat.specs.inner.Truths.{LacksValue};
 
-use crate::assignment::Assignment;
 use crate::truth::Values;
 use bt_cnf::Var;
 use std::alloc::AllocError;
@@ -30,39 +30,9 @@ fn add_unset(unset: &mut Vec<Var>, values: &Values, place: usize) -> Result<(), 
     Ok(())
 }
 
-/// Drops the variables that have a value by now. Where no literal follows the first so many of the trail, all
-/// that are listed have none: nothing follows from most choices.
-pub fn drop_later(unset: &mut Vec<Var>, assignment: &Assignment, known: usize)
-    requires covers { Covers assignment.now.values (length assignment.now.values) unset.old.items }
-    requires listed { length assignment.now.trail.items ≡ known
-        → AreUnset assignment.now.values (length assignment.now.values) unset.old.items }
-    ensures { AreUnset assignment.now.values (length assignment.now.values) unset.new.items }
+/// Whether there is such a variable, and it has no value.
+pub fn lacks_value(values: &Values, var: Var) -> bool
+    ensures { IsTrue result ↔ LacksValue values.now var }
 {
-    if assignment.trail.len() != known {
-        drop_set(unset, &assignment.values);
-    }
-}
-
-/// Drops the variables that have a value by now.
-fn drop_set(unset: &mut Vec<Var>, values: &Values)
-    requires { Covers values.now (length values.now) unset.old.items }
-    ensures { AreUnset values.now (length values.now) unset.new.items }
-{
-    let mut kept = 0;
-    for place in 0..unset.len() {
-        let var = unset[place];
-        if lacks_value(values, var) {
-            unset[kept] = var;
-            kept += 1;
-        }
-    }
-    unset.truncate(kept);
-}
-
-/// Whether a variable has no value.
-fn lacks_value(values: &Values, var: Var) -> bool
-    requires { var < length values.now }
-    ensures { result ≡ is_unset values.now var }
-{
-    values.get(var).is_unset()
+    var.place() < values.len() && values.get(var).is_unset()
 }

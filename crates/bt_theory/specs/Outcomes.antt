@@ -18,7 +18,7 @@ use Rattle.bt_simplex.specs.Tableaus.{TableauParts}
 use Rattle.bt_simplex.specs.Checks.{IsPivots, IsWideCheck}
 use Rattle.bt_simplex.specs.declared.answers.Trail.{Trail}
 use Rattle.bt_simplex.specs.declared.answers.Wide as wide
-use Rattle.bt_theory.specs.declared.outcome.Limits.{Limits}
+use Rattle.bt_cnf.specs.declared.limits.Limits.{Limits}
 use Rattle.bt_theory.specs.declared.outcome.Outcome.{Outcome}
 use Rattle.bt_theory.specs.declared.outcome.Outcome.TheVariants as outcome
 use Rattle.bt_theory.specs.declared.outcome.GaveUp.{GaveUp}

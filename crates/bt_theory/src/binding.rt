@@ -4,8 +4,7 @@ ghost use Rattle.bt_cnf.specs.Assignments.{truth_in};
 ghost use Rattle.bt_theory.specs.Reaching.{atom_vars};
 ghost use Rattle.bt_theory.specs.inner.Rounds.{IsFirst};
 
-use crate::choosing::is_true;
-use bt_cnf::{Formula, Var};
+use bt_cnf::{Formula, Var, is_true};
 use bt_simplex::Tableau;
 use std::alloc::{AllocError, Global};
 

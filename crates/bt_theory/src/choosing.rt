@@ -8,15 +8,8 @@ ghost use Rattle.bt_cnf.specs.Assignments.{truth_in};
 ghost use Rattle.bt_cnf.specs.Meeting.{IsTrueUnder, MeetsClause};
 ghost use Rattle.bt_theory.specs.inner.Choosing.{IsWithin, StaysTrue, HasSettled, Settles, IsChosen};
 
-use bt_cnf::{Formula, Lit, Var};
+use bt_cnf::{Formula, Lit, Var, is_true};
 use std::alloc::{AllocError, Global};
-
-/// Whether a variable is true, or false past the end of the assignment.
-pub fn is_true(assignment: &[bool], var: usize) -> bool
-    ensures { result ≡ truth_in assignment.now var }
-{
-    var < assignment.len() && assignment[var]
-}
 
 /// Whether a literal is true in a model.
 fn holds(lit: Lit, model: &[bool]) -> bool

@@ -7,9 +7,9 @@ ghost use Rattle.bt_theory.specs.Reaching.{atom_vars};
 ghost use Rattle.bt_theory.specs.inner.Rounds.{Solves};
 
 use crate::binding::{bind, tableau_of};
-use crate::choosing::{choose, is_true, meets_clauses};
+use crate::choosing::{choose, meets_clauses};
 use crate::outcome::Solution;
-use bt_cnf::{Formula, Var};
+use bt_cnf::{Formula, Var, is_true};
 use bt_simplex::Check;
 use std::alloc::{AllocError, Global};
 

@@ -11,6 +11,7 @@ mod round;
 mod scope;
 mod solving;
 
-pub use outcome::{GaveUp, Limits, Outcome};
+pub use bt_cnf::Limits;
+pub use outcome::{GaveUp, Outcome};
 pub use solving::solve;
 pub use std::alloc::AllocError as Memory;

@@ -3,15 +3,6 @@ use bt_frac::Frac;
 use bt_log::Log;
 use bt_simplex::{Trail, Wide};
 
-/// How much deciding a formula may take.
-#[derive(Clone, Copy, PartialEq, Eq)]
-pub struct Limits {
-    /// The most steps of the log.
-    pub learnt: u64,
-    /// The most turns of a basis for each assignment that is tried.
-    pub pivots: u64,
-}
-
 /// What deciding a formula comes to.
 #[derive(Drop)]
 pub enum Outcome {

@@ -6,9 +6,8 @@ ghost use Rattle.bt_theory.specs.Outcomes.{AreRowsOf};
 ghost use Rattle.bt_theory.specs.inner.Scopes.{AreAtoms, IsConflictIn, IsScopeOf, parts_of, IsPaired};
 
 use crate::binding::bind;
-use crate::choosing::is_true;
 use crate::lemma::{Conflict, conflict_of};
-use bt_cnf::{Formula, Var};
+use bt_cnf::{Formula, Var, is_true};
 use bt_frac::Row;
 use bt_simplex::{Check, Tableau};
 use std::alloc::{AllocError, Global};

@@ -8,10 +8,10 @@ ghost use Rattle.bt_theory.specs.inner.Rounds.{Tells};
 
 use crate::binding::{atoms_of, tableau_of};
 use crate::guessing::first_solution;
-use crate::outcome::{GaveUp, Limits, Outcome, Solution};
+use crate::outcome::{GaveUp, Outcome, Solution};
 use crate::round::{End, round};
 use crate::scope::{Scope, scopes_of};
-use bt_cnf::{Chooser, Formula, Var};
+use bt_cnf::{Chooser, Formula, Limits, Var};
 use bt_log::Log;
 use bt_sat::Solver;
 use std::alloc::{AllocError, Global};

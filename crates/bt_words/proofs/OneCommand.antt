@@ -15,7 +15,7 @@ use Rattle.bt_words.specs.declared.verb.Verb.TheVariants as verb
 use Rattle.bt_words.specs.declared.command.Family.{Family}
 use Rattle.bt_words.specs.declared.command.Family.TheVariants as family
 use Rattle.bt_words.specs.declared.command.Command.{Command}
-use Rattle.bt_words.specs.declared.command.Command.TheVariants.{FlowCheck, Recover, Check, Decide, Make, Layout, CheckLayout, Smallest, FindSmall, FlowFormula, PlaceFormula}
+use Rattle.bt_words.specs.declared.command.Command.TheVariants.{FlowCheck, Recover, Check, Decide, Make, Layout, CheckLayout, Smallest, FindSmall, FlowFormula, PlaceFormula, Same, CheckSame}
 use Rattle.bt_words.specs.Arguments.{AreArguments}
 use Rattle.bt_words.specs.Verbs.{verb_name, verb_of}
 use Rattle.bt_words.specs.Commands.{Gives, IsGiven, Suits, IsCommand, IsUsage, IsToDecide, IsToMake, IsToLay, IsToCheckLayout, IsToSearch, IsToFind, greatest_grid, is_chain, nothing, mark, grid_in, most_in}
@@ -24,11 +24,11 @@ use Rattle.bt_words.proofs.OneFront.{one_front}
 
 -- the command whose word begins with this byte
 abbrev begun_by : ℕ → Verb
-begun_by byte = cond (nat_eq byte 102) verb.Formula (cond (nat_eq byte 114) verb.Recover (cond (nat_eq byte 99) verb.Check (cond (nat_eq byte 100) verb.Decide (cond (nat_eq byte 109) verb.Make (cond (nat_eq byte 115) verb.Smallest verb.Layout)))))
+begun_by byte = cond (nat_eq byte 102) verb.Formula (cond (nat_eq byte 114) verb.Recover (cond (nat_eq byte 99) verb.Check (cond (nat_eq byte 100) verb.Decide (cond (nat_eq byte 109) verb.Make (cond (nat_eq byte 115) verb.Same verb.Layout)))))
 
 -- the command with this word: those that begin as others do are the longest
 abbrev named_by : List ℕ → Verb
-named_by name = cond (nat_eq (length name) 12) verb.CheckLayout (cond (nat_eq (length name) 10) verb.FlowCheck (begun_by (get_or name 0 0)))
+named_by name = cond (nat_eq (length name) 12) verb.CheckLayout (cond (nat_eq (length name) 10) (cond (nat_eq (get_or name 0 0) 99) verb.CheckSame verb.FlowCheck) (cond (nat_eq (length name) 8) verb.Smallest (begun_by (get_or name 0 0))))
 
 begins : (v : Verb) → named_by (verb_name v) ≡ v
 begins verb.FlowCheck = refl
@@ -40,6 +40,8 @@ begins verb.Layout = refl
 begins verb.CheckLayout = refl
 begins verb.Smallest = refl
 begins verb.Formula = refl
+begins verb.Same = refl
+begins verb.CheckSame = refl
 
 -- a word is one command's at most
 same_verb : (v w : Verb) → verb_name v ≡ verb_name w → v ≡ w
@@ -165,6 +167,8 @@ same_suited (FlowFormula p) (FlowFormula q) g v h k = let e = ap (λ x. x.proper
 same_suited (PlaceFormula r t) (PlaceFormula s u) g v (h, x) (k, y) = let e = ap (λ x. x.grid) (sym h ∙ k) in cc
 same_suited (FlowFormula p) (PlaceFormula s u) g v h (k, y) = let e = ap (λ x. x.grid) (sym h ∙ k) in cc
 same_suited (PlaceFormula r t) (FlowFormula q) g v (h, x) k = let e = ap (λ x. x.grid) (sym h ∙ k) in cc
+same_suited (Same l) (Same m) g v (h, a) (k, b) = cc
+same_suited CheckSame CheckSame g v h k = refl
 same_suited c d g v h k = cc
 
 -- words are one command at most

@@ -11,11 +11,11 @@ use Rattle.bt_parts.specs.declared.part.Tier.TheVariants.{Basic}
 use Rattle.bt_words.specs.declared.argument.Argument.{Argument}
 use Rattle.bt_words.specs.declared.argument.Argument.TheVariants.{Named, Order, Chain, Learnt, Pivots, Grid, OfTier, Most, Found}
 use Rattle.bt_words.specs.declared.given.Given.{Given}
-use Rattle.bt_theory.specs.declared.outcome.Limits.{Limits}
+use Rattle.bt_cnf.specs.declared.limits.Limits.{Limits}
 use Rattle.bt_words.specs.declared.command.Family.{Family}
 use Rattle.bt_words.specs.declared.command.Family.TheVariants as family
 use Rattle.bt_words.specs.declared.command.Command.{Command}
-use Rattle.bt_words.specs.declared.command.Command.TheVariants.{FlowCheck, Recover, Check, Decide, Make, Layout, CheckLayout, Smallest, FindSmall, FlowFormula, PlaceFormula}
+use Rattle.bt_words.specs.declared.command.Command.TheVariants.{FlowCheck, Recover, Check, Decide, Make, Layout, CheckLayout, Smallest, FindSmall, FlowFormula, PlaceFormula, Same, CheckSame}
 use Rattle.bt_words.specs.declared.command.TheConstants.{USUAL_LEARNT, USUAL_PIVOTS}
 use Rattle.bt_words.specs.Arguments.{AreArguments}
 use Rattle.bt_words.specs.Verbs.{verb_name, verb_of}
@@ -107,6 +107,10 @@ is_chain family.Chain = true
 abbrev pub IsToDecide : Property → Given → Type 0
 IsToDecide p g = g ≡ record nothing { property = Some p; learnt = g.learnt; pivots = g.pivots }
 
+-- nothing is given but perhaps limits
+abbrev pub IsToCompare : Given → Type 0
+IsToCompare g = g ≡ record nothing { learnt = g.learnt; pivots = g.pivots }
+
 -- this order is given, and perhaps `--chain` and limits
 abbrev pub IsToMake : ℕ → Given → Type 0
 IsToMake order g = g ≡ record nothing { order = Some order; chain = g.chain; learnt = g.learnt; pivots = g.pivots }
@@ -131,7 +135,7 @@ IsToSearch most g = (g ≡ record nothing { most = g.most; tier = g.tier; learnt
 abbrev pub IsToFind : Rect → Given → Type 0
 IsToFind most g = (g ≡ record nothing { found = true; most = g.most; tier = g.tier; learnt = g.learnt }) × (most ≡ unwrap_or g.most greatest_grid)
 
--- what a command is given: a property, or nothing; `decide` a property, and limits where they aren't the usual ones; `make` an order, and whether it is that of a chain, and limits; those that speak of layouts a grid, and a tier where it isn't the basic one, and `layout` the most steps of a log where they aren't the usual ones; `smallest` a greatest grid where it isn't the greatest of all, a tier and the most steps likewise, and with `--found` it looks for small layouts; and `formula` a property, or a grid and a tier
+-- what a command is given: a property, or nothing; `decide` a property, and limits where they aren't the usual ones; `make` an order, and whether it is that of a chain, and limits; those that speak of layouts a grid, and a tier where it isn't the basic one, and `layout` the most steps of a log where they aren't the usual ones; `smallest` a greatest grid where it isn't the greatest of all, a tier and the most steps likewise, and with `--found` it looks for small layouts; `formula` a property, or a grid and a tier; and `same` limits where they aren't the usual ones
 abbrev pub Suits : Command → Given → Type 0
 Suits (FlowCheck p) g = g ≡ record nothing { property = Some p }
 Suits Recover g = g ≡ nothing
@@ -144,6 +148,8 @@ Suits (Smallest most tier learnt) g = IsToSearch most g × (tier ≡ tier_of g) 
 Suits (FindSmall most tier learnt) g = IsToFind most g × (tier ≡ tier_of g) × (learnt ≡ (limits_of g).learnt)
 Suits (FlowFormula p) g = g ≡ record nothing { property = Some p }
 Suits (PlaceFormula grid tier) g = IsToCheckLayout grid g × (tier ≡ tier_of g)
+Suits (Same limits) g = IsToCompare g × (limits ≡ limits_of g)
+Suits CheckSame g = g ≡ nothing
 
 -- the words are the command's word, and behind it what suits the command
 abbrev pub IsCommand : Command → List (List ℕ) → Type 0

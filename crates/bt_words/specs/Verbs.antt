@@ -3,7 +3,7 @@ use Rattle.std.specs.Prelude.{ℕ, List, codes}
 use Rattle.bt_words.specs.declared.command.Command.{Command}
 use Rattle.bt_words.specs.declared.command.Command.TheVariants as command
 use Rattle.bt_words.specs.declared.verb.Verb.{Verb}
-use Rattle.bt_words.specs.declared.verb.Verb.TheVariants.{FlowCheck, Recover, Check, Decide, Make, Layout, CheckLayout, Smallest, Formula}
+use Rattle.bt_words.specs.declared.verb.Verb.TheVariants.{FlowCheck, Recover, Check, Decide, Make, Layout, CheckLayout, Smallest, Formula, Same, CheckSame}
 
 -- the word for a command
 abbrev pub verb_name : Verb → List ℕ
@@ -16,6 +16,8 @@ verb_name Layout = codes "layout"
 verb_name CheckLayout = codes "check-layout"
 verb_name Smallest = codes "smallest"
 verb_name Formula = codes "formula"
+verb_name Same = codes "same"
+verb_name CheckSame = codes "check-same"
 
 -- which command it is
 abbrev pub verb_of : Command → Verb
@@ -30,3 +32,5 @@ verb_of (command.Smallest most tier learnt) = Smallest
 verb_of (command.FindSmall most tier learnt) = Smallest
 verb_of (command.FlowFormula p) = Formula
 verb_of (command.PlaceFormula grid tier) = Formula
+verb_of (command.Same limits) = Same
+verb_of command.CheckSame = CheckSame

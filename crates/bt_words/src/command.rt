@@ -7,9 +7,9 @@ ghost use Rattle.bt_words.specs.declared.verb.Verb.TheVariants.{Layout, CheckLay
 
 use crate::given::{Given, read_given};
 use crate::verb::Verb;
+use bt_cnf::Limits;
 use bt_flow::Property;
 use bt_parts::{Rect, Tier};
-use bt_theory::Limits;
 
 /// The most steps of a log, where the words don't say.
 pub const USUAL_LEARNT: u64 = 100_000;
@@ -52,6 +52,10 @@ pub enum Command {
     FlowFormula(Property),
     /// `formula`: which formula do the layouts meet of parts of this tier on this grid?
     PlaceFormula(Rect, Tier),
+    /// `same`: do the networks of two designs behave the same?
+    Same(Limits),
+    /// `check-same`: does the certificate show that they do, or that they don't?
+    CheckSame,
 }
 
 /// The command that the words are.
@@ -89,6 +93,10 @@ fn with_given(verb: Verb, given: Given) -> Option<Command>
         Verb::CheckLayout => layout_checked(given),
         Verb::Smallest => smallest(given),
         Verb::Formula => formula_of(given),
+        Verb::Same if given.is_limits() => Some(Command::Same(given.limits())),
+        Verb::Same => None,
+        Verb::CheckSame if given.is_nothing() => Some(Command::CheckSame),
+        Verb::CheckSame => None,
     }
 }
 

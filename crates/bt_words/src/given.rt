@@ -3,7 +3,7 @@ ghost use Rattle.std.specs.Prelude.{◌≡◌, ℕ, List, [], ◌∷◌, Some, M
 ghost use Rattle.std.specs.Prelude.{◌↔◌, IsTrue};
 ghost use Rattle.bt_flow.specs.declared.property.Property.{Property as AProperty};
 ghost use Rattle.bt_parts.specs.declared.part.Rect.{Rect as ARect};
-ghost use Rattle.bt_words.specs.Commands.{IsGiven, IsToDecide, IsToMake, IsToLay, IsToCheckLayout, IsToSearch, IsToFind};
+ghost use Rattle.bt_words.specs.Commands.{IsGiven, IsToDecide, IsToMake, IsToLay, IsToCheckLayout, IsToSearch, IsToFind, IsToCompare};
 ghost use Rattle.bt_words.specs.Commands.{is_chain, limits_of, tier_of, nothing};
 ghost use Rattle.bt_words.specs.inner.Reading.{Adds};
 ghost use Rattle.bt_words.specs.declared.argument.Argument.{Argument as AnArgument};
@@ -11,10 +11,10 @@ ghost use Rattle.bt_words.specs.declared.given.Given.{Given as AGiven};
 
 use crate::argument::{Argument, next_argument};
 use crate::command::{Family, USUAL_LEARNT, USUAL_PIVOTS};
+use bt_cnf::Limits;
 use bt_flow::Property;
 use bt_model::MOST_ACROSS;
 use bt_parts::{Rect, Tier};
-use bt_theory::Limits;
 
 /// What is given behind a command's word.
 #[derive(Clone, Copy)]
@@ -129,6 +129,25 @@ impl Given {
                 tier: None,
                 most: None,
                 found: false,
+            } => true,
+            _ => false,
+        }
+    }
+
+    /// Whether nothing is given but limits.
+    pub fn is_limits(self) -> bool
+        ensures { IsTrue result ↔ IsToCompare self }
+    {
+        match self {
+            Given {
+                property: None,
+                order: None,
+                chain: false,
+                grid: None,
+                tier: None,
+                most: None,
+                found: false,
+                ..
             } => true,
             _ => false,
         }

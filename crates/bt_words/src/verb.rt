@@ -14,6 +14,8 @@ pub enum Verb {
     CheckLayout,
     Smallest,
     Formula,
+    Same,
+    CheckSame,
 }
 
 impl Verb {
@@ -31,6 +33,8 @@ impl Verb {
             "check-layout" => Some(Verb::CheckLayout),
             "smallest" => Some(Verb::Smallest),
             "formula" => Some(Verb::Formula),
+            "same" => Some(Verb::Same),
+            "check-same" => Some(Verb::CheckSame),
             _ => None,
         }
     }

@@ -29,6 +29,8 @@ const REFUSED: &str = r#"null|24 0 entity
 {"name":"underground-belt","position":{"x":1,"y":1},"type":"in"}|24 0 type
 {"name":"splitter","position":{"x":1,"y":1},"input_priority":7}|24 0 input_priority
 {"name":"splitter","position":{"x":1,"y":1},"output_priority":null}|24 0 output_priority
+{"name":"splitter","position":{"x":1,"y":1},"input_priority":"Left"}|24 0 input_priority
+{"name":"splitter","position":{"x":1,"y":1},"output_priority":"up"}|24 0 output_priority
 {"name":"transport-belt","position":{"x":0.25,"y":1}}|25 0
 {"name":"transport-belt","position":{"x":524288.5,"y":1}}|25 0
 {"name":"transport-belt","position":{"x":1e400,"y":1}}|25 0

@@ -1,33 +1,18 @@
 -- Choosing what to set next.
 use Rattle.std.specs.Prelude.{◌≡◌, ◌⊎◌, ◌<◌, ◌≤◌, ℕ, Bool, true, false, List, [], ◌∷◌, ◌++◌, Option, Some, None, length, slice_get, slice_index_or, Contains}
-use Rattle.std.specs.List.{All}
-use Rattle.std.specs.Option.{is_none}
 use Rattle.bt_cnf.specs.Choosing.{Ascends}
 use Rattle.bt_cnf.specs.declared.literal.Lit.{Lit}
 use Rattle.bt_sat.specs.declared.progress.Progress.{Progress}
 use Rattle.bt_sat.specs.declared.search.Search.{Search}
 use Rattle.bt_sat.specs.inner.Assigning.{Assigns}
 use Rattle.bt_sat.specs.inner.Progressing.{IsRunning}
-use Rattle.bt_sat.specs.inner.Truths.{unset}
-
--- the variable has no value
-abbrev pub IsUnset : List (Option Bool) → ℕ → Type 0
-IsUnset values var = slice_index_or values var None ≡ None
+use Rattle.bt_sat.specs.inner.Orders.{HasUnset}
+use Rattle.bt_sat.specs.inner.Truths.{unset, IsUnset}
 
 -- these are the variables below a number that have no value, in ascending order
 pub record AreUnset (values : List (Option Bool)) (count : ℕ) (vars : List ℕ) : Type 0 where
   pub ascends : Ascends vars
   pub are : (v : ℕ) → Contains vars v → (v < count) × IsUnset values v
-  pub complete : (v : ℕ) → v < count → IsUnset values v → Contains vars v
-
--- whether the variable has no value
-abbrev pub is_unset : List (Option Bool) → ℕ → Bool
-is_unset values var = is_none (slice_index_or values var None)
-
--- these are variables below a number, in ascending order, and among them are all that have no value
-pub record Covers (values : List (Option Bool)) (count : ℕ) (vars : List ℕ) : Type 0 where
-  pub ascends : Ascends vars
-  pub below : All (λ v. v < count) vars
   pub complete : (v : ℕ) → v < count → IsUnset values v → Contains vars v
 
 -- the variable comes behind the others, where it has no value
@@ -55,9 +40,9 @@ pub record IsComplete (p : Progress) : Type 0 where
   pub settled : p.settled ≡ length p.search.assignment.trail.items
   pub set : (v : ℕ) → v < length p.search.assignment.values → IsUnset p.search.assignment.values v → ⊥
 
--- the list of the search has exactly the variables that have no value
+-- the order of the search still has all variables that have no value
 abbrev pub ListsUnset : Progress → Type 0
-ListsUnset p = AreUnset p.search.assignment.values (length p.search.assignment.values) p.unset.items
+ListsUnset p = HasUnset p.search.assignment.values p.order
 
 -- where no clause is known to be false, nothing is unsettled, and the variables that have no value are listed
 pub record IsAtChoice (p : Progress) : Type 0 where

@@ -63,11 +63,11 @@ Learns old new Spent =
     (new.known ≡ old.known) × (new.limit ≡ old.limit) × (new.served ≡ old.served) × (length old.known.log.steps ≡ old.limit)
     × ((step : Step) × IsNextStep old.known step)
 
--- literals were added to the trail, and the list of variables stays
+-- literals were added to the trail, and the order of variables stays
 pub record Grows (old new : Progress) : Type 0 where
   pub more : List Lit
   pub trail : new.search.assignment.trail.items ≡ old.search.assignment.trail.items ++ more
-  pub unset : new.unset ≡ old.unset
+  pub order : new.order ≡ old.order
 
 -- what is true was propagated: nothing is unsettled by the whole trail, or a clause has only false literals
 pub record PropagatesAll (old new : Progress) : Type 0 where

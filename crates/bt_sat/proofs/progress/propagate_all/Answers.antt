@@ -25,7 +25,7 @@ returns-in-Some-clause-propagates c =
       served = refl;
       settled = λ none. absurd (Propagated.never_none all p.settled p.search s ready c.in-Some.id came (sym (c.number_of-progress.ensures ∙ ap (λ ns. slice_get ns c.in-Some.id) c.deref.ensures.value) ∙ none));
       fewer = Propagated.fewer p.search s came.0;
-      grows = record { more = came.0.more; trail = came.0.trail; unset = refl };
+      grows = record { more = came.0.more; trail = came.0.trail; order = refl };
     }
 
 pub returns-in-None-clause-propagates : goal.returns-in-None-clause-propagates
@@ -47,5 +47,5 @@ returns-in-None-clause-propagates c =
       served = refl;
       settled = λ none. sym size;
       fewer = Propagated.fewer p.search s came.0;
-      grows = record { more = came.0.more; trail = came.0.trail; unset = refl };
+      grows = record { more = came.0.more; trail = came.0.trail; order = refl };
     }

@@ -4,7 +4,7 @@ use Rattle.std.proofs.lemmas.List.{with_items_is}
 use Rattle.std.proofs.lemmas.List.Elements.{All-nil}
 use Rattle.bt_sat.specs.Solving.{SolverParts, begun}
 use Rattle.bt_simplex.specs.Tableaus.{TableauParts}
-use Rattle.bt_theory.specs.declared.outcome.Limits.{Limits}
+use Rattle.bt_cnf.specs.declared.limits.Limits.{Limits}
 use Rattle.bt_theory.specs.declared.outcome.Outcome.{Outcome}
 use Rattle.bt_theory.specs.declared.round.End.{End}
 use Rattle.bt_cnf.specs.Formulas.{FormulaParts}
