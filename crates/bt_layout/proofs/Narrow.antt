@@ -14,6 +14,7 @@ use Rattle.bt_model.specs.Requests.{LayoutRequest}
 use Rattle.bt_place.specs.Narrowed.{IsNarrowed}
 use Rattle.bt_place.specs.PlaceFormula.{place_formula}
 use Rattle.bt_place.specs.Solutions.{IsSolution}
+use Rattle.bt_layout.specs.inner.Likely.{Solves}
 use Rattle.bt_theory.proofs.Rounds.{all_front}
 
 narrowed_solves : (r : LayoutRequest) (learnt : ℕ) (f : FormulaParts) (old new : SolverParts) (waiting left : List (Option (List ℕ))) (answer : Answer) (model : List Bool)
@@ -29,12 +30,6 @@ narrowed_solves r learnt f old new waiting left answer model narrowed begins giv
         atoms = λ k d lt. absurd (omega arith);
       },
     )
-
--- a model is a solution
-abbrev pub Solves : LayoutRequest → Answer → Type 0
-Solves r (Model model) = IsSolution r model.items
-Solves r Refuted = Unit {0}
-Solves r Spent = Unit {0}
 
 pub answer_solves : (r : LayoutRequest) (learnt : ℕ) (f : FormulaParts) (old new : SolverParts) (waiting left : List (Option (List ℕ))) (answer : Answer)
     → IsNarrowed (place_formula r) f → old ≡ begun f learnt → GivesNext old waiting new left answer → Solves r answer

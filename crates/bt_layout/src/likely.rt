@@ -2,12 +2,12 @@
 ghost use Rattle.std.specs.Prelude.{IfOk, IfSome};
 ghost use Rattle.bt_place.specs.Narrowed.{IsNarrowed};
 ghost use Rattle.bt_place.specs.PlaceFormula.{place_formula};
-ghost use Rattle.bt_layout.specs.inner.Likely.{IsLaidOut};
+ghost use Rattle.bt_layout.specs.inner.Likely.{IsLaidOut, IsTrial, Solves};
 
 use bt_cnf::{Formula, Lit};
 use bt_model::Request;
-use bt_narrow::{Choice, first_rows, narrowings, no_tunnels, places};
-use bt_parts::Part;
+use bt_narrow::{Attempt, Choice, attempts, first_rows, narrowings, no_tunnels, places};
+use bt_parts::{Part, Rect};
 use bt_place::{Numbers, decode, encode_place, literal_of, narrow};
 use bt_sat::{Active, Answer, Part as PlanPart, Plan, Solver, Turn};
 use std::alloc::{AllocError, Global};
@@ -17,6 +17,24 @@ const RESTART_STEPS: u64 = 100;
 
 /// For so many steps it is chosen that nothing is under the ground, and for so many it isn't.
 const TURN_STEPS: u64 = 1024;
+
+/// What a search for a layout where one is likely comes to.
+#[derive(Drop)]
+pub enum Trial {
+    /// The parts lay the request. They come in ascending order of y and then x of their cells.
+    Found(Vec<Part>),
+    /// There is no such layout as was looked for. Of others nothing is said.
+    Refuted,
+    /// As many steps were taken as may be.
+    Spent,
+}
+
+/// A search for a layout where one is likely, and the steps that it took.
+#[derive(Drop)]
+pub struct Tried {
+    pub trial: Trial,
+    pub steps: u64,
+}
 
 /// The literals of choices.
 fn literals_of(
@@ -38,7 +56,8 @@ fn literals_of(
 pub fn placing(alloc: Global, formula: &Formula, request: &Request) -> Result<Plan, AllocError> {
     let numbers = Numbers::new(alloc, request)?;
     let mut plan = Plan::new(alloc, RESTART_STEPS);
-    let chosen = places(alloc, request)?;
+    let rect = request.rect();
+    let chosen = places(alloc, request, rect, rect.width)?;
     let lits = literals_of(alloc, formula, &numbers, &chosen)?;
     plan.push(PlanPart::new(lits, Turn::always(), false))?;
     Ok(plan)
@@ -51,12 +70,14 @@ fn likely(
     formula: &Formula,
     numbers: &Numbers,
     request: &Request,
+    attempt: Attempt,
 ) -> Result<Plan, AllocError> {
+    let Attempt { window, spread, .. } = attempt;
     let mut plan = Plan::new(alloc, RESTART_STEPS);
-    let rows = first_rows(alloc, request)?;
+    let rows = first_rows(alloc, request, window)?;
     let lits = literals_of(alloc, formula, numbers, &rows)?;
     plan.push(PlanPart::new(lits, Turn::always(), true))?;
-    let chosen = places(alloc, request)?;
+    let chosen = places(alloc, request, window, spread)?;
     let lits = literals_of(alloc, formula, numbers, &chosen)?;
     plan.push(PlanPart::new(lits, Turn::always(), false))?;
     let flat = no_tunnels(alloc, request)?;
@@ -71,17 +92,52 @@ fn likely(
 }
 
 /// The placement formula with more clauses, which not every layout meets.
-fn narrowed(alloc: Global, request: &Request, numbers: &Numbers) -> Result<Formula, AllocError>
+fn narrowed(
+    alloc: Global,
+    request: &Request,
+    numbers: &Numbers,
+    window: Rect,
+) -> Result<Formula, AllocError>
     ensures { IfOk result (IsNarrowed (place_formula request.now)) }
 {
     let mut formula = encode_place(alloc, request)?;
-    let rules = narrowings(alloc, request)?;
+    let rules = narrowings(alloc, request, window)?;
     narrow(alloc, &mut formula, numbers, &rules)?;
     Ok(formula)
 }
 
-/// Searches for a layout of a request where one is likely, by at most so many steps. What is found is a layout; where
+/// What a search with this answer comes to.
+fn trial_of(alloc: Global, request: &Request, answer: Answer) -> Result<Trial, AllocError>
+    requires { Solves request.now answer }
+    ensures { IfOk result (IsTrial request.now) }
+{
+    match answer {
+        Answer::Model(model) => Ok(Trial::Found(decode(alloc, request, &model)?)),
+        Answer::Refuted => Ok(Trial::Refuted),
+        Answer::Spent => Ok(Trial::Spent),
+    }
+}
+
+/// Searches for a layout of a request where one is likely in a window of its rectangle. What is found is a layout; where
 /// none is found, nothing is said.
+pub fn look_in(alloc: Global, request: &Request, attempt: Attempt) -> Result<Tried, AllocError>
+    ensures { IfOk result (λ tried. IsTrial request.now tried.trial) }
+{
+    let numbers = Numbers::new(alloc, request)?;
+    let formula = narrowed(alloc, request, &numbers, attempt.window)?;
+    let plan = likely(alloc, &formula, &numbers, request, attempt)?;
+    let choosers = vec![in alloc; Active::new(alloc)?]?;
+    let mut solver = Solver::by_plan(alloc, formula, choosers, attempt.steps, plan)?;
+    let answer = solver.next_model()?;
+    Ok(Tried {
+        trial: trial_of(alloc, request, answer)?,
+        steps: solver.log().len() as u64,
+    })
+}
+
+/// Searches for a layout of a request where one is likely, by at most so many steps of all windows together. What is
+/// found is a layout; where none is found, nothing is said. Where none of the whole rectangle is as was looked for, none
+/// of a window is.
 pub fn likely_layout(
     alloc: Global,
     request: &Request,
@@ -89,13 +145,17 @@ pub fn likely_layout(
 ) -> Result<Option<Vec<Part>>, AllocError>
     ensures { IfOk result (λ found. IfSome found (λ parts. IsLaidOut request.now parts.items)) }
 {
-    let numbers = Numbers::new(alloc, request)?;
-    let formula = narrowed(alloc, request, &numbers)?;
-    let plan = likely(alloc, &formula, &numbers, request)?;
-    let choosers = vec![in alloc; Active::new(alloc)?]?;
-    let mut solver = Solver::by_plan(alloc, formula, choosers, learnt, plan)?;
-    match solver.next_model()? {
-        Answer::Model(model) => Ok(Some(decode(alloc, request, &model)?)),
-        Answer::Refuted | Answer::Spent => Ok(None),
+    for attempt in &attempts(alloc, request, learnt)? {
+        let Tried { trial, .. } = look_in(alloc, request, *attempt)?;
+        match trial {
+            Trial::Found(parts) => return Ok(Some(parts)),
+            Trial::Refuted => {
+                if attempt.is_whole {
+                    return Ok(None);
+                }
+            }
+            Trial::Spent => {}
+        }
     }
+    Ok(None)
 }

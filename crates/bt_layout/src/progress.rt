@@ -1,15 +1,13 @@
 //! What was found so far, and what is left.
 ghost use Rattle.std.specs.Prelude.{◌≡◌, ◌≤◌, ◌<◌, ℕ, List, IfOk, length};
 ghost use Rattle.bt_model.specs.Requests.{LayoutRequest};
-ghost use Rattle.bt_layout.specs.Layouts.{IsLayout};
 ghost use Rattle.bt_layout.specs.Early.{IsLaid};
 ghost use Rattle.bt_layout.specs.inner.Progressing.{IsProgress, IsSearched, at_index};
 
-use crate::outcome::Layout;
-use crate::searching::layout;
+use crate::likely::{Trial, Tried, look_in};
 use bt_model::Request;
+use bt_narrow::whole;
 use bt_parts::Part;
-use bt_sat::Highest;
 use std::alloc::{AllocError, Global};
 
 /// What was found so far, and what is left.
@@ -46,8 +44,8 @@ pub fn begun(alloc: Global, count: usize, learnt: u64) -> Result<Progress, Alloc
     })
 }
 
-/// Searches for a layout of the request whose place is open at this index, with at most so many steps of those
-/// that are left.
+/// Searches for a layout of the request whose place is open at this index where one is likely, with at most so many
+/// steps of those that are left.
 pub fn looked(
     alloc: Global,
     requests: &[Request],
@@ -61,37 +59,30 @@ pub fn looked(
     ensures places { IfOk result (λ after. at ≤ length after.places.items) }
 {
     let place = progress.places[at];
-    let most = steps.min(progress.left);
-    let outcome = searched(alloc, &requests[place], most)?;
-    Ok(noted(progress, at, most, outcome))
+    let request = &requests[place];
+    let attempt = whole(alloc, request, steps.min(progress.left))?;
+    let tried = look_in(alloc, request, attempt)?;
+    Ok(noted(progress, at, tried))
 }
 
-/// Searches for a layout of a request. The chooser fills the rectangle from one corner.
-fn searched(alloc: Global, request: &Request, learnt: u64) -> Result<Layout, AllocError>
-    ensures { IfOk result (IsLayout request.now learnt) }
-{
-    let mut choosers = Vec::new(alloc);
-    choosers.push(Highest::new())?;
-    layout(alloc, request, learnt, choosers)
-}
-
-/// With what a search of at most so many steps came to.
-fn noted(progress: Progress, at: usize, most: u64, outcome: Layout) -> Progress
+/// With what a search came to.
+fn noted(progress: Progress, at: usize, tried: Tried) -> Progress
     requires { at < length progress.places.items }
     ensures progress { (requests : List LayoutRequest)
-        → IsProgress requests progress → IsSearched requests progress at outcome
+        → IsProgress requests progress → IsSearched requests progress at tried.trial
         → IsProgress requests result }
     ensures places { at ≤ length result.places.items }
 {
-    match outcome {
-        Layout::Found(parts) => laid(progress, at, most, parts),
-        Layout::Nowhere(log) => closed(progress, at, log.len() as u64),
-        Layout::Spent(_) => passed(progress, most),
+    let Tried { trial, steps } = tried;
+    match trial {
+        Trial::Found(parts) => laid(progress, at, steps, parts),
+        Trial::Refuted => closed(progress, at, steps),
+        Trial::Spent => passed(progress, steps),
     }
 }
 
-/// With a layout of the request whose place is open at this index: those before it are left.
-fn laid(progress: Progress, at: usize, most: u64, parts: Vec<Part>) -> Progress
+/// With a layout of the request whose place is open at this index, as so many steps found: those before it are left.
+fn laid(progress: Progress, at: usize, steps: u64, parts: Vec<Part>) -> Progress
     requires { at < length progress.places.items }
     ensures progress { (requests : List LayoutRequest)
         → IsProgress requests progress → IsLaid requests (at_index progress at) parts
@@ -109,13 +100,13 @@ fn laid(progress: Progress, at: usize, most: u64, parts: Vec<Part>) -> Progress
     Progress {
         places,
         found: Some((place, parts)),
-        left: left.saturating_sub(most),
+        left: left.saturating_sub(steps),
         skipped: skipped.saturating_mul(2).saturating_add(1),
         passed: 0,
     }
 }
 
-/// Without the place that is open at this index, whose request has no layout, as so many steps showed.
+/// Without the place that is open at this index, in which no such layout as is looked for is, as so many steps showed.
 fn closed(progress: Progress, at: usize, steps: u64) -> Progress
     requires { at < length progress.places.items }
     ensures progress { (requests : List LayoutRequest) → IsProgress requests progress

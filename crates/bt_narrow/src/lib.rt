@@ -10,7 +10,9 @@ mod likely;
 mod narrowing;
 mod network;
 mod twins;
+mod windows;
 
 pub use likely::{Choice, first_rows, no_tunnels, places};
 pub use narrowing::narrowings;
 pub use std::alloc::AllocError as Memory;
+pub use windows::{Attempt, attempts, is_likely, whole};

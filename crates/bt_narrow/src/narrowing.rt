@@ -2,6 +2,7 @@
 use crate::around::{DIRS, ahead, is_border, mate, sides};
 use crate::network::is_full;
 use crate::twins::twins;
+use crate::windows::add_outside;
 use bt_model::Request;
 use bt_parts::{Cell, Dir, Rect, inside};
 use bt_rules::{Class, Content, Draft, Fact, Half, Plan, Shape, Way, cells_of, holds};
@@ -107,7 +108,7 @@ fn add_beginnings(
     Ok(())
 }
 
-/// On the border, a belt of a class whose edges all end at outputs looks out.
+/// On the border, a belt of a class whose edges all end at outputs looks out, unless an input begins there.
 fn add_endings(
     draft: &mut Draft,
     rect: &Rect,
@@ -121,7 +122,10 @@ fn add_endings(
     for way in ways {
         if way.goals.is_empty() {
             let carries = Fact::Carries(cell, way.class);
-            draft.add(&[carries, holds(cell, Shape::Belt, dir)], &[])?;
+            draft.add(
+                &[carries, holds(cell, Shape::Belt, dir)],
+                &[Fact::Begins(cell)],
+            )?;
         }
     }
     Ok(())
@@ -220,15 +224,16 @@ fn known_of(alloc: Global, request: &Request) -> Result<Known, AllocError> {
     })
 }
 
-/// Rules over the facts of a request that a layout of few underground pieces and belts keeps, whose splitters stand as
-/// near to the front and, of those that may change places, in the order of their numbers. They may speak of cells
-/// that the request doesn't have.
-pub fn narrowings(alloc: Global, request: &Request) -> Result<Draft, AllocError> {
+/// Rules over the facts of a request that a layout in a window keeps which has few underground pieces and belts, and whose
+/// splitters stand as near to the front and, of those that may change places, in the order of their numbers. They may
+/// speak of cells that the request doesn't have.
+pub fn narrowings(alloc: Global, request: &Request, window: Rect) -> Result<Draft, AllocError> {
     let net = request.net();
     let known = known_of(alloc, request)?;
     let cells = cells_of(alloc, request.rect())?;
     let mut draft = Draft::new(alloc)?;
     for cell in &cells {
+        add_outside(&mut draft, window, *cell)?;
         for dir in &DIRS {
             add_towards(alloc, &mut draft, &known, *cell, *dir)?;
         }

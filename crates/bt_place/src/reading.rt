@@ -1,7 +1,6 @@
 //! What an assignment says of a request's facts.
 ghost use Rattle.std.specs.Prelude.{◌≡◌, ◌<◌, ◌≤◌, ◌+◌, true};
 ghost use Rattle.bt_model.specs.Requests.{IsRequest, IsGrid};
-ghost use Rattle.bt_cnf.specs.Assignments.{truth_in};
 ghost use Rattle.bt_rules.specs.declared.fact.Fact.TheVariants.{Kind};
 ghost use Rattle.bt_rules.specs.Underground.{most_distance};
 ghost use Rattle.bt_rules.specs.Within.{IsWithin};
@@ -13,20 +12,11 @@ ghost use Rattle.bt_place.specs.inner.Reaching.{cell_in};
 
 use crate::grid::cell_of;
 use crate::numbering::Numbers;
+use bt_cnf::is_true;
 use bt_model::Request;
 use bt_parts::{Dir, Rect, Tier};
 use bt_rules::{Content, Fact, Half, Shape};
 use std::marker::Model;
-
-/// The value of a variable, or false past the end of the assignment.
-fn is_true(assignment: &[bool], var: usize) -> bool
-    ensures { result ≡ truth_in assignment.now var }
-{
-    match assignment.get(var) {
-        Some(value) => *value,
-        None => false,
-    }
-}
 
 /// The direction with this number.
 fn dir_numbered(number: usize) -> Dir

@@ -3,8 +3,24 @@ use Rattle.std.specs.Prelude.{List, AllPairs}
 use Rattle.bt_parts.specs.declared.part.Part.{Part}
 use Rattle.bt_model.specs.Laying.{Lays}
 use Rattle.bt_model.specs.Requests.{LayoutRequest}
-use Rattle.bt_place.specs.Solutions.{ComesAbove}
+use Rattle.bt_place.specs.Solutions.{ComesAbove, IsSolution}
+use Rattle.bt_sat.specs.declared.solver.Answer.{Answer}
+use Rattle.bt_sat.specs.declared.solver.Answer.TheVariants as answer
+use Rattle.bt_layout.specs.declared.likely.Trial.{Trial}
+use Rattle.bt_layout.specs.declared.likely.Trial.TheVariants.{Found, Refuted, Spent}
 
 -- the parts lay the request, in ascending order of y and then x
 abbrev pub IsLaidOut : LayoutRequest → List Part → Type 0
 IsLaidOut r parts = Lays parts r × AllPairs ComesAbove parts
+
+-- a model that is answered is a solution of the request
+abbrev pub Solves : LayoutRequest → Answer → Type 0
+Solves r (answer.Model model) = IsSolution r model.items
+Solves r answer.Refuted = Unit {0}
+Solves r answer.Spent = Unit {0}
+
+-- parts that are found lay the request, in ascending order of y and then x
+abbrev pub IsTrial : LayoutRequest → Trial → Type 0
+IsTrial r (Found parts) = IsLaidOut r parts.items
+IsTrial r Refuted = Unit {0}
+IsTrial r Spent = Unit {0}

@@ -4,8 +4,8 @@ use Rattle.bt_parts.specs.declared.part.Rect.{Rect}
 use Rattle.bt_parts.specs.declared.part.Tier.{Tier}
 use Rattle.bt_net.specs.Network.{Network}
 use Rattle.bt_model.specs.Requests.{LayoutRequest}
-use Rattle.bt_layout.specs.declared.outcome.Layout.{Layout}
-use Rattle.bt_layout.specs.declared.outcome.Layout.TheVariants.{Found, Nowhere, Spent}
+use Rattle.bt_layout.specs.declared.likely.Trial.{Trial}
+use Rattle.bt_layout.specs.declared.likely.Trial.TheVariants.{Found, Refuted, Spent}
 use Rattle.bt_layout.specs.declared.progress.Progress.{Progress}
 use Rattle.bt_layout.specs.Early.{IsLaid}
 use Rattle.bt_layout.specs.Grids.{IsWithin}
@@ -22,10 +22,10 @@ abbrev pub at_index : Progress → ℕ → ℕ
 at_index progress at = get_or progress.places.items at 0
 
 -- where parts were found, they lay the request whose place is open at the index
-abbrev pub IsSearched : List LayoutRequest → Progress → ℕ → Layout → Type 0
+abbrev pub IsSearched : List LayoutRequest → Progress → ℕ → Trial → Type 0
 IsSearched requests progress at (Found parts) = IsLaid requests (at_index progress at) parts
-IsSearched requests progress at (Nowhere log) = Unit {0}
-IsSearched requests progress at (Spent log) = Unit {0}
+IsSearched requests progress at Refuted = Unit {0}
+IsSearched requests progress at Spent = Unit {0}
 
 -- the request is for the network on a grid that is within the greatest one and has fewer cells than so many
 abbrev pub AsksSmall : Network → Tier → Rect → Option ℕ → LayoutRequest → Type 0
