@@ -8,7 +8,7 @@ use Rattle.bt_fenc.specs.FlowFormula.{flow_formula}
 use Rattle.bt_same.specs.Sameness.{AreSame, ShowsDifference}
 use Rattle.bt_same.specs.Pairs.{IsTrueOfBoth}
 use Rattle.bt_same.specs.SameFormula.{same_formula}
-use Rattle.bt_theory.specs.declared.outcome.Limits.{Limits}
+use Rattle.bt_cnf.specs.declared.limits.Limits.{Limits}
 use Rattle.bt_theory.specs.Outcomes.{IsRefutation, IsGivenUp}
 use Rattle.bt_decide.specs.declared.verdict.Verdict.{Verdict}
 use Rattle.bt_decide.specs.declared.verdict.Verdict.TheVariants.{Yes, No, GaveUp}

@@ -6,11 +6,11 @@ ghost use Rattle.bt_decide.specs.inner.Outcomes.{IsVerdictOf};
 use crate::guessing::guesses_of;
 use crate::scopes::scopes_of;
 use crate::verdict::Verdict;
-use bt_cnf::Chooser;
+use bt_cnf::{Chooser, Limits};
 use bt_fenc::{encode, state_of};
 use bt_flow::Property;
 use bt_net::Net;
-use bt_theory::{Limits, Outcome, solve};
+use bt_theory::{Outcome, solve};
 use std::alloc::{AllocError, Global};
 
 /// Decides within limits whether every steady state of a network has a property. Simulations that seem to

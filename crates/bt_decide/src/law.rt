@@ -1,8 +1,13 @@
-//! A law of decisions, as the contract of a function that does nothing.
-ghost use Rattle.bt_decide.specs.Certified.{YesIsCertificate};
+//! Laws of decisions, as contracts of functions that do nothing.
+ghost use Rattle.bt_decide.specs.Certified.{YesIsCertificate, SameIsCertificate};
 
 /// What is printed of the log of a yes is a certificate, which `bt_cert` accepts, where the log has fewer
 /// than 10 ^ 17 steps.
 pub fn yes_is_certificate()
     ensures { YesIsCertificate }
+{}
+
+/// The same of the log of a yes that two networks behave the same.
+pub fn same_is_certificate()
+    ensures { SameIsCertificate }
 {}

@@ -10,10 +10,11 @@ mod same;
 mod scopes;
 mod verdict;
 
-pub use bt_theory::{GaveUp, Limits};
+pub use bt_cnf::Limits;
+pub use bt_theory::GaveUp;
 pub use deciding::decide;
 pub use guessing::{guesses_of, guesses_of_both};
-pub use law::yes_is_certificate;
+pub use law::{same_is_certificate, yes_is_certificate};
 pub use same::decide_same;
 pub use std::alloc::AllocError as Memory;
 pub use verdict::{SameVerdict, Verdict};

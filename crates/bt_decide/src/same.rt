@@ -7,10 +7,10 @@ ghost use Rattle.bt_decide.specs.inner.Outcomes.{IsSameVerdictOf};
 use crate::guessing::guesses_of_both;
 use crate::scopes::scopes_of_both;
 use crate::verdict::SameVerdict;
-use bt_cnf::Chooser;
+use bt_cnf::{Chooser, Limits};
 use bt_net::Net;
 use bt_same::{encode_same, pair_of};
-use bt_theory::{Limits, Outcome, solve};
+use bt_theory::{Outcome, solve};
 use std::alloc::{AllocError, Global};
 
 /// Decides within limits whether two networks behave the same. Simulations of both in which they seem not to are tried

@@ -8,6 +8,7 @@ mod layout;
 mod made;
 mod model;
 mod net;
+mod pairs;
 mod parts;
 mod place;
 mod recover;

@@ -17,9 +17,9 @@ use Rattle.bt_same.specs.declared.pair.PairJudgement.{PairJudgement}
 use Rattle.bt_same.specs.declared.pair.PairJudgement.TheVariants.{Holds, Fails}
 use Rattle.bt_same.specs.declared.pair.PairWide.{PairWide}
 use Rattle.bt_same.specs.Sameness.{HaveEqualEnds, ShowsDifference}
-use Rattle.bt_same.specs.Pairs.{IsTrueOfBoth}
+use Rattle.bt_same.specs.Pairs.{AreAlike, IsTrueOfBoth}
 use Rattle.bt_same.specs.Judging.{Passes, IsFirstWideSum, IsPairAnswer}
-use Rattle.bt_same.specs.inner.Comparing.{AreAlike, OutputsAlike}
+use Rattle.bt_same.specs.inner.Comparing.{OutputsAlike}
 use Rattle.bt_same.proofs.Pairs.{some_both, fed_alike, alike_fed, give_alike, alike_give}
 
 -- what an answer on a state is of a pair, where it isn't that it passes

@@ -9,3 +9,8 @@ pub mod Refuted
 pub mod Pairs
 pub mod Solved
 pub mod Judged
+pub mod PairTexts
+pub mod PairAnswers
+pub mod PairPrinted
+pub mod Formed
+pub mod Shown

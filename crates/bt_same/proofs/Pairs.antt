@@ -14,8 +14,8 @@ use Rattle.bt_fenc.specs.Columns.{output_edge}
 use Rattle.bt_fenc.proofs.Numbers.{all_to}
 use Rattle.bt_fenc.proofs.NetEdges.{output_is, edge_of_output}
 use Rattle.bt_same.specs.Sameness.{HaveEqualEnds, AreFedAlike, GiveAlike}
-use Rattle.bt_same.specs.Pairs.{StandForBoth}
-use Rattle.bt_same.specs.inner.Comparing.{AreAlike, OutputsAlike}
+use Rattle.bt_same.specs.Pairs.{AreAlike, StandForBoth}
+use Rattle.bt_same.specs.inner.Comparing.{OutputsAlike}
 use Rattle.bt_same.proofs.Meeting.{one_over}
 
 positive : (rs : List Ratio) → All IsLowest rs → All (λ r. 0 < r.under) rs

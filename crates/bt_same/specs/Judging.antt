@@ -1,5 +1,5 @@
 -- What the judgement of a pair says.
-use Rattle.std.specs.Prelude.{◌≡◌, ℕ, Result, Ok, Err}
+use Rattle.std.specs.Prelude.{◌≡◌, ◌⊎◌, ℕ, Result, Ok, Err}
 use Rattle.bt_net.specs.Network.{Network}
 use Rattle.bt_flow.specs.declared.judgement.Test.{Test}
 use Rattle.bt_flow.specs.declared.judgement.Test.TheVariants.{Conclusion}
@@ -39,3 +39,8 @@ abbrev pub IsPairAnswer : Network → Network → Fractions → Fractions → Re
 IsPairAnswer a b x y (Ok Holds) = Passes a x × Passes b y × IsTrueOfBoth a b x y (ShowsDifference a b)
 IsPairAnswer a b x y (Ok (Fails place test at)) = IsFirstFailed a b x y place test at
 IsPairAnswer a b x y (Err wide) = IsFirstWideSum a b x y wide.place wide.sum
+
+-- of a pair that shows a difference no test fails: it is judged so, unless a sum leaves 128 bits
+abbrev pub ShownPairHolds : Type 0
+ShownPairHolds = (a b : Network) (x y : Fractions) (told : Result PairJudgement PairWide) → IsTrueOfBoth a b x y (ShowsDifference a b) → IsPairAnswer a b x y told
+    → (told ≡ Ok Holds) ⊎ ((wide : PairWide) × (told ≡ Err wide))

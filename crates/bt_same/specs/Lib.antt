@@ -1,7 +1,10 @@
 pub mod Sameness
 pub mod Pairs
+pub mod PairText
+pub mod PairReading
 pub mod Judging
 pub mod SameFormula
+pub mod Sizes
 pub mod Laws
 pub mod Solutions
 pub mod inner

@@ -3,6 +3,10 @@ use Rattle.std.specs.Prelude.{◌≡◌}
 use Rattle.bt_net.specs.Network.{Network}
 use Rattle.bt_flow.specs.States.{Flows, Fractions, StandsFor}
 
+-- the loads of two states are equal, and the rooms
+abbrev pub AreAlike : Fractions → Fractions → Type 0
+AreAlike x y = (x.loads ≡ y.loads) × (x.rooms ≡ y.rooms)
+
 -- the fractions of two states, each of its network, stand for whole numbers over one denominator
 pub record StandForBoth (a b : Network) (x y : Fractions) (s t : Flows) : Type 0 where
   pub first : StandsFor a x s

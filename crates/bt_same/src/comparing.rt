@@ -3,7 +3,8 @@ ghost use Rattle.std.specs.Prelude.{◌≡◌, ◌↔◌, ◌<◌, ℕ, IsTrue, 
 ghost use Rattle.bt_frac.specs.Values.{nothing};
 ghost use Rattle.bt_net.specs.Network.{IsNetwork};
 ghost use Rattle.bt_flow.specs.States.{AreLowest};
-ghost use Rattle.bt_same.specs.inner.Comparing.{AreAlike, OutputsAlike};
+ghost use Rattle.bt_same.specs.Pairs.{AreAlike};
+ghost use Rattle.bt_same.specs.inner.Comparing.{OutputsAlike};
 
 use bt_fenc::output_edge;
 use bt_flow::{Ports, State};

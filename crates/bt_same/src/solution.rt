@@ -12,6 +12,7 @@ ghost use Rattle.bt_same.specs.Solutions.{ShowsWhereMet};
 use crate::comparing::are_known;
 use crate::pair::Pair;
 use crate::shift::Shift;
+use bt_cnf::is_true;
 use bt_fenc::state_of;
 use bt_flow::State;
 use bt_frac::Frac;
@@ -43,16 +44,6 @@ fn part_values(
         found.push(value_of(values, columns.put(column)?))?;
     }
     Ok(found)
-}
-
-/// Whether a variable is true, or false past the end of the assignment.
-fn is_true(assignment: &[bool], var: usize) -> bool
-    ensures { result ≡ truth_in assignment.now var }
-{
-    match assignment.get(var) {
-        Some(truth) => *truth,
-        None => false,
-    }
 }
 
 /// The marks of a network, from where these go.

@@ -4,7 +4,7 @@ use Rattle.bt_flow.specs.declared.property.Property.{Property}
 use Rattle.bt_fenc.specs.FlowFormula.{flow_formula}
 use Rattle.bt_cnf.specs.Formulas.{IsFormula}
 use Rattle.bt_same.specs.SameFormula.{same_formula}
-use Rattle.bt_theory.specs.declared.outcome.Limits.{Limits}
+use Rattle.bt_cnf.specs.declared.limits.Limits.{Limits}
 use Rattle.bt_theory.specs.declared.outcome.Outcome.{Outcome}
 use Rattle.bt_theory.specs.Outcomes.{IsOutcome}
 use Rattle.bt_decide.specs.declared.verdict.Verdict.{Verdict}

@@ -41,6 +41,8 @@ const READ: &[&str] = &[
     "net 1 1 0\nedge i0 o0\npin i0 0 0\npin i0 0 0\nblock 0 0\nblock 0 0\n\nend\n|line|7",
     // A request has no priorities.
     "net 1 2 1\nedge i0 s0\nedge s0 o0\nedge s0 o1\ngive s0 1\nend\n|line|5",
+    "net 1 2 1\nedge i0 s0\nedge s0 o0\nedge s0 o1\ntake s0 0\npin i0 0 0\nend\n|line|5",
+    "net 1 2 1\nedge i0 s0\nedge s0 o0\nedge s0 o1\npin i0 0 0\ngive s0 1\nend\n|line|6",
 ];
 
 /// A text for a reader that takes no pins and blocks.
@@ -58,7 +60,11 @@ const READ_PLAINLY: &[&str] = &[
     "net 1 2 1\nedge i0 s0\nedge s0 o0\nedge s0 o1\ngive s0 0\nend\n|line|5",
     "net 1 2 1\nedge i0 s0\nedge s0 o0\nedge s0 o1\ntake s0 1\nend\n|line|5",
     "net 1 2 1\nedge i0 s0\nedge s0 o0\nedge s0 o1\ngive s0 3\nend\n|line|5",
+    "net 1 2 1\nedge i0 s0\nedge s0 o0\nedge s0 o1\ntake s0 3\nend\n|line|5",
     "net 1 2 1\nedge i0 s0\nedge s0 o0\nedge s0 o1\ngive s1 1\nend\n|line|5",
+    // An edge of another splitter.
+    "net 1 1 2\nedge i0 s0\nedge s0 s1\nedge s1 o0\ngive s0 2\nend\n|line|5",
+    "net 1 1 2\nedge i0 s0\nedge s0 s1\nedge s1 o0\ntake s1 0\nend\n|line|5",
     "net 1 2 1\nedge i0 s0\nedge s0 o0\nedge s0 o1\ngive s0 01\nend\n|line|5",
     "net 1 2 1\nedge i0 s0\nedge s0 o0\nedge s0 o1\ngive s0 1 \nend\n|line|5",
     "net 1 2 1\nedge i0 s0\nedge s0 o0\nedge s0 o1\ngive s0 4294967297\nend\n|line|5",
@@ -67,6 +73,7 @@ const READ_PLAINLY: &[&str] = &[
     "net 1 2 1\nedge i0 s0\nedge s0 o0\nedge s0 o1\ngive s0 1\npin i0 0 0\nend\n|line|6",
     "net 1 2 1\nedge i0 s0\nedge s0 o0\ngive s0 1\nedge s0 o1\nend\n|line|5",
     "net 1 2 1\ngive s0 1\nedge i0 s0\nedge s0 o0\nedge s0 o1\nend\n|line|2",
+    "net 1 2 1\nedge i0 s0\nedge s0 o0\nedge s0 o1\npin i0 0 0\ngive s0 1\nend\n|line|5",
 ];
 
 /// A text, and what is printed of its network.

@@ -5,10 +5,6 @@ use Rattle.bt_net.specs.Network.{Network}
 use Rattle.bt_flow.specs.States.{Fractions}
 use Rattle.bt_fenc.specs.Columns.{output_edge}
 
--- the loads are equal, and the rooms
-abbrev pub AreAlike : Fractions → Fractions → Type 0
-AreAlike x y = (x.loads ≡ y.loads) × (x.rooms ≡ y.rooms)
-
 -- the flow of an output is equal in both
 abbrev pub IsAlikeAt : Network → Network → Fractions → Fractions → ℕ → Type 0
 IsAlikeAt a b x y o = slice_index_or x.flows (output_edge a o) nothing ≡ slice_index_or y.flows (output_edge b o) nothing
