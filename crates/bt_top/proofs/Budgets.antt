@@ -10,19 +10,22 @@ use Rattle.bt_net.specs.Network.{Network}
 use Rattle.bt_flow.specs.declared.property.Property.{Property}
 use Rattle.bt_flow.specs.declared.property.Property.TheVariants.{Balanced}
 use Rattle.bt_fenc.specs.FlowFormula.{flow_formula}
+use Rattle.bt_same.specs.SameFormula.{same_formula}
 use Rattle.bt_simplex.specs.Counting.{most_bases}
 use Rattle.bt_simplex.specs.declared.answers.Trail.{Trail}
 use Rattle.bt_theory.specs.Reaching.{atom_rows, columns_of}
 use Rattle.bt_theory.specs.Outcomes.{IsUsedUp, IsGivenUp, TurnsOn}
 use Rattle.bt_theory.specs.declared.outcome.GaveUp.{GaveUp}
 use Rattle.bt_theory.specs.declared.outcome.GaveUp.TheVariants as gave
-use Rattle.bt_theory.specs.declared.outcome.Limits.{Limits}
+use Rattle.bt_cnf.specs.declared.limits.Limits.{Limits}
 use Rattle.bt_gen.specs.Chain.{chain_net}
 use Rattle.bt_gen.specs.declared.fault.GenFault.{GenFault}
 use Rattle.bt_gen.specs.declared.fault.GenFault.TheVariants as gen
 use Rattle.bt_decide.specs.declared.verdict.Verdict.{Verdict}
 use Rattle.bt_decide.specs.declared.verdict.Verdict.TheVariants as verdict
-use Rattle.bt_decide.specs.Verdicts.{IsVerdict}
+use Rattle.bt_decide.specs.declared.verdict.SameVerdict.{SameVerdict}
+use Rattle.bt_decide.specs.declared.verdict.SameVerdict.TheVariants as of_same
+use Rattle.bt_decide.specs.Verdicts.{IsVerdict, IsSameVerdict}
 use Rattle.bt_layout.specs.declared.outcome.Layout.{Layout as ALayout}
 use Rattle.bt_layout.specs.declared.outcome.Layout.TheVariants as layout
 use Rattle.bt_layout.specs.Layouts.{IsLayout}
@@ -35,7 +38,7 @@ use Rattle.bt_model.specs.Requests.{LayoutRequest}
 use Rattle.bt_place.specs.PlaceFormula.{place_formula}
 use Rattle.bt_words.specs.declared.command.Command.{Command}
 use Rattle.bt_words.specs.Commands.{IsCommand}
-use Rattle.bt_words.specs.declared.command.Command.TheVariants.{FlowCheck, Recover, Check, Decide, Make, Layout, CheckLayout, Smallest, FindSmall, FlowFormula, PlaceFormula}
+use Rattle.bt_words.specs.declared.command.Command.TheVariants.{FlowCheck, Recover, Check, Decide, Make, Layout, CheckLayout, Smallest, FindSmall, FlowFormula, PlaceFormula, Same, CheckSame}
 use Rattle.bt_words.specs.declared.command.Family.{Family}
 use Rattle.bt_words.specs.declared.command.Family.TheVariants.{Butterfly, Chain}
 use Rattle.bt_top.specs.declared.answer.Answer.{Answer}
@@ -46,7 +49,8 @@ use Rattle.bt_top.specs.declared.refusal.Refusal.TheVariants as refusal
 use Rattle.bt_top.specs.declared.program.TheConstants.{READ_FAULT, NO_MEMORY}
 use Rattle.bt_top.specs.Answering.{IsRightTo}
 use Rattle.bt_top.specs.Answers.{status_of, gave_up_status}
-use Rattle.bt_top.specs.Budgets.{IsAmple, HasAmple, AmpleIsNeverSpent, AmpleNeverEndsSpent, IsAmpleOfTurns, HasAmpleTurns, AmpleTurnsAreNeverMade, AmpleTurnsNeverEndMade}
+use Rattle.bt_top.specs.Budgets.{IsAmple, HasAmple, AmpleIsNeverSpent, AmpleNeverEndsSpent, IsAmpleOfTurns, AmpleTurnsAreNeverMade, AmpleTurnsNeverEndMade}
+use Rattle.bt_top.specs.Comparing.{same_told}
 use Rattle.bt_top.specs.Deciding.{verdict_told}
 use Rattle.bt_top.specs.Alone.{IsLoneNet}
 use Rattle.bt_top.specs.Endings.{IsTold, status_after, Ends}
@@ -55,8 +59,10 @@ use Rattle.bt_top.specs.LayingOut.{layout_told}
 use Rattle.bt_top.specs.Making.{made_of, gen_told, balance_told}
 use Rattle.bt_top.specs.Replies.{Reply, design_told}
 use Rattle.bt_top.specs.Steps.{stopped, went_on}
+use Rattle.bt_top.specs.TwoDesigns.{IsTwoNets}
 use Rattle.bt_top.proofs.InTurns.{same_value, not_both}
 use Rattle.bt_top.proofs.OneAnswer.{one_lone_net}
+use Rattle.bt_top.proofs.OnePair.{one_two_nets}
 use Rattle.bt_top.proofs.OneRequest.{one_lone_request, one_plain_request, plain_rect}
 
 -- the steps of an ample budget are never used up
@@ -99,6 +105,18 @@ module _ (due : ℕ) (high : 4 ≤ due) where
   decide_other p limits bytes n a alone never (went_on m h (v, is, e)) =
       let same = same_value m n (one_lone_net bytes (Ok m) (Ok n) h alone) in
       verdict_other m p limits v (subst (λ x. NeverGivesUp (flow_formula x p) limits) (sym same) never) is a (sym e)
+
+  same_other : (n m : Network) (limits : Limits) (v : SameVerdict) → NeverGivesUp (same_formula n m) limits → IsSameVerdict n m limits v → IsOther (Ok (same_told v))
+  same_other n m limits (of_same.Yes log) never is = other_status (answer.Same log) (λ e. omega (arith, e, high))
+  same_other n m limits (of_same.No pair) never is = other_status (answer.Differ pair) (λ e. omega (arith, e, high))
+  same_other n m limits (of_same.GaveUp cause) never is = other_status (answer.GaveUp cause) (never cause is)
+
+  pub compare_other : (limits : Limits) (bytes : List ℕ) (nets : Network × Network) (a : Answer) → IsTwoNets bytes (Ok nets) → NeverGivesUp (same_formula nets.0 nets.1) limits
+      → IsRightTo (Same limits) bytes (Ok a) → status_of a ≢ due
+  compare_other limits bytes nets a alone never (stopped fault h e) = design_other fault a (sym e)
+  compare_other limits bytes nets a alone never (went_on found h (v, is, e)) =
+      let same = same_value found nets (one_two_nets bytes (Ok found) (Ok nets) h alone) in
+      same_other found.0 found.1 limits v (subst (λ (x : Network × Network). NeverGivesUp (same_formula x.0 x.1) limits) (sym same) never) is a (sym e)
 
   made_other : (family : Family) (order : ℕ) (n : Network) (balanced : Bool) → IsOther (Ok (made_of family order n balanced))
   made_other family order n true = other_status (made_of family order n true) (λ e. omega (arith, e, high))
@@ -178,6 +196,9 @@ ample_is_never_spent (Smallest most tier learnt) bytes a ample h = search_never 
 ample_is_never_spent (FindSmall most tier learnt) bytes a ample h = absurd ample
 ample_is_never_spent (FlowFormula p) bytes a ample h = absurd ample
 ample_is_never_spent (PlaceFormula rect tier) bytes a ample h = absurd ample
+ample_is_never_spent (Same limits) bytes a (nets, alone, ample) h =
+    compare_other 4 high_four limits bytes nets a alone (steps_never (same_formula nets.0 nets.1) limits ample) h
+ample_is_never_spent CheckSame bytes a ample h = absurd ample
 
 -- ---- turns
 
@@ -203,6 +224,9 @@ ample_turns_are_never_made (Smallest most tier learnt) bytes a ample h = absurd 
 ample_turns_are_never_made (FindSmall most tier learnt) bytes a ample h = absurd ample
 ample_turns_are_never_made (FlowFormula p) bytes a ample h = absurd ample
 ample_turns_are_never_made (PlaceFormula rect tier) bytes a ample h = absurd ample
+ample_turns_are_never_made (Same limits) bytes a (nets, alone, ample) h =
+    compare_other 10 high_ten limits bytes nets a alone (turns_never (same_formula nets.0 nets.1) limits ample) h
+ample_turns_are_never_made CheckSame bytes a ample h = absurd ample
 
 -- ---- how the program ends
 

@@ -7,6 +7,7 @@ use Rattle.bt_text.proofs.Longer.{split-longer}
 use Rattle.bt_net.specs.Network.{Network, IsNetwork}
 use Rattle.bt_flow.specs.declared.property.Property.{Property}
 use Rattle.bt_flow.specs.Names.{property_name}
+use Rattle.bt_flow.specs.StateLines.{forms, just}
 use Rattle.bt_flow.proofs.WrongLines.{stop_first}
 use Rattle.bt_fenc.specs.FlowFormula.{flow_formula}
 use Rattle.bt_cert.specs.Certificates.{IsCertRead}
@@ -54,5 +55,5 @@ module _ (n : Network) (p : Property) (text title lines : List ℕ) (split : Spl
       let cuts : CutsAt 10 (text ++ more) title (10 ∷ (lines ++ more)) = record { lacks = on.first; text_is = on.text_is; begins = inr (lines ++ more, refl) } in
       inr (
         λ after says. not_yes (IsFirstLine-unique (text ++ more) _ _ _ _ (inl on) says).0,
-        stopped (state.CertLine 1) (stop_first n p (text ++ more) _ _ title (10 ∷ (lines ++ more)) refl cuts not_no) e,
+        stopped (state.CertLine 1) (stop_first (forms n p) (text ++ more) (just (codes "no " ++ property_name p)) _ title (10 ∷ (lines ++ more)) refl cuts not_no) e,
       )

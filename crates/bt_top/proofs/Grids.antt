@@ -1,7 +1,7 @@
 -- The rectangle of a command is the grid of a request.
 use Rattle.std.proofs.Common.{ℕ, List}
 use Rattle.bt_words.specs.declared.command.Command.{Command}
-use Rattle.bt_words.specs.declared.command.Command.TheVariants.{FlowCheck, Recover, Check, Decide, Make, Layout, CheckLayout, Smallest, FindSmall, FlowFormula, PlaceFormula}
+use Rattle.bt_words.specs.declared.command.Command.TheVariants.{FlowCheck, Recover, Check, Decide, Make, Layout, CheckLayout, Smallest, FindSmall, FlowFormula, PlaceFormula, Same, CheckSame}
 use Rattle.bt_words.specs.Commands.{IsCommand}
 use Rattle.bt_words.proofs.OneCommand.{grid_to_lay, grid_to_check, grid_to_search, grid_to_find, grid_of_formula}
 use Rattle.bt_top.specs.inner.Grids.{HasGrid}
@@ -18,3 +18,5 @@ has_grid (Smallest most tier learnt) words is = grid_to_search most tier learnt 
 has_grid (FindSmall most tier learnt) words is = grid_to_find most tier learnt words is
 has_grid (FlowFormula p) words is = tt
 has_grid (PlaceFormula rect tier) words is = grid_of_formula rect tier words is
+has_grid (Same limits) words is = tt
+has_grid CheckSame words is = tt

@@ -5,7 +5,7 @@ use Rattle.bt_io.specs.Passages.{Passage}
 use Rattle.bt_io.specs.declared.fault.ReadAll.TheVariants.{TooLong, Memory}
 use Rattle.bt_io.proofs.Told.{all_told, takes_told}
 use Rattle.bt_words.specs.declared.command.Command.{Command}
-use Rattle.bt_words.specs.declared.command.Command.TheVariants.{FlowCheck, Recover, Check, Decide, Make, Layout, CheckLayout, Smallest, FindSmall, FlowFormula, PlaceFormula}
+use Rattle.bt_words.specs.declared.command.Command.TheVariants.{FlowCheck, Recover, Check, Decide, Make, Layout, CheckLayout, Smallest, FindSmall, FlowFormula, PlaceFormula, Same, CheckSame}
 use Rattle.bt_top.specs.Inputs.{ReadsInput, IsInput, input_limit}
 
 read_before_in : (limit : ℕ) (source : Passage) (bytes : List ℕ) → ReadsAll limit source (Ok bytes) → ReadsAll limit source (Err Memory)
@@ -24,6 +24,8 @@ read_before (Smallest most tier learnt) source bytes h = read_before_in (input_l
 read_before (FindSmall most tier learnt) source bytes h = read_before_in (input_limit (FindSmall most tier learnt)) source bytes h
 read_before (FlowFormula p) source bytes h = read_before_in (input_limit (FlowFormula p)) source bytes h
 read_before (PlaceFormula rect tier) source bytes h = read_before_in (input_limit (PlaceFormula rect tier)) source bytes h
+read_before (Same limits) source bytes h = read_before_in (input_limit (Same limits)) source bytes h
+read_before CheckSame source bytes h = read_before_in (input_limit CheckSame) source bytes h
 
 told_in : (limit : ℕ) (source : Passage) (bytes all : List ℕ) → source.before ≡ Some bytes → ReadsAll limit source (Ok all) → all ≡ bytes
 told_in limit source bytes all is r = all_told source bytes all is r.read.0
@@ -41,6 +43,8 @@ input_told (Smallest most tier learnt) source bytes all is r = told_in (input_li
 input_told (FindSmall most tier learnt) source bytes all is r = told_in (input_limit (FindSmall most tier learnt)) source bytes all is.0 r
 input_told (FlowFormula p) source bytes all is r = told_in (input_limit (FlowFormula p)) source bytes all is.0 r
 input_told (PlaceFormula rect tier) source bytes all is r = told_in (input_limit (PlaceFormula rect tier)) source bytes all is.0 r
+input_told (Same limits) source bytes all is r = told_in (input_limit (Same limits)) source bytes all is.0 r
+input_told CheckSame source bytes all is r = told_in (input_limit CheckSame) source bytes all is.0 r
 
 few_in : (limit : ℕ) (source : Passage) (bytes : List ℕ) → source.before ≡ Some bytes → length bytes ≤ limit → ReadsAll limit source (Err TooLong) → ⊥
 few_in limit source bytes is few r =
@@ -59,6 +63,8 @@ not_too_long (Smallest most tier learnt) source bytes is r = few_in (input_limit
 not_too_long (FindSmall most tier learnt) source bytes is r = few_in (input_limit (FindSmall most tier learnt)) source bytes is.0 is.1 r
 not_too_long (FlowFormula p) source bytes is r = few_in (input_limit (FlowFormula p)) source bytes is.0 is.1 r
 not_too_long (PlaceFormula rect tier) source bytes is r = few_in (input_limit (PlaceFormula rect tier)) source bytes is.0 is.1 r
+not_too_long (Same limits) source bytes is r = few_in (input_limit (Same limits)) source bytes is.0 is.1 r
+not_too_long CheckSame source bytes is r = few_in (input_limit CheckSame) source bytes is.0 is.1 r
 
 within_in : (limit : ℕ) (source : Passage) (bytes : List ℕ) → ReadsAll limit source (Ok bytes) → length bytes ≤ limit
 within_in limit source bytes r = r.read.1
@@ -76,3 +82,5 @@ within_limit (Smallest most tier learnt) source bytes r = within_in (input_limit
 within_limit (FindSmall most tier learnt) source bytes r = within_in (input_limit (FindSmall most tier learnt)) source bytes r
 within_limit (FlowFormula p) source bytes r = within_in (input_limit (FlowFormula p)) source bytes r
 within_limit (PlaceFormula rect tier) source bytes r = within_in (input_limit (PlaceFormula rect tier)) source bytes r
+within_limit (Same limits) source bytes r = within_in (input_limit (Same limits)) source bytes r
+within_limit CheckSame source bytes r = within_in (input_limit CheckSame) source bytes r

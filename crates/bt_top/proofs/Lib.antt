@@ -10,8 +10,15 @@ pub mod LongerRequests
 pub mod Followed
 pub mod Rechecked
 pub mod RecheckedLayouts
+pub mod RecheckedLeast
 pub mod StandingAlone
 pub mod OneRequest
+pub mod OnePair
+pub mod BareTexts
+pub mod SameCertified
+pub mod BareNets
+pub mod TwoFollowed
+pub mod RecheckedPairs
 pub mod NoneCertified
 pub mod Grids
 pub mod LaidOut

@@ -19,12 +19,14 @@ use Rattle.bt_flow.proofs.OneAnswer.{one_breaking_answer}
 use Rattle.bt_flow.proofs.StateTexts.{one_state_read}
 use Rattle.bt_top.specs.declared.answer.Answer.{Answer}
 use Rattle.bt_top.specs.declared.answer.Answer.TheVariants as answer
-use Rattle.bt_words.specs.declared.command.Command.TheVariants.{FlowCheck, Recover, Check, Decide, Make, Layout, CheckLayout, Smallest, FindSmall, FlowFormula, PlaceFormula}
+use Rattle.bt_words.specs.declared.command.Command.TheVariants.{FlowCheck, Recover, Check, Decide, Make, Layout, CheckLayout, Smallest, FindSmall, FlowFormula, PlaceFormula, Same, CheckSame}
 use Rattle.bt_words.specs.declared.command.Family.TheVariants.{Butterfly, Chain}
 use Rattle.bt_theory.specs.declared.outcome.GaveUp.{GaveUp}
 use Rattle.bt_theory.specs.declared.outcome.GaveUp.TheVariants as gave
 use Rattle.bt_decide.specs.declared.verdict.Verdict.{Verdict}
 use Rattle.bt_decide.specs.declared.verdict.Verdict.TheVariants as verdict
+use Rattle.bt_decide.specs.declared.verdict.SameVerdict.{SameVerdict}
+use Rattle.bt_decide.specs.declared.verdict.SameVerdict.TheVariants as of_same
 use Rattle.bt_layout.specs.declared.outcome.Layout.{Layout as ALayout}
 use Rattle.bt_layout.specs.declared.outcome.Layout.TheVariants as layout
 use Rattle.bt_layout.specs.declared.outcome.Small.{Small as ASmall}
@@ -42,6 +44,7 @@ use Rattle.bt_top.specs.Certificates.{cert_told, IsYesChecked, IsTextChecked, Is
 use Rattle.bt_top.specs.Alone.{IsLoneNet}
 use Rattle.bt_top.specs.Answering.{OneRightAnswer}
 use Rattle.bt_top.specs.Answers.{status_of}
+use Rattle.bt_top.specs.Comparing.{IsCompared, same_told}
 use Rattle.bt_top.specs.Deciding.{IsDecided, verdict_told}
 use Rattle.bt_top.specs.Finding.{IsDesignRequest, IsFound}
 use Rattle.bt_top.specs.Formulas.{IsFlowFormulaFrom, IsPlaceFormulaFrom}
@@ -54,10 +57,13 @@ use Rattle.bt_top.specs.Requested.{IsFrontRequest, IsLoneRequest}
 use Rattle.bt_top.specs.Replies.{Reply, design_told}
 use Rattle.bt_top.specs.States.{verdict, state_told, IsJudged, IsStateJudged, IsStateChecked, IsChecked}
 use Rattle.bt_top.specs.Steps.{InTurn, stopped, went_on}
+use Rattle.bt_top.specs.TwoDesigns.{IsTwoNets}
 use Rattle.bt_top.proofs.Blanks.{one_rest}
 use Rattle.bt_top.proofs.InTurns.{one_in_turn, one_in_turn_of, same_value, same_fault, not_both}
 use Rattle.bt_top.proofs.OneDesign.{one_design, design_network}
+use Rattle.bt_top.proofs.OnePair.{one_two_nets}
 use Rattle.bt_top.proofs.OneRequest.{one_front_request, one_lone_request, one_plain_request, one_design_request, front_request}
+use Rattle.bt_top.proofs.SameCertified.{one_same_certified}
 use Rattle.bt_top.proofs.StandingAlone.{one_alone}
 
 -- ---- flow-check
@@ -163,6 +169,11 @@ verdict_apart p (verdict.Yes log) is = omega (arith, is)
 verdict_apart p (verdict.No state) is = omega (arith, is)
 verdict_apart p (verdict.GaveUp cause) is = gave_up_apart cause is
 
+same_apart : (v : SameVerdict) → status_of (same_told v) ≢ 3
+same_apart (of_same.Yes log) is = omega (arith, is)
+same_apart (of_same.No pair) is = omega (arith, is)
+same_apart (of_same.GaveUp cause) is = gave_up_apart cause is
+
 balance_apart : (order : ℕ) (n : Network) (v : Verdict) → status_of (balance_told order n v) ≢ 3
 balance_apart order n (verdict.Yes log) is = omega (arith, is)
 balance_apart order n (verdict.No state) is = omega (arith, is)
@@ -209,3 +220,6 @@ only_right (FindSmall most tier learnt) bytes a b only h k =
     refused_only (IsDesignRequest most tier bytes) design_told (IsFound bytes learnt) (one_design_request most tier bytes) (λ r c d. apart c (answer.Small d.0) d.3 (small_apart d.0)) a b only h k
 only_right (FlowFormula p) bytes a b only h k = same_value a b (one_flow_formula p bytes (Ok a) (Ok b) h k)
 only_right (PlaceFormula rect tier) bytes a b only h k = same_value a b (one_place_formula rect tier bytes (Ok a) (Ok b) h k)
+only_right (Same limits) bytes a b only h k =
+    refused_only (IsTwoNets bytes) design_told (IsCompared limits) (one_two_nets bytes) (λ nets c d. apart c (same_told d.0) d.2 (same_apart d.0)) a b only h k
+only_right CheckSame bytes a b only h k = same_value a b (one_same_certified bytes (Ok a) (Ok b) h k)

@@ -60,7 +60,7 @@ module _ (bytes : List ℕ) (n : PinnedNet) (used : ℕ) where
   pinned_json_stays is (went_on found h e) more =
       went_on found (json_design_stays IsBlueprintNet bytes more (Ok found) is (λ fault other. absurd (not_both found _ other)) h) e
 
-  pinned_stays : IsPinned bytes (Ok (n, used)) → PinnedStays
+  pub pinned_stays : IsPinned bytes (Ok (n, used)) → PinnedStays
   pinned_stays (inl (is, h)) = inl (λ more. inl (json_text_stays bytes more is, pinned_json_stays is h more))
   pinned_stays (inr (none, h)) = pinned_text_stays h
 
@@ -74,7 +74,7 @@ module _ (bytes : List ℕ) (n : PinnedNet) (used : ℕ) where
   pinned_text_within (went_on read h e) =
       let same = place_of n (pinned_net read.net read.pins read.blocks) used read.used e in omega (arith, same, h.used)
 
-  pinned_within : IsPinned bytes (Ok (n, used)) → used ≤ length bytes
+  pub pinned_within : IsPinned bytes (Ok (n, used)) → used ≤ length bytes
   pinned_within (inl h) = pinned_json_within h.1
   pinned_within (inr h) = pinned_text_within h.1
 
@@ -87,7 +87,7 @@ told_nowhere (layout.Spent other) log e = cc
 
 module _ (rect : Rect) (tier : Tier) (learnt : ℕ) (bytes : List ℕ) (log : Log) (short : length (bytes ++ 10 ∷ nowhere_text log.steps) ≤ MOST_CHECKED) where
   -- what follows the request is the certificate
-  certificate_follows : (n : PinnedNet) (r : LayoutRequest) → IsFollowed IsPinned bytes (nowhere_text log.steps) n → IsRequestFor rect tier n (Ok r)
+  pub certificate_follows : (n : PinnedNet) (r : LayoutRequest) → IsFollowed IsPinned bytes (nowhere_text log.steps) n → IsRequestFor rect tier n (Ok r)
       → IsLayout r learnt (layout.Nowhere log) → IsLayoutChecked rect tier (bytes ++ 10 ∷ nowhere_text log.steps) (Ok answer.NoLayout)
   certificate_follows n r on made right =
       let front : IsFrontRequest rect tier (bytes ++ 10 ∷ nowhere_text log.steps) (Ok (r, on.used)) = went_on (n, on.used) on.front (Ok r, made, refl) in

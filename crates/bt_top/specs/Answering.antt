@@ -1,11 +1,12 @@
 -- What a command answers to the bytes of its input.
 use Rattle.std.specs.Prelude.{◌≡◌, ℕ, List, Ok}
 use Rattle.bt_words.specs.declared.command.Command.{Command}
-use Rattle.bt_words.specs.declared.command.Command.TheVariants.{FlowCheck, Recover, Check, Decide, Make, Layout, CheckLayout, Smallest, FindSmall, FlowFormula, PlaceFormula}
+use Rattle.bt_words.specs.declared.command.Command.TheVariants.{FlowCheck, Recover, Check, Decide, Make, Layout, CheckLayout, Smallest, FindSmall, FlowFormula, PlaceFormula, Same, CheckSame}
 use Rattle.bt_words.specs.declared.command.Family.TheVariants.{Butterfly, Chain}
 use Rattle.bt_top.specs.declared.answer.Answer.{Answer}
 use Rattle.bt_top.specs.Answers.{status_of}
 use Rattle.bt_top.specs.Certificates.{IsCertified}
+use Rattle.bt_top.specs.Comparing.{IsComparedFrom}
 use Rattle.bt_top.specs.Deciding.{IsDecidedFrom}
 use Rattle.bt_top.specs.Finding.{IsFoundFrom}
 use Rattle.bt_top.specs.Formulas.{IsFlowFormulaFrom, IsPlaceFormulaFrom}
@@ -14,6 +15,7 @@ use Rattle.bt_top.specs.Making.{IsMade}
 use Rattle.bt_top.specs.NoneCertificates.{IsLayoutChecked}
 use Rattle.bt_top.specs.Recovering.{IsRecoveredFrom}
 use Rattle.bt_top.specs.Replies.{Reply}
+use Rattle.bt_top.specs.SameCertificates.{IsSameCertified}
 use Rattle.bt_top.specs.Searching.{IsSearchedFrom}
 use Rattle.bt_top.specs.States.{IsChecked}
 
@@ -30,8 +32,10 @@ IsRightTo (Smallest most tier learnt) bytes = IsSearchedFrom most tier learnt by
 IsRightTo (FindSmall most tier learnt) bytes = IsFoundFrom most tier learnt bytes
 IsRightTo (FlowFormula p) bytes = IsFlowFormulaFrom p bytes
 IsRightTo (PlaceFormula rect tier) bytes = IsPlaceFormulaFrom rect tier bytes
+IsRightTo (Same limits) bytes = IsComparedFrom limits bytes
+IsRightTo CheckSame bytes = IsSameCertified bytes
 
--- where it is right, it is the one right answer: what is refused has no other answer, and of most commands nothing has; of `decide`, `make` of a chain, `layout` and `smallest` others may be right, with other evidence
+-- where it is right, it is the one right answer: what is refused has no other answer, and of most commands nothing has; of `decide`, `make` of a chain, `layout`, `smallest` and `same` others may be right, with other evidence
 abbrev pub IsOnly : Command → Answer → Type 0
 IsOnly (FlowCheck p) a = Unit {0}
 IsOnly Recover a = Unit {0}
@@ -45,6 +49,8 @@ IsOnly (Smallest most tier learnt) a = status_of a ≡ 3
 IsOnly (FindSmall most tier learnt) a = status_of a ≡ 3
 IsOnly (FlowFormula p) a = Unit {0}
 IsOnly (PlaceFormula rect tier) a = Unit {0}
+IsOnly (Same limits) a = status_of a ≡ 3
+IsOnly CheckSame a = Unit {0}
 
 -- an answer that is the one right answer is equal to each right answer
 abbrev pub OneRightAnswer : Type 0

@@ -1,15 +1,18 @@
 -- The statuses and the texts of answers.
-use Rattle.std.specs.Prelude.{ℕ, Bool, if◌then◌else◌, List, ◌++◌, length, codes, decimal}
+use Rattle.std.specs.Prelude.{ℕ, Bool, if◌then◌else◌, List, [], ◌++◌, length, codes, decimal}
 use Rattle.bt_net.specs.NetText.{line, net_text}
 use Rattle.bt_cert.specs.declared.fault.Cause.{Cause}
 use Rattle.bt_cert.specs.declared.fault.Cause.TheVariants.{Literal, Weight, Sum, Hint, Unit}
 use Rattle.bt_flow.specs.declared.property.Property.{Property}
 use Rattle.bt_flow.specs.Names.{property_name, test_name}
 use Rattle.bt_flow.specs.StateText.{printed_state}
+use Rattle.bt_same.specs.PairText.{printed_pair}
 use Rattle.bt_log.specs.Logs.{Step}
 use Rattle.bt_log.specs.LogText.{log_text}
 use Rattle.bt_theory.specs.declared.outcome.GaveUp as gave
 use Rattle.bt_theory.specs.declared.outcome.GaveUp.TheVariants.{Spent, Pivots, Wide}
+use Rattle.bt_same.specs.declared.pair.Which.{Which}
+use Rattle.bt_same.specs.declared.pair.Which.TheVariants.{First, Second, Kept}
 use Rattle.bt_layout.specs.declared.outcome.Smallest as smallest
 use Rattle.bt_layout.specs.declared.outcome.Smallest.TheVariants.{Found, Nowhere as NoGrid, Spent as SpentOn}
 use Rattle.bt_layout.specs.declared.outcome.Small.{Small as ASmall}
@@ -23,7 +26,7 @@ use Rattle.bt_words.specs.declared.command.Family.{Family}
 use Rattle.bt_words.specs.declared.command.Family.TheVariants.{Butterfly, Chain}
 use Rattle.bt_top.specs.declared.making.Made as making
 use Rattle.bt_top.specs.declared.answer.Answer.{Answer}
-use Rattle.bt_top.specs.declared.answer.Answer.TheVariants.{Breaks, Yes, No, Recovered, Proved, Broken, GaveUp, Made, LaidOut, Nowhere, NoLayout, Least, Small, Usage, Refused, WideState, CertLine, BadStep, NoVerdict, CertWide, NotBreaking, TooLong, FlowFormula, PlaceFormula}
+use Rattle.bt_top.specs.declared.answer.Answer.TheVariants.{Breaks, Yes, No, Recovered, Proved, Broken, GaveUp, Made, LaidOut, Nowhere, NoLayout, Least, Small, Usage, Refused, WideState, CertLine, BadStep, NoVerdict, CertWide, NotBreaking, TooLong, FlowFormula, PlaceFormula, Same, Differ, ShownSame, ShownDiffer, NotDiffering, WidePair}
 use Rattle.bt_top.specs.Refusals.{refusal_text}
 
 -- the status of a network that was made: 0 where it is balanced, and 1 where it isn't
@@ -73,6 +76,12 @@ status_of (NotBreaking t a) = 9
 status_of TooLong = 11
 status_of (FlowFormula columns f) = 0
 status_of (PlaceFormula starts f) = 0
+status_of (Same log) = 0
+status_of (Differ pair) = 1
+status_of ShownSame = 0
+status_of ShownDiffer = 1
+status_of (NotDiffering which t a) = 9
+status_of (WidePair which t a) = 5
 
 -- the word for why a step isn't valid
 abbrev pub cause_name : Cause → List ℕ
@@ -101,6 +110,10 @@ made_text made =
 abbrev pub proved_text : Property → List Step → List ℕ
 proved_text p steps = line (codes "yes " ++ property_name p) ++ log_text steps
 
+-- the certificate that two networks behave the same: `same`, and the steps of the log
+abbrev pub same_text : List Step → List ℕ
+same_text steps = line (codes "same") ++ log_text steps
+
 -- the text of a log that is used up: `spent` and the number of its steps, and the steps
 abbrev pub spent_text : List Step → List ℕ
 spent_text steps = line (codes "spent " ++ decimal (length steps)) ++ log_text steps
@@ -110,6 +123,12 @@ abbrev pub gave_up_text : gave.GaveUp → List ℕ
 gave_up_text (Spent log) = spent_text log.steps
 gave_up_text (Wide wide) = wide_text wide
 gave_up_text (Pivots trail) = pivots_text trail
+
+-- the word for what of a pair a test is of, and a space; of both states together there is none
+abbrev pub which_text : Which → List ℕ
+which_text First = codes "first "
+which_text Second = codes "second "
+which_text Kept = []
 
 -- the text of an answer
 abbrev pub text_of : Answer → List ℕ
@@ -137,3 +156,9 @@ text_of (NotBreaking t a) = line (codes "refused 54 NotBreaking " ++ test_name t
 text_of TooLong = line (codes "too long")
 text_of (FlowFormula columns f) = flow_formula_text columns f
 text_of (PlaceFormula starts f) = place_formula_text starts f
+text_of (Same log) = same_text log.steps
+text_of (Differ pair) = printed_pair pair
+text_of ShownSame = line (codes "same")
+text_of ShownDiffer = line (codes "differ")
+text_of (NotDiffering which t a) = line (codes "refused 54 NotBreaking " ++ which_text which ++ test_name t ++ codes " " ++ decimal a)
+text_of (WidePair which t a) = line (codes "wide " ++ which_text which ++ test_name t ++ codes " " ++ decimal a)

@@ -6,6 +6,7 @@ use Rattle.bt_net.specs.Network.{Network}
 use Rattle.bt_cnf.specs.Formulas.{FormulaParts}
 use Rattle.bt_fenc.specs.FlowFormula.{flow_formula}
 use Rattle.bt_gen.specs.Chain.{chain_net}
+use Rattle.bt_same.specs.SameFormula.{same_formula}
 use Rattle.bt_simplex.specs.Counting.{most_bases}
 use Rattle.bt_theory.specs.Reaching.{atom_rows, columns_of}
 use Rattle.bt_model.specs.Requests.{LayoutRequest}
@@ -14,7 +15,7 @@ use Rattle.bt_parts.specs.declared.part.Rect.{Rect}
 use Rattle.bt_layout.specs.Grids.{IsWithin}
 use Rattle.bt_layout.specs.Smallest.{request_on}
 use Rattle.bt_words.specs.declared.command.Command.{Command}
-use Rattle.bt_words.specs.declared.command.Command.TheVariants.{Decide, Make, Layout, Smallest}
+use Rattle.bt_words.specs.declared.command.Command.TheVariants.{Decide, Make, Layout, Smallest, Same}
 use Rattle.bt_words.specs.declared.command.Family.TheVariants.{Butterfly, Chain}
 use Rattle.bt_words.specs.Commands.{IsCommand}
 use Rattle.bt_top.specs.declared.answer.Answer.{Answer}
@@ -25,12 +26,13 @@ use Rattle.bt_top.specs.Endings.{Ends}
 use Rattle.bt_top.specs.Inputs.{IsInput}
 use Rattle.bt_top.specs.Requested.{IsLoneRequest}
 use Rattle.bt_top.specs.Searching.{IsPlainRequest}
+use Rattle.bt_top.specs.TwoDesigns.{IsTwoNets}
 
 -- so many steps may be logged in deciding the formula: 3 ^ v or more, where it has v variables
 abbrev pub IsAmple : FormulaParts → ℕ → Type 0
 IsAmple f learnt = 3 ^ f.vars ≤ learnt
 
--- the command may log that many steps of the formula that it decides: the flow formula of the design's network or of the chain that is made, or the placement formula of the request, or of the network on each grid; a butterfly takes none
+-- the command may log that many steps of the formula that it decides: the flow formula of the design's network or of the chain that is made, or the placement formula of the request, or of the network on each grid, or the formula of two networks; a butterfly takes none
 abbrev pub HasAmple : Command → List ℕ → Type 0
 HasAmple (Decide p limits) bytes = (n : Network) × IsLoneNet bytes (Ok n) × IsAmple (flow_formula n p) limits.learnt
 HasAmple (Make Butterfly order limits) bytes = Unit {0}
@@ -38,6 +40,7 @@ HasAmple (Make Chain order limits) bytes = IsAmple (flow_formula (chain_net orde
 HasAmple (Layout rect tier learnt) bytes = (r : LayoutRequest) × IsLoneRequest rect tier bytes (Ok r) × IsAmple (place_formula r) learnt
 HasAmple (Smallest most tier learnt) bytes =
     (r : LayoutRequest) × IsPlainRequest most tier bytes (Ok r) × ((grid : Rect) → IsWithin most grid → IsAmple (place_formula (request_on r.net r.tier grid)) learnt)
+HasAmple (Same limits) bytes = (nets : Network × Network) × IsTwoNets bytes (Ok nets) × IsAmple (same_formula nets.0 nets.1) limits.learnt
 HasAmple other bytes = ⊥
 
 -- then no answer whose status says that the steps are used up is right
@@ -53,11 +56,12 @@ AmpleNeverEndsSpent = (words : List (List ℕ)) (source sink : Passage) (status 
 abbrev pub IsAmpleOfTurns : FormulaParts → ℕ → Type 0
 IsAmpleOfTurns f pivots = most_bases (columns_of f) (atom_rows f) ≤ pivots
 
--- the command may make that many turns of the formula that it decides: the flow formula of the design's network or of the chain that is made; a butterfly takes none
+-- the command may make that many turns of the formula that it decides: the flow formula of the design's network or of the chain that is made, or the formula of two networks; a butterfly takes none
 abbrev pub HasAmpleTurns : Command → List ℕ → Type 0
 HasAmpleTurns (Decide p limits) bytes = (n : Network) × IsLoneNet bytes (Ok n) × IsAmpleOfTurns (flow_formula n p) limits.pivots
 HasAmpleTurns (Make Butterfly order limits) bytes = Unit {0}
 HasAmpleTurns (Make Chain order limits) bytes = IsAmpleOfTurns (flow_formula (chain_net order) Balanced) limits.pivots
+HasAmpleTurns (Same limits) bytes = (nets : Network × Network) × IsTwoNets bytes (Ok nets) × IsAmpleOfTurns (same_formula nets.0 nets.1) limits.pivots
 HasAmpleTurns other bytes = ⊥
 
 -- then no answer whose status says that the turns are made is right

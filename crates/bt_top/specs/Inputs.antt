@@ -5,9 +5,9 @@ use Rattle.bt_io.specs.Passages.{Passage}
 use Rattle.bt_io.specs.declared.fault.ReadAll.{ReadAll}
 use Rattle.bt_io.specs.declared.fault.ReadAll.TheVariants.{ReadFault, TooLong, Memory}
 use Rattle.bt_words.specs.declared.command.Command.{Command}
-use Rattle.bt_words.specs.declared.command.Command.TheVariants.{FlowCheck, Recover, Check, Decide, Make, Layout, CheckLayout, Smallest, FindSmall, FlowFormula, PlaceFormula}
+use Rattle.bt_words.specs.declared.command.Command.TheVariants.{FlowCheck, Recover, Check, Decide, Make, Layout, CheckLayout, Smallest, FindSmall, FlowFormula, PlaceFormula, Same, CheckSame}
 use Rattle.bt_words.specs.Commands.{IsCommand}
-use Rattle.bt_top.specs.declared.input.TheConstants.{MOST_CHECKED, MOST_OF_DESIGN}
+use Rattle.bt_top.specs.declared.input.TheConstants.{MOST_CHECKED, MOST_OF_DESIGN, MOST_OF_TWO}
 
 -- no byte was taken or given, and no fault counted
 abbrev pub IsUntouched : Passage → Type 0
@@ -26,6 +26,8 @@ input_limit (Smallest most tier learnt) = MOST_OF_DESIGN
 input_limit (FindSmall most tier learnt) = MOST_OF_DESIGN
 input_limit (FlowFormula p) = MOST_OF_DESIGN
 input_limit (PlaceFormula rect tier) = MOST_OF_DESIGN
+input_limit (Same limits) = MOST_OF_TWO
+input_limit CheckSame = MOST_CHECKED
 
 -- `make` reads nothing
 abbrev pub ReadsNothing : Command → Type 0

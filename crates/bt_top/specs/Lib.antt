@@ -16,10 +16,15 @@ pub mod Searching
 pub mod Finding
 pub mod NoneCertificates
 pub mod Formulas
+pub mod TwoDesigns
+pub mod Comparing
+pub mod SameCertificates
 pub mod Answering
 pub mod Endings
 pub mod Longer
 pub mod Rechecking
 pub mod RecheckingLayouts
+pub mod RecheckingLeast
+pub mod RecheckingPairs
 pub mod Budgets
 pub mod inner

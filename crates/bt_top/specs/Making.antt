@@ -10,7 +10,7 @@ use Rattle.bt_gen.specs.declared.chains.TheConstants.{MOST_IN_CHAIN}
 use Rattle.bt_gen.specs.Butterfly.{butterfly_net}
 use Rattle.bt_gen.specs.Chain.{chain_net}
 use Rattle.bt_gen.specs.Orders.{IsGenerated}
-use Rattle.bt_theory.specs.declared.outcome.Limits.{Limits}
+use Rattle.bt_cnf.specs.declared.limits.Limits.{Limits}
 use Rattle.bt_decide.specs.declared.verdict.Verdict.{Verdict}
 use Rattle.bt_decide.specs.declared.verdict.Verdict.TheVariants.{Yes, No, GaveUp}
 use Rattle.bt_decide.specs.Verdicts.{IsVerdict}

@@ -4,7 +4,7 @@ use Rattle.bt_flow.specs.declared.property.Property.{Property}
 use Rattle.bt_flow.specs.declared.judgement.Test.{Test}
 use Rattle.bt_flow.specs.States.{Fractions}
 use Rattle.bt_log.specs.declared.log.Log.{Log}
-use Rattle.bt_theory.specs.declared.outcome.Limits.{Limits}
+use Rattle.bt_cnf.specs.declared.limits.Limits.{Limits}
 use Rattle.bt_top.specs.declared.answer.Answer.{Answer}
 use Rattle.bt_top.specs.declared.answer.Answer.TheVariants.{Yes, No, Proved, Broken, WideState}
 use Rattle.bt_top.specs.declared.input.TheConstants.{MOST_CHECKED}

@@ -17,7 +17,7 @@ use Rattle.bt_model.specs.declared.fault.RequestFault.TheVariants as request
 use Rattle.bt_top.specs.declared.fault.DesignFault.{DesignFault}
 use Rattle.bt_top.specs.declared.fault.DesignFault.TheVariants as fault
 use Rattle.bt_top.specs.declared.refusal.Refusal.{Refusal}
-use Rattle.bt_top.specs.declared.refusal.Refusal.TheVariants.{Json, Deep, DuplicateKey, NotBlueprint, Book, TooMany, Unsupported, BadMember, OffGrid, Special, Overlap, Unpaired, SideLoad, Blocked, Ring, NetLine, TooLarge, NoEnds, Order, Pin, Cap, Block}
+use Rattle.bt_top.specs.declared.refusal.Refusal.TheVariants.{Json, Deep, DuplicateKey, NotBlueprint, Book, TooMany, Unsupported, BadMember, OffGrid, Special, Overlap, Unpaired, SideLoad, Blocked, Ring, NetLine, TooLarge, NoEnds, Order, Pin, Cap, Block, Ends}
 
 -- the fault of the JSON text
 abbrev pub json_told : JsonFault → DesignFault
@@ -102,3 +102,4 @@ refusal_text (Order order) = codes "43 Order " ++ decimal order
 refusal_text (Pin k) = codes "44 Pin " ++ decimal k
 refusal_text (Cap k) = codes "45 Cap " ++ decimal k
 refusal_text (Block k) = codes "46 Block " ++ decimal k
+refusal_text Ends = codes "47 Ends"

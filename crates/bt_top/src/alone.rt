@@ -2,10 +2,10 @@
 ghost use Rattle.std.specs.Prelude.{◌≡◌, ◌≤◌, length};
 ghost use Rattle.bt_answers.specs.Answers.{UnlessMemory};
 ghost use Rattle.bt_top.specs.Alone.{IsAlone, IsLoneNet, IsRefusedAt, line_at};
-ghost use Rattle.bt_top.specs.Designs.{IsTextDesign};
+ghost use Rattle.bt_top.specs.Designs.{IsBareDesign, IsTextDesign};
 ghost use Rattle.bt_top.specs.inner.Behind.{IsBehind};
 
-use crate::design::{Design, is_json, read_design, read_text};
+use crate::design::{Design, is_json, read_bare, read_design, read_text};
 use crate::fault::DesignFault;
 use crate::refusal::Refusal;
 use bt_net::Net;
@@ -30,6 +30,19 @@ pub fn read_lone_text(alloc: Global, bytes: &[u8]) -> Result<Net, DesignFault>
     ensures { UnlessMemory DesignFault.Memory (IsAlone IsTextDesign bytes.now) result }
 {
     match read_text(alloc, bytes) {
+        Ok(Design { net, used }) => match refused_behind(bytes, used) {
+            None => Ok(net),
+            Some(refusal) => Err(DesignFault::Refused(refusal)),
+        },
+        Err(fault) => Err(fault),
+    }
+}
+
+/// The network of the bare design that the bytes are, with blanks behind it.
+pub fn read_lone_bare(alloc: Global, bytes: &[u8]) -> Result<Net, DesignFault>
+    ensures { UnlessMemory DesignFault.Memory (IsAlone IsBareDesign bytes.now) result }
+{
+    match read_bare(alloc, bytes) {
         Ok(Design { net, used }) => match refused_behind(bytes, used) {
             None => Ok(net),
             Some(refusal) => Err(DesignFault::Refused(refusal)),

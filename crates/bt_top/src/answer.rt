@@ -15,6 +15,7 @@ use bt_log::Log;
 use bt_net::Net;
 use bt_parts::Part;
 use bt_place::Starts;
+use bt_same::{Pair, Which};
 use bt_theory::GaveUp;
 use std::alloc::AllocError;
 
@@ -69,6 +70,18 @@ pub enum Answer {
     FlowFormula(Columns, Formula),
     /// The placement formula of the request, and where the blocks of its variables begin.
     PlaceFormula(Starts, Formula),
+    /// The networks of the designs behave the same, which the log shows.
+    Same(Log),
+    /// The pair of states shows that the networks of the designs differ.
+    Differ(Pair),
+    /// The certificate shows that the networks of the designs behave the same.
+    ShownSame,
+    /// The certificate's pair of states shows that they differ.
+    ShownDiffer,
+    /// The read pair shows no difference: of what the first test is that fails, which it is, and its place.
+    NotDiffering(Which, Test, usize),
+    /// A sum that a test of a state of the pair needs, at a place, leaves 128 bits.
+    WidePair(Which, Test, usize),
 }
 
 impl Answer {
@@ -83,20 +96,28 @@ impl Answer {
             | Answer::Proved(..)
             | Answer::LaidOut(_)
             | Answer::FlowFormula(..)
-            | Answer::PlaceFormula(..) => 0,
-            Answer::No(_) | Answer::Broken(..) | Answer::Nowhere(_) | Answer::NoLayout => 1,
+            | Answer::PlaceFormula(..)
+            | Answer::Same(_)
+            | Answer::ShownSame => 0,
+            Answer::No(_)
+            | Answer::Broken(..)
+            | Answer::Nowhere(_)
+            | Answer::NoLayout
+            | Answer::Differ(_)
+            | Answer::ShownDiffer => 1,
             Answer::Made(made) => made.status(),
             Answer::Least(found) => least_status(found),
             Answer::Small(found) => small_status(found),
             Answer::Usage => 2,
             Answer::Refused(_) => 3,
             Answer::GaveUp(cause) => gave_up_status(cause),
-            Answer::WideState(..) => 5,
+            Answer::WideState(..) | Answer::WidePair(..) => 5,
             Answer::CertLine(_)
             | Answer::BadStep(..)
             | Answer::NoVerdict
             | Answer::CertWide(..)
-            | Answer::NotBreaking(..) => 9,
+            | Answer::NotBreaking(..)
+            | Answer::NotDiffering(..) => 9,
             Answer::TooLong => 11,
         }
     }

@@ -5,11 +5,10 @@ ghost use Rattle.bt_top.specs.Deciding.{IsDecided, IsDecidedFrom, verdict_told};
 
 use crate::alone::read_alone;
 use crate::answer::{Answer, refused};
-use bt_cnf::Chooser;
+use bt_cnf::{Chooser, Limits};
 use bt_decide::{Verdict, decide};
 use bt_flow::Property;
 use bt_net::Net;
-use bt_theory::Limits;
 use std::alloc::{AllocError, Global};
 
 /// The answer of `decide` to the bytes of its input.

@@ -54,7 +54,7 @@ pub fn judge_text(
 }
 
 /// The answer where no state is written.
-fn unwritten(fault: StateFault) -> Result<Answer, AllocError>
+pub fn unwritten(fault: StateFault) -> Result<Answer, AllocError>
     ensures { result ≡ state_told fault }
 {
     match fault {

@@ -8,19 +8,23 @@ use bt_io::{ReadAll, Source, read_all};
 use bt_words::Command;
 use std::alloc::Global;
 
-/// The most bytes that `flow-check`, `check` and `check-layout` read: a written state or a certificate may
+/// The most bytes that `flow-check`, `check`, `check-layout` and `check-same` read: a written state or a certificate may
 /// be long.
 pub const MOST_CHECKED: usize = 1_073_741_824;
 
-/// The most bytes that a command reads which wants a design or a request alone.
+/// The most bytes that a command reads which wants one design or one request alone.
 pub const MOST_OF_DESIGN: usize = 16_777_216;
+
+/// The most bytes that `same` reads: two designs.
+pub const MOST_OF_TWO: usize = 33_554_432;
 
 /// The most bytes that a command reads.
 fn input_limit(command: Command) -> usize
     ensures { result ≡ input_limit command }
 {
     match command {
-        Command::FlowCheck(_) | Command::Check(_) | Command::CheckLayout(..) => MOST_CHECKED,
+        Command::FlowCheck(_) | Command::Check(_) | Command::CheckLayout(..) | Command::CheckSame =>
+            MOST_CHECKED,
         Command::Recover
         | Command::Decide(..)
         | Command::Layout(..)
@@ -28,6 +32,7 @@ fn input_limit(command: Command) -> usize
         | Command::FindSmall(..)
         | Command::FlowFormula(_)
         | Command::PlaceFormula(..) => MOST_OF_DESIGN,
+        Command::Same(_) => MOST_OF_TWO,
         Command::Make(..) => 0,
     }
 }

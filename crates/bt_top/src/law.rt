@@ -6,8 +6,10 @@ ghost use Rattle.bt_top.specs.Budgets.{AmpleTurnsAreNeverMade, AmpleTurnsNeverEn
 ghost use Rattle.bt_top.specs.Longer.{DesignStays, RefusalStays};
 ghost use Rattle.bt_top.specs.Rechecking.{ProofIsChecked, StateIsChecked};
 ghost use Rattle.bt_top.specs.RecheckingLayouts.{NoneIsChecked};
+ghost use Rattle.bt_top.specs.RecheckingLeast.{LeastIsChecked};
+ghost use Rattle.bt_top.specs.RecheckingPairs.{SameIsChecked, DifferenceIsChecked};
 
-use crate::input::{MOST_CHECKED, MOST_OF_DESIGN};
+use crate::input::{MOST_CHECKED, MOST_OF_DESIGN, MOST_OF_TWO};
 use crate::program::{NO_MEMORY, READ_FAULT, WRITE_FAULT};
 
 /// What is read of the design at the front of bytes is read of longer ones that begin with them, where it
@@ -17,7 +19,7 @@ pub fn longer_is_read()
     ensures refused { RefusalStays }
 {}
 
-/// A command has one right answer to each input, but `decide`, `make` of a chain and `layout`, where others may be right,
+/// A command has one right answer to each input, but `decide`, `make` of a chain, `layout` and `same`, where others may be right,
 /// with other evidence; and what they refuse has no other answer either.
 pub fn one_right_answer()
     ensures { OneRightAnswer }
@@ -35,15 +37,28 @@ pub fn laid_out_is_checked()
     ensures { NoneIsChecked }
 {}
 
-/// Where `--learnt` is 3 ^ v or more, for the v variables of the formula that `decide`, `make` or `layout`
+/// What `smallest` writes begins with the line and the certificate of each grid before the one that it names, and behind
+/// the network text `check-layout` accepts each certificate with that grid.
+pub fn least_is_checked()
+    ensures { LeastIsChecked }
+{}
+
+/// `check-same` accepts two designs with the certificate that `same` writes where they behave the same, and with the pair
+/// of states that it writes where they don't, but where a sum leaves 128 bits.
+pub fn compared_is_checked()
+    ensures same { SameIsChecked }
+    ensures pair { DifferenceIsChecked }
+{}
+
+/// Where `--learnt` is 3 ^ v or more, for the v variables of the formula that `decide`, `make`, `same` or `layout`
 /// decides, no right answer is that the steps are used up, and the program doesn't end with that status.
 pub fn ample_is_never_spent()
     ensures answers { AmpleIsNeverSpent }
     ensures endings { AmpleNeverEndsSpent }
 {}
 
-/// Where `--pivots` is at least the number of bases of the formula that `decide` or `make` decides, no right answer is that
-/// the turns are as many as they may be, and the program doesn't end with that status.
+/// Where `--pivots` is at least the number of bases of the formula that `decide`, `make` or `same` decides, no right answer
+/// is that the turns are as many as they may be, and the program doesn't end with that status.
 pub fn ample_turns_are_never_made()
     ensures answers { AmpleTurnsAreNeverMade }
     ensures endings { AmpleTurnsNeverEndMade }
@@ -56,4 +71,5 @@ pub fn numbers_are()
     ensures no_memory { NO_MEMORY ≡ 8 }
     ensures checked { MOST_CHECKED ≡ 1073741824 }
     ensures of_design { MOST_OF_DESIGN ≡ 16777216 }
+    ensures of_two { MOST_OF_TWO ≡ 33554432 }
 {}

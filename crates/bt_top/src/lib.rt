@@ -1,8 +1,8 @@
 //! All that the program does, over words, a source of bytes and a sink of bytes.
 //!
 //! `program` reads the words and the source and writes the answer; `design`, `alone`, `request`, `flow_check`,
-//! `certificate`, `recover`, `decision`, `making`, `laying`, `least`, `finding`, `none_certificate` and `formula` find the answer to
-//! an input that is read whole, and `blocks` that of `check` and `check-layout` as the input is read, by what
+//! `certificate`, `recover`, `decision`, `making`, `laying`, `least`, `finding`, `none_certificate`, `formula`, `two_designs`
+//! and `comparing` find the answer to an input that is read whole, and `blocks` that of `check` and `check-layout` as the input is read, by what
 //! `flow_front` and `layout_front` tell of its front; `text` and `printing` write it.
 #![tactic(auto)]
 
@@ -12,6 +12,7 @@ mod blocks;
 mod certificate;
 mod choosers;
 mod claim;
+mod comparing;
 mod decision;
 mod design;
 mod fault;
@@ -32,14 +33,16 @@ mod program;
 mod recover;
 mod refusal;
 mod request;
+mod same_certificate;
 mod text;
+mod two_designs;
 
 pub use answer::Answer;
 pub use choosers::Choosers;
-pub use input::{MOST_CHECKED, MOST_OF_DESIGN};
+pub use input::{MOST_CHECKED, MOST_OF_DESIGN, MOST_OF_TWO};
 pub use law::{
-    ample_is_never_spent, ample_turns_are_never_made, decided_is_checked, laid_out_is_checked,
-    longer_is_read, numbers_are, one_right_answer,
+    ample_is_never_spent, ample_turns_are_never_made, compared_is_checked, decided_is_checked,
+    laid_out_is_checked, least_is_checked, longer_is_read, numbers_are, one_right_answer,
 };
 pub use making::Made;
 pub use none_certificate::none_is_accepted;

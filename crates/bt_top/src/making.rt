@@ -10,12 +10,11 @@ ghost use Rattle.bt_top.specs.Steps.{InTurn};
 
 use crate::answer::Answer;
 use crate::refusal::Refusal;
-use bt_cnf::Chooser;
+use bt_cnf::{Chooser, Limits};
 use bt_decide::{Verdict, decide};
 use bt_flow::Property;
 use bt_gen::{GenFault, MOST_IN_CHAIN, MOST_STAGES, butterfly, chain};
 use bt_net::Net;
-use bt_theory::Limits;
 use bt_words::Family;
 use std::alloc::{AllocError, Global};
 

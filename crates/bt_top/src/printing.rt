@@ -2,7 +2,7 @@
 ghost use Rattle.bt_io.specs.Bytes.{WritesText};
 ghost use Rattle.bt_io.specs.Passages.{passage};
 ghost use Rattle.std.specs.Prelude.{◌≡◌};
-ghost use Rattle.bt_top.specs.Answers.{balance_word, family_name, gave_up_text, made_text, proved_text, spent_text};
+ghost use Rattle.bt_top.specs.Answers.{balance_word, family_name, gave_up_text, made_text, proved_text, same_text, spent_text};
 
 use crate::making::Made;
 use bt_flow::Property;
@@ -19,6 +19,14 @@ pub fn print_proof<K: Sink>(property: Property, log: &Log, sink: &mut K) -> Resu
         (proved_text property log.now.steps) result }
 {
     write_pieces(sink, &[b"yes ", property.name().as_bytes(), b"\n"])?;
+    log.print(sink)
+}
+
+/// Writes the certificate that two networks behave the same.
+pub fn print_same<K: Sink>(log: &Log, sink: &mut K) -> Result<(), WriteFault>
+    ensures { WritesText (passage K.held K.faults sink.old sink.new) (same_text log.now.steps) result }
+{
+    write_all_of(sink, b"same\n")?;
     log.print(sink)
 }
 

@@ -16,6 +16,7 @@ use crate::blocks::checked_from;
 use crate::certificate::certified;
 use crate::choosers::Choosers;
 use crate::claim::Claim;
+use crate::comparing::compared;
 use crate::decision::decided;
 use crate::finding::found_small;
 use crate::flow_check::check;
@@ -25,14 +26,16 @@ use crate::laying::laid_out;
 use crate::least::searched;
 use crate::making::make;
 use crate::none_certificate::layout_checked;
-use crate::printing::{print_gave_up, print_made, print_proof};
+use crate::printing::{print_gave_up, print_made, print_proof, print_same};
 use crate::recover::recovered;
+use crate::same_certificate::same_certified;
 use crate::text::text_of_answer;
 use bt_dimacs::{print_flow_formula, print_place_formula};
 use bt_flow::print_state;
 use bt_io::{ReadAll, Sink, Source, WriteFault, write_all_of};
 use bt_layout::print_none;
 use bt_net::print;
+use bt_same::print_pair;
 use bt_words::{Command, command_of};
 use std::alloc::{AllocError, Global};
 
@@ -155,6 +158,8 @@ fn right_answer(
         Command::FindSmall(most, tier, learnt) => found_small(alloc, most, tier, learnt, bytes),
         Command::FlowFormula(property) => flow_formula(alloc, property, bytes),
         Command::PlaceFormula(rect, tier) => place_formula(alloc, rect, tier, bytes),
+        Command::Same(limits) => compared(alloc, limits, bytes, choosers.decisions),
+        Command::CheckSame => same_certified(alloc, bytes),
     }
 }
 
@@ -181,6 +186,8 @@ fn print_lines<K: Sink>(answer: &Answer, sink: &mut K) -> Option<Result<(), Writ
         Answer::Nowhere(log) => print_none(log, sink),
         Answer::FlowFormula(columns, formula) => print_flow_formula(*columns, formula, sink),
         Answer::PlaceFormula(starts, formula) => print_place_formula(*starts, formula, sink),
+        Answer::Same(log) => print_same(log, sink),
+        Answer::Differ(pair) => print_pair(pair, sink),
         Answer::Usage => write_all_of(sink, b"usage\n"),
         Answer::TooLong => write_all_of(sink, b"too long\n"),
         _ => return None,

@@ -1,7 +1,8 @@
 //! The texts of answers: a line each, of fixed words and of numbers and names that are said with them.
 ghost use Rattle.std.specs.Prelude.{◌≡◌, ◌++◌, codes, decimal, IfOk, OnOk};
 ghost use Rattle.bt_net.specs.NetText.{line};
-ghost use Rattle.bt_top.specs.Answers.{cause_name, text_of as answer_text};
+ghost use Rattle.bt_flow.specs.Names.{test_name};
+ghost use Rattle.bt_top.specs.Answers.{cause_name, which_text, text_of as answer_text};
 ghost use Rattle.bt_top.specs.Refusals.{member_name, refusal_text};
 ghost use Rattle.bt_top.specs.inner.Lines.{IsFixedLine, IsLine, IsOfCertificate, detail_text, formed_text, line_text};
 
@@ -9,6 +10,8 @@ use crate::answer::Answer;
 use crate::refusal::Refusal;
 use bt_cert::Cause;
 use bt_entities::Member;
+use bt_flow::Test;
+use bt_same::Which;
 use itoa::Buffer;
 use std::alloc::{AllocError, Global};
 
@@ -21,6 +24,7 @@ pub enum Detail {
     Numbers(usize, usize),
     ThreeNumbers(usize, usize, usize),
     NameAndNumber(&'static str, usize),
+    NamesAndNumber(&'static str, &'static str, usize),
     NumberAndName(usize, &'static str),
 }
 
@@ -56,6 +60,11 @@ fn push_detail(text: &mut Vec<u8>, detail: Detail) -> Result<(), AllocError>
         }
         Detail::NameAndNumber(name, number) => {
             push_name(text, name)?;
+            push_number(text, number)
+        }
+        Detail::NamesAndNumber(first, second, number) => {
+            push_name(text, first)?;
+            push_name(text, second)?;
             push_number(text, number)
         }
         Detail::NumberAndName(number, name) => {
@@ -108,8 +117,16 @@ fn answer_line(answer: &Answer) -> Line
         | Answer::Least(_)
         | Answer::Small(_)
         | Answer::FlowFormula(..)
-        | Answer::PlaceFormula(..) => Line("", Detail::Nothing),
+        | Answer::PlaceFormula(..)
+        | Answer::Same(_)
+        | Answer::Differ(_) => Line("", Detail::Nothing),
         Answer::NoLayout => Line("none", Detail::Nothing),
+        Answer::ShownSame => Line("same", Detail::Nothing),
+        Answer::ShownDiffer => Line("differ", Detail::Nothing),
+        Answer::NotDiffering(which, test, place) => {
+            Line("refused 54 NotBreaking", pair_detail(which, test, place))
+        }
+        Answer::WidePair(which, test, place) => Line("wide", pair_detail(which, test, place)),
         Answer::Usage => Line("usage", Detail::Nothing),
         Answer::TooLong => Line("too long", Detail::Nothing),
         Answer::Breaks(property) => Line("breaks", Detail::Name(property.name())),
@@ -125,6 +142,18 @@ fn answer_line(answer: &Answer) -> Line
         ),
         Answer::CertLine(_) | Answer::BadStep(..) | Answer::NoVerdict | Answer::CertWide(..) =>
             certificate_line(answer),
+    }
+}
+
+/// What is said of a test of a pair: of which state it is, where it is of one, its name, and its place.
+fn pair_detail(which: Which, test: Test, place: usize) -> Detail
+    ensures { detail_text result
+        ≡ codes " " ++ which_text which ++ test_name test ++ codes " " ++ decimal place }
+{
+    match which {
+        Which::First => Detail::NamesAndNumber("first", test.name(), place),
+        Which::Second => Detail::NamesAndNumber("second", test.name(), place),
+        Which::Kept => Detail::NameAndNumber(test.name(), place),
     }
 }
 
@@ -179,6 +208,7 @@ fn refusal_line(refusal: Refusal) -> Line
         Refusal::Pin(line) => Line("refused 44 Pin", Detail::Number(line)),
         Refusal::Cap(edge) => Line("refused 45 Cap", Detail::Number(edge)),
         Refusal::Block(line) => Line("refused 46 Block", Detail::Number(line)),
+        Refusal::Ends => Line("refused 47 Ends", Detail::Nothing),
     }
 }
 

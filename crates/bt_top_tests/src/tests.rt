@@ -13,6 +13,7 @@ mod long;
 mod networks;
 mod own_requests;
 mod requests;
+mod same;
 mod small;
 mod states;
 

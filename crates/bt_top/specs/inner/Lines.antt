@@ -3,10 +3,10 @@ use Rattle.std.specs.Prelude.{ℕ, List, [], ◌++◌, codes, decimal}
 use Rattle.bt_net.specs.NetText.{line}
 use Rattle.bt_layout.specs.SmallestText.{blueprint_of, blueprint_of_small}
 use Rattle.bt_top.specs.declared.answer.Answer.{Answer}
-use Rattle.bt_top.specs.declared.answer.Answer.TheVariants.{Recovered, Proved, Broken, GaveUp, Made, LaidOut, Nowhere, Least, Small, CertLine, BadStep, NoVerdict, CertWide, FlowFormula, PlaceFormula}
+use Rattle.bt_top.specs.declared.answer.Answer.TheVariants.{Recovered, Proved, Broken, GaveUp, Made, LaidOut, Nowhere, Least, Small, CertLine, BadStep, NoVerdict, CertWide, FlowFormula, PlaceFormula, Same, Differ}
 use Rattle.bt_top.specs.Answers.{text_of}
 use Rattle.bt_top.specs.declared.text.Detail.{Detail}
-use Rattle.bt_top.specs.declared.text.Detail.TheVariants.{Nothing, Name, Number, Numbers, ThreeNumbers, NameAndNumber, NumberAndName}
+use Rattle.bt_top.specs.declared.text.Detail.TheVariants.{Nothing, Name, Number, Numbers, ThreeNumbers, NameAndNumber, NamesAndNumber, NumberAndName}
 use Rattle.bt_top.specs.declared.text.Line.{Line}
 
 -- each detail after a space
@@ -17,6 +17,7 @@ detail_text (Number n) = codes " " ++ decimal n
 detail_text (Numbers m n) = codes " " ++ decimal m ++ codes " " ++ decimal n
 detail_text (ThreeNumbers l m n) = codes " " ++ decimal l ++ codes " " ++ decimal m ++ codes " " ++ decimal n
 detail_text (NameAndNumber name n) = codes " " ++ name.now ++ codes " " ++ decimal n
+detail_text (NamesAndNumber first second n) = codes " " ++ first.now ++ codes " " ++ second.now ++ codes " " ++ decimal n
 detail_text (NumberAndName n name) = codes " " ++ decimal n ++ codes " " ++ name.now
 
 -- the words and the details, and a line feed
@@ -33,6 +34,8 @@ IsLine (Made made) = ⊥
 IsLine (Nowhere log) = ⊥
 IsLine (FlowFormula columns f) = ⊥
 IsLine (PlaceFormula starts f) = ⊥
+IsLine (Same log) = ⊥
+IsLine (Differ pair) = ⊥
 IsLine other = Unit {0}
 
 -- what is formed of an answer's text: of a search for the least grid or for small ones the blueprint that is found, and else all of it

@@ -40,6 +40,12 @@ const CASES: &[&str] = &[
     "recover|net 1 2 1\nedge i0 s0\nedge s0 o0\nedge s0 o1\ntake s0 0\ngive s0 2\nend\n|0|net 1 2 1\nedge i0 s0\n\
      edge s0 o0\nedge s0 o1\ngive s0 2\ntake s0 0\nend\n",
     "recover|net 1 2 1\nedge i0 s0\nedge s0 o0\nedge s0 o1\ngive s0 2\ngive s0 1\nend\n|3|refused 40 NetLine 6\n",
+    "recover|net 1 2 1\nedge i0 s0\nedge s0 o0\nedge s0 o1\ntake s0 0\ntake s0 0\nend\n|3|refused 40 NetLine 6\n",
+    "recover|net 1 1 2\nedge i0 s0\nedge s0 s1\nedge s1 o0\ngive s0 2\nend\n|3|refused 40 NetLine 5\n",
+    "check full|net 1 1 2\nedge i0 s0\nedge s0 s1\nedge s1 o0\ntake s1 0\nend\nyes full\n|3|refused 40 NetLine 5\n",
+    "decide full|net 1 2 1\nedge i0 s0\nedge s0 o0\nedge s0 o1\ngive s0 3\nend\n|3|refused 40 NetLine 5\n",
+    "recover|net 1 2 1\ngive s0 1\nedge i0 s0\nedge s0 o0\nedge s0 o1\nend\n|3|refused 40 NetLine 2\n",
+    "recover|net 1 2 1\nedge i0 s0\nedge s0 o0\nedge s0 o1\ngive s0 1\npin i0 0 0\nend\n|3|refused 40 NetLine 6\n",
     "recover|0eNq|3|refused 40 NetLine 1\n",
     "recover||3|refused 40 NetLine 1\n",
     "recover|net 1 1 0\nedge i0 o0\nend\nx|3|refused 40 NetLine 4\n",

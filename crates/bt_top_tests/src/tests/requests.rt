@@ -6,6 +6,7 @@ use std::test::Fail;
 const CASES: &[&str] = &[
     "layout --grid 2x3|net 1 2 1\nedge i0 s0\nedge s0 o0\nedge s0 o1\ngive s0 1\nend\n|3|refused 40 NetLine 5\n",
     "check-layout --grid 2x3|net 1 2 1\nedge i0 s0\nedge s0 o0\nedge s0 o1\ntake s0 0\nend\nnone\n|3|refused 40 NetLine 5\n",
+    "layout --grid 2x3|net 1 2 1\nedge i0 s0\nedge s0 o0\nedge s0 o1\npin i0 0 2\ngive s0 1\nend\n|3|refused 40 NetLine 6\n",
     concat!(
         "layout --grid 1x1|net 1 1 0\nedge i0 o0\npin i0 0 0 east\nend\n|0|",
         r#"{"blueprint":{"item":"blueprint","entities":["#,

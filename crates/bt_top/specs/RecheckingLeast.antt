@@ -1,0 +1,33 @@
+-- What `check-layout` answers to what `smallest` wrote.
+use Rattle.std.specs.Prelude.{◌≡◌, ℕ, ◌≤◌, List, [], ◌∷◌, ◌++◌, All, length, Ok}
+use Rattle.bt_parts.specs.declared.part.Rect.{Rect}
+use Rattle.bt_parts.specs.declared.part.Tier.{Tier}
+use Rattle.bt_layout.specs.declared.outcome.RuledOut.{RuledOut}
+use Rattle.bt_layout.specs.declared.outcome.Smallest.{Smallest}
+use Rattle.bt_layout.specs.declared.outcome.Smallest.TheVariants.{Found, Nowhere, Spent}
+use Rattle.bt_layout.specs.SmallestText.{nowhere_text, earlier_text}
+use Rattle.bt_top.specs.declared.answer.Answer.TheVariants as answer
+use Rattle.bt_top.specs.declared.input.TheConstants.{MOST_CHECKED}
+use Rattle.bt_top.specs.Answers.{text_of}
+use Rattle.bt_top.specs.NoneCertificates.{IsLayoutChecked}
+use Rattle.bt_top.specs.Searching.{IsSearchedFrom}
+
+-- the grids of which a certificate is written: all that are ruled out, but where a log is used up none
+abbrev pub certified_in : Smallest → List RuledOut
+certified_in (Found earlier grid parts) = earlier.items
+certified_in (Nowhere earlier) = earlier.items
+certified_in (Spent earlier grid log) = []
+
+-- behind the network text, the certificate of a grid is accepted with this grid and the tier, where both aren't more than `check-layout` reads
+abbrev pub IsAccepted : Tier → List ℕ → RuledOut → Type 0
+IsAccepted tier bytes one = length (bytes ++ 10 ∷ nowhere_text one.log.steps) ≤ MOST_CHECKED
+    → IsLayoutChecked one.grid tier (bytes ++ 10 ∷ nowhere_text one.log.steps) (Ok answer.NoLayout)
+
+-- the text begins with the lines and certificates of these grids
+abbrev pub BeginsWithGrids : List ℕ → List RuledOut → Type 0
+BeginsWithGrids text ones = (rest : List ℕ) × (text ≡ earlier_text ones ++ rest)
+
+-- what `smallest` writes begins with the lines of grids and their certificates, and each certificate is accepted behind the network text
+abbrev pub LeastIsChecked : Type 0
+LeastIsChecked = (most : Rect) (tier : Tier) (learnt : ℕ) (bytes : List ℕ) (found : Smallest) → IsSearchedFrom most tier learnt bytes (Ok (answer.Least found))
+    → BeginsWithGrids (text_of (answer.Least found)) (certified_in found) × All (IsAccepted tier bytes) (certified_in found)
