@@ -188,7 +188,7 @@ def read_net(text, request):
                         for end, near in ((edge.start, net.outs), (edge.target, net.ins)))
             need(not right or len(net.edges) < MOST_OF_NET, 41, "TooLarge")
             net.add(edge)
-        elif first and not request:
+        elif first and request is False:
             stage, word, splitter, e = 1, first[1], int(first[2]), int(first[3])
             right = splitter not in net.first[word] and e in (net.outs if word == "give" else net.ins)["s", splitter]
             net.first[word][splitter] = e
@@ -204,10 +204,10 @@ def read_net(text, request):
             return net, pins, blocks, min(behind, len(text))
         need(right, 40, "NetLine", number)
 def read_design(text, request=False, alone=False):
-    """The network of the design at the front of a text, its pins and blocks, and the place behind it and blanks."""
+    """The network at the front of a text, pins and blocks, and the place behind; None: neither they nor priorities."""
     start = past_blanks(text, 0)
     root, behind = json_value(text, start) if text[start:start + 1] == "{" else (None, 0)
-    read = (recover(parts_of(root, not request))[0], [], [], behind) if root is not None else read_net(text, request)
+    read = read_net(text, request) if root is None else (recover(parts_of(root, request is False))[0], [], [], behind)
     rest = past_blanks(text, read[3])
     if alone and root is not None: need(rest == len(text), 10, "Json", rest)
     need(not alone or rest == len(text), 40, "NetLine", text.count("\n", 0, rest) + 1)
@@ -288,7 +288,7 @@ def total(numbers, test, place):
     try: return functools.reduce(plus, numbers, Fraction(0))
     except OverflowError: raise Answer(5, "wide state", test, place) from None
 def tests(net, prop, loads, rooms, flows, backed):
-    """Each test of a state in order: its word, its place, and whether the state passes it."""
+    """Each test of a state in order: its word, its place, and whether the state passes it; of no property, its laws."""
     caps, full = [edge.cap for edge in net.edges], [flow == edge.cap for flow, edge in zip(flows, net.edges)]
     inputs, outputs = [net.outs[end][0] for end in net.ends("i")], [net.ins[end][0] for end in net.ends("o")]
     ends = [("load", "input", 0, prop in FULL_LOADS, *end) for end in zip(count(), inputs, loads)]
@@ -308,7 +308,7 @@ def tests(net, prop, loads, rooms, flows, backed):
         yield word, place, flows[e] == amount or flows[e] < amount and backed[e] != mark
     if prop == "balanced" or prop == "drawn-evenly":
         yield "kept", 0, len({flows[e] for e in (outputs if prop == "balanced" else inputs)}) > 1
-    else:
+    elif prop:
         sums = [total(numbers, "kept", 0) for numbers in ([flows[e] for e in outputs], loads, rooms)]
         yield "kept", 0, sums[0] != min(sums[1:])
 
@@ -328,7 +328,7 @@ class Formula:
         self.clauses.append([first, self.row(minus, plus, ">", -bound)])
         return first
 def flow_formula(net, prop):
-    """Variable e + 1 says that edge e is backed. The columns are the flows, then the loads, then the rooms."""
+    """Variable e + 1 says that edge e is backed. Columns are flows, loads, rooms. Of no property it says the laws."""
     edges, backed, formula = net.edges, lambda e: e + 1, Formula(len(net.edges))
     row, pair, clause = formula.row, formula.pair, formula.clauses.append
     loads = [(len(edges) + i, net.outs[end][0]) for i, end in enumerate(net.ends("i"))]
@@ -359,7 +359,7 @@ def flow_formula(net, prop):
     if prop == "balanced" or prop == "drawn-evenly":
         first, *others = [e for _, e in (rooms if prop == "balanced" else loads)]
         clause([row([x], [y], ">") for e in others for x, y in ((first, e), (e, first))])
-    else:
+    elif prop:
         for ends in loads, rooms: clause([row([column for column, _ in ends], [e for _, e in rooms], ">")])
     return formula
 
