@@ -8,8 +8,8 @@ ghost use Rattle.bt_cert.specs.StepLines.{Lemma, Learnt};
 ghost use Rattle.bt_cert.specs.inner.Reading.{AreRead};
 
 use crate::assumptions::Assumptions;
+use crate::clause_database::ClauseDatabase;
 use crate::fault::{Cause, StepFault};
-use crate::known::Known;
 use crate::learnt::judge_learnt;
 use crate::lemma::{LemmaRoom, judge_lemma};
 use crate::step_line::StepLine;
@@ -24,7 +24,7 @@ use std::marker::Model;
 /// Of a step only its clause is kept. What is judged in between lies in room that serves each step anew.
 #[derive(Drop)]
 pub struct Checker<'a> {
-    known: Known<'a>,
+    known: ClauseDatabase<'a>,
     /// Nothing, between two steps.
     assumed: Assumptions,
     /// The literals of the step.
@@ -51,7 +51,7 @@ impl<'a> Checker<'a> {
     {
         let assumed = Assumptions::new(alloc, formula.vars())?;
         Ok(Checker {
-            known: Known::new(alloc, formula)?,
+            known: ClauseDatabase::new(alloc, formula)?,
             assumed,
             lits: Vec::new(alloc),
             room: LemmaRoom::new(alloc),

@@ -5,15 +5,15 @@ ghost use Rattle.bt_cert.specs.inner.Assuming.{AreUnset};
 ghost use Rattle.bt_cert.specs.inner.Refuting.{IsAssumed, IsSound, JudgesLearnt, places_of};
 
 use crate::assumptions::Assumptions;
+use crate::clause_database::ClauseDatabase;
 use crate::fault::{Cause, StepFault};
-use crate::known::Known;
 use crate::units::{are_hints, refute};
 use bt_cnf::Lit;
 use std::alloc::AllocError;
 
 /// Whether a learnt clause follows from the hinted clauses, and if not, why. It may leave assumptions.
 pub fn judge_learnt(
-    known: &Known,
+    known: &ClauseDatabase,
     lits: &[Lit],
     hints: &[u64],
     assumed: &mut Assumptions,

@@ -4,10 +4,10 @@
 mod assumptions;
 mod check;
 mod checker;
+mod clause_database;
 mod fault;
 mod item;
 mod items;
-mod known;
 mod law;
 mod learnt;
 mod lemma;

@@ -8,13 +8,13 @@ ghost use Rattle.bt_cert.specs.inner.Assuming.{IsFalseIn, IsUnitIn, HasNoUnit};
 ghost use Rattle.bt_cert.specs.inner.Refuting.{IsSound, IsPropagated, IsRefuted, hinted, places_of};
 
 use crate::assumptions::{Assumptions, Standing};
-use crate::known::Known;
+use crate::clause_database::ClauseDatabase;
 use crate::written::place_of;
 use bt_cnf::Lit;
 use std::alloc::AllocError;
 
 /// Whether each hint is the number of a known clause.
-pub fn are_hints(known: &Known, hints: &[u64]) -> bool
+pub fn are_hints(known: &ClauseDatabase, hints: &[u64]) -> bool
     ensures { IsTrue result ↔ AreHints known.now.clauses (places_of hints.now) }
 {
     for hint in hints {
@@ -27,7 +27,11 @@ pub fn are_hints(known: &Known, hints: &[u64]) -> bool
 
 /// Whether the hinted clauses are units in turn, but for the last, of which all literals are false. The
 /// literal of each unit is true from its turn on.
-pub fn refute(known: &Known, hints: &[u64], assumed: &mut Assumptions) -> Result<bool, AllocError>
+pub fn refute(
+    known: &ClauseDatabase,
+    hints: &[u64],
+    assumed: &mut Assumptions,
+) -> Result<bool, AllocError>
     requires hints { AreHints known.now.clauses (places_of hints.now) }
     requires size { length assumed.old ≡ known.now.formula.vars }
     requires sound { IsSound known.now }
@@ -49,7 +53,11 @@ pub fn refute(known: &Known, hints: &[u64], assumed: &mut Assumptions) -> Result
 }
 
 /// Makes the literal of a hinted clause true, where the clause is a unit, and tells whether it is.
-fn propagate(known: &Known, hint: u64, assumed: &mut Assumptions) -> Result<bool, AllocError>
+fn propagate(
+    known: &ClauseDatabase,
+    hint: u64,
+    assumed: &mut Assumptions,
+) -> Result<bool, AllocError>
     requires inside { hint - 1 < length known.now.clauses }
     requires size { length assumed.old ≡ known.now.formula.vars }
     ensures size { length assumed.new ≡ length assumed.old }

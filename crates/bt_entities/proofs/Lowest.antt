@@ -8,7 +8,7 @@ use Rattle.bt_entities.specs.declared.fault.EntityFault.{EntityFault}
 use Rattle.bt_entities.specs.declared.fault.EntityFault.TheVariants.{Unsupported, BadMember, OffGrid, Special}
 use Rattle.bt_entities.specs.declared.fault.Member.{Member}
 use Rattle.bt_entities.specs.declared.fault.Member.TheVariants.{Entity, Name, Position, Direction, PieceType}
-use Rattle.bt_entities.specs.declared.name.Family.{Family}
+use Rattle.bt_entities.specs.declared.name.EntityFamily.{EntityFamily}
 use Rattle.bt_entities.specs.Members.{HasText}
 use Rattle.bt_entities.specs.Names.{name_of}
 use Rattle.bt_entities.specs.Entities.{HasDirection, HasPosition, IsSpecial, IsFirst, IsFirstSpecial, IsPlain}
@@ -24,7 +24,7 @@ none_first P (m ∷ ms) member none h = elim h [ inl here ↦ none m here.0 | in
 abbrev pub IsNamed : Json → Type 0
 IsNamed v = (name : List ℕ) → ¬ IsUnsupported v name
 
-pub named : (v : Json) (family : Family) (tier : Tier) → HasText v (codes "name") (name_of family tier) → IsNamed v
+pub named : (v : Json) (family : EntityFamily) (tier : Tier) → HasText v (codes "name") (name_of family tier) → IsNamed v
 named v family tier at name u = u.1 family tier (same_text v (codes "name") name (name_of family tier) u.0 at)
 
 -- the entity has none of the faults with numbers below this one

@@ -14,7 +14,7 @@ use Rattle.bt_entities.specs.declared.fault.EntityFault.{EntityFault}
 use Rattle.bt_entities.specs.declared.fault.EntityFault.TheVariants.{NotBlueprint, OffGrid, Special}
 use Rattle.bt_entities.specs.declared.fault.Member.{Member}
 use Rattle.bt_entities.specs.declared.fault.Member.TheVariants.{Entity, Name, Position, Direction, PieceType, InputPriority, OutputPriority, ControlBehavior, Filter}
-use Rattle.bt_entities.specs.declared.name.Family.TheVariants.{Belts, Undergrounds, Splitters}
+use Rattle.bt_entities.specs.declared.name.EntityFamily.TheVariants.{Belts, Undergrounds, Splitters}
 use Rattle.bt_entities.specs.declared.piece.Piece.{Piece}
 use Rattle.bt_hands.specs.declared.hand.Hand.{Hand}
 use Rattle.bt_hands.specs.declared.hand.Hand.TheVariants.{Left, Right}

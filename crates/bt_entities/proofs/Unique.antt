@@ -12,8 +12,8 @@ use Rattle.bt_parts.specs.declared.part.Kind.{Kind}
 use Rattle.bt_parts.specs.declared.part.Kind.TheVariants.{Belt, Entrance, Exit, Splitter}
 use Rattle.bt_parts.specs.declared.part.Tier.{Tier}
 use Rattle.bt_parts.specs.declared.part.Tier.TheVariants.{Basic, Fast, Express, Turbo}
-use Rattle.bt_entities.specs.declared.name.Family.{Family}
-use Rattle.bt_entities.specs.declared.name.Family.TheVariants.{Belts, Undergrounds, Splitters}
+use Rattle.bt_entities.specs.declared.name.EntityFamily.{EntityFamily}
+use Rattle.bt_entities.specs.declared.name.EntityFamily.TheVariants.{Belts, Undergrounds, Splitters}
 use Rattle.bt_entities.specs.Members.{HasMember, Lacks, HasText, HasNumber, IsObject, IsWhole}
 use Rattle.bt_entities.specs.Names.{name_of}
 use Rattle.bt_entities.specs.Entities.{HasFamily, HasTier, HasKind, HasDirection, HasPosition, quarters_of, direction_value}
@@ -27,14 +27,14 @@ object_of (text t) name m h = absurd cc
 object_of (list items) name m h = absurd cc
 object_of (object members) name m h = (members, refl)
 
-abbrev pair : Family → Tier → Family × Tier
+abbrev pair : EntityFamily → Tier → EntityFamily × Tier
 pair family tier = (family, tier)
 
-abbrev told : Family → Tier → Option (Family × Tier)
+abbrev told : EntityFamily → Tier → Option (EntityFamily × Tier)
 told family tier = Some (pair family tier)
 
 -- the family and the tier that a name tells
-unfoldable found : List ℕ → Option (Family × Tier)
+unfoldable found : List ℕ → Option (EntityFamily × Tier)
 found n =
     cond (bytes_eq n (name_of Belts Basic)) (told Belts Basic) (
     cond (bytes_eq n (name_of Belts Fast)) (told Belts Fast) (
@@ -49,7 +49,7 @@ found n =
     cond (bytes_eq n (name_of Splitters Express)) (told Splitters Express) (
     cond (bytes_eq n (name_of Splitters Turbo)) (told Splitters Turbo) None)))))))))))
 
-found_name : (family : Family) (tier : Tier) → found (name_of family tier) ≡ told family tier
+found_name : (family : EntityFamily) (tier : Tier) → found (name_of family tier) ≡ told family tier
 unfolding found
 found_name Belts Basic = refl
 found_name Belts Fast = refl
@@ -64,18 +64,18 @@ found_name Splitters Fast = refl
 found_name Splitters Express = refl
 found_name Splitters Turbo = refl
 
-same_pair : (f g : Family) (t u : Tier) → told f t ≡ told g u → (f ≡ g) × (t ≡ u)
+same_pair : (f g : EntityFamily) (t u : Tier) → told f t ≡ told g u → (f ≡ g) × (t ≡ u)
 same_pair f g t u h =
     let e : pair f t ≡ pair g u = same_Some (pair f t) (pair g u) h in
-    (ap (λ (p : Family × Tier). p.0) e, ap (λ (p : Family × Tier). p.1) e)
+    (ap (λ (p : EntityFamily × Tier). p.0) e, ap (λ (p : EntityFamily × Tier). p.1) e)
 
-pub same_name : (f g : Family) (t u : Tier) → name_of f t ≡ name_of g u → (f ≡ g) × (t ≡ u)
+pub same_name : (f g : EntityFamily) (t u : Tier) → name_of f t ≡ name_of g u → (f ≡ g) × (t ≡ u)
 same_name f g t u e = same_pair f g t u (sym (found_name f t) ∙ ap found e ∙ found_name g u)
 
 pub same_text : (v : Json) (name s t : List ℕ) → HasText v name s → HasText v name t → s ≡ t
 same_text v name s t a b = let e : Some (text s) ≡ Some (text t) = sym a ∙ b in cc
 
-pub same_family : (v : Json) (f g : Family) → HasFamily v f → HasFamily v g → f ≡ g
+pub same_family : (v : Json) (f g : EntityFamily) → HasFamily v f → HasFamily v g → f ≡ g
 same_family v f g a b = (same_name f g a.0 b.0 (same_text v (codes "name") _ _ a.1 b.1)).0
 
 pub same_tier : (v : Json) (t u : Tier) → HasTier v t → HasTier v u → t ≡ u
@@ -85,7 +85,7 @@ input_or_output : (v : Json) → HasText v (codes "type") (codes "input") → Ha
 input_or_output v a b = let e : length (codes "input") ≡ length (codes "output") = ap length (same_text v (codes "type") _ _ a b) in absurd (omega arith)
 
 -- the family of a kind
-abbrev family_of : Kind → Family
+abbrev family_of : Kind → EntityFamily
 family_of Belt = Belts
 family_of Entrance = Undergrounds
 family_of Exit = Undergrounds

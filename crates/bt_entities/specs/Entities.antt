@@ -15,20 +15,20 @@ use Rattle.bt_parts.specs.declared.part.Part.{Part}
 use Rattle.bt_parts.specs.declared.part.Tier.{Tier}
 use Rattle.bt_entities.specs.declared.fault.Member.{Member}
 use Rattle.bt_entities.specs.declared.fault.Member.TheVariants.{Entity, Name, Position, Direction, PieceType, InputPriority, OutputPriority, ControlBehavior, Filter}
-use Rattle.bt_entities.specs.declared.name.Family.{Family}
-use Rattle.bt_entities.specs.declared.name.Family.TheVariants.{Belts, Undergrounds, Splitters}
+use Rattle.bt_entities.specs.declared.name.EntityFamily.{EntityFamily}
+use Rattle.bt_entities.specs.declared.name.EntityFamily.TheVariants.{Belts, Undergrounds, Splitters}
 use Rattle.bt_entities.specs.declared.shift.Shift.{Shift}
 use Rattle.bt_entities.specs.Members.{HasMember, Lacks, HasText, HasNumber, IsWhole}
 use Rattle.bt_entities.specs.Names.{name_of}
 use Rattle.bt_entities.specs.Places.{width_of, height_of, IsMiddle}
 
 -- the entity's name is one of this family
-abbrev pub HasFamily : Json → Family → Type 0
+abbrev pub HasFamily : Json → EntityFamily → Type 0
 HasFamily v family = (tier : Tier) × HasText v (codes "name") (name_of family tier)
 
 -- the entity's name is one of this tier
 abbrev pub HasTier : Json → Tier → Type 0
-HasTier v tier = (family : Family) × HasText v (codes "name") (name_of family tier)
+HasTier v tier = (family : EntityFamily) × HasText v (codes "name") (name_of family tier)
 
 -- the entity's name, and of an underground piece its type, is one of this kind
 abbrev pub HasKind : Json → Kind → Type 0

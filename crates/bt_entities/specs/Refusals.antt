@@ -9,8 +9,8 @@ use Rattle.bt_entities.specs.declared.fault.EntityFault.{EntityFault}
 use Rattle.bt_entities.specs.declared.fault.EntityFault.TheVariants.{NotBlueprint, Book, TooMany, Unsupported, BadMember, OffGrid, Special, Memory}
 use Rattle.bt_entities.specs.declared.fault.Member.{Member}
 use Rattle.bt_entities.specs.declared.fault.Member.TheVariants.{Entity, Name, Position, Direction, PieceType, InputPriority, OutputPriority, ControlBehavior, Filter}
-use Rattle.bt_entities.specs.declared.name.Family.{Family}
-use Rattle.bt_entities.specs.declared.name.Family.TheVariants.{Undergrounds, Splitters}
+use Rattle.bt_entities.specs.declared.name.EntityFamily.{EntityFamily}
+use Rattle.bt_entities.specs.declared.name.EntityFamily.TheVariants.{Undergrounds, Splitters}
 use Rattle.bt_entities.specs.Members.{HasMember, Lacks, HasText, IsObject}
 use Rattle.bt_entities.specs.Names.{name_of}
 use Rattle.bt_entities.specs.Entities.{HasFamily, HasPosition, HasDirection, IsInCell, IsEven, IsSided, IsFirst, IsFirstSpecial}
@@ -42,7 +42,7 @@ HasTooMany root = (major : ℕ) × (entities : List Json) × IsBlueprint root ma
 
 -- the entity's name is this text, which names no part
 abbrev pub IsUnsupported : Json → List ℕ → Type 0
-IsUnsupported v name = HasText v (codes "name") name × ((family : Family) (tier : Tier) → name ≢ name_of family tier)
+IsUnsupported v name = HasText v (codes "name") name × ((family : EntityFamily) (tier : Tier) → name ≢ name_of family tier)
 
 -- the member of an entity isn't what it has to be
 abbrev pub IsWrong : ℕ → Json → Member → Type 0

@@ -3,13 +3,13 @@
 ghost use Rattle.std.specs.Prelude.{◌≡◌, ◌≢◌, MatchOption};
 ghost use Rattle.bt_parts.specs.declared.part.Tier.{Tier};
 ghost use Rattle.bt_entities.specs.Names.{name_of};
-ghost use Rattle.bt_entities.specs.declared.name.Family.{Family};
+ghost use Rattle.bt_entities.specs.declared.name.EntityFamily.{EntityFamily};
 
 use bt_parts::Tier;
 
 /// What an entity's name says of its kind. Of an underground piece its `type` says the rest.
 #[derive(Clone, Copy)]
-pub enum Family {
+pub enum EntityFamily {
     /// Transport belts.
     Belts,
     /// Underground belts, entrances and exits alike.
@@ -19,24 +19,24 @@ pub enum Family {
 }
 
 /// The family and the tier that a name tells (Factorio Wiki, belt transport system).
-pub fn named(name: &str) -> Option<(Family, Tier)>
+pub fn named(name: &str) -> Option<(EntityFamily, Tier)>
     ensures { MatchOption result
-        ((family : Family) (tier : Tier) → name.now ≢ name_of family tier)
+        ((family : EntityFamily) (tier : Tier) → name.now ≢ name_of family tier)
         (λ named. name.now ≡ name_of named.0 named.1) }
 {
     match name {
-        "transport-belt" => Some((Family::Belts, Tier::Basic)),
-        "fast-transport-belt" => Some((Family::Belts, Tier::Fast)),
-        "express-transport-belt" => Some((Family::Belts, Tier::Express)),
-        "turbo-transport-belt" => Some((Family::Belts, Tier::Turbo)),
-        "underground-belt" => Some((Family::Undergrounds, Tier::Basic)),
-        "fast-underground-belt" => Some((Family::Undergrounds, Tier::Fast)),
-        "express-underground-belt" => Some((Family::Undergrounds, Tier::Express)),
-        "turbo-underground-belt" => Some((Family::Undergrounds, Tier::Turbo)),
-        "splitter" => Some((Family::Splitters, Tier::Basic)),
-        "fast-splitter" => Some((Family::Splitters, Tier::Fast)),
-        "express-splitter" => Some((Family::Splitters, Tier::Express)),
-        "turbo-splitter" => Some((Family::Splitters, Tier::Turbo)),
+        "transport-belt" => Some((EntityFamily::Belts, Tier::Basic)),
+        "fast-transport-belt" => Some((EntityFamily::Belts, Tier::Fast)),
+        "express-transport-belt" => Some((EntityFamily::Belts, Tier::Express)),
+        "turbo-transport-belt" => Some((EntityFamily::Belts, Tier::Turbo)),
+        "underground-belt" => Some((EntityFamily::Undergrounds, Tier::Basic)),
+        "fast-underground-belt" => Some((EntityFamily::Undergrounds, Tier::Fast)),
+        "express-underground-belt" => Some((EntityFamily::Undergrounds, Tier::Express)),
+        "turbo-underground-belt" => Some((EntityFamily::Undergrounds, Tier::Turbo)),
+        "splitter" => Some((EntityFamily::Splitters, Tier::Basic)),
+        "fast-splitter" => Some((EntityFamily::Splitters, Tier::Fast)),
+        "express-splitter" => Some((EntityFamily::Splitters, Tier::Express)),
+        "turbo-splitter" => Some((EntityFamily::Splitters, Tier::Turbo)),
         _ => None,
     }
 }

@@ -6,7 +6,7 @@ ghost use Rattle.bt_json.specs.Json.{Json, Number};
 ghost use Rattle.bt_json.specs.Stands.{json_of, number_of};
 ghost use Rattle.bt_parts.specs.declared.part.Dir.{Dir};
 ghost use Rattle.bt_parts.specs.declared.part.Cell.{Cell};
-ghost use Rattle.bt_entities.specs.declared.name.Family.TheVariants.{Undergrounds, Splitters};
+ghost use Rattle.bt_entities.specs.declared.name.EntityFamily.TheVariants.{Undergrounds, Splitters};
 ghost use Rattle.bt_entities.specs.declared.shift.Shift.{Shift};
 ghost use Rattle.bt_entities.specs.Members.{HasText, HasNumber};
 ghost use Rattle.bt_entities.specs.Names.{name_of};
@@ -21,7 +21,7 @@ use crate::fault::{EntityFault, EntityName, Member};
 use crate::member::{
     as_number, as_text, has_member, is_object, member, number_member, text_member,
 };
-use crate::name::{Family, named};
+use crate::name::{EntityFamily, named};
 use crate::shift::{Shift, first_tile, height, shift_of, width};
 use bt_hands::{Hand, Priority};
 use bt_json::{Decimal, Tree};
@@ -129,7 +129,7 @@ fn direction(major: u64, entity: &Tree) -> Option<Dir>
 }
 
 /// The kind of an entity of this family.
-fn kind_of(family: Family, entity: &Tree) -> Option<Kind>
+fn kind_of(family: EntityFamily, entity: &Tree) -> Option<Kind>
     requires { HasFamily (json_of entity.now) family }
     ensures { MatchOption result
         (HasFamily (json_of entity.now) Undergrounds
@@ -138,9 +138,9 @@ fn kind_of(family: Family, entity: &Tree) -> Option<Kind>
         (HasKind (json_of entity.now)) }
 {
     match family {
-        Family::Belts => Some(Kind::Belt),
-        Family::Splitters => Some(Kind::Splitter),
-        Family::Undergrounds => match text_member(entity, "type") {
+        EntityFamily::Belts => Some(Kind::Belt),
+        EntityFamily::Splitters => Some(Kind::Splitter),
+        EntityFamily::Undergrounds => match text_member(entity, "type") {
             Some("input") => Some(Kind::Entrance),
             Some("output") => Some(Kind::Exit),
             _ => None,
@@ -167,7 +167,7 @@ fn side_of(entity: &Tree, name: &str) -> Option<Option<Hand>>
 }
 
 /// The side that an entity of this family prefers by the priority of that name.
-fn preferred_of(family: Family, entity: &Tree, name: &str) -> Option<Option<Hand>>
+fn preferred_of(family: EntityFamily, entity: &Tree, name: &str) -> Option<Option<Hand>>
     requires { HasFamily (json_of entity.now) family }
     ensures { MatchOption result
         (HasFamily (json_of entity.now) Splitters
@@ -176,13 +176,13 @@ fn preferred_of(family: Family, entity: &Tree, name: &str) -> Option<Option<Hand
         (Prefers (json_of entity.now) name.now) }
 {
     match family {
-        Family::Splitters => side_of(entity, name),
-        Family::Belts | Family::Undergrounds => Some(None),
+        EntityFamily::Splitters => side_of(entity, name),
+        EntityFamily::Belts | EntityFamily::Undergrounds => Some(None),
     }
 }
 
 /// The priorities of an entity of this family, or the first wrong one.
-fn priority_of(family: Family, entity: &Tree) -> Result<Priority, Member>
+fn priority_of(family: EntityFamily, entity: &Tree) -> Result<Priority, Member>
     requires { HasFamily (json_of entity.now) family }
     ensures { MatchResult result
         (HasPriority (json_of entity.now))
@@ -198,7 +198,12 @@ fn priority_of(family: Family, entity: &Tree) -> Result<Priority, Member>
 }
 
 /// The entity of this family and tier, or its first wrong member.
-fn with_members(major: u64, family: Family, tier: Tier, entity: &Tree) -> Result<Piece, Member>
+fn with_members(
+    major: u64,
+    family: EntityFamily,
+    tier: Tier,
+    entity: &Tree,
+) -> Result<Piece, Member>
     requires { HasText (json_of entity.now) (codes "name") (name_of family tier) }
     ensures { MatchResult result
         (IsPiece major (json_of entity.now))
@@ -225,7 +230,7 @@ fn with_members(major: u64, family: Family, tier: Tier, entity: &Tree) -> Result
 }
 
 /// The family and the tier of the entity with this index.
-fn name_of(alloc: Global, place: usize, entity: &Tree) -> Result<(Family, Tier), EntityFault>
+fn name_of(alloc: Global, place: usize, entity: &Tree) -> Result<(EntityFamily, Tier), EntityFault>
     ensures { UnlessMemory Memory (IsNameRead place (json_of entity.now)) result }
 {
     if !is_object(entity) {

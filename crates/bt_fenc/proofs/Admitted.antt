@@ -13,14 +13,14 @@ use Rattle.bt_flow.specs.States.{Flows, IsStateOf, flow_at, backed_at, load_at, 
 use Rattle.bt_flow.specs.Steady.{HasEdge, IsFull, IsEmpty, IsSteady}
 use Rattle.bt_flow.specs.Properties.{IsAdmissible}
 use Rattle.bt_flow.proofs.Adding.{no_edge}
-use Rattle.bt_fenc.specs.declared.claim.Side.{Side}
-use Rattle.bt_fenc.specs.declared.claim.Side.TheVariants.{Out, In}
-use Rattle.bt_fenc.specs.declared.claim.Pair.{Pair}
-use Rattle.bt_fenc.specs.declared.claim.Pair.TheVariants.{Even}
-use Rattle.bt_fenc.specs.declared.claim.Claim.{Claim}
-use Rattle.bt_fenc.specs.declared.claim.Claim.TheVariants.{Mark, Says, First}
-use Rattle.bt_fenc.specs.declared.family.Family.{Family}
-use Rattle.bt_fenc.specs.declared.family.Family.TheVariants as of
+use Rattle.bt_fenc.specs.declared.state_literal.Side.{Side}
+use Rattle.bt_fenc.specs.declared.state_literal.Side.TheVariants.{Out, In}
+use Rattle.bt_fenc.specs.declared.state_literal.Pair.{Pair}
+use Rattle.bt_fenc.specs.declared.state_literal.Pair.TheVariants.{Even}
+use Rattle.bt_fenc.specs.declared.state_literal.StateLiteral.{StateLiteral}
+use Rattle.bt_fenc.specs.declared.state_literal.StateLiteral.TheVariants.{Mark, Says, First}
+use Rattle.bt_fenc.specs.declared.clause_family.ClauseFamily.{ClauseFamily}
+use Rattle.bt_fenc.specs.declared.clause_family.ClauseFamily.TheVariants as of
 use Rattle.bt_fenc.specs.Columns.{input_edge, output_edge, in_edges, out_edges, edges_at, preferred_at, cap_at, load_column, room_column, at_least, at_most, below as below_cap, beyond, not_below, above}
 use Rattle.bt_fenc.specs.Families.{clauses_at, places, family_clauses, families, range_clauses, end_clauses, excuse, even_clause, even_clauses, prior_clause, side_clauses, backing_clause}
 use Rattle.bt_fenc.specs.Pairs.{first_row, pair_clause, beside, side_pairs, full, loaded, filled}
@@ -71,10 +71,10 @@ same_or_not false true = inr refl
 same_or_not false false = inl refl
 
 module _ (n : Network) (is : IsNetwork n) (s : Flows) (state : IsStateOf n s) (steady : IsSteady n s) where
-  abbrev pub True : List Claim → Type 0
+  abbrev pub True : List StateLiteral → Type 0
   True claims = HasTrue (backed_at s) (rows.over (w n is s state) s.denominator) claims
 
-  abbrev pub AllTrue : List (List Claim) → Type 0
+  abbrev pub AllTrue : List (List StateLiteral) → Type 0
   AllTrue clauses = AllByRecursion True clauses
 
   range_true : (c k : ℕ) → pos 0 ≤ℤ w n is s state c → w n is s state c ≤ℤ pos (k * s.denominator) → AllTrue (range_clauses c k)
@@ -302,7 +302,7 @@ module _ (n : Network) (is : IsNetwork n) (s : Flows) (state : IsStateOf n s) (s
       each-flat_map True (IsEdgeWith n (enters k)) (λ a. map (backing_clause n a) (out_edges n k)) (in_edges n k) (edges_with n (enters k))
       (λ a i. each-map True (IsEdgeWith n (leaves k)) (backing_clause n a) (out_edges n k) (edges_with n (leaves k)) (λ x o. back_true k a x i o))
 
-  at_true : IsAdmissible n s → (f : Family) (k : ℕ) → k < places n f → AllTrue (clauses_at n f k)
+  at_true : IsAdmissible n s → (f : ClauseFamily) (k : ℕ) → k < places n f → AllTrue (clauses_at n f k)
   at_true admits of.Flows k l = flows_true k l
   at_true admits of.Loads k l = loads_true admits k l
   at_true admits of.Rooms k l = rooms_true admits k l
@@ -318,7 +318,7 @@ module _ (n : Network) (is : IsNetwork n) (s : Flows) (state : IsStateOf n s) (s
   at_true admits of.Inputs k l = inputs_true k l
   at_true admits of.Outputs k l = outputs_true k l
 
-  family_true : IsAdmissible n s → (f : Family) → AllTrue (family_clauses n f)
+  family_true : IsAdmissible n s → (f : ClauseFamily) → AllTrue (family_clauses n f)
   family_true admits f =
       each-flat_map True (λ k. k < places n f) (clauses_at n f) (range_with_len 0 (places n f)) (each-range (λ k. k < places n f) 0 (places n f) (λ k l m. omega (arith, m)))
       (λ k l. at_true admits f k l)

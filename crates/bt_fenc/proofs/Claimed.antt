@@ -5,9 +5,9 @@ use Rattle.bt_frac.specs.Ratio.{Ratio}
 use Rattle.bt_frac.specs.Rows.{RowParts}
 use Rattle.bt_frac.specs.Values.{RowHolds}
 use Rattle.bt_cnf.specs.Meeting.{IsTrueUnder, MeetsClause, Meets}
-use Rattle.bt_fenc.specs.declared.claim.Pair.{Pair}
-use Rattle.bt_fenc.specs.declared.claim.Claim.{Claim}
-use Rattle.bt_fenc.specs.declared.claim.Claim.TheVariants.{Mark, Says, First}
+use Rattle.bt_fenc.specs.declared.state_literal.Pair.{Pair}
+use Rattle.bt_fenc.specs.declared.state_literal.StateLiteral.{StateLiteral}
+use Rattle.bt_fenc.specs.declared.state_literal.StateLiteral.TheVariants.{Mark, Says, First}
 use Rattle.bt_fenc.specs.Pairs.{first_row}
 use Rattle.bt_fenc.specs.Numbering.{mentioned, rows_in, literals_from, clauses_from, atoms_from, formula_of, IsNamed, AreNamed}
 use Rattle.bt_fenc.specs.Laws.{HasTrue}
@@ -30,7 +30,7 @@ module _ (at : Pair → ℕ) (marks : ℕ) (all : List RowParts) (f : ℕ → Bo
   Hold atoms = AllByRecursion (λ a. f a.0 ≡ true → RowHolds a.1 values) atoms
 
   module _ (whole : Hold (atoms_from marks all)) where
-    claim_true : (next : ℕ) (claims : List Claim) → AllByRecursion (IsNamed at marks all) claims → MeetsClause f (literals_from at next claims) → Hold (atoms_from next (flat_map mentioned claims))
+    claim_true : (next : ℕ) (claims : List StateLiteral) → AllByRecursion (IsNamed at marks all) claims → MeetsClause f (literals_from at next claims) → Hold (atoms_from next (flat_map mentioned claims))
         → HasTrue f values claims
     claim_true next [] w h g = none_in (IsTrueUnder f) h
     claim_true next (Mark a b ∷ claims) w h g =
@@ -43,7 +43,7 @@ module _ (at : Pair → ℕ) (marks : ℕ) (all : List RowParts) (f : ℕ → Bo
           | inr r ↦ inr (claim_true next claims w.1 r g)
         ]
 
-    claims_true : (next : ℕ) (clauses : List (List Claim)) → AllByRecursion (AllByRecursion (IsNamed at marks all)) clauses → AllByRecursion (MeetsClause f) (clauses_from at next clauses)
+    claims_true : (next : ℕ) (clauses : List (List StateLiteral)) → AllByRecursion (AllByRecursion (IsNamed at marks all)) clauses → AllByRecursion (MeetsClause f) (clauses_from at next clauses)
         → Hold (atoms_from next (rows_in clauses)) → AllByRecursion (HasTrue f values) clauses
     claims_true next [] w h g = tt
     claims_true next (claims ∷ clauses) w h g =
@@ -54,7 +54,7 @@ module _ (at : Pair → ℕ) (marks : ℕ) (all : List RowParts) (f : ℕ → Bo
           claims_true (next + length (flat_map mentioned claims)) clauses w.1 h.1 (each-right (λ a. f a.0 ≡ true → RowHolds a.1 values) front back rows),
         )
 
-pub met_claims : (at : Pair → ℕ) (marks : ℕ) (clauses : List (List Claim)) (f : ℕ → Bool) (values : ℕ → Ratio) → AreNamed at marks clauses → Meets (formula_of at marks clauses) f values
+pub met_claims : (at : Pair → ℕ) (marks : ℕ) (clauses : List (List StateLiteral)) (f : ℕ → Bool) (values : ℕ → Ratio) → AreNamed at marks clauses → Meets (formula_of at marks clauses) f values
     → AllByRecursion (HasTrue f values) clauses
 met_claims at marks clauses f values w met =
     let whole = all_to (λ a. f a.0 ≡ true → RowHolds a.1 values) (atoms_from marks (rows_in clauses)) met.atoms in

@@ -3,12 +3,12 @@ use Rattle.std.proofs.Common.{◌≡◌, ℕ, ◌+◌, List, [], ◌∷◌, ◌+
 use Rattle.std.specs.List.{flat_map, range_with_len}
 use Rattle.bt_net.specs.Network.{Network, HasNoPriorities}
 use Rattle.bt_net.proofs.Preference.{plain_gives, plain_takes}
-use Rattle.bt_fenc.specs.declared.claim.Side.TheVariants.{Out, In}
-use Rattle.bt_fenc.specs.declared.claim.Pair.{Pair}
-use Rattle.bt_fenc.specs.declared.claim.Pair.TheVariants.{Even, Empty, Full, Loaded, Filled}
-use Rattle.bt_fenc.specs.declared.claim.Claim.{Claim}
-use Rattle.bt_fenc.specs.declared.family.Family.{Family}
-use Rattle.bt_fenc.specs.declared.family.Family.TheVariants as of
+use Rattle.bt_fenc.specs.declared.state_literal.Side.TheVariants.{Out, In}
+use Rattle.bt_fenc.specs.declared.state_literal.Pair.{Pair}
+use Rattle.bt_fenc.specs.declared.state_literal.Pair.TheVariants.{Even, Empty, Full, Loaded, Filled}
+use Rattle.bt_fenc.specs.declared.state_literal.StateLiteral.{StateLiteral}
+use Rattle.bt_fenc.specs.declared.clause_family.ClauseFamily.{ClauseFamily}
+use Rattle.bt_fenc.specs.declared.clause_family.ClauseFamily.TheVariants as of
 use Rattle.bt_fenc.specs.Columns.{out_edges, in_edges}
 use Rattle.bt_fenc.specs.Pairs.{pair_clause, side_pairs}
 use Rattle.bt_fenc.specs.Families.{clauses_at, side_clauses, places, bounds, families}
@@ -18,7 +18,7 @@ use Rattle.bt_fenc.specs.FlowFormula.{lower_first, clauses_before}
 use Rattle.bt_fenc.specs.EvenFormula.{even_clauses_at, even_before, FlowFormulaIsEven}
 
 module _ (n : Network) (plain : HasNoPriorities n) where
-  at_place : (f : Family) (k : ℕ) → clauses_at n f k ≡ even_clauses_at n f k
+  at_place : (f : ClauseFamily) (k : ℕ) → clauses_at n f k ≡ even_clauses_at n f k
   at_place of.Flows k = refl
   at_place of.Loads k = refl
   at_place of.Rooms k = refl
@@ -38,10 +38,10 @@ module _ (n : Network) (plain : HasNoPriorities n) where
   at_all = λ i f k. at_place f k i
 
   -- the clauses of families, and those before a place, by what stands at each place
-  abbrev by_places : (Family → ℕ → List (List Claim)) → Family → List (List Claim)
+  abbrev by_places : (ClauseFamily → ℕ → List (List StateLiteral)) → ClauseFamily → List (List StateLiteral)
   by_places at f = flat_map (at f) (range_with_len 0 (places n f))
 
-  abbrev till : (Family → ℕ → List (List Claim)) → List Family → Family → ℕ → List (List Claim)
+  abbrev till : (ClauseFamily → ℕ → List (List StateLiteral)) → List ClauseFamily → ClauseFamily → ℕ → List (List StateLiteral)
   till at before f place = flat_map (by_places at) before ++ flat_map (at f) (range_with_len 0 place)
 
   before_pair : (pair : Pair) → clauses_before n pair ≡ even_before n pair

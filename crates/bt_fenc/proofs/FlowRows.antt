@@ -15,13 +15,13 @@ use Rattle.bt_flow.specs.declared.property.Property.{Property}
 use Rattle.bt_flow.specs.declared.property.Property.TheVariants.{Balanced, DrawnEvenly, Unlimited, Full}
 use Rattle.bt_flow.specs.Ports.{numbers_where}
 use Rattle.bt_flow.specs.Properties.{is_last}
-use Rattle.bt_fenc.specs.declared.claim.Side.{Side}
-use Rattle.bt_fenc.specs.declared.claim.Side.TheVariants.{Out, In}
-use Rattle.bt_fenc.specs.declared.claim.Pair.{Pair}
-use Rattle.bt_fenc.specs.declared.claim.Claim.{Claim}
-use Rattle.bt_fenc.specs.declared.claim.Claim.TheVariants.{Says, First}
-use Rattle.bt_fenc.specs.declared.family.Family.{Family}
-use Rattle.bt_fenc.specs.declared.family.Family.TheVariants as of
+use Rattle.bt_fenc.specs.declared.state_literal.Side.{Side}
+use Rattle.bt_fenc.specs.declared.state_literal.Side.TheVariants.{Out, In}
+use Rattle.bt_fenc.specs.declared.state_literal.Pair.{Pair}
+use Rattle.bt_fenc.specs.declared.state_literal.StateLiteral.{StateLiteral}
+use Rattle.bt_fenc.specs.declared.state_literal.StateLiteral.TheVariants.{Says, First}
+use Rattle.bt_fenc.specs.declared.clause_family.ClauseFamily.{ClauseFamily}
+use Rattle.bt_fenc.specs.declared.clause_family.ClauseFamily.TheVariants as of
 use Rattle.bt_fenc.specs.Columns.{input_edge, output_edge, input_edges, output_edges, in_edges, out_edges, preferred_at, cap_at, load_column, room_column, whole, plus, minus, zero_row, at_least, at_most, below, beyond, less, not_below, above, in_less_out, above_outputs}
 use Rattle.bt_fenc.specs.Families.{clauses_at, places, family_clauses, families, range_clauses, end_clauses, even_clauses, side_clauses, backing_clause}
 use Rattle.bt_fenc.proofs.Sides.{beside_edge}
@@ -107,10 +107,10 @@ all_minus [] = tt
 all_minus (c ∷ columns) = (minus_is, all_minus columns)
 
 -- the row that a claim mentions is a row
-abbrev pub MentionsRow : Claim → Type 0
+abbrev pub MentionsRow : StateLiteral → Type 0
 MentionsRow claim = AllByRecursion IsRow (mentioned claim)
 
-abbrev pub MentionRows : List (List Claim) → Type 0
+abbrev pub MentionRows : List (List StateLiteral) → Type 0
 MentionRows clauses = AllByRecursion (AllByRecursion MentionsRow) clauses
 
 small_cap : (es : List Edge) → AllByRecursion (λ e. IsCap e.cap) es → (a : ℕ) → get_or (map (λ e. e.cap) es) a 0 < 2 ^ 127
@@ -194,7 +194,7 @@ module _ (n : Network) (is : IsNetwork n) where
       let few = is.few_edges in
       is_row (in_less_out k 0 n.edges) Equal (whole 0) (splitter_columns k 0 n.edges (omega (arith, few))) (splitter_lowest k 0 n.edges) none_is
 
-  at_rows : (f : Family) (k : ℕ) → k < places n f → MentionRows (clauses_at n f k)
+  at_rows : (f : ClauseFamily) (k : ℕ) → k < places n f → MentionRows (clauses_at n f k)
   at_rows of.Flows a l = range_rows a (cap_at n a) (flow_column a l) (cap_fits a)
   at_rows of.Loads i l = range_rows (load_column n i) (cap_at n (input_edge n i)) (load_is i l) (cap_fits (input_edge n i))
   at_rows of.Rooms o l = range_rows (room_column n o) (cap_at n (output_edge n o)) (room_is o l) (cap_fits (output_edge n o))
@@ -212,7 +212,7 @@ module _ (n : Network) (is : IsNetwork n) where
   at_rows of.Inputs i l = end_rows (load_column n i) (input_edge n i) true (loaded n i) (load_is i l) (input_is i)
   at_rows of.Outputs o l = end_rows (room_column n o) (output_edge n o) false (filled n o) (room_is o l) (output_is o)
 
-  family_rows : (f : Family) → MentionRows (family_clauses n f)
+  family_rows : (f : ClauseFamily) → MentionRows (family_clauses n f)
   family_rows f =
       each-flat_map _ (λ k. k < places n f) (clauses_at n f) (range_with_len 0 (places n f)) (each-range (λ k. k < places n f) 0 (places n f) (λ k l m. omega (arith, m)))
       (λ k l. at_rows f k l)

@@ -3,8 +3,8 @@ use Rattle.std.proofs.Common.{ℕ, ◌<◌, ◌≤◌, ◌+◌, List, [], ◌∷
 use Rattle.std.specs.List.{AllByRecursion, flat_map}
 use Rattle.bt_frac.specs.Rows.{RowParts, IsRow}
 use Rattle.bt_cnf.specs.Formulas.{LitsBelow, AscendBelow, IsFormula}
-use Rattle.bt_fenc.specs.declared.claim.Pair.{Pair}
-use Rattle.bt_fenc.specs.declared.claim.Claim.{Claim}
+use Rattle.bt_fenc.specs.declared.state_literal.Pair.{Pair}
+use Rattle.bt_fenc.specs.declared.state_literal.StateLiteral.{StateLiteral}
 use Rattle.bt_fenc.specs.Numbering.{mentioned, rows_in, literals_from, clauses_from, atoms_from, formula_of, IsNamed, AreNamed}
 use Rattle.bt_fenc.specs.FlowFormula.{flow_formula, steady_formula, flow_clauses, steady_clauses, variable_of}
 use Rattle.bt_fenc.proofs.Numbers.{all_from, literals_below, named_in_range}
@@ -13,7 +13,7 @@ use Rattle.bt_fenc.proofs.FlowRows.{flow_rows, steady_rows}
 use Rattle.bt_net.specs.Network.{Network, IsNetwork}
 use Rattle.bt_flow.specs.declared.property.Property.{Property}
 
-clauses_in_range : (at : Pair → ℕ) (n marks m : ℕ) (rows : List RowParts) (clauses : List (List Claim)) → AllByRecursion (AllByRecursion (IsNamed at marks rows)) clauses
+clauses_in_range : (at : Pair → ℕ) (n marks m : ℕ) (rows : List RowParts) (clauses : List (List StateLiteral)) → AllByRecursion (AllByRecursion (IsNamed at marks rows)) clauses
     → marks + length rows ≤ n → m + length (rows_in clauses) ≤ n → AllByRecursion (LitsBelow n) (clauses_from at m clauses)
 clauses_in_range at n marks m rows [] h all l = tt
 clauses_in_range at n marks m rows (claims ∷ clauses) h all l =
@@ -31,7 +31,7 @@ are_rows m [] h = tt
 are_rows m (row ∷ rows) h = (h.0, are_rows (m + 1) rows h.1)
 
 -- clauses of claims are numbered as a formula
-pub numbered_is_formula : (at : Pair → ℕ) (marks : ℕ) (clauses : List (List Claim)) → AreNamed at marks clauses → AllByRecursion IsRow (rows_in clauses) → IsFormula (formula_of at marks clauses)
+pub numbered_is_formula : (at : Pair → ℕ) (marks : ℕ) (clauses : List (List StateLiteral)) → AreNamed at marks clauses → AllByRecursion IsRow (rows_in clauses) → IsFormula (formula_of at marks clauses)
 numbered_is_formula at marks clauses h rows =
     let vars = marks + length (rows_in clauses) in
     record {

@@ -8,14 +8,14 @@ use Rattle.bt_cnf.specs.Formulas.{FormulaParts}
 use Rattle.bt_cnf.specs.declared.literal.Lit.{Lit}
 use Rattle.bt_net.specs.Network.{Network, IsNetwork}
 use Rattle.bt_flow.specs.declared.property.Property.{Property}
-use Rattle.bt_fenc.specs.declared.claim.Side.{Side}
-use Rattle.bt_fenc.specs.declared.claim.Side.TheVariants.{Out, In}
-use Rattle.bt_fenc.specs.declared.claim.Pair.{Pair}
-use Rattle.bt_fenc.specs.declared.claim.Pair.TheVariants.{Even, Empty, Full, Loaded, Filled}
-use Rattle.bt_fenc.specs.declared.claim.Claim.{Claim}
-use Rattle.bt_fenc.specs.declared.claim.Claim.TheVariants.{Mark, Says, First}
-use Rattle.bt_fenc.specs.declared.family.Family.{Family}
-use Rattle.bt_fenc.specs.declared.family.Family.TheVariants as of
+use Rattle.bt_fenc.specs.declared.state_literal.Side.{Side}
+use Rattle.bt_fenc.specs.declared.state_literal.Side.TheVariants.{Out, In}
+use Rattle.bt_fenc.specs.declared.state_literal.Pair.{Pair}
+use Rattle.bt_fenc.specs.declared.state_literal.Pair.TheVariants.{Even, Empty, Full, Loaded, Filled}
+use Rattle.bt_fenc.specs.declared.state_literal.StateLiteral.{StateLiteral}
+use Rattle.bt_fenc.specs.declared.state_literal.StateLiteral.TheVariants.{Mark, Says, First}
+use Rattle.bt_fenc.specs.declared.clause_family.ClauseFamily.{ClauseFamily}
+use Rattle.bt_fenc.specs.declared.clause_family.ClauseFamily.TheVariants as of
 use Rattle.bt_fenc.specs.declared.variables.PairVars.{PairVars}
 use Rattle.bt_fenc.specs.Columns.{edges_at, preferred_at}
 use Rattle.bt_fenc.specs.Pairs.{pair_clause, side_pairs, pairs_at}
@@ -32,11 +32,11 @@ use Rattle.bt_fenc.proofs.Named.{IsPair, IsOf, AreOf, nameless, pair_stands, all
 
 -- ---- how many rows clauses mention
 
-rows-append : (xs ys : List (List Claim)) → length (rows_in (xs ++ ys)) ≡ length (rows_in xs) + length (rows_in ys)
+rows-append : (xs ys : List (List StateLiteral)) → length (rows_in (xs ++ ys)) ≡ length (rows_in xs) + length (rows_in ys)
 rows-append xs ys = ap length (flat_map-append (flat_map mentioned) xs ys) ∙ length-append (rows_in xs) (rows_in ys)
 
 -- so many at each place
-rows_each : (f : ℕ → List (List Claim)) (r a m : ℕ) → ((k : ℕ) → length (rows_in (f k)) ≡ r) → length (rows_in (flat_map f (range_with_len a m))) ≡ r * m
+rows_each : (f : ℕ → List (List StateLiteral)) (r a m : ℕ) → ((k : ℕ) → length (rows_in (f k)) ≡ r) → length (rows_in (flat_map f (range_with_len a m))) ≡ r * m
 rows_each f r a zero h = grind arith
 rows_each f r a (suc m) h =
     let one = h a in
@@ -45,7 +45,7 @@ rows_each f r a (suc m) h =
     let times : r * suc m ≡ r + r * m = grind arith in
     omega (arith, one, rest, both, times)
 
-rows_few : (f : ℕ → List (List Claim)) (r a m : ℕ) → ((k : ℕ) → length (rows_in (f k)) ≤ r) → length (rows_in (flat_map f (range_with_len a m))) ≤ r * m
+rows_few : (f : ℕ → List (List StateLiteral)) (r a m : ℕ) → ((k : ℕ) → length (rows_in (f k)) ≤ r) → length (rows_in (flat_map f (range_with_len a m))) ≤ r * m
 rows_few f r a zero h = grind arith
 rows_few f r a (suc m) h =
     let one = h a in
@@ -57,7 +57,7 @@ rows_few f r a (suc m) h =
 -- a place more of a side of the splitters
 pub side_more : (n : Network) (side : Side) (k : ℕ) → side_rows n side (k + 1) ≡ side_rows n side k + length (rows_in (map pair_clause (pairs_at n side k)))
 side_more n side k =
-    let f : ℕ → List (List Claim) = λ j. map pair_clause (pairs_at n side j) in
+    let f : ℕ → List (List StateLiteral) = λ j. map pair_clause (pairs_at n side j) in
     let front = flat_map f (range_with_len 0 k) in
     ap (λ c. length (rows_in c)) (sym (place_more f [] front (front ++ f k) k refl refl)) ∙ rows-append front (f k)
 
@@ -87,11 +87,11 @@ last_start n side first start k now starts e f g same =
 -- ---- how many variables stand before a family
 
 module _ (n : Network) where
-  till_rows : (before : List Family) (f : Family) (k : ℕ)
+  till_rows : (before : List ClauseFamily) (f : ClauseFamily) (k : ℕ)
       → length (rows_in (clauses_till n before f k)) ≡ length (rows_in (flat_map (family_clauses n) before)) + length (rows_in (flat_map (clauses_at n f) (range_with_len 0 k)))
   till_rows before f k = rows-append (flat_map (family_clauses n) before) (flat_map (clauses_at n f) (range_with_len 0 k))
 
-  vars_more : (before : List Family) (f g : Family) → vars_till n (before ++ f ∷ []) g ≡ vars_till n before f + length (rows_in (family_clauses n f))
+  vars_more : (before : List ClauseFamily) (f g : ClauseFamily) → vars_till n (before ++ f ∷ []) g ≡ vars_till n before f + length (rows_in (family_clauses n f))
   vars_more before f g =
       let this = till_rows before f 0 in
       let next = till_rows (before ++ f ∷ []) g 0 in
@@ -155,7 +155,7 @@ module _ (n : Network) where
   lower_rows lower false = refl
 
   module _ (v : PairVars) (kept : AreVariables n v) where
-    even_kept : (side : Side) (k a b start first : ℕ) (before : List Family) (f : Family) → k < n.splitters → start ≡ first + side_rows n side k → first ≡ vars_till n before f
+    even_kept : (side : Side) (k a b start first : ℕ) (before : List ClauseFamily) (f : ClauseFamily) → k < n.splitters → start ≡ first + side_rows n side k → first ≡ vars_till n before f
         → length (rows_in (flat_map (clauses_at n f) (range_with_len 0 k))) ≡ side_rows n side k
         → start + cond (ltb a b) 0 2 ≡ length n.edges + length (rows_in (clauses_till n before f k ++ lower_first (Even side k b a) a b))
     even_kept side k a b start first before f l e g same =
@@ -165,7 +165,7 @@ module _ (n : Network) where
         let both = rows-append (clauses_till n before f k) (lower_first (Even side k b a) a b) in
         omega (arith, e, g, same, none, till, lower, both)
 
-    empty_kept : (side : Side) (k start first : ℕ) (before : List Family) (f : Family) → start ≡ first + side_rows n side k → first ≡ vars_till n before f
+    empty_kept : (side : Side) (k start first : ℕ) (before : List ClauseFamily) (f : ClauseFamily) → start ≡ first + side_rows n side k → first ≡ vars_till n before f
         → length (rows_in (flat_map (clauses_at n f) (range_with_len 0 k))) ≡ side_rows n side k
         → start ≡ length n.edges + length (rows_in (clauses_till n before f k))
     empty_kept side k start first before f e g same =
@@ -173,7 +173,7 @@ module _ (n : Network) where
         let till = till_rows before f k in
         omega (arith, e, g, same, none, till)
 
-    each_kept : (start k : ℕ) (before : List Family) (f : Family) → start ≡ vars_till n before f → ((j : ℕ) → length (rows_in (clauses_at n f j)) ≡ 2)
+    each_kept : (start k : ℕ) (before : List ClauseFamily) (f : ClauseFamily) → start ≡ vars_till n before f → ((j : ℕ) → length (rows_in (clauses_at n f j)) ≡ 2)
         → start + 2 * k ≡ length n.edges + length (rows_in (clauses_till n before f k))
     each_kept start k before f e h =
         let rows = rows_each (clauses_at n f) 2 0 k h in
@@ -205,7 +205,7 @@ module _ (n : Network) where
 
     -- ---- the claims are of variables that stand before
 
-    claim_within : (vars : ℕ) → length n.edges + length (rows_in (flat_map (family_clauses n) nameless)) ≤ vars → (claim : Claim) → IsOf n claim → IsWithin (at_in v) vars claim
+    claim_within : (vars : ℕ) → length n.edges + length (rows_in (flat_map (family_clauses n) nameless)) ≤ vars → (claim : StateLiteral) → IsOf n claim → IsWithin (at_in v) vars claim
     claim_within vars l (Mark a backed) h = omega (arith, h, l)
     claim_within vars l (Says row) h = tt
     claim_within vars l (First pair) h =
@@ -213,12 +213,12 @@ module _ (n : Network) where
         let below : variable_of n pair < vars = named_within (variable_of n) (length n.edges) vars (rows_in (flat_map (family_clauses n) nameless)) l (First pair) (pair_stands n pair h) in
         omega (arith, same, below)
 
-    claims_within : (vars : ℕ) → length n.edges + length (rows_in (flat_map (family_clauses n) nameless)) ≤ vars → (claims : List Claim) → AllByRecursion (IsOf n) claims
+    claims_within : (vars : ℕ) → length n.edges + length (rows_in (flat_map (family_clauses n) nameless)) ≤ vars → (claims : List StateLiteral) → AllByRecursion (IsOf n) claims
         → AllByRecursion (IsWithin (at_in v) vars) claims
     claims_within vars l [] h = tt
     claims_within vars l (claim ∷ claims) h = (claim_within vars l claim h.0, claims_within vars l claims h.1)
 
-    clauses_within : (vars : ℕ) → length n.edges + length (rows_in (flat_map (family_clauses n) nameless)) ≤ vars → (clauses : List (List Claim)) → AreOf n clauses
+    clauses_within : (vars : ℕ) → length n.edges + length (rows_in (flat_map (family_clauses n) nameless)) ≤ vars → (clauses : List (List StateLiteral)) → AreOf n clauses
         → AreWithin (at_in v) vars clauses
     clauses_within vars l [] h = tt
     clauses_within vars l (claims ∷ clauses) h = (claims_within vars l claims h.0, clauses_within vars l clauses h.1)
@@ -228,7 +228,7 @@ module _ (n : Network) where
 
     -- ---- so the literals are those of the formula
 
-    literals_kept : (m : ℕ) (claims : List Claim) → AllByRecursion (IsOf n) claims → literals_from (at_in v) m claims ≡ literals_from (variable_of n) m claims
+    literals_kept : (m : ℕ) (claims : List StateLiteral) → AllByRecursion (IsOf n) claims → literals_from (at_in v) m claims ≡ literals_from (variable_of n) m claims
     literals_kept m [] h = refl
     literals_kept m (Mark a b ∷ claims) h = ap (λ l. record { var = a; positive = b } ∷ l) (literals_kept m claims h.1)
     literals_kept m (Says row ∷ claims) h = ap (λ l. record { var = m; positive = true } ∷ l) (literals_kept (m + 1) claims h.1)
@@ -236,7 +236,7 @@ module _ (n : Network) where
         ap {A = ℕ} {B = List Lit} (λ k. record { var = k; positive = true } ∷ literals_from (at_in v) m claims) (pair_kept pair h.0)
         ∙ ap (λ l. record { var = variable_of n pair; positive = true } ∷ l) (literals_kept m claims h.1)
 
-    clauses_kept : (m : ℕ) (clauses : List (List Claim)) → AreOf n clauses → clauses_from (at_in v) m clauses ≡ clauses_from (variable_of n) m clauses
+    clauses_kept : (m : ℕ) (clauses : List (List StateLiteral)) → AreOf n clauses → clauses_from (at_in v) m clauses ≡ clauses_from (variable_of n) m clauses
     clauses_kept m [] h = refl
     clauses_kept m (claims ∷ clauses) h =
         ap (λ l. l ∷ clauses_from (at_in v) (m + length (flat_map mentioned claims)) clauses) (literals_kept m claims h.0)
@@ -264,7 +264,7 @@ module _ (at : Pair → ℕ) (vars : ℕ) where
   unequal_within [] = tt
   unequal_within (first ∷ others) = each-flat_map _ (λ x. Unit {0}) (differ first) others (each_any others) (λ b t. (tt, (tt, tt)))
 
-  at_each : (n : Network) (f : Family) → ((k : ℕ) → AreWithin at vars (clauses_at n f k)) → AreWithin at vars (family_clauses n f)
+  at_each : (n : Network) (f : ClauseFamily) → ((k : ℕ) → AreWithin at vars (clauses_at n f k)) → AreWithin at vars (family_clauses n f)
   at_each n f h = each-flat_map _ (λ x. Unit {0}) (clauses_at n f) (range_with_len 0 (places n f)) (each_any (range_with_len 0 (places n f))) (λ k t. h k)
 
   pub nameless_within : (n : Network) → AreWithin at vars (flat_map (family_clauses n) nameless)
@@ -281,12 +281,12 @@ module _ (at : Pair → ℕ) (vars : ℕ) where
 
 -- ---- one of the clauses that loops add
 
-pub within_at : {X : Type 0} (at : Pair → ℕ) (vars : ℕ) (f : X → List (List Claim)) (xs : List X) (i : ℕ) (d : X) → i < length xs → AreWithin at vars (flat_map f xs) → AreWithin at vars (f (get_or xs i d))
+pub within_at : {X : Type 0} (at : Pair → ℕ) (vars : ℕ) (f : X → List (List StateLiteral)) (xs : List X) (i : ℕ) (d : X) → i < length xs → AreWithin at vars (flat_map f xs) → AreWithin at vars (f (get_or xs i d))
 within_at at vars f [] i d l h = absurd (omega arith)
 within_at at vars f (x ∷ xs) zero d l h = each-left (AllByRecursion (IsWithin at vars)) (f x) (flat_map f xs) h
 within_at at vars f (x ∷ xs) (suc i) d l h = within_at at vars f xs i d (omega arith) (each-right (AllByRecursion (IsWithin at vars)) (f x) (flat_map f xs) h)
 
-pub clause_at : {X : Type 0} (at : Pair → ℕ) (vars : ℕ) (f : X → List Claim) (xs : List X) (i : ℕ) (d : X) → i < length xs → AreWithin at vars (map f xs) → AllByRecursion (IsWithin at vars) (f (get_or xs i d))
+pub clause_at : {X : Type 0} (at : Pair → ℕ) (vars : ℕ) (f : X → List StateLiteral) (xs : List X) (i : ℕ) (d : X) → i < length xs → AreWithin at vars (map f xs) → AllByRecursion (IsWithin at vars) (f (get_or xs i d))
 clause_at at vars f [] i d l h = absurd (omega arith)
 clause_at at vars f (x ∷ xs) zero d l h = h.0
 clause_at at vars f (x ∷ xs) (suc i) d l h = clause_at at vars f xs i d (omega arith) h.1

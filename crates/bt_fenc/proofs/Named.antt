@@ -10,14 +10,14 @@ use Rattle.bt_net.specs.declared.network.Edge.{Edge}
 use Rattle.bt_net.specs.Network.{Network, IsNetwork, leaves, enters}
 use Rattle.bt_flow.specs.declared.property.Property.{Property}
 use Rattle.bt_flow.specs.declared.property.Property.TheVariants.{Balanced, DrawnEvenly, Unlimited, Full as FullProperty}
-use Rattle.bt_fenc.specs.declared.claim.Side.{Side}
-use Rattle.bt_fenc.specs.declared.claim.Side.TheVariants.{Out, In}
-use Rattle.bt_fenc.specs.declared.claim.Pair.{Pair}
-use Rattle.bt_fenc.specs.declared.claim.Pair.TheVariants.{Even, Empty, Full, Loaded, Filled}
-use Rattle.bt_fenc.specs.declared.claim.Claim.{Claim}
-use Rattle.bt_fenc.specs.declared.claim.Claim.TheVariants.{Mark, Says, First}
-use Rattle.bt_fenc.specs.declared.family.Family.{Family}
-use Rattle.bt_fenc.specs.declared.family.Family.TheVariants as of
+use Rattle.bt_fenc.specs.declared.state_literal.Side.{Side}
+use Rattle.bt_fenc.specs.declared.state_literal.Side.TheVariants.{Out, In}
+use Rattle.bt_fenc.specs.declared.state_literal.Pair.{Pair}
+use Rattle.bt_fenc.specs.declared.state_literal.Pair.TheVariants.{Even, Empty, Full, Loaded, Filled}
+use Rattle.bt_fenc.specs.declared.state_literal.StateLiteral.{StateLiteral}
+use Rattle.bt_fenc.specs.declared.state_literal.StateLiteral.TheVariants.{Mark, Says, First}
+use Rattle.bt_fenc.specs.declared.clause_family.ClauseFamily.{ClauseFamily}
+use Rattle.bt_fenc.specs.declared.clause_family.ClauseFamily.TheVariants as of
 use Rattle.bt_fenc.specs.Columns.{input_edge, output_edge, input_edges, output_edges, in_edges, out_edges, edges_at, preferred_at, cap_at, load_column, room_column}
 use Rattle.bt_fenc.specs.Pairs.{first_row, opposite_row, pair_clause, even_pairs, beside, side_pairs, pairs_at, full}
 use Rattle.bt_fenc.specs.Families.{clauses_at, places, family_clauses, bounds, pair_families, laws, families, even_clauses, side_clauses, backing_clause}
@@ -41,16 +41,16 @@ IsPair n (Loaded i a column) = (i < n.inputs) × (a ≡ input_edge n i) × (colu
 IsPair n (Filled o a column) = (o < n.outputs) × (a ≡ output_edge n o) × (column ≡ room_column n o)
 
 -- the edge or the pair that a claim names is one of the network
-abbrev pub IsOf : Network → Claim → Type 0
+abbrev pub IsOf : Network → StateLiteral → Type 0
 IsOf n (Mark a backed) = a < length n.edges
 IsOf n (Says row) = Unit {0}
 IsOf n (First pair) = IsPair n pair
 
-abbrev pub AreOf : Network → List (List Claim) → Type 0
+abbrev pub AreOf : Network → List (List StateLiteral) → Type 0
 AreOf n clauses = AllByRecursion (AllByRecursion (IsOf n)) clauses
 
 -- the families that name no pair
-abbrev pub nameless : List Family
+abbrev pub nameless : List ClauseFamily
 nameless = bounds ++ pair_families
 
 -- ---- the claims are of the network
@@ -93,7 +93,7 @@ module _ (n : Network) (is : IsNetwork n) where
   pairs_of : (pairs : List Pair) → AreOf n (map pair_clause pairs)
   pairs_of pairs = each-map _ (λ x. Unit {0}) pair_clause pairs (each_any pairs) (λ pair t. (tt, (tt, tt)))
 
-  pub at_of : (f : Family) (k : ℕ) → k < places n f → AreOf n (clauses_at n f k)
+  pub at_of : (f : ClauseFamily) (k : ℕ) → k < places n f → AreOf n (clauses_at n f k)
   at_of of.Flows k l = ((tt, tt), ((tt, tt), tt))
   at_of of.Loads k l = ((tt, tt), ((tt, tt), tt))
   at_of of.Rooms k l = ((tt, tt), ((tt, tt), tt))
@@ -111,12 +111,12 @@ module _ (n : Network) (is : IsNetwork n) where
   at_of of.Inputs i l = ((tt, tt), ((input_below n is i, ((l, refl, refl), tt)), tt))
   at_of of.Outputs o l = ((tt, tt), ((output_below n is o, ((l, refl, refl), tt)), tt))
 
-  family_of : (f : Family) → AreOf n (family_clauses n f)
+  family_of : (f : ClauseFamily) → AreOf n (family_clauses n f)
   family_of f =
       each-flat_map _ (λ k. k < places n f) (clauses_at n f) (range_with_len 0 (places n f)) (each-range (λ k. k < places n f) 0 (places n f) (λ k l m. omega (arith, m)))
       (λ k l. at_of f k l)
 
-  pub all_of : (fs : List Family) → AreOf n (flat_map (family_clauses n) fs)
+  pub all_of : (fs : List ClauseFamily) → AreOf n (flat_map (family_clauses n) fs)
   all_of fs = each-flat_map (AllByRecursion (IsOf n)) (λ x. Unit {0}) (family_clauses n) fs (each_any fs) (λ f t. family_of f)
 
   loaded_of : AreOf n (loaded_clauses n)
@@ -143,7 +143,7 @@ module _ (n : Network) (is : IsNetwork n) where
 
 -- ---- the place of a pair's clause
 
-clause_stands : (marks : ℕ) (clauses before after : List (List Claim)) (pair : Pair) → clauses ≡ before ++ pair_clause pair ∷ after
+clause_stands : (marks : ℕ) (clauses before after : List (List StateLiteral)) (pair : Pair) → clauses ≡ before ++ pair_clause pair ∷ after
     → IsVariable marks (rows_in clauses) (first_row pair) (marks + length (rows_in before))
 clause_stands marks clauses before after pair e =
     record { before = rows_in before; after = opposite_row pair ∷ rows_in after; split = ap rows_in e ∙ flat_map-append (flat_map mentioned) before (pair_clause pair ∷ after); place = refl }
@@ -160,8 +160,8 @@ regroup a b c r z = simp append_assoc
 
 module _ (n : Network) where
   -- the clauses at a place stand after those before it
-  split_at : (before after : List Family) (f : Family) (k : ℕ) → k < places n f
-      → (rest : List (List Claim)) × (flat_map (family_clauses n) (before ++ f ∷ after) ≡ clauses_till n before f k ++ (clauses_at n f k ++ rest))
+  split_at : (before after : List ClauseFamily) (f : ClauseFamily) (k : ℕ) → k < places n f
+      → (rest : List (List StateLiteral)) × (flat_map (family_clauses n) (before ++ f ∷ after) ≡ clauses_till n before f k ++ (clauses_at n f k ++ rest))
   split_at before after f k l =
       let r = range_split 0 k (places n f) l in
       let front = flat_map (clauses_at n f) (range_with_len 0 k) in
@@ -174,7 +174,7 @@ module _ (n : Network) where
             ∙ regroup (flat_map (family_clauses n) before) front (clauses_at n f k) back (flat_map (family_clauses n) after),
       )
 
-  even_stands : (side : Side) (k a b : ℕ) (clauses till rest : List (List Claim)) (edges : List ℕ) → clauses ≡ till ++ (map pair_clause (even_pairs side k edges) ++ rest) → AreTwo edges a b
+  even_stands : (side : Side) (k a b : ℕ) (clauses till rest : List (List StateLiteral)) (edges : List ℕ) → clauses ≡ till ++ (map pair_clause (even_pairs side k edges) ++ rest) → AreTwo edges a b
       → IsVariable (length n.edges) (rows_in clauses) (first_row (Even side k a b)) (length n.edges + length (rows_in (till ++ lower_first (Even side k b a) a b)))
   even_stands side k a b clauses till rest edges e (inl (two, less)) =
       let pair = Even side k a b in
@@ -234,23 +234,23 @@ more_rows first rows more row var h =
     record { before = h.before; after = h.after ++ more; split = ap (λ r. r ++ more) h.split ∙ append_assoc h.before (row ∷ h.after) more; place = h.place }
 
 module _ (n : Network) where
-  claim_named : (more : List RowParts) (claim : Claim) → IsOf n claim → IsNamed (variable_of n) (length n.edges) (rows_in (flat_map (family_clauses n) nameless) ++ more) claim
+  claim_named : (more : List RowParts) (claim : StateLiteral) → IsOf n claim → IsNamed (variable_of n) (length n.edges) (rows_in (flat_map (family_clauses n) nameless) ++ more) claim
   claim_named more (Mark a backed) h = h
   claim_named more (Says row) h = tt
   claim_named more (First pair) h = more_rows (length n.edges) (rows_in (flat_map (family_clauses n) nameless)) more (first_row pair) (variable_of n pair) (pair_stands n pair h)
 
-  claims_named : (more : List RowParts) (claims : List Claim) → AllByRecursion (IsOf n) claims
+  claims_named : (more : List RowParts) (claims : List StateLiteral) → AllByRecursion (IsOf n) claims
       → AllByRecursion (IsNamed (variable_of n) (length n.edges) (rows_in (flat_map (family_clauses n) nameless) ++ more)) claims
   claims_named more [] h = tt
   claims_named more (claim ∷ claims) h = (claim_named more claim h.0, claims_named more claims h.1)
 
-  all_named : (more : List RowParts) (clauses : List (List Claim)) → AreOf n clauses
+  all_named : (more : List RowParts) (clauses : List (List StateLiteral)) → AreOf n clauses
       → AllByRecursion (AllByRecursion (IsNamed (variable_of n) (length n.edges) (rows_in (flat_map (family_clauses n) nameless) ++ more))) clauses
   all_named more [] h = tt
   all_named more (claims ∷ clauses) h = (claims_named more claims h.0, all_named more clauses h.1)
 
   -- clauses of which those of the nameless families are the first
-  after_nameless : (clauses more : List (List Claim)) → flat_map (family_clauses n) nameless ++ more ≡ clauses → AreOf n clauses → AreNamed (variable_of n) (length n.edges) clauses
+  after_nameless : (clauses more : List (List StateLiteral)) → flat_map (family_clauses n) nameless ++ more ≡ clauses → AreOf n clauses → AreNamed (variable_of n) (length n.edges) clauses
   after_nameless clauses more e h =
       subst (λ rows. AllByRecursion (AllByRecursion (IsNamed (variable_of n) (length n.edges) rows)) clauses)
       (sym (flat_map-append (flat_map mentioned) (flat_map (family_clauses n) nameless) more) ∙ ap rows_in e) (all_named (rows_in more) clauses h)

@@ -6,13 +6,13 @@ use Rattle.bt_frac.specs.Rows.{RowParts, columns_of}
 use Rattle.bt_net.specs.declared.network.Edge.{Edge}
 use Rattle.bt_net.specs.Network.{Network, IsNetwork, leaves, enters}
 use Rattle.bt_flow.specs.Ports.{numbers_where}
-use Rattle.bt_fenc.specs.declared.claim.Side.{Side}
-use Rattle.bt_fenc.specs.declared.claim.Side.TheVariants.{Out, In}
-use Rattle.bt_fenc.specs.declared.claim.Pair.{Pair}
-use Rattle.bt_fenc.specs.declared.claim.Claim.{Claim}
-use Rattle.bt_fenc.specs.declared.claim.Claim.TheVariants.{Says, First}
-use Rattle.bt_fenc.specs.declared.family.Family.{Family}
-use Rattle.bt_fenc.specs.declared.family.Family.TheVariants as of
+use Rattle.bt_fenc.specs.declared.state_literal.Side.{Side}
+use Rattle.bt_fenc.specs.declared.state_literal.Side.TheVariants.{Out, In}
+use Rattle.bt_fenc.specs.declared.state_literal.Pair.{Pair}
+use Rattle.bt_fenc.specs.declared.state_literal.StateLiteral.{StateLiteral}
+use Rattle.bt_fenc.specs.declared.state_literal.StateLiteral.TheVariants.{Says, First}
+use Rattle.bt_fenc.specs.declared.clause_family.ClauseFamily.{ClauseFamily}
+use Rattle.bt_fenc.specs.declared.clause_family.ClauseFamily.TheVariants as of
 use Rattle.bt_fenc.specs.Columns.{input_edge, output_edge, in_edges, out_edges, preferred_at, cap_at, load_column, room_column, plus, minus, not_below, above, in_less_out}
 use Rattle.bt_fenc.specs.Families.{clauses_at, places, family_clauses, families, range_clauses, end_clauses, even_clauses, side_clauses, backing_clause}
 use Rattle.bt_fenc.specs.Pairs.{pair_clause, side_pairs, full, loaded, filled}
@@ -30,10 +30,10 @@ abbrev pub IsNarrowRow : RowParts → Type 0
 IsNarrowRow row = AllByRecursion IsNarrow (columns_of row.terms)
 
 -- the row that a claim mentions is one
-abbrev MentionsNarrow : Claim → Type 0
+abbrev MentionsNarrow : StateLiteral → Type 0
 MentionsNarrow claim = AllByRecursion IsNarrowRow (mentioned claim)
 
-abbrev MentionNarrow : List (List Claim) → Type 0
+abbrev MentionNarrow : List (List StateLiteral) → Type 0
 MentionNarrow clauses = AllByRecursion (AllByRecursion MentionsNarrow) clauses
 
 less_narrow : (a b : ℕ) → IsNarrow a → IsNarrow b → (t u : Bool) → AllByRecursion IsNarrow (columns_of (cond t (plus a ∷ minus b ∷ []) (cond u (minus b ∷ plus a ∷ []) [])))
@@ -127,7 +127,7 @@ module _ (n : Network) (is : IsNetwork n) where
   conserve_narrow : (k : ℕ) → AllByRecursion IsNarrow (columns_of (in_less_out k 0 n.edges))
   conserve_narrow k = let few = is.few_edges in splitter_narrow k 0 n.edges (omega (arith, few))
 
-  at_narrow : (f : Family) (k : ℕ) → k < places n f → MentionNarrow (clauses_at n f k)
+  at_narrow : (f : ClauseFamily) (k : ℕ) → k < places n f → MentionNarrow (clauses_at n f k)
   at_narrow of.Flows a l = range_narrow a (cap_at n a) (flow_narrow a l)
   at_narrow of.Loads i l = range_narrow (load_column n i) (cap_at n (input_edge n i)) (load_narrow i l)
   at_narrow of.Rooms o l = range_narrow (room_column n o) (cap_at n (output_edge n o)) (room_narrow o l)
@@ -145,7 +145,7 @@ module _ (n : Network) (is : IsNetwork n) where
   at_narrow of.Inputs i l = ends_narrow (load_column n i) (input_edge n i) true (loaded n i) (load_narrow i l) (input_narrow i)
   at_narrow of.Outputs o l = ends_narrow (room_column n o) (output_edge n o) false (filled n o) (room_narrow o l) (output_narrow o)
 
-  family_narrow : (f : Family) → MentionNarrow (family_clauses n f)
+  family_narrow : (f : ClauseFamily) → MentionNarrow (family_clauses n f)
   family_narrow f =
       each-flat_map _ (λ k. k < places n f) (clauses_at n f) (range_with_len 0 (places n f)) (each-range (λ k. k < places n f) 0 (places n f) (λ k l m. omega (arith, m)))
       (λ k l. at_narrow f k l)

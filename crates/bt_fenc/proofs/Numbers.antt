@@ -5,9 +5,9 @@ use Rattle.std.proofs.lemmas.Grind.{flat_map-append}
 use Rattle.bt_frac.specs.Rows.{RowParts}
 use Rattle.bt_cnf.specs.declared.literal.Lit.{Lit}
 use Rattle.bt_cnf.specs.Formulas.{FormulaParts}
-use Rattle.bt_fenc.specs.declared.claim.Pair.{Pair}
-use Rattle.bt_fenc.specs.declared.claim.Claim.{Claim}
-use Rattle.bt_fenc.specs.declared.claim.Claim.TheVariants.{Mark, Says, First}
+use Rattle.bt_fenc.specs.declared.state_literal.Pair.{Pair}
+use Rattle.bt_fenc.specs.declared.state_literal.StateLiteral.{StateLiteral}
+use Rattle.bt_fenc.specs.declared.state_literal.StateLiteral.TheVariants.{Mark, Says, First}
 use Rattle.bt_fenc.specs.Pairs.{first_row}
 use Rattle.bt_fenc.specs.Numbering.{mentioned, rows_in, literals_from, clauses_from, atoms_from, IsVariable, IsNamed}
 use Rattle.bt_fenc.specs.inner.Within.{IsWithin, AreWithin}
@@ -18,7 +18,7 @@ atoms-append m [] more = ap (λ k. atoms_from k more) (let e : m ≡ m + length 
 atoms-append m (r ∷ rows) more =
     ap (λ l. (m, r) ∷ l) (atoms-append (m + 1) rows more ∙ ap (λ k. atoms_from (m + 1) rows ++ atoms_from k more) (let e : m + 1 + length rows ≡ m + length (r ∷ rows) = omega arith in e))
 
-pub literals-append : (at : Pair → ℕ) (m : ℕ) (claims more : List Claim)
+pub literals-append : (at : Pair → ℕ) (m : ℕ) (claims more : List StateLiteral)
     → literals_from at m (claims ++ more) ≡ literals_from at m claims ++ literals_from at (m + length (flat_map mentioned claims)) more
 literals-append at m [] more = ap (λ k. literals_from at k more) (let e : m ≡ m + length {A = RowParts} [] = omega arith in e)
 literals-append at m (Mark a b ∷ claims) more = ap (λ l. record { var = a; positive = b } ∷ l) (literals-append at m claims more)
@@ -27,7 +27,7 @@ literals-append at m (Says row ∷ claims) more =
     (literals-append at (m + 1) claims more ∙ ap (λ k. literals_from at (m + 1) claims ++ literals_from at k more) (let e : m + 1 + length (flat_map mentioned claims) ≡ m + length (flat_map mentioned (Says row ∷ claims)) = omega arith in e))
 literals-append at m (First pair ∷ claims) more = ap (λ l. record { var = at pair; positive = true } ∷ l) (literals-append at m claims more)
 
-pub clauses-append : (at : Pair → ℕ) (m : ℕ) (clauses more : List (List Claim))
+pub clauses-append : (at : Pair → ℕ) (m : ℕ) (clauses more : List (List StateLiteral))
     → clauses_from at m (clauses ++ more) ≡ clauses_from at m clauses ++ clauses_from at (m + length (rows_in clauses)) more
 clauses-append at m [] more = ap (λ k. clauses_from at k more) (let e : m ≡ m + length {A = RowParts} [] = omega arith in e)
 clauses-append at m (first ∷ clauses) more =
@@ -59,7 +59,7 @@ at_variable P first rows row var h v =
     second_part P (x ∷ xs) ys h = second_part P xs ys h.1
 
 -- a named claim is within all variables
-pub named_within : (at : Pair → ℕ) (marks n : ℕ) (rows : List RowParts) → marks + length rows ≤ n → (claim : Claim) → IsNamed at marks rows claim → IsWithin at n claim
+pub named_within : (at : Pair → ℕ) (marks n : ℕ) (rows : List RowParts) → marks + length rows ≤ n → (claim : StateLiteral) → IsNamed at marks rows claim → IsWithin at n claim
 named_within at marks n rows l (Mark a b) h = omega (arith, h, l)
 named_within at marks n rows l (Says row) h = tt
 named_within at marks n rows l (First pair) h =
@@ -67,27 +67,27 @@ named_within at marks n rows l (First pair) h =
     let place = h.place in
     omega (arith, long, place, l)
 
-pub named_in_range : (at : Pair → ℕ) (marks n : ℕ) (rows : List RowParts) → marks + length rows ≤ n → (claims : List Claim) → AllByRecursion (IsNamed at marks rows) claims
+pub named_in_range : (at : Pair → ℕ) (marks n : ℕ) (rows : List RowParts) → marks + length rows ≤ n → (claims : List StateLiteral) → AllByRecursion (IsNamed at marks rows) claims
     → AllByRecursion (IsWithin at n) claims
 named_in_range at marks n rows l [] h = tt
 named_in_range at marks n rows l (claim ∷ claims) h = (named_within at marks n rows l claim h.0, named_in_range at marks n rows l claims h.1)
 
 -- a claim within a number of variables is within a greater one
-pub claim_wider : (at : Pair → ℕ) (m n : ℕ) → m ≤ n → (claim : Claim) → IsWithin at m claim → IsWithin at n claim
+pub claim_wider : (at : Pair → ℕ) (m n : ℕ) → m ≤ n → (claim : StateLiteral) → IsWithin at m claim → IsWithin at n claim
 claim_wider at m n l (Mark a b) h = omega (arith, h, l)
 claim_wider at m n l (Says row) h = tt
 claim_wider at m n l (First pair) h = omega (arith, h, l)
 
-pub within_more : (at : Pair → ℕ) (m n : ℕ) → m ≤ n → (claims : List Claim) → AllByRecursion (IsWithin at m) claims → AllByRecursion (IsWithin at n) claims
+pub within_more : (at : Pair → ℕ) (m n : ℕ) → m ≤ n → (claims : List StateLiteral) → AllByRecursion (IsWithin at m) claims → AllByRecursion (IsWithin at n) claims
 within_more at m n l [] h = tt
 within_more at m n l (claim ∷ claims) h = (claim_wider at m n l claim h.0, within_more at m n l claims h.1)
 
-pub all_within_more : (at : Pair → ℕ) (m n : ℕ) → m ≤ n → (clauses : List (List Claim)) → AreWithin at m clauses → AreWithin at n clauses
+pub all_within_more : (at : Pair → ℕ) (m n : ℕ) → m ≤ n → (clauses : List (List StateLiteral)) → AreWithin at m clauses → AreWithin at n clauses
 all_within_more at m n l [] h = tt
 all_within_more at m n l (claims ∷ clauses) h = (within_more at m n l claims h.0, all_within_more at m n l clauses h.1)
 
 -- the literals of claims are of variables in range
-pub literals_below : (at : Pair → ℕ) (n m : ℕ) (claims : List Claim) → AllByRecursion (IsWithin at n) claims → m + length (flat_map mentioned claims) ≤ n
+pub literals_below : (at : Pair → ℕ) (n m : ℕ) (claims : List StateLiteral) → AllByRecursion (IsWithin at n) claims → m + length (flat_map mentioned claims) ≤ n
     → AllByRecursion (λ l. l.var < n) (literals_from at m claims)
 literals_below at n m [] h l = tt
 literals_below at n m (Mark a b ∷ claims) h l = (h.0, literals_below at n m claims h.1 l)
@@ -109,7 +109,7 @@ none_after at f = record {
 }
 
 -- a claim is numbered after others
-pub claim_added : (at : Pair → ℕ) (old now new : FormulaParts) (front : List Claim) (claim : Claim) (lits : List Lit) (lit : Lit) → IsAfter at old front now lits → IsAfter at now (claim ∷ []) new (lit ∷ [])
+pub claim_added : (at : Pair → ℕ) (old now new : FormulaParts) (front : List StateLiteral) (claim : StateLiteral) (lits : List Lit) (lit : Lit) → IsAfter at old front now lits → IsAfter at now (claim ∷ []) new (lit ∷ [])
     → IsAfter at old (front ++ claim ∷ []) new (lits ++ lit ∷ [])
 claim_added at old now new front claim lits lit after g =
     let vars : now.vars ≡ old.vars + length (flat_map mentioned front) = ap (λ f. f.vars) after.formula in
@@ -132,7 +132,7 @@ claim_added at old now new front claim lits lit after g =
     }
 
 -- two rows are numbered after others, and their literals pushed
-pub rows_added : (at : Pair → ℕ) (old now one new : FormulaParts) (front after : List Claim) (a b : RowParts) (lits mid more : List Lit) (x y : Lit) → IsAfter at old front now lits
+pub rows_added : (at : Pair → ℕ) (old now one new : FormulaParts) (front after : List StateLiteral) (a b : RowParts) (lits mid more : List Lit) (x y : Lit) → IsAfter at old front now lits
     → IsAfter at now (Says a ∷ []) one (x ∷ []) → mid ≡ lits ++ x ∷ [] → IsAfter at one (Says b ∷ []) new (y ∷ []) → more ≡ mid ++ y ∷ []
     → front ++ Says a ∷ Says b ∷ [] ≡ after → IsAfter at old after new more
 rows_added at old now one new front after a b lits mid more x y h first e second g same =
@@ -142,14 +142,14 @@ rows_added at old now one new front after a b lits mid more x y h first e second
     subst (IsAfter at old after new) pushed (subst (λ c. IsAfter at old c new ((lits ++ x ∷ []) ++ y ∷ [])) claims both)
 
 -- all claims of a clause are numbered
-pub clause_below : (at : Pair → ℕ) (old now : FormulaParts) (all : List Claim) (lits : List Lit) → IsAfter at old all now lits
+pub clause_below : (at : Pair → ℕ) (old now : FormulaParts) (all : List StateLiteral) (lits : List Lit) → IsAfter at old all now lits
     → AllByRecursion (IsWithin at old.vars) all → All (λ l. l.var < now.vars) lits
 clause_below at old now all lits after h =
     let vars = ap (λ f. f.vars) after.formula in
     subst (All (λ l. l.var < now.vars)) (sym after.literals)
     (all_from _ (literals_from at old.vars all) (literals_below at now.vars old.vars all (within_more at old.vars now.vars (omega (arith, vars)) all h) (omega (arith, vars))))
 
-pub clause_added : (at : Pair → ℕ) (old now new : FormulaParts) (all : List Claim) (lits : List Lit) → IsAfter at old all now lits
+pub clause_added : (at : Pair → ℕ) (old now new : FormulaParts) (all : List StateLiteral) (lits : List Lit) → IsAfter at old all now lits
     → new ≡ record now { clauses = now.clauses ++ lits ∷ [] } → new ≡ with_clauses at old (all ∷ [])
 clause_added at old now new all lits after e =
     let rows = sym (append-nil (flat_map mentioned all)) in
@@ -163,7 +163,7 @@ pub with_none : (at : Pair → ℕ) (f : FormulaParts) → f ≡ with_clauses at
 with_none at f =
     same_parts f.vars (f.vars + length {A = RowParts} []) f.clauses (f.clauses ++ []) f.atoms (f.atoms ++ []) (omega arith) (sym (append-nil f.clauses)) (sym (append-nil f.atoms))
 
-pub with_more : (at : Pair → ℕ) (f : FormulaParts) (clauses more : List (List Claim)) → with_clauses at (with_clauses at f clauses) more ≡ with_clauses at f (clauses ++ more)
+pub with_more : (at : Pair → ℕ) (f : FormulaParts) (clauses more : List (List StateLiteral)) → with_clauses at (with_clauses at f clauses) more ≡ with_clauses at f (clauses ++ more)
 with_more at f clauses more =
     let rows : rows_in (clauses ++ more) ≡ rows_in clauses ++ rows_in more = flat_map-append (flat_map mentioned) clauses more in
     let long = ap length rows ∙ length-append (rows_in clauses) (rows_in more) in
@@ -177,15 +177,15 @@ with_more at f clauses more =
     ∙ ap (λ l. f.atoms ++ l) (sym (ap (atoms_from f.vars) rows ∙ atoms-append f.vars (rows_in clauses) (rows_in more))))
 
 -- what was added before, and what is added to it
-pub added_more : (at : Pair → ℕ) (old now new : FormulaParts) (before more after : List (List Claim)) → now ≡ with_clauses at old before → new ≡ with_clauses at now more → before ++ more ≡ after
+pub added_more : (at : Pair → ℕ) (old now new : FormulaParts) (before more after : List (List StateLiteral)) → now ≡ with_clauses at old before → new ≡ with_clauses at now more → before ++ more ≡ after
     → new ≡ with_clauses at old after
 added_more at old now new before more after e h same = h ∙ ap (λ f. with_clauses at f more) e ∙ with_more at old before more ∙ ap (with_clauses at old) same
 
 -- the same of the formula alone
-pub then_more : (at : Pair → ℕ) (old now : FormulaParts) (before more after : List (List Claim)) → now ≡ with_clauses at old before → before ++ more ≡ after
+pub then_more : (at : Pair → ℕ) (old now : FormulaParts) (before more after : List (List StateLiteral)) → now ≡ with_clauses at old before → before ++ more ≡ after
     → with_clauses at now more ≡ with_clauses at old after
 then_more at old now before more after e same = ap (λ f. with_clauses at f more) e ∙ with_more at old before more ∙ ap (with_clauses at old) same
 
 -- a formula's variables stay, and more come
-pub marks_stay : (at : Pair → ℕ) (marks : ℕ) (old now : FormulaParts) (clauses : List (List Claim)) → now ≡ with_clauses at old clauses → marks ≤ old.vars → marks ≤ now.vars
+pub marks_stay : (at : Pair → ℕ) (marks : ℕ) (old now : FormulaParts) (clauses : List (List StateLiteral)) → now ≡ with_clauses at old clauses → marks ≤ old.vars → marks ≤ now.vars
 marks_stay at marks old now clauses e h = let v = ap (λ f. f.vars) e in omega (arith, v, h)

@@ -5,8 +5,8 @@ use Rattle.std.proofs.lemmas.Bool.Decides.{eqb_tells}
 use Rattle.bt_net.specs.declared.network.Edge.{Edge}
 use Rattle.bt_net.specs.Network.{Network, IsNetwork, leaves, enters}
 use Rattle.bt_flow.specs.Ports.{numbers_where}
-use Rattle.bt_fenc.specs.declared.claim.Side.{Side}
-use Rattle.bt_fenc.specs.declared.claim.Side.TheVariants.{Out, In}
+use Rattle.bt_fenc.specs.declared.state_literal.Side.{Side}
+use Rattle.bt_fenc.specs.declared.state_literal.Side.TheVariants.{Out, In}
 use Rattle.bt_fenc.specs.Columns.{edges_at, preferred_at}
 use Rattle.bt_fenc.specs.Pairs.{beside, even_pairs, side_pairs, pairs_at}
 use Rattle.bt_fenc.proofs.NetEdges.{IsEdgeWith, edges_with}

@@ -10,14 +10,14 @@ use Rattle.bt_flow.specs.declared.property.Property.{Property}
 use Rattle.bt_flow.specs.declared.property.Property.TheVariants.{Balanced, DrawnEvenly, Unlimited, Full}
 use Rattle.bt_flow.specs.Ports.{numbers_where, plays}
 use Rattle.bt_flow.proofs.Numbers.{length-numbers_where, few_at, ends_of}
-use Rattle.bt_fenc.specs.declared.claim.Side.{Side}
-use Rattle.bt_fenc.specs.declared.claim.Side.TheVariants.{Out, In}
-use Rattle.bt_fenc.specs.declared.claim.Pair.{Pair}
-use Rattle.bt_fenc.specs.declared.claim.Claim.{Claim}
-use Rattle.bt_fenc.specs.declared.claim.Claim.TheVariants.{First}
+use Rattle.bt_fenc.specs.declared.state_literal.Side.{Side}
+use Rattle.bt_fenc.specs.declared.state_literal.Side.TheVariants.{Out, In}
+use Rattle.bt_fenc.specs.declared.state_literal.Pair.{Pair}
+use Rattle.bt_fenc.specs.declared.state_literal.StateLiteral.{StateLiteral}
+use Rattle.bt_fenc.specs.declared.state_literal.StateLiteral.TheVariants.{First}
 use Rattle.bt_fenc.specs.Pairs.{pair_clause, side_pairs, full}
-use Rattle.bt_fenc.specs.declared.family.Family.{Family}
-use Rattle.bt_fenc.specs.declared.family.Family.TheVariants as of
+use Rattle.bt_fenc.specs.declared.clause_family.ClauseFamily.{ClauseFamily}
+use Rattle.bt_fenc.specs.declared.clause_family.ClauseFamily.TheVariants as of
 use Rattle.bt_fenc.specs.Columns.{input_edge, output_edge, input_edges, output_edges, in_edges, out_edges, preferred_at, cap_at}
 use Rattle.bt_fenc.specs.Families.{clauses_at, places, family_clauses, families, even_clause, even_clauses, side_clauses, backing_clause}
 use Rattle.bt_fenc.specs.Properties.{property_clauses, loaded_clauses, open_clauses, short_clauses, unequal_clause, differ}
@@ -26,11 +26,11 @@ use Rattle.bt_fenc.specs.FlowFormula.{steady_clauses, flow_clauses, variable_of}
 use Rattle.bt_fenc.specs.Sizes.{FlowFormulasAreSmall, SteadyFormulasAreSmall}
 
 -- there are at most so many clauses, which mention at most so many rows
-pub record AreFew (clauses : List (List Claim)) (c r : ℕ) : Type 0 where
+pub record AreFew (clauses : List (List StateLiteral)) (c r : ℕ) : Type 0 where
   pub count : length clauses ≤ c
   pub rows : length (rows_in clauses) ≤ r
 
-few-append : (xs ys : List (List Claim)) (c r d s : ℕ) → AreFew xs c r → AreFew ys d s → AreFew (xs ++ ys) (c + d) (r + s)
+few-append : (xs ys : List (List StateLiteral)) (c r d s : ℕ) → AreFew xs c r → AreFew ys d s → AreFew (xs ++ ys) (c + d) (r + s)
 few-append xs ys c r d s h g =
     let long = length-append xs ys in
     let more = ap length (flat_map-append (flat_map mentioned) xs ys) ∙ length-append (rows_in xs) (rows_in ys) in
@@ -40,10 +40,10 @@ few-append xs ys c r d s h g =
     let f = g.rows in
     record { count = omega (arith, long, a, b); rows = omega (arith, more, e, f) }
 
-few_more : (xs : List (List Claim)) (c r d s : ℕ) → c ≤ d → r ≤ s → AreFew xs c r → AreFew xs d s
+few_more : (xs : List (List StateLiteral)) (c r d s : ℕ) → c ≤ d → r ≤ s → AreFew xs c r → AreFew xs d s
 few_more xs c r d s l m h = let a = h.count in let b = h.rows in record { count = omega (arith, a, l); rows = omega (arith, b, m) }
 
-few_range : (f : ℕ → List (List Claim)) (a m : ℕ) → ((k : ℕ) → a ≤ k → k < a + m → AreFew (f k) 4 4) → AreFew (flat_map f (range_with_len a m)) (4 * m) (4 * m)
+few_range : (f : ℕ → List (List StateLiteral)) (a m : ℕ) → ((k : ℕ) → a ≤ k → k < a + m → AreFew (f k) 4 4) → AreFew (flat_map f (range_with_len a m)) (4 * m) (4 * m)
 few_range f a zero h = record { count = omega arith; rows = omega arith }
 few_range f a (suc m) h =
     let rest = few_range f (a + 1) m (λ k l b. h k (omega (arith, l)) (omega (arith, b))) in
@@ -98,7 +98,7 @@ module _ (n : Network) (is : IsNetwork n) where
   few_edges : (r : Role) (k : ℕ) → k < ends_of r n → length (numbers_where (plays r k) 0 n.edges) ≤ 2
   few_edges r k l = let few = few_at n r is k l in let long = length-numbers_where (plays r k) 0 n.edges in omega (arith, few, long)
 
-  at_few : (f : Family) (k : ℕ) → k < places n f → AreFew (clauses_at n f k) 4 4
+  at_few : (f : ClauseFamily) (k : ℕ) → k < places n f → AreFew (clauses_at n f k) 4 4
   at_few of.Flows k l = record { count = omega arith; rows = omega arith }
   at_few of.Loads k l = record { count = omega arith; rows = omega arith }
   at_few of.Rooms k l = record { count = omega arith; rows = omega arith }
@@ -114,7 +114,7 @@ module _ (n : Network) (is : IsNetwork n) where
   at_few of.Inputs k l = record { count = omega arith; rows = omega arith }
   at_few of.Outputs k l = record { count = omega arith; rows = omega arith }
 
-  few_places : (f : Family) → places n f ≤ 2048
+  few_places : (f : ClauseFamily) → places n f ≤ 2048
   few_places of.Flows = is.few_edges
   few_places of.Loads = is.few_inputs
   few_places of.Rooms = is.few_outputs
@@ -130,19 +130,19 @@ module _ (n : Network) (is : IsNetwork n) where
   few_places of.Inputs = is.few_inputs
   few_places of.Outputs = is.few_outputs
 
-  family_few : (f : Family) → AreFew (family_clauses n f) 8192 8192
+  family_few : (f : ClauseFamily) → AreFew (family_clauses n f) 8192 8192
   family_few f =
       let m = few_places f in
       few_more (family_clauses n f) (4 * places n f) (4 * places n f) 8192 8192 (omega (arith, m)) (omega (arith, m)) (few_range (clauses_at n f) 0 (places n f) (λ k l b. at_few f k (omega (arith, b))))
 
-  each_few : (fs : List Family) → AreFew (flat_map (family_clauses n) fs) (8192 * length fs) (8192 * length fs)
+  each_few : (fs : List ClauseFamily) → AreFew (flat_map (family_clauses n) fs) (8192 * length fs) (8192 * length fs)
   each_few [] = record { count = omega arith; rows = omega arith }
   each_few (f ∷ fs) =
       few_more (flat_map (family_clauses n) (f ∷ fs)) (8192 + 8192 * length fs) (8192 + 8192 * length fs) (8192 * length (f ∷ fs)) (8192 * length (f ∷ fs)) (omega arith) (omega arith)
       (few-append (family_clauses n f) (flat_map (family_clauses n) fs) 8192 8192 (8192 * length fs) (8192 * length fs) (family_few f) (each_few fs))
 
   -- a clause of one row for each of so many places
-  rows_of_units : (c : ℕ → Claim) (a m : ℕ) → ((k : ℕ) → length (mentioned (c k)) ≤ 1) → AreFew (map (λ i. c i ∷ []) (range_with_len a m)) m m
+  rows_of_units : (c : ℕ → StateLiteral) (a m : ℕ) → ((k : ℕ) → length (mentioned (c k)) ≤ 1) → AreFew (map (λ i. c i ∷ []) (range_with_len a m)) m m
   rows_of_units c a zero h = record { count = omega arith; rows = omega arith }
   rows_of_units c a (suc m) h =
       let rest = rows_of_units c (a + 1) m h in
@@ -195,7 +195,7 @@ module _ (n : Network) (is : IsNetwork n) where
   flow_few : (p : Property) → AreFew (flow_clauses n p) 122880 122880
   flow_few p = few-append (flat_map (family_clauses n) families) (property_clauses n p) 114688 114688 8192 8192 (each_few families) (property_few p)
 
-clauses_as_many : (at : Pair → ℕ) (next : ℕ) (clauses : List (List Claim)) → length (clauses_from at next clauses) ≡ length clauses
+clauses_as_many : (at : Pair → ℕ) (next : ℕ) (clauses : List (List StateLiteral)) → length (clauses_from at next clauses) ≡ length clauses
 clauses_as_many at next [] = refl
 clauses_as_many at next (claims ∷ clauses) = ap suc (clauses_as_many at (next + length (flat_map mentioned claims)) clauses)
 

@@ -20,13 +20,13 @@ use Rattle.bt_flow.specs.Properties.{AdmitsLoad, AdmitsRoom, IsAdmissible, IsLoa
 use Rattle.bt_flow.proofs.Adding.{no_edge}
 use Rattle.bt_flow.proofs.Each.{numbers_all}
 use Rattle.bt_flow.proofs.Numbers.{length-numbers_where, few_at, within, ends_of}
-use Rattle.bt_fenc.specs.declared.claim.Side.{Side}
-use Rattle.bt_fenc.specs.declared.claim.Side.TheVariants.{Out, In}
-use Rattle.bt_fenc.specs.declared.claim.Pair.{Pair}
-use Rattle.bt_fenc.specs.declared.claim.Claim.{Claim}
-use Rattle.bt_fenc.specs.declared.claim.Claim.TheVariants.{Says, First}
-use Rattle.bt_fenc.specs.declared.family.Family.{Family}
-use Rattle.bt_fenc.specs.declared.family.Family.TheVariants as of
+use Rattle.bt_fenc.specs.declared.state_literal.Side.{Side}
+use Rattle.bt_fenc.specs.declared.state_literal.Side.TheVariants.{Out, In}
+use Rattle.bt_fenc.specs.declared.state_literal.Pair.{Pair}
+use Rattle.bt_fenc.specs.declared.state_literal.StateLiteral.{StateLiteral}
+use Rattle.bt_fenc.specs.declared.state_literal.StateLiteral.TheVariants.{Says, First}
+use Rattle.bt_fenc.specs.declared.clause_family.ClauseFamily.{ClauseFamily}
+use Rattle.bt_fenc.specs.declared.clause_family.ClauseFamily.TheVariants as of
 use Rattle.bt_fenc.specs.Columns.{input_edge, output_edge, input_edges, output_edges, in_edges, out_edges, cap_at, load_column, room_column, at_least, not_below}
 use Rattle.bt_fenc.specs.Families.{clauses_at, places, family_clauses, families, range_clauses, end_clauses, excuse, even_clause, even_clauses, prior_clause, side_clauses, backing_clause}
 use Rattle.bt_fenc.specs.Pairs.{first_row, full, filled}
@@ -53,10 +53,10 @@ not_lesser z x y l m (inl h) = let e = h.0 in omega (arith, ints, l, e)
 not_lesser z x y l m (inr h) = let e = h.0 in omega (arith, ints, m, e)
 
 module _ (n : Network) (is : IsNetwork n) (f : ℕ → Bool) (v : ℕ → Ratio) (s : Flows) (some : AreValues v) (has : HasValues n s f v) where
-  abbrev True : List Claim → Type 0
+  abbrev True : List StateLiteral → Type 0
   True claims = HasTrue f v claims
 
-  abbrev AllTrue : List (List Claim) → Type 0
+  abbrev AllTrue : List (List StateLiteral) → Type 0
   AllTrue clauses = AllByRecursion True clauses
 
   abbrev IsAt : ℕ → ℤ → Type 0
@@ -111,7 +111,7 @@ module _ (n : Network) (is : IsNetwork n) (f : ℕ → Bool) (v : ℕ → Ratio)
         ],
       )
 
-  module _ (all : (g : Family) (k : ℕ) → k < places n g → AllTrue (clauses_at n g k)) where
+  module _ (all : (g : ClauseFamily) (k : ℕ) → k < places n g → AllTrue (clauses_at n g k)) where
     range : (a : ℕ) → a < length n.edges → KeepsRange n s a
     range a l = λ e h.
         let r = range_said a (cap_at n a) (flow_at s a) (flow_is a l) (all of.Flows a l) in
@@ -308,14 +308,14 @@ module _ (n : Network) (is : IsNetwork n) (f : ℕ → Bool) (v : ℕ → Ratio)
       not_lesser (sum_where is_last n.edges s.flows) (total s.loads) (total s.rooms) loads rooms
 
   -- the clauses of the families, one by one
-  each_family : AllTrue (flat_map (family_clauses n) families) → (g : Family) (k : ℕ) → k < places n g → AllTrue (clauses_at n g k)
+  each_family : AllTrue (flat_map (family_clauses n) families) → (g : ClauseFamily) (k : ℕ) → k < places n g → AllTrue (clauses_at n g k)
   each_family said g k l =
       at_range (λ i. AllTrue (clauses_at n g i)) 0 (places n g) k (from_flat_map True (clauses_at n g) (range_with_len 0 (places n g)) (of_family g)) (omega arith) (omega (arith, l))
     where
       each : AllByRecursion (λ h. AllTrue (family_clauses n h)) families
       each = from_flat_map True (family_clauses n) families said
 
-      of_family : (h : Family) → AllTrue (family_clauses n h)
+      of_family : (h : ClauseFamily) → AllTrue (family_clauses n h)
       of_family of.Flows = each.0
       of_family of.Loads = each.1.0
       of_family of.Rooms = each.1.1.0
@@ -331,7 +331,7 @@ module _ (n : Network) (is : IsNetwork n) (f : ℕ → Bool) (v : ℕ → Ratio)
       of_family of.Inputs = each.1.1.1.1.1.1.1.1.1.1.1.1.0
       of_family of.Outputs = each.1.1.1.1.1.1.1.1.1.1.1.1.1.0
 
-  meets : (all : (g : Family) (k : ℕ) → k < places n g → AllTrue (clauses_at n g k)) (p : Property) → AllTrue (property_clauses n p) → properties.Meets p n s
+  meets : (all : (g : ClauseFamily) (k : ℕ) → k < places n g → AllTrue (clauses_at n g k)) (p : Property) → AllTrue (property_clauses n p) → properties.Meets p n s
   meets all Balanced said = record { loads = λ t. absurd (false≢true t); rooms = λ t. open_ends all (each-left True (open_clauses n) (unequal_clause (output_edges n) ∷ []) said) }
   meets all DrawnEvenly said = record { loads = λ t. loaded all (each-left True (loaded_clauses n) (unequal_clause (input_edges n) ∷ []) said); rooms = λ t. absurd (false≢true t) }
   meets all Unlimited said = record { loads = λ t. absurd (false≢true t); rooms = λ t. absurd (false≢true t) }

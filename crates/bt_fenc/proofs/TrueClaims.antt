@@ -11,9 +11,9 @@ use Rattle.bt_frac.specs.declared.row.Relation.{Relation}
 use Rattle.bt_frac.specs.declared.row.Relation.TheVariants.{AtLeast, Above, Equal}
 use Rattle.bt_cnf.specs.declared.literal.Lit.{Lit}
 use Rattle.bt_cnf.specs.Meeting.{IsTrueUnder, MeetsClause}
-use Rattle.bt_fenc.specs.declared.claim.Pair.{Pair}
-use Rattle.bt_fenc.specs.declared.claim.Claim.{Claim}
-use Rattle.bt_fenc.specs.declared.claim.Claim.TheVariants.{Mark, Says, First}
+use Rattle.bt_fenc.specs.declared.state_literal.Pair.{Pair}
+use Rattle.bt_fenc.specs.declared.state_literal.StateLiteral.{StateLiteral}
+use Rattle.bt_fenc.specs.declared.state_literal.StateLiteral.TheVariants.{Mark, Says, First}
 use Rattle.bt_fenc.specs.Columns.{zero_row}
 use Rattle.bt_fenc.specs.Pairs.{first_row}
 use Rattle.bt_fenc.specs.Numbering.{mentioned, rows_in, literals_from, clauses_from, atoms_from, IsNamed}
@@ -96,7 +96,7 @@ module _ (at : Pair → ℕ) (marks : ℕ) (all : List RowParts) (mark : ℕ →
   later : (l : Lit) (lits : List Lit) → Any (IsTrueUnder f) lits → Any (IsTrueUnder f) (l ∷ lits)
   later l lits h = (suc h.0, h.1, (let e = h.2 in omega (arith, e)), h.3, h.4)
 
-  clause_true : (next : ℕ) (claims : List Claim) → HasTrue mark values claims → AllByRecursion (IsNamed at marks all) claims
+  clause_true : (next : ℕ) (claims : List StateLiteral) → HasTrue mark values claims → AllByRecursion (IsNamed at marks all) claims
       → AllByRecursion (Exact f values) (atoms_from next (flat_map mentioned claims)) → MeetsClause f (literals_from at next claims)
   clause_true next [] h w g = absurd h
   clause_true next (Mark a b ∷ claims) (inl x) w g = (0, record { var = a; positive = b }, (omega arith), refl, begins a w.0 ∙ x)
@@ -107,7 +107,7 @@ module _ (at : Pair → ℕ) (marks : ℕ) (all : List RowParts) (mark : ℕ →
       (0, record { var = at pair; positive = true }, (omega arith), refl, (at_variable (Exact f values) marks all (first_row pair) (at pair) whole w.0).1 x)
   clause_true next (First pair ∷ claims) (inr h) w g = later (record { var = at pair; positive = true }) (literals_from at next claims) (clause_true next claims h w.1 g)
 
-  all_clauses : (next : ℕ) (clauses : List (List Claim)) → AllByRecursion (HasTrue mark values) clauses → AllByRecursion (AllByRecursion (IsNamed at marks all)) clauses
+  all_clauses : (next : ℕ) (clauses : List (List StateLiteral)) → AllByRecursion (HasTrue mark values) clauses → AllByRecursion (AllByRecursion (IsNamed at marks all)) clauses
       → AllByRecursion (Exact f values) (atoms_from next (rows_in clauses)) → AllByRecursion (MeetsClause f) (clauses_from at next clauses)
   all_clauses next [] h w g = tt
   all_clauses next (claims ∷ clauses) h w g =

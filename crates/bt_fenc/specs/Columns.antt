@@ -9,8 +9,8 @@ use Rattle.bt_net.specs.declared.network.Edge.{Edge}
 use Rattle.bt_net.specs.Network.{Network, give_of, take_of, leaves, enters, is_input, is_output}
 use Rattle.bt_flow.specs.Ports.{numbers_where}
 use Rattle.bt_flow.specs.Properties.{is_last}
-use Rattle.bt_fenc.specs.declared.claim.Side.{Side}
-use Rattle.bt_fenc.specs.declared.claim.Side.TheVariants.{Out, In}
+use Rattle.bt_fenc.specs.declared.state_literal.Side.{Side}
+use Rattle.bt_fenc.specs.declared.state_literal.Side.TheVariants.{Out, In}
 
 -- the numbers of the edges that leave a splitter, in ascending order
 abbrev pub out_edges : Network → ℕ → List ℕ

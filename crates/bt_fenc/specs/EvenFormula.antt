@@ -4,12 +4,12 @@ use Rattle.std.specs.Prelude.{◌≡◌, ℕ, ◌+◌, length, List, [], ◌∷�
 use Rattle.bt_net.specs.Network.{Network, HasNoPriorities}
 use Rattle.bt_flow.specs.declared.property.Property.{Property}
 use Rattle.bt_cnf.specs.Formulas.{FormulaParts}
-use Rattle.bt_fenc.specs.declared.claim.Side.TheVariants.{Out, In}
-use Rattle.bt_fenc.specs.declared.claim.Pair.{Pair}
-use Rattle.bt_fenc.specs.declared.claim.Pair.TheVariants.{Even, Empty, Full, Loaded, Filled}
-use Rattle.bt_fenc.specs.declared.claim.Claim.{Claim}
-use Rattle.bt_fenc.specs.declared.family.Family.{Family}
-use Rattle.bt_fenc.specs.declared.family.Family.TheVariants as of
+use Rattle.bt_fenc.specs.declared.state_literal.Side.TheVariants.{Out, In}
+use Rattle.bt_fenc.specs.declared.state_literal.Pair.{Pair}
+use Rattle.bt_fenc.specs.declared.state_literal.Pair.TheVariants.{Even, Empty, Full, Loaded, Filled}
+use Rattle.bt_fenc.specs.declared.state_literal.StateLiteral.{StateLiteral}
+use Rattle.bt_fenc.specs.declared.clause_family.ClauseFamily.{ClauseFamily}
+use Rattle.bt_fenc.specs.declared.clause_family.ClauseFamily.TheVariants as of
 use Rattle.bt_fenc.specs.Columns.{out_edges, in_edges}
 use Rattle.bt_fenc.specs.Pairs.{pair_clause, even_pairs}
 use Rattle.bt_fenc.specs.Families.{clauses_at, even_clauses, places, bounds, families}
@@ -18,7 +18,7 @@ use Rattle.bt_fenc.specs.Numbering.{rows_in, formula_of}
 use Rattle.bt_fenc.specs.FlowFormula.{lower_first, clauses_before, flow_formula}
 
 -- the clauses of a family at a place: of two edges at a side of any splitter each is compared with the other, and each is even
-abbrev pub even_clauses_at : Network → Family → ℕ → List (List Claim)
+abbrev pub even_clauses_at : Network → ClauseFamily → ℕ → List (List StateLiteral)
 even_clauses_at n of.OutPairs k = map pair_clause (even_pairs Out k (out_edges n k))
 even_clauses_at n of.InPairs k = map pair_clause (even_pairs In k (in_edges n k))
 even_clauses_at n of.EvenOut k = even_clauses n Out k (out_edges n k)
@@ -26,15 +26,15 @@ even_clauses_at n of.EvenIn k = even_clauses n In k (in_edges n k)
 even_clauses_at n family place = clauses_at n family place
 
 -- those at all its places
-abbrev pub even_family : Network → Family → List (List Claim)
+abbrev pub even_family : Network → ClauseFamily → List (List StateLiteral)
 even_family n f = flat_map (even_clauses_at n f) (range_with_len 0 (places n f))
 
 -- the clauses that stand before a place of a family, which has these families before it
-abbrev pub even_till : Network → List Family → Family → ℕ → List (List Claim)
+abbrev pub even_till : Network → List ClauseFamily → ClauseFamily → ℕ → List (List StateLiteral)
 even_till n before f place = flat_map (even_family n) before ++ flat_map (even_clauses_at n f) (range_with_len 0 place)
 
 -- the clauses that stand before that of a pair; that an edge is empty is no pair of this formula
-abbrev pub even_before : Network → Pair → List (List Claim)
+abbrev pub even_before : Network → Pair → List (List StateLiteral)
 even_before n (Even Out k a b) = even_till n bounds of.OutPairs k ++ lower_first (Even Out k b a) a b
 even_before n (Even In k a b) = even_till n (bounds ++ of.OutPairs ∷ []) of.InPairs k ++ lower_first (Even In k b a) a b
 even_before n (Empty side k a) = clauses_before n (Empty side k a)

@@ -4,35 +4,35 @@ use Rattle.std.specs.Prelude.{ℕ, ◌+◌, nat_lt, length, List, [], ◌∷◌,
 use Rattle.bt_net.specs.Network.{Network}
 use Rattle.bt_flow.specs.declared.property.Property.{Property}
 use Rattle.bt_cnf.specs.Formulas.{FormulaParts}
-use Rattle.bt_fenc.specs.declared.claim.Side.TheVariants.{Out, In}
-use Rattle.bt_fenc.specs.declared.claim.Pair.{Pair}
-use Rattle.bt_fenc.specs.declared.claim.Pair.TheVariants.{Even, Empty, Full, Loaded, Filled}
-use Rattle.bt_fenc.specs.declared.claim.Claim.{Claim}
-use Rattle.bt_fenc.specs.declared.family.Family.{Family}
-use Rattle.bt_fenc.specs.declared.family.Family.TheVariants as of
+use Rattle.bt_fenc.specs.declared.state_literal.Side.TheVariants.{Out, In}
+use Rattle.bt_fenc.specs.declared.state_literal.Pair.{Pair}
+use Rattle.bt_fenc.specs.declared.state_literal.Pair.TheVariants.{Even, Empty, Full, Loaded, Filled}
+use Rattle.bt_fenc.specs.declared.state_literal.StateLiteral.{StateLiteral}
+use Rattle.bt_fenc.specs.declared.clause_family.ClauseFamily.{ClauseFamily}
+use Rattle.bt_fenc.specs.declared.clause_family.ClauseFamily.TheVariants as of
 use Rattle.bt_fenc.specs.Families.{clauses_at, family_clauses, bounds, families}
 use Rattle.bt_fenc.specs.Pairs.{pair_clause}
 use Rattle.bt_fenc.specs.Properties.{property_clauses}
 use Rattle.bt_fenc.specs.Numbering.{rows_in, formula_of}
 
 -- the clauses of the network's laws, family by family
-abbrev pub steady_clauses : Network → List (List Claim)
+abbrev pub steady_clauses : Network → List (List StateLiteral)
 steady_clauses n = flat_map (family_clauses n) families
 
 -- the clauses of the network's laws, and then those of the property
-abbrev pub flow_clauses : Network → Property → List (List Claim)
+abbrev pub flow_clauses : Network → Property → List (List StateLiteral)
 flow_clauses n p = steady_clauses n ++ property_clauses n p
 
 -- the clauses that stand before a place of a family, which has these families before it
-abbrev pub clauses_till : Network → List Family → Family → ℕ → List (List Claim)
+abbrev pub clauses_till : Network → List ClauseFamily → ClauseFamily → ℕ → List (List StateLiteral)
 clauses_till n before f place = flat_map (family_clauses n) before ++ flat_map (clauses_at n f) (range_with_len 0 place)
 
 -- at a splitter the clause of the lower edge's pair stands before that of the higher edge's
-abbrev pub lower_first : Pair → ℕ → ℕ → List (List Claim)
+abbrev pub lower_first : Pair → ℕ → ℕ → List (List StateLiteral)
 lower_first lower a b = if nat_lt a b then [] else pair_clause lower ∷ []
 
 -- the clauses that stand before that of a pair
-abbrev pub clauses_before : Network → Pair → List (List Claim)
+abbrev pub clauses_before : Network → Pair → List (List StateLiteral)
 clauses_before n (Even Out k a b) = clauses_till n bounds of.OutPairs k ++ lower_first (Even Out k b a) a b
 clauses_before n (Even In k a b) = clauses_till n (bounds ++ of.OutPairs ∷ []) of.InPairs k ++ lower_first (Even In k b a) a b
 clauses_before n (Empty Out k a) = clauses_till n bounds of.OutPairs k

@@ -12,27 +12,27 @@ use Rattle.bt_flow.specs.Properties.{IsAdmissible, Breaks, Holds}
 use Rattle.bt_cnf.specs.Meeting.{Meets}
 use Rattle.bt_log.specs.Logs.{Step}
 use Rattle.bt_log.specs.Refuting.{Refutes}
-use Rattle.bt_fenc.specs.declared.claim.Pair.{Pair}
-use Rattle.bt_fenc.specs.declared.claim.Claim.{Claim}
-use Rattle.bt_fenc.specs.declared.claim.Claim.TheVariants.{Mark, Says, First}
+use Rattle.bt_fenc.specs.declared.state_literal.Pair.{Pair}
+use Rattle.bt_fenc.specs.declared.state_literal.StateLiteral.{StateLiteral}
+use Rattle.bt_fenc.specs.declared.state_literal.StateLiteral.TheVariants.{Mark, Says, First}
 use Rattle.bt_fenc.specs.Pairs.{first_row}
 use Rattle.bt_fenc.specs.Numbering.{formula_of, AreNamed}
 use Rattle.bt_fenc.specs.FlowFormula.{steady_clauses, flow_clauses, flow_formula, variable_of}
 
 -- the claim is true of marks and values: the edge has this mark, the row holds, or the first row of the pair
-abbrev pub IsTrueOf : (ℕ → Bool) → (ℕ → Ratio) → Claim → Type 0
+abbrev pub IsTrueOf : (ℕ → Bool) → (ℕ → Ratio) → StateLiteral → Type 0
 IsTrueOf mark values (Mark a backed) = mark a ≡ backed
 IsTrueOf mark values (Says row) = RowHolds row values
 IsTrueOf mark values (First pair) = RowHolds (first_row pair) values
 
 -- one of the claims is true of marks and values
-abbrev pub HasTrue : (ℕ → Bool) → (ℕ → Ratio) → List Claim → Type 0
+abbrev pub HasTrue : (ℕ → Bool) → (ℕ → Ratio) → List StateLiteral → Type 0
 HasTrue mark values [] = ⊥
 HasTrue mark values (claim ∷ claims) = IsTrueOf mark values claim ⊎ HasTrue mark values claims
 
 -- an assignment that begins with these marks meets the formula with the values, and makes each atom true exactly where
 -- its row holds
-pub record IsMetWith (at : Pair → ℕ) (marks : ℕ) (clauses : List (List Claim)) (mark : ℕ → Bool) (values : ℕ → Ratio)
+pub record IsMetWith (at : Pair → ℕ) (marks : ℕ) (clauses : List (List StateLiteral)) (mark : ℕ → Bool) (values : ℕ → Ratio)
     : Type 0 where
   pub assignment : ℕ → Bool
   pub begins : (a : ℕ) → a < marks → assignment a ≡ mark a
@@ -42,7 +42,7 @@ pub record IsMetWith (at : Pair → ℕ) (marks : ℕ) (clauses : List (List Cla
 -- where each clause has a claim that is true of marks and values, these give an assignment that meets the
 -- formula
 abbrev pub TrueClaimsMeet : Type 0
-TrueClaimsMeet = (at : Pair → ℕ) (marks : ℕ) (clauses : List (List Claim)) (mark : ℕ → Bool) (values : ℕ → Ratio)
+TrueClaimsMeet = (at : Pair → ℕ) (marks : ℕ) (clauses : List (List StateLiteral)) (mark : ℕ → Bool) (values : ℕ → Ratio)
     → AreNamed at marks clauses → AllByRecursion (HasTrue mark values) clauses → IsMetWith at marks clauses mark values
 
 -- the values of a state: its flows, loads and rooms in the order of columns, over its denominator

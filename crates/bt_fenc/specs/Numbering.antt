@@ -5,31 +5,31 @@ use Rattle.std.specs.List.{AllByRecursion}
 use Rattle.bt_frac.specs.Rows.{RowParts}
 use Rattle.bt_cnf.specs.declared.literal.Lit.{Lit}
 use Rattle.bt_cnf.specs.Formulas.{FormulaParts}
-use Rattle.bt_fenc.specs.declared.claim.Pair.{Pair}
-use Rattle.bt_fenc.specs.declared.claim.Claim.{Claim}
-use Rattle.bt_fenc.specs.declared.claim.Claim.TheVariants.{Mark, Says, First}
+use Rattle.bt_fenc.specs.declared.state_literal.Pair.{Pair}
+use Rattle.bt_fenc.specs.declared.state_literal.StateLiteral.{StateLiteral}
+use Rattle.bt_fenc.specs.declared.state_literal.StateLiteral.TheVariants.{Mark, Says, First}
 use Rattle.bt_fenc.specs.Pairs.{first_row}
 
 -- the row that a claim mentions, where it does
-abbrev pub mentioned : Claim → List RowParts
+abbrev pub mentioned : StateLiteral → List RowParts
 mentioned (Mark a backed) = []
 mentioned (Says row) = row ∷ []
 mentioned (First pair) = []
 
 -- the rows that clauses mention, in their order
-abbrev pub rows_in : List (List Claim) → List RowParts
+abbrev pub rows_in : List (List StateLiteral) → List RowParts
 rows_in clauses = flat_map (flat_map mentioned) clauses
 
 -- the literals of claims, where the first row mentioned has this variable, an edge's mark has the edge's number,
 -- and the first rows of pairs have these variables
-abbrev pub literals_from : (Pair → ℕ) → ℕ → List Claim → List Lit
+abbrev pub literals_from : (Pair → ℕ) → ℕ → List StateLiteral → List Lit
 literals_from at next [] = []
 literals_from at next (Mark a backed ∷ claims) = record { var = a; positive = backed } ∷ literals_from at next claims
 literals_from at next (Says row ∷ claims) = record { var = next; positive = true } ∷ literals_from at (next + 1) claims
 literals_from at next (First pair ∷ claims) = record { var = at pair; positive = true } ∷ literals_from at next claims
 
 -- clauses of claims as clauses of literals, where the first row mentioned has this variable
-abbrev pub clauses_from : (Pair → ℕ) → ℕ → List (List Claim) → List (List Lit)
+abbrev pub clauses_from : (Pair → ℕ) → ℕ → List (List StateLiteral) → List (List Lit)
 clauses_from at next [] = []
 clauses_from at next (claims ∷ clauses) = literals_from at next claims ∷ clauses_from at (next + length (flat_map mentioned claims)) clauses
 
@@ -39,7 +39,7 @@ atoms_from next [] = []
 atoms_from next (row ∷ rows) = (next, row) ∷ atoms_from (next + 1) rows
 
 -- the formula of clauses of claims: the marks of so many edges, and then the rows in the order of mention
-abbrev pub formula_of : (Pair → ℕ) → ℕ → List (List Claim) → FormulaParts
+abbrev pub formula_of : (Pair → ℕ) → ℕ → List (List StateLiteral) → FormulaParts
 formula_of at marks clauses = record { vars = marks + length (rows_in clauses); clauses = clauses_from at marks clauses; atoms = atoms_from marks (rows_in clauses) }
 
 -- the row is among the rows, and this is its variable where the first of them has that one
@@ -50,11 +50,11 @@ pub record IsVariable (first : ℕ) (rows : List RowParts) (row : RowParts) (var
   pub place : var ≡ first + length before
 
 -- a claim's mark is of an edge below this number, and the variable of a pair that it names is that of its first row
-abbrev pub IsNamed : (Pair → ℕ) → ℕ → List RowParts → Claim → Type 0
+abbrev pub IsNamed : (Pair → ℕ) → ℕ → List RowParts → StateLiteral → Type 0
 IsNamed at marks rows (Mark a backed) = a < marks
 IsNamed at marks rows (Says row) = Unit {0}
 IsNamed at marks rows (First pair) = IsVariable marks rows (first_row pair) (at pair)
 
 -- so it is of all claims of all clauses, with the rows that these mention
-abbrev pub AreNamed : (Pair → ℕ) → ℕ → List (List Claim) → Type 0
+abbrev pub AreNamed : (Pair → ℕ) → ℕ → List (List StateLiteral) → Type 0
 AreNamed at marks clauses = AllByRecursion (AllByRecursion (IsNamed at marks (rows_in clauses))) clauses

@@ -2,11 +2,11 @@
 use Rattle.std.specs.Prelude.{ℕ, ◌==◌, Option, Some, None, List, [], ◌∷◌, if◌then◌else◌}
 use Rattle.bt_frac.specs.Rows.{RowParts}
 use Rattle.bt_net.specs.Network.{Network}
-use Rattle.bt_fenc.specs.declared.claim.Side.{Side}
-use Rattle.bt_fenc.specs.declared.claim.Pair.{Pair}
-use Rattle.bt_fenc.specs.declared.claim.Pair.TheVariants.{Even, Empty, Full, Loaded, Filled}
-use Rattle.bt_fenc.specs.declared.claim.Claim.{Claim}
-use Rattle.bt_fenc.specs.declared.claim.Claim.TheVariants.{Says}
+use Rattle.bt_fenc.specs.declared.state_literal.Side.{Side}
+use Rattle.bt_fenc.specs.declared.state_literal.Pair.{Pair}
+use Rattle.bt_fenc.specs.declared.state_literal.Pair.TheVariants.{Even, Empty, Full, Loaded, Filled}
+use Rattle.bt_fenc.specs.declared.state_literal.StateLiteral.{StateLiteral}
+use Rattle.bt_fenc.specs.declared.state_literal.StateLiteral.TheVariants.{Says}
 use Rattle.bt_fenc.specs.Columns.{input_edge, output_edge, edges_at, preferred_at, cap_at, load_column, room_column, at_least, at_most, below, beyond, not_below, above}
 
 -- the first row of a pair: a flow is at least that of another edge, the edge's cap, the load or the room, or it is at most 0
@@ -26,7 +26,7 @@ opposite_row (Loaded i a column) = above column a
 opposite_row (Filled o a column) = above column a
 
 -- the first row or its opposite, each a variable of its own
-abbrev pub pair_clause : Pair → List Claim
+abbrev pub pair_clause : Pair → List StateLiteral
 pair_clause pair = Says (first_row pair) ∷ Says (opposite_row pair) ∷ []
 
 -- of two edges at a side of a splitter each with the other

@@ -9,8 +9,8 @@ ghost use Rattle.bt_fenc.specs.inner.Adding.{with_clauses};
 ghost use Rattle.bt_fenc.specs.inner.Variables.{at_in, AreVariables};
 ghost use Rattle.bt_fenc.specs.inner.Within.{AreWithin};
 
+use crate::clause_family::{ClauseFamily, LAWS, NAMELESS};
 use crate::families::{add_at, places};
-use crate::family::{Family, LAWS, NAMELESS};
 use crate::properties::add_property;
 use crate::variables::PairVars;
 use bt_cnf::Formula;
@@ -25,7 +25,7 @@ fn write_family(
     ports: &Ports,
     pairs: &PairVars,
     formula: &mut Formula,
-    family: Family,
+    family: ClauseFamily,
 ) -> Result<(), AllocError>
     requires ports { ArePorts net.now ports.now }
     requires within { AreWithin (at_in pairs.now) formula.old.vars (family_clauses net.now family) }
@@ -45,7 +45,7 @@ fn write_families(
     ports: &Ports,
     pairs: &PairVars,
     formula: &mut Formula,
-    families: &[Family],
+    families: &[ClauseFamily],
 ) -> Result<(), AllocError>
     requires ports { ArePorts net.now ports.now }
     requires within { AreWithin (at_in pairs.now) formula.old.vars

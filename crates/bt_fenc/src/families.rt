@@ -4,18 +4,18 @@ ghost use Rattle.bt_flow.specs.Ports.{ArePorts};
 ghost use Rattle.bt_frac.specs.declared.row.Relation.TheVariants as Relation;
 ghost use Rattle.bt_fenc.specs.Columns as columns;
 ghost use Rattle.bt_fenc.specs.Families as families;
-ghost use Rattle.bt_fenc.specs.declared.family.Family.TheVariants as Family;
+ghost use Rattle.bt_fenc.specs.declared.clause_family.ClauseFamily.TheVariants as ClauseFamily;
 ghost use Rattle.bt_fenc.specs.Pairs as of_pairs;
 ghost use Rattle.bt_fenc.specs.inner.Adding.{with_clauses};
 ghost use Rattle.bt_fenc.specs.inner.Variables.{at_in, HasColumns};
 ghost use Rattle.bt_fenc.specs.inner.Within.{AreWithin};
 
-use crate::claim::{Claim, Pair, Side};
+use crate::clause_family::ClauseFamily;
 use crate::ends::{cap_at, input_edge, load_column, numbers_of, output_edge, room_column};
-use crate::family::Family;
 use crate::numbering::{add_row, add_two};
 use crate::rows::{at_least, at_most, not_below, row_of_vec};
 use crate::splitters::{add_backing, add_pair, add_pairs, add_sharing, merge};
+use crate::state_literal::{Pair, Side, StateLiteral};
 use crate::variables::{PairVars, port_at, preferred_at};
 use bt_cnf::Formula;
 use bt_flow::Ports;
@@ -61,8 +61,8 @@ fn add_end(
 {
     let most = not_below(alloc, column, edge)?;
     add_row(formula, pairs, most)?;
-    let marked = Claim::Mark { edge, backed: mark };
-    add_two(formula, pairs, marked, Claim::First(pair))
+    let marked = StateLiteral::Mark { edge, backed: mark };
+    add_two(formula, pairs, marked, StateLiteral::First(pair))
 }
 
 /// The row that as much flows into a splitter as out of it.
@@ -90,7 +90,7 @@ fn add_conserve(
     requires ports { ArePorts net.now ports.now }
     requires splitter { splitter < net.now.splitters }
     ensures { OnOk result (formula.new
-        ≡ with_clauses (at_in pairs.now) formula.old (families.clauses_at net.now Family.Conserve splitter)) }
+        ≡ with_clauses (at_in pairs.now) formula.old (families.clauses_at net.now ClauseFamily.Conserve splitter)) }
 {
     let row = conserve_row(alloc, net, ports, splitter)?;
     add_row(formula, pairs, row)
@@ -108,9 +108,9 @@ fn add_backing_at(
     requires ports { ArePorts net.now ports.now }
     requires splitter { splitter < net.now.splitters }
     requires within { AreWithin (at_in pairs.now) formula.old.vars
-        (families.clauses_at net.now Family.Backing splitter) }
+        (families.clauses_at net.now ClauseFamily.Backing splitter) }
     ensures { OnOk result (formula.new
-        ≡ with_clauses (at_in pairs.now) formula.old (families.clauses_at net.now Family.Backing splitter)) }
+        ≡ with_clauses (at_in pairs.now) formula.old (families.clauses_at net.now ClauseFamily.Backing splitter)) }
 {
     let entering = numbers_of(alloc, ports.into[splitter])?;
     let leaving = numbers_of(alloc, ports.out_of[splitter])?;
@@ -129,7 +129,7 @@ fn add_load(
     requires ports { ArePorts net.now ports.now }
     requires input { input < net.now.inputs }
     ensures { OnOk result (formula.new
-        ≡ with_clauses (at_in pairs.now) formula.old (families.clauses_at net.now Family.Loads input)) }
+        ≡ with_clauses (at_in pairs.now) formula.old (families.clauses_at net.now ClauseFamily.Loads input)) }
 {
     let edge = input_edge(net, ports, input);
     let column = load_column(net, input);
@@ -148,7 +148,7 @@ fn add_room(
     requires ports { ArePorts net.now ports.now }
     requires output { output < net.now.outputs }
     ensures { OnOk result (formula.new
-        ≡ with_clauses (at_in pairs.now) formula.old (families.clauses_at net.now Family.Rooms output)) }
+        ≡ with_clauses (at_in pairs.now) formula.old (families.clauses_at net.now ClauseFamily.Rooms output)) }
 {
     let edge = output_edge(net, ports, output);
     let column = room_column(net, output);
@@ -195,9 +195,9 @@ fn add_input(
     requires ports { ArePorts net.now ports.now }
     requires input { input < net.now.inputs }
     requires within { AreWithin (at_in pairs.now) formula.old.vars
-        (families.clauses_at net.now Family.Inputs input) }
+        (families.clauses_at net.now ClauseFamily.Inputs input) }
     ensures { OnOk result (formula.new
-        ≡ with_clauses (at_in pairs.now) formula.old (families.clauses_at net.now Family.Inputs input)) }
+        ≡ with_clauses (at_in pairs.now) formula.old (families.clauses_at net.now ClauseFamily.Inputs input)) }
 {
     let edge = input_edge(net, ports, input);
     let column = load_column(net, input);
@@ -217,9 +217,9 @@ fn add_output(
     requires ports { ArePorts net.now ports.now }
     requires output { output < net.now.outputs }
     requires within { AreWithin (at_in pairs.now) formula.old.vars
-        (families.clauses_at net.now Family.Outputs output) }
+        (families.clauses_at net.now ClauseFamily.Outputs output) }
     ensures { OnOk result (formula.new
-        ≡ with_clauses (at_in pairs.now) formula.old (families.clauses_at net.now Family.Outputs output)) }
+        ≡ with_clauses (at_in pairs.now) formula.old (families.clauses_at net.now ClauseFamily.Outputs output)) }
 {
     let edge = output_edge(net, ports, output);
     let column = room_column(net, output);
@@ -278,7 +278,7 @@ fn add_full_pair(
 ) -> Result<(), AllocError>
     requires { edge < 2 ^ 64 - 1 }
     ensures { OnOk result (formula.new
-        ≡ with_clauses (at_in pairs.now) formula.old (families.clauses_at net.now Family.FullPairs edge)) }
+        ≡ with_clauses (at_in pairs.now) formula.old (families.clauses_at net.now ClauseFamily.FullPairs edge)) }
 {
     let cap = cap_at(net, edge);
     add_pair(alloc, pairs, formula, Pair::Full { edge, cap })
@@ -291,7 +291,7 @@ pub fn add_at(
     ports: &Ports,
     pairs: &PairVars,
     formula: &mut Formula,
-    family: Family,
+    family: ClauseFamily,
     place: usize,
 ) -> Result<(), AllocError>
     requires ports { ArePorts net.now ports.now }
@@ -302,36 +302,46 @@ pub fn add_at(
         ≡ with_clauses (at_in pairs.now) formula.old (families.clauses_at net.now family place)) }
 {
     match family {
-        Family::Flows => add_range(alloc, pairs, formula, place, cap_at(net, place)),
-        Family::Loads => add_load(alloc, net, ports, pairs, formula, place),
-        Family::Rooms => add_room(alloc, net, ports, pairs, formula, place),
-        Family::Conserve => add_conserve(alloc, net, ports, pairs, formula, place),
-        Family::OutPairs => add_side_pairs(alloc, net, ports, pairs, formula, Side::Out, place),
-        Family::InPairs => add_side_pairs(alloc, net, ports, pairs, formula, Side::In, place),
-        Family::FullPairs => add_full_pair(alloc, net, pairs, formula, place),
-        Family::LoadPairs => add_pair(alloc, pairs, formula, loaded(net, ports, place)),
-        Family::RoomPairs => add_pair(alloc, pairs, formula, filled(net, ports, place)),
-        Family::EvenOut => add_side(net, ports, pairs, formula, Side::Out, place),
-        Family::EvenIn => add_side(net, ports, pairs, formula, Side::In, place),
-        Family::Backing => add_backing_at(alloc, net, ports, pairs, formula, place),
-        Family::Inputs => add_input(alloc, net, ports, pairs, formula, place),
-        Family::Outputs => add_output(alloc, net, ports, pairs, formula, place),
+        ClauseFamily::Flows => add_range(alloc, pairs, formula, place, cap_at(net, place)),
+        ClauseFamily::Loads => add_load(alloc, net, ports, pairs, formula, place),
+        ClauseFamily::Rooms => add_room(alloc, net, ports, pairs, formula, place),
+        ClauseFamily::Conserve => add_conserve(alloc, net, ports, pairs, formula, place),
+        ClauseFamily::OutPairs => add_side_pairs(
+            alloc,
+            net,
+            ports,
+            pairs,
+            formula,
+            Side::Out,
+            place,
+        ),
+        ClauseFamily::InPairs => add_side_pairs(alloc, net, ports, pairs, formula, Side::In, place),
+        ClauseFamily::FullPairs => add_full_pair(alloc, net, pairs, formula, place),
+        ClauseFamily::LoadPairs => add_pair(alloc, pairs, formula, loaded(net, ports, place)),
+        ClauseFamily::RoomPairs => add_pair(alloc, pairs, formula, filled(net, ports, place)),
+        ClauseFamily::EvenOut => add_side(net, ports, pairs, formula, Side::Out, place),
+        ClauseFamily::EvenIn => add_side(net, ports, pairs, formula, Side::In, place),
+        ClauseFamily::Backing => add_backing_at(alloc, net, ports, pairs, formula, place),
+        ClauseFamily::Inputs => add_input(alloc, net, ports, pairs, formula, place),
+        ClauseFamily::Outputs => add_output(alloc, net, ports, pairs, formula, place),
     }
 }
 
 /// How many places a family has.
-pub fn places(net: &Net, family: Family) -> usize
+pub fn places(net: &Net, family: ClauseFamily) -> usize
     ensures { result ≡ families.places net.now family }
 {
     match family {
-        Family::Flows | Family::FullPairs => net.edges().len(),
-        Family::Loads | Family::LoadPairs | Family::Inputs => net.inputs() as usize,
-        Family::Rooms | Family::RoomPairs | Family::Outputs => net.outputs() as usize,
-        Family::Conserve
-        | Family::OutPairs
-        | Family::InPairs
-        | Family::EvenOut
-        | Family::EvenIn
-        | Family::Backing => net.splitters() as usize,
+        ClauseFamily::Flows | ClauseFamily::FullPairs => net.edges().len(),
+        ClauseFamily::Loads | ClauseFamily::LoadPairs | ClauseFamily::Inputs =>
+            net.inputs() as usize,
+        ClauseFamily::Rooms | ClauseFamily::RoomPairs | ClauseFamily::Outputs =>
+            net.outputs() as usize,
+        ClauseFamily::Conserve
+        | ClauseFamily::OutPairs
+        | ClauseFamily::InPairs
+        | ClauseFamily::EvenOut
+        | ClauseFamily::EvenIn
+        | ClauseFamily::Backing => net.splitters() as usize,
     }
 }

@@ -2,17 +2,17 @@
 //! and rows over flows, loads and rooms.
 #![tactic(auto)]
 
-mod claim;
+mod clause_family;
 mod encoding;
 mod ends;
 mod families;
-mod family;
 mod law;
 mod numbering;
 mod properties;
 mod rows;
 mod solution;
 mod splitters;
+mod state_literal;
 mod variables;
 
 pub use encoding::{encode, encode_steady};

@@ -2,12 +2,12 @@
 //! keeps the variable that it has.
 ghost use Rattle.std.specs.Prelude.{◌≡◌, ◌<◌, ◌∷◌, [], OnOk, IfOk};
 ghost use Rattle.std.specs.List.{AllByRecursion};
-ghost use Rattle.bt_fenc.specs.declared.claim.Claim.TheVariants.{Says};
+ghost use Rattle.bt_fenc.specs.declared.state_literal.StateLiteral.TheVariants.{Says};
 ghost use Rattle.bt_fenc.specs.inner.Within.{IsWithin};
 ghost use Rattle.bt_fenc.specs.inner.Adding.{IsAfter, with_clauses};
 ghost use Rattle.bt_fenc.specs.inner.Variables.{at_in};
 
-use crate::claim::{Claim, Pair};
+use crate::state_literal::{Pair, StateLiteral};
 use crate::variables::PairVars;
 use bt_cnf::{Formula, Lit, Var};
 use bt_frac::Row;
@@ -35,15 +35,19 @@ fn first_var(formula: &Formula, pairs: &PairVars, pair: Pair) -> Var
 }
 
 /// The literal of a claim. A row that it mentions becomes a variable of its own.
-pub fn literal_of(formula: &mut Formula, pairs: &PairVars, claim: Claim) -> Result<Lit, AllocError>
+pub fn literal_of(
+    formula: &mut Formula,
+    pairs: &PairVars,
+    claim: StateLiteral,
+) -> Result<Lit, AllocError>
     requires { IsWithin (at_in pairs.now) formula.old.vars claim }
     ensures { IfOk result (λ lit.
         IsAfter (at_in pairs.now) formula.old (claim ∷ []) formula.new (lit ∷ [])) }
 {
     let (var, positive) = match claim {
-        Claim::Mark { edge, backed } => (var_at(formula, edge), backed),
-        Claim::Says(row) => (formula.add_atom(row)?, true),
-        Claim::First(pair) => (first_var(formula, pairs, pair), true),
+        StateLiteral::Mark { edge, backed } => (var_at(formula, edge), backed),
+        StateLiteral::Says(row) => (formula.add_atom(row)?, true),
+        StateLiteral::First(pair) => (first_var(formula, pairs, pair), true),
     };
     Ok(Lit { var, positive })
 }
@@ -53,7 +57,7 @@ pub fn add_row(formula: &mut Formula, pairs: &PairVars, row: Row) -> Result<(), 
     ensures { OnOk result (formula.new
         ≡ with_clauses (at_in pairs.now) formula.old ((Says row ∷ []) ∷ [])) }
 {
-    let only = literal_of(formula, pairs, Claim::Says(row))?;
+    let only = literal_of(formula, pairs, StateLiteral::Says(row))?;
     formula.add_clause(&[only])?;
     Ok(())
 }
@@ -62,8 +66,8 @@ pub fn add_row(formula: &mut Formula, pairs: &PairVars, row: Row) -> Result<(), 
 pub fn add_two(
     formula: &mut Formula,
     pairs: &PairVars,
-    first: Claim,
-    second: Claim,
+    first: StateLiteral,
+    second: StateLiteral,
 ) -> Result<(), AllocError>
     requires { AllByRecursion (IsWithin (at_in pairs.now) formula.old.vars) (first ∷ second ∷ []) }
     ensures { OnOk result (formula.new
@@ -79,9 +83,9 @@ pub fn add_two(
 pub fn add_three(
     formula: &mut Formula,
     pairs: &PairVars,
-    first: Claim,
-    second: Claim,
-    third: Claim,
+    first: StateLiteral,
+    second: StateLiteral,
+    third: StateLiteral,
 ) -> Result<(), AllocError>
     requires { AllByRecursion (IsWithin (at_in pairs.now) formula.old.vars)
         (first ∷ second ∷ third ∷ []) }

@@ -6,10 +6,10 @@ ghost use Rattle.bt_fenc.specs.Properties as properties;
 ghost use Rattle.bt_fenc.specs.inner.Adding.{IsAfter, with_clauses};
 ghost use Rattle.bt_fenc.specs.inner.Variables.{at_in};
 
-use crate::claim::Claim;
 use crate::ends::{cap_at, input_edge, last_edges, load_column, output_edge, room_column};
 use crate::numbering::{add_row, literal_of};
 use crate::rows::{above, at_least, minus, plus, row_of_vec};
+use crate::state_literal::StateLiteral;
 use crate::variables::PairVars;
 use bt_cnf::{Formula, Lit};
 use bt_flow::{Ports, Property};
@@ -99,9 +99,9 @@ fn unequal_lits(
     if let [first, others @ ..] = edges {
         for other in others {
             let more = above(alloc, *first, *other)?;
-            lits.push(literal_of(formula, pairs, Claim::Says(more))?)?;
+            lits.push(literal_of(formula, pairs, StateLiteral::Says(more))?)?;
             let less = above(alloc, *other, *first)?;
-            lits.push(literal_of(formula, pairs, Claim::Says(less))?)?;
+            lits.push(literal_of(formula, pairs, StateLiteral::Says(less))?)?;
         }
     }
     Ok(lits)

@@ -5,7 +5,7 @@ ghost use Rattle.bt_fenc.specs.Columns as columns;
 ghost use Rattle.bt_fenc.specs.Pairs as pairs;
 ghost use Rattle.bt_fenc.specs.inner.Variables as variables;
 
-use crate::claim::Pair;
+use crate::state_literal::Pair;
 use bt_frac::{Frac, Relation, Row};
 use std::alloc::{AllocError, Global};
 

@@ -9,10 +9,10 @@ ghost use Rattle.bt_fenc.specs.inner.Merging.{merged};
 ghost use Rattle.bt_fenc.specs.inner.Variables.{at_in, HasColumns};
 ghost use Rattle.bt_fenc.specs.inner.Within.{IsWithin, AreWithin};
 
-use crate::claim::{Claim, Pair, Side};
 use crate::ends::cap_at;
 use crate::numbering::{add_three, add_two};
 use crate::rows::{first_row, minus, opposite_row, plus};
+use crate::state_literal::{Pair, Side, StateLiteral};
 use crate::variables::PairVars;
 use bt_cnf::Formula;
 use bt_flow::Port;
@@ -48,18 +48,18 @@ fn add_even_clause(
     let edge = edge as usize;
     let other = other as usize;
     let cap = cap_at(net, edge);
-    let marked = Claim::Mark {
+    let marked = StateLiteral::Mark {
         edge,
         backed: excuse(side),
     };
-    let even = Claim::First(Pair::Even {
+    let even = StateLiteral::First(Pair::Even {
         side,
         splitter,
         edge,
         other,
     });
     if cap < cap_at(net, other) {
-        let full = Claim::First(Pair::Full { edge, cap });
+        let full = StateLiteral::First(Pair::Full { edge, cap });
         add_three(formula, pairs, marked, even, full)
     } else {
         add_two(formula, pairs, marked, even)
@@ -173,7 +173,7 @@ fn add_prior(
     ensures { OnOk result (formula.new ≡ with_clauses (at_in pairs.now) formula.old
         (families.prior_clause net.now side splitter edge other ∷ [])) }
 {
-    let marked = Claim::Mark {
+    let marked = StateLiteral::Mark {
         edge,
         backed: excuse(side),
     };
@@ -190,8 +190,8 @@ fn add_prior(
         formula,
         pairs,
         marked,
-        Claim::First(full),
-        Claim::First(empty),
+        StateLiteral::First(full),
+        StateLiteral::First(empty),
     )
 }
 
@@ -233,7 +233,12 @@ pub fn add_pair(
 {
     let first = first_row(alloc, pair)?;
     let opposite = opposite_row(alloc, pair)?;
-    add_two(formula, pairs, Claim::Says(first), Claim::Says(opposite))
+    add_two(
+        formula,
+        pairs,
+        StateLiteral::Says(first),
+        StateLiteral::Says(opposite),
+    )
 }
 
 /// Adds that an in edge isn't backed, or an out edge is backed or full.
@@ -249,11 +254,11 @@ fn add_backing_of(
     ensures { OnOk result (formula.new ≡ with_clauses (at_in pairs.now) formula.old
         (families.backing_clause net.now entering leaving ∷ [])) }
 {
-    let free = Claim::Mark {
+    let free = StateLiteral::Mark {
         edge: entering,
         backed: false,
     };
-    let backed = Claim::Mark {
+    let backed = StateLiteral::Mark {
         edge: leaving,
         backed: true,
     };
@@ -261,7 +266,7 @@ fn add_backing_of(
         edge: leaving,
         cap: cap_at(net, leaving),
     };
-    add_three(formula, pairs, free, backed, Claim::First(full))
+    add_three(formula, pairs, free, backed, StateLiteral::First(full))
 }
 
 /// Adds it for each in edge and each out edge.

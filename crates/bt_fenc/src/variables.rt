@@ -6,7 +6,7 @@ ghost use Rattle.bt_fenc.specs.Numbering.{rows_in};
 ghost use Rattle.bt_fenc.specs.Pairs.{pair_clause, side_pairs};
 ghost use Rattle.bt_fenc.specs.inner.Variables.{at_in, side_starts, AreVariables};
 
-use crate::claim::{Pair, Side};
+use crate::state_literal::{Pair, Side};
 use bt_flow::{Port, Ports};
 use bt_net::Net;
 use std::alloc::{AllocError, Global};

@@ -4,7 +4,7 @@ ghost use Rattle.std.specs.Prelude.{◌≡◌, IfOk};
 ghost use Rattle.bt_frac.specs.Rows.{RowParts, IsRow, IsRowOf};
 
 use crate::frac::{Frac, have_columns};
-use crate::kept::Kept;
+use crate::stored_row::StoredRow;
 use std::alloc::{AllocError, Global};
 use std::marker::Model;
 
@@ -23,7 +23,7 @@ pub enum Relation {
 /// strictly and are below `usize::MAX`, so that there is a column after the last.
 #[derive(Drop)]
 pub struct Row {
-    kept: Kept,
+    kept: StoredRow,
 }
 
 impl Model for Row {
@@ -53,7 +53,7 @@ impl Row {
         }
         let _ = bound.denominator();
         Ok(Some(Row {
-            kept: Kept::copied(alloc, terms, relation, bound)?,
+            kept: StoredRow::copied(alloc, terms, relation, bound)?,
         }))
     }
 
@@ -66,7 +66,7 @@ impl Row {
         }
         let _ = bound.denominator();
         Some(Row {
-            kept: Kept::Many {
+            kept: StoredRow::Many {
                 relation,
                 terms,
                 bound,

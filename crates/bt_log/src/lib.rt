@@ -1,9 +1,9 @@
 //! Logs of steps by which a formula is refuted, and their text.
 #![tactic(auto)]
 
-mod kept;
 mod law;
 mod log;
+mod pooled_step;
 mod printing;
 mod step;
 mod word;

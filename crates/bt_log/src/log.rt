@@ -7,7 +7,7 @@ ghost use Rattle.bt_log.specs.Logs.{Lemma, Learnt, AddsStep};
 ghost use Rattle.bt_log.specs.Views.{step_of};
 ghost use Rattle.bt_log.specs.inner.Keeping.{Grows, IsAt};
 
-use crate::kept::{Hints, Kept, Literals, Weights};
+use crate::pooled_step::{Hints, Literals, PooledStep, Weights};
 use crate::printing::print_step;
 use crate::step::StepView;
 use bt_arena::{Id, Pool};
@@ -22,7 +22,7 @@ use std::marker::Model;
 #[derive(Drop)]
 pub struct Log {
     first: usize,
-    steps: Vec<Kept>,
+    steps: Vec<PooledStep>,
     lits: Pool<Lit, Literals>,
     weights: Pool<Frac, Weights>,
     hints: Pool<usize, Hints>,
@@ -61,7 +61,7 @@ impl Log {
         ensures { AddsStep self.old (Lemma lits.now weights.now) self.new result }
     {
         let ids = keep_both(&mut self.lits, &mut self.weights, lits, weights)?;
-        self.steps.push(Kept::Lemma {
+        self.steps.push(PooledStep::Lemma {
             lits: ids.0,
             weights: ids.1,
         })?;
@@ -73,7 +73,7 @@ impl Log {
         ensures { AddsStep self.old (Learnt lits.now hints.now) self.new result }
     {
         let ids = keep_both(&mut self.lits, &mut self.hints, lits, hints)?;
-        self.steps.push(Kept::Learnt {
+        self.steps.push(PooledStep::Learnt {
             lits: ids.0,
             hints: ids.1,
         })?;
@@ -93,11 +93,11 @@ impl Log {
         ensures { slice_get self.now.steps n ≡ Some (step_of result) }
     {
         match self.steps[n] {
-            Kept::Lemma { lits, weights } => StepView::Lemma {
+            PooledStep::Lemma { lits, weights } => StepView::Lemma {
                 lits: self.lits.slice(lits),
                 weights: self.weights.slice(weights),
             },
-            Kept::Learnt { lits, hints } => StepView::Learnt {
+            PooledStep::Learnt { lits, hints } => StepView::Learnt {
                 lits: self.lits.slice(lits),
                 hints: self.hints.slice(hints),
             },

@@ -172,7 +172,7 @@ fn add_twins(draft: &mut Draft, rect: Rect, one: usize, other: usize) -> Result<
 
 /// What is known of a request before its cells are looked at.
 #[derive(Drop)]
-struct Known {
+struct RequestTraits {
     plan: Plan,
     rect: Rect,
     /// The greatest distance of pairs that must not pass empty cells alone.
@@ -187,11 +187,11 @@ struct Known {
 fn add_towards(
     alloc: Global,
     draft: &mut Draft,
-    known: &Known,
+    known: &RequestTraits,
     cell: Cell,
     dir: Dir,
 ) -> Result<(), AllocError> {
-    let Known { plan, rect, .. } = known;
+    let RequestTraits { plan, rect, .. } = known;
     add_pairs(alloc, draft, cell, dir, known.most)?;
     add_slide(draft, rect, cell, dir)?;
     for side in &sides(dir) {
@@ -208,10 +208,10 @@ fn add_towards(
 }
 
 /// What is known of a request.
-fn known_of(alloc: Global, request: &Request) -> Result<Known, AllocError> {
+fn known_of(alloc: Global, request: &Request) -> Result<RequestTraits, AllocError> {
     let net = request.net();
     let is_free = is_full(net.edges(), net.splitters() as usize) && request.blocks().is_empty();
-    Ok(Known {
+    Ok(RequestTraits {
         plan: Plan::new(alloc, request)?,
         rect: request.rect(),
         most: if is_free {

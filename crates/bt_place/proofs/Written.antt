@@ -5,7 +5,7 @@ use Rattle.std.proofs.lemmas.List.{map-append, map_push, take_more}
 use Rattle.std.proofs.lemmas.Option.{get_or_from_slice_get}
 use Rattle.bt_cnf.specs.declared.literal.Lit.{Lit}
 use Rattle.bt_cnf.specs.Formulas.{FormulaParts, LitsBelow}
-use Rattle.bt_rules.specs.declared.draft.Claim.{Claim}
+use Rattle.bt_rules.specs.declared.draft.RuleFact.{RuleFact}
 use Rattle.bt_rules.specs.declared.fact.Fact.{Fact}
 use Rattle.bt_rules.specs.Drafts.{rule_of}
 use Rattle.bt_rules.specs.Rules.{Rule}
@@ -17,39 +17,39 @@ use Rattle.bt_place.specs.inner.Writing.{HasVariables, with_rules, given_literal
 
 -- ---- claims
 
-parted : (z : Sizes) (b : Bool) (c : Claim) (given following : List Claim)
+parted : (z : Sizes) (b : Bool) (c : RuleFact) (given following : List RuleFact)
     → AllByRecursion (IsNumbered z) (map (λ c. c.fact) (cond (not b) (c ∷ given) given))
     → AllByRecursion (IsNumbered z) (map (λ c. c.fact) (cond b (c ∷ following) following))
     → IsNumbered z c.fact × (AllByRecursion (IsNumbered z) (map (λ c. c.fact) given) × AllByRecursion (IsNumbered z) (map (λ c. c.fact) following))
 parted z true c given following g f = (f.0, (g, f.1))
 parted z false c given following g f = (g.0, (g.1, f))
 
-pub claims_within : (z : Sizes) (claims : List Claim) → HasNumbered z (rule_of claims) → AllByRecursion (λ c. IsNumbered z c.fact) claims
+pub claims_within : (z : Sizes) (claims : List RuleFact) → HasNumbered z (rule_of claims) → AllByRecursion (λ c. IsNumbered z c.fact) claims
 claims_within z [] h = tt
 claims_within z (c ∷ claims) h =
     let parts = parted z c.follows c (filter (λ c. not c.follows) claims) (filter (λ c. c.follows) claims) h.given h.one_of in
     (parts.0, claims_within z claims (record { given = parts.1.0; one_of = parts.1.1 }))
 
-given_one : (z : Sizes) (b : Bool) (c : Claim) (claims : List Claim) (lits : List Lit) → lits ≡ map (literal z false) (map (λ c. c.fact) claims)
+given_one : (z : Sizes) (b : Bool) (c : RuleFact) (claims : List RuleFact) (lits : List Lit) → lits ≡ map (literal z false) (map (λ c. c.fact) claims)
     → cond b [] (literal z false c.fact ∷ []) ++ lits ≡ map (literal z false) (map (λ c. c.fact) (cond (not b) (c ∷ claims) claims))
 given_one z true c claims lits e = e
 given_one z false c claims lits e = ap (λ l. literal z false c.fact ∷ l) e
 
-given_all : (z : Sizes) (claims : List Claim) → flat_map (given_literal z) claims ≡ map (literal z false) (rule_of claims).given
+given_all : (z : Sizes) (claims : List RuleFact) → flat_map (given_literal z) claims ≡ map (literal z false) (rule_of claims).given
 given_all z [] = refl
 given_all z (c ∷ claims) = given_one z c.follows c (filter (λ c. not c.follows) claims) (flat_map (given_literal z) claims) (given_all z claims)
 
-following_one : (z : Sizes) (b : Bool) (c : Claim) (claims : List Claim) (lits : List Lit) → lits ≡ map (literal z true) (map (λ c. c.fact) claims)
+following_one : (z : Sizes) (b : Bool) (c : RuleFact) (claims : List RuleFact) (lits : List Lit) → lits ≡ map (literal z true) (map (λ c. c.fact) claims)
     → cond b (literal z true c.fact ∷ []) [] ++ lits ≡ map (literal z true) (map (λ c. c.fact) (cond b (c ∷ claims) claims))
 following_one z true c claims lits e = ap (λ l. literal z true c.fact ∷ l) e
 following_one z false c claims lits e = e
 
-following_all : (z : Sizes) (claims : List Claim) → flat_map (following_literal z) claims ≡ map (literal z true) (rule_of claims).one_of
+following_all : (z : Sizes) (claims : List RuleFact) → flat_map (following_literal z) claims ≡ map (literal z true) (rule_of claims).one_of
 following_all z [] = refl
 following_all z (c ∷ claims) = following_one z c.follows c (filter (λ c. c.follows) claims) (flat_map (following_literal z) claims) (following_all z claims)
 
 -- the literals of a rule's claims are its clause
-pub clause_written : (z : Sizes) (claims : List Claim) (none some all : List Lit) → none ≡ [] → some ≡ none ++ flat_map (given_literal z) claims
+pub clause_written : (z : Sizes) (claims : List RuleFact) (none some all : List Lit) → none ≡ [] → some ≡ none ++ flat_map (given_literal z) claims
     → all ≡ some ++ flat_map (following_literal z) claims → all ≡ clause_of z (rule_of claims)
 clause_written z claims none some all e h k =
     k ∙ ap (λ l. l ++ flat_map (following_literal z) claims) (h ∙ ap (λ l. l ++ flat_map (given_literal z) claims) e ∙ given_all z claims)
@@ -91,20 +91,20 @@ pub has_after : (z : Sizes) (old now : FormulaParts) (rules : List Rule) → Has
 has_after z old now rules has e = subst (HasVariables z) (sym (ap (λ f. f.vars) e)) has
 
 -- the claims at a place
-pub read_at : (rules : List (List Claim)) (place id : ℕ) (claims : List Claim) → id ≡ place → slice_get rules id ≡ Some claims → claims ≡ get_or rules place []
+pub read_at : (rules : List (List RuleFact)) (place id : ℕ) (claims : List RuleFact) → id ≡ place → slice_get rules id ≡ Some claims → claims ≡ get_or rules place []
 read_at rules place id claims same is = sym (ap (λ k. get_or rules k []) (sym same) ∙ get_or_from_slice_get rules id claims [] is)
 
-mapped_get : (rules : List (List Claim)) (P : Rule → Type 0) → AllByRecursion P (map rule_of rules) → AllByRecursion (λ claims. P (rule_of claims)) rules
+mapped_get : (rules : List (List RuleFact)) (P : Rule → Type 0) → AllByRecursion P (map rule_of rules) → AllByRecursion (λ claims. P (rule_of claims)) rules
 mapped_get [] P h = tt
 mapped_get (claims ∷ rules) P h = (h.0, mapped_get rules P h.1)
 
-pub rule_at : (z : Sizes) (rules : List (List Claim)) (place : ℕ) (claims : List Claim) → AllByRecursion (HasNumbered z) (map rule_of rules) → place < length rules
+pub rule_at : (z : Sizes) (rules : List (List RuleFact)) (place : ℕ) (claims : List RuleFact) → AllByRecursion (HasNumbered z) (map rule_of rules) → place < length rules
     → claims ≡ get_or rules place [] → HasNumbered z (rule_of claims)
 rule_at z rules place claims h lt is =
     subst (λ l. HasNumbered z (rule_of l)) (sym is) (all_get (λ l. HasNumbered z (rule_of l)) rules place [] (mapped_get rules (HasNumbered z) h) lt)
 
 -- one more rule
-pub place_written : (z : Sizes) (old now new : FormulaParts) (rules : List (List Claim)) (n : ℕ) → n < length rules
+pub place_written : (z : Sizes) (old now new : FormulaParts) (rules : List (List RuleFact)) (n : ℕ) → n < length rules
     → now ≡ with_rules z old (map rule_of (take n rules)) → new ≡ with_rules z now (rule_of (get_or rules n []) ∷ [])
     → new ≡ with_rules z old (map rule_of (take (n + 1) rules))
 place_written z old now new rules n lt e h =

@@ -6,7 +6,7 @@ ghost use Rattle.bt_place.specs.Narrowed.{IsNarrowed};
 use crate::numbering::Numbers;
 use bt_arena::Pool;
 use bt_cnf::{Formula, Lit};
-use bt_rules::{Claim, Draft, Drafted, Fact};
+use bt_rules::{Draft, Drafted, Fact, RuleFact};
 use std::alloc::{AllocError, Global};
 
 /// The literal that is true where a fact holds, or where it doesn't. None where the fact has no variable.
@@ -30,7 +30,7 @@ fn set_literals(
     lits: &mut Vec<Lit>,
     formula: &Formula,
     numbers: &Numbers,
-    claims: &[Claim],
+    claims: &[RuleFact],
 ) -> Result<bool, AllocError>
     ensures { OnOk result (LitsBelow formula.now.vars lits.new.items) }
 {
@@ -49,7 +49,7 @@ fn narrow_at(
     lits: &mut Vec<Lit>,
     formula: &mut Formula,
     numbers: &Numbers,
-    rules: &Pool<Claim, Drafted>,
+    rules: &Pool<RuleFact, Drafted>,
     place: usize,
 ) -> Result<(), AllocError>
     requires { place < length rules.now }

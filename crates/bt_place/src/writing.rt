@@ -10,7 +10,7 @@ ghost use Rattle.bt_place.specs.inner.Writing.{HasVariables, with_rules, given_l
 use crate::numbering::Numbers;
 use bt_arena::Pool;
 use bt_cnf::{Formula, Lit, Var};
-use bt_rules::{Claim, Draft, Drafted, Fact};
+use bt_rules::{Draft, Drafted, Fact, RuleFact};
 use std::alloc::{AllocError, Global};
 
 /// The variable of a fact.
@@ -30,7 +30,7 @@ fn push_given(
     lits: &mut Vec<Lit>,
     formula: &Formula,
     numbers: &Numbers,
-    claim: Claim,
+    claim: RuleFact,
 ) -> Result<(), AllocError>
     requires within { IsNumbered numbers.now claim.fact }
     requires vars { HasVariables numbers.now formula.now.vars }
@@ -51,7 +51,7 @@ fn push_following(
     lits: &mut Vec<Lit>,
     formula: &Formula,
     numbers: &Numbers,
-    claim: Claim,
+    claim: RuleFact,
 ) -> Result<(), AllocError>
     requires within { IsNumbered numbers.now claim.fact }
     requires vars { HasVariables numbers.now formula.now.vars }
@@ -72,7 +72,7 @@ fn push_all_given(
     lits: &mut Vec<Lit>,
     formula: &Formula,
     numbers: &Numbers,
-    claims: &[Claim],
+    claims: &[RuleFact],
 ) -> Result<(), AllocError>
     requires within { AllByRecursion (λ c. IsNumbered numbers.now c.fact) claims.now }
     requires vars { HasVariables numbers.now formula.now.vars }
@@ -90,7 +90,7 @@ fn push_all_following(
     lits: &mut Vec<Lit>,
     formula: &Formula,
     numbers: &Numbers,
-    claims: &[Claim],
+    claims: &[RuleFact],
 ) -> Result<(), AllocError>
     requires within { AllByRecursion (λ c. IsNumbered numbers.now c.fact) claims.now }
     requires vars { HasVariables numbers.now formula.now.vars }
@@ -108,7 +108,7 @@ fn set_literals(
     lits: &mut Vec<Lit>,
     formula: &Formula,
     numbers: &Numbers,
-    claims: &[Claim],
+    claims: &[RuleFact],
 ) -> Result<(), AllocError>
     requires within { HasNumbered numbers.now (rule_of claims.now) }
     requires vars { HasVariables numbers.now formula.now.vars }
@@ -125,7 +125,7 @@ fn write_rule(
     lits: &mut Vec<Lit>,
     formula: &mut Formula,
     numbers: &Numbers,
-    claims: &[Claim],
+    claims: &[RuleFact],
 ) -> Result<(), AllocError>
     requires within { HasNumbered numbers.now (rule_of claims.now) }
     requires vars { HasVariables numbers.now formula.old.vars }
@@ -141,7 +141,7 @@ fn write_at(
     lits: &mut Vec<Lit>,
     formula: &mut Formula,
     numbers: &Numbers,
-    rules: &Pool<Claim, Drafted>,
+    rules: &Pool<RuleFact, Drafted>,
     place: usize,
 ) -> Result<(), AllocError>
     requires place { place < length rules.now }
@@ -162,7 +162,7 @@ fn write_rules(
     alloc: Global,
     formula: &mut Formula,
     numbers: &Numbers,
-    rules: &Pool<Claim, Drafted>,
+    rules: &Pool<RuleFact, Drafted>,
 ) -> Result<(), AllocError>
     requires within { AllByRecursion (HasNumbered numbers.now) (map rule_of rules.now) }
     requires vars { HasVariables numbers.now formula.old.vars }

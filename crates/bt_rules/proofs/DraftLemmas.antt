@@ -1,7 +1,7 @@
 -- The claims of a rule are those of that rule.
 use Rattle.std.proofs.Common.{◌≡◌, true, false, not, List, [], ◌∷◌, ◌++◌, map, refl, ◌∙◌, ap}
 use Rattle.std.specs.List.{filter}
-use Rattle.bt_rules.specs.declared.draft.Claim.{Claim}
+use Rattle.bt_rules.specs.declared.draft.RuleFact.{RuleFact}
 use Rattle.bt_rules.specs.declared.fact.Fact.{Fact}
 use Rattle.bt_rules.specs.declared.fact.Half.{Half}
 use Rattle.bt_rules.specs.declared.fact.Half.TheVariants.{Lesser, Greater}
@@ -23,12 +23,12 @@ pub same_rule : (given one_of : List Fact) → rule_of (map (claim false) given 
 same_rule given one_of =
     ap (λ g. rule g (map (λ c. c.fact) (filter (λ c. c.follows) (map (claim false) given ++ map (claim true) one_of)))) (given_of given one_of) ∙ ap (rule given) (following_of given one_of)
 
-map_push : (rules : List (List Claim)) (claims : List Claim) → map rule_of (rules ++ claims ∷ []) ≡ map rule_of rules ++ rule_of claims ∷ []
+map_push : (rules : List (List RuleFact)) (claims : List RuleFact) → map rule_of (rules ++ claims ∷ []) ≡ map rule_of rules ++ rule_of claims ∷ []
 map_push [] claims = refl
 map_push (c ∷ rules) claims = ap (λ l. rule_of c ∷ l) (map_push rules claims)
 
 -- a rule that is added
-pub rule_added : (rules : List (List Claim)) (claims : List Claim) (given one_of : List Fact) → claims ≡ map (claim false) given ++ map (claim true) one_of
+pub rule_added : (rules : List (List RuleFact)) (claims : List RuleFact) (given one_of : List Fact) → claims ≡ map (claim false) given ++ map (claim true) one_of
     → map rule_of (rules ++ claims ∷ []) ≡ map rule_of rules ++ rule given one_of ∷ []
 rule_added rules claims given one_of e = map_push rules claims ∙ ap (λ r. map rule_of rules ++ r ∷ []) (ap rule_of e ∙ same_rule given one_of)
 
@@ -37,6 +37,6 @@ same_rule_by Lesser fact given one_of = ap (λ g. rule (fact ∷ g) (rule_of (ma
 same_rule_by Greater fact given one_of = ap (λ g. rule g (fact ∷ (rule_of (map (claim false) given ++ map (claim true) one_of)).one_of)) (given_of given one_of) ∙ ap (λ f. rule given (fact ∷ f)) (following_of given one_of)
 
 -- a rule that is added of what is told by a half
-pub rule_added_by : (half : Half) (fact : Fact) (rules : List (List Claim)) (claims : List Claim) (given one_of : List Fact)
+pub rule_added_by : (half : Half) (fact : Fact) (rules : List (List RuleFact)) (claims : List RuleFact) (given one_of : List Fact)
     → claims ≡ claim_by half fact ∷ (map (claim false) given ++ map (claim true) one_of) → map rule_of (rules ++ claims ∷ []) ≡ map rule_of rules ++ rule_by half fact given one_of ∷ []
 rule_added_by half fact rules claims given one_of e = map_push rules claims ∙ ap (λ r. map rule_of rules ++ r ∷ []) (ap rule_of e ∙ same_rule_by half fact given one_of)

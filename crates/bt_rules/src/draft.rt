@@ -11,7 +11,7 @@ use std::marker::Model;
 
 /// A fact of a rule: one of those that are given, or one of those of which one follows.
 #[derive(Clone, Copy)]
-pub struct Claim {
+pub struct RuleFact {
     /// What it says.
     pub fact: Fact,
     /// Whether it is one of those that follow.
@@ -27,9 +27,9 @@ pub struct Drafted;
 /// part of them is held.
 #[derive(Drop)]
 pub struct Draft {
-    rules: Pool<Claim, Drafted>,
+    rules: Pool<RuleFact, Drafted>,
     /// The claims of a rule while it is added.
-    claims: Vec<Claim>,
+    claims: Vec<RuleFact>,
 }
 
 impl Model for Draft {
@@ -43,11 +43,11 @@ impl Model for Draft {
 }
 
 // Adds a claim for each fact.
-fn push_claims(claims: &mut Vec<Claim>, facts: &[Fact], follows: bool) -> Result<(), AllocError>
+fn push_claims(claims: &mut Vec<RuleFact>, facts: &[Fact], follows: bool) -> Result<(), AllocError>
     ensures { OnOk result (claims.new.items ≡ claims.old.items ++ map (claim follows) facts.now) }
 {
     for fact in facts {
-        claims.push(Claim {
+        claims.push(RuleFact {
             fact: *fact,
             follows,
         })?;
@@ -97,7 +97,7 @@ impl Draft {
     }
 
     /// The rules, as claims.
-    pub fn rules(&self) -> &Pool<Claim, Drafted>
+    pub fn rules(&self) -> &Pool<RuleFact, Drafted>
         ensures { map rule_of result.now ≡ self.now }
     {
         &self.rules
@@ -105,14 +105,14 @@ impl Draft {
 }
 
 // The fact as one that is given for the lesser half, and as one that follows for the greater one.
-fn claim_by(half: Half, by_lesser: Fact) -> Claim
+fn claim_by(half: Half, by_lesser: Fact) -> RuleFact
     ensures { result ≡ drafts.claim_by half by_lesser }
 {
     let follows = match half {
         Half::Lesser => false,
         Half::Greater => true,
     };
-    Claim {
+    RuleFact {
         fact: by_lesser,
         follows,
     }

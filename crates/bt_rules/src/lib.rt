@@ -22,7 +22,7 @@ mod underground;
 
 pub use cells::cells_of;
 pub use classes::{class_of, enters, goes_to, leaves, same_class};
-pub use draft::{Claim, Draft, Drafted};
+pub use draft::{Draft, Drafted, RuleFact};
 pub use drawing::{add_cell, add_ends, add_splitter, rules_of};
 pub use fact::{Class, Content, Fact, Half, Shape};
 pub use facts::holds;

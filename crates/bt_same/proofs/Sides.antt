@@ -5,8 +5,8 @@ use Rattle.bt_frac.specs.Rows.{RowParts}
 use Rattle.bt_cnf.specs.declared.literal.Lit.{Lit}
 use Rattle.bt_cnf.specs.Formulas.{FormulaParts}
 use Rattle.bt_net.specs.Network.{Network}
-use Rattle.bt_fenc.specs.declared.claim.Pair.{Pair}
-use Rattle.bt_fenc.specs.declared.claim.Claim.{Claim}
+use Rattle.bt_fenc.specs.declared.state_literal.Pair.{Pair}
+use Rattle.bt_fenc.specs.declared.state_literal.StateLiteral.{StateLiteral}
 use Rattle.bt_fenc.specs.Columns.{output_edge}
 use Rattle.bt_fenc.specs.Properties.{differ}
 use Rattle.bt_fenc.specs.Numbering.{mentioned, rows_in, literals_from, atoms_from, IsNamed, AreNamed}
@@ -16,7 +16,7 @@ use Rattle.bt_same.specs.inner.Joining.{with_rows, with_lits, hold_from, differi
 use Rattle.bt_same.proofs.Joined.{same_parts}
 
 module _ (x y : ℕ → ℕ) where
-  claims : List ℕ → List Claim
+  claims : List ℕ → List StateLiteral
   claims os = flat_map (λ o. differ (x o) (y o)) os
 
   rows : List ℕ → List RowParts

@@ -5,7 +5,7 @@ use Rattle.bt_frac.specs.Rows.{RowParts}
 use Rattle.bt_net.specs.Network.{Network}
 use Rattle.bt_cnf.specs.declared.literal.Lit.{Lit}
 use Rattle.bt_cnf.specs.Formulas.{FormulaParts}
-use Rattle.bt_fenc.specs.declared.claim.Claim.{Claim}
+use Rattle.bt_fenc.specs.declared.state_literal.StateLiteral.{StateLiteral}
 use Rattle.bt_fenc.specs.Columns.{output_edge}
 use Rattle.bt_fenc.specs.Properties.{differ}
 use Rattle.bt_fenc.specs.Numbering.{formula_of}
@@ -39,7 +39,7 @@ abbrev pub moved_atoms : Shift → Shift → List (ℕ × RowParts) → List (�
 moved_atoms vars columns atoms = map (λ a. (shifted vars a.0, moved_row columns a.1)) atoms
 
 -- of some output the flows in the two networks differ: one is above the other
-abbrev pub difference : Network → Network → List Claim
+abbrev pub difference : Network → Network → List StateLiteral
 difference a b = flat_map (λ o. differ (output_edge a o) (output_edge b o + length a.edges)) (range_with_len 0 a.outputs)
 
 -- the formula of the one clause that the flows differ, behind so many variables

@@ -11,7 +11,7 @@ use Rattle.bt_cnf.specs.declared.literal.Lit.{Lit}
 use Rattle.bt_sat.specs.declared.assignment.Assignment.{Assignment}
 use Rattle.bt_sat.specs.declared.search.Search.{Search}
 use Rattle.bt_sat.specs.declared.search.Attended.TheVariants as attended
-use Rattle.bt_sat.specs.declared.kept.Watch.{Watch}
+use Rattle.bt_sat.specs.declared.clause_pool.Watch.{Watch}
 use Rattle.bt_sat.specs.declared.watched.Visit.TheVariants as visit
 use Rattle.bt_sat.specs.inner.Assigning.{Assigns}
 use Rattle.bt_sat.specs.inner.Attending.{no_lit, first, second}

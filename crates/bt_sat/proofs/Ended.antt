@@ -16,7 +16,7 @@ use Rattle.bt_sat.specs.Serving.{IsFair}
 use Rattle.bt_sat.specs.Solving.{AreFresh, AreNonempty, EndsRefuted, EndsSpent, IsLearnt, IsLemmaOf, IsModel, IsSoundLog, IsSpent, KeepsModel, LacksMemory, Searches, Standing}
 use Rattle.bt_sat.specs.declared.kernel.Stage.{Stage}
 use Rattle.bt_sat.specs.declared.kernel.Stage.TheVariants.{Running, Complete, Refuted, Spent, Lost}
-use Rattle.bt_sat.specs.declared.known.Known.{Known}
+use Rattle.bt_sat.specs.declared.logged_formula.LoggedFormula.{LoggedFormula}
 use Rattle.bt_sat.specs.declared.progress.Progress.{Progress}
 use Rattle.bt_sat.specs.declared.solver.Answer.{Answer}
 use Rattle.bt_sat.specs.declared.solver.Answer.TheVariants as answer
@@ -78,7 +78,7 @@ module _ (p : Progress) (is : IsRefuted p) where
   }
 
 -- a log in order that is full has fewer steps than there are clauses
-few_steps : (known : Known) (limit : ℕ) → IsLogged known limit → length known.log.steps ≡ limit → limit < 3 ^ known.formula.vars
+few_steps : (known : LoggedFormula) (limit : ℕ) → IsLogged known limit → length known.log.steps ≡ limit → limit < 3 ^ known.formula.vars
 few_steps known limit is full =
     subst (λ n. n < 3 ^ known.formula.vars) full (fresh_steps_are_few known.formula known.log.steps is.formula is.valid is.fresh is.nonempty)
 

@@ -7,7 +7,7 @@ use Rattle.std.proofs.lemmas.List.Sorted.{All-permutation, Contains-permutation,
 use Rattle.bt_cnf.specs.Formulas.{LitsBelow}
 use Rattle.bt_cnf.specs.declared.literal.Lit.{Lit}
 use Rattle.bt_log.specs.Units.{opposite}
-use Rattle.bt_sat.specs.declared.kept.Watch.{Watch}
+use Rattle.bt_sat.specs.declared.clause_pool.Watch.{Watch}
 use Rattle.bt_sat.specs.inner.Attending.{KeepsPair, LeavesOne, WatchesNow}
 use Rattle.bt_sat.specs.inner.Keeping.{IsWatchable, IsListed, IsFollowed, kept_at, IsBlocked, AreWatched, AreTrue, IsAtRest, IsDone, IsSatisfied}
 use Rattle.bt_sat.specs.inner.Truths.{IsTrueIn, IsFalseIn}

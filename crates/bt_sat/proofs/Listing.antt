@@ -12,7 +12,7 @@ use Rattle.bt_cnf.specs.declared.literal.Lit.{Lit}
 use Rattle.bt_sat.specs.declared.progress.Progress.{Progress}
 use Rattle.bt_sat.specs.inner.Choices.{AreUnset, ListsUnset}
 use Rattle.bt_sat.specs.inner.Keeping.{AreTrue}
-use Rattle.bt_sat.specs.inner.Known.{clauses_in}
+use Rattle.bt_sat.specs.inner.LoggedFormula.{clauses_in}
 use Rattle.bt_sat.specs.inner.Levels.{IsReady}
 use Rattle.bt_sat.specs.inner.Orders.{FindsUnset, HasFirst, HasUnset, IsAmong, IsLitAt, IsNext}
 use Rattle.bt_sat.specs.inner.Progressing.{Grows, IsRunning, Stands}

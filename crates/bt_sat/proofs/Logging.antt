@@ -11,10 +11,10 @@ use Rattle.bt_log.specs.Validity.{AreValid, IsValidStep}
 use Rattle.bt_sat.specs.Freshness.{IsFreshLearnt, IsFreshStep}
 use Rattle.bt_sat.specs.Propagation.{IsSettled}
 use Rattle.bt_sat.specs.Solving.{AreFresh}
-use Rattle.bt_sat.specs.declared.known.Known.{Known}
+use Rattle.bt_sat.specs.declared.logged_formula.LoggedFormula.{LoggedFormula}
 use Rattle.bt_sat.specs.declared.search.Search.{Search}
 use Rattle.bt_sat.specs.inner.Asserting.{IsAsserting, IsPrepared}
-use Rattle.bt_sat.specs.inner.Known.{clauses_in}
+use Rattle.bt_sat.specs.inner.LoggedFormula.{clauses_in}
 use Rattle.bt_sat.specs.inner.Levels.{IsHeld}
 use Rattle.bt_sat.specs.inner.Progressing.{IsLogged, IsNextStep, LogsStep}
 use Rattle.bt_sat.specs.inner.Propagating.{IsKept, falses_of}
@@ -40,17 +40,17 @@ fresh_push clauses (s ∷ steps) step fresh next =
     (fresh.0, fresh_push (clauses ++ clause_of s ∷ []) steps step fresh.1 (subst (λ cs. IsFreshStep cs step) (sym (append_assoc clauses (clause_of s ∷ []) (map clause_of steps))) next))
 
 -- the clauses with one more
-pub clauses_push : (old new : Known) (step : Step) → LogsStep old new step → clauses_in new ≡ clauses_in old ++ clause_of step ∷ []
+pub clauses_push : (old new : LoggedFormula) (step : Step) → LogsStep old new step → clauses_in new ≡ clauses_in old ++ clause_of step ∷ []
 clauses_push old new step logs =
     let f : FormulaParts → List (List Lit) = λ x. x.clauses in
     ap (λ x. f x ++ map clause_of new.log.steps) logs.formula ∙ ap (λ l. old.formula.clauses ++ map clause_of l) (steps_are old new step logs)
     ∙ ap (λ cs. old.formula.clauses ++ cs) (map-append clause_of old.log.steps (step ∷ [])) ∙ sym (append_assoc old.formula.clauses (map clause_of old.log.steps) (clause_of step ∷ []))
   where
-    steps_are : (old new : Known) (step : Step) → LogsStep old new step → new.log.steps ≡ old.log.steps ++ step ∷ []
+    steps_are : (old new : LoggedFormula) (step : Step) → LogsStep old new step → new.log.steps ≡ old.log.steps ++ step ∷ []
     steps_are old new step logs = ap (λ (l : LogParts). l.steps) logs.log
 
 -- the log stays in order
-pub logged_push : (old new : Known) (limit : ℕ) (step : Step) → IsLogged old limit → LogsStep old new step → IsNextStep old step → clause_of step ≢ [] → length old.log.steps < limit
+pub logged_push : (old new : LoggedFormula) (limit : ℕ) (step : Step) → IsLogged old limit → LogsStep old new step → IsNextStep old step → clause_of step ≢ [] → length old.log.steps < limit
     → IsLogged new limit
 logged_push old new limit step is logs next some room =
     let f = old.formula in
@@ -84,7 +84,7 @@ asserted_fresh all s lits is =
     inr (x, settled_is_open all (falses_of s) lits x settled (0, is.some, get_or_default lits 0 x no_lit is.some) others not_made)
 
 -- what was prepared is the next step
-pub prepared_next : (known : Known) (s : Search) (lits : List Lit) (hints : List ℕ) → IsPrepared (clauses_in known) known.formula.vars s lits hints → IsNextStep known (Learnt lits hints)
+pub prepared_next : (known : LoggedFormula) (s : Search) (lits : List Lit) (hints : List ℕ) → IsPrepared (clauses_in known) known.formula.vars s lits hints → IsNextStep known (Learnt lits hints)
 prepared_next known s lits hints is = record {
   valid = record { variables = is.hinted.below; signs = is.hinted.signs; numbers = is.hinted.numbers; units = is.hinted.units };
   fresh = elim is.asserts [ inl none ↦ inl none | inr asserts ↦ asserted_fresh (clauses_in known) s lits asserts ];

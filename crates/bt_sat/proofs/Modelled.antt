@@ -20,7 +20,7 @@ use Rattle.bt_sat.specs.declared.search.Search.{Search}
 use Rattle.bt_sat.specs.inner.Choices.{IsComplete}
 use Rattle.bt_sat.specs.inner.Kernels.{model_of, value_of}
 use Rattle.bt_sat.specs.inner.Keeping.{kept_at, IsWatchable}
-use Rattle.bt_sat.specs.inner.Known.{clauses_in}
+use Rattle.bt_sat.specs.inner.LoggedFormula.{clauses_in}
 use Rattle.bt_sat.specs.inner.Levels.{IsHeld, among_watched, alone, IsOrdered, IsReady, start_of}
 use Rattle.bt_sat.specs.inner.Progressing.{IsNextStep, Stands}
 use Rattle.bt_sat.specs.inner.Propagating.{IsKept, falses_of}

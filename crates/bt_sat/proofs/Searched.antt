@@ -11,7 +11,7 @@ use Rattle.bt_sat.specs.Serving.{ServesOn, IsFair}
 use Rattle.bt_sat.specs.Solving.{IsLearnt}
 use Rattle.bt_sat.specs.declared.cdcl.Found.{Found}
 use Rattle.bt_sat.specs.declared.cdcl.Found.TheVariants.{Model, Refuted, Spent}
-use Rattle.bt_sat.specs.declared.known.Known.{Known}
+use Rattle.bt_sat.specs.declared.logged_formula.LoggedFormula.{LoggedFormula}
 use Rattle.bt_sat.specs.declared.progress.Progress.{Progress}
 use Rattle.bt_sat.specs.declared.search.Search.{Search}
 use Rattle.bt_sat.specs.inner.Choices.{KeepsLog}
@@ -68,11 +68,11 @@ pub searches_kept : (old mid new : Progress) (waiting left left' : List (Option 
 searches_kept old mid new waiting left left' on keeps same = record {
   added = on.added;
   learnt = on.learnt;
-  formula = ap (λ (k : Known). k.formula) keeps.known ∙ on.formula;
-  log = ap (λ (k : Known). k.log) keeps.known ∙ on.log;
+  formula = ap (λ (k : LoggedFormula). k.formula) keeps.known ∙ on.formula;
+  log = ap (λ (k : LoggedFormula). k.log) keeps.known ∙ on.log;
   limit = keeps.limit ∙ on.limit;
   serves = subst (λ n. ServesOn old.served waiting (lengths_of on.added) n left') (sym keeps.served) (subst (ServesOn old.served waiting (lengths_of on.added) mid.served) (sym same) on.serves);
-  paced = subst (λ n. n ≤ length new.known.log.steps) (sym keeps.served) (subst (λ (k : Known). mid.served ≤ length k.log.steps) (sym keeps.known) on.paced);
+  paced = subst (λ n. n ≤ length new.known.log.steps) (sym keeps.served) (subst (λ (k : LoggedFormula). mid.served ≤ length k.log.steps) (sym keeps.known) on.paced);
 }
 
 -- one step more

@@ -6,7 +6,7 @@ use Rattle.std.proofs.lemmas.List.{get_or_default, get_or-set_same, length-map}
 use Rattle.std.proofs.lemmas.List.Elements.{All-contains, All-set, Contains-append_left, Contains-push}
 use Rattle.bt_cnf.specs.declared.literal.Lit.{Lit}
 use Rattle.bt_log.specs.Units.{opposite}
-use Rattle.bt_sat.specs.declared.kept.Watch.{Watch}
+use Rattle.bt_sat.specs.declared.clause_pool.Watch.{Watch}
 use Rattle.bt_sat.specs.inner.Attending.{no_lit, first, second, KeepsPair, LeavesOne, WatchesNow}
 use Rattle.bt_sat.specs.inner.Keeping.{IsWatchable, IsListed, IsFollowed, kept_at, IsBlocked, AreWatched, AreTrue, IsAtRest, IsDone, IsSatisfied, IsVisiting}
 use Rattle.bt_sat.specs.inner.Truths.{IsTrueIn, IsFalseIn}

@@ -10,7 +10,7 @@ pub mod Codes
 pub mod Searching
 pub mod Keeping
 pub mod Kernels
-pub mod Known
+pub mod LoggedFormula
 pub mod Lemmas
 pub mod Levels
 pub mod Loading

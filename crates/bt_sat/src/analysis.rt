@@ -2,12 +2,12 @@
 ghost use Rattle.std.specs.Prelude.{◌≡◌, ◌<◌, ◌↔◌, ℕ, length, Contains, IfOk, OnOk, IsTrue};
 ghost use Rattle.std.specs.List.{All};
 ghost use Rattle.bt_sat.specs.inner.Analysing.{IsConflictLevel, IsLearnable, IsReasonFor, IsTaken, IsTopLevel, IsTraced, IsTracing, MarksSeen};
-ghost use Rattle.bt_sat.specs.inner.Known.{clauses_in};
+ghost use Rattle.bt_sat.specs.inner.LoggedFormula.{clauses_in};
 ghost use Rattle.bt_sat.specs.inner.Levels.{AreLevels, IsInConflict, IsOrdered};
 
 use crate::agenda::Agenda;
-use crate::known::Known;
 use crate::levels::{level_of, start};
+use crate::logged_formula::LoggedFormula;
 use crate::search::Search;
 use bt_cnf::Lit;
 use std::alloc::AllocError;
@@ -82,7 +82,7 @@ fn adds_none(
 /// clause that is learnt gets shorter. The second literal of that clause is kept, since it tells how far the
 /// search jumps back.
 fn reason_for(
-    known: &Known,
+    known: &LoggedFormula,
     search: &Search,
     analysis: &Analysis,
     conflict_level: ConflictLevel,
@@ -113,7 +113,7 @@ fn reason_for(
 /// Traces the literal at a place back, or picks it.
 fn deal(
     analysis: &mut Analysis,
-    known: &Known,
+    known: &LoggedFormula,
     search: &Search,
     conflict_level: ConflictLevel,
     place: usize,
@@ -177,7 +177,7 @@ fn top_level(search: &Search, agenda: &Agenda) -> usize
 /// to a false clause.
 pub fn analyse(
     analysis: &mut Analysis,
-    known: &Known,
+    known: &LoggedFormula,
     search: &Search,
     conflict: usize,
 ) -> Result<(), AllocError>
@@ -198,7 +198,7 @@ pub fn analyse(
 /// Begins with the clause whose literals are all false.
 fn begin(
     analysis: &mut Analysis,
-    known: &Known,
+    known: &LoggedFormula,
     search: &Search,
     conflict: usize,
 ) -> Result<ConflictLevel, AllocError>

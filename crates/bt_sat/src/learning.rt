@@ -4,13 +4,13 @@ ghost use Rattle.std.specs.List.{All};
 ghost use Rattle.std.specs.List.Sorted.{IsNonDecreasing};
 ghost use Rattle.bt_sat.specs.inner.Analysing.{falses_at};
 ghost use Rattle.bt_sat.specs.inner.Asserting.{IsAsserting, IsPrepared};
-ghost use Rattle.bt_sat.specs.inner.Known.{clauses_in};
+ghost use Rattle.bt_sat.specs.inner.LoggedFormula.{clauses_in};
 ghost use Rattle.bt_sat.specs.inner.Levels.{IsAssertionLevel, IsInConflict, IsReady};
 
 use crate::analysis::{Analysis, analyse};
 use crate::assignment::assign;
-use crate::known::Known;
 use crate::levels::{backjump, level_of};
+use crate::logged_formula::LoggedFormula;
 use crate::search::{Search, keep};
 use crate::truth::negation;
 use bt_cnf::Lit;
@@ -51,7 +51,7 @@ pub fn assertion_level(starts: &[usize], picked: &[usize]) -> usize
 /// Finds the clause that is learnt from a conflict, and backjumps to where it asserts its first literal.
 pub fn prepare(
     learnt_clause: &mut LearntClause,
-    known: &Known,
+    known: &LoggedFormula,
     search: &mut Search,
     conflict: usize,
 ) -> Result<(), AllocError>
@@ -68,7 +68,7 @@ pub fn prepare(
 }
 
 /// Keeps a clause that comes next, and asserts its first literal, which becomes true.
-pub fn adopt(search: &mut Search, known: &Known, lits: &[Lit]) -> Result<(), AllocError>
+pub fn adopt(search: &mut Search, known: &LoggedFormula, lits: &[Lit]) -> Result<(), AllocError>
     requires { IsAsserting (clauses_in known.now) search.old lits.now }
     ensures ready { OnOk result (IsReady (clauses_in known.now ++ lits.now ∷ [])
         (length search.old.assignment.trail.items) search.new) }

@@ -3,15 +3,15 @@ ghost use Rattle.std.specs.Prelude.{◌<◌, length, IfOk, OnOk};
 ghost use Rattle.std.specs.List.{All};
 ghost use Rattle.bt_log.specs.Logs.{Lemma};
 ghost use Rattle.bt_sat.specs.inner.Choices.{IsComplete};
-ghost use Rattle.bt_sat.specs.inner.Known.{clauses_in};
+ghost use Rattle.bt_sat.specs.inner.LoggedFormula.{clauses_in};
 ghost use Rattle.bt_sat.specs.inner.Lemmas.{Admits, ArePicked, CanAdmit, IsTraceable, BackjumpsFor, TakesLemma};
 ghost use Rattle.bt_sat.specs.inner.Progressing.{IsNextStep, KeepsFormula};
 ghost use Rattle.bt_sat.specs.inner.Truths.{IsFalseIn};
 
 use crate::analysis::{Analysis, mark_seen};
-use crate::known::Known;
 use crate::learning::{LearntClause, adopt, assertion_level, name_lits};
 use crate::levels::backjump;
+use crate::logged_formula::LoggedFormula;
 use crate::progress::Progress;
 use crate::search::{Search, keep};
 use crate::truth::is_false;
@@ -57,7 +57,11 @@ fn backjump_for(
 
 /// Keeps a clause that comes next, and asserts its first literal, or tells its number where all its literals
 /// are false.
-fn admit(search: &mut Search, known: &Known, lits: &[Lit]) -> Result<Option<usize>, AllocError>
+fn admit(
+    search: &mut Search,
+    known: &LoggedFormula,
+    lits: &[Lit],
+) -> Result<Option<usize>, AllocError>
     requires { CanAdmit (clauses_in known.now) search.old lits.now }
     ensures { IfOk result (Admits (clauses_in known.now) lits.now search.old search.new) }
 {

@@ -10,8 +10,8 @@ ghost use Rattle.bt_sat.specs.inner.Progressing.{Stands};
 use crate::agenda::Agenda;
 use crate::analysis::Analysis;
 use crate::assignment::{Assignment, assign};
-use crate::known::Known;
 use crate::learning::LearntClause;
+use crate::logged_formula::LoggedFormula;
 use crate::order::Order;
 use crate::plan::Plan;
 use crate::progress::Progress;
@@ -196,7 +196,7 @@ pub fn load(alloc: Global, formula: Formula, limit: u64, plan: Plan) -> Result<P
     let log = Log::new(alloc, formula.clauses())?;
     let learnt_clause = no_lesson(alloc, formula.vars())?;
     Ok(Progress {
-        known: Known { formula, log },
+        known: LoggedFormula { formula, log },
         search,
         learnt_clause,
         order: Order::new(alloc),

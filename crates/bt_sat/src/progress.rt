@@ -2,8 +2,8 @@
 ghost use Rattle.std.specs.Prelude.{◌≡◌, OnOk, IfOk, None, Some};
 ghost use Rattle.bt_sat.specs.inner.Progressing.{PropagatesAll, IsRunning, KeepsFormula, Learns};
 
-use crate::known::Known;
 use crate::learning::{LearntClause, adopt, prepare};
+use crate::logged_formula::LoggedFormula;
 use crate::order::Order;
 use crate::plan::Plan;
 use crate::search::{Search, number_of, propagate};
@@ -12,7 +12,7 @@ use std::alloc::AllocError;
 /// What is known, what is true, and how far the search has come.
 #[derive(Drop)]
 pub struct Progress {
-    pub known: Known,
+    pub known: LoggedFormula,
     pub search: Search,
     pub learnt_clause: LearntClause,
     /// In which order variables are decided.

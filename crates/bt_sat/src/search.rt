@@ -9,7 +9,7 @@ ghost use Rattle.bt_sat.specs.inner.Roots.{bound_of};
 ghost use Rattle.bt_sat.specs.inner.Propagating.{Advances, Finds, IsSettledTo, Keeps, Propagates, Settles, root_of, with_watches};
 
 use crate::assignment::{Assignment, assign};
-use crate::kept::{Kept, PackedId, Watch};
+use crate::clause_pool::{ClausePool, PackedId, Watch};
 use crate::packed::{Packed, pack_all};
 use crate::truth::{Values, negation};
 use crate::watched::{Visit, attend};
@@ -22,7 +22,7 @@ use std::alloc::AllocError;
 pub struct Search {
     pub assignment: Assignment,
     /// The clauses of two or more literals, whose first two are watched.
-    pub clauses: Kept,
+    pub clauses: ClausePool,
     pub watchers: Watchers,
     /// For each of these clauses, its number among those of the formula and of the log.
     pub numbers: Vec<usize>,
@@ -53,7 +53,7 @@ pub enum Next {
 }
 
 /// Visits a clause where a literal has become false.
-fn attend_in(clauses: &mut Kept, id: PackedId, gone: &Packed, values: &Values) -> Visit
+fn attend_in(clauses: &mut ClausePool, id: PackedId, gone: &Packed, values: &Values) -> Visit
     requires id { id < length clauses.old }
     requires watchable { IsWatchable (length values.now) (kept_at clauses.old id) }
     requires gone { IsFalseIn values.now gone.now }

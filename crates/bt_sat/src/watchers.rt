@@ -4,7 +4,7 @@ ghost use Rattle.bt_sat.specs.inner.Codes.{code_of};
 ghost use Rattle.bt_sat.specs.inner.Loads.{AreEmptyLists, AreUnwatched};
 ghost use Rattle.bt_sat.specs.inner.Watchers.{lists_of, watches_of, with_list, Watches};
 
-use crate::kept::Watch;
+use crate::clause_pool::Watch;
 use crate::packed::Packed;
 use bt_cnf::{Lit, Var};
 use std::alloc::{AllocError, Global};

@@ -39,8 +39,8 @@ use Rattle.bt_place.specs.PlaceFormula.{place_formula}
 use Rattle.bt_words.specs.declared.command.Command.{Command}
 use Rattle.bt_words.specs.Commands.{IsCommand}
 use Rattle.bt_words.specs.declared.command.Command.TheVariants.{FlowCheck, Recover, Check, Decide, Make, Layout, CheckLayout, Smallest, FindSmall, FlowFormula, PlaceFormula, Same, CheckSame}
-use Rattle.bt_words.specs.declared.command.Family.{Family}
-use Rattle.bt_words.specs.declared.command.Family.TheVariants.{Butterfly, Chain}
+use Rattle.bt_words.specs.declared.command.NetworkFamily.{NetworkFamily}
+use Rattle.bt_words.specs.declared.command.NetworkFamily.TheVariants.{Butterfly, Chain}
 use Rattle.bt_top.specs.declared.answer.Answer.{Answer}
 use Rattle.bt_top.specs.declared.answer.Answer.TheVariants as answer
 use Rattle.bt_top.specs.declared.fault.DesignFault.{DesignFault}
@@ -118,7 +118,7 @@ module _ (due : ℕ) (high : 4 ≤ due) where
       let same = same_value found nets (one_two_nets bytes (Ok found) (Ok nets) h alone) in
       same_other found.0 found.1 limits v (subst (λ (x : Network × Network). NeverGivesUp (same_formula x.0 x.1) limits) (sym same) never) is a (sym e)
 
-  made_other : (family : Family) (order : ℕ) (n : Network) (balanced : Bool) → IsOther (Ok (made_of family order n balanced))
+  made_other : (family : NetworkFamily) (order : ℕ) (n : Network) (balanced : Bool) → IsOther (Ok (made_of family order n balanced))
   made_other family order n true = other_status (made_of family order n true) (λ e. omega (arith, e, high))
   made_other family order n false = other_status (made_of family order n false) (λ e. omega (arith, e, high))
 

@@ -22,8 +22,8 @@ pub use Rattle.bt_layout.specs.SmallestText.{none_word, nowhere_text}
 use Rattle.bt_dimacs.specs.Legends.{flow_formula_text, place_formula_text}
 use Rattle.bt_trail.specs.TrailText.{pivots_text, wide_text}
 use Rattle.bt_write.specs.Written.{blueprint_text}
-use Rattle.bt_words.specs.declared.command.Family.{Family}
-use Rattle.bt_words.specs.declared.command.Family.TheVariants.{Butterfly, Chain}
+use Rattle.bt_words.specs.declared.command.NetworkFamily.{NetworkFamily}
+use Rattle.bt_words.specs.declared.command.NetworkFamily.TheVariants.{Butterfly, Chain}
 use Rattle.bt_top.specs.declared.making.Made as making
 use Rattle.bt_top.specs.declared.answer.Answer.{Answer}
 use Rattle.bt_top.specs.declared.answer.Answer.TheVariants.{Breaks, Yes, No, Recovered, Proved, Broken, GaveUp, Made, LaidOut, Nowhere, NoLayout, Least, Small, Usage, Refused, WideState, CertLine, BadStep, NoVerdict, CertWide, NotBreaking, TooLong, FlowFormula, PlaceFormula, Same, Differ, ShownSame, ShownDiffer, NotDiffering, WidePair}
@@ -92,7 +92,7 @@ cause_name Hint = codes "hint"
 cause_name Unit = codes "unit"
 
 -- the word for a kind of network
-abbrev pub family_name : Family → List ℕ
+abbrev pub family_name : NetworkFamily → List ℕ
 family_name Butterfly = codes "butterfly"
 family_name Chain = codes "chain"
 

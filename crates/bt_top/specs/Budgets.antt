@@ -16,7 +16,7 @@ use Rattle.bt_layout.specs.Grids.{IsWithin}
 use Rattle.bt_layout.specs.Smallest.{request_on}
 use Rattle.bt_words.specs.declared.command.Command.{Command}
 use Rattle.bt_words.specs.declared.command.Command.TheVariants.{Decide, Make, Layout, Smallest, Same}
-use Rattle.bt_words.specs.declared.command.Family.TheVariants.{Butterfly, Chain}
+use Rattle.bt_words.specs.declared.command.NetworkFamily.TheVariants.{Butterfly, Chain}
 use Rattle.bt_words.specs.Commands.{IsCommand}
 use Rattle.bt_top.specs.declared.answer.Answer.{Answer}
 use Rattle.bt_top.specs.Alone.{IsLoneNet}

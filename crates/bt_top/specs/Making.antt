@@ -14,8 +14,8 @@ use Rattle.bt_cnf.specs.declared.limits.Limits.{Limits}
 use Rattle.bt_decide.specs.declared.verdict.Verdict.{Verdict}
 use Rattle.bt_decide.specs.declared.verdict.Verdict.TheVariants.{Yes, No, GaveUp}
 use Rattle.bt_decide.specs.Verdicts.{IsVerdict}
-use Rattle.bt_words.specs.declared.command.Family.{Family}
-use Rattle.bt_words.specs.declared.command.Family.TheVariants.{Butterfly, Chain}
+use Rattle.bt_words.specs.declared.command.NetworkFamily.{NetworkFamily}
+use Rattle.bt_words.specs.declared.command.NetworkFamily.TheVariants.{Butterfly, Chain}
 use Rattle.bt_top.specs.declared.answer.Answer.{Answer}
 use Rattle.bt_top.specs.declared.answer.Answer.TheVariants as answer
 use Rattle.bt_top.specs.declared.refusal.Refusal.TheVariants as refusal
@@ -23,7 +23,7 @@ use Rattle.bt_top.specs.Replies.{Reply}
 use Rattle.bt_top.specs.Steps.{InTurn}
 
 -- what is said of a network that was made
-abbrev pub made_of : Family → ℕ → Network → Bool → Answer
+abbrev pub made_of : NetworkFamily → ℕ → Network → Bool → Answer
 made_of family order n balanced =
     answer.Made (record { family = family; order = order; edges = length n.edges; outputs = n.outputs; balanced = balanced })
 
@@ -47,6 +47,6 @@ abbrev pub IsBalanceDecided : ℕ → Limits → Network → Reply → Type 0
 IsBalanceDecided order limits n reply = (verdict : Verdict) × IsVerdict n Balanced limits verdict × (reply ≡ Ok (balance_told order n verdict))
 
 -- what `make` answers: what is answered to the network of this kind and order, or that the order is none
-abbrev pub IsMade : Family → ℕ → Limits → Reply → Type 0
+abbrev pub IsMade : NetworkFamily → ℕ → Limits → Reply → Type 0
 IsMade Butterfly order limits = InTurn (IsGenerated MOST_STAGES butterfly_net order) gen_told (IsSaidBalanced order)
 IsMade Chain order limits = InTurn (IsGenerated MOST_IN_CHAIN chain_net order) gen_told (IsBalanceDecided order limits)

@@ -15,13 +15,13 @@ use bt_decide::{Verdict, decide};
 use bt_flow::Property;
 use bt_gen::{GenFault, MOST_IN_CHAIN, MOST_STAGES, butterfly, chain};
 use bt_net::Net;
-use bt_words::Family;
+use bt_words::NetworkFamily;
 use std::alloc::{AllocError, Global};
 
 /// A network that is made by a rule, and whether it is balanced.
 #[derive(Clone, Copy)]
 pub struct Made {
-    pub family: Family,
+    pub family: NetworkFamily,
     pub order: u32,
     /// How many edges the network has.
     pub edges: usize,
@@ -42,7 +42,7 @@ impl Made {
 /// The answer of `make` to a kind of network and an order. Each butterfly is balanced, so none is searched.
 pub fn make(
     alloc: Global,
-    family: Family,
+    family: NetworkFamily,
     order: u32,
     limits: Limits,
     choosers: Vec<Box<dyn Chooser>>,
@@ -50,8 +50,8 @@ pub fn make(
     ensures { UnlessMemory alloc_error (IsMade family order limits) result }
 {
     match family {
-        Family::Butterfly => butterfly_made(alloc, order),
-        Family::Chain => chain_made(alloc, order, limits, choosers),
+        NetworkFamily::Butterfly => butterfly_made(alloc, order),
+        NetworkFamily::Chain => chain_made(alloc, order, limits, choosers),
     }
 }
 
@@ -61,7 +61,7 @@ fn butterfly_made(alloc: Global, order: u32) -> Result<Answer, AllocError>
         (InTurn (IsGenerated MOST_STAGES butterfly_net order) gen_told (IsSaidBalanced order)) result }
 {
     match butterfly(alloc, order) {
-        Ok(net) => Ok(made_of(Family::Butterfly, order, &net, true)),
+        Ok(net) => Ok(made_of(NetworkFamily::Butterfly, order, &net, true)),
         Err(fault) => ungenerated(fault),
     }
 }
@@ -113,14 +113,14 @@ fn balance_told(order: u32, net: &Net, verdict: Verdict) -> Answer
     ensures { result ≡ balance_told order net.now verdict }
 {
     match verdict {
-        Verdict::Yes(_) => made_of(Family::Chain, order, net, true),
-        Verdict::No(_) => made_of(Family::Chain, order, net, false),
+        Verdict::Yes(_) => made_of(NetworkFamily::Chain, order, net, true),
+        Verdict::No(_) => made_of(NetworkFamily::Chain, order, net, false),
         Verdict::GaveUp(cause) => Answer::GaveUp(cause),
     }
 }
 
 /// What is said of a network that was made.
-fn made_of(family: Family, order: u32, net: &Net, balanced: bool) -> Answer
+fn made_of(family: NetworkFamily, order: u32, net: &Net, balanced: bool) -> Answer
     ensures { result ≡ made_of family order net.now balanced }
 {
     Answer::Made(Made {

@@ -10,7 +10,7 @@ use bt_io::{Sink, WriteFault, write_all_of, write_pieces};
 use bt_log::Log;
 use bt_theory::GaveUp;
 use bt_trail::{print_pivots, print_wide};
-use bt_words::Family;
+use bt_words::NetworkFamily;
 use itoa::Buffer;
 
 /// Writes the yes certificate for a property.
@@ -83,12 +83,12 @@ pub fn print_made<K: Sink>(made: &Made, sink: &mut K) -> Result<(), WriteFault>
 }
 
 /// The word for a kind of network.
-fn family_name(family: Family) -> &'static str
+fn family_name(family: NetworkFamily) -> &'static str
     ensures { result.now ≡ family_name family }
 {
     match family {
-        Family::Butterfly => "butterfly",
-        Family::Chain => "chain",
+        NetworkFamily::Butterfly => "butterfly",
+        NetworkFamily::Chain => "chain",
     }
 }
 

@@ -12,8 +12,8 @@ use Rattle.bt_words.specs.declared.argument.Argument.TheVariants.{Named, Order, 
 use Rattle.bt_words.specs.declared.given.Given.{Given}
 use Rattle.bt_words.specs.declared.verb.Verb.{Verb}
 use Rattle.bt_words.specs.declared.verb.Verb.TheVariants as verb
-use Rattle.bt_words.specs.declared.command.Family.{Family}
-use Rattle.bt_words.specs.declared.command.Family.TheVariants as family
+use Rattle.bt_words.specs.declared.command.NetworkFamily.{NetworkFamily}
+use Rattle.bt_words.specs.declared.command.NetworkFamily.TheVariants as family
 use Rattle.bt_words.specs.declared.command.Command.{Command}
 use Rattle.bt_words.specs.declared.command.Command.TheVariants.{FlowCheck, Recover, Check, Decide, Make, Layout, CheckLayout, Smallest, FindSmall, FlowFormula, PlaceFormula, Same, CheckSame}
 use Rattle.bt_words.specs.Arguments.{AreArguments}
@@ -141,7 +141,7 @@ command_is words behind v g None e given none = λ c. λ (others, h, is, is_give
     let names : verb_name v ≡ verb_name (verb_of c) = cc in
     none c (same_verb v (verb_of c) names) (subst (λ x. Suits c x) (same_given h g behind (subst (λ x. IsGiven h x) at is_given) given) suits)
 
-same_family : (k l : Family) → is_chain k ≡ is_chain l → k ≡ l
+same_family : (k l : NetworkFamily) → is_chain k ≡ is_chain l → k ≡ l
 same_family family.Butterfly family.Butterfly e = refl
 same_family family.Butterfly family.Chain e = cc
 same_family family.Chain family.Butterfly e = cc

@@ -12,8 +12,8 @@ use Rattle.bt_words.specs.declared.argument.Argument.{Argument}
 use Rattle.bt_words.specs.declared.argument.Argument.TheVariants.{Named, Order, Chain, Learnt, Pivots, Grid, OfTier, Most, Found}
 use Rattle.bt_words.specs.declared.given.Given.{Given}
 use Rattle.bt_cnf.specs.declared.limits.Limits.{Limits}
-use Rattle.bt_words.specs.declared.command.Family.{Family}
-use Rattle.bt_words.specs.declared.command.Family.TheVariants as family
+use Rattle.bt_words.specs.declared.command.NetworkFamily.{NetworkFamily}
+use Rattle.bt_words.specs.declared.command.NetworkFamily.TheVariants as family
 use Rattle.bt_words.specs.declared.command.Command.{Command}
 use Rattle.bt_words.specs.declared.command.Command.TheVariants.{FlowCheck, Recover, Check, Decide, Make, Layout, CheckLayout, Smallest, FindSmall, FlowFormula, PlaceFormula, Same, CheckSame}
 use Rattle.bt_words.specs.declared.command.TheConstants.{USUAL_LEARNT, USUAL_PIVOTS}
@@ -99,7 +99,7 @@ abbrev pub tier_of : Given → Tier
 tier_of g = unwrap_or g.tier Basic
 
 -- a butterfly, or a chain where `--chain` says so
-abbrev pub is_chain : Family → Bool
+abbrev pub is_chain : NetworkFamily → Bool
 is_chain family.Butterfly = false
 is_chain family.Chain = true
 

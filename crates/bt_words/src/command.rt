@@ -19,7 +19,7 @@ pub const USUAL_PIVOTS: u64 = 100_000;
 
 /// The kinds of networks that are made.
 #[derive(Clone, Copy, PartialEq, Eq)]
-pub enum Family {
+pub enum NetworkFamily {
     Butterfly,
     Chain,
 }
@@ -36,7 +36,7 @@ pub enum Command {
     /// `decide`: has the design the property?
     Decide(Property, Limits),
     /// `make`: is the network of this kind and order balanced?
-    Make(Family, u32, Limits),
+    Make(NetworkFamily, u32, Limits),
     /// `layout`: how do parts of this tier on this grid show the network that is asked for, found in at
     /// most so many steps of a log?
     Layout(Rect, Tier, u64),

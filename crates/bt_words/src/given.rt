@@ -10,7 +10,7 @@ ghost use Rattle.bt_words.specs.declared.argument.Argument.{Argument as AnArgume
 ghost use Rattle.bt_words.specs.declared.given.Given.{Given as AGiven};
 
 use crate::argument::{Argument, next_argument};
-use crate::command::{Family, USUAL_LEARNT, USUAL_PIVOTS};
+use crate::command::{NetworkFamily, USUAL_LEARNT, USUAL_PIVOTS};
 use bt_cnf::Limits;
 use bt_flow::Property;
 use bt_model::MOST_ACROSS;
@@ -212,13 +212,13 @@ impl Given {
     }
 
     /// The kind of network that is made.
-    pub fn family(self) -> Family
+    pub fn family(self) -> NetworkFamily
         ensures { is_chain result ≡ self.chain }
     {
         if self.chain {
-            Family::Chain
+            NetworkFamily::Chain
         } else {
-            Family::Butterfly
+            NetworkFamily::Butterfly
         }
     }
 

@@ -31,8 +31,8 @@ use Rattle.bt_parts.specs.declared.part.Kind.TheVariants.{Belt, Entrance, Exit, 
 use Rattle.bt_parts.specs.declared.part.Part.{Part}
 use Rattle.bt_parts.specs.declared.part.Tier.{Tier}
 use Rattle.bt_parts.specs.declared.part.Tier.TheVariants.{Basic, Fast, Express, Turbo}
-use Rattle.bt_entities.specs.declared.name.Family.{Family}
-use Rattle.bt_entities.specs.declared.name.Family.TheVariants.{Belts, Undergrounds, Splitters}
+use Rattle.bt_entities.specs.declared.name.EntityFamily.{EntityFamily}
+use Rattle.bt_entities.specs.declared.name.EntityFamily.TheVariants.{Belts, Undergrounds, Splitters}
 use Rattle.bt_entities.specs.declared.blueprint.TheConstants.{MOST_ENTITIES}
 use Rattle.bt_entities.specs.Members.{IsWhole}
 use Rattle.bt_entities.specs.Names.{name_of}
@@ -115,7 +115,7 @@ abbrev entity_json : ℕ → Part → Json
 entity_json n p = object (member (codes "entity_number") (number (natural n)) (member (codes "name") (text (name_of (family_of p.kind) p.tier)) (member (codes "position") (position_json p)
     (member (codes "direction") (number (natural (direction_value 1 p.dir))) (type_members p.kind)))))
 
-name_simple : (f : Family) (t : Tier) → list_all is_simple (name_of f t) ≡ true
+name_simple : (f : EntityFamily) (t : Tier) → list_all is_simple (name_of f t) ≡ true
 name_simple Belts Basic = refl
 name_simple Belts Fast = refl
 name_simple Belts Express = refl

@@ -4,14 +4,14 @@ use Rattle.std.specs.List.{enumerate_from, join_with_byte}
 use Rattle.bt_parts.specs.declared.part.Kind.{Kind}
 use Rattle.bt_parts.specs.declared.part.Kind.TheVariants.{Belt, Entrance, Exit, Splitter}
 use Rattle.bt_parts.specs.declared.part.Part.{Part}
-use Rattle.bt_entities.specs.declared.name.Family.{Family}
-use Rattle.bt_entities.specs.declared.name.Family.TheVariants.{Belts, Undergrounds, Splitters}
+use Rattle.bt_entities.specs.declared.name.EntityFamily.{EntityFamily}
+use Rattle.bt_entities.specs.declared.name.EntityFamily.TheVariants.{Belts, Undergrounds, Splitters}
 use Rattle.bt_entities.specs.Entities.{direction_value}
 use Rattle.bt_entities.specs.Names.{name_of}
 use Rattle.bt_entities.specs.Places.{width_of, height_of}
 
 -- the family of a kind's names
-abbrev pub family_of : Kind → Family
+abbrev pub family_of : Kind → EntityFamily
 family_of Belt = Belts
 family_of Entrance = Undergrounds
 family_of Exit = Undergrounds

@@ -8,7 +8,7 @@ use Rattle.bt_parts.specs.declared.part.Tier.{Tier}
 use Rattle.bt_entities.specs.declared.fault.EntityFault.{EntityFault}
 use Rattle.bt_entities.specs.declared.fault.Member.{Member}
 use Rattle.bt_entities.specs.declared.fault.Member.TheVariants.{InputPriority, OutputPriority}
-use Rattle.bt_entities.specs.declared.name.Family.{Family}
+use Rattle.bt_entities.specs.declared.name.EntityFamily.{EntityFamily}
 use Rattle.bt_entities.specs.declared.piece.Piece.{Piece}
 use Rattle.bt_entities.specs.declared.piece.Reading.{Reading}
 use Rattle.bt_entities.specs.declared.piece.Reading.TheVariants.{Layouts, Designs}
@@ -67,7 +67,7 @@ IsFirstShift major first v None = v ≡ first
 IsFirstShift major first v (Some shift) = SetsShift major first shift
 
 -- the family and the tier of the entity's name, or its lowest fault, whatever the rest of the blueprint is
-abbrev pub IsNameRead : ℕ → Json → Result (Family × Tier) EntityFault → Type 0
+abbrev pub IsNameRead : ℕ → Json → Result (EntityFamily × Tier) EntityFault → Type 0
 IsNameRead i v (Ok named) = HasText v (codes "name") (name_of named.0 named.1)
 IsNameRead i v (Err fault) = (members : List Member) (major : ℕ) (first : Json) → IsLowest members major first i v fault
 

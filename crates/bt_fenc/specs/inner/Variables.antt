@@ -2,12 +2,12 @@
 use Rattle.std.specs.List.{range_with_len}
 use Rattle.std.specs.Prelude.{◌≡◌, ℕ, ◌+◌, ◌*◌, ◌-◌, ◌<◌, ◌^◌, nat_lt, List, [], ◌∷◌, ◌++◌, length, map, flat_map, slice_index_or, if◌then◌else◌}
 use Rattle.bt_net.specs.Network.{Network}
-use Rattle.bt_fenc.specs.declared.claim.Side.{Side}
-use Rattle.bt_fenc.specs.declared.claim.Side.TheVariants.{Out, In}
-use Rattle.bt_fenc.specs.declared.claim.Pair.{Pair}
-use Rattle.bt_fenc.specs.declared.claim.Pair.TheVariants.{Even, Empty, Full, Loaded, Filled}
-use Rattle.bt_fenc.specs.declared.family.Family.{Family}
-use Rattle.bt_fenc.specs.declared.family.Family.TheVariants as of
+use Rattle.bt_fenc.specs.declared.state_literal.Side.{Side}
+use Rattle.bt_fenc.specs.declared.state_literal.Side.TheVariants.{Out, In}
+use Rattle.bt_fenc.specs.declared.state_literal.Pair.{Pair}
+use Rattle.bt_fenc.specs.declared.state_literal.Pair.TheVariants.{Even, Empty, Full, Loaded, Filled}
+use Rattle.bt_fenc.specs.declared.clause_family.ClauseFamily.{ClauseFamily}
+use Rattle.bt_fenc.specs.declared.clause_family.ClauseFamily.TheVariants as of
 use Rattle.bt_fenc.specs.declared.variables.PairVars.{PairVars}
 use Rattle.bt_fenc.specs.Pairs.{pair_clause, pairs_at}
 use Rattle.bt_fenc.specs.Families.{bounds}
@@ -33,7 +33,7 @@ abbrev pub side_starts : Network → Side → ℕ → List ℕ
 side_starts n side first = map (λ k. first + side_rows n side k) (range_with_len 0 (n.splitters + 1))
 
 -- the number of variables before the places of a family, which has these families before it
-abbrev pub vars_till : Network → List Family → Family → ℕ
+abbrev pub vars_till : Network → List ClauseFamily → ClauseFamily → ℕ
 vars_till n before f = length n.edges + length (rows_in (clauses_till n before f 0))
 
 -- the variables are those of the network's pairs

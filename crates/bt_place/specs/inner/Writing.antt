@@ -3,7 +3,7 @@ use Rattle.std.specs.Prelude.{◌≡◌, ◌<◌, ℕ, true, false, List, [], �
 use Rattle.bt_cnf.specs.declared.literal.Lit.{Lit}
 use Rattle.bt_cnf.specs.Formulas.{FormulaParts}
 use Rattle.bt_model.specs.Requests.{LayoutRequest, IsRequest}
-use Rattle.bt_rules.specs.declared.draft.Claim.{Claim}
+use Rattle.bt_rules.specs.declared.draft.RuleFact.{RuleFact}
 use Rattle.bt_rules.specs.declared.fact.Fact.{Fact}
 use Rattle.bt_rules.specs.Rules.{Rule}
 use Rattle.bt_place.specs.Numbering.{Sizes, variables, variable_of}
@@ -26,9 +26,9 @@ abbrev pub with_rules : Sizes → FormulaParts → List Rule → FormulaParts
 with_rules z f rules = record f { clauses = f.clauses ++ map (clause_of z) rules }
 
 -- the literal of a claim, where it is one of those that are given
-abbrev pub given_literal : Sizes → Claim → List Lit
+abbrev pub given_literal : Sizes → RuleFact → List Lit
 given_literal z claim = if claim.follows then [] else literal z false claim.fact ∷ []
 
 -- the literal of a claim, where it is one of those of which one follows
-abbrev pub following_literal : Sizes → Claim → List Lit
+abbrev pub following_literal : Sizes → RuleFact → List Lit
 following_literal z claim = if claim.follows then literal z true claim.fact ∷ [] else []

@@ -2,7 +2,7 @@
 use super::{fields, tier_named};
 use bt_flow::Property;
 use bt_parts::{Rect, Tier};
-use bt_words::{Command, Family, Limits, USUAL_LEARNT, USUAL_PIVOTS, command_of};
+use bt_words::{Command, Limits, NetworkFamily, USUAL_LEARNT, USUAL_PIVOTS, command_of};
 use std::alloc::{AllocError, Global};
 use std::test::Fail;
 
@@ -140,10 +140,10 @@ fn property(name: &str) -> Property {
     }
 }
 
-fn family(name: &str) -> Family {
+fn family(name: &str) -> NetworkFamily {
     match name {
-        "chain" => Family::Chain,
-        _ => Family::Butterfly,
+        "chain" => NetworkFamily::Chain,
+        _ => NetworkFamily::Butterfly,
     }
 }
 

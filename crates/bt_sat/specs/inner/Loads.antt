@@ -5,7 +5,7 @@ use Rattle.bt_cnf.specs.declared.literal.Lit.{Lit}
 use Rattle.bt_log.specs.Validity.{clause_at}
 use Rattle.bt_sat.specs.declared.assignment.Assignment.{Assignment}
 use Rattle.bt_sat.specs.declared.search.Search.{Search}
-use Rattle.bt_sat.specs.declared.kept.Watch.{Watch}
+use Rattle.bt_sat.specs.declared.clause_pool.Watch.{Watch}
 use Rattle.bt_sat.specs.inner.Attending.{first, second}
 use Rattle.bt_sat.specs.inner.Levels.{IsOrdered, IsHeld, IsInConflict}
 use Rattle.bt_sat.specs.inner.Reasons.{lit_at}

@@ -6,17 +6,17 @@ use Rattle.bt_log.specs.Logs.{Step, Learnt}
 use Rattle.bt_log.specs.Validity.{AreValid, IsValidStep}
 use Rattle.bt_sat.specs.Freshness.{IsFreshStep}
 use Rattle.bt_sat.specs.Solving.{AreFresh, AreNonempty}
-use Rattle.bt_sat.specs.declared.known.Known.{Known}
+use Rattle.bt_sat.specs.declared.logged_formula.LoggedFormula.{LoggedFormula}
 use Rattle.bt_sat.specs.declared.progress.Progress.{Progress}
 use Rattle.bt_sat.specs.declared.progress.Learning.{Learning}
 use Rattle.bt_sat.specs.declared.progress.Learning.TheVariants.{GoesOn, Refutes, Spent}
 use Rattle.bt_sat.specs.declared.search.Search.{Search}
-use Rattle.bt_sat.specs.inner.Known.{clauses_in}
+use Rattle.bt_sat.specs.inner.LoggedFormula.{clauses_in}
 use Rattle.bt_sat.specs.inner.Levels.{IsReady, IsInConflict}
 use Rattle.bt_sat.specs.inner.Truths.{unset}
 
 -- the log follows the formula, its steps are valid, fresh and not empty, and no more than the limit says
-pub record IsLogged (known : Known) (limit : ℕ) : Type 0 where
+pub record IsLogged (known : LoggedFormula) (limit : ℕ) : Type 0 where
   pub formula : IsFormula known.formula
   pub first : known.log.first ≡ length known.formula.clauses
   pub valid : AreValid known.formula known.formula.clauses known.log.steps
@@ -25,7 +25,7 @@ pub record IsLogged (known : Known) (limit : ℕ) : Type 0 where
   pub within : length known.log.steps ≤ limit
 
 -- one more step is valid and fresh
-pub record IsNextStep (known : Known) (step : Step) : Type 0 where
+pub record IsNextStep (known : LoggedFormula) (step : Step) : Type 0 where
   pub valid : IsValidStep known.formula (clauses_in known) step
   pub fresh : IsFreshStep (clauses_in known) step
 
@@ -41,7 +41,7 @@ pub record IsRunning (p : Progress) : Type 0 where
   pub stands : Stands (clauses_in p.known) p.settled p.search p.conflict
 
 -- the log has one step more
-pub record LogsStep (old new : Known) (step : Step) : Type 0 where
+pub record LogsStep (old new : LoggedFormula) (step : Step) : Type 0 where
   pub formula : new.formula ≡ old.formula
   pub log : new.log ≡ record { first = old.log.first; steps = old.log.steps ++ step ∷ [] }
 

@@ -7,7 +7,7 @@ use Rattle.bt_sat.specs.Serving.{ServesOn}
 use Rattle.bt_sat.specs.Solving.{IsLearnt}
 use Rattle.bt_sat.specs.declared.cdcl.Found.{Found}
 use Rattle.bt_sat.specs.declared.cdcl.Found.TheVariants.{Model, Refuted, Spent}
-use Rattle.bt_sat.specs.declared.known.Known.{Known}
+use Rattle.bt_sat.specs.declared.logged_formula.LoggedFormula.{LoggedFormula}
 use Rattle.bt_sat.specs.declared.progress.Progress.{Progress}
 use Rattle.bt_sat.specs.inner.Choices.{IsComplete, KeepsLog}
 use Rattle.bt_sat.specs.inner.Progressing.{IsLogged, IsNextStep, IsRunning, LogsStep}
@@ -25,7 +25,7 @@ pub record SearchesOn (old : Progress) (waiting : List (Option (List ℕ))) (new
 
 -- the last step is the empty clause, and those before are as they are to be
 pub record IsRefuted (p : Progress) : Type 0 where
-  pub before : Known
+  pub before : LoggedFormula
   pub hints : List ℕ
   pub logged : IsLogged before p.limit
   pub room : length before.log.steps < p.limit

@@ -1,6 +1,6 @@
 use Rattle.std.proofs.Common.{ℕ, List, [], refl, arith}
 use Rattle.std.specs.List.{flat_map, range_with_len}
-use Rattle.bt_fenc.specs.declared.claim.Claim.{Claim}
+use Rattle.bt_fenc.specs.declared.state_literal.StateLiteral.{StateLiteral}
 use Rattle.bt_fenc.specs.Families.{clauses_at, places}
 use Rattle.bt_fenc.specs.inner.Variables.{at_in}
 use Rattle.bt_fenc.specs.inner.Within.{AreWithin}
@@ -24,6 +24,6 @@ add_at-requires-clause-within c =
 
 pub loop-place-preserved : goal.loop-place-preserved
 loop-place-preserved c =
-    let f : ℕ → List (List Claim) = clauses_at c.args.net.now c.args.family in
+    let f : ℕ → List (List StateLiteral) = clauses_at c.args.net.now c.args.family in
     added_more (at_in c.args.pairs.now) c.args.formula.now c.loop-place.formula c.add_at.new.formula _ _ _ c.loop-place.invariant c.in_ok-add_at.ensures
     (place_more f [] (flat_map f (range_with_len 0 c.loop-place.place)) _ c.loop-place.place refl refl)

@@ -1,6 +1,6 @@
 use Rattle.std.proofs.Common.{◌≡◌, ◌∷◌, [], map}
 use Rattle.std.specs.List.{range_with_len}
-use Rattle.bt_fenc.specs.declared.claim.Claim.TheVariants.{Says}
+use Rattle.bt_fenc.specs.declared.state_literal.StateLiteral.TheVariants.{Says}
 use Rattle.bt_fenc.specs.Columns.{at_least, load_column, cap_at, input_edge}
 use Rattle.bt_fenc.specs.inner.Adding.{with_clauses}
 use Rattle.bt_fenc.specs.inner.Variables.{at_in}

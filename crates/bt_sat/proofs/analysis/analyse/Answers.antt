@@ -1,6 +1,6 @@
 use Rattle.std.proofs.Common.{◌≡◌, arith, length, subst}
 use Rattle.bt_sat.specs.inner.Analysing.{IsTracing}
-use Rattle.bt_sat.specs.inner.Known.{clauses_in}
+use Rattle.bt_sat.specs.inner.LoggedFormula.{clauses_in}
 use Rattle.bt_sat.proofs.Deriving
 use Rattle.bt_sat.proofs.analysis.analyse.Goals as goal
 

@@ -1,5 +1,5 @@
 use Rattle.bt_sat.specs.inner.Analysing.{IsTracing}
-use Rattle.bt_sat.specs.inner.Known.{clauses_in}
+use Rattle.bt_sat.specs.inner.LoggedFormula.{clauses_in}
 use Rattle.bt_sat.proofs.analysis.analyse.Given as goal
 
 abbrev pub invariant-loop-place : goal.invariant-loop-place

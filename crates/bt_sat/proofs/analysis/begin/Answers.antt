@@ -3,7 +3,7 @@ use Rattle.std.specs.List.{All}
 use Rattle.bt_cnf.specs.declared.literal.Lit.{Lit}
 use Rattle.bt_log.specs.Validity.{clause_at}
 use Rattle.bt_sat.specs.inner.Analysing.{IsTracing, MarksSeen}
-use Rattle.bt_sat.specs.inner.Known.{clauses_in}
+use Rattle.bt_sat.specs.inner.LoggedFormula.{clauses_in}
 use Rattle.bt_sat.proofs.Deriving
 use Rattle.bt_sat.proofs.analysis.begin.Goals as goal
 

@@ -1,6 +1,6 @@
 use Rattle.std.proofs.Common.{length, refl, sym, subst, ◌∙◌, Some}
 use Rattle.bt_cnf.specs.declared.literal.Lit.{Lit}
-use Rattle.bt_sat.specs.inner.Known.{clauses_in}
+use Rattle.bt_sat.specs.inner.LoggedFormula.{clauses_in}
 use Rattle.bt_sat.specs.inner.Levels.{IsReady}
 use Rattle.bt_sat.specs.inner.Orders.{HasUnset, IsNext}
 use Rattle.bt_sat.specs.inner.Progressing.{Stands}

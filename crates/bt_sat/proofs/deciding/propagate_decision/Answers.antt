@@ -1,5 +1,5 @@
 use Rattle.std.proofs.Common.{◌∙◌, ap, sym}
-use Rattle.bt_sat.specs.declared.known.Known.{Known}
+use Rattle.bt_sat.specs.declared.logged_formula.LoggedFormula.{LoggedFormula}
 use Rattle.bt_sat.proofs.Listing.{grows_lists}
 use Rattle.bt_sat.proofs.deciding.propagate_decision.Goals as goal
 
@@ -8,7 +8,7 @@ returns-clause-propagates c =
     let p = c.args.progress.now in
     let q = c.propagate_all.new.progress in
     let propagates = c.in_ok-propagate_all.ensures.propagates in
-    let size = propagates.running.variables ∙ ap (λ (k : Known). k.formula.vars) propagates.known ∙ sym c.requires.running.variables in record {
+    let size = propagates.running.variables ∙ ap (λ (k : LoggedFormula). k.formula.vars) propagates.known ∙ sym c.requires.running.variables in record {
       keeps = record { known = propagates.known; limit = propagates.limit; served = propagates.served };
       running = propagates.running;
       choice = record {

@@ -2,7 +2,7 @@ use Rattle.std.proofs.Common.{◌≡◌, length, arith, Some, sym, subst, ◌∙
 use Rattle.std.proofs.lemmas.List.{get_or_default}
 use Rattle.bt_sat.specs.inner.Assigning.{Assigns}
 use Rattle.bt_sat.specs.inner.Attending.{no_lit}
-use Rattle.bt_sat.specs.inner.Known.{clauses_in}
+use Rattle.bt_sat.specs.inner.LoggedFormula.{clauses_in}
 use Rattle.bt_sat.specs.inner.Propagating.{Keeps}
 use Rattle.bt_sat.specs.inner.Reasons.{lit_at}
 use Rattle.bt_sat.proofs.Adopted

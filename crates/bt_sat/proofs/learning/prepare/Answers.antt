@@ -4,7 +4,7 @@ use Rattle.std.specs.List.Sorted.{IsNonDecreasing}
 use Rattle.std.proofs.lemmas.List.{get_or_default}
 use Rattle.bt_sat.specs.inner.Analysing.{falses_at}
 use Rattle.bt_sat.specs.inner.Asserting.{IsPrepared}
-use Rattle.bt_sat.specs.inner.Known.{clauses_in}
+use Rattle.bt_sat.specs.inner.LoggedFormula.{clauses_in}
 use Rattle.bt_sat.specs.inner.Levels.{IsAssertionLevel}
 use Rattle.bt_sat.proofs.Asserted
 use Rattle.bt_sat.proofs.Leveled.{start_rises}

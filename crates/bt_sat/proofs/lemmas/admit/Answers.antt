@@ -2,7 +2,7 @@ use Rattle.std.proofs.Common.{rules, ◌≡◌, ◌<◌, length, arith, sym, sub
 use Rattle.std.proofs.lemmas.List.{get_or_default}
 use Rattle.bt_sat.specs.declared.assignment.Assignment.{Assignment}
 use Rattle.bt_sat.specs.inner.Attending.{no_lit}
-use Rattle.bt_sat.specs.inner.Known.{clauses_in}
+use Rattle.bt_sat.specs.inner.LoggedFormula.{clauses_in}
 use Rattle.bt_sat.specs.inner.Lemmas.{Admits, IsFailing}
 use Rattle.bt_sat.specs.inner.Propagating.{Keeps}
 use Rattle.bt_sat.specs.inner.Reasons.{lit_at}

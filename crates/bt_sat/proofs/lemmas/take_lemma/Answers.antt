@@ -1,7 +1,7 @@
 use Rattle.std.proofs.Common.{◌≡◌, [], ◌∷◌, ◌++◌, length, arith, refl, sym, subst, ◌∙◌}
 use Rattle.bt_log.specs.Logs.{Lemma}
-use Rattle.bt_sat.specs.declared.known.Known.{Known}
-use Rattle.bt_sat.specs.inner.Known.{clauses_in}
+use Rattle.bt_sat.specs.declared.logged_formula.LoggedFormula.{LoggedFormula}
+use Rattle.bt_sat.specs.inner.LoggedFormula.{clauses_in}
 use Rattle.bt_sat.specs.inner.Lemmas.{Admits, CanAdmit}
 use Rattle.bt_sat.specs.inner.Levels.{IsReady}
 use Rattle.bt_sat.specs.inner.Progressing.{LogsStep, Stands}
@@ -29,7 +29,7 @@ returns-clause-takes c =
     let clause = c.args.lits.now in
     let step = Lemma clause c.args.weights.now in
     let lits = c.backjump_for.new.learnt_clause.lits.items in
-    let known : Known = record { formula = p.known.formula; log = c.add_lemma.new.self } in
+    let known : LoggedFormula = record { formula = p.known.formula; log = c.add_lemma.new.self } in
     let some = Taken.some_lits p.known.formula clause c.args.weights.now c.requires.next.valid in
     let logs : LogsStep p.known known step = record { formula = refl; log = c.in_ok-add_lemma.ensures } in
     let conflict = c.in_ok-progress.field-0 in

@@ -1,7 +1,7 @@
 use Rattle.std.proofs.Common.{◌<◌, arith, length, refl, subst}
 use Rattle.std.specs.Prelude.{Contains}
 use Rattle.std.proofs.lemmas.List.{get_or_default}
-use Rattle.bt_sat.specs.declared.kept.Watch.{Watch}
+use Rattle.bt_sat.specs.declared.clause_pool.Watch.{Watch}
 use Rattle.bt_sat.specs.inner.Propagating.{root_of}
 use Rattle.bt_sat.specs.inner.Truths.{IsTrueIn}
 use Rattle.bt_sat.proofs.search.find_next.Goals as goal

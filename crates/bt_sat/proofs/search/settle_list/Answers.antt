@@ -2,7 +2,7 @@ use Rattle.std.proofs.Common.{◌<◌, ◌+◌, ◌-◌, ℕ, arith, [], ap, len
 use Rattle.std.specs.Global.{Vec}
 use Rattle.std.proofs.lemmas.List.{get_or_default}
 use Rattle.std.specs.List.{All}
-use Rattle.bt_sat.specs.declared.kept.Watch.{Watch}
+use Rattle.bt_sat.specs.declared.clause_pool.Watch.{Watch}
 use Rattle.bt_sat.specs.declared.search.Next.TheVariants.{Done}
 use Rattle.bt_sat.specs.inner.Propagating.{with_watches, root_of, Advances, ComesTo, Finds}
 use Rattle.bt_sat.specs.inner.Roots.{bound_of}

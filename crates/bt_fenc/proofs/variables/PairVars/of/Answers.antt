@@ -1,5 +1,5 @@
 use Rattle.std.proofs.Common.{◌≡◌, ◌+◌, ◌*◌, length, ap, arith}
-use Rattle.bt_fenc.specs.declared.claim.Side.TheVariants.{Out, In}
+use Rattle.bt_fenc.specs.declared.state_literal.Side.TheVariants.{Out, In}
 use Rattle.bt_fenc.specs.declared.variables.PairVars.{PairVars}
 use Rattle.bt_fenc.specs.inner.Variables.{side_rows}
 use Rattle.bt_fenc.proofs.Kept.{last_start, side_few, kept_all}

@@ -1,7 +1,7 @@
 use Rattle.std.proofs.Common.{◌∷◌, ◌++◌, [], ap, ◌∙◌}
 use Rattle.std.proofs.lemmas.Result.{err_from_is_err_and}
 use Rattle.bt_log.specs.Logs.{LogParts, Lemma}
-use Rattle.bt_log.specs.declared.kept.Kept.TheVariants as kept
+use Rattle.bt_log.specs.declared.pooled_step.PooledStep.TheVariants as kept
 use Rattle.bt_log.specs.inner.Keeping.{kept_steps}
 use Rattle.bt_log.proofs.KeptLists.{grows_not, are_kept, same_steps, step_added, kept_added, keeps_lemma}
 use Rattle.bt_log.proofs.log.Log.add_lemma.Goals as goal

@@ -1,6 +1,6 @@
 use Rattle.std.proofs.Common.{List, set, ap, ◌∙◌}
 use Rattle.std.specs.Global.{Vec}
-use Rattle.bt_sat.specs.declared.kept.Watch.{Watch}
+use Rattle.bt_sat.specs.declared.clause_pool.Watch.{Watch}
 use Rattle.bt_sat.specs.inner.Codes.{code_of}
 use Rattle.bt_sat.specs.inner.Watchers.{lists_of, with_list}
 use Rattle.bt_sat.specs.inner.WatchersParts.{WatchersParts}

@@ -12,7 +12,7 @@ pub struct Hints;
 
 /// A step as a log keeps it.
 #[derive(Clone, Copy)]
-pub enum Kept {
+pub enum PooledStep {
     /// A lemma's literals and weights.
     Lemma {
         lits: Id<Literals>,

@@ -48,7 +48,7 @@ pub enum Pair {
 
 /// What a literal says of a state.
 #[derive(Drop)]
-pub enum Claim {
+pub enum StateLiteral {
     /// An edge is backed, or it isn't.
     Mark { edge: usize, backed: bool },
     /// A row holds of the flows, loads and rooms. It becomes a variable of its own.

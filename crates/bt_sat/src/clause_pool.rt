@@ -10,7 +10,7 @@ use std::marker::Model;
 pub struct Watched;
 
 /// These clauses.
-pub type Kept = Pool<Packed, Watched>;
+pub type ClausePool = Pool<Packed, Watched>;
 
 /// The id of a kept clause, in four bytes.
 #[derive(Clone, Copy)]
@@ -40,7 +40,7 @@ impl PackedId {
     }
 
     /// The same id.
-    pub fn unpack(self, clauses: &Kept) -> Id<Watched>
+    pub fn unpack(self, clauses: &ClausePool) -> Id<Watched>
         requires { self < length clauses.now }
         ensures { result ≡ self }
     {

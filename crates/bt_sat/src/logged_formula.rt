@@ -3,7 +3,7 @@ ghost use Rattle.std.specs.Prelude.{◌≡◌, ◌<◌, length, IfOk};
 ghost use Rattle.bt_log.specs.Logs.{clause_of};
 ghost use Rattle.bt_log.specs.Views.{step_of};
 ghost use Rattle.bt_log.specs.Validity.{clause_at};
-ghost use Rattle.bt_sat.specs.inner.Known.{clauses_in};
+ghost use Rattle.bt_sat.specs.inner.LoggedFormula.{clauses_in};
 
 use bt_cnf::{Formula, Lit};
 use bt_log::{Log, StepView};
@@ -11,12 +11,12 @@ use std::alloc::AllocError;
 
 /// A formula, and the log of the steps that follow it.
 #[derive(Drop)]
-pub struct Known {
+pub struct LoggedFormula {
     pub formula: Formula,
     pub log: Log,
 }
 
-impl Known {
+impl LoggedFormula {
     /// The number of the clause that comes next. A number that doesn't fit is want of memory.
     pub fn next(&self) -> Result<usize, AllocError>
         ensures { IfOk result (λ number. number ≡ length (clauses_in self.now)) }

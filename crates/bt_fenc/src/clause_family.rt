@@ -2,7 +2,7 @@
 
 /// A family of clauses: pairs of a row and its opposite, a law, or what makes a load or a room admissible.
 #[derive(Clone, Copy)]
-pub enum Family {
+pub enum ClauseFamily {
     /// The flow of each edge is from 0 to its cap.
     Flows,
     /// The load of each input is from 0 to the cap of its edge.
@@ -34,23 +34,23 @@ pub enum Family {
 }
 
 /// The families that mention no pair by its name, in the order of their clauses.
-pub const NAMELESS: [Family; 9] = [
-    Family::Flows,
-    Family::Loads,
-    Family::Rooms,
-    Family::Conserve,
-    Family::OutPairs,
-    Family::InPairs,
-    Family::FullPairs,
-    Family::LoadPairs,
-    Family::RoomPairs,
+pub const NAMELESS: [ClauseFamily; 9] = [
+    ClauseFamily::Flows,
+    ClauseFamily::Loads,
+    ClauseFamily::Rooms,
+    ClauseFamily::Conserve,
+    ClauseFamily::OutPairs,
+    ClauseFamily::InPairs,
+    ClauseFamily::FullPairs,
+    ClauseFamily::LoadPairs,
+    ClauseFamily::RoomPairs,
 ];
 
 /// The families after these, which name pairs.
-pub const LAWS: [Family; 5] = [
-    Family::EvenOut,
-    Family::EvenIn,
-    Family::Backing,
-    Family::Inputs,
-    Family::Outputs,
+pub const LAWS: [ClauseFamily; 5] = [
+    ClauseFamily::EvenOut,
+    ClauseFamily::EvenIn,
+    ClauseFamily::Backing,
+    ClauseFamily::Inputs,
+    ClauseFamily::Outputs,
 ];

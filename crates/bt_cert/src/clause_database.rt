@@ -15,12 +15,12 @@ pub struct Added;
 
 /// A formula, and the clauses that steps added.
 #[derive(Drop)]
-pub struct Known<'a> {
+pub struct ClauseDatabase<'a> {
     formula: &'a Formula,
     added: Pool<Lit, Added>,
 }
 
-impl<'a> Model for Known<'a> {
+impl<'a> Model for ClauseDatabase<'a> {
     ghost use Rattle.bt_cert.specs.inner.Checking.{Checking};
     ghost use Rattle.bt_cert.specs.inner.Knowing.{known_of, IsKnown};
 
@@ -31,13 +31,13 @@ impl<'a> Model for Known<'a> {
     ghost invariant = { λ k. IsKnown k.formula.now k.added };
 }
 
-impl<'a> Known<'a> {
+impl<'a> ClauseDatabase<'a> {
     /// The clauses of a formula.
-    pub fn new(alloc: Global, formula: &'a Formula) -> Result<Known<'a>, AllocError>
+    pub fn new(alloc: Global, formula: &'a Formula) -> Result<ClauseDatabase<'a>, AllocError>
         requires { IsFormula formula.now }
         ensures { IfOk result (λ known. known ≡ start_of formula.now) }
     {
-        Ok(Known {
+        Ok(ClauseDatabase {
             formula,
             added: Pool::new(alloc)?,
         })

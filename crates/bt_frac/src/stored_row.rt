@@ -9,7 +9,7 @@ use std::alloc::{AllocError, Global};
 /// The parts of a row. Most rows have one or two terms and a whole number as their bound: these need no block of memory,
 /// and their relation and bound lie in the room that the terms' alignment leaves.
 #[derive(Drop)]
-pub enum Kept {
+pub enum StoredRow {
     /// A row of one term.
     One {
         relation: Relation,
@@ -30,28 +30,28 @@ pub enum Kept {
     },
 }
 
-impl Kept {
+impl StoredRow {
     /// The parts of a row with these terms.
     pub fn copied(
         alloc: Global,
         terms: &[(usize, Frac)],
         relation: Relation,
         bound: Frac,
-    ) -> Result<Kept, AllocError>
+    ) -> Result<StoredRow, AllocError>
         ensures { IfOk result (λ kept. parts_of kept
             ≡ record { terms = terms.now; relation = relation; bound = bound }) }
     {
         if let Some(bound) = bound.as_whole() {
             match terms {
                 [only] => {
-                    return Ok(Kept::One {
+                    return Ok(StoredRow::One {
                         relation,
                         bound,
                         terms: [*only],
                     });
                 }
                 [first, second] => {
-                    return Ok(Kept::Two {
+                    return Ok(StoredRow::Two {
                         relation,
                         bound,
                         terms: [*first, *second],
@@ -60,7 +60,7 @@ impl Kept {
                 _ => {}
             }
         }
-        Ok(Kept::Many {
+        Ok(StoredRow::Many {
             relation,
             terms: Vec::from_slice(alloc, terms)?,
             bound,
@@ -72,9 +72,9 @@ impl Kept {
         ensures { result.now ≡ (parts_of self.now).terms }
     {
         match self {
-            Kept::One { terms, .. } => terms,
-            Kept::Two { terms, .. } => terms,
-            Kept::Many { terms, .. } => terms,
+            StoredRow::One { terms, .. } => terms,
+            StoredRow::Two { terms, .. } => terms,
+            StoredRow::Many { terms, .. } => terms,
         }
     }
 
@@ -83,8 +83,9 @@ impl Kept {
         ensures { result ≡ (parts_of self.now).relation }
     {
         match self {
-            Kept::One { relation, .. } | Kept::Two { relation, .. } | Kept::Many { relation, .. } =>
-                *relation,
+            StoredRow::One { relation, .. }
+            | StoredRow::Two { relation, .. }
+            | StoredRow::Many { relation, .. } => *relation,
         }
     }
 
@@ -93,8 +94,8 @@ impl Kept {
         ensures { result ≡ (parts_of self.now).bound }
     {
         match self {
-            Kept::One { bound, .. } | Kept::Two { bound, .. } => Frac::whole(*bound),
-            Kept::Many { bound, .. } => *bound,
+            StoredRow::One { bound, .. } | StoredRow::Two { bound, .. } => Frac::whole(*bound),
+            StoredRow::Many { bound, .. } => *bound,
         }
     }
 }
