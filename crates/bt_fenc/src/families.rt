@@ -4,7 +4,7 @@ ghost use Rattle.bt_flow.specs.Ports.{ArePorts};
 ghost use Rattle.bt_frac.specs.declared.row.Relation.TheVariants as Relation;
 ghost use Rattle.bt_fenc.specs.Columns as columns;
 ghost use Rattle.bt_fenc.specs.Families as families;
-ghost use Rattle.bt_fenc.specs.declared.clause_family.ClauseFamily.TheVariants as ClauseFamily;
+ghost use Rattle.bt_fenc.specs.declared.clause_family.ClauseFamily.TheVariants as of;
 ghost use Rattle.bt_fenc.specs.Pairs as of_pairs;
 ghost use Rattle.bt_fenc.specs.inner.Adding.{with_clauses};
 ghost use Rattle.bt_fenc.specs.inner.Variables.{at_in, HasColumns};
@@ -90,7 +90,7 @@ fn add_conserve(
     requires ports { ArePorts net.now ports.now }
     requires splitter { splitter < net.now.splitters }
     ensures { OnOk result (formula.new
-        ≡ with_clauses (at_in pairs.now) formula.old (families.clauses_at net.now ClauseFamily.Conserve splitter)) }
+        ≡ with_clauses (at_in pairs.now) formula.old (families.clauses_at net.now of.Conserve splitter)) }
 {
     let row = conserve_row(alloc, net, ports, splitter)?;
     add_row(formula, pairs, row)
@@ -108,9 +108,9 @@ fn add_backing_at(
     requires ports { ArePorts net.now ports.now }
     requires splitter { splitter < net.now.splitters }
     requires within { AreWithin (at_in pairs.now) formula.old.vars
-        (families.clauses_at net.now ClauseFamily.Backing splitter) }
+        (families.clauses_at net.now of.Backing splitter) }
     ensures { OnOk result (formula.new
-        ≡ with_clauses (at_in pairs.now) formula.old (families.clauses_at net.now ClauseFamily.Backing splitter)) }
+        ≡ with_clauses (at_in pairs.now) formula.old (families.clauses_at net.now of.Backing splitter)) }
 {
     let entering = numbers_of(alloc, ports.into[splitter])?;
     let leaving = numbers_of(alloc, ports.out_of[splitter])?;
@@ -129,7 +129,7 @@ fn add_load(
     requires ports { ArePorts net.now ports.now }
     requires input { input < net.now.inputs }
     ensures { OnOk result (formula.new
-        ≡ with_clauses (at_in pairs.now) formula.old (families.clauses_at net.now ClauseFamily.Loads input)) }
+        ≡ with_clauses (at_in pairs.now) formula.old (families.clauses_at net.now of.Loads input)) }
 {
     let edge = input_edge(net, ports, input);
     let column = load_column(net, input);
@@ -148,7 +148,7 @@ fn add_room(
     requires ports { ArePorts net.now ports.now }
     requires output { output < net.now.outputs }
     ensures { OnOk result (formula.new
-        ≡ with_clauses (at_in pairs.now) formula.old (families.clauses_at net.now ClauseFamily.Rooms output)) }
+        ≡ with_clauses (at_in pairs.now) formula.old (families.clauses_at net.now of.Rooms output)) }
 {
     let edge = output_edge(net, ports, output);
     let column = room_column(net, output);
@@ -195,9 +195,9 @@ fn add_input(
     requires ports { ArePorts net.now ports.now }
     requires input { input < net.now.inputs }
     requires within { AreWithin (at_in pairs.now) formula.old.vars
-        (families.clauses_at net.now ClauseFamily.Inputs input) }
+        (families.clauses_at net.now of.Inputs input) }
     ensures { OnOk result (formula.new
-        ≡ with_clauses (at_in pairs.now) formula.old (families.clauses_at net.now ClauseFamily.Inputs input)) }
+        ≡ with_clauses (at_in pairs.now) formula.old (families.clauses_at net.now of.Inputs input)) }
 {
     let edge = input_edge(net, ports, input);
     let column = load_column(net, input);
@@ -217,9 +217,9 @@ fn add_output(
     requires ports { ArePorts net.now ports.now }
     requires output { output < net.now.outputs }
     requires within { AreWithin (at_in pairs.now) formula.old.vars
-        (families.clauses_at net.now ClauseFamily.Outputs output) }
+        (families.clauses_at net.now of.Outputs output) }
     ensures { OnOk result (formula.new
-        ≡ with_clauses (at_in pairs.now) formula.old (families.clauses_at net.now ClauseFamily.Outputs output)) }
+        ≡ with_clauses (at_in pairs.now) formula.old (families.clauses_at net.now of.Outputs output)) }
 {
     let edge = output_edge(net, ports, output);
     let column = room_column(net, output);
@@ -278,7 +278,7 @@ fn add_full_pair(
 ) -> Result<(), AllocError>
     requires { edge < 2 ^ 64 - 1 }
     ensures { OnOk result (formula.new
-        ≡ with_clauses (at_in pairs.now) formula.old (families.clauses_at net.now ClauseFamily.FullPairs edge)) }
+        ≡ with_clauses (at_in pairs.now) formula.old (families.clauses_at net.now of.FullPairs edge)) }
 {
     let cap = cap_at(net, edge);
     add_pair(alloc, pairs, formula, Pair::Full { edge, cap })
