@@ -174,7 +174,7 @@ fn is_compared(alloc: Global, row: &str) -> Result<bool, AllocError> {
         is_status(given, status)
             && begins_with(&text, line)
             && checked == given
-            && shown.len() == line.len() + 1
+            && shown.len() == line.len().saturating_add(1)
             && begins_with(&shown, line),
     )
 }
