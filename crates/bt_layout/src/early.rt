@@ -5,7 +5,7 @@ ghost use Rattle.bt_layout.specs.Early.{IsEarly};
 ghost use Rattle.bt_layout.specs.inner.Progressing.{IsProgress};
 
 use crate::outcome::Early;
-use crate::progress::{Progress, begun, looked};
+use crate::progress::{Progress, after_search, first_progress};
 use bt_model::Request;
 use bt_narrow::is_likely;
 use std::alloc::{AllocError, Global};
@@ -31,7 +31,7 @@ const MOST_PASSED: usize = 8;
 pub fn lay_early(alloc: Global, requests: &[Request], learnt: u64) -> Result<Early, AllocError>
     ensures { IfOk result (IsEarly requests.now learnt) }
 {
-    let first = begun(alloc, requests.len(), learnt)?;
+    let first = first_progress(alloc, requests.len(), learnt)?;
     let mut progress = after_likely(alloc, requests, first)?;
     for round in 0..ROUNDS {
         progress = after_round(alloc, requests, progress, FIRST_STEPS << round)?;
@@ -71,7 +71,7 @@ fn looked_where_likely(
 {
     let place = progress.places[at];
     if is_likely(alloc, &requests[place])? {
-        looked(alloc, requests, progress, at, LIKELY_STEPS)
+        after_search(alloc, requests, progress, at, LIKELY_STEPS)
     } else {
         Ok(progress)
     }
@@ -95,7 +95,7 @@ fn after_round(
     let mut place = progress.places.len();
     while place > 0 && progress.left > 0 && progress.passed < MOST_PASSED {
         place -= 1;
-        progress = looked(alloc, requests, progress, place, steps)?;
+        progress = after_search(alloc, requests, progress, place, steps)?;
         place = place.saturating_sub(progress.skipped);
     }
     Ok(progress)

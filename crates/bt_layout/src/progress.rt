@@ -27,7 +27,7 @@ pub struct Progress {
 }
 
 /// At the beginning each of so many requests may be laid.
-pub fn begun(alloc: Global, count: usize, learnt: u64) -> Result<Progress, AllocError>
+pub fn first_progress(alloc: Global, count: usize, learnt: u64) -> Result<Progress, AllocError>
     ensures { (requests : List LayoutRequest) → count ≡ length requests
         → IfOk result (IsProgress requests) }
 {
@@ -46,7 +46,7 @@ pub fn begun(alloc: Global, count: usize, learnt: u64) -> Result<Progress, Alloc
 
 /// Searches for a layout of the request whose place is open at this index where one is likely, with at most so many
 /// steps of those that are left.
-pub fn looked(
+pub fn after_search(
     alloc: Global,
     requests: &[Request],
     progress: Progress,
@@ -62,11 +62,11 @@ pub fn looked(
     let request = &requests[place];
     let attempt = whole(alloc, request, steps.min(progress.left))?;
     let tried = look_in(alloc, request, attempt)?;
-    Ok(noted(progress, at, tried))
+    Ok(after_trial(progress, at, tried))
 }
 
 /// With what a search came to.
-fn noted(progress: Progress, at: usize, tried: Tried) -> Progress
+fn after_trial(progress: Progress, at: usize, tried: Tried) -> Progress
     requires { at < length progress.places.items }
     ensures progress { (requests : List LayoutRequest)
         → IsProgress requests progress → IsSearched requests progress at tried.trial
@@ -75,14 +75,14 @@ fn noted(progress: Progress, at: usize, tried: Tried) -> Progress
 {
     let Tried { trial, steps } = tried;
     match trial {
-        Trial::Found(parts) => laid(progress, at, steps, parts),
-        Trial::Refuted => closed(progress, at, steps),
-        Trial::Spent => passed(progress, steps),
+        Trial::Found(parts) => after_layout(progress, at, steps, parts),
+        Trial::Refuted => after_refutation(progress, at, steps),
+        Trial::Spent => after_giving_up(progress, steps),
     }
 }
 
 /// With a layout of the request whose place is open at this index, as so many steps found: those before it are left.
-fn laid(progress: Progress, at: usize, steps: u64, parts: Vec<Part>) -> Progress
+fn after_layout(progress: Progress, at: usize, steps: u64, parts: Vec<Part>) -> Progress
     requires { at < length progress.places.items }
     ensures progress { (requests : List LayoutRequest)
         → IsProgress requests progress → IsLaid requests (at_index progress at) parts
@@ -107,7 +107,7 @@ fn laid(progress: Progress, at: usize, steps: u64, parts: Vec<Part>) -> Progress
 }
 
 /// Without the place that is open at this index, in which no such layout as is looked for is, as so many steps showed.
-fn closed(progress: Progress, at: usize, steps: u64) -> Progress
+fn after_refutation(progress: Progress, at: usize, steps: u64) -> Progress
     requires { at < length progress.places.items }
     ensures progress { (requests : List LayoutRequest) → IsProgress requests progress
         → IsProgress requests result }
@@ -131,7 +131,7 @@ fn closed(progress: Progress, at: usize, steps: u64) -> Progress
 }
 
 /// With a request that is passed after so many steps.
-fn passed(progress: Progress, steps: u64) -> Progress
+fn after_giving_up(progress: Progress, steps: u64) -> Progress
     ensures progress { (requests : List LayoutRequest) → IsProgress requests progress
         → IsProgress requests result }
     ensures places { result.places ≡ progress.places }

@@ -1,6 +1,6 @@
 use Rattle.std.proofs.Common.{◌<◌}
 use Rattle.std.specs.List.{All}
-use Rattle.bt_layout.proofs.progress.begun.Given as goal
+use Rattle.bt_layout.proofs.progress.first_progress.Given as goal
 
 -- the places so far are open
 abbrev pub invariant-loop-place : goal.invariant-loop-place
