@@ -1,6 +1,6 @@
 -- The list of a basis, position by position.
 use Rattle.std.proofs.Common.{◌≡◌, ℕ, zero, suc, ◌+◌, ◌<◌, arith, drop, List, [], ◌∷◌, ◌++◌, length, Option, Some, None, ap, ◌∙◌, refl}
-use Rattle.bt_simplex.specs.Lines.{Terms}
+use Rattle.bt_line.specs.Lines.{Terms}
 use Rattle.bt_simplex.specs.SolvedForms.{Slots, slot_at, basis_from}
 use Rattle.bt_simplex.specs.Turns.{InBasis}
 

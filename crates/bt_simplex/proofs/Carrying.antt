@@ -5,22 +5,21 @@ use Rattle.bt_frac.specs.Ratio.{Ratio, SameRatio}
 use Rattle.bt_frac.specs.Values.{AreValues, plus, times}
 use Rattle.bt_frac.proofs.Over.{over_scaled}
 use Rattle.bt_frac.proofs.Ring.{turn_last}
-use Rattle.bt_simplex.specs.Lines.{Terms, HasNumber, IsLine, IsCombination, total}
+use Rattle.bt_line.specs.Lines.{Terms, HasNumber, IsLine, IsCombination, total}
 use Rattle.bt_simplex.specs.Points.{resting, standing}
 use Rattle.bt_simplex.specs.Tableaus.{TableauParts, IsTableau}
-use Rattle.bt_simplex.specs.declared.short.points.Sums.{Sums}
+use Rattle.bt_simplex.specs.declared.short_points.Sums.{Sums}
 use Rattle.bt_simplex.specs.inner.Bases.{IsSamePoint}
-use Rattle.bt_simplex.specs.inner.Shorts.{Numbers, reduced, terms_over, whole_at}
+use Rattle.bt_line.specs.Shorts.{Numbers, reduced, terms_over, whole_at, AreScales}
 use Rattle.bt_simplex.specs.inner.ShortPoints.{delta_of}
-use Rattle.bt_simplex.specs.inner.ShortSteps.{AreScales}
 use Rattle.bt_simplex.specs.inner.Carrying.{AreCarried}
-use Rattle.bt_simplex.specs.inner.Changes.{IsScaled}
-use Rattle.bt_simplex.specs.declared.short.merging.Scales.{Scales}
-use Rattle.bt_simplex.specs.inner.TurnedSlots.{IsSubstituted}
-use Rattle.bt_simplex.proofs.Numbers.{Alike, alike, back, next, both_plus, both_times, plus_positive, times_positive}
+use Rattle.bt_line.specs.Changes.{IsScaled}
+use Rattle.bt_line.specs.declared.short.merging.Scales.{Scales}
+use Rattle.bt_line.specs.Substituting.{IsSubstituted}
+use Rattle.bt_line.proofs.Numbers.{Alike, alike, back, next, both_plus, both_times, plus_positive, times_positive}
 use Rattle.bt_simplex.proofs.Resting.{rest_value, rest_tiny}
-use Rattle.bt_simplex.proofs.ShortWalks.{whole_over, reduced_alike, factor_lowest, added_parts, sum_told}
-use Rattle.bt_simplex.proofs.Zeros.{combined_alike}
+use Rattle.bt_line.proofs.ShortWalks.{whole_over, reduced_alike, factor_lowest, added_parts, sum_told}
+use Rattle.bt_line.proofs.Zeros.{combined_alike}
 
 module _ (lu : ℕ) (k : ℤ) (ru : ℕ) (m r : ℤ) (u : ℕ) (s : AreScales lu k ru m r u) where
   -- a number over a line's denominator and its factor times another
@@ -74,26 +73,3 @@ carried_point t tableau zero slot slot' scales is before other after carried zer
 -- and their denominator is small
 pub carried_fits : (zero : Terms) (slot slot' : Option Terms) (scales : Scales) → IsScaled zero slot slot' scales → (before other after : Sums) → AreCarried scales before other after → after.under < 2 ^ 31
 carried_fits zero slot slot' scales is before other after carried = subst (λ n. n < 2 ^ 31) (sym carried.under_is) is.are_scales.fits
-
--- a walk over both numbers tells what becomes of the line, and by which scales
-pub change_told : (p lu ru : ℕ) (k : ℤ) (left right written : Numbers) (now other : Terms) (scales : Scales) → terms_over lu left ≡ now → terms_over ru right ≡ other → whole_at p left ≡ Some k
-    → IsLine (terms_over lu left) → IsLine (terms_over ru right) → AreScales lu k ru scales.left scales.right scales.under → scales.left_under ≡ lu → scales.right_under ≡ ru → IsLine (terms_over scales.under written)
-    → IsCombination (terms_over lu left) (reduced k lu) (terms_over ru right) (terms_over scales.under written)
-    → IsSubstituted p other (Some now) (Some (terms_over scales.under written)) × IsScaled other (Some now) (Some (terms_over scales.under written)) scales
-change_told p lu ru k left right written now other scales is is' whole line line' are lu_is ru_is line_after sum = (
-  sum_told p lu ru k left right now other (terms_over scales.under written) is is' whole line_after sum,
-  record {
-    terms = now;
-    slot_is = refl;
-    terms_after = terms_over scales.under written;
-    slot_after = refl;
-    factor = k;
-    are_scales = subst (λ n. AreScales n k scales.right_under scales.left scales.right scales.under) (sym lu_is) (subst (λ n. AreScales lu k n scales.left scales.right scales.under) (sym ru_is) are);
-    line = subst (λ l. IsLine l) is line;
-    zero_line = subst (λ l. IsLine l) is' line';
-    line_after = line_after;
-    sum =
-        subst (λ n. IsCombination now (reduced k n) other (terms_over scales.under written)) (sym lu_is)
-        (subst (λ l. IsCombination l (reduced k lu) other (terms_over scales.under written)) is (subst (λ l. IsCombination (terms_over lu left) (reduced k lu) l (terms_over scales.under written)) is' sum));
-  },
-)

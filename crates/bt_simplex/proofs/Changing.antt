@@ -1,19 +1,19 @@
 -- The slots of a turn and the sums that are kept of them, after one more slot.
 use Rattle.std.proofs.Common.{◌≡◌, ℕ, ◌+◌, ◌<◌, arith, length, length-set, set, get_or, Option, Some, None, IfSome, inl, inr, sym, ◌∙◌, refl, subst}
 use Rattle.std.proofs.lemmas.List.{get_or_default, get_or-set_other, get_or-set_same, set-get_or}
-use Rattle.bt_simplex.specs.Lines.{Terms}
+use Rattle.bt_line.specs.Lines.{Terms}
 use Rattle.bt_simplex.specs.Points.{resting, standing}
 use Rattle.bt_simplex.specs.SolvedForms.{Slots, slot_at}
 use Rattle.bt_simplex.specs.Tableaus.{TableauParts, IsTableau}
-use Rattle.bt_simplex.specs.declared.short.merging.Change.TheVariants.{Lacks, Made, Long}
-use Rattle.bt_simplex.specs.declared.short.merging.Scales.{Scales}
-use Rattle.bt_simplex.specs.declared.short.points.Sums.{Sums}
+use Rattle.bt_line.specs.declared.short.merging.Change.TheVariants.{Lacks, Made, Long}
+use Rattle.bt_line.specs.declared.short.merging.Scales.{Scales}
+use Rattle.bt_simplex.specs.declared.short_points.Sums.{Sums}
 use Rattle.bt_simplex.specs.inner.Bases.{IsSamePoint}
-use Rattle.bt_simplex.specs.inner.Changes.{IsChange, IsScaled}
-use Rattle.bt_simplex.specs.inner.Kept.{SumsList, Carries, Forgets, LinesStay}
+use Rattle.bt_line.specs.Changes.{IsChange, IsScaled}
+use Rattle.bt_simplex.specs.inner.SumCache.{SumsList, Carries, Forgets, LinesStay}
 use Rattle.bt_simplex.specs.inner.ShortPoints.{delta_of}
-use Rattle.bt_simplex.specs.inner.TurnedSlots.{IsSubstituted}
-use Rattle.bt_simplex.proofs.Indicators.{decide}
+use Rattle.bt_line.specs.Substituting.{IsSubstituted}
+use Rattle.bt_line.proofs.Indicators.{decide}
 use Rattle.bt_simplex.proofs.KeptSums.{lines_carried, lines_set}
 use Rattle.bt_simplex.proofs.Substitutions.{ArePartlySubstituted}
 

@@ -6,18 +6,24 @@ use Rattle.std.proofs.lemmas.List.{get_or_default, get_or_past, get_or-set_same,
 use Rattle.std.proofs.lemmas.List.Elements.{All-cons, All-nil}
 use Rattle.bt_frac.specs.Ratio.{Ratio, negated}
 use Rattle.bt_lin.specs.WeightedRows.{coefficient_at}
-use Rattle.bt_simplex.specs.Lines.{one, Terms, HasNumber}
-use Rattle.bt_simplex.specs.Classes.{signed_terms, differ, member_at, position_at, class_terms, slot_by, slot_of, slots_from, slots_of, AreClasses}
+use Rattle.bt_line.specs.Lines.{one, Terms, HasNumber, signed_terms}
+use Rattle.bt_simplex.specs.Classes.{differ, member_at, position_at, class_terms, slot_by, slot_of, slots_from, slots_of, AreClasses}
 use Rattle.bt_simplex.specs.SolvedForms.{Slots, slot_at}
 use Rattle.bt_simplex.specs.declared.basis.Member.{Member}
 use Rattle.bt_simplex.specs.declared.causes.Cause.{Cause}
-use Rattle.bt_simplex.specs.inner.TurnedSlots.{AreLines, IsSubstituted, AreSubstituted, with_line, IsEntering, IsTurned}
+use Rattle.bt_simplex.specs.inner.TurnedSlots.{AreLines, AreSubstituted, with_line, IsTurned}
+use Rattle.bt_line.specs.Substituting.{IsSubstituted, IsEntering}
 use Rattle.bt_simplex.specs.inner.UnfitTurns.{AreAlike, IsSlotZero, IsUnfitLine, IsUnfitTurn, entry_cause}
-use Rattle.bt_simplex.proofs.Entering.{number_later}
-use Rattle.bt_simplex.proofs.Indicators.{decide}
-use Rattle.bt_simplex.proofs.SignedLines.{signed_signed, substituted_signed, leaving_substituted, entering_substituted, substituted_entering}
+use Rattle.bt_line.proofs.NamedTerms.{number_later}
+use Rattle.bt_line.proofs.Indicators.{decide}
+use Rattle.bt_line.proofs.SignedLines.{negated_back, substituted_signed, leaving_substituted, entering_substituted, substituted_entering}
 use Rattle.bt_simplex.proofs.UnfitTurns.{basis_same, slot_unfit}
-use Rattle.bt_simplex.proofs.Zeros.{one_number}
+use Rattle.bt_line.proofs.Zeros.{one_number}
+
+pub signed_signed : (a b : Bool) (terms : Terms) → signed_terms a (signed_terms b terms) ≡ signed_terms (differ a b) terms
+signed_signed false b terms = refl
+signed_signed true false terms = refl
+signed_signed true true terms = negated_back terms
 
 -- the slots are as many as the positions, and each is what is said of its position
 pub slots_length : (f : ℕ → Option Terms) (k : ℕ) (members : List Member) → length (slots_from f k members) ≡ length members

@@ -15,7 +15,7 @@ use Rattle.bt_simplex.specs.Turns.{InBasis, Breaks, Fails, MovesTowards, MayMove
 use Rattle.bt_simplex.specs.declared.tableau.Turn.{Turn}
 use Rattle.bt_simplex.specs.inner.Bases.{with_slots}
 use Rattle.bt_simplex.proofs.Failing.{row_is}
-use Rattle.bt_simplex.proofs.Indicators.{decide}
+use Rattle.bt_line.proofs.Indicators.{decide}
 use Rattle.bt_simplex.proofs.Lexical.{IsUp, less, HasSome, still_up, rises_up, falls_up, less_than}
 use Rattle.bt_simplex.proofs.Refutations.{line_all, never_both}
 use Rattle.bt_simplex.proofs.Resting.{point_some, rest_value, rest_tiny, bound_within}
@@ -23,7 +23,7 @@ use Rattle.bt_simplex.proofs.Signs.{IsAbove}
 use Rattle.bt_simplex.proofs.BasisOf.{same_members}
 use Rattle.bt_simplex.proofs.Stretches.{in_or_out, not_in, enters_out, leaves_in, Made, IsMadeOf, Moves, IsMadeAt, made_at, enters_leaves, leaves_enters, differs_moves, IsGreatest, greatest}
 use Rattle.bt_simplex.proofs.TwoPoints.{not_higher}
-use Rattle.bt_simplex.proofs.Zeros.{named_has}
+use Rattle.bt_line.proofs.Zeros.{named_has}
 
 -- the position is a bound row that is no equation
 pub record IsOneSided (t : TableauParts) (position : ℕ) : Type 0 where

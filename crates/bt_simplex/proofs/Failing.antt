@@ -12,13 +12,13 @@ use Rattle.bt_frac.proofs.Order.{mul_lt, lt_from_mul}
 use Rattle.bt_frac.proofs.Ring.{turn_last}
 use Rattle.bt_lin.proofs.SameNumbers.{same_trans, stands_same}
 use Rattle.bt_lin.specs.WeightedRows.{coefficient_at, empty_row}
-use Rattle.bt_simplex.specs.Lines.{Terms}
+use Rattle.bt_line.specs.Lines.{Terms}
 use Rattle.bt_simplex.specs.SolvedForms.{slot_at}
 use Rattle.bt_simplex.specs.Tableaus.{TableauParts}
 use Rattle.bt_simplex.specs.Points.{bound_row, bound_value, resting, standing, point_at}
 use Rattle.bt_simplex.specs.Turns.{InBasis, Breaks, Fails, MovesTowards, MayMove, CanEnter, IsLeast}
 use Rattle.bt_simplex.specs.inner.Bases.{IsSamePoint, IsBoundOrder, IsLeastOf, MayEnter, Names}
-use Rattle.bt_simplex.proofs.Numbers.{Positive}
+use Rattle.bt_line.proofs.Numbers.{Positive}
 
 pub less_right : (a b x : Ratio) → Positive a → Positive b → SameRatio a b → IsLess x a → IsLess x b
 less_right a b x p q e h = (stands_same Above x a b p q e).0 h

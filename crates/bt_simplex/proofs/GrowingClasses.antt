@@ -2,8 +2,8 @@
 use Rattle.std.proofs.Common.{◌≡◌, ◌≢◌, ℕ, ◌+◌, ◌<◌, arith, Bool, false, if◌then◌else◌, List, [], ◌∷◌, ◌++◌, length, length-append, Option, Some, None, ap, sym, ◌∙◌, refl, subst, ◌⊎◌, inl, inr}
 use Rattle.std.proofs.lemmas.Bool.{cases_lt}
 use Rattle.std.proofs.lemmas.List.{get_or_append_left, get_or_push}
-use Rattle.bt_simplex.specs.Lines.{one, Terms}
-use Rattle.bt_simplex.specs.Classes.{signed_terms, differ, member_at, position_at, class_terms, is_outside, slot_by, slot_of, slots_of, AreClasses}
+use Rattle.bt_line.specs.Lines.{one, Terms, signed_terms}
+use Rattle.bt_simplex.specs.Classes.{differ, member_at, position_at, class_terms, is_outside, slot_by, slot_of, slots_of, AreClasses}
 use Rattle.bt_simplex.specs.SolvedForms.{Slots, slot_at}
 use Rattle.bt_simplex.specs.declared.basis.Member.{Member}
 use Rattle.bt_simplex.proofs.Classes.{slots_along, slots_push, by_line, by_other, by_itself, some_by}

@@ -4,20 +4,20 @@ use Rattle.std.proofs.lemmas.Bool.{cases_lt}
 use Rattle.std.proofs.lemmas.List.{get_or_past, get_or-set_other, get_or-set_same}
 use Rattle.bt_simplex.specs.Classes.{member_at, position_at, class_terms, is_outside, slot_by, slots_of}
 use Rattle.bt_simplex.specs.SolvedForms.{Slots, slot_at}
-use Rattle.bt_simplex.specs.Lines.{Terms}
+use Rattle.bt_line.specs.Lines.{Terms}
 use Rattle.bt_simplex.specs.Tableaus.{TableauParts, IsTableau}
 use Rattle.std.specs.declared.alloc.AllocError.{AllocError}
 use Rattle.bt_simplex.specs.declared.basis.Member.{Member}
 use Rattle.bt_simplex.specs.declared.causes.Cause.{Cause}
-use Rattle.bt_simplex.specs.declared.short.points.ClassSums.{ClassSums}
-use Rattle.bt_simplex.specs.declared.short.merging.Scales.{Scales}
-use Rattle.bt_simplex.specs.declared.short.points.Sums.{Sums}
+use Rattle.bt_simplex.specs.declared.short_points.ClassSums.{ClassSums}
+use Rattle.bt_line.specs.declared.short.merging.Scales.{Scales}
+use Rattle.bt_simplex.specs.declared.short_points.Sums.{Sums}
 use Rattle.bt_simplex.specs.Points.{resting, standing}
 use Rattle.bt_simplex.specs.inner.Bases.{IsSamePoint}
 use Rattle.bt_simplex.specs.inner.Carrying.{AreCarried, IsCarriedOf}
-use Rattle.bt_simplex.specs.inner.Changes.{IsScaled}
+use Rattle.bt_line.specs.Changes.{IsScaled}
 use Rattle.bt_simplex.specs.inner.ShortPoints.{AreClassSums, delta_of}
-use Rattle.bt_simplex.specs.inner.Kept.{SumsList, AreKept, Carries, Forgets, IsOwn, OwnsAt, AreOwn, AreMoved, AreFollowed, LinesStay, OthersStay, SlotsStay}
+use Rattle.bt_simplex.specs.inner.SumCache.{SumsList, AreKept, Carries, Forgets, IsOwn, OwnsAt, AreOwn, AreMoved, AreFollowed, LinesStay, OthersStay, SlotsStay}
 use Rattle.bt_simplex.proofs.Carrying.{carried_fits, carried_point}
 use Rattle.bt_simplex.proofs.Classes.{slot_is}
 

@@ -17,7 +17,7 @@ use Rattle.bt_frac.specs.declared.row.Relation.{Relation}
 use Rattle.bt_frac.specs.declared.row.Relation.TheVariants.{AtLeast, Above, Equal}
 use Rattle.bt_lin.specs.WeightedRows.{empty_row}
 use Rattle.bt_lin.proofs.SameNumbers.{stands_same}
-use Rattle.bt_simplex.specs.Lines.{one, Terms, HasNumber, total}
+use Rattle.bt_line.specs.Lines.{one, Terms, HasNumber, total}
 use Rattle.bt_simplex.specs.SolvedForms.{slot_at, at_position, IsOutside}
 use Rattle.bt_simplex.specs.Tableaus.{TableauParts, IsTableau}
 use Rattle.bt_simplex.specs.Points.{tiny_of, bound_value, bound_row, value_or_zero, resting, standing, point_at}
@@ -25,14 +25,14 @@ use Rattle.bt_simplex.specs.Turns.{Breaks, IsMet}
 use Rattle.bt_simplex.specs.Causes.{IsFalling, IsHalfRoom, IsEpsilon, gap}
 use Rattle.bt_simplex.specs.Checks.{IsBound, MeetsBoundRows}
 use Rattle.bt_simplex.specs.inner.Settling.{IsSettled}
+use Rattle.bt_line.proofs.Numbers.{negated_plus, Positive, nothing_some, Alike, alike, itself, back, next, both_plus, both_times, swap_plus, swap_times, group_plus, group_times, spread, spread_right, pair_plus, drop_zero, zero_alike, plus_positive, times_positive, times_zero, negated_times, differ_none, none_differ}
 use Rattle.bt_simplex.proofs.Epsilons.{fall_above, twice_fall, twice_some, twice_above, gap_some}
-use Rattle.bt_simplex.proofs.Indicators.{times_one}
-use Rattle.bt_simplex.proofs.Numbers.{Positive, nothing_some, Alike, alike, itself, back, next, both_plus, both_times, swap_plus, swap_times, group_plus, group_times, spread, spread_right, pair_plus, drop_zero, zero_alike, plus_positive, times_positive, times_zero, negated_times, differ_none, none_differ}
+use Rattle.bt_line.proofs.Indicators.{times_one}
 use Rattle.bt_simplex.proofs.Resting.{rest_value, rest_tiny, point_some, bound_some_of, bound_within}
 use Rattle.bt_simplex.proofs.Signs.{IsAbove, IsNotBelow, above_plus, above_times, not_below_times, above_factor, above_by, not_below_by, less_of, of_less, at_most_of, of_at_most, compared, less_at_most}
 use Rattle.bt_simplex.proofs.Standing.{stands_some}
-use Rattle.bt_simplex.proofs.Totals.{total_positive}
-use Rattle.bt_simplex.proofs.Zeros.{one_some, one_times, total_along, all_from, named_or_lacks, negated_alike, zero_of}
+use Rattle.bt_line.proofs.Totals.{total_positive}
+use Rattle.bt_line.proofs.Zeros.{one_some, one_times, total_along, all_from, named_or_lacks, negated_alike, zero_of}
 
 -- a point with a number in place of the infinitesimal
 abbrev pub shifted : Ratio → Delta → Ratio
@@ -166,18 +166,6 @@ inverse_of k some above = at k.over k.under some above
         same : (u m : ℕ) → pos u *ℤ pos m *ℤ pos 1 ≡ pos 1 *ℤ pos (m * u)
         same u m = ap (λ z. z *ℤ pos 1) (*ℤ_comm (pos u) (pos m) ∙ pos-*ℤ-pos m u) ∙ *ℤ_comm (pos (m * u)) (pos 1)
     at (negsuc n) u some above = absurd (omega (arith, ints))
-
-pub negated_plus : (a b : Ratio) → negated (plus a b) ≡ plus (negated a) (negated b)
-negated_plus a b =
-    ap (λ z. make z (a.under * b.under))
-    (spread_neg (a.over *ℤ pos b.under) (b.over *ℤ pos a.under) ∙ ap (λ z. z +ℤ neg_ℤ (b.over *ℤ pos a.under)) (sym (neg_mul a.over (pos b.under)))
-    ∙ ap (λ z. neg_ℤ a.over *ℤ pos b.under +ℤ z) (sym (neg_mul b.over (pos a.under))))
-  where
-    make : ℤ → ℕ → Ratio
-    make z n = record { over = z; under = n }
-
-    spread_neg : (x y : ℤ) → neg_ℤ (x +ℤ y) ≡ neg_ℤ x +ℤ neg_ℤ y
-    spread_neg x y = omega (arith, ints)
 
 -- a number less itself twice, and added again
 regained_once : (g q : Ratio) → Positive g → Positive q → Alike (plus (plus g (negated (plus q q))) q) (plus g (negated q))

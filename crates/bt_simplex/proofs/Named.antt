@@ -2,23 +2,11 @@
 use Rattle.std.proofs.Common.{◌≡◌, ℕ, Option, Some, None, Result, Ok, Err, IfOk, IfErr, IfSome, ◌∙◌, refl, inr, sym, subst}
 use Rattle.bt_frac.specs.Ratio.{Ratio}
 use Rattle.bt_lin.specs.WeightedRows.{coefficient_at}
-use Rattle.bt_simplex.specs.Lines.{Terms, IsLine, IsCombination}
-use Rattle.bt_simplex.specs.declared.causes.Unfit.{Unfit}
-use Rattle.bt_simplex.specs.inner.TurnedSlots.{IsZeroLine, IsSubstituted, IsUnfitChange}
-use Rattle.bt_simplex.specs.inner.Unfits.{IsUnfit}
+use Rattle.bt_line.specs.Lines.{Terms, IsLine, IsCombination}
+use Rattle.bt_line.specs.declared.unfit.Unfit.{Unfit}
+use Rattle.bt_line.specs.Substituting.{IsZeroLine, IsSubstituted, IsUnfitChange}
+use Rattle.bt_line.specs.Unfits.{IsUnfit}
 use Rattle.bt_simplex.specs.inner.UnfitTurns.{CanPart, IsSlotZero}
-
--- what was formed by fractions for the number of a line
-pub substituted_by : (enters : ℕ) (zero terms : Terms) (number : Ratio) (made : Result Terms Unfit) → coefficient_at enters terms ≡ Some number → IfOk made IsLine → IfOk made (IsCombination terms number zero)
-    → IfOk made (λ line. IsSubstituted enters zero (Some terms) (Some line))
-substituted_by enters zero terms number (Err unfit) named line sum = tt
-substituted_by enters zero terms number (Ok terms') named line sum = inr (number, named, (terms', refl, line, sum))
-
--- an operation of it that doesn't fit
-pub unfit_by : (enters : ℕ) (zero terms : Terms) (number : Ratio) (made : Result Terms Unfit) → coefficient_at enters terms ≡ Some number → IfErr made (IsUnfit terms number zero)
-    → IfErr made (IsUnfitChange enters zero terms)
-unfit_by enters zero terms number (Ok terms') named wide = tt
-unfit_by enters zero terms number (Err unfit) named wide = (number, named, wide)
 
 -- the zero line of a slot
 pub slot_zero_told : (slot : Option Terms) (leaves enters : ℕ) (terms : Terms) (made : Option Terms) (zero : Terms) → CanPart slot leaves enters → slot ≡ Some terms → IsLine terms → made ≡ Some zero

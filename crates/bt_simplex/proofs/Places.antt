@@ -4,17 +4,16 @@ use Rattle.std.specs.List.{All}
 use Rattle.bt_frac.specs.Rows.{IsRow}
 use Rattle.bt_frac.specs.Values.{AreValues}
 use Rattle.bt_frac.specs.declared.delta.Delta.{Delta}
-use Rattle.bt_simplex.specs.Lines.{one, Terms, HasNumber, IsLine, total}
-use Rattle.bt_simplex.specs.Classes.{signed_terms}
+use Rattle.bt_line.specs.Lines.{one, Terms, HasNumber, IsLine, total, signed_terms}
 use Rattle.bt_simplex.specs.SolvedForms.{slot_at}
 use Rattle.bt_simplex.specs.Tableaus.{TableauParts}
 use Rattle.bt_simplex.specs.Points.{resting, standing, point_at}
 use Rattle.bt_simplex.specs.inner.Bases.{IsSamePoint, signed_point}
 use Rattle.bt_simplex.proofs.Failing.{point_is}
-use Rattle.bt_simplex.proofs.Numbers.{alike, back, next}
+use Rattle.bt_line.proofs.Numbers.{alike, back, next}
 use Rattle.bt_simplex.proofs.Resting.{rest_value, rest_tiny}
-use Rattle.bt_simplex.proofs.SignedLines.{negated_total, alone_line}
-use Rattle.bt_simplex.proofs.Zeros.{one_some, one_term, one_times, negated_alike}
+use Rattle.bt_line.proofs.SignedLines.{negated_total, alone_line}
+use Rattle.bt_line.proofs.Zeros.{one_some, one_term, one_times, negated_alike}
 
 -- a line with the other sign adds up to the point with the other sign
 pub signed_same : (rest : ℕ → Delta) → AreValues (λ p. (rest p).value) → AreValues (λ p. (rest p).tiny) → (told : Bool) (d : Delta) (terms : Terms) → All HasNumber terms

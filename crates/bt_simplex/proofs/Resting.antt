@@ -11,23 +11,23 @@ use Rattle.bt_frac.specs.declared.delta.Delta.{Delta}
 use Rattle.bt_frac.specs.declared.row.Relation.{Relation}
 use Rattle.bt_frac.specs.declared.row.Relation.TheVariants.{AtLeast, Above, Equal}
 use Rattle.bt_lin.specs.WeightedRows.{empty_row, coefficient_at}
-use Rattle.bt_simplex.specs.Lines.{Terms, HasNumber, IsLine, total}
+use Rattle.bt_line.specs.Lines.{Terms, HasNumber, IsLine, total}
 use Rattle.bt_simplex.specs.Tableaus.{TableauParts, IsTableau}
 use Rattle.bt_simplex.specs.SolvedForms.{slot_at}
 use Rattle.std.proofs.lemmas.Bool.{cases_lt}
 use Rattle.std.proofs.lemmas.Bool.Decides.{nat_tests}
 use Rattle.bt_simplex.specs.Points.{bound_row, tiny_of, value_or_zero, resting, standing, point_at}
 use Rattle.bt_simplex.specs.inner.Bases.{IsSamePoint}
-use Rattle.bt_simplex.specs.Causes.{IsNone, IsSumStep, IsStepAt, IsCause}
-use Rattle.bt_simplex.specs.declared.answers.Operation.{Operation}
-use Rattle.bt_simplex.specs.declared.answers.Operation.TheVariants.{Add, Mul, Div}
-use Rattle.bt_simplex.specs.declared.causes.Unfit.{Unfit}
+use Rattle.bt_line.specs.Unfits.{IsNone, IsUnfitStep, IsUnfitHere}
+use Rattle.bt_simplex.specs.Causes.{IsSumStep, IsStepAt, IsCause}
+use Rattle.bt_line.specs.declared.unfit.Operation.{Operation}
+use Rattle.bt_line.specs.declared.unfit.Operation.TheVariants.{Add, Mul, Div}
+use Rattle.bt_line.specs.declared.unfit.Unfit.{Unfit}
 use Rattle.bt_simplex.specs.declared.causes.Cause.{Cause}
-use Rattle.bt_simplex.specs.inner.Unfits.{IsUnfitStep, IsUnfitHere}
 use Rattle.bt_simplex.specs.inner.UnfitPoints.{AddsTerm, IsUnfitTerm, IsUnfitPoint, value_cause}
-use Rattle.bt_simplex.proofs.Entering.{item_named, drop_here}
-use Rattle.bt_simplex.proofs.Numbers.{Positive, nothing_some, Alike, alike, itself, back, next, both_plus, swap_plus, group_plus, plus_positive, times_positive}
-use Rattle.bt_simplex.proofs.Totals.{total_positive}
+use Rattle.bt_line.proofs.NamedTerms.{item_named, drop_here}
+use Rattle.bt_line.proofs.Numbers.{Positive, nothing_some, Alike, alike, itself, back, next, both_plus, swap_plus, group_plus, plus_positive, times_positive}
+use Rattle.bt_line.proofs.Totals.{total_positive}
 
 pub tiny_some : (r : Relation) → Positive (tiny_of r)
 tiny_some AtLeast = omega arith

@@ -13,7 +13,7 @@ use Rattle.std.specs.declared.alloc.AllocError.{AllocError}
 use Rattle.bt_simplex.specs.Causes.{IsStepAt, IsCause}
 use Rattle.bt_simplex.specs.declared.causes.Cause.{Cause}
 use Rattle.bt_simplex.specs.inner.UnfitTurns.{CanPart, IsUnfitTurn}
-use Rattle.bt_simplex.proofs.Zeros.{named_has}
+use Rattle.bt_line.proofs.Zeros.{named_has}
 use Rattle.bt_simplex.specs.inner.Runs.{CanTurn, IsAt, IsMade, IsEnd, IsRun}
 use Rattle.bt_simplex.specs.declared.running.End.{End}
 use Rattle.bt_simplex.specs.declared.running.End.TheVariants.{Met, Stuck, Pivots, Wide}

@@ -13,25 +13,20 @@ use Rattle.bt_frac.specs.Values.{AreValues}
 use Rattle.bt_frac.specs.declared.delta.Delta.{Delta}
 use Rattle.bt_frac.specs.declared.row.Relation.TheVariants.{Equal as AnEquation}
 use Rattle.bt_frac.proofs.Ring.{products, sums}
-use Rattle.bt_simplex.specs.Lines.{one, Terms, HasNumber, IsLine, total}
+use Rattle.bt_line.specs.Lines.{one, Terms, HasNumber, IsLine, total, signed_terms}
 use Rattle.bt_simplex.specs.Points.{bound_row, resting, standing}
 use Rattle.bt_simplex.specs.Tableaus.{TableauParts, IsTableau}
-use Rattle.bt_simplex.specs.declared.short.points.Sums.{Sums}
-use Rattle.bt_simplex.specs.Classes.{signed_terms}
+use Rattle.bt_simplex.specs.declared.short_points.Sums.{Sums}
 use Rattle.bt_simplex.specs.SolvedForms.{slot_at}
 use Rattle.bt_simplex.specs.Turns.{Breaks, Fails}
 use Rattle.bt_simplex.specs.inner.Bases.{IsSamePoint, signed_point}
-use Rattle.bt_simplex.specs.inner.Shorts.{Numbers, reduced, terms_over, IsShort}
+use Rattle.bt_line.specs.Shorts.{Numbers, reduced, terms_over, IsShort}
 use Rattle.bt_simplex.specs.inner.ShortPoints.{AddsWhole, delta_of, BreaksTiny, IsBreak}
+use Rattle.bt_line.proofs.Shorts.{over_of, length_over, item_over, reduced_lowest, reduced_over}
 use Rattle.bt_simplex.proofs.Failing.{fails_told}
 use Rattle.bt_simplex.proofs.Places.{line_place, like_place}
-use Rattle.bt_simplex.proofs.Numbers.{Positive, Alike, alike, next}
+use Rattle.bt_line.proofs.Numbers.{Positive, Alike, alike, next}
 use Rattle.bt_simplex.proofs.Resting.{part_more, rest_value, rest_tiny}
-use Rattle.bt_simplex.proofs.Shorts.{reduced_lowest, reduced_over}
-
--- a whole number over a denominator
-abbrev pub over_of : ℤ → ℕ → Ratio
-over_of z under = record { over = z; under = under }
 
 -- both sums over a denominator
 abbrev pub delta_over : Sums → ℕ → Delta
@@ -62,23 +57,6 @@ sum_parts_ints v w u = simp (products, sums)
 -- the sum of two whole numbers over one denominator
 sum_over : (v w : ℤ) (under : ℕ) → IsSum (over_of v under) (over_of w under) (over_of (v +ℤ w) under)
 sum_over v w under = simp pos-*ℤ-pos at (sum_parts_ints v w (pos under))
-
-pub length_over : (under : ℕ) (numbers : Numbers) → length (terms_over under numbers) ≡ length numbers
-length_over under [] = refl
-length_over under (t ∷ numbers) = ap suc (length_over under numbers)
-
-term_over : ℕ → ℕ × ℤ → ℕ × Ratio
-term_over under t = (t.0, reduced t.1 under)
-
-pub item_over : (under : ℕ) (numbers : Numbers) (i : ℕ) (x : ℕ × ℤ) → i < length numbers → x ≡ get_or numbers i x
-    → (x.0, reduced x.1 under) ≡ get_or (terms_over under numbers) i (x.0, reduced x.1 under)
-unfolding term_over
-item_over under numbers i x inside is = ap (term_over under) is ∙ here numbers i inside
-  where
-    here : (numbers : Numbers) (i : ℕ) → i < length numbers → term_over under (get_or numbers i x) ≡ get_or (terms_over under numbers) i (x.0, reduced x.1 under)
-    here [] i inside = absurd (omega arith)
-    here (t ∷ numbers) zero inside = refl
-    here (t ∷ numbers) (suc i) inside = here numbers i (omega arith)
 
 -- one of both sums with one more term
 whole_more : (at : ℕ → Ratio) → AreValues at → (under : ℕ) (numbers : Numbers) → 0 < under → All HasNumber (terms_over under numbers) → (i : ℕ) (x : ℕ × ℤ) (v b w : ℤ) → i < length numbers → x ≡ get_or numbers i x

@@ -6,9 +6,9 @@ use Rattle.bt_frac.specs.Ratio.{Ratio, IsLowest}
 use Rattle.bt_frac.specs.Rows.{RowParts, IsRow}
 use Rattle.bt_frac.specs.Values.{AreValues, times}
 use Rattle.bt_lin.specs.WeightedRows.{empty_row}
-use Rattle.bt_simplex.specs.Lines.{Terms, total}
+use Rattle.bt_line.specs.Lines.{Terms, total}
 use Rattle.bt_simplex.specs.SolvedForms.{at_position}
-use Rattle.bt_simplex.proofs.Numbers.{Positive, plus_positive, times_positive}
+use Rattle.bt_line.proofs.Numbers.{Positive, plus_positive, times_positive}
 
 pub row_some : (at : ℕ → Ratio) → AreValues at → (terms : Terms) → All (λ t. IsLowest t.1) terms → Positive (total at terms)
 row_some at values [] all = omega arith

@@ -1,14 +1,14 @@
 -- The turns of a run: what enters and what leaves in it.
 use Rattle.std.proofs.Common.{◌≡◌, ◌≢◌, ◌⊎◌, ◌↔◌, inl, inr, ℕ, ◌<◌, ◌≤◌, arith, List, [], ◌∷◌, Option, Some, None, ap, sym, ◌∙◌, refl, subst}
 use Rattle.std.proofs.lemmas.Bool.{cases_lt}
-use Rattle.bt_simplex.specs.Lines.{Terms}
+use Rattle.bt_line.specs.Lines.{Terms}
 use Rattle.bt_simplex.specs.SolvedForms.{Slots, slot_at, IsOutside}
 use Rattle.bt_simplex.specs.Tableaus.{TableauParts, IsTableau}
 use Rattle.bt_simplex.specs.Turns.{InBasis, IsBlandTurn, IsTurnedBy, Follows}
 use Rattle.bt_simplex.specs.declared.tableau.Turn.{Turn}
 use Rattle.bt_simplex.specs.inner.Bases.{with_slots}
-use Rattle.bt_simplex.proofs.Indicators.{decide}
-use Rattle.bt_simplex.proofs.Zeros.{named_has}
+use Rattle.bt_line.proofs.Indicators.{decide}
+use Rattle.bt_line.proofs.Zeros.{named_has}
 
 -- the turn is made at this tableau in the run
 abbrev pub Made : (t : TableauParts) (turns : List Turn) (t' : TableauParts) → Follows t turns t' → TableauParts → Turn → Type 0

@@ -1,8 +1,8 @@
 -- The slots of a turn, of which the first are changed.
 use Rattle.std.proofs.Common.{◌≡◌, ℕ, ◌<◌, ◌≤◌, length}
-use Rattle.bt_simplex.specs.Lines.{Terms}
+use Rattle.bt_line.specs.Lines.{Terms}
 use Rattle.bt_simplex.specs.SolvedForms.{Slots, slot_at}
-use Rattle.bt_simplex.specs.inner.TurnedSlots.{IsSubstituted}
+use Rattle.bt_line.specs.Substituting.{IsSubstituted}
 
 -- the slots before this one are changed, and the others stand as they were
 pub record ArePartlySubstituted (position : ℕ) (zero : Terms) (slots slots' : Slots) (done : ℕ) : Type 0 where

@@ -10,15 +10,16 @@ use Rattle.bt_frac.specs.Ratio.{Ratio, SameRatio, IsLowest, negated}
 use Rattle.bt_frac.specs.Rows.{RowParts, IsRow}
 use Rattle.bt_frac.specs.Values.{AreValues, nothing, plus, times}
 use Rattle.bt_lin.specs.WeightedRows.{coefficient_at}
-use Rattle.bt_simplex.specs.Lines.{one, Terms, HasNumber, IsLine, IsCombination, total}
+use Rattle.bt_line.specs.Lines.{one, Terms, HasNumber, IsLine, IsCombination, total}
 use Rattle.bt_simplex.specs.SolvedForms.{Slots, slot_at, basis_from, basis_of, at_position, IsOutside, IsSolvedForm}
-use Rattle.bt_simplex.specs.inner.TurnedSlots.{IsSubstituted, IsTurned}
-use Rattle.bt_simplex.proofs.Numbers.{Positive, zero_alike, Alike, alike, itself, back, next, both_plus, both_times, times_positive, differ_none, adds_none}
+use Rattle.bt_line.specs.Substituting.{IsSubstituted}
+use Rattle.bt_simplex.specs.inner.TurnedSlots.{IsTurned}
+use Rattle.bt_line.proofs.Numbers.{Positive, zero_alike, Alike, alike, itself, back, next, both_plus, both_times, times_positive, differ_none, adds_none}
 use Rattle.bt_simplex.proofs.Standing.{stands_some}
-use Rattle.bt_simplex.proofs.Totals.{total_positive}
-use Rattle.bt_simplex.proofs.Indicators.{LacksPosition, decide, indicator, indicator_some, having_total, total_at, none_lacks, zero_lacks, over_zero_of, combination_lacks, number_has}
-use Rattle.bt_simplex.proofs.Zeros as zeros
-use Rattle.bt_simplex.proofs.Zeros.{one_some, zero_of, negated_some, one_term, combined_alike, plus_none, one_times, share_is, share_some, one_lowest, one_number, negated_alike, minus_one, named_has, named_or_lacks, all_from, total_along}
+use Rattle.bt_line.proofs.Totals.{total_positive}
+use Rattle.bt_line.proofs.Indicators.{LacksPosition, decide, indicator, indicator_some, having_total, total_at, none_lacks, zero_lacks, over_zero_of, combination_lacks, number_has}
+use Rattle.bt_line.proofs.Zeros as zeros
+use Rattle.bt_line.proofs.Zeros.{one_some, zero_of, negated_some, one_term, combined_alike, plus_none, one_times, share_is, share_some, one_lowest, one_number, negated_alike, minus_one, named_has, named_or_lacks, all_from, total_along}
 
 -- what a changed slot was before
 changed_from : (enters : ℕ) (zero : Terms) (old new : Option Terms) (terms' : Terms) → IsSubstituted enters zero old new → new ≡ Some terms'

@@ -7,24 +7,19 @@ use Rattle.bt_frac.specs.Values.{nothing, plus, times, sum_of_products}
 use Rattle.bt_lin.specs.WeightedRows.{part_of, pairs_at, number_of, coefficient_at}
 use Rattle.bt_lin.specs.Farkas.{IsFirstWide}
 use Rattle.bt_lin.specs.declared.places.Place.{Place}
-use Rattle.bt_simplex.specs.Lines.{one, Terms, total}
+use Rattle.bt_line.specs.Unfits.{IsNone}
+use Rattle.bt_line.specs.Lines.{one, Terms, total}
 use Rattle.bt_simplex.specs.SolvedForms.{Slots, slot_at}
 use Rattle.bt_simplex.specs.Tableaus.{TableauParts}
 use Rattle.bt_simplex.specs.Points.{bound_row, resting, point_at}
 use Rattle.bt_simplex.specs.Turns.{IsBlandTurn, IsMet, IsStuckAt}
 use Rattle.bt_simplex.specs.Weights.{AreWeights, weighted_rows}
 use Rattle.bt_simplex.specs.declared.tableau.Turn.{Turn}
-use Rattle.bt_simplex.specs.declared.answers.Operation.{Operation}
-use Rattle.bt_simplex.specs.declared.answers.Operation.TheVariants.{Add, Mul, Div}
+use Rattle.bt_line.specs.declared.unfit.Operation.{Operation}
+use Rattle.bt_line.specs.declared.unfit.Operation.TheVariants.{Add, Mul, Div}
 use Rattle.bt_simplex.specs.declared.answers.WidePlace.{WidePlace}
 use Rattle.bt_simplex.specs.declared.answers.WidePlace.TheVariants.{Entry, Value, Settle, Lemma}
 use Rattle.bt_simplex.specs.declared.causes.Cause.{Cause}
-
--- the operation is None for these numbers
-abbrev pub IsNone : Operation → Ratio → Ratio → Type 0
-IsNone Add left right = IsWide left right
-IsNone Mul left right = (result : Ratio) → IsLowest result → IsProduct left right result → ⊥
-IsNone Div left right = (right.over ≢ pos 0) × ((result : Ratio) → IsLowest result → IsDivision left right result → ⊥)
 
 -- the fraction is this number, in lowest terms
 abbrev pub IsNumber : Ratio → Ratio → Type 0

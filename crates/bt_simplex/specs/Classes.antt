@@ -1,14 +1,9 @@
 -- Classes of positions whose terms are the same up to the sign: what is held once of a class gives the slots of all its members.
 use Rattle.std.specs.Prelude.{◌≡◌, ℕ, ◌<◌, ◌+◌, ◌==◌, Bool, true, false, List, [], ◌∷◌, length, map, Option, Some, None, slice_index_or, if◌then◌else◌}
 use Rattle.bt_frac.specs.Ratio.{negated}
-use Rattle.bt_simplex.specs.Lines.{one, Terms}
+use Rattle.bt_line.specs.Lines.{one, Terms, signed_terms}
 use Rattle.bt_simplex.specs.SolvedForms.{Slots, slot_at}
 use Rattle.bt_simplex.specs.declared.basis.Member.{Member}
-
--- the terms, with the other sign where this is told
-abbrev pub signed_terms : Bool → Terms → Terms
-signed_terms false terms = terms
-signed_terms true terms = map (λ t. (t.0, negated t.1)) terms
 
 -- whether one of two is told and the other isn't
 abbrev pub differ : Bool → Bool → Bool

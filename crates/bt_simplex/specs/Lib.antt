@@ -3,7 +3,6 @@ pub mod Checks
 pub mod Classes
 pub mod Counting
 pub mod Laws
-pub mod Lines
 pub mod Points
 pub mod Runs
 pub mod SolvedForms

@@ -7,7 +7,7 @@ use Rattle.bt_frac.specs.declared.delta.Delta.{Delta}
 use Rattle.bt_frac.specs.declared.row.Relation.{Relation}
 use Rattle.bt_frac.specs.declared.row.Relation.TheVariants.{AtLeast, Above, Equal}
 use Rattle.bt_lin.specs.WeightedRows.{empty_row}
-use Rattle.bt_simplex.specs.Lines.{one, Terms, total}
+use Rattle.bt_line.specs.Lines.{one, Terms, total}
 use Rattle.bt_simplex.specs.SolvedForms.{slot_at}
 use Rattle.bt_simplex.specs.Tableaus.{TableauParts}
 

@@ -5,7 +5,7 @@ use Rattle.bt_frac.specs.Ratio.{Ratio, SameRatio}
 use Rattle.bt_frac.specs.Rows.{RowParts}
 use Rattle.bt_frac.specs.Values.{AreValues}
 use Rattle.bt_lin.specs.WeightedRows.{empty_row}
-use Rattle.bt_simplex.specs.Lines.{Terms, IsLine, total}
+use Rattle.bt_line.specs.Lines.{Terms, IsLine, total}
 
 -- for each position its line, where the position is in the basis
 abbrev pub Slots : Type 0

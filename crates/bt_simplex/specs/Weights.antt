@@ -6,7 +6,7 @@ use Rattle.bt_frac.specs.Rows.{RowParts, columns_of}
 use Rattle.bt_frac.specs.Deltas.{IsLessDelta}
 use Rattle.bt_frac.specs.Values.{times}
 use Rattle.bt_lin.specs.WeightedRows.{coefficient_at, weighted}
-use Rattle.bt_simplex.specs.Lines.{one, Terms}
+use Rattle.bt_line.specs.Lines.{one, Terms}
 use Rattle.bt_simplex.specs.SolvedForms.{slot_at}
 use Rattle.bt_simplex.specs.Tableaus.{TableauParts}
 use Rattle.bt_simplex.specs.Points.{bound_value, bound_row, point_at}

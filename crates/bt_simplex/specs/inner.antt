@@ -1,24 +1,16 @@
 -- What the contracts of private functions cite.
 pub mod Bases
 pub mod Carrying
-pub mod Changes
 pub mod Checking
-pub mod Forms
-pub mod Kept
 pub mod Lemmas
 pub mod Places
 pub mod Rests
 pub mod Runs
 pub mod Settling
-pub mod Shares
-pub mod ShortSteps
 pub mod ShortPoints
-pub mod Shorts
 pub mod Starts
-pub mod Steps
+pub mod SumCache
 pub mod Sums
-pub mod TermSigns
 pub mod TurnedSlots
 pub mod UnfitPoints
 pub mod UnfitTurns
-pub mod Unfits

@@ -1,6 +1,7 @@
 //! What a check of a tableau answers.
 use crate::tableau::Turn;
 use bt_frac::Frac;
+use bt_line::Operation;
 
 /// What a check found.
 #[derive(Drop)]
@@ -58,12 +59,4 @@ pub enum WidePlace {
     Settle,
     /// The sum of the rows that no values meet.
     Lemma,
-}
-
-/// An operation on two numbers.
-#[derive(Clone, Copy, PartialEq, Eq)]
-pub enum Operation {
-    Add,
-    Mul,
-    Div,
 }

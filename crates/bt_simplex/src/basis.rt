@@ -2,14 +2,14 @@
 //! line is held, or which member is outside.
 ghost use Rattle.std.specs.Prelude.{◌≡◌, ◌<◌, ◌↔◌, ◌++◌, ◌∷◌, [], length, IfOk, IfSome, IsTrue, Some, None, true};
 ghost use Rattle.bt_frac.specs.Ratio.{negated};
-ghost use Rattle.bt_simplex.specs.Lines.{one, IsLine};
-ghost use Rattle.bt_simplex.specs.Classes.{signed_terms, differ, class_terms, position_at};
+ghost use Rattle.bt_line.specs.Lines.{one, IsLine, signed_terms};
+ghost use Rattle.bt_simplex.specs.Classes.{differ, class_terms, position_at};
 ghost use Rattle.bt_simplex.specs.SolvedForms.{slot_at};
 ghost use Rattle.bt_simplex.specs.Turns.{InBasis};
 ghost use Rattle.bt_simplex.specs.inner.Places.{IsPlace};
 
-use crate::line::{Line, Room, Term, lone_line};
 use bt_frac::Frac;
+use bt_line::{Line, Room, Term, lone_line};
 use std::alloc::{AllocError, Global};
 use std::marker::Model;
 

@@ -7,21 +7,20 @@ ghost use Rattle.bt_frac.specs.Rows.{RowParts};
 ghost use Rattle.bt_simplex.specs.Causes.{IsCause};
 ghost use Rattle.bt_frac.specs.declared.delta.Delta.{Delta};
 ghost use Rattle.bt_simplex.specs.Points.{bound_value};
-ghost use Rattle.bt_simplex.specs.Classes.{signed_terms};
-ghost use Rattle.bt_simplex.specs.Lines.{one};
+ghost use Rattle.bt_line.specs.Lines.{signed_terms, one};
 ghost use Rattle.bt_simplex.specs.Turns.{Breaks, Fails, MovesTowards, CanEnter};
 ghost use Rattle.bt_simplex.specs.inner.Bases.{with_slots, IsBoundOrder, MayEnter, Names, Finds, IsLeastOf, IsNext};
-ghost use Rattle.bt_simplex.specs.inner.Kept.{AreKept};
-ghost use Rattle.bt_simplex.specs.inner.TermSigns.{IsSign, IsSignedTerm};
+ghost use Rattle.bt_simplex.specs.inner.SumCache.{AreKept};
+ghost use Rattle.bt_line.specs.TermSigns.{IsSign, IsSignedTerm};
 
 use crate::basis::{Basis, Place};
 use crate::causes::Cause;
-use crate::kept::{Kept, class_sums};
-use crate::line::Line;
 use crate::points::{bound_value, point};
-use crate::short::{breaks_at, breaks_by, order_by};
+use crate::short_points::{breaks_at, breaks_by, order_by};
+use crate::sum_cache::{SumCache, class_sums};
 use crate::tableau::{Tableau, Turn};
 use bt_frac::{Delta, Relation, Row};
+use bt_line::Line;
 use std::cmp::Ordering;
 
 /// The least position that has a property.
@@ -86,35 +85,8 @@ fn may_enter(tableau: &Tableau, bound: Ordering, position: usize, sign: Ordering
     }
 }
 
-/// The position of a term of a line, and the sign of its number, or the other sign where this is told.
-fn signed_at(line: &Line, index: usize, negated: bool) -> (usize, Ordering)
-    requires { index < length line.now }
-    ensures { IsSignedTerm (signed_terms negated line.now) index result }
-{
-    let (position, sign) = sign_at(line, index);
-    if negated {
-        (position, sign.reverse())
-    } else {
-        (position, sign)
-    }
-}
-
-/// The position of a term of a line, and the sign of its number.
-fn sign_at(line: &Line, index: usize) -> (usize, Ordering)
-    requires { index < length line.now }
-    ensures { IsSignedTerm line.now index result }
-{
-    match line.short() {
-        Some(short) => short.sign_at(index),
-        None => {
-            let (position, number) = line.term_at(index);
-            (position, number.numerator().cmp(&0))
-        }
-    }
-}
-
 /// Whether a position is a bound row of the basis that doesn't hold, where whole numbers tell it.
-fn fails_whole(tableau: &Tableau, basis: &Basis, position: usize, kept: &mut Kept) -> Option<bool>
+fn fails_whole(tableau: &Tableau, basis: &Basis, position: usize, kept: &mut SumCache) -> Option<bool>
     requires kept { AreKept tableau.now basis.now kept.old.sums.items }
     ensures told { IfSome result
         (λ told. IsTrue told ↔ Fails (with_slots tableau.now basis.now) position) }
@@ -162,7 +134,7 @@ fn fails_long(tableau: &Tableau, basis: &Basis, position: usize) -> Result<bool,
 }
 
 /// The least position that fails, which is none of the columns.
-pub fn leaving(tableau: &Tableau, basis: &Basis, kept: &mut Kept) -> Least
+pub fn leaving(tableau: &Tableau, basis: &Basis, kept: &mut SumCache) -> Least
     requires { AreKept tableau.now basis.now kept.old.sums.items }
     ensures least { Finds (with_slots tableau.now basis.now)
         (λ p. Fails (with_slots tableau.now basis.now) p) result }
@@ -190,7 +162,7 @@ fn first_entering(tableau: &Tableau, bound: Ordering, line: &Line, negated: bool
 {
     line.known();
     for index in 0..line.len() {
-        let (position, sign) = signed_at(line, index, negated);
+        let (position, sign) = line.signed_at(index, negated);
         if may_enter(tableau, bound, position, sign) {
             return Some(position);
         }
@@ -203,7 +175,7 @@ fn whole_order(
     tableau: &Tableau,
     basis: &Basis,
     position: usize,
-    kept: &mut Kept,
+    kept: &mut SumCache,
 ) -> Option<Ordering>
     requires kept { AreKept tableau.now basis.now kept.old.sums.items }
     ensures order { IfSome result (IsBoundOrder (with_slots tableau.now basis.now) position) }
@@ -232,7 +204,7 @@ fn bound_order(
     tableau: &Tableau,
     basis: &Basis,
     position: usize,
-    kept: &mut Kept,
+    kept: &mut SumCache,
 ) -> Result<Ordering, Cause>
     requires fails { Fails (with_slots tableau.now basis.now) position }
     requires kept { AreKept tableau.now basis.now kept.old.sums.items }
@@ -251,7 +223,7 @@ fn bound_order(
 }
 
 /// The least position that can enter for one that fails.
-pub fn entering(tableau: &Tableau, basis: &Basis, leaves: usize, kept: &mut Kept) -> Least
+pub fn entering(tableau: &Tableau, basis: &Basis, leaves: usize, kept: &mut SumCache) -> Least
     requires fails { Fails (with_slots tableau.now basis.now) leaves }
     requires kept { AreKept tableau.now basis.now kept.old.sums.items }
     ensures least { Finds (with_slots tableau.now basis.now)
@@ -313,7 +285,7 @@ fn alone_entering(
 }
 
 /// Bland's turn of a basis, or how the basis is final.
-pub fn blands_next(tableau: &Tableau, basis: &Basis, kept: &mut Kept) -> Next
+pub fn blands_next(tableau: &Tableau, basis: &Basis, kept: &mut SumCache) -> Next
     requires { AreKept tableau.now basis.now kept.old.sums.items }
     ensures next { IsNext (with_slots tableau.now basis.now) result }
     ensures kept { AreKept tableau.now basis.now kept.new.sums.items }

@@ -8,7 +8,7 @@ ghost use Rattle.bt_lin.specs.Farkas.{IsFarkas};
 ghost use Rattle.bt_lin.specs.WeightedRows.{coefficient_at, weighted};
 ghost use Rattle.bt_simplex.specs.Causes.{IsCause};
 ghost use Rattle.bt_simplex.specs.Checks.{RefutesBoundRows};
-ghost use Rattle.bt_simplex.specs.Lines.{one, IsLine, IsCombination};
+ghost use Rattle.bt_line.specs.Lines.{one, IsLine, IsCombination};
 ghost use Rattle.bt_simplex.specs.Points.{bound_value};
 ghost use Rattle.bt_simplex.specs.Tableaus.{IsTableau};
 ghost use Rattle.bt_simplex.specs.Turns.{IsStuckAt};
@@ -17,12 +17,12 @@ ghost use Rattle.bt_simplex.specs.inner.Lemmas.{weight_of, AreLineWeights};
 
 use crate::basis::Basis;
 use crate::causes::Cause;
-use crate::line::{Line, Term, combined};
 use crate::points::{bound_value, line_point};
 use crate::sums::sum_cause;
 use crate::tableau::Tableau;
 use bt_frac::{Delta, Frac, Row};
 use bt_lin::{SumFault, Weigher, WideAt};
+use bt_line::{Line, Term, combined};
 use std::alloc::{AllocError, Global};
 use std::cmp::Ordering;
 

@@ -2,19 +2,19 @@
 ghost use Rattle.std.specs.Prelude.{◌≡◌, IfOk, IfErr, Some};
 ghost use Rattle.bt_frac.specs.Ratio.{IsLowest};
 ghost use Rattle.bt_simplex.specs.Causes.{IsCause};
-ghost use Rattle.bt_simplex.specs.Lines.{IsLine};
+ghost use Rattle.bt_line.specs.Lines.{IsLine};
 ghost use Rattle.bt_simplex.specs.Points.{bound_value, resting, standing, point_at};
 ghost use Rattle.bt_simplex.specs.inner.Bases.{with_slots, IsSamePoint, signed_point};
-ghost use Rattle.bt_simplex.specs.inner.Unfits.{IsUnfitHere};
+ghost use Rattle.bt_line.specs.Unfits.{IsUnfitHere};
 ghost use Rattle.bt_simplex.specs.inner.UnfitPoints.{AddsPart, AddsTerm, IsUnfitTerm, IsUnfitPoint, value_cause};
 
-use crate::answers::{Operation, WidePlace};
+use crate::answers::WidePlace;
 use crate::basis::{Basis, Place};
-use crate::causes::{Cause, Unfit};
-use crate::line::{Line, Term};
-use crate::merging::is_zero;
+use crate::causes::Cause;
+use crate::short_points::short_point;
 use crate::tableau::Tableau;
 use bt_frac::{Delta, Frac, Relation, Row};
+use bt_line::{Line, Operation, Term, Unfit, is_zero};
 
 /// The least that the sum of a row may be, with the infinitesimal where it is strict.
 pub fn bound_value(row: &Row) -> Delta
@@ -97,7 +97,7 @@ pub fn line_point(tableau: &Tableau, position: usize, line: &Line) -> Result<Del
 {
     line.known();
     if let Some(short) = line.short() {
-        if let Some(point) = short.point(tableau) {
+        if let Some(point) = short_point(tableau, short) {
             return Ok(point);
         }
     }

@@ -3,14 +3,14 @@ ghost use Rattle.std.specs.Prelude.{IfOk, IfErr};
 ghost use Rattle.bt_simplex.specs.Tableaus.{IsTableau};
 ghost use Rattle.bt_simplex.specs.Turns.{IsBlandTurn};
 ghost use Rattle.bt_simplex.specs.inner.Bases.{with_slots};
-ghost use Rattle.bt_simplex.specs.inner.Kept.{AreKept};
+ghost use Rattle.bt_simplex.specs.inner.SumCache.{AreKept};
 ghost use Rattle.bt_simplex.specs.inner.Runs.{IsMade, IsRun};
 ghost use Rattle.bt_simplex.specs.inner.UnfitTurns.{IsUnfitTurn};
 
 use crate::basis::Basis;
 use crate::bland::{Next, blands_next};
 use crate::causes::Cause;
-use crate::kept::Kept;
+use crate::sum_cache::SumCache;
 use crate::tableau::{Tableau, Turn};
 use crate::turning::turn;
 use crate::workspace::Rooms;
@@ -47,7 +47,7 @@ fn make_turn(
     alloc: Global,
     basis: &mut Basis,
     rooms: &mut Rooms,
-    kept: &mut Kept,
+    kept: &mut SumCache,
     made: Turn,
 ) -> Result<Result<(), Cause>, AllocError>
     requires tableau { IsTableau (with_slots tableau.now basis.old) }
@@ -67,7 +67,7 @@ pub fn turned_from(
     alloc: Global,
     start: Basis,
     rooms: &mut Rooms,
-    kept: &mut Kept,
+    kept: &mut SumCache,
     pivots: u64,
 ) -> Result<Run, AllocError>
     requires { IsTableau (with_slots tableau.now start) }

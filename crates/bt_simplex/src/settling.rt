@@ -10,12 +10,13 @@ ghost use Rattle.bt_simplex.specs.Turns.{IsMet};
 ghost use Rattle.bt_simplex.specs.inner.Bases.{with_slots};
 ghost use Rattle.bt_simplex.specs.inner.Settling.{IsLesser, IsFallingFrom, IsRoom, IsRoomAt, IsUnfitRoom, IsSettled};
 
-use crate::answers::{Operation, WidePlace};
+use crate::answers::WidePlace;
 use crate::basis::Basis;
 use crate::causes::Cause;
 use crate::points::point;
 use crate::tableau::Tableau;
 use bt_frac::{Delta, Frac, Row};
+use bt_line::Operation;
 use std::alloc::{AllocError, Global};
 use std::cmp::Ordering;
 

@@ -7,11 +7,11 @@ ghost use Rattle.bt_simplex.specs.Weights.{weighted_rows};
 ghost use Rattle.bt_simplex.specs.inner.Sums.{IsUnfitAt, IsUnfitSum, lemma_cause};
 
 use crate::answers::WidePlace;
-use crate::causes::{Cause, Unfit};
-use crate::line::Term;
+use crate::causes::Cause;
 use crate::points::added_part;
 use bt_frac::{Frac, Row};
 use bt_lin::{Place, WideAt, part};
+use bt_line::{Term, Unfit};
 
 /// The place at which the sum is wide: the column, where the row has it, and else the bound.
 fn wide_place(rows: &[Row], weights: &[Term], at: WideAt) -> Place

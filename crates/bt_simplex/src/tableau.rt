@@ -10,12 +10,12 @@ ghost use Rattle.bt_simplex.specs.Tableaus.{AreOverColumns, IsNew, IsBoundAs, Is
 use crate::answers::{Check, Trail, Wide};
 use crate::basis::Basis;
 use crate::causes::Cause;
-use crate::kept::Kept;
 use crate::lemmas::lemma;
 use crate::rests::{Rest, all_free};
 use crate::running::{End, Run, turned_from};
 use crate::settling::settled;
 use crate::starting::{all_known, copied, first_basis, unbound};
+use crate::sum_cache::SumCache;
 use crate::trails::{bound_rows, positions};
 use crate::workspace::{Rooms, Workspace};
 use bt_frac::{Relation, Row};
@@ -187,7 +187,7 @@ impl Tableau {
     }
 
     /// Moves a basis in, and keeps the memory of the one before for the next check.
-    fn take_in(&mut self, basis: Basis, rooms: Rooms, kept: Kept)
+    fn take_in(&mut self, basis: Basis, rooms: Rooms, kept: SumCache)
         requires { IsTableau (with_slots self.old basis) }
         ensures { self.new ≡ with_slots self.old basis }
     {

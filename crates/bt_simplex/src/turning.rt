@@ -2,85 +2,25 @@
 ghost use Rattle.std.specs.Prelude.{◌≡◌, ◌≢◌, ℕ, ◌<◌, ◌-◌, ◌^◌, pos, length, slice_set, IfOk, IfErr, IfSome, IfNone, Some, None};
 ghost use Rattle.bt_frac.specs.Ratio.{IsLowest, negated};
 ghost use Rattle.bt_lin.specs.WeightedRows.{coefficient_at};
-ghost use Rattle.bt_simplex.specs.Lines.{one, Terms, IsLine, HasNumber};
+ghost use Rattle.bt_line.specs.Lines.{one, Terms, IsLine, HasNumber};
 ghost use Rattle.bt_simplex.specs.Classes.{position_at};
 ghost use Rattle.bt_simplex.specs.SolvedForms.{Slots, slot_at};
-ghost use Rattle.bt_simplex.specs.inner.Changes.{IsChange};
+ghost use Rattle.bt_line.specs.Changes.{IsChange};
 ghost use Rattle.bt_simplex.specs.Tableaus.{TableauParts};
-ghost use Rattle.bt_simplex.specs.inner.TurnedSlots.{IsZeroLine, AreLines, IsSubstituted, IsUnfitChange, AreSubstituted, with_line, IsEntering, IsTurned};
-ghost use Rattle.bt_simplex.specs.inner.Kept.{LinesStay, OthersStay, SlotsStay};
-ghost use Rattle.bt_simplex.specs.inner.Shares.{IsNegatedShare, AreNegatedShares};
-ghost use Rattle.bt_simplex.specs.inner.UnfitTurns.{IsUnfitShare, IsUnfitTerm, IsUnfitZero, IsUnfitSlot, CanPart, IsSlotZero, IsUnfitPart, IsUnfitLine, IsUnfitTurn, entry_cause};
+ghost use Rattle.bt_line.specs.Substituting.{IsZeroLine, IsSubstituted, IsUnfitChange, IsEntering};
+ghost use Rattle.bt_simplex.specs.inner.TurnedSlots.{AreLines, AreSubstituted, with_line, IsTurned};
+ghost use Rattle.bt_simplex.specs.inner.SumCache.{LinesStay, OthersStay, SlotsStay};
+ghost use Rattle.bt_simplex.specs.inner.UnfitTurns.{IsUnfitSlot, CanPart, IsSlotZero, IsUnfitPart, IsUnfitLine, IsUnfitTurn, entry_cause};
 
-use crate::answers::{Operation, WidePlace};
+use crate::answers::WidePlace;
 use crate::basis::{Basis, Member};
-use crate::causes::{Cause, Unfit};
-use crate::kept::{Kept, sums_of};
-use crate::line::{Line, Room, Term, combined};
-use crate::short::Change;
+use crate::causes::Cause;
+use crate::sum_cache::{SumCache, sums_of};
 use crate::tableau::Tableau;
 use crate::workspace::{Rooms, Workspace};
 use bt_frac::Frac;
+use bt_line::{Change, Line, Operation, Room, Unfit, combined, zero_line};
 use std::alloc::{AllocError, Global};
-
-/// The term of a position with the negated quotient of two numbers; or the quotient that doesn't fit.
-fn negated_share(position: usize, number: &Frac, by: &Frac) -> Result<Term, Unfit>
-    requires { by.now.over ≢ pos 0 }
-    ensures share { IfOk result (IsNegatedShare by.now (position, number.now)) }
-    ensures unfit { IfErr result (IsUnfitShare position number.now by.now) }
-{
-    let Some(share) = number.div(by) else {
-        return Err(Unfit {
-            column: position,
-            operation: Operation::Div,
-            left: *number,
-            right: *by,
-        });
-    };
-    Ok((position, share.negate()))
-}
-
-/// The negated quotients of all terms by a number; or a quotient that doesn't fit.
-fn divided(alloc: Global, terms: &[Term], by: &Frac) -> Result<Result<Vec<Term>, Unfit>, AllocError>
-    requires line { IsLine terms.now }
-    requires lowest { IsLowest by.now }
-    requires some { by.now.over ≢ pos 0 }
-    ensures shares { IfOk result (λ o. IfOk o (λ v. AreNegatedShares by.now terms.now v.items)) }
-    ensures unfit { IfOk result (λ o. IfErr o (IsUnfitTerm terms.now by.now)) }
-{
-    let mut shares = Vec::with_capacity(alloc, terms.len())?;
-    for (position, number) in terms {
-        match negated_share(*position, number, by) {
-            Ok(share) => shares.push(share)?,
-            Err(unfit) => return Ok(Err(unfit)),
-        }
-    }
-    Ok(Ok(shares))
-}
-
-/// The line that is 0 wherever the given line holds of its position; or a quotient that doesn't fit.
-fn zero_line(
-    alloc: Global,
-    position: usize,
-    terms: &[Term],
-    number: &Frac,
-) -> Result<Result<Line, Unfit>, AllocError>
-    requires position { position < 2 ^ 64 - 1 }
-    requires line { IsLine terms.now }
-    requires number { HasNumber (position, number.now) }
-    requires lacks { coefficient_at position terms.now ≡ None }
-    ensures zero { IfOk result (λ o. IfOk o (IsZeroLine position terms.now number.now)) }
-    ensures unfit { IfOk result (λ o. IfErr o (IsUnfitZero position terms.now number.now)) }
-{
-    let shares = match divided(alloc, terms, number)? {
-        Ok(shares) => shares,
-        Err(unfit) => return Ok(Err(unfit)),
-    };
-    match negated_share(position, &Frac::whole(-1), number) {
-        Ok(share) => combined(alloc, &[share], &Frac::whole(1), &shares),
-        Err(unfit) => Ok(Err(unfit)),
-    }
-}
 
 /// Puts what the entering position stands for in place of it in the line of a slot, by small whole numbers. A
 /// room is taken for the new terms, and that of the old ones is left.
@@ -148,7 +88,7 @@ fn substitute(
     alloc: Global,
     rooms: &mut Rooms,
     slots: &mut [Option<Line>],
-    kept: &mut Kept,
+    kept: &mut SumCache,
     enters: usize,
     zero: &Line,
 ) -> Result<Result<(), Cause>, AllocError>
@@ -266,7 +206,7 @@ fn substitute_others(
     alloc: Global,
     rooms: &mut Rooms,
     lines: &mut [Option<Line>],
-    kept: &mut Kept,
+    kept: &mut SumCache,
     left: usize,
     enters: usize,
     zero: &Line,
@@ -296,7 +236,7 @@ fn substitute_others(
 fn put_line(
     rooms: &mut Rooms,
     lines: &mut [Option<Line>],
-    kept: &mut Kept,
+    kept: &mut SumCache,
     left: usize,
     class: usize,
     line: Line,
@@ -336,7 +276,7 @@ pub fn turn(
     alloc: Global,
     rooms: &mut Rooms,
     basis: &mut Basis,
-    kept: &mut Kept,
+    kept: &mut SumCache,
     leaves: usize,
     enters: usize,
 ) -> Result<Result<(), Cause>, AllocError>

@@ -3,8 +3,8 @@
 ghost use Rattle.std.specs.Prelude.{◌≡◌, [], IfOk};
 
 use crate::basis::Basis;
-use crate::kept::Kept;
-use crate::line::{Line, Room};
+use crate::sum_cache::SumCache;
+use bt_line::{Line, Room};
 use std::alloc::{AllocError, Global};
 
 /// Memory for lines.
@@ -52,7 +52,7 @@ impl Rooms {
 pub struct Workspace {
     pub basis: Basis,
     pub rooms: Rooms,
-    pub kept: Kept,
+    pub kept: SumCache,
 }
 
 impl Workspace {
@@ -63,7 +63,7 @@ impl Workspace {
         Workspace {
             basis: Basis::empty(alloc),
             rooms: Rooms::none(alloc),
-            kept: Kept::none(alloc),
+            kept: SumCache::none(alloc),
         }
     }
 

@@ -8,8 +8,8 @@ use Rattle.bt_simplex.specs.declared.answers.Trail.{Trail}
 use Rattle.bt_simplex.specs.declared.answers.Wide.{Wide}
 use Rattle.bt_simplex.specs.declared.answers.WidePlace.{WidePlace}
 use Rattle.bt_simplex.specs.declared.answers.WidePlace.TheVariants.{Entry, Value, Settle, Lemma}
-use Rattle.bt_simplex.specs.declared.answers.Operation.{Operation}
-use Rattle.bt_simplex.specs.declared.answers.Operation.TheVariants.{Add, Mul, Div}
+use Rattle.bt_line.specs.declared.unfit.Operation.{Operation}
+use Rattle.bt_line.specs.declared.unfit.Operation.TheVariants.{Add, Mul, Div}
 
 -- a number with a space in front
 abbrev pub number_text : ℕ → List ℕ

@@ -1,8 +1,8 @@
 -- Sums of a line that a turn changes, by those before it and those of the zero line.
 use Rattle.std.specs.Prelude.{◌≡◌, ◌+ℤ◌, ◌*ℤ◌, Option, Some}
-use Rattle.bt_simplex.specs.declared.short.merging.Scales.{Scales}
-use Rattle.bt_simplex.specs.declared.short.points.ClassSums.{ClassSums}
-use Rattle.bt_simplex.specs.declared.short.points.Sums.{Sums}
+use Rattle.bt_line.specs.declared.short.merging.Scales.{Scales}
+use Rattle.bt_simplex.specs.declared.short_points.ClassSums.{ClassSums}
+use Rattle.bt_simplex.specs.declared.short_points.Sums.{Sums}
 
 -- these are the sums of a line, over its denominator, and a number times another, over that one's, by their scales
 pub record AreCarried (scales : Scales) (before other after : Sums) : Type 0 where

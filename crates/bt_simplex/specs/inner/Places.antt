@@ -1,7 +1,6 @@
 -- Where a position stands.
 use Rattle.std.specs.Prelude.{◌≡◌, ℕ, ◌<◌, ◌-◌, ◌^◌, ◌∷◌, [], Some, None}
-use Rattle.bt_simplex.specs.Lines.{one}
-use Rattle.bt_simplex.specs.Classes.{signed_terms}
+use Rattle.bt_line.specs.Lines.{one, signed_terms}
 use Rattle.bt_simplex.specs.SolvedForms.{Slots, slot_at}
 use Rattle.bt_simplex.specs.declared.basis.Place.{Place}
 use Rattle.bt_simplex.specs.declared.basis.Place.TheVariants.{Line, Like, Outside}

@@ -2,7 +2,7 @@
 use Rattle.std.specs.Prelude.{◌≡◌, ℕ, ◌≤◌, List, Some, length}
 use Rattle.bt_frac.specs.Ratio.{Ratio}
 use Rattle.bt_lin.specs.WeightedRows.{coefficient_at}
-use Rattle.bt_simplex.specs.Lines.{Terms}
+use Rattle.bt_line.specs.Lines.{Terms}
 use Rattle.bt_simplex.specs.SolvedForms.{Slots, slot_at, basis_of}
 use Rattle.bt_simplex.specs.Causes.{IsCause}
 use Rattle.bt_simplex.specs.Tableaus.{TableauParts, IsTableau}

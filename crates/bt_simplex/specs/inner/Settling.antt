@@ -6,9 +6,10 @@ use Rattle.bt_frac.specs.Values.{plus, times}
 use Rattle.bt_frac.specs.declared.delta.Delta.{Delta}
 use Rattle.bt_simplex.specs.Tableaus.{TableauParts}
 use Rattle.bt_simplex.specs.Points.{point_at}
-use Rattle.bt_simplex.specs.Causes.{IsNone, IsFalling, IsHalfRoom, IsNumber}
-use Rattle.bt_simplex.specs.declared.answers.Operation.{Operation}
-use Rattle.bt_simplex.specs.declared.answers.Operation.TheVariants.{Add, Mul, Div}
+use Rattle.bt_line.specs.Unfits.{IsNone}
+use Rattle.bt_simplex.specs.Causes.{IsFalling, IsHalfRoom, IsNumber}
+use Rattle.bt_line.specs.declared.unfit.Operation.{Operation}
+use Rattle.bt_line.specs.declared.unfit.Operation.TheVariants.{Add, Mul, Div}
 use Rattle.bt_simplex.specs.declared.answers.WidePlace.TheVariants.{Settle}
 use Rattle.bt_simplex.specs.declared.causes.Cause.{Cause}
 

@@ -6,13 +6,13 @@ use Rattle.bt_frac.specs.declared.delta.Delta.{Delta}
 use Rattle.bt_frac.specs.declared.row.Relation.{Relation}
 use Rattle.bt_frac.specs.declared.row.Relation.TheVariants.{Equal}
 use Rattle.bt_simplex.specs.Points.{tiny_of, bound_value, resting, standing}
-use Rattle.bt_simplex.specs.Lines.{Terms}
+use Rattle.bt_line.specs.Lines.{Terms}
 use Rattle.bt_simplex.specs.SolvedForms.{Slots, slot_at}
 use Rattle.bt_simplex.specs.Tableaus.{TableauParts}
 use Rattle.bt_simplex.specs.Turns.{Breaks}
 use Rattle.bt_simplex.specs.inner.Bases.{IsSamePoint, signed_point}
-use Rattle.bt_simplex.specs.declared.short.points.Sums.{Sums}
-use Rattle.bt_simplex.specs.declared.short.points.ClassSums.{ClassSums}
+use Rattle.bt_simplex.specs.declared.short_points.Sums.{Sums}
+use Rattle.bt_simplex.specs.declared.short_points.ClassSums.{ClassSums}
 
 -- the sums over their denominator
 abbrev pub delta_of : Sums → Delta

@@ -5,9 +5,10 @@ use Rattle.bt_frac.specs.Rows.{RowParts}
 use Rattle.bt_lin.specs.WeightedRows.{number_of}
 use Rattle.bt_lin.specs.declared.places.Place.{Place}
 use Rattle.bt_lin.specs.declared.wide.WideAt.{WideAt}
-use Rattle.bt_simplex.specs.Causes.{IsNone, IsRowStep}
+use Rattle.bt_line.specs.Unfits.{IsNone}
+use Rattle.bt_simplex.specs.Causes.{IsRowStep}
 use Rattle.bt_simplex.specs.declared.answers.WidePlace.TheVariants.{Lemma}
-use Rattle.bt_simplex.specs.declared.causes.Unfit.{Unfit}
+use Rattle.bt_line.specs.declared.unfit.Unfit.{Unfit}
 use Rattle.bt_simplex.specs.declared.causes.Cause.{Cause}
 
 -- the cause of a row of a sum

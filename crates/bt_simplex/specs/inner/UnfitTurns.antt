@@ -2,29 +2,16 @@
 use Rattle.std.specs.Prelude.{◌≡◌, ◌≢◌, ◌⊎◌, ℕ, length, Option, Some, None}
 use Rattle.bt_frac.specs.Ratio.{Ratio, negated}
 use Rattle.bt_lin.specs.WeightedRows.{coefficient_at}
-use Rattle.bt_simplex.specs.Lines.{one, Terms, IsLine}
+use Rattle.bt_line.specs.Lines.{one, Terms, IsLine}
 use Rattle.bt_simplex.specs.SolvedForms.{Slots, slot_at, basis_of}
-use Rattle.bt_simplex.specs.Causes.{IsNone, IsEntryStep}
-use Rattle.bt_simplex.specs.declared.answers.Operation.{Operation}
-use Rattle.bt_simplex.specs.declared.answers.Operation.TheVariants.{Add, Mul, Div}
+use Rattle.bt_line.specs.Unfits.{IsNone, IsUnfit, IsUnfitZero}
+use Rattle.bt_simplex.specs.Causes.{IsEntryStep}
+use Rattle.bt_line.specs.declared.unfit.Operation.{Operation}
+use Rattle.bt_line.specs.declared.unfit.Operation.TheVariants.{Add, Mul, Div}
 use Rattle.bt_simplex.specs.declared.answers.WidePlace.TheVariants.{Entry}
-use Rattle.bt_simplex.specs.declared.causes.Unfit.{Unfit}
+use Rattle.bt_line.specs.declared.unfit.Unfit.{Unfit}
 use Rattle.bt_simplex.specs.declared.causes.Cause.{Cause}
-use Rattle.bt_simplex.specs.inner.TurnedSlots.{IsZeroLine}
-use Rattle.bt_simplex.specs.inner.Unfits.{IsUnfit}
-
--- the quotient of two numbers doesn't fit
-abbrev pub IsUnfitShare : ℕ → Ratio → Ratio → Unfit → Type 0
-IsUnfitShare position number by unfit =
-    (unfit ≡ record { column = position; operation = Div; left = number; right = by }) × IsNone Div number by
-
--- the quotient of a line's number doesn't fit
-abbrev pub IsUnfitTerm : Terms → Ratio → Unfit → Type 0
-IsUnfitTerm terms by unfit = (number : Ratio) × (coefficient_at unfit.column terms ≡ Some number) × IsUnfitShare unfit.column number by unfit
-
--- the same, or that of -1, which is the position's own number
-abbrev pub IsUnfitZero : ℕ → Terms → Ratio → Unfit → Type 0
-IsUnfitZero position terms by unfit = IsUnfitTerm terms by unfit ⊎ IsUnfitShare position (negated one) by unfit
+use Rattle.bt_line.specs.Substituting.{IsZeroLine}
 
 -- the cause, by the numbers of the solved form before the turn
 abbrev pub seen_right : Operation → Ratio → Ratio

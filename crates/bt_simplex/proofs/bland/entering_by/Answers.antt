@@ -1,5 +1,4 @@
-use Rattle.bt_simplex.specs.Classes.{signed_terms}
-use Rattle.bt_simplex.specs.Lines.{one}
+use Rattle.bt_line.specs.Lines.{signed_terms, one}
 use Rattle.bt_simplex.specs.inner.Bases.{with_slots}
 use Rattle.std.proofs.Common.{◌∷◌, []}
 use Rattle.bt_simplex.proofs.Failing.{enters_by, enters_line}

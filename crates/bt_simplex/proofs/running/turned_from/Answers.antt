@@ -1,7 +1,7 @@
 use Rattle.std.proofs.Common.{◌+◌, ◌≤◌, IfOk, IfErr, arith, length, rules, subst, sym}
 use Rattle.bt_simplex.specs.Turns.{Follows}
 use Rattle.bt_simplex.specs.inner.Bases.{with_slots, IsNext}
-use Rattle.bt_simplex.specs.inner.Kept.{AreKept}
+use Rattle.bt_simplex.specs.inner.SumCache.{AreKept}
 use Rattle.bt_simplex.specs.inner.Runs.{IsMade}
 use Rattle.bt_simplex.specs.inner.UnfitTurns.{IsUnfitTurn}
 use Rattle.bt_simplex.proofs.KeptSums.{nothing_kept}

@@ -1,5 +1,5 @@
 use Rattle.std.proofs.Common.{◌≡◌, ◌∙◌, ap, sym, subst}
-use Rattle.bt_simplex.specs.Lines.{IsLineFrom}
+use Rattle.bt_line.specs.Lines.{IsLineFrom}
 use Rattle.bt_simplex.specs.inner.Starts.{kept}
 use Rattle.bt_simplex.proofs.FirstLines.{kept_line}
 use Rattle.bt_simplex.proofs.starting.row_line.Goals as goal

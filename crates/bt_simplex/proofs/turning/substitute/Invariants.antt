@@ -1,4 +1,4 @@
-use Rattle.bt_simplex.specs.inner.Kept.{LinesStay}
+use Rattle.bt_simplex.specs.inner.SumCache.{LinesStay}
 use Rattle.bt_simplex.proofs.Substitutions.{ArePartlySubstituted}
 use Rattle.bt_simplex.proofs.turning.substitute.Given as goal
 

@@ -1,7 +1,7 @@
 use Rattle.std.proofs.Common.{◌≡◌, None, IfOk, IfErr, set, subst, ◌∙◌}
 use Rattle.std.proofs.lemmas.List.{get_or_default}
 use Rattle.bt_simplex.specs.SolvedForms.{slot_at}
-use Rattle.bt_simplex.specs.inner.Kept.{LinesStay}
+use Rattle.bt_simplex.specs.inner.SumCache.{LinesStay}
 use Rattle.bt_simplex.specs.inner.UnfitTurns.{IsUnfitSlot}
 use Rattle.bt_simplex.proofs.KeptSums.{others_stay}
 use Rattle.bt_simplex.proofs.UnfitTurns.{put_back}

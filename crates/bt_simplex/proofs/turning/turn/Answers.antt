@@ -1,11 +1,12 @@
 use Rattle.std.proofs.Common.{◌≡◌, ◌<◌, ◌-◌, ◌^◌, ℕ, arith, length, false, set, None, IfOk, IfErr, ap, sym, ◌∙◌, subst}
 use Rattle.std.specs.Vec.{with_items}
 use Rattle.std.proofs.lemmas.List.{with_items_is}
-use Rattle.bt_simplex.specs.Classes.{signed_terms, member_at, position_at, slot_of, slots_of, AreClasses}
+use Rattle.bt_line.specs.Lines.{signed_terms}
+use Rattle.bt_simplex.specs.Classes.{member_at, position_at, slot_of, slots_of, AreClasses}
 use Rattle.bt_simplex.specs.SolvedForms.{slot_at}
 use Rattle.bt_simplex.specs.declared.basis.Member.{Member}
 use Rattle.bt_simplex.specs.declared.causes.Cause.{Cause}
-use Rattle.bt_simplex.specs.inner.Kept.{AreOwn, LinesStay, OthersStay, SlotsStay}
+use Rattle.bt_simplex.specs.inner.SumCache.{AreOwn, LinesStay, OthersStay, SlotsStay}
 use Rattle.bt_simplex.specs.inner.TurnedSlots.{AreLines, AreSubstituted, with_line, IsTurned}
 use Rattle.bt_simplex.specs.inner.UnfitTurns.{IsSlotZero, IsUnfitLine, IsUnfitPart, IsUnfitTurn}
 use Rattle.bt_simplex.proofs.Classes.{slots_length, read_is, class_in, classes_turned, classes_after, classes_unfit, lines_count}

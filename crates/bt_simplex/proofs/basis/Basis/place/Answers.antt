@@ -1,6 +1,6 @@
 use Rattle.std.proofs.Common.{◌≡◌, ◌<◌, ◌≤◌, arith, length, false, Some, None, [], ◌∷◌, ap, sym, ◌∙◌, subst}
-use Rattle.bt_simplex.specs.Lines.{one}
-use Rattle.bt_simplex.specs.Classes.{signed_terms, member_at, slots_of}
+use Rattle.bt_line.specs.Lines.{one, signed_terms}
+use Rattle.bt_simplex.specs.Classes.{member_at, slots_of}
 use Rattle.bt_simplex.specs.SolvedForms.{slot_at}
 use Rattle.bt_simplex.proofs.Classes.{slot_past, read_is, line_at, like_at, itself_at, first_slot, class_in}
 use Rattle.bt_simplex.proofs.basis.Basis.place.Goals as goal

@@ -1,0 +1,13 @@
+pub mod Indicators
+pub mod NamedTerms
+pub mod Numbers
+pub mod Shares
+pub mod ShortWalks
+pub mod ShortZeros
+pub mod Shorts
+pub mod SignedLines
+pub mod TermSigns
+pub mod Totals
+pub mod UnfitLines
+pub mod Walks
+pub mod Zeros

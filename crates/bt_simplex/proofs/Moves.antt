@@ -1,0 +1,68 @@
+-- Where a number of a sign moves a row.
+use Rattle.std.proofs.Common.{◌≡◌, ℕ, zero, suc, true, [], ◌∷◌, ◌<◌, ◌^◌, arith, ℤ, pos, neg_ℤ, ◌*ℤ◌, ◌<ℤ◌, ◌↔◌, Ordering, Less, Equal, Greater, length, get_or, ap, sym, ◌∙◌, refl, subst, inl, inr}
+use Rattle.std.proofs.lemmas.Int.{ints}
+use Rattle.std.proofs.Math.IntN.{zero-*ℤ}
+use Rattle.std.specs.Ordering.{ordering_reverse}
+use Rattle.bt_frac.specs.Ratio.{Ratio, negated}
+use Rattle.bt_frac.specs.Rows.{RowParts}
+use Rattle.bt_frac.specs.Deltas.{IsLessDelta, SameDelta}
+use Rattle.bt_frac.specs.declared.delta.Delta.{Delta}
+use Rattle.bt_frac.proofs.Order.{mul_cancel}
+use Rattle.bt_lin.proofs.SameNumbers.{above_same}
+use Rattle.bt_line.specs.Lines.{signed_terms, Terms}
+use Rattle.bt_simplex.specs.Points.{bound_value}
+use Rattle.bt_simplex.specs.Turns.{MovesTowards}
+use Rattle.bt_line.specs.Shorts.{Numbers, reduced, terms_over, IsSmall, IsShort}
+use Rattle.bt_line.specs.TermSigns.{IsSign, IsSignedTerm}
+use Rattle.bt_line.proofs.Shorts.{over_of, length_over, item_over, reduced_lowest, reduced_over, reduced_negated}
+
+both_ways : {x y : ℤ} → x <ℤ y → y <ℤ x → ⊥
+both_ways {x} {y} p q = omega (arith, ints)
+
+less_even : {x y : ℤ} → x <ℤ y → x ≡ y → ⊥
+less_even {x} {y} p q = omega (arith, ints)
+
+opposed : (a b : Delta) → IsLessDelta a b → IsLessDelta b a → ⊥
+opposed a b (inl p) (inl q) = both_ways p q
+opposed a b (inl p) (inr (s, q)) = less_even p (sym s)
+opposed a b (inr (s, p)) (inl q) = less_even q (sym s)
+opposed a b (inr (s, p)) (inr (r, q)) = both_ways p q
+
+even : (a b : Delta) → SameDelta a b → IsLessDelta a b → ⊥
+even a b same (inl h) = less_even h same.0
+even a b same (inr (s, h)) = less_even h same.1
+
+even_back : (a b : Delta) → SameDelta a b → IsLessDelta b a → ⊥
+even_back a b same (inl h) = less_even h (sym same.0)
+even_back a b same (inr (s, h)) = less_even h (sym same.1)
+
+up_is : (o : Ordering) (z : ℤ) → IsSign o z → pos 0 <ℤ z → o ≡ Greater
+up_is Less z sign up = absurd (omega (arith, ints))
+up_is Equal z sign up = absurd (omega (arith, ints))
+up_is Greater z sign up = refl
+
+down_is : (o : Ordering) (z : ℤ) → IsSign o z → z <ℤ pos 0 → o ≡ Less
+down_is Less z sign down = refl
+down_is Equal z sign down = absurd (omega (arith, ints))
+down_is Greater z sign down = absurd (omega (arith, ints))
+
+-- below its bound value a row is moved towards it by a number above 0
+pub moves_up : (row : RowParts) (point : Delta) (number : Ratio) (o : Ordering) → IsLessDelta point (bound_value row) → IsSign o number.over → (o ≡ Greater) ↔ MovesTowards row point number
+moves_up row point number o below sign = (λ e. inl (below, subst (λ s. IsSign s number.over) e sign), λ moves. told moves)
+  where
+    told : MovesTowards row point number → o ≡ Greater
+    told (inl (less, up)) = up_is o number.over sign up
+    told (inr (more, down)) = absurd (opposed point (bound_value row) below more)
+
+-- above it by a number below 0
+pub moves_down : (row : RowParts) (point : Delta) (number : Ratio) (o : Ordering) → IsLessDelta (bound_value row) point → IsSign o number.over → (o ≡ Less) ↔ MovesTowards row point number
+moves_down row point number o above sign = (λ e. inr (above, subst (λ s. IsSign s number.over) e sign), λ moves. told moves)
+  where
+    told : MovesTowards row point number → o ≡ Less
+    told (inl (less, up)) = absurd (opposed point (bound_value row) less above)
+    told (inr (more, down)) = down_is o number.over sign down
+
+-- at it by none
+pub moves_none : (row : RowParts) (point : Delta) (number : Ratio) → SameDelta (bound_value row) point → MovesTowards row point number → ⊥
+moves_none row point number same (inl (less, up)) = even_back (bound_value row) point same less
+moves_none row point number same (inr (more, down)) = even (bound_value row) point same more
