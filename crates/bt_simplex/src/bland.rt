@@ -86,7 +86,12 @@ fn may_enter(tableau: &Tableau, bound: Ordering, position: usize, sign: Ordering
 }
 
 /// Whether a position is a bound row of the basis that doesn't hold, where whole numbers tell it.
-fn fails_whole(tableau: &Tableau, basis: &Basis, position: usize, kept: &mut SumCache) -> Option<bool>
+fn fails_whole(
+    tableau: &Tableau,
+    basis: &Basis,
+    position: usize,
+    kept: &mut SumCache,
+) -> Option<bool>
     requires kept { AreKept tableau.now basis.now kept.old.sums.items }
     ensures told { IfSome result
         (λ told. IsTrue told ↔ Fails (with_slots tableau.now basis.now) position) }
