@@ -6,7 +6,10 @@ ghost use Rattle.bt_layout.specs.inner.Likely.{IsLaidOut, IsTrial, Solves};
 
 use bt_cnf::{Formula, Lit};
 use bt_model::Request;
-use bt_narrow::{Attempt, Choice, attempts, first_rows, narrowings, no_tunnels, places};
+use bt_narrow::{
+    Attempt, Choice, Course, attempts, first_rows, looped_places, looped_rows, narrowings,
+    no_tunnels, places,
+};
 use bt_parts::{Part, Rect};
 use bt_place::{Numbers, decode, encode_place, literal_of, narrow};
 use bt_sat::{Active, Answer, Part as PlanPart, Plan, Solver, Turn};
@@ -17,6 +20,12 @@ const RESTART_STEPS: u64 = 100;
 
 /// For so many steps it is chosen that nothing is under the ground, and for so many it isn't.
 const TURN_STEPS: u64 = 1024;
+
+/// For so many steps splitters of a network with loops stand in one of several orders.
+const ORDER_STEPS: u64 = 2048;
+
+/// How many orders serve by turns.
+const ORDERS: u64 = 8;
 
 /// What a search for a layout where one is likely comes to.
 #[derive(Drop)]
@@ -65,7 +74,7 @@ pub fn placing(alloc: Global, formula: &Formula, request: &Request) -> Result<Pl
 
 /// The plan that all goes from the south to the north, as long as that can be; that the splitters are placed then; and,
 /// by turns, that nothing is under the ground.
-fn likely(
+fn straight(
     alloc: Global,
     formula: &Formula,
     numbers: &Numbers,
@@ -89,6 +98,46 @@ fn likely(
     };
     plan.push(PlanPart::new(lits, turn, false))?;
     Ok(plan)
+}
+
+/// The plan that all but what leads back goes from the south to the north, as long as that can be, and that the splitters
+/// are placed then and the ways back: by turns in several orders.
+fn looped(
+    alloc: Global,
+    formula: &Formula,
+    numbers: &Numbers,
+    request: &Request,
+    attempt: Attempt,
+) -> Result<Plan, AllocError> {
+    let mut plan = Plan::new(alloc, RESTART_STEPS);
+    let rows = looped_rows(alloc, request)?;
+    for number in 0..ORDERS {
+        let turn = Turn {
+            steps: ORDER_STEPS,
+            of: ORDERS,
+            number,
+        };
+        let lits = literals_of(alloc, formula, numbers, &rows)?;
+        plan.push(PlanPart::new(lits, turn, true))?;
+        let chosen = looped_places(alloc, request, attempt.spread, number as usize)?;
+        let lits = literals_of(alloc, formula, numbers, &chosen)?;
+        plan.push(PlanPart::new(lits, turn, false))?;
+    }
+    Ok(plan)
+}
+
+/// The plan of an attempt.
+fn likely(
+    alloc: Global,
+    formula: &Formula,
+    numbers: &Numbers,
+    request: &Request,
+    attempt: Attempt,
+) -> Result<Plan, AllocError> {
+    match attempt.course {
+        Course::Straight => straight(alloc, formula, numbers, request, attempt),
+        Course::Looped => looped(alloc, formula, numbers, request, attempt),
+    }
 }
 
 /// The placement formula with more clauses, which not every layout meets.

@@ -40,7 +40,7 @@ fn from_inputs(alloc: Global, edges: &[Edge], splitters: usize) -> Result<Vec<u3
 }
 
 /// How many splitters there are at least on the way from the start of each splitter to an output.
-fn to_outputs(alloc: Global, edges: &[Edge], splitters: usize) -> Result<Vec<u32>, AllocError> {
+pub fn to_outputs(alloc: Global, edges: &[Edge], splitters: usize) -> Result<Vec<u32>, AllocError> {
     let mut distances = vec![in alloc; NEVER; splitters]?;
     for _ in 0..splitters {
         for edge in edges {

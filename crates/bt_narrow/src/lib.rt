@@ -7,12 +7,17 @@
 mod around;
 mod levels;
 mod likely;
+mod looped;
+mod loops;
 mod narrowing;
 mod network;
+mod returning;
+mod sides;
 mod twins;
 mod windows;
 
 pub use likely::{Choice, first_rows, no_tunnels, places};
+pub use looped::{looped_places, looped_rows};
 pub use narrowing::narrowings;
 pub use std::alloc::AllocError as Memory;
-pub use windows::{Attempt, attempts, is_likely, whole};
+pub use windows::{Attempt, Course, attempts, is_likely, whole};
