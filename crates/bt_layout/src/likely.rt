@@ -61,6 +61,21 @@ fn literals_of(
     Ok(lits)
 }
 
+/// Adds that choices are made in their turn.
+fn push_choices(
+    alloc: Global,
+    plan: &mut Plan,
+    formula: &Formula,
+    numbers: &Numbers,
+    choices: &[Choice],
+    turn: Turn,
+    is_brittle: bool,
+) -> Result<(), AllocError> {
+    let lits = literals_of(alloc, formula, numbers, choices)?;
+    plan.push(PlanPart::new(lits, turn, is_brittle))?;
+    Ok(())
+}
+
 /// The plan that the splitters are placed first, from both ends of the network to its middle.
 pub fn placing(alloc: Global, formula: &Formula, request: &Request) -> Result<Plan, AllocError> {
     let numbers = Numbers::new(alloc, request)?;
@@ -84,19 +99,17 @@ fn straight(
     let Attempt { window, spread, .. } = attempt;
     let mut plan = Plan::new(alloc, RESTART_STEPS);
     let rows = first_rows(alloc, request, window)?;
-    let lits = literals_of(alloc, formula, numbers, &rows)?;
-    plan.push(PlanPart::new(lits, Turn::always(), true))?;
+    let always = Turn::always();
+    push_choices(alloc, &mut plan, formula, numbers, &rows, always, true)?;
     let chosen = places(alloc, request, window, spread)?;
-    let lits = literals_of(alloc, formula, numbers, &chosen)?;
-    plan.push(PlanPart::new(lits, Turn::always(), false))?;
+    push_choices(alloc, &mut plan, formula, numbers, &chosen, always, false)?;
     let flat = no_tunnels(alloc, request)?;
-    let lits = literals_of(alloc, formula, numbers, &flat)?;
     let turn = Turn {
         steps: TURN_STEPS,
         of: 2,
         number: 0,
     };
-    plan.push(PlanPart::new(lits, turn, false))?;
+    push_choices(alloc, &mut plan, formula, numbers, &flat, turn, false)?;
     Ok(plan)
 }
 
@@ -117,11 +130,9 @@ fn looped(
             of: ORDERS,
             number,
         };
-        let lits = literals_of(alloc, formula, numbers, &rows)?;
-        plan.push(PlanPart::new(lits, turn, true))?;
         let chosen = looped_places(alloc, request, attempt.spread, number as usize)?;
-        let lits = literals_of(alloc, formula, numbers, &chosen)?;
-        plan.push(PlanPart::new(lits, turn, false))?;
+        push_choices(alloc, &mut plan, formula, numbers, &rows, turn, true)?;
+        push_choices(alloc, &mut plan, formula, numbers, &chosen, turn, false)?;
     }
     Ok(plan)
 }
