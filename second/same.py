@@ -23,13 +23,22 @@ from check import Answer, Formula, need
 from exhaust import network
 
 PAIRS, MUTANTS, SECONDS = 300, 12, 20
+COMPARED = 64  # edges are compared where neither network has more of them than this
 WORDS = ("0", "1", "-1", "1/2", "2/3", "3/2", "-7", "f", "b", "r", "")  # what a word of a mutant becomes
 DIFFER = ("differ", "load", "room", "flow", "mark", "flow", "mark", "end")
 
 
+def are_abreast(edge, other):
+    """Whether they begin at one input, or end at one output, or both lead from splitter to splitter."""
+    (start, target), (origin, aim) = (edge.start, edge.target), (other.start, other.target)
+    return (start == origin and start[0] == "i") or (target == aim and target[0] == "o") or (
+        start[0] == target[0] == origin[0] == aim[0] == "s")
+
+
 def same_formula(first, second):
-    """The laws of a state of each network, of equal loads and rooms, and that an output carries another flow. Variables
-    are the first network's marks, the second's, and the rows; columns are flows alike, and then loads and rooms."""
+    """The laws of a state of each network, of equal loads and rooms, which of two edges that may carry the same carries
+    more, and that an output carries another flow. Variables are the first network's marks, the second's, and the rows;
+    columns are flows alike, and then loads and rooms."""
     edges, others = len(first.edges), len(second.edges)
     formula = Formula(edges + others)
     for net, before, behind in (first, 0, others), (second, edges, 0):
@@ -44,6 +53,10 @@ def same_formula(first, second):
             formula.rows[variable(atom)] = terms, relation, bound
         formula.clauses += [[variable(literal) for literal in clause] for clause in laws.clauses]
         formula.variables += len(laws.rows)
+    if max(edges, others) <= COMPARED:
+        for a, edge in enumerate(first.edges):
+            for b in (edges + b for b, other in enumerate(second.edges) if are_abreast(edge, other)):
+                formula.clauses += [[formula.row([x], [y]), formula.row([y], [x], ">")] for x, y in ((a, b), (b, a))]
     pairs = [(first.ins[o][0], edges + second.ins[o][0]) for o in first.ends("o")]
     formula.clauses.append([formula.row([x], [y], ">") for a, b in pairs for x, y in ((a, b), (b, a))])
     return formula

@@ -2,6 +2,7 @@
 //! evidence.
 #![tactic(auto)]
 
+mod couples;
 mod deciding;
 mod distances;
 mod guessing;

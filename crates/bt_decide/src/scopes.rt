@@ -1,5 +1,5 @@
 //! The scopes of a flow formula: for each splitter the rows that speak of its edges alone, and one of all rows that
-//! compare flows.
+//! compare flows. Of two networks also those of two splitters that are likely to do the same.
 //!
 //! What a search refutes is mostly refuted at one splitter, so these rows are worth asking before all. A proof by
 //! hand goes from the outputs back, splitter by splitter, and so do the scopes. What is left then is a matter of
@@ -8,6 +8,7 @@ ghost use Rattle.std.specs.Prelude.{ℕ, ◌<◌, length, IfOk, OnOk};
 ghost use Rattle.std.specs.List.{All};
 ghost use Rattle.bt_decide.specs.inner.Places.{AreBelow};
 
+use crate::couples::{Couple, couples_of};
 use crate::distances::ranked_splitters;
 use bt_flow::{Property, Role};
 use bt_frac::{Frac, Row};
@@ -43,6 +44,11 @@ impl Sides {
         }
     }
 
+    /// Whether the splitter is one of these.
+    fn has(self, splitter: usize) -> bool {
+        is_number(self.start, splitter) || is_number(self.target, splitter)
+    }
+
     /// The splitter, where it is one of these.
     fn with(self, splitter: Option<u32>) -> Option<u32> {
         if splitter == self.start || splitter == self.target {
@@ -50,6 +56,14 @@ impl Sides {
         } else {
             None
         }
+    }
+}
+
+/// Whether there is a splitter, and it has this number.
+fn is_number(splitter: Option<u32>, number: usize) -> bool {
+    match splitter {
+        Some(splitter) => splitter as usize == number,
+        None => false,
     }
 }
 
@@ -81,8 +95,9 @@ pub fn scopes_of(
     Ok(scopes)
 }
 
-/// The scopes of the rows of two networks' formula: those of the splitters of the first, of the second, and then one of
-/// the rows that compare flows. The splitters nearest to the outputs come first.
+/// The scopes of the rows of two networks' formula: those of the splitters of the first, of the second, of each two that
+/// are likely to do the same, and then one of the rows that compare flows. The splitters nearest to the outputs come
+/// first.
 pub fn scopes_of_both(
     alloc: Global,
     first: &Net,
@@ -102,9 +117,66 @@ pub fn scopes_of_both(
         behind: 0,
     };
     let ones = splitter_scopes(alloc, Vec::new(alloc), first, of_first, false, rows)?;
-    let mut scopes = splitter_scopes(alloc, ones, second, of_second, false, rows)?;
+    let each = splitter_scopes(alloc, ones, second, of_second, false, rows)?;
+    let columns = BothSides {
+        first: columns_of(alloc, first, of_first)?,
+        second: columns_of(alloc, second, of_second)?,
+    };
+    let couples = couples_of(alloc, first, second)?;
+    let mut scopes = couple_scopes(alloc, each, &columns, &couples, rows)?;
     scopes.push(comparisons(alloc, edges + more, false, rows)?)?;
     Ok(scopes)
+}
+
+/// For each column its sides in either of two networks.
+#[derive(Drop)]
+struct BothSides {
+    first: Vec<Sides>,
+    second: Vec<Sides>,
+}
+
+impl BothSides {
+    /// Whether all terms are of columns at one of two splitters, each of its network.
+    fn have(&self, couple: &Couple, terms: &[(usize, Frac)]) -> bool {
+        terms.iter().all(|(column, _)| sides_at(&self.first, *column).has(couple.first)
+            || sides_at(&self.second, *column).has(couple.second))
+    }
+}
+
+/// The scopes of couples of splitters, behind others.
+fn couple_scopes(
+    alloc: Global,
+    before: Vec<Vec<usize>>,
+    columns: &BothSides,
+    couples: &[Couple],
+    rows: &[Row],
+) -> Result<Vec<Vec<usize>>, AllocError>
+    requires { All (λ scope. AreBelow (length rows.now) scope.items) before.items }
+    ensures { IfOk result (λ scopes. All (λ scope. AreBelow (length rows.now) scope.items) scopes.items) }
+{
+    let mut scopes = before;
+    for couple in couples {
+        scopes.push(couple_scope(alloc, columns, couple, rows)?)?;
+    }
+    Ok(scopes)
+}
+
+/// The rows that speak of the edges of a couple of splitters alone.
+fn couple_scope(
+    alloc: Global,
+    columns: &BothSides,
+    couple: &Couple,
+    rows: &[Row],
+) -> Result<Vec<usize>, AllocError>
+    ensures { IfOk result (λ scope. AreBelow (length rows.now) scope.items) }
+{
+    let mut scope = Vec::new(alloc);
+    for place in 0..rows.len() {
+        if columns.have(couple, rows[place].terms()) {
+            scope.push(place)?;
+        }
+    }
+    Ok(scope)
 }
 
 /// The scopes of a network's splitters in their order, behind others.

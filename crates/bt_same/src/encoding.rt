@@ -7,7 +7,8 @@ ghost use Rattle.bt_same.specs.Sameness.{HaveEqualEnds};
 ghost use Rattle.bt_same.specs.SameFormula.{same_formula};
 ghost use Rattle.bt_same.specs.inner.Joining.{networks_formula};
 
-use crate::difference::add_difference;
+use crate::abreast::compared;
+use crate::difference::{add_comparisons, add_difference};
 use crate::joining::{add_clauses, add_rows};
 use crate::shift::Shift;
 use bt_cnf::Formula;
@@ -43,7 +44,8 @@ fn side_by_side(
 }
 
 /// The formula of two networks, which is met by just the pairs of steady states with equal loads and rooms in which
-/// the flow of some output differs. Its columns are the flows of the first network, those of the second, the loads and
+/// the flow of some output differs. Where neither network has many edges, edges that may carry the same are compared:
+/// one carries at least as much as the other, or less. That is true of all states, and makes proofs short. Its columns are the flows of the first network, those of the second, the loads and
 /// the rooms. Its variables are the marks of the first, those of the second, and the atoms in the order of mention.
 pub fn encode_same(alloc: Global, first: &Net, second: &Net) -> Result<Formula, AllocError>
     requires { HaveEqualEnds first.now second.now }
@@ -54,6 +56,8 @@ pub fn encode_same(alloc: Global, first: &Net, second: &Net) -> Result<Formula, 
     let of_first = encode_steady(alloc, first)?;
     let of_second = encode_steady(alloc, second)?;
     let mut formula = side_by_side(alloc, first, second, &of_first, &of_second)?;
+    let compared = compared(alloc, first, second)?;
+    add_comparisons(alloc, &mut formula, &compared)?;
     add_difference(alloc, first, second, &mut formula)?;
     // It is known as a formula by this call.
     let _vars = formula.vars();

@@ -1,6 +1,7 @@
 //! Whether two networks behave the same: the formula of the pairs of steady states that show a difference.
 #![tactic(auto)]
 
+mod abreast;
 mod comparing;
 mod difference;
 mod encoding;
@@ -13,10 +14,11 @@ mod reading;
 mod shift;
 mod solution;
 
+pub use abreast::MOST_COMPARED;
 pub use encoding::encode_same;
 pub use judge::differs;
 pub use law::{
-    meeting_shows, printed_pair_is_read, refuted_are_same, same_exactly,
+    limits_are, meeting_shows, printed_pair_is_read, refuted_are_same, same_exactly,
     same_formulas_are_formulas, same_formulas_are_small, showing_meets, shown_pair_holds,
     shown_pair_is_read,
 };
