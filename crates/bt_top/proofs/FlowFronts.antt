@@ -1,9 +1,8 @@
 -- What the front of an input tells of the answer of `check`.
-use Rattle.std.proofs.Common.{◌≡◌, ℕ, List, ◌∷◌, ◌++◌, Result, Ok, Err, drop, inl, inr, refl, sym, subst, codes}
-use Rattle.bt_text.specs.Lines.{SplitsAt}
+use Rattle.std.proofs.Common.{◌≡◌, ℕ, Bool, List, ◌∷◌, ◌++◌, Result, Ok, Err, inl, inr, refl, sym, subst, codes}
+use Rattle.bt_text.specs.Lines.{IsFirstLine}
 use Rattle.bt_text.specs.Pieces.{CutsAt}
 use Rattle.bt_text.proofs.FirstLines.{IsFirstLine-unique}
-use Rattle.bt_text.proofs.Longer.{split-longer}
 use Rattle.bt_net.specs.Network.{Network, IsNetwork}
 use Rattle.bt_flow.specs.declared.property.Property.{Property}
 use Rattle.bt_flow.specs.Names.{property_name}
@@ -14,46 +13,59 @@ use Rattle.bt_cert.specs.Certificates.{IsCertRead}
 use Rattle.bt_cert.specs.declared.fault.CertFault.{CertFault}
 use Rattle.bt_top.specs.declared.answer.Answer.TheVariants as answer
 use Rattle.bt_flow.specs.declared.fault.StateFault.TheVariants as state
-use Rattle.bt_top.specs.declared.fault.DesignFault.TheVariants.{Refused}
 use Rattle.bt_top.specs.declared.front.Front.TheVariants as front
 use Rattle.bt_top.specs.declared.front.Steps.{Steps}
-use Rattle.bt_top.specs.declared.refusal.Refusal.{Refusal}
-use Rattle.bt_top.specs.Certificates.{IsCertificateChecked, IsCertified, IsTextChecked, IsYesChecked, SaysYes}
-use Rattle.bt_top.specs.Designs.{IsDesign}
+use Rattle.bt_top.specs.declared.front.WrittenState.{WrittenState}
+use Rattle.bt_top.specs.Certificates.{IsTextChecked, IsYesChecked, SaysYes}
 use Rattle.bt_top.specs.Replies.{Reply}
-use Rattle.bt_top.specs.Steps.{stopped, went_on}
-use Rattle.bt_top.specs.inner.Fronts.{IsFrontOf, Lasts, steps_answer}
+use Rattle.bt_top.specs.States.{IsStateJudged}
+use Rattle.bt_top.specs.Steps.{stopped}
+use Rattle.bt_top.specs.inner.Fronts.{MayFollow, TellsLine, IsFrontOf, steps_answer}
 use Rattle.bt_top.proofs.Certified.{yes_told}
+use Rattle.bt_top.proofs.Fronts.{known_front, line_cuts, line_goes}
 
--- a refusal of the design that lasts
-pub refused_is_front : (p : Property) (bytes : List ℕ) (r : Refusal) → Lasts IsDesign bytes (Err (Refused r)) → IsFrontOf (IsCertified p) bytes (front.Known (answer.Refused r))
-refused_is_front p bytes r lasts more reply e = stopped (Refused r) (lasts more) e
+module _ (n : Network) (p : Property) (ended : Bool) (text title lines : List ℕ) (told : TellsLine ended text title lines) where
+  first : (more : List ℕ) → MayFollow ended more → IsFirstLine (text ++ more) title (lines ++ more)
+  first more may = line_goes ended text title lines more told may
 
--- what is answered behind a design that lasts
-pub design_goes : (p : Property) (bytes : List ℕ) (found : Network × ℕ) → Lasts IsDesign bytes (Ok found) → (more : List ℕ) (reply : Reply)
-    → IsCertificateChecked found.0 p (drop found.1 (bytes ++ more)) reply → IsCertified p (bytes ++ more) reply
-design_goes p bytes found lasts more reply h = went_on found (lasts more) h
-
-module _ (n : Network) (p : Property) (text title lines : List ℕ) (split : SplitsAt 10 text title lines) where
   -- a first line that says yes
-  steps_reply : IsNetwork n → (all : List ℕ) (told : Result (Unit {0}) CertFault) → IsCertRead (flow_formula n p) all told → IsYesChecked n p all (steps_answer (answer.Yes p) told)
+  steps_reply : IsNetwork n → (all : List ℕ) (judged : Result (Unit {0}) CertFault) → IsCertRead (flow_formula n p) all judged → IsYesChecked n p all (steps_answer (answer.Yes p) judged)
   steps_reply net all (Ok done) h = yes_told n p all net h
   steps_reply net all (Err fault) h = stopped fault h refl
 
   pub yes_is_front : IsNetwork n → title ≡ codes "yes " ++ property_name p → (steps : Steps) → steps.formula ≡ flow_formula n p → steps.lines.now ≡ lines → steps.accepted ≡ answer.Yes p
-      → IsFrontOf (IsTextChecked n p) text (front.Steps steps)
-  yes_is_front net says_so steps formula same accepted more reply (told, h, e) =
-      let read : IsCertRead (flow_formula n p) (lines ++ more) told = subst (λ f. IsCertRead f (lines ++ more) told) formula (subst (λ l. IsCertRead steps.formula (l ++ more) told) same h) in
-      let right : IsYesChecked n p (lines ++ more) (steps_answer (answer.Yes p) told) = steps_reply net (lines ++ more) told read in
-      let says : SaysYes p (text ++ more) (lines ++ more) = inl (subst (λ t. SplitsAt 10 (text ++ more) t (lines ++ more)) says_so (split-longer 10 text title lines more split)) in
-      inl (lines ++ more, says, subst (IsYesChecked n p (lines ++ more)) (sym (subst (λ a. reply ≡ steps_answer a told) accepted e)) right)
+      → IsFrontOf (IsTextChecked n p) ended text (front.Steps steps)
+  yes_is_front net says_so steps formula same accepted = (tt, λ more reply may h. by more reply may h.0 h.1 h.2)
+    where
+      by : (more : List ℕ) (reply : Reply) → MayFollow ended more → (judged : Result (Unit {0}) CertFault) → IsCertRead steps.formula (steps.lines.now ++ more) judged → reply ≡ steps_answer steps.accepted judged → IsTextChecked n p (text ++ more) reply
+      by more reply may judged h e =
+          let read : IsCertRead (flow_formula n p) (lines ++ more) judged = subst (λ f. IsCertRead f (lines ++ more) judged) formula (subst (λ l. IsCertRead steps.formula (l ++ more) judged) same h) in
+          let right : IsYesChecked n p (lines ++ more) (steps_answer (answer.Yes p) judged) = steps_reply net (lines ++ more) judged read in
+          let says : SaysYes p (text ++ more) (lines ++ more) = subst (λ t. IsFirstLine (text ++ more) t (lines ++ more)) says_so (first more may) in
+          inl (lines ++ more, says, subst (IsYesChecked n p (lines ++ more)) (sym (subst (λ a. reply ≡ steps_answer a judged) accepted e)) right)
+
+  -- another line doesn't say so
+  says_other : (title ≡ codes "yes " ++ property_name p → ⊥) → (more after : List ℕ) → MayFollow ended more → SaysYes p (text ++ more) after → ⊥
+  says_other not_yes more after may says = not_yes (IsFirstLine-unique (text ++ more) _ _ _ _ (first more may) says).0
+
+  -- a written state
+  pub state_is_front : (title ≡ codes "yes " ++ property_name p → ⊥) → (w : WrittenState) → w.net ≡ n → w.property ≡ p → w.text.now ≡ text → IsFrontOf (IsTextChecked n p) ended text (front.State w)
+  state_is_front not_yes w net property same = (
+    tt,
+    λ more reply may h.
+        inr (
+          λ after says. says_other not_yes more after may says,
+          subst (λ t. IsStateJudged n p (answer.No p) (t ++ more) reply) same
+              (subst (λ q. IsStateJudged n q (answer.No q) (w.text.now ++ more) reply) property (subst (λ m. IsStateJudged m w.property (answer.No w.property) (w.text.now ++ more) reply) net h)),
+        ),
+  )
 
   -- another one than that and that of a written state
-  pub other_is_front : (title ≡ codes "yes " ++ property_name p → ⊥) → (title ≡ codes "no " ++ property_name p → ⊥) → IsFrontOf (IsTextChecked n p) text (front.Known (answer.CertLine 1))
-  other_is_front not_yes not_no more reply e =
-      let on : SplitsAt 10 (text ++ more) title (lines ++ more) = split-longer 10 text title lines more split in
-      let cuts : CutsAt 10 (text ++ more) title (10 ∷ (lines ++ more)) = record { lacks = on.first; text_is = on.text_is; begins = inr (lines ++ more, refl) } in
+  pub other_is_front : (title ≡ codes "yes " ++ property_name p → ⊥) → (title ≡ codes "no " ++ property_name p → ⊥) → IsFrontOf (IsTextChecked n p) ended text (front.Known (answer.CertLine 1))
+  other_is_front not_yes not_no = known_front ended (IsTextChecked n p) text (answer.CertLine 1)
+      (λ more may.
+      let cut = line_cuts (text ++ more) title (lines ++ more) (first more may) in
       inr (
-        λ after says. not_yes (IsFirstLine-unique (text ++ more) _ _ _ _ (inl on) says).0,
-        stopped (state.CertLine 1) (stop_first (forms n p) (text ++ more) (just (codes "no " ++ property_name p)) _ title (10 ∷ (lines ++ more)) refl cuts not_no) e,
-      )
+        λ after says. says_other not_yes more after may says,
+        stopped (state.CertLine 1) (stop_first (forms n p) (text ++ more) (just (codes "no " ++ property_name p)) _ title cut.0 refl cut.1 not_no) refl,
+      ))

@@ -3,9 +3,9 @@ use Rattle.std.proofs.Common.{◌≡◌, refl}
 use Rattle.bt_layout.specs.declared.outcome.Small.{Small as ASmall}
 use Rattle.bt_layout.specs.declared.outcome.Smallest.{Smallest}
 use Rattle.bt_top.specs.declared.answer.Answer.{Answer}
-use Rattle.bt_top.specs.declared.answer.Answer.TheVariants.{Least, Small}
+use Rattle.bt_top.specs.declared.answer.Answer.TheVariants.{LaidOut, Least, Small}
 use Rattle.bt_top.specs.Answers.{text_of}
-use Rattle.bt_top.specs.inner.Lines.{formed_text}
+use Rattle.bt_top.specs.inner.Lines.{IsFixedLine, IsLine, formed_text}
 
 -- it is all of it, but for a search for the least grid or for small ones
 pub formed_whole : (a : Answer) → ((found : Smallest) → a ≡ Least found → ⊥) → ((found : ASmall) → a ≡ Small found → ⊥) → formed_text a ≡ text_of a

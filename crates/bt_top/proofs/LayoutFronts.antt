@@ -1,8 +1,7 @@
 -- What the front of an input tells of the answer of `check-layout`.
-use Rattle.std.proofs.Common.{◌≡◌, ℕ, List, ◌++◌, Result, Ok, Err, drop, inl, inr, refl, sym, subst}
-use Rattle.bt_text.specs.Lines.{SplitsAt}
+use Rattle.std.proofs.Common.{◌≡◌, ℕ, Bool, List, ◌++◌, Result, Ok, Err, drop, inl, inr, refl, sym, subst}
+use Rattle.bt_text.specs.Lines.{IsFirstLine}
 use Rattle.bt_text.proofs.FirstLines.{IsFirstLine-unique}
-use Rattle.bt_text.proofs.Longer.{split-longer}
 use Rattle.bt_parts.specs.declared.part.Rect.{Rect}
 use Rattle.bt_parts.specs.declared.part.Tier.{Tier}
 use Rattle.bt_model.specs.Requests.{LayoutRequest, IsRequest}
@@ -15,43 +14,46 @@ use Rattle.bt_top.specs.declared.front.Front.TheVariants as front
 use Rattle.bt_top.specs.declared.front.Steps.{Steps}
 use Rattle.bt_top.specs.declared.refusal.Refusal.{Refusal}
 use Rattle.bt_top.specs.Answers.{none_word}
-use Rattle.bt_top.specs.NoneCertificates.{IsLayoutChecked, IsNoneCertificateChecked, IsNoneTextChecked, IsNoneChecked, SaysNone}
+use Rattle.bt_top.specs.NoneCertificates.{IsLayoutChecked, IsNoneTextChecked, IsNoneChecked, SaysNone}
 use Rattle.bt_top.specs.Replies.{Reply}
-use Rattle.bt_top.specs.Requested.{PinnedNet, IsPinned, IsRequestFor}
+use Rattle.bt_top.specs.Requested.{PinnedNet, IsPinned}
 use Rattle.bt_top.specs.Steps.{stopped, went_on}
-use Rattle.bt_top.specs.inner.Fronts.{IsFrontOf, Lasts, steps_answer}
+use Rattle.bt_top.specs.inner.Fronts.{MayFollow, TellsLine, IsFrontOf, steps_answer}
+use Rattle.bt_top.specs.inner.RequestParts.{IsRequestChecked}
+use Rattle.bt_top.proofs.Fronts.{known_front, line_goes}
 use Rattle.bt_top.proofs.NoneCertified.{none_told}
 
--- a refusal of the design that lasts
-pub refused_is_front : (rect : Rect) (tier : Tier) (bytes : List ℕ) (r : Refusal) → Lasts IsPinned bytes (Err (Refused r)) → IsFrontOf (IsLayoutChecked rect tier) bytes (front.Known (answer.Refused r))
-refused_is_front rect tier bytes r lasts more reply e = stopped (Refused r) (stopped (Refused r) (lasts more) refl) e
+module _ (rect : Rect) (tier : Tier) (all : List ℕ) where
+  -- a refusal of the design
+  pub design_refused : (r : Refusal) → IsPinned all (Err (Refused r)) → IsLayoutChecked rect tier all (Ok (answer.Refused r))
+  design_refused r h = stopped (Refused r) (stopped (Refused r) h refl) refl
 
-module _ (rect : Rect) (tier : Tier) (bytes : List ℕ) (found : PinnedNet × ℕ) (lasts : Lasts IsPinned bytes (Ok found)) where
-  -- a refusal of the request for a design that lasts
-  pub request_refused_is_front : (r : Refusal) → IsRequestFor rect tier found.0 (Err (Refused r)) → IsFrontOf (IsLayoutChecked rect tier) bytes (front.Known (answer.Refused r))
-  request_refused_is_front r made more reply e = stopped (Refused r) (went_on found (lasts more) (Err (Refused r), made, refl)) e
+  -- what is answered behind a design
+  pub design_goes : (found : PinnedNet × ℕ) (reply : Reply) → IsPinned all (Ok found) → IsRequestChecked rect tier found.0 (drop found.1 all) reply → IsLayoutChecked rect tier all reply
+  design_goes found reply h (stopped fault k e) = stopped fault (went_on found h (Err fault, k, refl)) e
+  design_goes found reply h (went_on request k c) = went_on (request, found.1) (went_on found h (Ok request, k, refl)) c
 
-  -- what is answered behind a request whose design lasts
-  pub request_goes : (request : LayoutRequest) → IsRequestFor rect tier found.0 (Ok request) → (more : List ℕ) (reply : Reply)
-      → IsNoneCertificateChecked request (drop found.1 (bytes ++ more)) reply → IsLayoutChecked rect tier (bytes ++ more) reply
-  request_goes request made more reply h = went_on (request, found.1) (went_on found (lasts more) (Ok request, made, refl)) h
+module _ (r : LayoutRequest) (ended : Bool) (text title lines : List ℕ) (told : TellsLine ended text title lines) where
+  first : (more : List ℕ) → MayFollow ended more → IsFirstLine (text ++ more) title (lines ++ more)
+  first more may = line_goes ended text title lines more told may
 
-module _ (r : LayoutRequest) (text title lines : List ℕ) (split : SplitsAt 10 text title lines) where
   -- a first line that says none
-  steps_reply : IsRequest r → (all : List ℕ) (told : Result (Unit {0}) CertFault) → IsCertRead (place_formula r) all told → IsNoneChecked r all (steps_answer answer.NoLayout told)
+  steps_reply : IsRequest r → (all : List ℕ) (judged : Result (Unit {0}) CertFault) → IsCertRead (place_formula r) all judged → IsNoneChecked r all (steps_answer answer.NoLayout judged)
   steps_reply is all (Ok done) h = none_told r all is h
   steps_reply is all (Err fault) h = stopped fault h refl
 
   pub none_is_front : IsRequest r → title ≡ none_word → (steps : Steps) → steps.formula ≡ place_formula r → steps.lines.now ≡ lines → steps.accepted ≡ answer.NoLayout
-      → IsFrontOf (IsNoneTextChecked r) text (front.Steps steps)
-  none_is_front is none steps formula same accepted more reply (told, h, e) =
-      let read : IsCertRead (place_formula r) (lines ++ more) told = subst (λ f. IsCertRead f (lines ++ more) told) formula (subst (λ l. IsCertRead steps.formula (l ++ more) told) same h) in
-      let right : IsNoneChecked r (lines ++ more) (steps_answer answer.NoLayout told) = steps_reply is (lines ++ more) told read in
-      let says : SaysNone (text ++ more) (lines ++ more) = inl (subst (λ t. SplitsAt 10 (text ++ more) t (lines ++ more)) none (split-longer 10 text title lines more split)) in
-      inl (lines ++ more, says, subst (IsNoneChecked r (lines ++ more)) (sym (subst (λ a. reply ≡ steps_answer a told) accepted e)) right)
+      → IsFrontOf (IsNoneTextChecked r) ended text (front.Steps steps)
+  none_is_front is none steps formula same accepted = (tt, λ more reply may h. by more reply may h.0 h.1 h.2)
+    where
+      by : (more : List ℕ) (reply : Reply) → MayFollow ended more → (judged : Result (Unit {0}) CertFault) → IsCertRead steps.formula (steps.lines.now ++ more) judged → reply ≡ steps_answer steps.accepted judged → IsNoneTextChecked r (text ++ more) reply
+      by more reply may judged h e =
+          let read : IsCertRead (place_formula r) (lines ++ more) judged = subst (λ f. IsCertRead f (lines ++ more) judged) formula (subst (λ l. IsCertRead steps.formula (l ++ more) judged) same h) in
+          let right : IsNoneChecked r (lines ++ more) (steps_answer answer.NoLayout judged) = steps_reply is (lines ++ more) judged read in
+          let says : SaysNone (text ++ more) (lines ++ more) = subst (λ t. IsFirstLine (text ++ more) t (lines ++ more)) none (first more may) in
+          inl (lines ++ more, says, subst (IsNoneChecked r (lines ++ more)) (sym (subst (λ a. reply ≡ steps_answer a judged) accepted e)) right)
 
   -- another one
-  pub other_is_front : (title ≡ none_word → ⊥) → IsFrontOf (IsNoneTextChecked r) text (front.Known (answer.CertLine 1))
-  other_is_front other more reply e =
-      let on : SplitsAt 10 (text ++ more) title (lines ++ more) = split-longer 10 text title lines more split in
-      inr (λ after says. other (IsFirstLine-unique (text ++ more) _ _ _ _ (inl on) says).0, e)
+  pub other_is_front : (title ≡ none_word → ⊥) → IsFrontOf (IsNoneTextChecked r) ended text (front.Known (answer.CertLine 1))
+  other_is_front other = known_front ended (IsNoneTextChecked r) text (answer.CertLine 1)
+      (λ more may. inr (λ after says. other (IsFirstLine-unique (text ++ more) _ _ _ _ (first more may) says).0, refl))

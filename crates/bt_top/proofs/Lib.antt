@@ -16,6 +16,7 @@ pub mod OneRequest
 pub mod OnePair
 pub mod BareTexts
 pub mod SameCertified
+pub mod SameFronts
 pub mod BareNets
 pub mod TwoFollowed
 pub mod RecheckedPairs
@@ -27,7 +28,10 @@ pub mod SmallFound
 pub mod Spanning
 pub mod Preferring
 pub mod Formed
-pub mod Lasting
+pub mod JsonBehindBlanks
+pub mod BlankDesigns
+pub mod ToldParts
+pub mod Gathered
 pub mod Fronts
 pub mod FlowFronts
 pub mod LayoutFronts

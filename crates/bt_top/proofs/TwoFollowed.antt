@@ -62,7 +62,7 @@ module _ (bytes : List ℕ) (n : Network) (used : ℕ) (h : IsBareDesign bytes (
       by (inl stays) = inl (λ more. from_pinned (bytes ++ more) n used (stays more))
       by (inr (all, fed)) = inr (all, λ more. from_pinned (bytes ++ 10 ∷ more) n (used + 1) (fed more))
 
-  bare_goes_on : (more : List ℕ) → used < length bytes → IsBareDesign (bytes ++ more) (Ok (n, used))
+  pub bare_goes_on : (more : List ℕ) → used < length bytes → IsBareDesign (bytes ++ more) (Ok (n, used))
   bare_goes_on more few = from_pinned (bytes ++ more) n used (pinned_goes_on bytes more (pinned_net n [] [], used) (to_pinned bytes n used h) few)
 
 -- no design is empty
@@ -74,7 +74,7 @@ never_empty n used (inr (none, inl (read, h, u))) =
 never_empty n used (inr (none, inr (fault, h, (other, k, e)))) = not_both (n, used) _ e
 
 -- what stands behind a front
-drop_past : (front back : List ℕ) (k m : ℕ) → m ≡ length front + k → drop m (front ++ back) ≡ drop k back
+pub drop_past : (front back : List ℕ) (k m : ℕ) → m ≡ length front + k → drop m (front ++ back) ≡ drop k back
 drop_past [] back k m e = ap (λ x. drop x back) (omega (arith, e))
 drop_past (b ∷ front) back k zero e = absurd (omega (arith, e))
 drop_past (b ∷ front) back k (suc m) e = drop_past front back k m (omega (arith, e))

@@ -3,7 +3,11 @@ pub mod Behind
 pub mod Claims
 pub mod Found
 pub mod Fronts
+pub mod Gathering
 pub mod Grids
 pub mod Lines
+pub mod Moved
+pub mod PairParts
+pub mod RequestParts
 pub mod Spans
 pub mod Telling

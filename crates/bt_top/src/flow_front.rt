@@ -1,40 +1,37 @@
 //! What the front of an input tells of the answer of `check`.
-ghost use Rattle.std.specs.Prelude.{◌≡◌, ◌++◌, ◌↔◌, ℕ, List, IsTrue, codes};
-ghost use Rattle.bt_text.specs.Lines.{SplitsAt};
+ghost use Rattle.std.specs.Prelude.{◌≡◌, ◌++◌, ◌+◌, ◌≤◌, ◌↔◌, Bool, IsTrue, codes, length};
 ghost use Rattle.bt_net.specs.Network.{IsNetwork};
 ghost use Rattle.bt_flow.specs.Names.{property_name};
+ghost use Rattle.bt_top.specs.declared.input.TheConstants.{MOST_CHECKED};
 ghost use Rattle.bt_top.specs.Certificates.{IsCertificateChecked, IsCertified, IsTextChecked};
-ghost use Rattle.bt_top.specs.inner.Fronts.{GivesFront};
+ghost use Rattle.bt_top.specs.inner.Fronts.{GivesFront, GivesHeldFront, TellsLine};
 
 use crate::answer::Answer;
-use crate::design::read_design;
-use crate::front::{Front, Steps, refused_front, told_part};
+use crate::front::{Front, Steps, WrittenState, known_refusal};
+use crate::held::Held;
+use crate::told::{told_design, told_line};
 use bt_fenc::encode;
 use bt_flow::Property;
 use bt_net::Net;
-use bt_text::{after_word, skip_blanks, split_once};
+use bt_text::{after_word, skip_blanks};
 use std::alloc::{AllocError, Global};
 
-/// What the bytes tell of the answer to an input that begins with them, where they tell it.
+/// What is told of the answer to an input of which this is held.
 pub fn flow_front<'a>(
     alloc: Global,
     property: Property,
-    bytes: &'a [u8],
+    held: Held<'a>,
 ) -> Result<Option<Front<'a>>, AllocError>
-    ensures { GivesFront (IsCertified property) bytes.now result }
+    requires { held.skipped + length held.bytes.now ≤ MOST_CHECKED }
+    ensures { GivesHeldFront (IsCertified property) held.entry result }
 {
-    let Some(part) = told_part(bytes) else {
-        return Ok(None);
-    };
-    match read_design(alloc, part) {
-        Ok(design) => {
-            if design.used >= part.len() {
-                return Ok(None);
-            }
-            let (_, rest) = bytes.split_at(design.used);
-            behind_design(alloc, property, &design.net, rest)
+    match told_design(alloc, held) {
+        Ok(Some(design)) => {
+            let (_, rest) = held.bytes.split_at(design.used);
+            behind_design(alloc, property, design.net, rest, held.ended)
         }
-        Err(fault) => refused_front(part, fault),
+        Ok(None) => Ok(None),
+        Err(fault) => known_refusal(fault),
     }
 }
 
@@ -42,41 +39,50 @@ pub fn flow_front<'a>(
 fn behind_design<'a>(
     alloc: Global,
     property: Property,
-    net: &Net,
+    net: Net,
     rest: &'a [u8],
+    ended: bool,
 ) -> Result<Option<Front<'a>>, AllocError>
-    requires { IsNetwork net.now }
-    ensures { GivesFront (IsCertificateChecked net.now property) rest.now result }
+    requires { IsNetwork net }
+    ensures { GivesFront (IsCertificateChecked net property) ended rest.now result }
 {
-    match split_once(skip_blanks(rest), b'\n') {
-        Some((title, lines)) => behind_title(alloc, property, net, title, lines),
+    let text = skip_blanks(rest);
+    match told_line(text, ended) {
+        Some((title, lines)) => {
+            let written = WrittenState {
+                property,
+                net,
+                text,
+            };
+            behind_title(alloc, written, title, lines)
+        }
         None => Ok(None),
     }
 }
 
-/// The same of a certificate's first line, and what follows it. A written state is read whole.
+/// The same of a certificate, of its first line and what follows it.
 fn behind_title<'a>(
     alloc: Global,
-    property: Property,
-    net: &Net,
+    written: WrittenState<'a>,
     title: &[u8],
     lines: &'a [u8],
 ) -> Result<Option<Front<'a>>, AllocError>
-    requires { IsNetwork net.now }
-    ensures { (text : List ℕ) → SplitsAt 10 text title.now lines.now →
-        GivesFront (IsTextChecked net.now property) text result }
+    requires { IsNetwork written.net }
+    ensures { (ended : Bool) → TellsLine ended written.entry.text.now title.now lines.now →
+        GivesFront (IsTextChecked written.entry.net written.entry.property) ended
+        written.entry.text.now result }
 {
-    if says_yes(property, title) {
-        let formula = encode(alloc, net, property)?;
-        let accepted = Answer::Yes(property);
+    if says_yes(written.property, title) {
+        let formula = encode(alloc, &written.net, written.property)?;
+        let accepted = Answer::Yes(written.property);
         return Ok(Some(Front::Steps(Steps {
             formula,
             lines,
             accepted,
         })));
     }
-    if says_no(property, title) {
-        return Ok(None);
+    if says_no(written.property, title) {
+        return Ok(Some(Front::State(written)));
     }
     Ok(Some(Front::Known(Answer::CertLine(1))))
 }

@@ -1,13 +1,12 @@
 //! What the front of an input tells of the answer to it, whatever follows.
-ghost use Rattle.std.specs.Prelude.{◌≡◌, IfOk, IfSome, false};
-ghost use Rattle.bt_top.specs.inner.Fronts.{IsToldPart, RestsOnEnd, TellsSettled};
+ghost use Rattle.std.specs.Prelude.{IfOk, MatchOption};
+ghost use Rattle.bt_top.specs.inner.Fronts.{TellsRefusal};
 
 use crate::answer::Answer;
-use crate::design::is_json;
 use crate::fault::DesignFault;
-use crate::refusal::Refusal;
 use bt_cnf::Formula;
-use bt_text::{line_feeds, skip_blanks, whole_lines};
+use bt_flow::Property;
+use bt_net::Net;
 use std::alloc::AllocError;
 
 /// Steps of a certificate of which some lines were read.
@@ -21,6 +20,26 @@ pub struct Steps<'a> {
     pub accepted: Answer,
 }
 
+/// A written state of which some was read.
+#[derive(Drop)]
+pub struct WrittenState<'a> {
+    /// What it is to break, in this network.
+    pub property: Property,
+    pub net: Net,
+    /// The front of its text.
+    pub text: &'a [u8],
+}
+
+/// A written pair of states of which some was read.
+#[derive(Drop)]
+pub struct WrittenPair<'a> {
+    /// The networks which it is to tell apart.
+    pub first: Net,
+    pub second: Net,
+    /// The front of its text.
+    pub text: &'a [u8],
+}
+
 /// What the front of an input tells of the answer to it, whatever follows.
 #[derive(Drop)]
 pub enum Front<'a> {
@@ -28,48 +47,18 @@ pub enum Front<'a> {
     Known(Answer),
     /// It is that to these steps, which go on with what follows.
     Steps(Steps<'a>),
+    /// It is that to this state, whose text goes on with what follows.
+    State(WrittenState<'a>),
+    /// It is that to this pair, whose text goes on with what follows.
+    Pair(WrittenPair<'a>),
 }
 
-/// The bytes at the front of these by which a design is told whatever follows: all of them where they are JSON,
-/// else the lines that have their line feeds; and none where these are blanks.
-pub fn told_part(bytes: &[u8]) -> Option<&[u8]>
-    ensures { IfSome result (λ part. IsToldPart bytes.now part.now) }
-{
-    if is_json(bytes) {
-        return Some(bytes);
-    }
-    let lines = whole_lines(bytes);
-    if skip_blanks(lines).is_empty() {
-        None
-    } else {
-        Some(lines)
-    }
-}
-
-/// What is told where the design at the front of these bytes is refused: the refusal, where it doesn't rest on
-/// where they end.
-pub fn refused_front(part: &[u8], fault: DesignFault) -> Result<Option<Front<'_>>, AllocError>
-    ensures { IfOk result (λ o. IfSome o (λ front. TellsSettled part.now fault front)) }
+/// What is told where a design or a request is refused: the refusal.
+pub fn known_refusal<'a>(fault: DesignFault) -> Result<Option<Front<'a>>, AllocError>
+    ensures { IfOk result (λ o. MatchOption o ⊥ (λ front. TellsRefusal fault front)) }
 {
     match fault {
-        DesignFault::Refused(refusal) => {
-            if rests_on_end(part, refusal) {
-                Ok(None)
-            } else {
-                Ok(Some(Front::Known(Answer::Refused(refusal))))
-            }
-        }
+        DesignFault::Refused(refusal) => Ok(Some(Front::Known(Answer::Refused(refusal)))),
         DesignFault::Memory => Err(AllocError),
-    }
-}
-
-/// Whether a refusal of a design may rest on where its bytes end.
-fn rests_on_end(part: &[u8], refusal: Refusal) -> bool
-    ensures { result ≡ false → RestsOnEnd part.now refusal → ⊥ }
-{
-    match refusal {
-        Refusal::Json(at) => at == part.len(),
-        Refusal::NetLine(line) => line == line_feeds(part) + 1,
-        _ => false,
     }
 }

@@ -4,6 +4,7 @@ ghost use Rattle.bt_top.specs.Answering.{OneRightAnswer};
 ghost use Rattle.bt_top.specs.Budgets.{AmpleIsNeverSpent, AmpleNeverEndsSpent};
 ghost use Rattle.bt_top.specs.Budgets.{AmpleTurnsAreNeverMade, AmpleTurnsNeverEndMade};
 ghost use Rattle.bt_top.specs.Longer.{DesignStays, RefusalStays};
+ghost use Rattle.bt_top.specs.NoneCertificates.{NoneIsAccepted};
 ghost use Rattle.bt_top.specs.Rechecking.{ProofIsChecked, StateIsChecked};
 ghost use Rattle.bt_top.specs.RecheckingLayouts.{NoneIsChecked};
 ghost use Rattle.bt_top.specs.RecheckingLeast.{LeastIsChecked};
@@ -35,6 +36,12 @@ pub fn decided_is_checked()
 /// `check-layout` accepts a request with the certificate that `layout` writes where it has no layout.
 pub fn laid_out_is_checked()
     ensures { NoneIsChecked }
+{}
+
+/// What `layout` writes of a request that has no layout is accepted behind that request, where the log has
+/// fewer than 10 ^ 17 steps.
+pub fn none_is_accepted()
+    ensures { NoneIsAccepted }
 {}
 
 /// What `smallest` writes begins with the line and the certificate of each grid before the one that it names, and behind

@@ -1,74 +1,60 @@
 //! What the front of an input tells of the answer of `check-layout`.
-ghost use Rattle.std.specs.Prelude.{◌≡◌, ◌≤◌, ◌↔◌, ℕ, List, IfOk, IfSome, IsTrue, Ok, length};
-ghost use Rattle.bt_text.specs.Lines.{SplitsAt};
+ghost use Rattle.std.specs.Prelude.{◌≡◌, ◌+◌, ◌≤◌, ◌↔◌, ℕ, Bool, List, IsTrue, length};
 ghost use Rattle.bt_model.specs.Requests.{IsGrid, IsRequest};
+ghost use Rattle.bt_top.specs.declared.input.TheConstants.{MOST_CHECKED};
 ghost use Rattle.bt_top.specs.Answers.{none_word};
 ghost use Rattle.bt_top.specs.NoneCertificates.{IsLayoutChecked, IsNoneCertificateChecked, IsNoneTextChecked};
-ghost use Rattle.bt_top.specs.Requested.{IsPinned};
-ghost use Rattle.bt_top.specs.inner.Found.{pinned_and_used};
-ghost use Rattle.bt_top.specs.inner.Fronts.{GivesFront, Lasts, TellsRefusal};
+ghost use Rattle.bt_top.specs.inner.Found.{pinned_of};
+ghost use Rattle.bt_top.specs.inner.Fronts.{GivesFront, GivesHeldFront, TellsLine};
+ghost use Rattle.bt_top.specs.inner.RequestParts.{IsRequestChecked};
 
 use crate::answer::Answer;
-use crate::fault::DesignFault;
-use crate::front::{Front, Steps, refused_front, told_part};
-use crate::request::{PinnedDesign, read_pinned, request_for};
+use crate::front::{Front, Steps, known_refusal};
+use crate::held::Held;
+use crate::request::{PinnedDesign, request_for};
+use crate::told::{told_line, told_pinned};
 use bt_model::Request;
 use bt_parts::{Rect, Tier};
 use bt_place::encode_place;
-use bt_text::{skip_blanks, split_once};
+use bt_text::skip_blanks;
 use std::alloc::{AllocError, Global};
 
-/// What the bytes tell of the answer to an input that begins with them, where they tell it.
+/// What is told of the answer to an input of which this is held.
 pub fn layout_front<'a>(
     alloc: Global,
     rect: Rect,
     tier: Tier,
-    bytes: &'a [u8],
+    held: Held<'a>,
 ) -> Result<Option<Front<'a>>, AllocError>
-    requires { IsGrid rect }
-    ensures { GivesFront (IsLayoutChecked rect tier) bytes.now result }
+    requires grid { IsGrid rect }
+    requires few { held.skipped + length held.bytes.now ≤ MOST_CHECKED }
+    ensures { GivesHeldFront (IsLayoutChecked rect tier) held.entry result }
 {
-    let Some(part) = told_part(bytes) else {
-        return Ok(None);
-    };
-    match read_pinned(alloc, part) {
-        Ok(design) => {
-            if design.used >= part.len() {
-                return Ok(None);
-            }
-            behind_design(alloc, rect, tier, design, bytes)
+    match told_pinned(alloc, held) {
+        Ok(Some(design)) => {
+            let (_, rest) = held.bytes.split_at(design.used);
+            behind_design(alloc, rect, tier, design, rest, held.ended)
         }
-        Err(fault) => refused_front(part, fault),
+        Ok(None) => Ok(None),
+        Err(fault) => known_refusal(fault),
     }
 }
 
-/// The same where the bytes begin with this design.
+/// The same of what follows a design.
 fn behind_design<'a>(
     alloc: Global,
     rect: Rect,
     tier: Tier,
     design: PinnedDesign,
-    bytes: &'a [u8],
+    rest: &'a [u8],
+    ended: bool,
 ) -> Result<Option<Front<'a>>, AllocError>
-    requires grid { IsGrid rect }
-    requires lasts { Lasts IsPinned bytes.now (Ok (pinned_and_used design)) }
-    requires within { design.used ≤ length bytes.now }
-    ensures { GivesFront (IsLayoutChecked rect tier) bytes.now result }
+    requires { IsGrid rect }
+    ensures { GivesFront (IsRequestChecked rect tier (pinned_of design)) ended rest.now result }
 {
-    let (_, rest) = bytes.split_at(design.used);
     match request_for(rect, tier, design) {
-        Ok(request) => behind_request(alloc, &request, rest),
-        Err(fault) => refused_request(fault),
-    }
-}
-
-/// What is told where a request is refused: the refusal.
-fn refused_request<'a>(fault: DesignFault) -> Result<Option<Front<'a>>, AllocError>
-    ensures { IfOk result (λ o. IfSome o (λ front. TellsRefusal fault front)) }
-{
-    match fault {
-        DesignFault::Refused(refusal) => Ok(Some(Front::Known(Answer::Refused(refusal)))),
-        DesignFault::Memory => Err(AllocError),
+        Ok(request) => behind_request(alloc, &request, rest, ended),
+        Err(fault) => known_refusal(fault),
     }
 }
 
@@ -77,11 +63,13 @@ fn behind_request<'a>(
     alloc: Global,
     request: &Request,
     rest: &'a [u8],
+    ended: bool,
 ) -> Result<Option<Front<'a>>, AllocError>
     requires { IsRequest request.now }
-    ensures { GivesFront (IsNoneCertificateChecked request.now) rest.now result }
+    ensures { GivesFront (IsNoneCertificateChecked request.now) ended rest.now result }
 {
-    match split_once(skip_blanks(rest), b'\n') {
+    let text = skip_blanks(rest);
+    match told_line(text, ended) {
         Some((title, lines)) => behind_title(alloc, request, title, lines),
         None => Ok(None),
     }
@@ -95,8 +83,8 @@ fn behind_title<'a>(
     lines: &'a [u8],
 ) -> Result<Option<Front<'a>>, AllocError>
     requires { IsRequest request.now }
-    ensures { (text : List ℕ) → SplitsAt 10 text title.now lines.now →
-        GivesFront (IsNoneTextChecked request.now) text result }
+    ensures { (ended : Bool) (text : List ℕ) → TellsLine ended text title.now lines.now →
+        GivesFront (IsNoneTextChecked request.now) ended text result }
 {
     if says_none(title) {
         let formula = encode_place(alloc, request)?;

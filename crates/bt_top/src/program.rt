@@ -1,21 +1,21 @@
 //! The program over a source and a sink: it reads its words and its input, and writes its answer.
-ghost use Rattle.std.specs.Prelude.{◌≡◌, ◌≤◌, ℕ, List, IfOk, alloc_error, length, map, string_bytes};
+ghost use Rattle.std.specs.Prelude.{◌≡◌, ℕ, List, alloc_error, map, string_bytes};
 ghost use Rattle.bt_answers.specs.Answers.{UnlessMemory};
 ghost use Rattle.bt_io.specs.Bytes.{WritesText};
 ghost use Rattle.bt_io.specs.Passages.{passage};
 ghost use Rattle.bt_top.specs.Answers.{status_of, text_of as answer_text};
-ghost use Rattle.bt_top.specs.Inputs.{IsUnread, ReadsNothing, input_limit};
+ghost use Rattle.bt_top.specs.Inputs.{IsUnread, ReadsNothing};
 ghost use Rattle.bt_top.specs.Answering.{IsRightTo};
 ghost use Rattle.bt_top.specs.Endings.{Ends, status_after};
+ghost use Rattle.bt_top.specs.inner.Claims.{IsReadWhole};
 ghost use Rattle.bt_top.specs.inner.Grids.{HasGrid};
 ghost use Rattle.bt_top.specs.inner.Lines.{IsLine, formed_text};
 ghost use Rattle.bt_top.specs.inner.Telling.{IsAnswered, IsAnsweredTo, IsPrinted, IsToldUnlessMemory, IsLineTold};
 
 use crate::answer::Answer;
-use crate::blocks::checked_from;
-use crate::certificate::certified;
+use crate::blocks::claim_answer;
 use crate::choosers::Choosers;
-use crate::claim::Claim;
+use crate::claim::CertificateClaim;
 use crate::comparing::compared;
 use crate::decision::decided;
 use crate::finding::found_small;
@@ -25,10 +25,8 @@ use crate::input::read_input;
 use crate::laying::laid_out;
 use crate::least::searched;
 use crate::making::make;
-use crate::none_certificate::layout_checked;
 use crate::printing::{print_gave_up, print_made, print_proof, print_same};
 use crate::recover::recovered;
-use crate::same_certificate::same_certified;
 use crate::text::text_of_answer;
 use bt_dimacs::{print_flow_formula, print_place_formula};
 use bt_flow::print_state;
@@ -101,10 +99,11 @@ fn answer_of<S: Source>(
     ensures unread { ReadsNothing command → source.new ≡ source.old }
 {
     match command {
-        Command::Check(property) => checked_from(alloc, Claim::Flow(property), source),
+        Command::Check(property) => claim_answer(alloc, CertificateClaim::Flow(property), source),
         Command::CheckLayout(rect, tier) => {
-            checked_from(alloc, Claim::NoLayout(rect, tier), source)
+            claim_answer(alloc, CertificateClaim::NoLayout(rect, tier), source)
         }
+        Command::CheckSame => claim_answer(alloc, CertificateClaim::Same, source),
         _ => whole_answer(alloc, command, source, choosers),
     }
 }
@@ -116,7 +115,8 @@ fn whole_answer<S: Source>(
     source: &mut S,
     choosers: Choosers,
 ) -> Result<Answer, ReadAll>
-    requires { HasGrid command }
+    requires grid { HasGrid command }
+    requires whole { IsReadWhole command }
     ensures answer { IsAnswered command (passage S.left S.faults source.old source.new) result }
     ensures unread { ReadsNothing command → source.new ≡ source.old }
 {
@@ -137,13 +137,12 @@ fn right_answer(
     choosers: Choosers,
 ) -> Result<Answer, AllocError>
     requires grid { HasGrid command }
-    requires short { length bytes.now ≤ input_limit command }
+    requires whole { IsReadWhole command }
     ensures { UnlessMemory alloc_error (IsRightTo command bytes.now) result }
 {
     match command {
         Command::FlowCheck(property) => check(alloc, property, bytes),
         Command::Recover => recovered(alloc, bytes),
-        Command::Check(property) => certified(alloc, property, bytes),
         Command::Decide(property, limits) => {
             decided(alloc, property, limits, bytes, choosers.decisions)
         }
@@ -153,13 +152,12 @@ fn right_answer(
         Command::Layout(rect, tier, learnt) => {
             laid_out(alloc, rect, tier, learnt, bytes, choosers.layouts)
         }
-        Command::CheckLayout(rect, tier) => layout_checked(alloc, rect, tier, bytes),
         Command::Smallest(most, tier, learnt) => searched(alloc, most, tier, learnt, bytes),
         Command::FindSmall(most, tier, learnt) => found_small(alloc, most, tier, learnt, bytes),
         Command::FlowFormula(property) => flow_formula(alloc, property, bytes),
         Command::PlaceFormula(rect, tier) => place_formula(alloc, rect, tier, bytes),
         Command::Same(limits) => compared(alloc, limits, bytes, choosers.decisions),
-        Command::CheckSame => same_certified(alloc, bytes),
+        Command::Check(_) | Command::CheckLayout(..) | Command::CheckSame => unreachable!(),
     }
 }
 

@@ -102,9 +102,10 @@ pub fn text_of_answer(alloc: Global, answer: &Answer) -> Result<Vec<u8>, AllocEr
     }
 }
 
-/// The line of an answer, but for those of parts, and for one whose text has several.
+/// The line of an answer that has fixed words.
 fn answer_line(answer: &Answer) -> Line
-    ensures { IsFixedLine answer.now → line_text result ≡ answer_text answer.now }
+    requires { IsFixedLine answer.now }
+    ensures { line_text result ≡ answer_text answer.now }
 {
     match *answer {
         Answer::Recovered(_)
@@ -119,7 +120,7 @@ fn answer_line(answer: &Answer) -> Line
         | Answer::FlowFormula(..)
         | Answer::PlaceFormula(..)
         | Answer::Same(_)
-        | Answer::Differ(_) => Line("", Detail::Nothing),
+        | Answer::Differ(_) => unreachable!(),
         Answer::NoLayout => Line("none", Detail::Nothing),
         Answer::ShownSame => Line("same", Detail::Nothing),
         Answer::ShownDiffer => Line("differ", Detail::Nothing),

@@ -8,7 +8,6 @@ use Rattle.bt_top.specs.declared.design.Reading.TheVariants.{Design, Layout}
 use Rattle.bt_top.specs.declared.fault.DesignFault.{DesignFault}
 use Rattle.bt_top.specs.Designs.{IsPreferringNet, IsBlueprintNet}
 use Rattle.bt_top.specs.declared.request.PinnedDesign.{PinnedDesign}
-use Rattle.bt_top.specs.declared.two_designs.TwoNets.{TwoNets}
 use Rattle.bt_top.specs.Requested.{PinnedNet, pinned_net}
 
 -- a design's network, and how many bytes it has
@@ -22,10 +21,6 @@ pinned_of design = pinned_net design.net design.pins.items design.blocks.items
 -- the same, and how many bytes the design has
 abbrev pub pinned_and_used : PinnedDesign → PinnedNet × ℕ
 pinned_and_used design = (pinned_of design, design.used)
-
--- the networks of two designs, and how many bytes the designs have
-abbrev pub nets_and_used : TwoNets → (Network × Network) × ℕ
-nets_and_used nets = ((nets.first, nets.second), nets.used)
 
 -- the network that comes of a JSON value that is read so
 abbrev pub net_by : Reading → Json → Result Network DesignFault → Type 0

@@ -40,7 +40,8 @@ impl Source for Long<'_> {
 }
 
 /// The words, the text, how many bytes follow it, `fails` where the source fails then, the status and the text of the
-/// answer. With `decide` 16777216 bytes are read at most, and with `check` and `check-layout` 1073741824.
+/// answer. With `decide` 16777216 bytes are read at most, and with `check`, `check-layout` and `check-same`
+/// 1073741824.
 const LONG: &[&str] = &[
     "check unlimited|net x\n|1073741818||3|refused 40 NetLine 1\n",
     "check unlimited|net x\n|1073741819||11|too long\n",
@@ -52,6 +53,12 @@ const LONG: &[&str] = &[
     "check-layout --grid 1x1|net 1 1 0\nedge i0 o0\nend\nmaybe\n|200000||9|refused 50 CertLine 1\n",
     "check-layout --grid 1x1|net x\n|200000|fails|6|",
     "check-layout --grid 1x1|net 1 1 0\nedge i0 o0\npin i0 1 0 north\nend\n\n|200000||3|refused 44 Pin 3\n",
+    "check-same|net 1 1 0\nedge i0 o0\nend\nnet 1 1 0\nedge i0 o0\nend\nmaybe\n|1073741824||11|too long\n",
+    "check-same|net 1 1 0\nedge i0 o0\nend\nnet 1 1 0\nedge i0 o0\nend\nmaybe\n|200000||9|refused 50 CertLine 1\n",
+    "check-same|net 1 1 0\nedge i0 o0\nend\nnet 1 1 0\nedge i0 o0\nend\nsame\nend\n|200000||9|refused 52 NoVerdict\n",
+    "check-same|net 1 1 0\nedge i0 o0\nend\nnet 1 1 0\nedge i0 o0\nend\nmaybe\n|200000|fails|6|",
+    "check-same|net 1 1 0\nedge i0 o0\nend\n{\"a\":1,\"a\":2|200000||3|refused 12 DuplicateKey 7\n",
+    "check-same|{}net 1 1 0\nedge i0 o0\nend\n|200000|fails|6|",
     "decide balanced||16777216||3|refused 40 NetLine 1\n",
     "decide balanced||16777217||11|too long\n",
 ];

@@ -145,6 +145,18 @@ const CHECKED: &[&str] = &[
      end\n|3|refused 47 Ends\n",
     "check-same|net 1 1 0\nedge i0 o0\nend\nsame\nend\n|3|refused 40 NetLine 1\n",
     "check-same|net 1 1 0\nedge i0 o1\nend\nnet 1 1 0\nedge i0 o0\nend\nsame\n|3|refused 40 NetLine 2\n",
+    // Blanks before the first design: the offsets in JSON text count them, and network text is refused.
+    concat!(
+        r#"check-same|  {"a":1,"a":2}|3|refused 12 DuplicateKey 9"#,
+        "\n"
+    ),
+    concat!(
+        "check-same|\n\t ",
+        r#"{"blueprint":{"entities":[{"name":"transport-belt","position":{"x":0.5,"y":0.5}}]}}"#,
+        "\nnet 1 1 0\nedge i0 o0\nend\nsame\nend\n|9|refused 52 NoVerdict\n",
+    ),
+    "check-same|\n \nnet 1 1 0\nedge i0 o0\nend\nnet 1 1 0\nedge i0 o0\nend\nsame\nend\n|3|refused 40 NetLine 1\n",
+    "check-same| \n\t\n|3|refused 40 NetLine 1\n",
     "check-same balanced|net 1 1 0\nedge i0 o0\nend\nnet 1 1 0\nedge i0 o0\nend\nsame\n|2|usage\n",
     "check-same --learnt 1|net 1 1 0\nedge i0 o0\nend\nnet 1 1 0\nedge i0 o0\nend\nsame\n|2|usage\n",
 ];

@@ -1,31 +1,24 @@
-use Rattle.std.proofs.Common.{◌<◌, ◌≤◌, Err, length, subst, arith}
-use Rattle.bt_answers.specs.Answers.{UnlessMemory}
-use Rattle.bt_top.specs.declared.fault.DesignFault.TheVariants.{Memory}
+use Rattle.std.proofs.Common.{Some, Ok, refl, subst}
+use Rattle.bt_top.specs.declared.fault.DesignFault.TheVariants.{Refused}
 use Rattle.bt_top.specs.Certificates.{IsCertificateChecked, IsCertified}
 use Rattle.bt_top.specs.Designs.{IsDesign}
+use Rattle.bt_top.specs.Steps.{stopped, went_on}
 use Rattle.bt_top.specs.inner.Found.{net_and_used}
-use Rattle.bt_top.specs.inner.Fronts.{GivesFront}
-use Rattle.bt_top.proofs.Fronts.{behind_used, tells_settled}
-use Rattle.bt_top.proofs.FlowFronts.{design_goes, refused_is_front}
-use Rattle.bt_top.proofs.Lasting.{design_lasts, part_within, refusal_lasts}
+use Rattle.bt_top.specs.inner.Fronts.{GivesFront, TellsFront}
+use Rattle.bt_top.proofs.Fronts.{found_front, refused_front}
 use Rattle.bt_top.proofs.flow_front.flow_front.Goals as goal
 
-pub returns-else-design-part : goal.returns-else-design-part
-returns-else-design-part c =
-    let bytes = c.args.bytes.now in
-    let part = c.in-Some.part.now in
-    let used = c.in-Ok.design.used in
-    let few : c.in-Ok.design.used < length c.in-Some.part.now = omega arith in
-    let within : c.in-Ok.design.used ≤ length c.args.bytes.now = omega (arith, part_within bytes part c.in-Some.ensures, few) in
-    behind_used (IsCertified c.args.property) (IsCertificateChecked c.in-Ok.design.net c.args.property) bytes used within
-    (design_goes c.args.property bytes (net_and_used c.in-Ok.design) (design_lasts bytes part (net_and_used c.in-Ok.design) c.in-Some.ensures c.in-Ok.ensures.design few))
+pub returns-in-Ok-Some : goal.returns-in-Ok-Some
+returns-in-Ok-Some c =
+    let p = c.args.property in
+    let held = c.args.held in
+    let design = c.in-Ok-Some.design in
+    let tells : TellsFront IsDesign net_and_used c.args.held (Ok (Some c.in-Ok-Some.design)) = subst (λ o. TellsFront IsDesign net_and_used c.args.held (Ok o)) c.in-Ok-Some.field-0-is c.in-Ok-Some.ensures.front in
+    found_front IsDesign net_and_used (IsCertified p) held (λ n. IsCertificateChecked n p) (λ all found reply h k. went_on found h k) design.net design.used tells.1 tells.2
     c.behind_design.result
-    (subst (λ rest. GivesFront (IsCertificateChecked c.in-Ok.design.net c.args.property) rest c.behind_design.result) c.split_at.ensures.back c.behind_design.ensures)
+    (subst (λ rest. GivesFront (IsCertificateChecked c.in-Ok-Some.design.net c.args.property) c.args.held.ended rest c.behind_design.result) c.split_at.ensures.back c.behind_design.ensures)
 
 pub returns-in-Err : goal.returns-in-Err
 returns-in-Err c =
-    let bytes = c.args.bytes.now in
-    let part = c.in-Some.part.now in
-    tells_settled (IsCertified c.args.property) bytes part c.in-Err.fault c.refused_front.result c.refused_front.ensures
-    (λ r is other. refused_is_front c.args.property bytes r (refusal_lasts bytes part r c.in-Some.ensures other
-    (subst (λ f. UnlessMemory Memory (IsDesign part) (Err f)) is c.in-Err.ensures.design)))
+    refused_front IsDesign net_and_used (IsCertified c.args.property) c.args.held c.in-Err.fault c.known_refusal.result c.in-Err.ensures.front c.known_refusal.ensures
+    (λ all r h. stopped (Refused r) h refl)

@@ -1,0 +1,206 @@
+//! The answer that a front of an input tells, where the rest of the input comes from its source.
+ghost use Rattle.std.specs.Prelude.{◌≡◌, ◌++◌, ◌<◌, ◌^◌, [], IfErr, IfOk, Ok, true, vec_items};
+ghost use Rattle.std.specs.Io.KnownBytes.{IsAtEnd};
+ghost use Rattle.bt_answers.specs.Answers.{seen};
+ghost use Rattle.bt_io.specs.Passages.{passage};
+ghost use Rattle.bt_io.specs.declared.fault.ReadAll.TheVariants.{Memory};
+ghost use Rattle.bt_same.specs.Sameness.{HaveEqualEnds};
+ghost use Rattle.bt_top.specs.inner.Fronts.{AnswersRest, DrainsRest, IsFit, IsPairReply, IsReply, IsStateReply};
+ghost use Rattle.bt_top.specs.inner.Fronts.{IsStepsReply, ReadsRest, judged_answer, steps_told};
+
+use crate::answer::Answer;
+use crate::flow_check::judge_text;
+use crate::front::{Front, Steps, WrittenPair, WrittenState};
+use crate::pair_check::judge_pair_text;
+use bt_cert::{CertFault, check_log};
+use bt_io::{ReadAll, SliceSource, Source, drain, read_all};
+use std::alloc::{AllocError, Global};
+
+/// The answer that a front tells, where the input goes on in the source, or has ended.
+pub fn answer_behind<S: Source>(
+    alloc: Global,
+    front: Front<'_>,
+    ended: bool,
+    source: &mut S,
+    limit: usize,
+) -> Result<Answer, ReadAll>
+    requires fit { IsFit front }
+    requires at_end { ended ≡ true → IsAtEnd (S.left source.old) }
+    requires limit { limit < 2 ^ 62 }
+    ensures { AnswersRest ended (IsReply front.entry) limit
+        (passage S.left S.faults source.old source.new) result }
+{
+    match front {
+        Front::Known(answer) => known_from(answer, ended, source, limit),
+        Front::Steps(steps) => steps_from(alloc, steps, ended, source, limit),
+        Front::State(written) => state_from(alloc, written, ended, source, limit),
+        Front::Pair(written) => pair_from(alloc, written, ended, source, limit),
+    }
+}
+
+/// An answer that is known. What follows is read and dropped.
+fn known_from<S: Source>(
+    answer: Answer,
+    ended: bool,
+    source: &mut S,
+    limit: usize,
+) -> Result<Answer, ReadAll>
+    requires at_end { ended ≡ true → IsAtEnd (S.left source.old) }
+    requires limit { limit < 2 ^ 62 }
+    ensures { AnswersRest ended (λ more reply. reply ≡ Ok answer) limit
+        (passage S.left S.faults source.old source.new) result }
+{
+    match drain_rest(ended, source, limit) {
+        Ok(()) => Ok(answer),
+        Err(fault) => Err(fault),
+    }
+}
+
+/// The answer to steps whose lines go on in the source.
+fn steps_from<S: Source>(
+    alloc: Global,
+    steps: Steps<'_>,
+    ended: bool,
+    source: &mut S,
+    limit: usize,
+) -> Result<Answer, ReadAll>
+    requires at_end { ended ≡ true → IsAtEnd (S.left source.old) }
+    requires limit { limit < 2 ^ 62 }
+    ensures { AnswersRest ended (IsStepsReply steps.entry) limit
+        (passage S.left S.faults source.old source.new) result }
+{
+    if ended {
+        return steps_at_hand(alloc, steps);
+    }
+    let judged = check_log(alloc, &steps.formula, steps.lines, source, limit);
+    steps_answer(steps.accepted, judged)
+}
+
+/// The answer to steps whose lines were all read.
+fn steps_at_hand(alloc: Global, steps: Steps<'_>) -> Result<Answer, ReadAll>
+    ensures answer { IfOk result (λ answer. IsStepsReply steps.entry [] (Ok answer)) }
+    ensures memory { IfErr result (λ fault. fault ≡ Memory) }
+{
+    let mut source = SliceSource::new(&[]);
+    let judged = check_log(alloc, &steps.formula, steps.lines, &mut source, 0);
+    steps_answer(steps.accepted, judged)
+}
+
+/// The answer to steps that were judged so, of which the accepted are answered with this.
+fn steps_answer(accepted: Answer, judged: Result<(), CertFault>) -> Result<Answer, ReadAll>
+    ensures { result ≡ judged_answer accepted judged }
+{
+    match judged {
+        Ok(()) => Ok(accepted),
+        Err(fault) => steps_told(fault),
+    }
+}
+
+/// The answer where the steps are no certificate, or why they could not be read.
+fn steps_told(fault: CertFault) -> Result<Answer, ReadAll>
+    ensures { result ≡ steps_told fault }
+{
+    match fault {
+        CertFault::CertLine(line) => Ok(Answer::CertLine(line)),
+        CertFault::BadStep(line, cause) => Ok(Answer::BadStep(line, cause)),
+        CertFault::NoVerdict => Ok(Answer::NoVerdict),
+        CertFault::CertWide(line, row, column) => Ok(Answer::CertWide(line, row, column)),
+        CertFault::ReadFault => Err(ReadAll::ReadFault),
+        CertFault::TooLong => Err(ReadAll::TooLong),
+        CertFault::Memory => Err(ReadAll::Memory),
+    }
+}
+
+/// The answer to a written state whose text goes on in the source.
+fn state_from<S: Source>(
+    alloc: Global,
+    written: WrittenState<'_>,
+    ended: bool,
+    source: &mut S,
+    limit: usize,
+) -> Result<Answer, ReadAll>
+    requires at_end { ended ≡ true → IsAtEnd (S.left source.old) }
+    requires limit { limit < 2 ^ 62 }
+    ensures { AnswersRest ended (IsStateReply written.entry) limit
+        (passage S.left S.faults source.old source.new) result }
+{
+    match read_rest(alloc, ended, source, limit) {
+        Ok(rest) => Ok(state_answer(alloc, written, &rest)?),
+        Err(fault) => Err(fault),
+    }
+}
+
+/// The answer to a written state, of which this is the rest.
+fn state_answer(alloc: Global, written: WrittenState<'_>, rest: &[u8]) -> Result<Answer, AllocError>
+    ensures { IfOk result (λ answer. IsStateReply written.entry rest.now (Ok answer)) }
+{
+    let text = joined(alloc, written.text, rest)?;
+    let broken = Answer::No(written.property);
+    judge_text(alloc, written.property, &written.net, &text, broken)
+}
+
+/// The answer to a written pair of states whose text goes on in the source.
+fn pair_from<S: Source>(
+    alloc: Global,
+    written: WrittenPair<'_>,
+    ended: bool,
+    source: &mut S,
+    limit: usize,
+) -> Result<Answer, ReadAll>
+    requires ends { HaveEqualEnds written.first written.second }
+    requires at_end { ended ≡ true → IsAtEnd (S.left source.old) }
+    requires limit { limit < 2 ^ 62 }
+    ensures { AnswersRest ended (IsPairReply written.entry) limit
+        (passage S.left S.faults source.old source.new) result }
+{
+    match read_rest(alloc, ended, source, limit) {
+        Ok(rest) => Ok(pair_answer(alloc, written, &rest)?),
+        Err(fault) => Err(fault),
+    }
+}
+
+/// The answer to a written pair of states, of which this is the rest.
+fn pair_answer(alloc: Global, written: WrittenPair<'_>, rest: &[u8]) -> Result<Answer, AllocError>
+    requires { HaveEqualEnds written.first written.second }
+    ensures { IfOk result (λ answer. IsPairReply written.entry rest.now (Ok answer)) }
+{
+    let text = joined(alloc, written.text, rest)?;
+    judge_pair_text(alloc, &written.first, &written.second, &text)
+}
+
+/// One text behind another.
+fn joined(alloc: Global, front: &[u8], back: &[u8]) -> Result<Vec<u8>, AllocError>
+    ensures { IfOk result (λ text. text.items ≡ front.now ++ back.now) }
+{
+    let mut text = Vec::from_slice(alloc, front)?;
+    text.extend_from_slice(back)?;
+    Ok(text)
+}
+
+/// What may follow in the source.
+fn read_rest<S: Source>(
+    alloc: Global,
+    ended: bool,
+    source: &mut S,
+    limit: usize,
+) -> Result<Vec<u8>, ReadAll>
+    requires at_end { ended ≡ true → IsAtEnd (S.left source.old) }
+    requires limit { limit < 2 ^ 62 }
+    ensures { ReadsRest ended limit
+        (passage S.left S.faults source.old source.new) (seen vec_items result) }
+{
+    if ended {
+        Ok(Vec::new(alloc))
+    } else {
+        read_all(alloc, source, limit)
+    }
+}
+
+/// Reads what may follow in the source, and keeps none of it.
+fn drain_rest<S: Source>(ended: bool, source: &mut S, limit: usize) -> Result<(), ReadAll>
+    requires at_end { ended ≡ true → IsAtEnd (S.left source.old) }
+    requires limit { limit < 2 ^ 62 }
+    ensures { DrainsRest ended limit (passage S.left S.faults source.old source.new) result }
+{
+    if ended { Ok(()) } else { drain(source, limit) }
+}
