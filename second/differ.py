@@ -406,7 +406,8 @@ def examples(differ, short):
             differ.compare("example", ["recover"], data)
             sources[kind].append(data)
         elif kind.split("-")[0] in ("yes", "not", "nearly"):
-            certificates.append((name, next(prop for prop in check.PROPERTIES if kind.endswith(prop)), data))
+            # What is said of two networks is held against `same.py`.
+            certificates += [(name, prop, data) for prop in check.PROPERTIES if kind.endswith(prop)]
         elif kind == "request":
             sources["request"].append((data, ["--grid", "5x8"]))
     for name, prop, data in certificates[::8 if short else 1]:
