@@ -8,19 +8,11 @@ use Rattle.bt_io.specs.Passages.{Passage}
 use Rattle.bt_cnf.specs.Formulas.{FormulaParts, IsFormula}
 use Rattle.bt_cert.specs.Certificates.{IsCertRead}
 use Rattle.bt_cert.specs.Readings.{AnswersWhole, IsLogChecked}
+use Rattle.bt_cert.specs.inner.Feeding.{IsFed, ReadsRest, ReadsWhole}
 use Rattle.bt_cert.specs.inner.Stages.{Progress, HasRead, ReadsOn}
 use Rattle.bt_cert.specs.declared.fault.CertFault.{CertFault}
 use Rattle.bt_cert.specs.declared.fault.CertFault.TheVariants.{CertLine, BadStep, NoVerdict, CertWide, ReadFault, TooLong, Memory}
 use Rattle.bt_cert.proofs.OneAnswer.{one_answer}
-
--- the head and so many bytes of the source were read
-pub record IsFed (f : FormulaParts) (head : List ℕ) (before after : Option (List ℕ)) (taken : ℕ) (p : Progress) : Type 0 where
-  pub bytes : List ℕ
-  pub consumed : Consumes before after bytes
-  pub many : length bytes ≡ taken
-  pub formula : p.known.formula ≡ f
-  pub read : HasRead (head ++ bytes) p
-  pub line : p.line ≤ 2 + length head + taken
 
 consumes_none : (left : Option (List ℕ)) → Consumes left left []
 consumes_none None = tt
@@ -32,26 +24,37 @@ consumes_both (Some xs) None third front back p q = absurd p
 consumes_both (Some xs) (Some ys) None front back p q = absurd q
 consumes_both (Some xs) (Some ys) (Some zs) front back p q = p ∙ ap (λ t. front ++ t) q ∙ sym (append_assoc front back zs)
 
-pub fed_start : (f : FormulaParts) (head : List ℕ) (left : Option (List ℕ)) (p q : Progress) → p.known.formula ≡ f → p.line ≡ 2 → HasRead [] p → ReadsOn p head q
-    → q.line ≤ p.line + length head → IsFed f head left left 0 q
-fed_start f head left p q formula line read reads lines = record {
+pub fed_start : (left : Option (List ℕ)) (p : Progress) → IsFed left left 0 p p
+fed_start left p = record {
   bytes = [];
   consumed = consumes_none left;
   many = refl;
-  formula = reads.formula ∙ formula;
-  read = subst (λ t. HasRead t q) (sym (append-nil head)) (reads.read [] read);
+  reads = record { formula = refl; read = λ text read. subst (λ t. HasRead t p) (sym (append-nil text)) read };
   line = omega arith;
 }
 
-pub fed_more : (f : FormulaParts) (head : List ℕ) (before mid after : Option (List ℕ)) (taken n : ℕ) (p q : Progress) (piece : List ℕ) → IsFed f head before mid taken p
-    → Consumes mid after piece → length piece ≡ n → ReadsOn p piece q → q.line ≤ p.line + length piece → IsFed f head before after (taken + n) q
-fed_more f head before mid after taken n p q piece fed consumed many reads lines = record {
+pub fed_more : (before mid after : Option (List ℕ)) (taken n : ℕ) (old p q : Progress) (piece : List ℕ) → IsFed before mid taken old p
+    → Consumes mid after piece → length piece ≡ n → ReadsOn p piece q → q.line ≤ p.line + length piece → IsFed before after (taken + n) old q
+fed_more before mid after taken n old p q piece fed consumed many reads lines = record {
   bytes = fed.bytes ++ piece;
   consumed = consumes_both before mid after fed.bytes piece fed.consumed consumed;
   many = omega (arith, length-append fed.bytes piece, fed.many, many);
-  formula = reads.formula ∙ fed.formula;
-  read = subst (λ t. HasRead t q) (append_assoc head fed.bytes piece) (reads.read (head ++ fed.bytes) fed.read);
+  reads = record {
+    formula = reads.formula ∙ fed.reads.formula;
+    read = λ text read. subst (λ t. HasRead t q) (append_assoc text fed.bytes piece) (reads.read (text ++ fed.bytes) (fed.reads.read text read));
+  };
   line = omega (arith, fed.line, lines, many);
+}
+
+-- the source ended
+pub fed_whole : (limit taken : ℕ) (source : Passage) (mid : Option (List ℕ)) (old p : Progress) → IsFed source.before mid taken old p
+    → Consumes mid source.after [] → IsAtEnd source.after → taken ≤ limit → ReadsWhole limit source old p
+fed_whole limit taken source mid old p fed consumed ends few = record {
+  bytes = fed.bytes;
+  all = (subst (Consumes source.before source.after) (append-nil fed.bytes) (consumes_both source.before mid source.after fed.bytes [] fed.consumed consumed), ends);
+  few = omega (arith, fed.many);
+  reads = fed.reads;
+  line = omega (arith, fed.line);
 }
 
 -- what is told of a text whose source ended
@@ -66,15 +69,26 @@ checked_at f head limit source (Err ReadFault) h = elim h.3.right [ inl wrong �
 checked_at f head limit source (Err TooLong) h = elim h.3.right [ inl wrong ↦ absurd wrong | inr e ↦ absurd cc ]
 checked_at f head limit source (Err Memory) h = (h.0, h.1.0, h.2)
 
-pub fed_whole : (f : FormulaParts) → IsFormula f → (head : List ℕ) (limit taken : ℕ) (source : Passage) (mid : Option (List ℕ)) (p : Progress) (told : Result (Unit {0}) CertFault)
-    → IsFed f head source.before mid taken p → Consumes mid source.after [] → IsAtEnd source.after → taken ≤ limit
-    → ((text : List ℕ) → HasRead text p → UnlessMemory Memory (IsCertRead p.known.formula text) told) → IsLogChecked f head limit source told
-fed_whole f formula head limit taken source mid p told fed consumed ends few answers =
-    let all : Consumes source.before source.after fed.bytes =
-    subst (Consumes source.before source.after) (append-nil fed.bytes) (consumes_both source.before mid source.after fed.bytes [] fed.consumed consumed) in
-    let right : UnlessMemory Memory (IsCertRead f (head ++ fed.bytes)) told =
-    subst (λ g. UnlessMemory Memory (IsCertRead g (head ++ fed.bytes)) told) fed.formula (answers (head ++ fed.bytes) fed.read) in
-    checked_at f head limit source told (fed.bytes, (all, ends), omega (arith, fed.many), answers_of Memory (IsCertRead f (head ++ fed.bytes)) (one_answer f formula (head ++ fed.bytes)) told right)
+-- what is told where the whole source was read
+pub whole_checked : (f : FormulaParts) → IsFormula f → (head : List ℕ) (limit : ℕ) (source : Passage) (start old new : Progress) (told : Result (Unit {0}) CertFault)
+    → start.known.formula ≡ f → HasRead [] start → ReadsOn start head old → ReadsWhole limit source old new
+    → ((text : List ℕ) → HasRead text new → UnlessMemory Memory (IsCertRead new.known.formula text) told) → IsLogChecked f head limit source told
+whole_checked f formula head limit source start old new told start_is nothing headed whole answers =
+    let same = whole.reads.formula ∙ headed.formula ∙ start_is in
+    let right : UnlessMemory Memory (IsCertRead f (head ++ whole.bytes)) told =
+    subst (λ g. UnlessMemory Memory (IsCertRead g (head ++ whole.bytes)) told) same (answers (head ++ whole.bytes) (whole.reads.read head (headed.read [] nothing))) in
+    checked_at f head limit source told (whole.bytes, whole.all, whole.few, answers_of Memory (IsCertRead f (head ++ whole.bytes)) (one_answer f formula (head ++ whole.bytes)) told right)
+
+-- what is told where it was not
+pub rest_refused : (f : FormulaParts) (head : List ℕ) (limit : ℕ) (source : Passage) (old new : Progress) (fault : CertFault) → ReadsRest limit source old new (Err fault)
+    → IsLogChecked f head limit source (Err fault)
+rest_refused f head limit source old new ReadFault h = h
+rest_refused f head limit source old new TooLong h = h
+rest_refused f head limit source old new (CertLine n) h = absurd h
+rest_refused f head limit source old new (BadStep n cause) h = absurd h
+rest_refused f head limit source old new NoVerdict h = absurd h
+rest_refused f head limit source old new (CertWide n row column) h = absurd h
+rest_refused f head limit source old new Memory h = absurd h
 
 keeps_as : (before mid after : Option (List ℕ)) (bytes : List ℕ) → Consumes before mid bytes → Keeps mid after → Consumes before after bytes
 keeps_as None mid after bytes p q = tt
@@ -83,14 +97,14 @@ keeps_as (Some xs) (Some ys) None bytes p q = absurd q
 keeps_as (Some xs) (Some ys) (Some zs) bytes p q = p ∙ ap (λ t. bytes ++ t) (sym q)
 
 -- the source failed
-pub fed_until_fault : (f : FormulaParts) (head : List ℕ) (limit taken : ℕ) (source : Passage) (mid : Option (List ℕ)) (p : Progress) → IsFed f head source.before mid taken p
+pub fed_until_fault : (limit taken : ℕ) (source : Passage) (mid : Option (List ℕ)) (old p : Progress) → IsFed source.before mid taken old p
     → Keeps mid source.after → taken ≤ limit → TakesAtMost source limit
-fed_until_fault f head limit taken source mid p fed keeps few = (fed.bytes, keeps_as source.before mid source.after fed.bytes fed.consumed keeps, omega (arith, fed.many))
+fed_until_fault limit taken source mid old p fed keeps few = (fed.bytes, keeps_as source.before mid source.after fed.bytes fed.consumed keeps, omega (arith, fed.many))
 
 -- one byte past the limit was taken
-pub fed_too_long : (f : FormulaParts) (head : List ℕ) (limit taken : ℕ) (source : Passage) (p : Progress) → IsFed f head source.before source.after taken p
+pub fed_too_long : (limit taken : ℕ) (source : Passage) (old p : Progress) → IsFed source.before source.after taken old p
     → limit < taken → taken ≤ limit + 1 → Takes source (limit + 1)
-fed_too_long f head limit taken source p fed more few = (fed.bytes, fed.consumed, omega (arith, fed.many))
+fed_too_long limit taken source old p fed more few = (fed.bytes, fed.consumed, omega (arith, fed.many))
 
 -- nothing was taken
 pub unfed : (source : Passage) (limit : ℕ) → source.before ≡ source.after → TakesAtMost source limit

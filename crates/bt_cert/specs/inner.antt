@@ -1,6 +1,7 @@
 -- Definitions that private functions alone cite.
 pub mod Assuming
 pub mod Checking
+pub mod Feeding
 pub mod Items
 pub mod Judgements
 pub mod Knowing

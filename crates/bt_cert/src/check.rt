@@ -1,7 +1,8 @@
 //! Checking a log that a source tells.
-ghost use Rattle.std.specs.Prelude.{◌<◌, ◌^◌};
+ghost use Rattle.std.specs.Prelude.{◌+◌, ◌<◌, ◌≤◌, ◌^◌};
 ghost use Rattle.bt_io.specs.Passages.{passage};
 ghost use Rattle.bt_cert.specs.Readings.{ChecksLog};
+ghost use Rattle.bt_cert.specs.inner.Feeding.{ReadsRest};
 
 use crate::fault::CertFault;
 use crate::reading::Reading;
@@ -31,6 +32,24 @@ pub fn check_log<S: Source>(
 {
     let mut reading = Reading::new(alloc, formula)?;
     reading.take(head);
+    match read_rest(&mut reading, source, limit) {
+        Ok(()) => reading.finish(),
+        Err(fault) => Err(fault),
+    }
+}
+
+/// Reads on what is left of a source, of which at most `limit` bytes are read.
+fn read_rest<S: Source>(
+    reading: &mut Reading<'_>,
+    source: &mut S,
+    limit: usize,
+) -> Result<(), CertFault>
+    requires limit { limit < 2 ^ 62 }
+    requires line { reading.old.line + limit + 1 < 2 ^ 64 }
+    ensures rest { ReadsRest limit (passage S.left S.faults source.old source.new)
+        reading.old reading.new result }
+    ensures count { S.faults source.old ≤ S.faults source.new }
+{
     let mut block = [0u8; BLOCK];
     let mut taken = 0;
     while taken <= limit {
@@ -40,7 +59,7 @@ pub fn check_log<S: Source>(
             return Err(CertFault::ReadFault);
         };
         if count == 0 {
-            return reading.finish();
+            return Ok(());
         }
         reading.take(&piece[..count]);
         taken += count;

@@ -1,11 +1,11 @@
 //! Loading a formula: the search that begins.
-ghost use Rattle.std.specs.Prelude.{◌≡◌, ◌<◌, Some, length, IfOk, OnOk};
+ghost use Rattle.std.specs.Prelude.{◌≡◌, ℕ, ◌<◌, [], Some, length, IfOk, OnOk};
 ghost use Rattle.std.specs.List.{All};
 ghost use Rattle.bt_cnf.specs.Formulas.{LitsBelow};
 ghost use Rattle.bt_log.specs.Validity.{clause_at};
 ghost use Rattle.bt_sat.specs.inner.Loading.{IsLoaded};
 ghost use Rattle.bt_sat.specs.inner.Loads.{ArePaired, AreUnsetAll, HasLoaded, IsEmptySearch, IsOther, IsUnassigned, Loads};
-ghost use Rattle.bt_sat.specs.inner.Progressing.{Stands};
+ghost use Rattle.bt_sat.specs.inner.Progressing.{IsLogged, Stands};
 
 use crate::agenda::Agenda;
 use crate::analysis::Analysis;
@@ -187,16 +187,53 @@ fn no_lesson(alloc: Global, vars: usize) -> Result<LearntClause, AllocError> {
     })
 }
 
-/// The search of a formula by a plan that begins, with an empty log that may have a limited number of steps.
-pub fn load(alloc: Global, formula: Formula, limit: u64, plan: Plan) -> Result<Progress, AllocError>
-    ensures { IfOk result (IsLoaded formula limit) }
+/// A formula with an empty log.
+fn logged(alloc: Global, formula: Formula) -> Result<LoggedFormula, AllocError>
+    ensures formula { IfOk result (λ known. known.formula ≡ formula) }
+    ensures steps { IfOk result (λ known. known.log.steps ≡ []) }
+    ensures logged { IfOk result (λ known. (most : ℕ) → IsLogged known most) }
 {
-    let mut search = empty_search(alloc, &formula)?;
-    let conflict = load_clauses(&mut search, &formula, &mut Vec::new(alloc))?;
     let log = Log::new(alloc, formula.clauses())?;
-    let learnt_clause = no_lesson(alloc, formula.vars())?;
+    Ok(LoggedFormula { formula, log })
+}
+
+/// What a search works with before its clauses are loaded.
+fn empty_work(alloc: Global, formula: &Formula) -> Result<(Search, LearntClause), AllocError>
+    ensures { IfOk result (λ work. IsEmptySearch formula.now.vars work.0) }
+{
+    let search = empty_search(alloc, formula)?;
+    Ok((search, no_lesson(alloc, formula.vars())?))
+}
+
+/// What a search works with after its clauses are loaded, up to one whose literals are all false, and the number of such
+/// a clause.
+fn loaded_work(
+    alloc: Global,
+    formula: &Formula,
+) -> Result<(Search, LearntClause, Option<usize>), AllocError>
+    ensures stands { IfOk result (λ work. Stands formula.now.clauses 0 work.0 work.2) }
+    ensures same { IfOk result (λ work. length work.0.assignment.values ≡ formula.now.vars) }
+{
+    let (search, learnt_clause) = empty_work(alloc, formula)?;
+    let mut search = search;
+    let conflict = load_clauses(&mut search, formula, &mut Vec::new(alloc))?;
+    Ok((search, learnt_clause, conflict))
+}
+
+/// The search by a plan that begins, whose log may have a limited number of steps.
+fn started(
+    alloc: Global,
+    known: LoggedFormula,
+    limit: u64,
+    plan: Plan,
+) -> Result<Progress, AllocError>
+    requires steps { known.log.steps ≡ [] }
+    requires logged { IsLogged known limit }
+    ensures { IfOk result (IsLoaded known.formula limit) }
+{
+    let (search, learnt_clause, conflict) = loaded_work(alloc, &known.formula)?;
     Ok(Progress {
-        known: LoggedFormula { formula, log },
+        known,
         search,
         learnt_clause,
         order: Order::new(alloc),
@@ -206,4 +243,12 @@ pub fn load(alloc: Global, formula: Formula, limit: u64, plan: Plan) -> Result<P
         settled: 0,
         conflict,
     })
+}
+
+/// The search of a formula by a plan that begins, with an empty log that may have a limited number of steps.
+pub fn load(alloc: Global, formula: Formula, limit: u64, plan: Plan) -> Result<Progress, AllocError>
+    ensures { IfOk result (IsLoaded formula limit) }
+{
+    let known = logged(alloc, formula)?;
+    started(alloc, known, limit, plan)
 }

@@ -1,82 +1,93 @@
 -- What a check answers, by where its run ends.
-use Rattle.std.proofs.Common.{◌≡◌, ℕ, ◌<◌, ◌≤◌, length, ap, sym, ◌∙◌, subst}
+use Rattle.std.proofs.Common.{◌≡◌, ℕ, ◌<◌, ◌≤◌, List, Vec, Global, length, ap, sym, ◌∙◌, refl, subst}
+use Rattle.bt_frac.specs.Ratio.{Ratio}
 use Rattle.bt_simplex.specs.Counting.{most_bases}
 use Rattle.bt_simplex.specs.SolvedForms.{Slots}
 use Rattle.bt_simplex.specs.Tableaus.{TableauParts, IsTableau}
 use Rattle.bt_simplex.specs.Turns.{IsMet, IsStuckAt, Follows}
 use Rattle.bt_simplex.specs.Runs.{LeadsTo}
 use Rattle.bt_simplex.specs.Causes.{IsCause}
-use Rattle.bt_simplex.specs.Checks.{StartsAt, IsPivots, IsWideCheck}
+use Rattle.bt_simplex.specs.Checks.{StartsAt, IsPivots, IsWideCheck, MeetsBoundRows, RefutesBoundRows}
+use Rattle.bt_simplex.specs.declared.tableau.Turn.{Turn}
 use Rattle.bt_simplex.specs.declared.answers.Trail.{Trail}
 use Rattle.bt_simplex.specs.declared.answers.Wide.{Wide}
+use Rattle.bt_simplex.specs.declared.answers.Check.TheVariants.{Sat, Unsat, Pivots as Limit, Wide as Unfit}
 use Rattle.bt_simplex.specs.declared.causes.Cause.{Cause}
-use Rattle.bt_simplex.specs.declared.running.Run.{Run}
 use Rattle.bt_simplex.specs.declared.running.End.{End}
 use Rattle.bt_simplex.specs.declared.running.End.TheVariants.{Met, Stuck, Pivots, Wide as TooWide}
 use Rattle.bt_simplex.specs.inner.Bases.{with_slots}
-use Rattle.bt_simplex.specs.inner.Checking.{IsWideFor}
+use Rattle.bt_simplex.specs.inner.Checking.{Concludes, IsWideFor}
 use Rattle.bt_simplex.specs.inner.Runs.{IsEnd, IsRun}
 use Rattle.bt_simplex.proofs.FewTurns.{few_turns}
 
-module _ (pivots : ℕ) (t : TableauParts) (start : Slots) (run : Run) (start_is : start ≡ t.slots) (is : IsRun pivots t start run) where
-  follows : Follows t run.turns.items is.last
-  follows = subst (λ s. Follows (with_slots t s) run.turns.items is.last) start_is is.follows
+module _ (pivots : ℕ) (t : TableauParts) (turns : List Turn) (slots : Slots) (end : End) (is : IsRun pivots t turns slots end) where
+  ends : (other : End) → end ≡ other → IsEnd pivots t is.last turns slots other
+  ends other e = subst (λ x. IsEnd pivots t is.last turns slots x) e is.ends
 
-  ends : (end : End) → run.end ≡ end → IsEnd pivots t is.last run.turns.items run.basis end
-  ends end e = subst (λ x. IsEnd pivots t is.last run.turns.items run.basis x) e is.ends
+  leads : is.last ≡ with_slots t slots → LeadsTo pivots t (with_slots t slots)
+  leads e = record { turns = turns; few = is.few; follows = subst (λ u. Follows t turns u) e is.follows }
 
-  leads : is.last ≡ with_slots t run.basis → LeadsTo pivots t (with_slots t run.basis)
-  leads e = record { turns = run.turns.items; few = is.few; follows = subst (λ u. Follows t run.turns.items u) e follows }
-
-  -- the answer that names a cause of the basis
-  wide : (cause : Cause) (answer : Wide) → IsCause is.last cause → IsWideFor t run.turns.items run.basis cause answer → IsWideCheck pivots t answer
-  wide cause answer told answers = record {
-    starts = answers.starts;
-    few = subst (λ l. length l ≤ pivots) (sym answers.turns_are) is.few;
-    last = is.last;
-    follows = subst (λ l. Follows t l is.last) (sym answers.turns_are) follows;
-    basis = answers.basis ∙ is.basis;
-    cause = subst (λ c. IsCause is.last c) (sym answers.cause_is) told;
-  }
-
-  pub met_tableau : run.end ≡ Met → IsTableau (with_slots t run.basis)
+  pub met_tableau : end ≡ Met → IsTableau (with_slots t slots)
   met_tableau e = let h = ends Met e in subst IsTableau h.0 h.1
 
-  pub met_met : run.end ≡ Met → IsMet (with_slots t run.basis)
+  pub met_met : end ≡ Met → IsMet (with_slots t slots)
   met_met e = let h = ends Met e in subst (λ u. IsMet u) h.0 h.2
 
-  pub met_leads : run.end ≡ Met → LeadsTo pivots t (with_slots t run.basis)
-  met_leads e = let h = ends Met e in leads h.0
-
-  pub met_wide : run.end ≡ Met → (cause : Cause) (answer : Wide) → IsCause (with_slots t run.basis) cause → IsWideFor t run.turns.items run.basis cause answer → IsWideCheck pivots t answer
-  met_wide e cause answer told = let h = ends Met e in wide cause answer (subst (λ u. IsCause u cause) (sym h.0) told)
-
-  pub stuck_tableau : (position : ℕ) → run.end ≡ Stuck position → IsTableau (with_slots t run.basis)
+  pub stuck_tableau : (position : ℕ) → end ≡ Stuck position → IsTableau (with_slots t slots)
   stuck_tableau position e = let h = ends (Stuck position) e in subst IsTableau h.0 h.1
 
-  pub stuck_stuck : (position : ℕ) → run.end ≡ Stuck position → IsStuckAt (with_slots t run.basis) position
+  pub stuck_stuck : (position : ℕ) → end ≡ Stuck position → IsStuckAt (with_slots t slots) position
   stuck_stuck position e = let h = ends (Stuck position) e in subst (λ u. IsStuckAt u position) h.0 h.2
 
-  pub stuck_leads : (position : ℕ) → run.end ≡ Stuck position → LeadsTo pivots t (with_slots t run.basis)
-  stuck_leads position e = let h = ends (Stuck position) e in leads h.0
+  -- the answers by what was found at the end
+  pub met_concludes : (values : Vec Ratio Global) → end ≡ Met → MeetsBoundRows (with_slots t slots) values.items → Concludes pivots t slots (Sat values)
+  met_concludes values e meets = record {
+    tableau = met_tableau e;
+    checked = (leads (ends Met e).0, met_met e, record { columns = meets.columns; holds = meets.holds });
+  }
 
-  pub stuck_wide : (position : ℕ) → run.end ≡ Stuck position → (cause : Cause) (answer : Wide) → IsCause (with_slots t run.basis) cause
-      → IsWideFor t run.turns.items run.basis cause answer → IsWideCheck pivots t answer
-  stuck_wide position e cause answer told = let h = ends (Stuck position) e in wide cause answer (subst (λ u. IsCause u cause) (sym h.0) told)
+  pub stuck_concludes : (weights : Vec (ℕ × Ratio) Global) (position : ℕ) → end ≡ Stuck position → RefutesBoundRows (with_slots t slots) weights.items
+      → Concludes pivots t slots (Unsat weights)
+  stuck_concludes weights position e refutes = record {
+    tableau = stuck_tableau position e;
+    checked = (leads (ends (Stuck position) e).0, (position, stuck_stuck position e), record { ascend = refutes.ascend; bound = refutes.bound; accepted = refutes.accepted });
+  }
 
-  pub run_wide : (cause : Cause) → run.end ≡ TooWide cause → (answer : Wide) → IsWideFor t run.turns.items run.basis cause answer → IsWideCheck pivots t answer
-  run_wide cause e answer = wide cause answer (ends (TooWide cause) e)
-
-  pub pivots_answer : IsTableau t → run.end ≡ Pivots → (trail : Trail) → StartsAt t trail → trail.turns.items ≡ run.turns.items → IsPivots pivots t trail
+  pivots_answer : IsTableau t → end ≡ Pivots → (trail : Trail) → StartsAt t trail → trail.turns.items ≡ turns → IsPivots pivots t trail
   pivots_answer tableau e trail starts same =
       let h = ends Pivots e in
       record {
         starts = starts;
-        few = subst (λ n. n < most_bases t.columns t.rows) h.0 (few_turns t run.turns.items is.last tableau follows);
+        few = subst (λ n. n < most_bases t.columns t.rows) h.0 (few_turns t turns is.last tableau is.follows);
         goes_on = record {
           many = ap length same ∙ h.0;
           last = is.last;
-          follows = subst (λ l. Follows t l is.last) (sym same) follows;
+          follows = subst (λ l. Follows t l is.last) (sym same) is.follows;
           goes_on = h.1;
         };
       }
+
+  pub pivots_concludes : (trail : Trail) → IsTableau t → end ≡ Pivots → StartsAt t trail → trail.turns.items ≡ turns → Concludes pivots t slots (Limit trail)
+  pivots_concludes trail tableau e starts same = record { tableau = tableau; checked = (refl, pivots_answer tableau e trail starts same) }
+
+  wide_concludes : (cause : Cause) (answer : Wide) → IsTableau t → IsCause is.last cause → IsWideFor t turns slots cause answer → Concludes pivots t slots (Unfit answer)
+  wide_concludes cause answer tableau told answers =
+      let wide : IsWideCheck pivots t answer = record {
+        starts = answers.starts;
+        few = subst (λ l. length l ≤ pivots) (sym answers.turns_are) is.few;
+        last = is.last;
+        follows = subst (λ l. Follows t l is.last) (sym answers.turns_are) is.follows;
+        basis = answers.basis ∙ is.basis;
+        cause = subst (λ c. IsCause is.last c) (sym answers.cause_is) told;
+      } in record { tableau = tableau; checked = (refl, wide) }
+
+  pub met_wide : (cause : Cause) (answer : Wide) → IsTableau t → end ≡ Met → IsCause (with_slots t slots) cause → IsWideFor t turns slots cause answer
+      → Concludes pivots t slots (Unfit answer)
+  met_wide cause answer tableau e told = wide_concludes cause answer tableau (subst (λ u. IsCause u cause) (sym (ends Met e).0) told)
+
+  pub stuck_wide : (cause : Cause) (answer : Wide) (position : ℕ) → IsTableau t → end ≡ Stuck position → IsCause (with_slots t slots) cause
+      → IsWideFor t turns slots cause answer → Concludes pivots t slots (Unfit answer)
+  stuck_wide cause answer position tableau e told = wide_concludes cause answer tableau (subst (λ u. IsCause u cause) (sym (ends (Stuck position) e).0) told)
+
+  pub turn_wide : (cause : Cause) (answer : Wide) → IsTableau t → end ≡ TooWide cause → IsWideFor t turns slots cause answer → Concludes pivots t slots (Unfit answer)
+  turn_wide cause answer tableau e = wide_concludes cause answer tableau (ends (TooWide cause) e)

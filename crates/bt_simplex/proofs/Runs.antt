@@ -1,5 +1,5 @@
 -- Bland's turns one after the other.
-use Rattle.std.proofs.Common.{◌≡◌, ℕ, ◌+◌, ◌<◌, ◌≤◌, arith, length-append, List, [], ◌∷◌, ◌++◌, length, Option, Some, None, Result, Ok, Err, IfOk, Vec, Global, sym, ◌∙◌, refl, subst, inl, inr}
+use Rattle.std.proofs.Common.{◌≡◌, ℕ, ◌+◌, ◌<◌, ◌≤◌, arith, length-append, List, [], ◌∷◌, ◌++◌, length, Option, Some, None, Result, Ok, Err, IfOk, sym, ◌∙◌, refl, subst, inl, inr}
 use Rattle.std.proofs.lemmas.List.{get_or_past}
 use Rattle.bt_simplex.specs.SolvedForms.{Slots, slot_at, basis_of, IsOutside, IsSolvedForm}
 use Rattle.bt_simplex.specs.Tableaus.{TableauParts, IsTableau}
@@ -85,25 +85,25 @@ turn_cause t turn slots' cause bland unfit = (
 )
 
 -- where a run ends
-module _ (pivots : ℕ) (t : TableauParts) (start : Slots) (turns : Vec Turn Global) (slots : Slots) (few : length turns.items ≤ pivots) (at : IsAt (with_slots t start) turns.items slots) where
-  ended : (slots' : Slots) (end : End) → basis_of slots' ≡ basis_of slots → IsEnd pivots t (with_slots t slots) turns.items slots' end
-      → IsRun pivots t start (record { turns = turns; basis = slots'; end = end })
+module _ (pivots : ℕ) (t : TableauParts) (turns : List Turn) (slots : Slots) (few : length turns ≤ pivots) (at : IsAt t turns slots) where
+  ended : (slots' : Slots) (end : End) → basis_of slots' ≡ basis_of slots → IsEnd pivots t (with_slots t slots) turns slots' end
+      → IsRun pivots t turns slots' end
   ended slots' end basis ends = record { few = few; last = with_slots t slots; follows = at.follows; basis = basis; ends = ends }
 
-  pub met_run : IsMet (with_slots t slots) → IsRun pivots t start (record { turns = turns; basis = slots; end = Met })
+  pub met_run : IsMet (with_slots t slots) → IsRun pivots t turns slots Met
   met_run met = ended slots Met refl (refl, at.tableau, met)
 
-  pub stuck_run : (position : ℕ) → IsStuckAt (with_slots t slots) position → IsRun pivots t start (record { turns = turns; basis = slots; end = Stuck position })
+  pub stuck_run : (position : ℕ) → IsStuckAt (with_slots t slots) position → IsRun pivots t turns slots (Stuck position)
   stuck_run position stuck = ended slots (Stuck position) refl (refl, at.tableau, stuck)
 
-  pub wide_run : (cause : Cause) → IsCause (with_slots t slots) cause → IsRun pivots t start (record { turns = turns; basis = slots; end = Wide cause })
+  pub wide_run : (cause : Cause) → IsCause (with_slots t slots) cause → IsRun pivots t turns slots (Wide cause)
   wide_run cause told = ended slots (Wide cause) refl told
 
-  pub pivots_run : (turn : Turn) → pivots ≤ length turns.items → IsBlandTurn (with_slots t slots) turn → IsRun pivots t start (record { turns = turns; basis = slots; end = Pivots })
+  pub pivots_run : (turn : Turn) → pivots ≤ length turns → IsBlandTurn (with_slots t slots) turn → IsRun pivots t turns slots Pivots
   pivots_run turn many bland = ended slots Pivots refl (omega arith, bland_goes_on (with_slots t slots) turn bland)
 
   pub turn_run : (slots' : Slots) (turn : Turn) (cause : Cause) → IsBlandTurn (with_slots t slots) turn → IsUnfitTurn slots turn.leaves turn.enters slots' cause
-      → IsRun pivots t start (record { turns = turns; basis = slots'; end = Wide cause })
+      → IsRun pivots t turns slots' (Wide cause)
   turn_run slots' turn cause bland unfit = ended slots' (Wide cause) unfit.same_basis (turn_cause (with_slots t slots) turn slots' cause bland unfit)
 
 pub more_turns : (turns : List Turn) (turn : Turn) (pivots : ℕ) → length turns + 1 ≤ pivots → length (turns ++ turn ∷ []) ≤ pivots

@@ -1,5 +1,5 @@
 //! Runs of Bland's turns from a basis on, to a final one or to a limit of turns.
-ghost use Rattle.std.specs.Prelude.{IfOk, IfErr};
+ghost use Rattle.std.specs.Prelude.{◌≡◌, [], IfOk, IfErr};
 ghost use Rattle.bt_simplex.specs.Tableaus.{IsTableau};
 ghost use Rattle.bt_simplex.specs.Turns.{IsBlandTurn};
 ghost use Rattle.bt_simplex.specs.inner.Bases.{with_slots};
@@ -13,7 +13,7 @@ use crate::causes::Cause;
 use crate::sum_cache::SumCache;
 use crate::tableau::{Tableau, Turn};
 use crate::turning::turn;
-use crate::workspace::Rooms;
+use crate::workspace::{Rooms, Workspace};
 use std::alloc::{AllocError, Global};
 
 /// Where a run of turns ends.
@@ -27,18 +27,6 @@ pub enum End {
     Pivots,
     /// At an operation whose result doesn't fit.
     Wide(Cause),
-}
-
-/// The turns from a basis on.
-#[derive(Drop)]
-pub struct Run {
-    /// The turns made.
-    pub turns: Vec<Turn>,
-    /// The basis that the turns lead to. Its lines are those of the solved form, but where the run ends
-    /// in the midst of a turn.
-    pub basis: Basis,
-    /// Where it ends.
-    pub end: End,
 }
 
 /// Makes Bland's turn; or tells an operation whose result doesn't fit.
@@ -61,46 +49,43 @@ fn make_turn(
     turn(tableau, alloc, rooms, basis, kept, made.leaves, made.enters)
 }
 
-/// Makes Bland's turns from a basis on, at most so many, in the memory of earlier runs.
+/// Makes Bland's turns from the memory's basis on, at most so many, and adds them to the list. The basis that they
+/// lead to has the lines of the solved form, but where the run ends in the midst of a turn.
 pub fn turned_from(
     tableau: &Tableau,
     alloc: Global,
-    start: Basis,
-    rooms: &mut Rooms,
-    kept: &mut SumCache,
+    work: &mut Workspace,
+    turns: &mut Vec<Turn>,
     pivots: u64,
-) -> Result<Run, AllocError>
-    requires { IsTableau (with_slots tableau.now start) }
-    ensures { IfOk result (IsRun pivots tableau.now start) }
+) -> Result<End, AllocError>
+    requires tableau { IsTableau (with_slots tableau.now work.old.basis) }
+    requires none { turns.old.items ≡ [] }
+    ensures { IfOk result
+        (IsRun pivots (with_slots tableau.now work.old.basis) turns.new.items work.new.basis) }
 {
-    let mut basis = start;
-    kept.restart(basis.classes())?;
-    let mut turns = Vec::new(alloc);
+    work.kept.restart(work.basis.classes())?;
     'turns: loop {
-        match blands_next(tableau, &basis, kept) {
+        match blands_next(tableau, &work.basis, &mut work.kept) {
             Next::Turn(turn) => {
                 if turns.len() as u64 >= pivots {
-                    let end = End::Pivots;
-                    return Ok(Run { turns, basis, end });
+                    return Ok(End::Pivots);
                 }
-                if let Err(cause) = make_turn(tableau, alloc, &mut basis, rooms, kept, turn)? {
-                    let end = End::Wide(cause);
-                    return Ok(Run { turns, basis, end });
+                let made = make_turn(
+                    tableau,
+                    alloc,
+                    &mut work.basis,
+                    &mut work.rooms,
+                    &mut work.kept,
+                    turn,
+                )?;
+                if let Err(cause) = made {
+                    return Ok(End::Wide(cause));
                 }
                 turns.push(turn)?;
             }
-            Next::Met => {
-                let end = End::Met;
-                return Ok(Run { turns, basis, end });
-            }
-            Next::Stuck(position) => {
-                let end = End::Stuck(position);
-                return Ok(Run { turns, basis, end });
-            }
-            Next::Wide(cause) => {
-                let end = End::Wide(cause);
-                return Ok(Run { turns, basis, end });
-            }
+            Next::Met => return Ok(End::Met),
+            Next::Stuck(position) => return Ok(End::Stuck(position)),
+            Next::Wide(cause) => return Ok(End::Wide(cause)),
         }
     }
 }

@@ -1,8 +1,9 @@
 //! Tableaus: rows over columns, of which some are bound, and a basis with its solved form.
-ghost use Rattle.std.specs.Prelude.{◌≡◌, ◌<◌, IfOk, IfSome, OnErr, MatchOption, Some, None, length, true, false, IsTrue, slice_index_or};
+ghost use Rattle.std.specs.Prelude.{◌≡◌, ℕ, ◌<◌, IfOk, IfSome, OnErr, MatchOption, Some, None, length, true, false, IsTrue, slice_index_or};
 ghost use Rattle.bt_simplex.specs.Checks.{IsCheck, StartsAt};
 ghost use Rattle.bt_simplex.specs.inner.Bases.{with_slots};
-ghost use Rattle.bt_simplex.specs.inner.Checking.{IsWideFor};
+ghost use Rattle.bt_simplex.specs.inner.Checking.{Concludes, IsWideFor, slots_after};
+ghost use Rattle.bt_simplex.specs.inner.Runs.{IsRun};
 ghost use Rattle.bt_simplex.specs.inner.Rests.{IsRestOf, relation_of};
 ghost use Rattle.bt_simplex.specs.Points.{bound_row};
 ghost use Rattle.bt_simplex.specs.Tableaus.{AreOverColumns, IsNew, IsBoundAs, IsTableau};
@@ -12,12 +13,11 @@ use crate::basis::Basis;
 use crate::causes::Cause;
 use crate::lemmas::lemma;
 use crate::rests::{Rest, all_free};
-use crate::running::{End, Run, turned_from};
+use crate::running::{End, turned_from};
 use crate::settling::settled;
 use crate::starting::{all_known, copied, first_basis, unbound};
-use crate::sum_cache::SumCache;
 use crate::trails::{bound_rows, positions};
-use crate::workspace::{Rooms, Workspace};
+use crate::workspace::Workspace;
 use bt_frac::{Relation, Row};
 use std::alloc::{AllocError, Global};
 use std::marker::Model;
@@ -122,75 +122,82 @@ impl Tableau {
         ensures checked { IfOk result (IsCheck pivots self.old self.new) }
         ensures memory { OnErr result (self.new ≡ self.old) }
     {
-        let spare = self.take_spare(alloc);
-        self.check_in(alloc, pivots, spare)
+        let mut work = self.workspace(alloc)?;
+        let check = self.check_in(alloc, pivots, &mut work)?;
+        self.keep(work, &check);
+        Ok(check)
     }
 
-    /// The memory that the last check left.
-    fn take_spare(&mut self, alloc: Global) -> Workspace
-        ensures { self.new ≡ self.old }
+    /// A copy of the basis, in the memory that the last check left.
+    fn workspace(&mut self, alloc: Global) -> Result<Workspace, AllocError>
+        ensures copy { IfOk result (λ work. work.basis ≡ self.old.slots) }
+        ensures same { self.new ≡ self.old }
     {
-        std::mem::replace(&mut self.spare, Workspace::none(alloc))
+        let spare = std::mem::replace(&mut self.spare, Workspace::none(alloc));
+        spare.copy_of(alloc, &self.basis)
     }
 
-    /// The same check, in this memory.
+    /// The same check on a copy of the basis, to which the turns are made.
     fn check_in(
-        &mut self,
+        &self,
         alloc: Global,
         pivots: u64,
-        spare: Workspace,
+        work: &mut Workspace,
     ) -> Result<Check, AllocError>
-        ensures checked { IfOk result (IsCheck pivots self.old self.new) }
-        ensures memory { OnErr result (self.new ≡ self.old) }
+        requires { work.old.basis ≡ self.now.slots }
+        ensures { IfOk result (Concludes pivots self.now work.new.basis) }
     {
-        let Workspace {
-            basis: start,
-            rooms,
-            kept,
-        } = spare.copy_of(alloc, &self.basis)?;
-        let mut rooms = rooms;
-        let mut kept = kept;
-        let Run { turns, basis, end } = turned_from(
-            self, alloc, start, &mut rooms, &mut kept, pivots,
-        )?;
+        self.all_known();
+        let mut turns = Vec::new(alloc);
+        let end = turned_from(self, alloc, work, &mut turns, pivots)?;
+        self.answer(alloc, turns, &work.basis, end)
+    }
+
+    /// The answer where these turns lead to this basis, and end there.
+    fn answer(
+        &self,
+        alloc: Global,
+        turns: Vec<Turn>,
+        basis: &Basis,
+        end: End,
+    ) -> Result<Check, AllocError>
+        requires tableau { IsTableau self.now }
+        requires run { (pivots : ℕ) × IsRun pivots self.now turns.items basis.now end }
+        ensures { (pivots : ℕ) → IsRun pivots self.now turns.items basis.now end
+            → IfOk result (Concludes pivots self.now basis.now) }
+    {
         match end {
-            End::Met => match settled(self, alloc, &basis)? {
-                Ok(values) => {
-                    self.take_in(basis, rooms, kept);
-                    Ok(Check::Sat(values))
-                }
-                Err(cause) => {
-                    let reached = Workspace { basis, rooms, kept };
-                    Ok(Check::Wide(self.wide(alloc, turns, reached, cause)?))
-                }
+            End::Met => match settled(self, alloc, basis)? {
+                Ok(values) => Ok(Check::Sat(values)),
+                Err(cause) => Ok(Check::Wide(self.wide(alloc, turns, basis, cause)?)),
             },
-            End::Stuck(position) => match lemma(self, alloc, &basis, position)? {
-                Ok(weights) => {
-                    self.take_in(basis, rooms, kept);
-                    Ok(Check::Unsat(weights))
-                }
-                Err(cause) => {
-                    let reached = Workspace { basis, rooms, kept };
-                    Ok(Check::Wide(self.wide(alloc, turns, reached, cause)?))
-                }
+            End::Stuck(position) => match lemma(self, alloc, basis, position)? {
+                Ok(weights) => Ok(Check::Unsat(weights)),
+                Err(cause) => Ok(Check::Wide(self.wide(alloc, turns, basis, cause)?)),
             },
-            End::Pivots => {
-                let trail = self.trail(alloc, turns)?;
-                self.spare = Workspace { basis, rooms, kept };
-                Ok(Check::Pivots(trail))
-            }
-            End::Wide(cause) => {
-                let reached = Workspace { basis, rooms, kept };
-                Ok(Check::Wide(self.wide(alloc, turns, reached, cause)?))
-            }
+            End::Pivots => Ok(Check::Pivots(self.trail(alloc, turns)?)),
+            End::Wide(cause) => Ok(Check::Wide(self.wide(alloc, turns, basis, cause)?)),
+        }
+    }
+
+    /// Takes in the basis that the turns of a check lead to, where that is final, and keeps the other one's memory for the
+    /// next check.
+    fn keep(&mut self, work: Workspace, check: &Check)
+        requires { IsTableau (with_slots self.old (slots_after self.old.slots work.basis check.now)) }
+        ensures { self.new ≡ with_slots self.old (slots_after self.old.slots work.basis check.now) }
+    {
+        match check {
+            Check::Sat(_) | Check::Unsat(_) => self.take_in(work),
+            Check::Pivots(_) | Check::Wide(_) => self.spare = work,
         }
     }
 
     /// Moves a basis in, and keeps the memory of the one before for the next check.
-    fn take_in(&mut self, basis: Basis, rooms: Rooms, kept: SumCache)
-        requires { IsTableau (with_slots self.old basis) }
-        ensures { self.new ≡ with_slots self.old basis }
+    fn take_in(&mut self, work: Workspace)
+        requires { IsTableau (with_slots self.old work.basis) }
+        ensures { self.new ≡ with_slots self.old work.basis }
     {
+        let Workspace { basis, rooms, kept } = work;
         let before = std::mem::replace(&mut self.basis, basis);
         self.spare = Workspace {
             basis: before,
@@ -210,29 +217,26 @@ impl Tableau {
         })
     }
 
-    /// The cause, after these turns, which lead to this basis, whose memory is kept for the next check.
+    /// The cause, after these turns, which lead to this basis.
     fn wide(
-        &mut self,
+        &self,
         alloc: Global,
         turns: Vec<Turn>,
-        reached: Workspace,
+        basis: &Basis,
         cause: Cause,
     ) -> Result<Wide, AllocError>
-        ensures wide { IfOk result (IsWideFor self.old turns.items reached.basis cause) }
-        ensures same { self.new ≡ self.old }
+        ensures { IfOk result (IsWideFor self.now turns.items basis.now cause) }
     {
-        let wide = Wide {
+        Ok(Wide {
             trail: self.trail(alloc, turns)?,
             place: cause.place,
-            basis: positions(alloc, &reached.basis)?,
+            basis: positions(alloc, basis)?,
             row: cause.row,
             column: cause.column,
             operation: cause.operation,
             left: cause.left,
             right: cause.right,
-        };
-        self.spare = reached;
-        Ok(wide)
+        })
     }
 
     /// The rows.

@@ -8,7 +8,7 @@ ghost use Rattle.bt_simplex.specs.SolvedForms.{Slots, slot_at};
 ghost use Rattle.bt_line.specs.Changes.{IsChange};
 ghost use Rattle.bt_simplex.specs.Tableaus.{TableauParts};
 ghost use Rattle.bt_line.specs.Substituting.{IsZeroLine, IsSubstituted, IsUnfitChange, IsEntering};
-ghost use Rattle.bt_simplex.specs.inner.TurnedSlots.{AreLines, AreSubstituted, with_line, IsTurned};
+ghost use Rattle.bt_simplex.specs.inner.TurnedSlots.{AreLines, AreSubstituted, with_line, IsSignedEntering, IsTurned};
 ghost use Rattle.bt_simplex.specs.inner.SumCache.{LinesStay, OthersStay, SlotsStay};
 ghost use Rattle.bt_simplex.specs.inner.UnfitTurns.{IsUnfitSlot, CanPart, IsSlotZero, IsUnfitPart, IsUnfitLine, IsUnfitTurn, entry_cause};
 
@@ -136,6 +136,22 @@ fn entering_line(
         Ok(line) => Ok(line),
         Err(_) => unreachable!(),
     }
+}
+
+/// The same line with the other sign, where this is told.
+fn signed_entering(
+    alloc: Global,
+    rooms: &mut Rooms,
+    enters: usize,
+    is_negated: bool,
+    zero: &Line,
+) -> Result<Line, AllocError>
+    requires position { enters < 2 ^ 64 - 1 }
+    requires number { coefficient_at enters zero.now ≡ Some (negated one) }
+    ensures { IfOk result (IsSignedEntering enters is_negated zero.now) }
+{
+    let entering = entering_line(alloc, rooms, enters, zero)?;
+    entering.with_sign(alloc, is_negated)
 }
 
 /// The line that is 0 wherever a slot's line holds of its position; or a quotient that doesn't fit.
@@ -291,13 +307,41 @@ pub fn turn(
     ensures kept { IfOk result (λ o. IfOk o
         (λ _. SlotsStay tableau.now basis.old basis.new kept.old.sums.items kept.new.sums.items)) }
 {
-    let zero = match leaving_zero(alloc, rooms, basis, leaves, enters)? {
-        Ok(zero) => zero,
-        Err(unfit) => return Ok(Err(entry_cause(leaves, unfit))),
-    };
-    let entering = entering_line(alloc, rooms, enters, &zero)?;
+    let _ = basis.len();
+    match leaving_zero(alloc, rooms, basis, leaves, enters)? {
+        Ok(zero) => {
+            let turned = turn_by(tableau, alloc, rooms, basis, kept, leaves, enters, &zero)?;
+            rooms.give(Some(zero));
+            Ok(turned)
+        }
+        Err(unfit) => Ok(Err(entry_cause(leaves, unfit))),
+    }
+}
+
+/// The same turn by the line that is 0 wherever the line of the leaving position holds.
+fn turn_by(
+    tableau: &Tableau,
+    alloc: Global,
+    rooms: &mut Rooms,
+    basis: &mut Basis,
+    kept: &mut SumCache,
+    leaves: usize,
+    enters: usize,
+    zero: &Line,
+) -> Result<Result<(), Cause>, AllocError>
+    requires leaves { leaves < length basis.old }
+    requires enters { enters < length basis.old }
+    requires apart { leaves ≢ enters }
+    requires zero { IsSlotZero (slot_at basis.old leaves) leaves enters zero.now }
+    requires outside { slot_at basis.old enters ≡ None }
+    requires lines { AreLines basis.old }
+    ensures done { IfOk result (λ o. IfOk o (λ _. IsTurned basis.old leaves enters basis.new)) }
+    ensures unfit { IfOk result (λ o. IfErr o (IsUnfitTurn basis.old leaves enters basis.new)) }
+    ensures kept { IfOk result (λ o. IfOk o
+        (λ _. SlotsStay tableau.now basis.old basis.new kept.old.sums.items kept.new.sums.items)) }
+{
     let Member { class, negated } = basis.members[enters];
-    let line = entering.with_sign(alloc, negated)?;
+    let line = signed_entering(alloc, rooms, enters, negated, zero)?;
     let left = basis.members[leaves].class;
     kept.own(&basis.members);
     match substitute_others(
@@ -308,13 +352,12 @@ pub fn turn(
         kept,
         left,
         enters,
-        &zero,
+        zero,
     )? {
         Ok(()) => {}
         Err(cause) => return Ok(Err(at_first(&basis.firsts, cause))),
     }
     put_line(rooms, &mut basis.lines, kept, left, class, line);
     basis.outside[left] = leaves;
-    rooms.give(Some(zero));
     Ok(Ok(()))
 }

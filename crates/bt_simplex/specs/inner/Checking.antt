@@ -1,11 +1,14 @@
--- The answer of a check that met a number that doesn't fit.
-use Rattle.std.specs.Prelude.{◌≡◌, List}
+-- The answers of a check, by the slots to which its turns lead.
+use Rattle.std.specs.Prelude.{◌≡◌, ℕ, List}
 use Rattle.bt_simplex.specs.SolvedForms.{Slots, basis_of}
-use Rattle.bt_simplex.specs.Tableaus.{TableauParts}
-use Rattle.bt_simplex.specs.Checks.{StartsAt, cause_of}
+use Rattle.bt_simplex.specs.Tableaus.{TableauParts, IsTableau}
+use Rattle.bt_simplex.specs.Checks.{StartsAt, IsCheck, cause_of}
 use Rattle.bt_simplex.specs.declared.tableau.Turn.{Turn}
 use Rattle.bt_simplex.specs.declared.answers.Wide.{Wide}
+use Rattle.bt_simplex.specs.declared.answers.Check.{Check}
+use Rattle.bt_simplex.specs.declared.answers.Check.TheVariants.{Sat, Unsat, Pivots, Wide as TooWide}
 use Rattle.bt_simplex.specs.declared.causes.Cause.{Cause}
+use Rattle.bt_simplex.specs.inner.Bases.{with_slots}
 
 -- the answer tells this cause, after these turns, at the basis of these slots
 pub record IsWideFor (t : TableauParts) (turns : List Turn) (slots : Slots) (cause : Cause) (wide : Wide) : Type 0 where
@@ -13,3 +16,15 @@ pub record IsWideFor (t : TableauParts) (turns : List Turn) (slots : Slots) (cau
   pub turns_are : wide.trail.turns.items ≡ turns
   pub basis : wide.basis.items ≡ basis_of slots
   pub cause_is : cause_of wide ≡ cause
+
+-- the slots that stay after a check: those to which its turns lead, where they are of a final basis, and else those before it
+abbrev pub slots_after : Slots → Slots → Check → Slots
+slots_after before reached (Sat values) = reached
+slots_after before reached (Unsat weights) = reached
+slots_after before reached (Pivots trail) = before
+slots_after before reached (TooWide wide) = before
+
+-- what a check answers whose turns lead to these slots
+pub record Concludes (pivots : ℕ) (t : TableauParts) (reached : Slots) (check : Check) : Type 0 where
+  pub tableau : IsTableau (with_slots t (slots_after t.slots reached check))
+  pub checked : IsCheck pivots t (with_slots t (slots_after t.slots reached check)) check

@@ -8,7 +8,6 @@ use Rattle.bt_simplex.specs.Causes.{IsCause}
 use Rattle.bt_simplex.specs.Tableaus.{TableauParts, IsTableau}
 use Rattle.bt_simplex.specs.Turns.{IsMet, IsStuckAt, IsFinal, IsTurnedBy, Follows}
 use Rattle.bt_simplex.specs.declared.tableau.Turn.{Turn}
-use Rattle.bt_simplex.specs.declared.running.Run.{Run}
 use Rattle.bt_simplex.specs.declared.running.End.{End}
 use Rattle.bt_simplex.specs.declared.running.End.TheVariants.{Met, Stuck, Pivots, Wide}
 use Rattle.bt_simplex.specs.inner.Bases.{with_slots}
@@ -34,10 +33,10 @@ IsEnd pivots t last turns slots (Stuck position) = (last ≡ with_slots t slots)
 IsEnd pivots t last turns slots Pivots = (length turns ≡ pivots) × (IsFinal last → ⊥)
 IsEnd pivots t last turns slots (Wide cause) = IsCause last cause
 
--- at most so many turns of Bland's rule, and where they end
-pub record IsRun (pivots : ℕ) (t : TableauParts) (start : Slots) (run : Run) : Type 0 where
-  pub few : length run.turns.items ≤ pivots
+-- at most so many turns of Bland's rule from a tableau on, to these slots, and where they end
+pub record IsRun (pivots : ℕ) (t : TableauParts) (turns : List Turn) (slots : Slots) (end : End) : Type 0 where
+  pub few : length turns ≤ pivots
   pub last : TableauParts
-  pub follows : Follows (with_slots t start) run.turns.items last
-  pub basis : basis_of run.basis ≡ basis_of last.slots
-  pub ends : IsEnd pivots t last run.turns.items run.basis run.end
+  pub follows : Follows t turns last
+  pub basis : basis_of slots ≡ basis_of last.slots
+  pub ends : IsEnd pivots t last turns slots end

@@ -1,9 +1,9 @@
 -- A turn of a basis, slot by slot.
-use Rattle.std.specs.Prelude.{◌≡◌, ◌≢◌, ℕ, ◌⊎◌, [], ◌∷◌, length, Option, Some, None, slice_set, ◌==◌, if◌then◌else◌}
+use Rattle.std.specs.Prelude.{◌≡◌, ◌≢◌, ℕ, ◌⊎◌, Bool, [], ◌∷◌, length, Option, Some, None, slice_set, ◌==◌, if◌then◌else◌}
 use Rattle.bt_frac.specs.Ratio.{Ratio, IsLowest, negated}
 use Rattle.bt_frac.specs.Products.{IsDivision}
 use Rattle.bt_lin.specs.WeightedRows.{coefficient_at}
-use Rattle.bt_line.specs.Lines.{one, Terms, IsLine, IsCombination}
+use Rattle.bt_line.specs.Lines.{one, Terms, IsLine, IsCombination, signed_terms}
 use Rattle.bt_line.specs.Substituting.{IsZeroLine, IsSubstituted, IsEntering}
 use Rattle.bt_simplex.specs.SolvedForms.{Slots, slot_at}
 use Rattle.bt_line.specs.declared.unfit.Unfit.{Unfit}
@@ -17,6 +17,12 @@ pub record AreSubstituted (position : ℕ) (zero : Terms) (slots slots' : Slots)
 -- the lines with a class's one in place, but where the class is the one that is left
 abbrev pub with_line : ℕ → ℕ → Terms → Slots → Slots
 with_line left class line lines = if class == left then lines else slice_set lines class (Some line)
+
+-- the line of the entering position, with the other sign where this is told
+pub record IsSignedEntering (enters : ℕ) (negated : Bool) (zero line : Terms) : Type 0 where
+  pub entering : Terms
+  pub is_entering : IsEntering enters zero entering
+  pub signed : line ≡ signed_terms negated entering
 
 -- each slot with terms has a line
 abbrev pub AreLines : Slots → Type 0

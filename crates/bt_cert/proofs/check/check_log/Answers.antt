@@ -1,42 +1,24 @@
-use Rattle.std.proofs.Common.{◌≡◌, ◌<◌, ◌≤◌, length, take, refl, sym, subst, arith, rules}
-use Rattle.std.specs.Io.KnownBytes.{Consumes}
-use Rattle.std.proofs.lemmas.Grind.{common_steps}
+use Rattle.std.proofs.Common.{Err, Ok, subst}
 use Rattle.bt_io.specs.Passages.{passage}
-use Rattle.bt_cert.proofs.Feeding.{fed_start, fed_more, fed_whole}
+use Rattle.bt_cert.specs.inner.Feeding.{ReadsRest}
+use Rattle.bt_cert.proofs.Feeding.{rest_refused, whole_checked}
 use Rattle.bt_cert.proofs.check.check_log.Goals as goal
 
-pub loop-taken-init : goal.loop-taken-init
-loop-taken-init g c = record {
-  fed = fed_start c.args.formula.now c.args.head.now (g.S.Source.left c.args.source.now) c.in_ok-reading.reading c.take.new.self c.in_ok-reading.ensures.formula
-      c.in_ok-reading.ensures.line c.in_ok-reading.ensures.read c.take.ensures.reads c.take.ensures.line;
-  size = omega arith;
-  block = refl;
-  count = omega arith;
-}
-
-pub returns-then-count-eq0 : goal.returns-then-count-eq0
-returns-then-count-eq0 g c =
-    let none : c.in-Ok.count ≡ 0 = c.if-count-eq0.true in
-    let some : 0 < length c.read.new.buf = first_of (grind (arith, common_steps), omega (arith, c.min-room.ensures, c.read.auto.buf)) in
-    let source = passage g.S.Source.left g.S.Source.faults c.args.source.now c.read.new.self in
-    let cause = c.in-Ok.ensures.cause in
+pub returns-in-Ok : goal.returns-in-Ok
+returns-in-Ok g c =
+    let source = passage g.S.Source.left g.S.Source.faults c.args.source.now c.read_rest.new.source in
     record {
-      checked = fed_whole c.args.formula.now c.in_ok-reading.ensures.known c.args.head.now c.args.limit c.loop-taken.taken source (g.S.Source.left c.loop-taken.source)
-          c.loop-taken.reading c.finish.result c.loop-taken.invariant.fed
-          (subst (λ n. Consumes (g.S.Source.left c.loop-taken.source) (g.S.Source.left c.read.new.self) (take n c.read.new.buf)) none c.in-Ok.ensures.bytes.0)
-          (c.in-Ok.ensures.bytes.1 none some) c.loop-taken-test.true c.finish.ensures;
-      count = omega (arith, c.loop-taken.invariant.count, cause.later);
+      checked = whole_checked c.args.formula.now c.in_ok-reading.ensures.known c.args.head.now c.args.limit source c.in_ok-reading.reading c.take.new.self c.read_rest.new.reading c.finish.result
+          c.in_ok-reading.ensures.formula c.in_ok-reading.ensures.read c.take.ensures.reads
+          (subst (ReadsRest c.args.limit source c.take.new.self c.read_rest.new.reading) c.in-Ok.is c.read_rest.ensures.rest) c.finish.ensures;
+      count = c.read_rest.ensures.count;
     }
 
-pub loop-taken-preserved : goal.loop-taken-preserved
-loop-taken-preserved g c =
-    let few : c.in-Ok.count ≤ length c.read.new.buf = c.in-Ok.ensures.bound.0 in
-    let cause = c.in-Ok.ensures.cause in
+pub returns-in-Err : goal.returns-in-Err
+returns-in-Err g c =
+    let source = passage g.S.Source.left g.S.Source.faults c.args.source.now c.read_rest.new.source in
     record {
-      fed = fed_more c.args.formula.now c.args.head.now (g.S.Source.left c.args.source.now) (g.S.Source.left c.loop-taken.source) (g.S.Source.left c.read.new.self)
-          c.loop-taken.taken c.in-Ok.count c.loop-taken.reading c.take-in-loop-taken.new.self (take c.in-Ok.count c.read.new.buf) c.loop-taken.invariant.fed
-          c.in-Ok.ensures.bytes.0 (sym c.in-Ok.ensures.bound.1) c.take-in-loop-taken.ensures.reads c.take-in-loop-taken.ensures.line;
-      size = first_of (grind (arith, common_steps), omega (arith, c.min-room.ensures, c.read.auto.buf));
-      block = first_of (search rules, grind (arith, common_steps));
-      count = omega (arith, c.loop-taken.invariant.count, cause.later);
+      checked = rest_refused c.args.formula.now c.args.head.now c.args.limit source c.take.new.self c.read_rest.new.reading c.in-Err.fault
+          (subst (ReadsRest c.args.limit source c.take.new.self c.read_rest.new.reading) c.in-Err.is c.read_rest.ensures.rest);
+      count = c.read_rest.ensures.count;
     }

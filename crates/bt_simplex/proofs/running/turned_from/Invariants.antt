@@ -6,8 +6,8 @@ use Rattle.bt_simplex.proofs.running.turned_from.Given as goal
 
 abbrev pub invariant-turns : goal.invariant-turns
 invariant-turns l = record {
-  is_at : IsAt (with_slots l.tableau l.fn.start) l.turns.items l.basis;
-  kept : AreKept l.tableau l.basis l.kept.sums.items;
+  is_at : IsAt (with_slots l.tableau l.fn.work.basis) l.turns.items l.work.basis;
+  kept : AreKept l.tableau l.work.basis l.work.kept.sums.items;
   few : length l.turns.items ≤ l.pivots;
 }
 
