@@ -1,0 +1,5 @@
+pub mod ColumnValues
+pub mod Conservative
+pub mod Formed
+pub mod Opposites
+pub mod SameOn
