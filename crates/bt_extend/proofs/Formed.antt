@@ -21,7 +21,7 @@ use Rattle.bt_extend.specs.declared.definition.Definition.TheVariants.{Compariso
 
 -- ---- forms
 
-turned_columns : (terms : List (ℕ × Ratio)) → columns_of (turned terms) ≡ columns_of terms
+pub turned_columns : (terms : List (ℕ × Ratio)) → columns_of (turned terms) ≡ columns_of terms
 turned_columns [] = refl
 turned_columns (t ∷ terms) = ap (λ cs. t.0 ∷ cs) (turned_columns terms)
 

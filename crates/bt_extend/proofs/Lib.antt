@@ -1,3 +1,4 @@
+pub mod Added
 pub mod ColumnValues
 pub mod Conservative
 pub mod Formed

@@ -2,10 +2,12 @@
 #![tactic(auto)]
 
 mod definition;
+mod extension;
 mod form;
 mod law;
 
 pub use definition::{Definition, Literals, NamedLit, is_definition};
+pub use extension::extend;
 pub use form::Form;
 pub use law::{
     cut_meets, definitions_are_conservative, extended_is_formula, meeting_goes_on,
