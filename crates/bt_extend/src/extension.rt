@@ -204,7 +204,8 @@ fn one_of(
     lits: &[NamedLit],
 ) -> Result<Vec<Lit>, AllocError>
     requires { var < formula.now.vars }
-    ensures clause { IfOk result (λ clause. clause.items ≡ extending.denied var ∷ map extending.lit_of lits.now) }
+    ensures clause { IfOk result
+        (λ clause. clause.items ≡ extending.denied var ∷ map extending.lit_of lits.now) }
     ensures below { IfOk result (λ clause. LitsBelow formula.now.vars clause.items) }
 {
     let mut clause = Vec::new(alloc);
