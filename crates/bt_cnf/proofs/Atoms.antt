@@ -281,6 +281,56 @@ pushed_parts places clauses rows columns row place is =
     parts_longer places clauses (atoms_in places) rows row place is.paired
     ∙ ap (λ vs. parts_of (places ++ Some place ∷ []) clauses vs (rows ++ row ∷ [])) (sym (atoms_push places place))
 
+atoms_blank_from : (n : ℕ) (places : List (Option ℕ)) → atoms_from n (places ++ None ∷ []) ≡ atoms_from n places
+atoms_blank_from n [] = refl
+atoms_blank_from n (None ∷ places) = atoms_blank_from (n + 1) places
+atoms_blank_from n (Some p ∷ places) = ap (λ xs. n ∷ xs) (atoms_blank_from (n + 1) places)
+
+-- one more variable, which is no atom
+atoms_blank : (places : List (Option ℕ)) → atoms_in (places ++ None ∷ []) ≡ atoms_in places
+atoms_blank places = atoms_blank_from 0 places
+
+places_blank : (places : List (Option ℕ)) (atoms : List ℕ) → AscendBelow 0 (length places) atoms → ArePlaces atoms places → ArePlaces atoms (places ++ None ∷ [])
+places_blank places atoms ascend are other inside =
+    elim (same_or other (length places)) [
+      | inl same ↦ rw same (rw (at_end places) (past_atoms (length places) (length places) atoms ascend (omega arith)))
+      | inr differs ↦
+          let before : other < length places = omega (arith, length-append places (None ∷ []), inside, differs) in
+          rw (get_or_append_left places (None ∷ []) None other before) (are other before)
+    ]
+  where
+    at_end : (xs : List (Option ℕ)) → get_or (xs ++ None ∷ []) (length xs) None ≡ None
+    at_end [] = refl
+    at_end (y ∷ xs) = at_end xs
+
+-- a formula with one more variable, which is no atom
+formula_blank : (f : FormulaParts) → IsFormula f → IsFormula (record f { vars = f.vars + 1 })
+formula_blank f is = record {
+  clauses = lits_below_more f.vars f.clauses is.clauses;
+  atoms = ascend_wider 0 f.vars (map (λ a. a.0) f.atoms) is.atoms;
+  rows = is.rows;
+}
+
+-- what a formula is kept in, with one more variable that is no atom
+pub stored_blank : (places : List (Option ℕ)) (clauses : List (List Lit)) (rows : List RowParts) (columns : ℕ) → IsStored places clauses (atoms_in places) rows columns
+    → IsStored (places ++ None ∷ []) clauses (atoms_in (places ++ None ∷ [])) rows columns
+stored_blank places clauses rows columns is =
+    let atoms = atoms_in places in
+    let size : length places + 1 ≡ length (places ++ None ∷ []) = sym (length-append places (None ∷ [])) in
+    let ascend = subst (AscendBelow 0 (length places)) (firsts_zip atoms rows is.paired) is.formula.atoms in
+    subst (λ vs. IsStored (places ++ None ∷ []) clauses vs rows columns) (sym (atoms_blank places)) (record {
+      formula = subst (λ n. IsFormula (record { vars = n; clauses = clauses; atoms = zip atoms rows })) size (formula_blank (parts_of places clauses atoms rows) is.formula);
+      paired = is.paired;
+      named = places_blank places atoms ascend is.named;
+      end = is.end;
+    })
+
+pub blank_parts : (places : List (Option ℕ)) (clauses : List (List Lit)) (rows : List RowParts)
+    → record (parts_of places clauses (atoms_in places) rows) { vars = length places + 1 } ≡ parts_of (places ++ None ∷ []) clauses (atoms_in (places ++ None ∷ [])) rows
+blank_parts places clauses rows =
+    ap (λ n. record { vars = n; clauses = clauses; atoms = zip (atoms_in places) rows }) (sym (length-append places (None ∷ [])))
+    ∙ ap (λ vs. parts_of (places ++ None ∷ []) clauses vs rows) (sym (atoms_blank places))
+
 -- a vector after a push that didn't fail
 pub appended : {X U E : Type 0} (r : Result U E) (u : U) (old mid new : List X) (x : X) → r ≡ Ok u → mid ≡ old → new ≡ (if is_ok r then mid ++ x ∷ [] else mid) → new ≡ old ++ x ∷ []
 appended r u old mid new x ok same is = is ∙ ap (λ b. if b then mid ++ x ∷ [] else mid) (ap is_ok ok) ∙ ap (λ xs. xs ++ x ∷ []) same

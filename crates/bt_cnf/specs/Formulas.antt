@@ -45,3 +45,8 @@ AddsAtom old var row new (Err e) = new ≡ old
 abbrev pub AppendsAtom : FormulaParts → RowParts → FormulaParts → Result ℕ AllocError → Type 0
 AppendsAtom old row new (Ok var) = (var ≡ old.vars) × (new ≡ record old { vars = old.vars + 1; atoms = old.atoms ++ (old.vars, row) ∷ [] })
 AppendsAtom old row new (Err e) = new ≡ old
+
+-- a variable was added that is no atom, and it was told; or nothing was changed
+abbrev pub AppendsVariable : FormulaParts → FormulaParts → Result ℕ AllocError → Type 0
+AppendsVariable old new (Ok var) = (var ≡ old.vars) × (new ≡ record old { vars = old.vars + 1 })
+AppendsVariable old new (Err e) = new ≡ old

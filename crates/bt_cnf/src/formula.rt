@@ -2,6 +2,7 @@
 ghost use Rattle.std.specs.Prelude.{◌≡◌, ◌<◌, ◌≤◌, length, map, slice_get, Some, IfSome, IsNone, ◌↔◌, IfOk, []};
 ghost use Rattle.bt_frac.specs.Rows.{IsRow, columns_of, columns_in, end_of};
 ghost use Rattle.bt_cnf.specs.Formulas.{LitsBelow, IsFormula, IsNextAtom, AddsClause, AddsAtom, AppendsAtom};
+ghost use Rattle.bt_cnf.specs.Formulas.{AppendsVariable};
 ghost use Rattle.bt_cnf.specs.Places.{IsPlaceOf};
 
 use crate::literal::{Clause, ClauseId, Lit, Var, Variable};
@@ -83,6 +84,14 @@ impl Formula {
         let var = self.places.add(place)?;
         self.columns = self.columns.max(end_column(&row));
         self.rows.push(row).unwrap();
+        Ok(var)
+    }
+
+    /// Appends a variable that is no atom, and gives the variable.
+    pub fn add_variable(&mut self) -> Result<Var, AllocError>
+        ensures { AppendsVariable self.old self.new result }
+    {
+        let var = self.places.add(RowPlace::none())?;
         Ok(var)
     }
 

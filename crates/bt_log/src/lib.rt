@@ -10,5 +10,7 @@ mod word;
 
 pub use law::refuted_is_unmet;
 pub use log::Log;
+pub use printing::print_words;
 pub use std::alloc::AllocError as Memory;
 pub use step::StepView;
+pub use word::{Spelled, Word};

@@ -36,8 +36,8 @@ fn print_parts<T: Spelled, K: Sink>(
     write_all_of(sink, end)
 }
 
-/// Writes a head, and a word for each item.
-fn print_words<T: Spelled, K: Sink>(
+/// Writes a head, and a word for each item, each after a space, without memory.
+pub fn print_words<T: Spelled, K: Sink>(
     head: &[u8],
     items: &[T],
     sink: &mut K,

@@ -1,5 +1,5 @@
-//! Words of a step's line, each with a space in front, while they are written.
-ghost use Rattle.std.specs.Prelude.{◌≡◌, ◌+◌, ◌≤◌, ◌∷◌, ◌++◌, [], length, ℕ, List, decimal};
+//! Words of a line, each with a space in front, while they are written.
+ghost use Rattle.std.specs.Prelude.{◌≡◌, ◌+◌, ◌≤◌, ◌∷◌, ◌++◌, [], cond, length, ℕ, List, decimal};
 ghost use Rattle.bt_frac.specs.Texts.{frac_text};
 ghost use Rattle.bt_log.specs.LogText.{lit_text, hint_text};
 
@@ -29,6 +29,20 @@ impl Model for Word {
 }
 
 impl Word {
+    /// A space, a minus where the sign isn't positive, and a number that is counted from 1 on.
+    pub fn signed(positive: bool, number: usize) -> Word
+        ensures { result ≡ 32 ∷ cond positive (decimal (number + 1)) (45 ∷ decimal (number + 1)) }
+    {
+        let mut word = Word::new();
+        if positive {
+            word.push(b" ");
+        } else {
+            word.push(b" -");
+        }
+        word.push_after(number);
+        word
+    }
+
     /// No byte.
     fn new() -> Word
         ensures { result ≡ [] }
@@ -66,7 +80,7 @@ impl Word {
     }
 }
 
-/// What a step's line says by one word.
+/// What a line says by one word.
 pub trait Spelled {
     /// The word, without the space in front.
     ghost text: { Self → List ℕ };
@@ -80,14 +94,7 @@ impl Spelled for Lit {
     ghost text = { lit_text };
 
     fn word(&self) -> Word {
-        let mut word = Word::new();
-        if self.positive {
-            word.push(b" ");
-        } else {
-            word.push(b" -");
-        }
-        word.push_after(self.var.place());
-        word
+        Word::signed(self.positive, self.var.place())
     }
 }
 

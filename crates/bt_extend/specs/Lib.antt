@@ -1,0 +1,5 @@
+pub mod Definitions
+pub mod Extending
+pub mod Forms
+pub mod Laws
+pub mod inner
