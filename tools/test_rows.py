@@ -120,6 +120,7 @@ class Rows(unittest.TestCase):
             ("$ say a\n= 0\n", "another text", "+a\n"),
             ("$ give\n<: a\n= 0\n> a\n", "another text", "+(no line feed)"),
             ("$ give\n<: a\\r\\xff\\n\n= 0\n> a\n", "+a\\r\\xff\n"),
+            ("$ give\n<* 999 a\n<: b\\n\n= 0\n>* 999 a\n>: c\\n\n", "from line 1, column 920", "aac\n", "aab\n"),
             ("$ say a b\n= 0\n> b\n>...\n", "begins otherwise"),
             ("$ say a b\n= 0\n> a\n>... 2\n", "1 line feeds follow in place of 2"),
             ("$ give\n<: a\\nb\\nc\n= 0\n> a\n>... 1\n", "line feeds follow"),
@@ -148,7 +149,8 @@ class Rows(unittest.TestCase):
         self.assertEqual((status, text.splitlines()[-1]), (1, "2 passed, 1 failed"))
 
     def test_runs_rows_by_name(self):
-        tables = {"one": "row a\n$ end 1\n= 1\nrow b\n$ end 1\n= 0\n", "two": "row b\n$ end 1\n= 1\nrow c\n$ end 1\n= 1\n"}
+        one, two = "row a\n$ end 1\n= 1\nrow b\n$ end 1\n= 0\n", "row b\n$ end 1\n= 1\nrow c\n$ end 1\n= 1\n"
+        tables = {"one": one, "two": two}
         for words, told in (
             (["a"], (0, "1 passed, 0 failed\n")), (["two"], (0, "2 passed, 0 failed\n")),
             (["two/b", "a"], (0, "2 passed, 0 failed\n")), (["--list"], (0, "one/a\none/b\ntwo/b\ntwo/c\n")),
