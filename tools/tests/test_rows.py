@@ -14,7 +14,7 @@ from importlib.machinery import SourceFileLoader
 from importlib.util import module_from_spec, spec_from_loader
 from pathlib import Path
 
-ROWS = Path(__file__).resolve().parent / "rows"
+ROWS = Path(__file__).resolve().parent.parent / "rows"
 loader = SourceFileLoader("rows", str(ROWS))
 rows = module_from_spec(spec_from_loader("rows", loader))
 loader.exec_module(rows)
