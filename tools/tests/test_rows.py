@@ -7,6 +7,7 @@ sys.dont_write_bytecode = True
 
 import contextlib
 import io
+import os
 import subprocess
 import tempfile
 import unittest
@@ -204,12 +205,17 @@ class Rows(unittest.TestCase):
             with self.subTest(table):
                 self.is_malformed(table, line, why)
 
-    def test_ends_with_a_status(self):
-        for table, status in (("row a\n$ end 1\n= 1\n", 0), ("row a\n$ end 1\n= 0\n", 1), ("row\n", 2)):
-            (self.folder / "table.rows").write_text(table)
+    def test_ends_with_a_status_whatever_the_locale(self):
+        for table, status, told in (
+            ("row a\n$ end 1\n= 1\n", 0, "1 passed, 0 failed\n"), ("row a\n$ say é\n= 0\n", 1, "+é\n"),
+            ("row a\n$ give\n<@ é\n= 0\n", 2, "there is no text é yet\n"),
+        ):
+            (self.folder / "table.rows").write_text(table, encoding="utf-8")
             command = [ROWS, "--program", self.program, "--rows", self.folder]
-            run = subprocess.run(command, stdout=subprocess.DEVNULL, stderr=subprocess.DEVNULL, check=False)
+            names = os.environ | {"PYTHONIOENCODING": "ascii"}
+            run = subprocess.run(command, stdout=subprocess.PIPE, stderr=subprocess.STDOUT, env=names, check=False)
             self.assertEqual(run.returncode, status)
+            self.assertIn(told.encode(), run.stdout)
 
     def test_refuses_a_folder_without_tables(self):
         self.assertEqual(self.run_rows({}), (2, f"{self.folder} has no tables\n"))
