@@ -39,15 +39,25 @@ class Part:
     tier: str
     direction: int
     cells: tuple
+    give: str | None = None
+    """The side of its output that a splitter prefers, left or right; and of its input."""
+    take: str | None = None
+
+    def left_half(self):
+        """Which of a splitter's cells is on the left hand of one who looks in its direction."""
+        return 0 if self.direction in (NORTH, EAST) else 1
 
 
 @dataclass(frozen=True)
 class Stranger:
-    """An entity that is no part: where its middle is, in halves of a tile."""
+    """An entity that is no part: where its middle is, in halves of a tile; how many tiles wide and high it is; and whether
+    it stands by, since it can't touch a belt."""
 
     entity: int
     name: str
     middle: tuple
+    size: tuple = (1, 1)
+    stands_by: bool = False
 
 
 @dataclass
@@ -128,6 +138,11 @@ def is_wide(kind, direction, axis):
     return kind == "splitter" and (direction in (NORTH, SOUTH)) == (axis == 0)
 
 
+def side_of(entity, member):
+    """The side that a splitter prefers, where it prefers one."""
+    return entity.get(member) if entity.get(member) in ("left", "right") else None
+
+
 def middle_of(entity):
     """An entity's middle, in halves of a tile."""
     position = entity.get("position")
@@ -170,7 +185,8 @@ def read(text):
         if off != shift:
             raise Unreadable("the entities stand on no one grid")
         middle = middle[0] - shift[0], middle[1] - shift[1]
-        parts.append(Part(index, kind, tier, direction, cells_of(kind, direction, middle)))
+        sides = [side_of(entity, it) for it in ("output_priority", "input_priority")] if kind == "splitter" else []
+        parts.append(Part(index, kind, tier, direction, cells_of(kind, direction, middle), *sides))
     if not parts and not strangers:
         raise Unreadable("the blueprint has no entities")
     found = Design(parts, strangers)

@@ -5,7 +5,7 @@ from html import escape
 from pathlib import Path
 
 from . import files, states, strings
-from .picture import flows
+from .flows import flows
 from .rows import LABELS
 from .states import PROMISES, PROPERTIES
 from .work import NETWORK, SETTLED, SMALLER, SMALLER_STRING

@@ -4,7 +4,7 @@ from dataclasses import dataclass, field
 from functools import cached_property
 
 from . import design, refusals, states, trace
-from .picture import Picture
+from .picture import Marks, Picture
 from .work import NETWORK, SMALLER, SMALLER_STRING
 
 LABELS = {
@@ -93,14 +93,22 @@ class Row:
         if not self.smaller or self.smaller["verdict"] != "found":
             return None
         parts = design.read(self.folder.text(SMALLER))
+        marks = Marks(tuple(trace.bare_ends(parts.parts)))
         try:
-            return Picture(parts, trace.Layout(parts.parts).network())
+            return Picture(parts, trace.Layout(parts.parts).network(), marks)
         except trace.Untraced:
-            return Picture(parts)
+            return Picture(parts, marks=marks)
 
     def smaller_string(self):
         """The smaller layout as a string to paste."""
         return self.folder.text(SMALLER_STRING).strip()
+
+    def refused_places(self, parts):
+        """The cells of what the program's refusal names, each with what is told of it."""
+        named, reason = refusals.marked(self.refusal() or ""), self.reason() or ""
+        cells = {it.entity: it.cells for it in parts.parts}
+        cells |= {it.entity: ((it.middle[0] // 2, it.middle[1] // 2),) for it in parts.strangers}
+        return tuple((cells[entity], reason) for entity in named if entity in cells)
 
     @cached_property
     def picture(self):
@@ -108,12 +116,13 @@ class Row:
         parts, reason = self.design
         if parts is None:
             return None, reason
+        marks = Marks(tuple(trace.bare_ends(parts.parts)), refused=self.refused_places(parts))
         if self.net is None:
-            return Picture(parts, marked=refusals.marked(self.refusal() or "")), None
+            return Picture(parts, marks=marks), None
         try:
             network = trace.Layout(parts.parts).network()
         except trace.Untraced as reason:
-            return Picture(parts), f"Ends and states aren't drawn: as traced for the picture, {reason}."
+            return Picture(parts, marks=marks), f"Ends and states aren't drawn: as traced for the picture, {reason}."
         if not trace.same_network(network, self.net_text):
-            return Picture(parts), "Ends and states aren't drawn: traced for the picture, the network is another one."
-        return Picture(parts, network), None
+            return Picture(parts, marks=marks), "Ends and states aren't drawn: traced for the picture, the network is another one."
+        return Picture(parts, network, marks), None

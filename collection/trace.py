@@ -63,6 +63,30 @@ def exit_ahead(parts, at, entrance):
     return None
 
 
+@dataclass(frozen=True)
+class Bare:
+    """An end of a splitter's half to which no belt leads: the splitter's number among the parts, the number of the half's
+    cell, and whether it is the end in front, where nothing takes, or that at the back, which nothing feeds."""
+
+    part: int
+    half: int
+    front: bool
+
+
+def bare_ends(parts):
+    """The bare ends of all halves, in the order of the parts, and of a half that at the back first."""
+    at, found = standing(parts), []
+    for number, part in enumerate(parts):
+        for half, cell in enumerate(part.cells if part.kind == "splitter" else ()):
+            behind = at.get(step(cell, part.direction, -1))
+            feeder = parts[behind.part] if behind else None
+            if not feeder or feeder.kind == "entrance" or feeder.direction != part.direction:
+                found.append(Bare(number, half, False))
+            if step(cell, part.direction) not in at:
+                found.append(Bare(number, half, True))
+    return found
+
+
 class Layout:
     """Parts with what each hands on to."""
 
