@@ -40,6 +40,12 @@ def write(path, data):
         file.write(data.encode() if isinstance(data, str) else data)
 
 
+def write_new(path, data):
+    """Writes these bytes, unless the file has them already."""
+    if digest_of_file(path) != digest(data):
+        write(path, data)
+
+
 def digest(data):
     return hashlib.sha256(data).hexdigest()
 

@@ -7,8 +7,8 @@ from pathlib import Path
 from . import files, states, strings
 from .flows import flows
 from .rows import LABELS
-from .states import PROMISES, PROPERTIES
-from .work import NETWORK, SETTLED, SMALLER, SMALLER_STRING
+from .states import KNOWN_AS, PROMISES, PROPERTIES
+from .work import DESIGN_JSON, NETWORK, ORIGINAL, SETTLED, SMALLER, SMALLER_STRING
 
 HERE = Path(__file__).resolve().parent
 SIGNS = {"yes": "✓", "no": "✕"}
@@ -20,6 +20,8 @@ WIDEST_BESIDE = 20
 """So many cells wide a picture is at most that stands beside what is told of it."""
 THUMB = 60
 """How wide and how high the small picture in the table is at most."""
+MOST_IN_TABLE, MOST_IN_PAGE = 3, 24
+"""How many bare halves a sentence names at most, in the table and on a design's own page."""
 COLUMNS = ("design", "ends", "splitters", "cells", "tiers", *PROPERTIES, "seconds")
 
 
@@ -87,6 +89,13 @@ def where(row, alone):
     return note(shown(", ".join(filter(None, told)) or row.found.source))
 
 
+def remarks(row, most):
+    """What there is to say of how a design was read, with so many names in each sentence."""
+    kinds = ("warning" if it == row.warning() else "" for it in row.remarks(most))
+    lines = [element("li", shown(it[0].upper() + it[1:]), class_=kind) for it, kind in zip(row.remarks(most), kinds)]
+    return element("ul", *lines, class_="remarks") if lines else ""
+
+
 def who(row, alone):
     """A design's name with its small picture, leading to its page."""
     first = row.same_as or row
@@ -94,7 +103,8 @@ def who(row, alone):
     if row.folder:
         name = element("a", name, href=f"#{first.id()}")
     same = note(f"the same design as {shown(first.found.name)}") if row.same_as else ""
-    return element("div", thumb(first), element("div", name, same, where(row, alone)), class_="who")
+    told = remarks(row, MOST_IN_TABLE)
+    return element("div", thumb(first), element("div", name, same, where(row, alone), told), class_="who")
 
 
 def table_row(row, alone):
@@ -111,6 +121,7 @@ def table_row(row, alone):
     ]
     words = [row.found.name, row.found.source, f"{net.inputs} to {net.outputs}", *row.tiers()]
     words += [f"{prop}:{row.answer(prop)['verdict']}" for prop in PROPERTIES]
+    words += [word for word, told in (("bare", row.bare), ("opened", row.of_reading("opened")), ("warning", row.warning())) if told]
     head = element("th", who(row, alone), scope="row", data_sort=files.plain(row.found.name).lower())
     rest = (
         element("td", content, data_label=label, data_sort=sort) for label, (content, sort) in zip(COLUMNS[1:], cells)
@@ -142,9 +153,9 @@ def facts(row):
         names = Counter(it.name for it in parts.strangers)
         told.append(("Others", ", ".join(f"{number} × {shown(name)}" for name, number in names.items())))
     told.append(("From", shown(row.found.source + (f", place {row.found.place}" if row.found.place else ""))))
-    kept = [row.found.file(), *([NETWORK] if net else [])]
+    kept = [row.found.file(), *([ORIGINAL] if row.is_changed() else []), *([NETWORK] if net else [])]
     told.append(("Files", ", ".join(element("a", name, href=f"designs/{row.id()}/{name}") for name in kept)))
-    told.append(("Digest", element("code", row.found.digest()[:16])))
+    told.append(("Digest", element("code", row.judged_digest()[:16])))
     lines = (element("div", element("dt", key), element("dd", value)) for key, value in told)
     return element("dl", *lines, class_="facts")
 
@@ -166,9 +177,22 @@ def verdicts(row):
     for prop in PROPERTIES:
         told = row.answer(prop)
         seconds = note(spent_time(told["seconds"])) if "seconds" in told else ""
-        head = element("th", prop, note(PROMISES[prop]), scope="row")
+        head = element("th", prop, note(KNOWN_AS[prop]), note(PROMISES[prop]), scope="row")
         lines.append(element("tr", head, element("td", badge(told)), element("td", about(row, told), " ", seconds)))
     return element("table", element("tbody", *lines), class_="verdicts")
+
+
+def marks_legend(row):
+    """What the marks on a design's picture mean, those that are there."""
+    parts, _ = row.design
+    told = [
+        (row.bare, "hollow: a half to which no belt leads"),
+        (row.of_reading("belts"), "dashed rims: belts that were added"),
+        (any(it.give or it.take for it in parts.parts), "triangle: a side that a splitter prefers"),
+        (row.refused and row.refused.places, "red: what is refused"),
+    ]
+    shown_ = [element("span", words) for there, words in told if there]
+    return element("p", *shown_, class_="legend") if shown_ else ""
 
 
 def legend(unit):
@@ -240,6 +264,7 @@ def page(row, before, after):
     if picture:
         label = f"{files.plain(row.found.name)}, drawn from its parts"
         drawn = figure(picture, f'<use href="#p-{row.id()}"/>{picture.ends()}', label)
+        drawn += marks_legend(row)
     drawn += note(shown(lack)) if lack else ""
     told = facts(row) + (verdicts(row) if row.net else "")
     small = not picture or picture.box[2] <= WIDEST_BESIDE
@@ -248,10 +273,14 @@ def page(row, before, after):
     shows = element("div", *(breaking(row, prop) for prop in noes), class_="states") if noes else ""
     string = ""
     if row.found.is_json():
-        summary = element("summary", "Blueprint string, to paste into the game")
-        string = element("details", summary, element("code", strings.deflate(row.found.text), class_="string"))
+        opened = row.of_reading("opened")
+        text = row.folder.file(DESIGN_JSON).read_bytes() if opened else row.found.text
+        what = ", with the belts that were added" if opened else ""
+        summary = element("summary", f"Blueprint string, to paste into the game{what}")
+        string = element("details", summary, element("code", strings.deflate(text), class_="string"))
     less = smaller(row) if row.smaller else ""
-    content = ways, element("h2", shown(name)), refused, both, shows, less, string
+    told = remarks(row, MOST_IN_PAGE)
+    content = ways, element("h2", shown(name)), refused, told, both, shows, less, string
     return element("article", *content, class_="page", id=row.id())
 
 
@@ -267,6 +296,12 @@ def summary(rows):
     )
 
 
+CERTIFICATES = (
+    "A certificate is a proof that needs no trust in who found it: whoever gets a design and its certificate has it "
+    "checked in a moment, by beltproof check or by second/check.py, which shares no code with it, and needn’t try the "
+    "design out in the game, where no number of trials shows that a property always holds."
+)
+
 SEARCH = (
     '<p class="search" hidden><label for="words">Search</label><input id="words" type="search" autocomplete="off" '
     'placeholder="words, or unlimited:no"><output id="left" for="words"></output></p>'
@@ -276,10 +311,13 @@ SEARCH = (
 def front(rows, title, program):
     """The first page: the table of all designs, and what has no network."""
     alone = len({row.found.source for row in rows}) == 1
-    head = element("tr", *(element("th", it, scope="col") for it in COLUMNS))
+    head = element("tr", *(element("th", it, scope="col", title=KNOWN_AS.get(it, "")) for it in COLUMNS))
     lines = (table_row(row, alone) for row in rows if row.net)
     table = element("table", element("thead", head), element("tbody", *lines), class_="designs", id="designs")
-    promises = (element("div", element("dt", prop), element("dd", words)) for prop, words in PROMISES.items())
+    promises = (
+        element("div", element("dt", prop), element("dd", element("em", KNOWN_AS[prop]), f": {words}"))
+        for prop, words in PROMISES.items()
+    )
     content = [element("header", element("h1", shown(title)), summary(rows))]
     content += [element("dl", *promises, class_="promises"), SEARCH, element("div", table, class_="wide")]
     others = [refused_row(row, alone) for row in rows if not row.net]
@@ -291,7 +329,8 @@ def front(rows, title, program):
         element("code", "beltproof check"),
         f" has accepted each. Program {element('code', program[:16])}. The results are in ",
         element("a", "results.tsv", href="results.tsv"),
-        ", one line for each design and property.",
+        ", one line for each design and property. ",
+        CERTIFICATES,
     )
     return element("main", *content, element("footer", *words), id="all", class_="front")
 

@@ -1,11 +1,11 @@
 """The rows of a report: a design each, with what became of it and what is drawn of it."""
 
-from dataclasses import dataclass, field
+from dataclasses import dataclass, field, replace
 from functools import cached_property
 
-from . import design, refusals, states, trace
+from . import design, labels, refusals, states, trace
 from .picture import Marks, Picture
-from .work import NETWORK, SMALLER, SMALLER_STRING
+from .work import DESIGN_JSON, NETWORK, SMALLER, SMALLER_STRING
 
 LABELS = {
     "yes": "yes",
@@ -19,6 +19,16 @@ LABELS = {
     "open": "not yet",
 }
 """How the report calls the verdicts, in the order in which it sorts them."""
+
+
+MOST_LISTED = 8
+"""How many bare halves a sentence names at most."""
+
+
+def listed(names, most=MOST_LISTED):
+    """The first of these names, and how many more there are."""
+    more = len(names) - most
+    return ", ".join(names[:most]) + (f" and {more} more" if more > 0 else "")
 
 
 @dataclass
@@ -44,7 +54,17 @@ class Row:
         """Why this is no design of belts, or couldn't be dealt with, in words; None where it has a network."""
         if self.found.trouble or self.trouble:
             return self.found.trouble or self.trouble
-        return refusals.told(self.refusal(), self.text) if self.refusal() else None
+        return self.refused.words if self.refused else None
+
+    @cached_property
+    def refused(self):
+        """The program's refusal in words, with its places."""
+        return refusals.refusal(self.refusal(), self.text) if self.refusal() else None
+
+    def is_broken(self):
+        """Whether this is no design at all, whatever the program would say of one."""
+        number = refusals.number_of(self.refusal() or "")
+        return self.found.text is None or number in refusals.BROKEN
 
     def answer(self, prop):
         """What became of a property."""
@@ -52,7 +72,56 @@ class Row:
 
     @cached_property
     def text(self):
+        """The design's text as it is judged."""
+        if self.folder and self.network and self.folder.file(DESIGN_JSON).is_file():
+            return self.folder.text(DESIGN_JSON)
         return self.found.text.decode("utf-8", "replace") if self.found.text is not None else ""
+
+    def judged_digest(self):
+        """The digest of the design as it is judged."""
+        return (self.folder.record.get("judged") if self.folder else None) or self.found.digest()
+
+    def is_changed(self):
+        """Whether what is judged is another text than what came."""
+        return self.judged_digest() != self.found.digest()
+
+    def of_reading(self, name):
+        """What is told of how the design was read: a list, or a number."""
+        return (self.network or {}).get(name) or []
+
+    @cached_property
+    def bare(self):
+        """The bare halves that are left, by their names."""
+        parts, _ = self.design
+        return [trace.name_of(parts.parts, it) for it in trace.bare_ends(parts.parts)] if parts else []
+
+    def ends(self):
+        """How many inputs and outputs the network has, in words."""
+        return f"{self.net.inputs} to {self.net.outputs}" if self.net else ""
+
+    def warning(self):
+        """What is amiss with the number of ends, in words, where the label tells of others; or None."""
+        pairs = labels.told(self.found.label())
+        if not self.net or not pairs or (self.net.inputs, self.net.outputs) in pairs:
+            return None
+        said = f"its label says {labels.spelled(pairs)}, but its network is {self.ends()}"
+        would = self.of_reading("would")
+        if self.of_reading("opened"):
+            said += ", with belts at its bare halves"
+        elif would and would != [self.net.inputs, self.net.outputs]:
+            said += f", and with belts at its bare halves it would be {labels.spelled([would])}"
+        elif not self.bare:
+            return f"{said}: a belt may be missing, or be one too many"
+        return f"{said}: which of them are meant can't be known, so put a belt at each one that is an end"
+
+    def remarks(self, most=MOST_LISTED):
+        """What there is to say of how the design was read, in sentences without their ends, with so many names each."""
+        opened, unopened = self.of_reading("opened"), self.of_reading("unopened")
+        told = [self.warning()] if self.warning() else []
+        told += [f"opened, with {self.of_reading('belts')} belts, at the {listed(opened, most)}"] if opened else []
+        told += [f"bare: {listed(self.bare, most)}"] if self.bare and self.net else []
+        told += [f"not opened: {listed([f'{name}, since {why}' for name, why in unopened], most)}"] if unopened else []
+        return told + self.of_reading("notes")
 
     @cached_property
     def net_text(self):
@@ -71,9 +140,20 @@ class Row:
         if not self.found.is_json():
             return None, "A network text has no parts, so there is no picture."
         try:
-            return design.read(self.text), None
+            found = design.read(self.text)
         except design.Unreadable as reason:
             return None, f"There is no picture: {reason}."
+        return replace(found, strangers=found.strangers + self.left_out(found)), None
+
+    def left_out(self, found):
+        """What stood by and was left out, among the parts and next to them."""
+        if not self.of_reading("notes"):
+            return []
+        least_x, least_y, most_x, most_y = found.box()
+        treated = [tuple(it) for it in self.of_reading("asked")[1:]]
+        them = design.bystanders(self.found.text.decode("utf-8", "replace"), treated)
+        near = range(least_x - 1, most_x + 2), range(least_y - 1, most_y + 2)
+        return [it for it in them if all(x in near[0] and y in near[1] for x, y in it.cells)]
 
     def tiers(self):
         parts, _ = self.design
@@ -103,20 +183,14 @@ class Row:
         """The smaller layout as a string to paste."""
         return self.folder.text(SMALLER_STRING).strip()
 
-    def refused_places(self, parts):
-        """The cells of what the program's refusal names, each with what is told of it."""
-        named, reason = refusals.marked(self.refusal() or ""), self.reason() or ""
-        cells = {it.entity: it.cells for it in parts.parts}
-        cells |= {it.entity: ((it.middle[0] // 2, it.middle[1] // 2),) for it in parts.strangers}
-        return tuple((cells[entity], reason) for entity in named if entity in cells)
-
     @cached_property
     def picture(self):
         """The design's picture, and what it lacks."""
         parts, reason = self.design
         if parts is None:
             return None, reason
-        marks = Marks(tuple(trace.bare_ends(parts.parts)), refused=self.refused_places(parts))
+        added = frozenset(range(len(parts.parts) - (self.of_reading("belts") or 0), len(parts.parts)))
+        marks = Marks(tuple(trace.bare_ends(parts.parts)), added, self.refused.places if self.refused else ())
         if self.net is None:
             return Picture(parts, marks=marks), None
         try:

@@ -87,6 +87,17 @@ def bare_ends(parts):
     return found
 
 
+def tile(cell):
+    return f"({cell[0]}, {cell[1]})"
+
+
+def name_of(parts, bare):
+    """A bare end in words."""
+    part = parts[bare.part]
+    side = "left" if bare.half == part.left_half() else "right"
+    return f"{side} {'output' if bare.front else 'input'} at tile {tile(part.cells[bare.half])}"
+
+
 class Layout:
     """Parts with what each hands on to."""
 

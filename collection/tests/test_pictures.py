@@ -57,12 +57,9 @@ class Parts(Case):
             "[]": "no blueprint",
             blueprint(): "no entities",
             '{"blueprint":{"entities":1}}': "no list",
-            '{"blueprint":{"entities":[1]}}': "no object",
-            blueprint({"name": "splitter"}): "no position",
-            blueprint(belt(0.25, 0)): "multiple of a half",
-            blueprint(belt(0, 0), belt(0.5, 0)): "no one grid",
-            blueprint(belt(0, 0, 1)): "none of the four",
-            '{"blueprint":{"entities":[{"name":"splitter","position":{"x":1e400,"y":0}}]}}': "multiple of a half",
+            '{"blueprint":{"entities":[1]}}': "no entity has a position",
+            blueprint({"name": "splitter"}): "no entity has a position",
+            '{"blueprint":{"entities":[{"name":"splitter","position":{"x":1e400,"y":0}}]}}': "no entity has a position",
             blueprint(belt(0, 0), belt(0, 2048)): "more than 2048 tiles",
             blueprint(*(belt(x, 0) for x in range(4097))): "more than 4096",
         }
@@ -70,9 +67,28 @@ class Parts(Case):
             with self.subTest(text=text[:60]), self.assertRaisesRegex(design.Unreadable, why):
                 design.read(text)
 
-    def test_strangers_are_kept(self):
-        found = design.read(blueprint(belt(0, 0), {"name": "inserter", "position": {"x": 1.5, "y": 0.5}}))
-        self.assertEqual([(it.entity, it.name, it.middle) for it in found.strangers], [(1, "inserter", (3, 1))])
+    def test_what_is_no_part_is_kept_at_its_tiles(self):
+        inserter = {"name": "inserter", "position": {"x": 1.5, "y": 0.5}}
+        odd = belt(0.25, 4), belt(0.5, 5), belt(0, 6, 1), {"name": 7, "position": {"x": -0.5, "y": 0.5}}, {"name": "splitter"}
+        found = design.read(blueprint(belt(0, 0), inserter, *odd))
+        told = [(it.entity, it.name, it.cells, it.stands_by) for it in found.strangers]
+        names = ["inserter", *["transport-belt"] * 3, "7"]
+        cells = [((1, 0),), ((0, 4),), ((0, 5), (1, 5)), ((0, 6),), ((-1, 0),)]
+        self.assertEqual(told, [(*it, False) for it in zip(range(1, 6), names, cells)])
+
+    def test_what_stands_by_has_a_size(self):
+        def thing(name, x, y, direction=0):
+            return {"name": name, "position": {"x": x, "y": y}, "direction": direction}
+
+        things = thing("substation", 3, 1), thing("decider-combinator", 6, 1.5, 2), thing("decider-combinator", 8.5, 1)
+        found = design.read(blueprint(belt(0, 0), *things))
+        self.assertEqual(
+            [it.cells for it in found.strangers],
+            [((2, 0), (3, 0), (2, 1), (3, 1)), ((5, 1), (6, 1)), ((8, 0), (8, 1))],
+        )
+        self.assertTrue(all(it.stands_by for it in found.strangers))
+        shifted = design.read(blueprint(belt(0.5, 0.5), thing("small-lamp", 2, 1)))
+        self.assertEqual((shifted.shift, shifted.strangers[0].cells), ((1, 1), ((1, 0),)))
 
 
 class Traces(Case):

@@ -72,7 +72,7 @@ class Report(Case):
         for it in told.values():
             self.assertEqual(it["accepted"], "yes" if it["verdict"] in ("yes", "no") else "")
             self.assertTrue(it["file"] == "" or (self.report / it["file"]).is_file())
-        self.assertIn("entity 5 (splitter at x 1, y 1.5)", told["Broken on purpose/4 to 4, with a filter", "-"]["why"])
+        self.assertIn("entity 5 (splitter at tiles (0, 1) and (1, 1))", told["Broken on purpose/4 to 4, with a filter", "-"]["why"])
         for (design, prop), it in told.items():
             if it["verdict"] in ("yes", "no"):
                 self.assertEqual(self.listed(design)[prop], it["verdict"])
@@ -88,7 +88,7 @@ class Report(Case):
         self.tags()
         self.assertEqual(self.page().count("<script>"), 1)
         self.assertNotIn("\u202e", self.page())
-        self.assertEqual({line.count("\t") for line in (self.report / "results.tsv").read_text().splitlines()}, {11})
+        self.assertEqual({line.count("\t") for line in (self.report / "results.tsv").read_text().splitlines()}, {16})
 
     def test_a_network_text_has_no_picture_and_a_state_in_words(self):
         run(EXAMPLES / "chain-1-to-3.net", "-o", self.report, "--jobs", "1")
@@ -98,7 +98,10 @@ class Report(Case):
 
     def test_an_empty_collection(self):
         self.write("in/none", "")
-        self.assertEqual(run(self.folder / "in", "-o", self.report, "--jobs", "1")[0], 0)
+        status, _, wrong = run(self.folder / "in", "-o", self.report, "--jobs", "1")
+        self.assertEqual(status, 1)
+        self.assertIn("none: it is no blueprint string, no JSON and no network text\n", wrong)
+        self.assertIn("there is no design in what was given", wrong)
         self.tags()
 
 
@@ -108,11 +111,11 @@ class Refusals(Case):
     def test_each_is_told_in_words(self):
         cases = {
             "refused 10 Json 7": "refused 10 Json: the text is no JSON from byte 7 on",
-            "refused 23 Unsupported 1": "refused 23 Unsupported: entity 2 (inserter at x 1.5, y 0.5) is no belt, "
+            "refused 23 Unsupported 1": "refused 23 Unsupported: entity 2 (inserter at tile (1, 0)) is no belt, "
             "underground belt or splitter",
-            "refused 27 Special 0 filter": "refused 27 Special: entity 1 (transport-belt at x 0.5, y 0.5) has a "
+            "refused 27 Special 0 filter": "refused 27 Special: entity 1 (transport-belt at tile (0, 0)) has a "
             "condition or a filter, in its member filter",
-            "refused 30 Overlap 0 9": "refused 30 Overlap: entity 1 (transport-belt at x 0.5, y 0.5) and entity 10 "
+            "refused 30 Overlap 0 9": "refused 30 Overlap: entity 1 (transport-belt at tile (0, 0)) and entity 10 "
             "(no name) stand on the same tile",
             "refused 42 NoEnds": "refused 42 NoEnds: there is no input, or no output",
             "refused 99 Other 1": "refused 99 Other 1",
@@ -120,4 +123,4 @@ class Refusals(Case):
         }
         for line, words in cases.items():
             self.assertEqual(refusals.told(line, self.TEXT), words)
-        self.assertEqual(refusals.marked("refused 30 Overlap 0 9"), [0, 9])
+        self.assertEqual([cells for cells, _ in refusals.refusal("refused 30 Overlap 0 9", self.TEXT).places], [((0, 0),)])
