@@ -43,13 +43,17 @@ def part_of_tier(words):
         raise argparse.ArgumentTypeError(str(reason)) from None
 
 
-def add_reading(parser):
-    """The words that tell how designs are read."""
-    told = "opens halves of splitters to which no belt leads, by belts to the border: never; where a label such as 4 to 4 "
-    told += "tells so, or where there is no input or no output without (label, which is the default); or always"
-    parser.add_argument("--bare-ends", choices=openings.MODES, default="label", help=told)
+def treating(parser):
+    """The word that tells for what parts of a mod are taken."""
     told = "takes the belt, underground or splitter of a mod with this name for one of this tier"
     parser.add_argument("--treat-as", metavar="NAME=TIER", action="append", default=[], type=part_of_tier, help=told)
+
+
+def opening(parser):
+    """The word that tells when bare halves are opened."""
+    told = "opens halves of splitters to which no belt leads, by belts to the border: never; where the label tells so, as 4 "
+    told += "to 4, or without it there is no input or no output (label, which is the default); or always"
+    parser.add_argument("--bare-ends", choices=openings.MODES, default="label", help=told)
 
 
 def words_of(arguments):
@@ -67,7 +71,8 @@ def words_of(arguments):
     parser.add_argument("--learnt", type=at_least(0), help="how many steps a log may have, as for decide")
     parser.add_argument("--pivots", type=at_least(0), help="how many turns there may be, as for decide")
     parser.add_argument("--smaller", action="store_true", help="looks for a smaller layout of each design laid out")
-    add_reading(parser)
+    opening(parser)
+    treating(parser)
     parser.add_argument("--program", metavar="FILE", help="the program to run, in place of that of bin/beltproof")
     other = parser.add_mutually_exclusive_group()
     other.add_argument("--plan", action="store_true", help="prints a command for each design, and runs nothing")

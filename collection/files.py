@@ -68,6 +68,11 @@ def plain(text):
     return "".join(f"\\u{ord(it):04x}" if unicodedata.category(it) in steering else it for it in text)
 
 
+def counted(number, word):
+    """So many things of this name."""
+    return f"{number} {word}{'' if number == 1 else 's'}"
+
+
 def slug(name):
     """A folder's name for a design of this name: letters, digits and dashes alone."""
     flat = "".join(it for it in unicodedata.normalize("NFKD", name) if not unicodedata.combining(it))

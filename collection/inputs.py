@@ -4,7 +4,6 @@ what is none, and why."""
 import os
 import re
 import stat
-import sys
 from dataclasses import dataclass
 from pathlib import Path
 
@@ -165,10 +164,16 @@ def is_pasted(word):
 
 
 def from_standard_input():
-    data = sys.stdin.buffer.read(MOST_READ + 1)
-    if len(data) > MOST_READ:
-        return [Design("standard input", "standard input", "", None, f"it is longer than {MOST_READ // 2**20} MB")]
-    return from_bytes(data, "standard input", "standard input")
+    """The designs on standard input."""
+    name, why = "standard input", f"it is longer than {MOST_READ // 2**20} MB"
+    try:
+        with open(0, "rb", closefd=False) as file:
+            data = file.read(MOST_READ + 1)
+    except OSError as reason:
+        data, why = None, f"it can't be read: {reason.strerror or reason}"
+    if data is None or len(data) > MOST_READ:
+        return [Design(name, name, "", None, why)]
+    return from_bytes(data, name, name)
 
 
 def designs_of(words, output=None):

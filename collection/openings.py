@@ -9,7 +9,7 @@ from dataclasses import dataclass, replace
 from . import design, labels, refusals
 from .design import EAST, PREFIXES, SOUTH, step
 from .entities import listed
-from .trace import Layout, Untraced, bare_ends, name_of, same_network, tile
+from .trace import Layout, Untraced, bare_ends, place_of, same_network, spelled, tile
 
 NO_ENDS = "refused 42 "
 
@@ -20,10 +20,10 @@ class Refused(Exception):
 
 @dataclass(frozen=True)
 class Way:
-    """The belts from a bare end to beyond the border: the end in words, its splitter, whether it is an output, and the
+    """The belts from a bare end to beyond the border: the end's place, its splitter, whether it is an output, and the
     belts' cells from the half on; or why there is no way."""
 
-    name: str
+    place: tuple
     splitter: object
     front: bool
     cells: tuple
@@ -86,7 +86,7 @@ def ways_of(found, bystanders, most):
         direction, cell = (part.direction if bare.front else (part.direction + 2) % 4), part.cells[bare.half]
         ends.append((ground.to_border(cell, direction), bare, part, direction, cell))
     for count, bare, part, direction, cell in sorted(ends, key=lambda it: it[0]):
-        name, there = name_of(found.parts, bare), ground.first_taken(cell, direction)
+        place, there = place_of(found.parts, bare), ground.first_taken(cell, direction)
         why, cells = None, ()
         if there is not None:
             why = f"{ground.taken[there]} at tile {tile(there)} is in the way"
@@ -95,10 +95,10 @@ def ways_of(found, bystanders, most):
         else:
             cells = tuple(step(cell, direction, k) for k in range(1, count + 1))
             crossed = next((used[it] for it in cells if it in used), None)
-            why = f"its way crosses that of the {crossed}" if crossed else None
+            why = f"its way crosses that of the {spelled([crossed])}" if crossed else None
         if why is None:
-            used |= dict.fromkeys(cells, name)
-        ways[bare] = Way(name, part, bare.front, cells, why)
+            used |= dict.fromkeys(cells, place)
+        ways[bare] = Way(place, part, bare.front, cells, why)
     return [ways[bare] for _, bare, *_ in ends]
 
 
@@ -201,13 +201,13 @@ class Opening:
             if why is None:
                 best, kept = (text, answer), [*kept, *batch]
             elif len(batch) == 1:
-                refused[batch[0].name] = why
+                refused[batch[0].place] = why
             else:
                 half = len(batch) // 2
                 left += [batch[half:], batch[:half]]
-        unopened = [(it.name, it.why or refused[it.name]) for it in self.ways if it.why or it.name in refused]
+        unopened = [(it.place, it.why or refused[it.place]) for it in self.ways if it.why or it.place in refused]
         ends, belts = self.more_ends(kept), sum(len(it.cells) for it in kept)
-        return Opened(*best, belts, [it.name for it in kept], unopened, self.ends(), ends, ends)
+        return Opened(*best, belts, [it.place for it in kept], unopened, self.ends(), ends, ends)
 
 
 MODES = ("never", "label", "always")

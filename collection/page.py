@@ -5,6 +5,7 @@ from html import escape
 from pathlib import Path
 
 from . import files, states, strings
+from .files import counted
 from .flows import flows
 from .rows import LABELS
 from .states import KNOWN_AS, PROMISES, PROPERTIES
@@ -36,10 +37,6 @@ def element(name, *content, **members):
 def shown(text):
     """A text that others wrote, as HTML."""
     return f"<bdi>{escape(files.plain(text))}</bdi>"
-
-
-def count(number, word):
-    return f"{number} {word}{'' if number == 1 else 's'}"
 
 
 def badge(told, prop=""):
@@ -142,13 +139,13 @@ def facts(row):
     told, net, size, (parts, _) = [], row.net, row.size(), row.design
     if net:
         kinds = ((net.inputs, "input"), (net.outputs, "output"), (net.splitters, "splitter"), (len(net.edges), "edge"))
-        told.append(("Network", ", ".join(count(*it) for it in kinds)))
+        told.append(("Network", ", ".join(counted(*it) for it in kinds)))
     if size:
         told.append(("Cells", f"{size[0]} × {size[1]}"))
     for tier, kinds in row.tiers().items():
         under = kinds["entrance"] + kinds["exit"]
         words = ((kinds["belt"], "belt"), (under, "underground end"), (kinds["splitter"], "splitter"))
-        told.append(("Parts", f"{tier_mark(tier)} {', '.join(count(*it) for it in words if it[0])}"))
+        told.append(("Parts", f"{tier_mark(tier)} {', '.join(counted(*it) for it in words if it[0])}"))
     if parts and parts.strangers:
         names = Counter(it.name for it in parts.strangers)
         told.append(("Others", ", ".join(f"{number} × {shown(name)}" for name, number in names.items())))
@@ -166,7 +163,7 @@ def about(row, told):
     if not told.get("file"):
         return why
     breaks = told["file"].startswith("not")
-    what = "breaking state" if breaks else f"certificate of {count(told['steps'], 'step')}"
+    what = "breaking state" if breaks else f"certificate of {counted(told['steps'], 'step')}"
     link = element("a", what, href=f"designs/{row.id()}/{told['file']}")
     return link + (", accepted" if told["verdict"] in SETTLED else f". {why}")
 
@@ -242,9 +239,9 @@ def smaller(row):
         return element("section", heading, element("p", shown(told["why"])), class_="smaller")
     width, height = told["size"]
     own = row.size()
-    than = f", where the design has {own[0]} × {own[1]}, {count(own[0] * own[1], 'cell')}" if own else ""
+    than = f", where the design has {own[0]} × {own[1]}, {counted(own[0] * own[1], 'cell')}" if own else ""
     links = " and ".join(element("a", it, href=f"designs/{row.id()}/{it}") for it in (SMALLER, SMALLER_STRING))
-    said = element("p", f"{width} × {height}, {count(width * height, 'cell')}{than}: ", links)
+    said = element("p", f"{width} × {height}, {counted(width * height, 'cell')}{than}: ", links)
     picture = row.smaller_picture
     label = f"{files.plain(row.found.name)}, laid out smaller"
     drawn = figure(picture, picture.parts(f"s-{row.id()}") + picture.ends(), label)

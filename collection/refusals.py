@@ -5,7 +5,7 @@ from dataclasses import dataclass
 from . import design
 from .design import step
 from .files import plain
-from .trace import bare_ends, name_of, standing, tile
+from .trace import bare_ends, place_of, spelled, standing, tile
 
 LONGEST = 100
 """How much of a name or a number is told."""
@@ -56,8 +56,8 @@ def number_of(line):
 
 def tiles(cells):
     """Some tiles in words."""
-    told = [tile(it) for it in cells]
-    return f"tile{'s' * (len(told) > 1)} {' and '.join(told)}"
+    *most, last = [tile(it) for it in cells]
+    return f"tiles {', '.join(most)} and {last}" if most else f"tile {last}"
 
 
 def told_entity(entities, index, cells):
@@ -116,11 +116,6 @@ def around(number, parts, part):
 KINDS = {"belt": "belt", "entrance": "underground entrance", "exit": "underground exit", "splitter": "splitter"}
 
 
-def wanting(parts):
-    """The bare halves of splitters, each with its cell."""
-    return [(name_of(parts, it), parts[it.part].cells[it.half]) for it in bare_ends(parts)]
-
-
 def refusal(line, text):
     """What a refusal's line says of a design's text; of any other line, the line."""
     number, words = number_of(line), line.split(" ")
@@ -138,11 +133,9 @@ def refusal(line, text):
     start = f"refused {number} {words[2]}: {WORDS[number].format(*rest, '', '')}"
     marked = [(places[it].cells, start) for it in named if it in places]
     if number == NO_ENDS:
-        them = wanting(found.parts)
-        more = f", and {len(them) - MOST_NAMED} more" if len(them) > MOST_NAMED else ""
-        names = ", ".join(name for name, _ in them[:MOST_NAMED])
-        told = f"{start}; belts are wanted at splitters: {names}{more}" if them else start
-        return Refusal(told, tuple(((cell,), f"a belt is wanted: {name}") for name, cell in them))
+        them = [place_of(found.parts, it) for it in bare_ends(found.parts)]
+        told = f"{start}; belts are wanted at halves of splitters: {spelled(them, MOST_NAMED)}" if them else start
+        return Refusal(told, tuple((((x, y),), f"a belt is wanted here, for an {kind}") for kind, x, y in them))
     if named and named[0] in places and places[named[0]] in found.parts:
         more, others = around(number, found.parts, places[named[0]])
         return Refusal(start + more, (*marked, *(((cell,), start + more) for cell in others)))

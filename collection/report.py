@@ -2,7 +2,7 @@
 
 from pathlib import Path
 
-from . import files, page
+from . import files, page, trace
 from .states import KNOWN_AS, PROPERTIES
 from .work import SETTLED, SMALLER
 
@@ -16,7 +16,8 @@ def table(rows, program):
     for row in rows:
         start = [row.found.name, row.found.place, row.found.source]
         digests = [row.judged_digest(), program if row.found.text is not None else ""]
-        of_ends = [row.ends(), "; ".join(row.bare), "; ".join(row.of_reading("opened")), "; ".join(row.remarks())]
+        halves = (trace.spelled(row.bare), trace.spelled(row.of_reading("opened")))
+        of_ends = [row.ends(), *halves, "; ".join(row.remarks())]
         if not row.net:
             verdict = "refused" if row.refusal() else "unread"
             lines.append([*start, "-", verdict, row.reason() or "not read yet", 0, 0, "", "", *digests, "", *of_ends])

@@ -4,6 +4,7 @@ from dataclasses import dataclass, field, replace
 from functools import cached_property
 
 from . import design, labels, refusals, states, trace
+from .files import counted
 from .picture import Marks, Picture
 from .work import DESIGN_JSON, NETWORK, SMALLER, SMALLER_STRING
 
@@ -23,12 +24,6 @@ LABELS = {
 
 MOST_LISTED = 8
 """How many bare halves a sentence names at most."""
-
-
-def listed(names, most=MOST_LISTED):
-    """The first of these names, and how many more there are."""
-    more = len(names) - most
-    return ", ".join(names[:most]) + (f" and {more} more" if more > 0 else "")
 
 
 @dataclass
@@ -91,9 +86,9 @@ class Row:
 
     @cached_property
     def bare(self):
-        """The bare halves that are left, by their names."""
+        """The bare halves that are left, by their places."""
         parts, _ = self.design
-        return [trace.name_of(parts.parts, it) for it in trace.bare_ends(parts.parts)] if parts else []
+        return [trace.place_of(parts.parts, it) for it in trace.bare_ends(parts.parts)] if parts else []
 
     def ends(self):
         """How many inputs and outputs the network has, in words."""
@@ -115,12 +110,14 @@ class Row:
         return f"{said}: which of them are meant can't be known, so put a belt at each one that is an end"
 
     def remarks(self, most=MOST_LISTED):
-        """What there is to say of how the design was read, in sentences without their ends, with so many names each."""
+        """What there is to say of how the design was read, in sentences without their ends, with so many halves each."""
         opened, unopened = self.of_reading("opened"), self.of_reading("unopened")
         told = [self.warning()] if self.warning() else []
-        told += [f"opened, with {self.of_reading('belts')} belts, at the {listed(opened, most)}"] if opened else []
-        told += [f"bare: {listed(self.bare, most)}"] if self.bare and self.net else []
-        told += [f"not opened: {listed([f'{name}, since {why}' for name, why in unopened], most)}"] if unopened else []
+        told += [f"opened by {counted(self.of_reading('belts'), 'belt')}: {trace.spelled(opened, most)}"] if opened else []
+        told += [f"bare halves: {trace.spelled(self.bare, most)}"] if self.bare and self.net else []
+        reasons = [f"{trace.spelled([place])}, since {why}" for place, why in unopened[:most]]
+        more = f", and {len(unopened) - most} more" if len(unopened) > most else ""
+        told += [f"not opened: {'; '.join(reasons)}{more}"] if unopened else []
         return told + self.of_reading("notes")
 
     @cached_property

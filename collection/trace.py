@@ -91,11 +91,19 @@ def tile(cell):
     return f"({cell[0]}, {cell[1]})"
 
 
-def name_of(parts, bare):
-    """A bare end in words."""
-    part = parts[bare.part]
-    side = "left" if bare.half == part.left_half() else "right"
-    return f"{side} {'output' if bare.front else 'input'} at tile {tile(part.cells[bare.half])}"
+def place_of(parts, bare):
+    """A bare end as what it would be, an input or an output, and the cell of its half."""
+    return "output" if bare.front else "input", *parts[bare.part].cells[bare.half]
+
+
+def spelled(places, most=None):
+    """Such places in words, so many at most."""
+    more = 0 if most is None else max(0, len(places) - most)
+    told = []
+    for word in ("input", "output"):
+        tiles = [tile(cell) for kind, *cell in places[: len(places) - more] if kind == word]
+        told += [f"{word}{'s' * (len(tiles) > 1)} at {', '.join(tiles)}"] if tiles else []
+    return " and ".join(told) + (f", and {more} more" if more else "")
 
 
 class Layout:

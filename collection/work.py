@@ -259,9 +259,10 @@ class Worker:
         try:
             with open(asked, "wb") as out:
                 ended = self.program.run(["recover"], [text], out)
-            if ended.status not in EXACT_STATUSES:
+            answer = asked.read_text("ascii", "replace") if ended.status == 0 else first_line(asked)
+            if ended.status not in EXACT_STATUSES or not answer:
                 raise NoAnswer(ended)
-            return asked.read_text("ascii", "replace") if ended.status == 0 else first_line(asked)
+            return answer
         finally:
             asked.unlink(missing_ok=True)
 
