@@ -10,7 +10,8 @@ PLAIN = re.compile(rf"(?<![\d.])(\d{{1,4}})[\s_-]*(?:{ARROWS})[\s_-]*(\d{{1,4}})
 """Two numbers that can hardly be anything else."""
 
 SIGNS = ":x×*‐‑–—−-"
-BRIEF = re.compile(rf"(?<![A-Za-z\d.{SIGNS}])(\d{{1,4}})\s*[{SIGNS}]\s*(\d{{1,4}})(?!\s*[{SIGNS}]\s*\d|[.]?\d|[a-z])", re.I)
+MORE = rf"\s*[{SIGNS}]\s*\d|[.]?\d|[a-z]"
+BRIEF = re.compile(rf"(?<![A-Za-z\d.{SIGNS}])(\d{{1,4}})\s*[{SIGNS}]\s*(\d{{1,4}})(?!{MORE})", re.I)
 """Two numbers that may be the size of a layout too: taken where none are told plainly."""
 
 
