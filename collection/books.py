@@ -142,6 +142,16 @@ def pages(reader, book, depth):
                 book.label = value
 
 
+def end_of_value(text):
+    """Where the value ends with which a text begins; where it is damaged, the text's end."""
+    reader = Reader(text)
+    try:
+        reader.value()
+    except Fault:
+        return len(text)
+    return reader.at
+
+
 def entries(text):
     """The entries of a text of JSON, and what is wrong with the text, or None. Those before the fault are told too."""
     reader = Reader(text)

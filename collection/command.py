@@ -10,17 +10,18 @@ from collections import Counter
 from concurrent.futures import FIRST_COMPLETED, ThreadPoolExecutor, wait
 from pathlib import Path
 
-from . import files, inputs, report
+from . import cleaning, design, files, inputs, openings, report
 from .program import NoProgram, find
 from .rows import LABELS, Row
 from .states import PROPERTIES
-from .work import DESIGN_JSON, Folder, Limits, Worker, all_of, is_looked_for, stands
+from .work import DESIGN_JSON, DESIGN_NET, Folder, Limits, Reading, Worker, all_of, is_looked_for, stands
 
 ENDED_WELL, FAILED, WRONG_WORDS, STOPPED = 0, 1, 2, 130
 REDRAWN_EACH = 0.5
 """Seconds between two drawings of the progress line."""
 
 
+PATHS = "a file, or a folder with all that is in it; - for standard input; or a blueprint string itself"
 MOST = 1_000_000_000
 """How much a word asks for at most."""
 
@@ -35,6 +36,26 @@ def at_least(least, kind=int):
     return read
 
 
+def part_of_tier(words):
+    try:
+        return cleaning.of_tier(words)
+    except cleaning.WrongName as reason:
+        raise argparse.ArgumentTypeError(str(reason)) from None
+
+
+def treating(parser):
+    """The word that tells for what parts of a mod are taken."""
+    told = "takes the belt, underground or splitter of a mod with this name for one of this tier"
+    parser.add_argument("--treat-as", metavar="NAME=TIER", action="append", default=[], type=part_of_tier, help=told)
+
+
+def opening(parser):
+    """The word that tells when bare halves are opened."""
+    told = "opens halves of splitters to which no belt leads, by belts to the border: never; where the label tells so, "
+    told += "as 4 to 4, or without it there is no input or no output (label, which is the default); or always"
+    parser.add_argument("--bare-ends", choices=openings.MODES, default="label", help=told)
+
+
 def words_of(arguments):
     """What the words ask for."""
     parser = argparse.ArgumentParser(
@@ -43,13 +64,15 @@ def words_of(arguments):
         description="Decides all designs in files and folders (blueprint strings, books, JSON and network texts), and "
         "writes a report.",
     )
-    parser.add_argument("paths", nargs="*", metavar="PATH", help="a file, or a folder with all that is in it")
+    parser.add_argument("paths", nargs="*", metavar="PATH", help=PATHS)
     parser.add_argument("-o", "--output", metavar="FOLDER", help="where the report goes; what is there stands")
     parser.add_argument("--jobs", type=at_least(1), default=os.cpu_count() or 1, help="how many runs there are at once")
     parser.add_argument("--seconds", type=at_least(0.001, float), help="how long a decision, or its check, may take")
     parser.add_argument("--learnt", type=at_least(0), help="how many steps a log may have, as for decide")
     parser.add_argument("--pivots", type=at_least(0), help="how many turns there may be, as for decide")
     parser.add_argument("--smaller", action="store_true", help="looks for a smaller layout of each design laid out")
+    opening(parser)
+    treating(parser)
     parser.add_argument("--program", metavar="FILE", help="the program to run, in place of that of bin/beltproof")
     other = parser.add_mutually_exclusive_group()
     other.add_argument("--plan", action="store_true", help="prints a command for each design, and runs nothing")
@@ -131,7 +154,7 @@ def clean(folder):
 def begin(worker, row):
     try:
         clean(row.folder)
-        worker.begin(row.folder, row.found.name, row.found.text, row.found.file())
+        worker.begin(row.folder, row.found.name, row.found.label(), row.found.text, row.found.file())
     except OSError as fault:
         row.trouble = f"its folder can't be written: {fault.strerror or fault}"
     return row.trouble is None
@@ -220,6 +243,8 @@ def plan(rows, worker, asked):
     given = [(f"--{name}", getattr(asked, name)) for name in ("seconds", "learnt", "pivots", "program")]
     limits = [word for name, value in given if value is not None for word in (name, str(value))]
     limits += ["--smaller"] if worker.smaller else []
+    limits += ["--bare-ends", asked.bare_ends] if asked.bare_ends != "label" else []
+    limits += [word for name, part in asked.treat_as for word in ("--treat-as", f"{name}={design.NAMES[part][1]}")]
     for row in own_rows(rows):
         if not begin(worker, row):
             print(f"collection: {row.found.name}: {row.trouble}", file=sys.stderr)
@@ -237,6 +262,9 @@ def write_report(rows, output, program):
             row.network, row.decided, row.trouble = row.same_as.network, row.same_as.decided, row.same_as.trouble
             row.smaller = row.same_as.smaller
     report.write(output, rows, program)
+    for row in rows:
+        for it in [row.reason()] if row.is_broken() else [] if row.same_as else row.remarks():
+            print(f"collection: {files.plain(f'{row.found.name}: {it}')}", file=sys.stderr)
     with_network = [row for row in rows if row.net]
     verdicts = Counter(row.answer(prop)["verdict"] for row in with_network for prop in PROPERTIES)
     told = ", ".join(f"{number} {LABELS[verdict]}" for verdict, number in verdicts.items())
@@ -245,12 +273,16 @@ def write_report(rows, output, program):
     if any(row.smaller for row in with_network):
         print(f"{found} with a smaller layout")
     failed = verdicts["failed"] or any(row.trouble or (row.smaller or {}).get("verdict") == "failed" for row in rows)
-    return FAILED if failed else ENDED_WELL
+    broken = all(row.is_broken() for row in rows)
+    if broken:
+        print("collection: there is no design in what was given", file=sys.stderr)
+    return FAILED if failed or broken else ENDED_WELL
 
 
 def main(arguments):
     asked = words_of(arguments)
     limits = Limits(asked.seconds, asked.learnt, asked.pivots)
+    reading = Reading(asked.bare_ends, tuple(asked.treat_as))
     signal.signal(signal.SIGTERM, lambda *_: signal.raise_signal(signal.SIGINT))
     try:
         if asked.one:
@@ -258,22 +290,23 @@ def main(arguments):
             if folder.design_file() is None:
                 print(f"collection: there is no design in {asked.one}", file=sys.stderr)
                 return FAILED
-            worker = Worker(find(asked.program), limits, asked.smaller)
-            file = folder.design_file()
+            worker = Worker(find(asked.program), limits, asked.smaller, reading)
+            file, record = folder.original_file(), folder.record
             clean(folder)
-            worker.begin(folder, folder.record.get("name", folder.path.name), file.read_bytes(), file.name)
+            name, kept = record.get("name", folder.path.name), DESIGN_NET if file.name == DESIGN_NET else DESIGN_JSON
+            worker.begin(folder, name, record.get("label", name), file.read_bytes(), kept)
             failed = all_of(worker, folder)
             print("".join(f"collection: {asked.one}: {why}\n" for why in failed), end="", file=sys.stderr)
             return FAILED if failed else ENDED_WELL
         output = Path(asked.output)
-        output.mkdir(parents=True, exist_ok=True)
         rows = [Row(it) for it in inputs.designs_of(asked.paths, output)]
+        output.mkdir(parents=True, exist_ok=True)
         place(rows, output)
         if asked.gather:
             fill(rows)
             programs = Counter(row.folder.record.get("program", "") for row in own_rows(rows))
             return write_report(rows, output, max(programs, key=programs.get, default=""))
-        worker = Worker(find(asked.program), limits, asked.smaller)
+        worker = Worker(find(asked.program), limits, asked.smaller, reading)
         if asked.plan:
             plan(rows, worker, asked)
             return ENDED_WELL
@@ -282,6 +315,9 @@ def main(arguments):
     except KeyboardInterrupt:
         print("collection: stopped; the same command goes on from here", file=sys.stderr)
         return STOPPED
+    except inputs.NotThere as missing:
+        print("".join(f"collection: {line}\n" for line in str(missing).split("\n")), end="", file=sys.stderr)
+        return FAILED
     except NoProgram as reason:
         print(f"collection: {reason}", file=sys.stderr)
         return FAILED

@@ -3,6 +3,7 @@
 import json
 from dataclasses import dataclass
 from decimal import Decimal
+from pathlib import Path
 
 TIERS = ("basic", "fast", "express", "turbo")
 SPEED = {tier: speed for speed, tier in enumerate(TIERS, 1)}
@@ -13,6 +14,13 @@ PREFIXES = {"basic": "", "fast": "fast-", "express": "express-", "turbo": "turbo
 BODIES = {"transport-belt": "belt", "underground-belt": "underground", "splitter": "splitter"}
 NAMES = {prefix + body: (kind, tier) for tier, prefix in PREFIXES.items() for body, kind in BODIES.items()}
 PIECES = {"input": "entrance", "output": "exit"}
+
+BYSTANDERS = {
+    name: tuple(map(int, size.split("x")))
+    for size, names in json.loads(Path(__file__).with_name("bystanders.json").read_text("utf-8"))["tiles"].items()
+    for name in names
+}
+"""What can't touch a belt, with its size where it faces north."""
 
 NORTH, EAST, SOUTH, WEST = range(4)
 STEPS = ((0, -1), (1, 0), (0, 1), (-1, 0))
@@ -39,23 +47,44 @@ class Part:
     tier: str
     direction: int
     cells: tuple
+    give: str | None = None
+    """The side of its output that a splitter prefers, left or right; and of its input."""
+    take: str | None = None
+
+    def left_half(self):
+        """Which of a splitter's cells is on the left hand of one who looks in its direction."""
+        return 0 if self.direction in (NORTH, EAST) else 1
 
 
 @dataclass(frozen=True)
 class Stranger:
-    """An entity that is no part: where its middle is, in halves of a tile."""
+    """An entity that is no part: where its middle is, in halves of a tile; how many tiles wide and high it is; and
+    whether it stands by, since it can't touch a belt."""
 
     entity: int
     name: str
     middle: tuple
+    size: tuple = (1, 1)
+    stands_by: bool = False
+
+    @property
+    def cells(self):
+        """The cells that it reaches into, from west to east and then from north to south."""
+        ranges = (range((it - size) // 2, (it + size + 1) // 2) for it, size in zip(self.middle, self.size))
+        xs, ys = ranges
+        return tuple((x, y) for y in ys for x in xs)
 
 
 @dataclass
 class Design:
-    """What a blueprint shows."""
+    """What a blueprint shows, and how its text tells places and directions."""
 
     parts: list
     strangers: list
+    shift: tuple = (0, 0)
+    """By how many halves of a tile the positions are greater than those of the cells."""
+    sixteenths: bool = False
+    """Whether a full turn has sixteen directions, and not eight."""
 
     def tiers(self):
         """How many parts of each kind there are of each tier, for the tiers that occur."""
@@ -67,9 +96,12 @@ class Design:
 
     def box(self):
         """The least and the greatest x and y of the cells."""
-        cells = [cell for part in self.parts for cell in part.cells]
-        cells += [(x // 2, y // 2) for x, y in (it.middle for it in self.strangers)]
-        return min(x for x, _ in cells), min(y for _, y in cells), max(x for x, _ in cells), max(y for _, y in cells)
+        return box_of([cell for it in [*self.parts, *self.strangers] for cell in it.cells])
+
+
+def box_of(cells):
+    """The least and the greatest x and y of some cells."""
+    return min(x for x, _ in cells), min(y for _, y in cells), max(x for x, _ in cells), max(y for _, y in cells)
 
 
 def step(cell, direction, count=1):
@@ -78,14 +110,12 @@ def step(cell, direction, count=1):
 
 
 def halves(number):
-    """Twice a coordinate, where that is a whole number."""
+    """Twice a coordinate, or None where that is no number within bounds."""
     try:
         twice = 2 * Decimal(str(number))
     except ArithmeticError:
-        raise Unreadable("a coordinate is no number") from None
-    if not twice.is_finite() or abs(twice) > 2**31 or twice != int(twice):
-        raise Unreadable("a coordinate is no multiple of a half")
-    return int(twice)
+        return None
+    return twice if twice.is_finite() and abs(twice) <= 2**31 else None
 
 
 def entity_of(entities, index):
@@ -115,11 +145,10 @@ def entities_of(text):
 
 
 def direction_of(entity, sixteenths):
-    """North, east, south or west."""
-    turn = entity.get("direction", 0)
-    size = 4 if sixteenths else 2
+    """North, east, south or west; None where it is none of these."""
+    turn, size = entity.get("direction", 0), 4 if sixteenths else 2
     if isinstance(turn, bool) or not isinstance(turn, (int, Decimal)) or turn not in (0, size, 2 * size, 3 * size):
-        raise Unreadable("a direction is none of the four")
+        return None
     return int(turn) // size
 
 
@@ -128,12 +157,25 @@ def is_wide(kind, direction, axis):
     return kind == "splitter" and (direction in (NORTH, SOUTH)) == (axis == 0)
 
 
+def side_of(entity, member):
+    """The side that a splitter prefers, where it prefers one."""
+    return entity.get(member) if entity.get(member) in ("left", "right") else None
+
+
 def middle_of(entity):
-    """An entity's middle, in halves of a tile."""
+    """An entity's middle, in halves of a tile, or None where it has none."""
     position = entity.get("position")
-    if not isinstance(position, dict):
-        raise Unreadable("an entity has no position")
-    return halves(position.get("x")), halves(position.get("y"))
+    middle = [halves(position.get(it)) for it in "xy"] if isinstance(position, dict) else [None]
+    return None if None in middle else tuple(middle)
+
+
+def stranger_of(index, entity, middle, sixteenths):
+    """What is no part, at the tiles nearest to its position."""
+    name = entity.get("name")
+    size = BYSTANDERS.get(name) if isinstance(name, str) else None
+    sides = size or (1, 1)
+    sides = sides[::-1] if direction_of(entity, sixteenths) in (EAST, WEST) else sides
+    return Stranger(index, str(name), tuple(map(int, middle)), sides, size is not None)
 
 
 def cells_of(kind, direction, middle):
@@ -146,35 +188,54 @@ def cells_of(kind, direction, middle):
     return ((x - 1) // 2, y // 2 - 1), ((x - 1) // 2, y // 2)
 
 
-def read(text):
-    """The parts of a blueprint's text. The first part tells how the grid lies."""
+def part_of(index, entity, name, middle, shift, sixteenths):
+    """The part that an entity of this name is, on the grid with this shift, or where none is given on its own; None
+    where it is none."""
+    direction = direction_of(entity, sixteenths)
+    if name not in NAMES or direction is None or any(it != int(it) for it in middle):
+        return None, shift
+    kind, tier = NAMES[name]
+    kind = PIECES.get(str(entity.get("type")), "entrance") if kind == "underground" else kind
+    off = tuple(int(middle[axis] + (not is_wide(kind, direction, axis))) % 2 for axis in (0, 1))
+    if off != (shift or off):
+        return None, shift
+    cells = cells_of(kind, direction, [int(it) - by for it, by in zip(middle, off)])
+    sides = [side_of(entity, it) for it in ("output_priority", "input_priority")] if kind == "splitter" else []
+    return Part(index, kind, tier, direction, cells, *sides), off
+
+
+def read(text, bounded=True, treated=()):
+    """The parts of a blueprint's text, and what is no part; the first part tells how the grid lies. What has no
+    position is left out. Where it is bounded, what is too much for a picture isn't read. Names are taken for others as
+    told."""
     blueprint = blueprint_of(text)
     entities = entities_of(text)
-    if len(entities) > MOST_ENTITIES:
+    if bounded and len(entities) > MOST_ENTITIES:
         raise Unreadable(f"there are more than {MOST_ENTITIES} entities")
     version = blueprint.get("version", 0)
     sixteenths = isinstance(version, (int, Decimal)) and version >= SIXTEENTHS_SINCE << 48
-    parts, strangers, shift = [], [], None
+    parts, others, shift, treated = [], [], None, dict(treated)
     for index, entity in enumerate(entities):
-        if not isinstance(entity, dict):
-            raise Unreadable("an entity is no object")
-        name, middle = entity.get("name"), middle_of(entity)
-        if not isinstance(name, str) or name not in NAMES:
-            strangers.append(Stranger(index, str(name), middle))
-            continue
-        kind, tier = NAMES[name]
-        kind = PIECES.get(str(entity.get("type")), "entrance") if kind == "underground" else kind
-        direction = direction_of(entity, sixteenths)
-        off = [(middle[axis] + (not is_wide(kind, direction, axis))) % 2 for axis in (0, 1)]
-        shift = shift or off
-        if off != shift:
-            raise Unreadable("the entities stand on no one grid")
-        middle = middle[0] - shift[0], middle[1] - shift[1]
-        parts.append(Part(index, kind, tier, direction, cells_of(kind, direction, middle)))
-    if not parts and not strangers:
-        raise Unreadable("the blueprint has no entities")
-    found = Design(parts, strangers)
+        middle = middle_of(entity) if isinstance(entity, dict) else None
+        if middle is not None:
+            name = entity.get("name") if isinstance(entity.get("name"), str) else None
+            part, shift = part_of(index, entity, treated.get(name, name), middle, shift, sixteenths)
+            parts += [part] if part else []
+            others += [] if part else [(index, entity, middle)]
+    if not parts and not others:
+        raise Unreadable("the blueprint has no entities" if not entities else "no entity has a position")
+    shift = shift or (0, 0)
+    moved = [(index, entity, [it - by for it, by in zip(middle, shift)]) for index, entity, middle in others]
+    found = Design(parts, [stranger_of(*it, sixteenths) for it in moved], shift, sixteenths)
     least_x, least_y, most_x, most_y = found.box()
-    if max(most_x - least_x, most_y - least_y) >= WIDEST:
+    if bounded and max(most_x - least_x, most_y - least_y) >= WIDEST:
         raise Unreadable(f"the entities reach over more than {WIDEST} tiles")
     return found
+
+
+def bystanders(text, treated=()):
+    """What stands by in a blueprint's text, which may be more than a picture shows."""
+    try:
+        return [it for it in read(text, bounded=False, treated=treated).strangers if it.stands_by]
+    except Unreadable:
+        return []

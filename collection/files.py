@@ -40,6 +40,12 @@ def write(path, data):
         file.write(data.encode() if isinstance(data, str) else data)
 
 
+def write_new(path, data):
+    """Writes these bytes, unless the file has them already."""
+    if digest_of_file(path) != digest(data):
+        write(path, data)
+
+
 def digest(data):
     return hashlib.sha256(data).hexdigest()
 
@@ -60,6 +66,11 @@ def plain(text):
     """The text without characters that steer what shows it: each of these as its number."""
     steering = ("Cc", "Cf", "Cs", "Co", "Cn", "Zl", "Zp")
     return "".join(f"\\u{ord(it):04x}" if unicodedata.category(it) in steering else it for it in text)
+
+
+def counted(number, word):
+    """So many things of this name."""
+    return f"{number} {word}{'' if number == 1 else 's'}"
 
 
 def slug(name):

@@ -1,12 +1,14 @@
-"""What a collection is made of: the designs in files and folders, with their names, and what is none, and why."""
+"""What a collection is made of: the designs in files and folders, on standard input and in words, with their names, and
+what is none, and why."""
 
 import os
+import re
 import stat
 from dataclasses import dataclass
 from pathlib import Path
 
 from . import strings
-from .books import entries
+from .books import end_of_value, entries
 from .files import digest, plain
 
 MOST_READ = 64 * 2**20
@@ -14,6 +16,16 @@ MOST_READ = 64 * 2**20
 
 BLANKS = b" \t\r\n"
 BYTE_ORDER_MARK = b"\xef\xbb\xbf"
+FENCE = b"```"
+STANDARD_INPUT = "-"
+PASTED = re.compile(r"\s*(?:\{|0e[A-Za-z0-9+/\s]{18}|```)")
+"""How a word begins that is a design itself, and no file's name."""
+JSON_START = re.compile(rb'\{\s*"blueprint(?:_book)?"\s*:')
+"""How a design of JSON begins in the midst of words."""
+
+
+class NotThere(Exception):
+    """Which files there aren't, a line each."""
 
 
 @dataclass
@@ -89,47 +101,93 @@ def from_json(data, name, source):
     return designs
 
 
-def from_strings(data, name, source):
-    """The designs of blueprint strings, one a line."""
-    lines = [(number, line) for number, line in enumerate(data.splitlines(), 1) if line.strip(BLANKS)]
-    designs = []
-    for number, line in lines:
-        called = name if len(lines) == 1 else f"{name}, line {number}"
-        try:
-            data = strings.inflate(line.decode("ascii", "replace"))
-            if not data.lstrip(BLANKS).startswith(b"{"):
-                raise strings.Damaged("the string holds no object of JSON")
-            designs += from_json(data, called, source)
-        except strings.Damaged as fault:
-            designs.append(Design(called, source, "", None, str(fault)))
+def from_strings(text, name, source):
+    """The designs of the blueprint strings in a text."""
+    found, designs, line, at = strings.find(text), [], 1, 0
+    for it in found:
+        line, at = line + text.count("\n", at, it.start), it.start
+        called = name if len(found) == 1 else f"{name}, line {line}"
+        if it.trouble:
+            designs.append(Design(called, source, "", None, it.trouble))
+        elif not it.data.lstrip(BLANKS).startswith(b"{"):
+            designs.append(Design(called, source, "", None, "the string holds no object of JSON"))
+        else:
+            designs += from_json(it.data, called, source)
     return designs
+
+
+def unfenced(data):
+    """A text without the fences around it and in it."""
+    lines = data.splitlines(keepends=True)
+    return b"".join(line for line in lines if not line.lstrip(BLANKS).startswith(FENCE))
 
 
 def from_bytes(data, name, source):
     """The designs in a file's bytes."""
     data = data.removeprefix(BYTE_ORDER_MARK)
+    data = unfenced(data) if data.lstrip(BLANKS).startswith(FENCE) else data
     front = data.lstrip(BLANKS)
     if front.startswith(b"{"):
         return from_json(data, name, source)
-    if front.split(b"\n", 1)[0].split(b" ", 1)[0] == b"net":
-        return [Design(name, source, "", data)]
-    if front[:1].isdigit():
-        return from_strings(data, name, source)
-    return [Design(name, source, "", None, "it is no blueprint string, no JSON and no network text")]
+    if front.split(None, 1)[:1] == [b"net"]:
+        return [Design(name, source, "", data.replace(b"\r\n", b"\n"))]
+    found = from_strings(data.decode("ascii", "replace"), name, source)
+    begin = JSON_START.search(data)
+    if not found and begin:
+        found = from_json(unworded(data[begin.start() :]), name, source)
+    return found or [Design(name, source, "", None, "it is no blueprint string, no JSON and no network text")]
 
 
-def designs_of(paths, output):
-    """The designs in files and folders, in their order; the report's own folder isn't read."""
-    found, output = [], Path(output).resolve()
-    for path in map(Path, paths):
-        for file, fault in files_in(path, output) if path.is_dir() else [(path, None)]:
-            inside = path.is_dir() and file != path
-            name = plain(file.relative_to(path).with_suffix("").as_posix() if inside else file.stem)
-            try:
-                if fault:
-                    raise fault
-                found += from_bytes(read_file(file), name, shown_path(file, path))
-            except OSError as reason:
-                why = f"it can't be read: {reason.strerror or reason}"
-                found.append(Design(name, shown_path(file, path), "", None, why))
+def unworded(data):
+    """A text of JSON without the words behind it, where it can be told where they begin."""
+    text = data.decode("utf-8", "surrogateescape")
+    return text[: end_of_value(text)].encode("utf-8", "surrogateescape")
+
+
+def in_path(path, but):
+    """The designs of a file, or of the files in a folder, but for one folder."""
+    for file, fault in files_in(path, but) if path.is_dir() else [(path, None)]:
+        inside = path.is_dir() and file != path
+        name = plain(file.relative_to(path).with_suffix("").as_posix() if inside else file.stem)
+        try:
+            if fault:
+                raise fault
+            yield from from_bytes(read_file(file), name, shown_path(file, path))
+        except OSError as reason:
+            why = f"it can't be read: {reason.strerror or reason}"
+            yield Design(name, shown_path(file, path), "", None, why)
+
+
+def is_pasted(word):
+    """Whether a word is a design itself."""
+    return not os.path.lexists(word) and PASTED.match(word) is not None
+
+
+def from_standard_input():
+    """The designs on standard input."""
+    name, why = "standard input", f"it is longer than {MOST_READ // 2**20} MB"
+    try:
+        with open(0, "rb", closefd=False) as file:
+            data = file.read(MOST_READ + 1)
+    except OSError as reason:
+        data, why = None, f"it can't be read: {reason.strerror or reason}"
+    if data is None or len(data) > MOST_READ:
+        return [Design(name, name, "", None, why)]
+    return from_bytes(data, name, name)
+
+
+def designs_of(words, output=None):
+    """The designs in files and folders, on standard input and in the words themselves, in their order; the report's own
+    folder isn't read."""
+    missing = [it for it in words if it != STANDARD_INPUT and not is_pasted(it) and not os.path.lexists(it)]
+    if missing:
+        raise NotThere("\n".join(f"{plain(it)}: there is no such file or folder" for it in missing))
+    found, output = [], Path(output).resolve() if output else None
+    for number, word in enumerate(words, 1):
+        if word == STANDARD_INPUT:
+            found += from_standard_input()
+        elif is_pasted(word):
+            found += from_bytes(word.encode("utf-8", "surrogateescape"), f"argument {number}", f"argument {number}")
+        else:
+            found += in_path(Path(word), output)
     return found

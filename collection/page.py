@@ -5,10 +5,11 @@ from html import escape
 from pathlib import Path
 
 from . import files, states, strings
-from .picture import flows
+from .files import counted
+from .flows import flows
 from .rows import LABELS
-from .states import PROMISES, PROPERTIES
-from .work import NETWORK, SETTLED, SMALLER, SMALLER_STRING
+from .states import KNOWN_AS, PROMISES, PROPERTIES
+from .work import DESIGN_JSON, NETWORK, ORIGINAL, SETTLED, SMALLER, SMALLER_STRING
 
 HERE = Path(__file__).resolve().parent
 SIGNS = {"yes": "✓", "no": "✕"}
@@ -20,6 +21,8 @@ WIDEST_BESIDE = 20
 """So many cells wide a picture is at most that stands beside what is told of it."""
 THUMB = 60
 """How wide and how high the small picture in the table is at most."""
+MOST_IN_TABLE, MOST_IN_PAGE = 3, 24
+"""How many bare halves a sentence names at most, in the table and on a design's own page."""
 COLUMNS = ("design", "ends", "splitters", "cells", "tiers", *PROPERTIES, "seconds")
 
 
@@ -34,10 +37,6 @@ def element(name, *content, **members):
 def shown(text):
     """A text that others wrote, as HTML."""
     return f"<bdi>{escape(files.plain(text))}</bdi>"
-
-
-def count(number, word):
-    return f"{number} {word}{'' if number == 1 else 's'}"
 
 
 def badge(told, prop=""):
@@ -87,6 +86,13 @@ def where(row, alone):
     return note(shown(", ".join(filter(None, told)) or row.found.source))
 
 
+def remarks(row, most):
+    """What there is to say of how a design was read, with so many names in each sentence."""
+    kinds = ("warning" if it == row.warning() else "" for it in row.remarks(most))
+    lines = [element("li", shown(it[0].upper() + it[1:]), class_=kind) for it, kind in zip(row.remarks(most), kinds)]
+    return element("ul", *lines, class_="remarks") if lines else ""
+
+
 def who(row, alone):
     """A design's name with its small picture, leading to its page."""
     first = row.same_as or row
@@ -94,7 +100,8 @@ def who(row, alone):
     if row.folder:
         name = element("a", name, href=f"#{first.id()}")
     same = note(f"the same design as {shown(first.found.name)}") if row.same_as else ""
-    return element("div", thumb(first), element("div", name, same, where(row, alone)), class_="who")
+    told = remarks(row, MOST_IN_TABLE)
+    return element("div", thumb(first), element("div", name, same, where(row, alone), told), class_="who")
 
 
 def table_row(row, alone):
@@ -111,6 +118,8 @@ def table_row(row, alone):
     ]
     words = [row.found.name, row.found.source, f"{net.inputs} to {net.outputs}", *row.tiers()]
     words += [f"{prop}:{row.answer(prop)['verdict']}" for prop in PROPERTIES]
+    marks = ("bare", row.bare), ("opened", row.of_reading("opened")), ("warning", row.warning())
+    words += [word for word, told in marks if told]
     head = element("th", who(row, alone), scope="row", data_sort=files.plain(row.found.name).lower())
     rest = (
         element("td", content, data_label=label, data_sort=sort) for label, (content, sort) in zip(COLUMNS[1:], cells)
@@ -131,20 +140,20 @@ def facts(row):
     told, net, size, (parts, _) = [], row.net, row.size(), row.design
     if net:
         kinds = ((net.inputs, "input"), (net.outputs, "output"), (net.splitters, "splitter"), (len(net.edges), "edge"))
-        told.append(("Network", ", ".join(count(*it) for it in kinds)))
+        told.append(("Network", ", ".join(counted(*it) for it in kinds)))
     if size:
         told.append(("Cells", f"{size[0]} × {size[1]}"))
     for tier, kinds in row.tiers().items():
         under = kinds["entrance"] + kinds["exit"]
         words = ((kinds["belt"], "belt"), (under, "underground end"), (kinds["splitter"], "splitter"))
-        told.append(("Parts", f"{tier_mark(tier)} {', '.join(count(*it) for it in words if it[0])}"))
-    if parts and parts.strangers:
-        names = Counter(it.name for it in parts.strangers)
+        told.append(("Parts", f"{tier_mark(tier)} {', '.join(counted(*it) for it in words if it[0])}"))
+    names = Counter(it.name for it in parts.strangers if not it.stands_by) if parts else None
+    if names:
         told.append(("Others", ", ".join(f"{number} × {shown(name)}" for name, number in names.items())))
     told.append(("From", shown(row.found.source + (f", place {row.found.place}" if row.found.place else ""))))
-    kept = [row.found.file(), *([NETWORK] if net else [])]
+    kept = [row.found.file(), *([ORIGINAL] if row.is_changed() else []), *([NETWORK] if net else [])]
     told.append(("Files", ", ".join(element("a", name, href=f"designs/{row.id()}/{name}") for name in kept)))
-    told.append(("Digest", element("code", row.found.digest()[:16])))
+    told.append(("Digest", element("code", row.judged_digest()[:16])))
     lines = (element("div", element("dt", key), element("dd", value)) for key, value in told)
     return element("dl", *lines, class_="facts")
 
@@ -155,7 +164,7 @@ def about(row, told):
     if not told.get("file"):
         return why
     breaks = told["file"].startswith("not")
-    what = "breaking state" if breaks else f"certificate of {count(told['steps'], 'step')}"
+    what = "breaking state" if breaks else f"certificate of {counted(told['steps'], 'step')}"
     link = element("a", what, href=f"designs/{row.id()}/{told['file']}")
     return link + (", accepted" if told["verdict"] in SETTLED else f". {why}")
 
@@ -166,9 +175,22 @@ def verdicts(row):
     for prop in PROPERTIES:
         told = row.answer(prop)
         seconds = note(spent_time(told["seconds"])) if "seconds" in told else ""
-        head = element("th", prop, note(PROMISES[prop]), scope="row")
+        head = element("th", prop, note(KNOWN_AS[prop]), note(PROMISES[prop]), scope="row")
         lines.append(element("tr", head, element("td", badge(told)), element("td", about(row, told), " ", seconds)))
     return element("table", element("tbody", *lines), class_="verdicts")
+
+
+def marks_legend(row):
+    """What the marks on a design's picture mean, those that are there."""
+    parts, _ = row.design
+    told = [
+        (row.bare, "hollow: a half to which no belt leads"),
+        (row.of_reading("belts"), "dashed rims: belts that were added"),
+        (any(it.give or it.take for it in parts.parts), "triangle: a side that a splitter prefers"),
+        (row.refused and row.refused.places, "red: what is refused"),
+    ]
+    shown_ = [element("span", words) for there, words in told if there]
+    return element("p", *shown_, class_="legend") if shown_ else ""
 
 
 def legend(unit):
@@ -218,9 +240,9 @@ def smaller(row):
         return element("section", heading, element("p", shown(told["why"])), class_="smaller")
     width, height = told["size"]
     own = row.size()
-    than = f", where the design has {own[0]} × {own[1]}, {count(own[0] * own[1], 'cell')}" if own else ""
+    than = f", where the design has {own[0]} × {own[1]}, {counted(own[0] * own[1], 'cell')}" if own else ""
     links = " and ".join(element("a", it, href=f"designs/{row.id()}/{it}") for it in (SMALLER, SMALLER_STRING))
-    said = element("p", f"{width} × {height}, {count(width * height, 'cell')}{than}: ", links)
+    said = element("p", f"{width} × {height}, {counted(width * height, 'cell')}{than}: ", links)
     picture = row.smaller_picture
     label = f"{files.plain(row.found.name)}, laid out smaller"
     drawn = figure(picture, picture.parts(f"s-{row.id()}") + picture.ends(), label)
@@ -240,6 +262,7 @@ def page(row, before, after):
     if picture:
         label = f"{files.plain(row.found.name)}, drawn from its parts"
         drawn = figure(picture, f'<use href="#p-{row.id()}"/>{picture.ends()}', label)
+        drawn += marks_legend(row)
     drawn += note(shown(lack)) if lack else ""
     told = facts(row) + (verdicts(row) if row.net else "")
     small = not picture or picture.box[2] <= WIDEST_BESIDE
@@ -248,10 +271,14 @@ def page(row, before, after):
     shows = element("div", *(breaking(row, prop) for prop in noes), class_="states") if noes else ""
     string = ""
     if row.found.is_json():
-        summary = element("summary", "Blueprint string, to paste into the game")
-        string = element("details", summary, element("code", strings.deflate(row.found.text), class_="string"))
+        opened = row.of_reading("opened")
+        text = row.folder.file(DESIGN_JSON).read_bytes() if opened else row.found.text
+        what = ", with the belts that were added" if opened else ""
+        summary = element("summary", f"Blueprint string, to paste into the game{what}")
+        string = element("details", summary, element("code", strings.deflate(text), class_="string"))
     less = smaller(row) if row.smaller else ""
-    content = ways, element("h2", shown(name)), refused, both, shows, less, string
+    told = remarks(row, MOST_IN_PAGE)
+    content = ways, element("h2", shown(name)), refused, told, both, shows, less, string
     return element("article", *content, class_="page", id=row.id())
 
 
@@ -267,6 +294,11 @@ def summary(rows):
     )
 
 
+CERTIFICATES = (
+    "A certificate is good for this: who has it and the design can be sure of the property, for every load and "
+    "blocking, without trust in its author or in this program, by checking it with a program of their own."
+)
+
 SEARCH = (
     '<p class="search" hidden><label for="words">Search</label><input id="words" type="search" autocomplete="off" '
     'placeholder="words, or unlimited:no"><output id="left" for="words"></output></p>'
@@ -276,10 +308,13 @@ SEARCH = (
 def front(rows, title, program):
     """The first page: the table of all designs, and what has no network."""
     alone = len({row.found.source for row in rows}) == 1
-    head = element("tr", *(element("th", it, scope="col") for it in COLUMNS))
+    head = element("tr", *(element("th", it, scope="col", title=KNOWN_AS.get(it, "")) for it in COLUMNS))
     lines = (table_row(row, alone) for row in rows if row.net)
     table = element("table", element("thead", head), element("tbody", *lines), class_="designs", id="designs")
-    promises = (element("div", element("dt", prop), element("dd", words)) for prop, words in PROMISES.items())
+    promises = (
+        element("div", element("dt", prop), element("dd", element("em", KNOWN_AS[prop]), f": {words}"))
+        for prop, words in PROMISES.items()
+    )
     content = [element("header", element("h1", shown(title)), summary(rows))]
     content += [element("dl", *promises, class_="promises"), SEARCH, element("div", table, class_="wide")]
     others = [refused_row(row, alone) for row in rows if not row.net]
@@ -293,7 +328,8 @@ def front(rows, title, program):
         element("a", "results.tsv", href="results.tsv"),
         ", one line for each design and property.",
     )
-    return element("main", *content, element("footer", *words), id="all", class_="front")
+    foot = element("footer", element("p", *words), element("p", CERTIFICATES))
+    return element("main", *content, foot, id="all", class_="front")
 
 
 def whole(rows, title, program):

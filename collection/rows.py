@@ -1,11 +1,12 @@
 """The rows of a report: a design each, with what became of it and what is drawn of it."""
 
-from dataclasses import dataclass, field
+from dataclasses import dataclass, field, replace
 from functools import cached_property
 
-from . import design, refusals, states, trace
-from .picture import Picture
-from .work import NETWORK, SMALLER, SMALLER_STRING
+from . import design, labels, refusals, states, trace
+from .files import counted
+from .picture import Marks, Picture
+from .work import DESIGN_JSON, NETWORK, SMALLER, SMALLER_STRING
 
 LABELS = {
     "yes": "yes",
@@ -19,6 +20,10 @@ LABELS = {
     "open": "not yet",
 }
 """How the report calls the verdicts, in the order in which it sorts them."""
+
+
+MOST_LISTED = 8
+"""How many bare halves a sentence names at most."""
 
 
 @dataclass
@@ -44,7 +49,17 @@ class Row:
         """Why this is no design of belts, or couldn't be dealt with, in words; None where it has a network."""
         if self.found.trouble or self.trouble:
             return self.found.trouble or self.trouble
-        return refusals.told(self.refusal(), self.text) if self.refusal() else None
+        return self.refused.words if self.refused else None
+
+    @cached_property
+    def refused(self):
+        """The program's refusal in words, with its places."""
+        return refusals.refusal(self.refusal(), self.text) if self.refusal() else None
+
+    def is_broken(self):
+        """Whether this is no design at all, whatever the program would say of one."""
+        number = refusals.number_of(self.refusal() or "")
+        return self.found.text is None or number in refusals.BROKEN
 
     def answer(self, prop):
         """What became of a property."""
@@ -52,7 +67,59 @@ class Row:
 
     @cached_property
     def text(self):
+        """The design's text as it is judged."""
+        if self.folder and self.network and self.folder.file(DESIGN_JSON).is_file():
+            return self.folder.text(DESIGN_JSON)
         return self.found.text.decode("utf-8", "replace") if self.found.text is not None else ""
+
+    def judged_digest(self):
+        """The digest of the design as it is judged."""
+        return (self.folder.record.get("judged") if self.folder else None) or self.found.digest()
+
+    def is_changed(self):
+        """Whether what is judged is another text than what came."""
+        return self.judged_digest() != self.found.digest()
+
+    def of_reading(self, name):
+        """What is told of how the design was read: a list, or a number."""
+        return (self.network or {}).get(name) or []
+
+    @cached_property
+    def bare(self):
+        """The bare halves that are left, by their places."""
+        parts, _ = self.design
+        return [trace.place_of(parts.parts, it) for it in trace.bare_ends(parts.parts)] if parts else []
+
+    def ends(self):
+        """How many inputs and outputs the network has, in words."""
+        return f"{self.net.inputs} to {self.net.outputs}" if self.net else ""
+
+    def warning(self):
+        """What is amiss with the number of ends, in words, where the label tells of others; or None."""
+        pairs = labels.told(self.found.label())
+        if not self.net or not pairs or (self.net.inputs, self.net.outputs) in pairs:
+            return None
+        said = f"its label says {labels.spelled(pairs)}, but its network is {self.ends()}"
+        would = tuple(self.of_reading("would"))
+        if self.of_reading("opened"):
+            said += ", with belts at its bare halves"
+        elif would and would != (self.net.inputs, self.net.outputs):
+            said += f", and with belts at its bare halves it would be {labels.spelled([would])}"
+        else:
+            return f"{said}: a belt may be missing, or be one too many"
+        return f"{said}: which of them are meant can't be known, so put a belt at each one that is an end"
+
+    def remarks(self, most=MOST_LISTED):
+        """What there is to say of how the design was read, in sentences without stops, with so many halves each."""
+        opened, unopened = self.of_reading("opened"), self.of_reading("unopened")
+        told = [self.warning()] if self.warning() else []
+        belts = counted(self.of_reading("belts") or 0, "belt")
+        told += [f"opened by {belts}: {trace.spelled(opened, most)}"] if opened else []
+        told += [f"bare halves: {trace.spelled(self.bare, most)}"] if self.bare and self.net else []
+        reasons = [f"{trace.spelled([place])}, since {why}" for place, why in unopened[:most]]
+        more = f", and {len(unopened) - most} more" if len(unopened) > most else ""
+        told += [f"not opened: {'; '.join(reasons)}{more}"] if unopened else []
+        return told + self.of_reading("notes")
 
     @cached_property
     def net_text(self):
@@ -71,9 +138,20 @@ class Row:
         if not self.found.is_json():
             return None, "A network text has no parts, so there is no picture."
         try:
-            return design.read(self.text), None
+            found = design.read(self.text)
         except design.Unreadable as reason:
             return None, f"There is no picture: {reason}."
+        return replace(found, strangers=found.strangers + self.left_out(found)), None
+
+    def left_out(self, found):
+        """What stood by and was left out, among the parts and next to them."""
+        if not self.of_reading("notes"):
+            return []
+        least_x, least_y, most_x, most_y = found.box()
+        treated = [tuple(it) for it in self.of_reading("asked")[1:]]
+        them = design.bystanders(self.found.text.decode("utf-8", "replace"), treated)
+        near = range(least_x - 1, most_x + 2), range(least_y - 1, most_y + 2)
+        return [it for it in them if any(x in near[0] and y in near[1] for x, y in it.cells)]
 
     def tiers(self):
         parts, _ = self.design
@@ -84,7 +162,8 @@ class Row:
         parts, _ = self.design
         if not parts:
             return None
-        least_x, least_y, most_x, most_y = parts.box()
+        cells = [cell for it in parts.parts or parts.strangers for cell in it.cells]
+        least_x, least_y, most_x, most_y = design.box_of(cells)
         return most_x - least_x + 1, most_y - least_y + 1
 
     @cached_property
@@ -93,10 +172,11 @@ class Row:
         if not self.smaller or self.smaller["verdict"] != "found":
             return None
         parts = design.read(self.folder.text(SMALLER))
+        marks = Marks(tuple(trace.bare_ends(parts.parts)))
         try:
-            return Picture(parts, trace.Layout(parts.parts).network())
+            return Picture(parts, trace.Layout(parts.parts).network(), marks)
         except trace.Untraced:
-            return Picture(parts)
+            return Picture(parts, marks=marks)
 
     def smaller_string(self):
         """The smaller layout as a string to paste."""
@@ -108,12 +188,15 @@ class Row:
         parts, reason = self.design
         if parts is None:
             return None, reason
+        added = frozenset(range(len(parts.parts) - (self.of_reading("belts") or 0), len(parts.parts)))
+        marks = Marks(tuple(trace.bare_ends(parts.parts)), added, self.refused.places if self.refused else ())
         if self.net is None:
-            return Picture(parts, marked=refusals.marked(self.refusal() or "")), None
+            return Picture(parts, marks=marks), None
+        lack = "Ends and states aren't drawn: "
         try:
             network = trace.Layout(parts.parts).network()
         except trace.Untraced as reason:
-            return Picture(parts), f"Ends and states aren't drawn: as traced for the picture, {reason}."
+            return Picture(parts, marks=marks), f"{lack}as traced for the picture, {reason}."
         if not trace.same_network(network, self.net_text):
-            return Picture(parts), "Ends and states aren't drawn: traced for the picture, the network is another one."
-        return Picture(parts, network), None
+            return Picture(parts, marks=marks), f"{lack}traced for the picture, the network is another one."
+        return Picture(parts, network, marks), None

@@ -12,6 +12,13 @@ PROMISES = {
     "full": "the same as unlimited, where every input is fully loaded and no output is blocked",
 }
 
+KNOWN_AS = {
+    "balanced": "output balanced",
+    "drawn-evenly": "input balanced (equal drain)",
+    "unlimited": "throughput unlimited (TU)",
+    "full": "full throughput with everything open",
+}
+"""What players call the properties."""
 
 MOST_LISTED = 24
 """How many numbers a sentence has at most."""

@@ -1,38 +1,106 @@
-"""Blueprint strings: a version byte, and then, in base64, JSON that is compressed with zlib."""
+"""Blueprint strings: a version byte, and then, in base64, JSON that is compressed with zlib.
+
+They are found as they are pasted: over several lines, with words or fences around them, without padding. Where a string
+ends is told by what it holds, so that whatever follows is none of it."""
 
 import base64
-import binascii
+import re
 import zlib
+from dataclasses import dataclass
 
 MOST_INFLATED = 64 * 2**20
 """How many bytes a string inflates to at most."""
 
 VERSION = "0"
+SIGNS = "A-Za-z0-9+/"
+BLOCK = re.compile(rf"\s*([{SIGNS}]{{1,65536}})")
+START = re.compile(rf"(?<![{SIGNS}=])0(?=e[{SIGNS}]{{18}})")
+"""Where a string begins in the midst of words: its content begins with zlib's own sign."""
+LINE = re.compile(r"\s*(0\S*)[ \t]*\r?(?:\n|\Z)")
+"""A line of one word that begins with the version byte: where a string may begin, it is one, or a damaged one."""
+FIRST = re.compile(r"\s*(\d\S*)[ \t]*\r?(?:\n|\Z)")
+"""The same of a text's first line: with another version byte too."""
+PADDING, SIGN, WORD = re.compile("=*"), re.compile(f"[{SIGNS}]"), re.compile(r"\S*")
 
 
 class Damaged(Exception):
     """Why a text is no blueprint string, in words."""
 
 
+@dataclass(frozen=True)
+class Found:
+    """A string in a text: where it begins, and what it holds, or why it is damaged."""
+
+    start: int
+    data: bytes | None
+    trouble: str | None = None
+
+
+def decoded(signs):
+    """The bytes of base64 without its padding, of as many signs as one likes."""
+    try:
+        return base64.b64decode(signs + "=" * (-len(signs) % 4), validate=True)
+    except ValueError as fault:
+        raise Damaged(f"the string is damaged: it is no base64 ({fault})") from None
+
+
+def held_at(text, start):
+    """What the string that begins here holds, and where it ends."""
+    if text[start : start + 1] != VERSION:
+        there = repr(text[start : start + 1])
+        raise Damaged(f"a blueprint string begins with {VERSION}, its version byte, and not with {there}")
+    unpacking, held, size, at, rest = zlib.decompressobj(), [], 0, start + 1, ""
+    while True:
+        block = BLOCK.match(text, at)
+        at, begin = (block.end(), block.start(1)) if block else (at, at)
+        signs = rest + (block[1] if block else "")
+        packed = decoded(signs[: len(signs) - (len(signs) % 4 if block else 0)])
+        rest = signs[len(signs) - len(signs) % 4 :]
+        try:
+            held.append(unpacking.decompress(packed, MOST_INFLATED + 1 - size))
+        except zlib.error as fault:
+            raise Damaged(f"the string is damaged: it doesn't inflate ({fault})") from None
+        size += len(held[-1])
+        if size > MOST_INFLATED:
+            raise Damaged(f"the string inflates past {MOST_INFLATED // 2**20} MB")
+        if unpacking.eof:
+            needed = -(-(len(packed) - len(unpacking.unused_data)) * 4 // 3)
+            return b"".join(held), past_padding(text, max(begin, at - (len(signs) - needed)))
+        if block is None:
+            sign = text[at : at + 1].strip("= \t\r\n")
+            why = f"it is no base64 where {sign!r} stands" if sign else "it ends too early"
+            raise Damaged(f"the string is damaged: {why}")
+
+
+def past_padding(text, at):
+    """The place behind a string's end and its padding; a fault where more of a word stands there."""
+    end = PADDING.match(text, at).end()
+    if SIGN.match(text, end):
+        raise Damaged("the string is damaged: more follows where its content ends")
+    return end
+
+
+def find(text):
+    """The strings in a text, whole or damaged, in order."""
+    found, at = [], 0
+    while True:
+        line, start = (LINE if at else FIRST).match(text, at), START.search(text, at)
+        if line is None and start is None:
+            return found
+        begin = line.start(1) if line else start.start()
+        try:
+            data, at = held_at(text, begin)
+            found.append(Found(begin, data))
+        except Damaged as fault:
+            found.append(Found(begin, None, str(fault)))
+            at = WORD.match(text, begin).end()
+
+
 def inflate(string):
     """The bytes that a blueprint string holds."""
     string = string.strip()
-    if not string.startswith(VERSION):
-        raise Damaged(f"a blueprint string begins with {VERSION}, its version byte, and not with {string[:1]!r}")
-    try:
-        packed = base64.b64decode(string[len(VERSION) :], validate=True)
-    except (binascii.Error, ValueError) as fault:
-        raise Damaged(f"the string is damaged: it is no base64 ({fault})") from None
-    unpacking = zlib.decompressobj()
-    try:
-        data = unpacking.decompress(packed, MOST_INFLATED + 1)
-    except zlib.error as fault:
-        raise Damaged(f"the string is damaged: it doesn't inflate ({fault})") from None
-    if len(data) > MOST_INFLATED:
-        raise Damaged(f"the string inflates past {MOST_INFLATED // 2**20} MB")
-    if not unpacking.eof:
-        raise Damaged("the string is damaged: it ends too early")
-    if unpacking.unused_data:
+    data, end = held_at(string, 0)
+    if string[end:]:
         raise Damaged("the string is damaged: more follows where its content ends")
     return data
 

@@ -63,6 +63,49 @@ def exit_ahead(parts, at, entrance):
     return None
 
 
+@dataclass(frozen=True)
+class Bare:
+    """An end of a splitter's half to which no belt leads: the splitter's number among the parts, the number of the
+    half's cell, and whether it is the end in front, where nothing takes, or that at the back, which nothing feeds."""
+
+    part: int
+    half: int
+    front: bool
+
+
+def bare_ends(parts):
+    """The bare ends of all halves, in the order of the parts, and of a half that at the back first."""
+    at, found = standing(parts), []
+    for number, part in enumerate(parts):
+        for half, cell in enumerate(part.cells if part.kind == "splitter" else ()):
+            behind = at.get(step(cell, part.direction, -1))
+            feeder = parts[behind.part] if behind else None
+            if not feeder or feeder.kind == "entrance" or feeder.direction != part.direction:
+                found.append(Bare(number, half, False))
+            if step(cell, part.direction) not in at:
+                found.append(Bare(number, half, True))
+    return found
+
+
+def tile(cell):
+    return f"({cell[0]}, {cell[1]})"
+
+
+def place_of(parts, bare):
+    """A bare end as what it would be, an input or an output, and the cell of its half."""
+    return "output" if bare.front else "input", *parts[bare.part].cells[bare.half]
+
+
+def spelled(places, most=None):
+    """Such places in words, so many at most."""
+    more = 0 if most is None else max(0, len(places) - most)
+    told = []
+    for word in ("input", "output"):
+        tiles = [tile(cell) for kind, *cell in places[: len(places) - more] if kind == word]
+        told += [f"{word}{'s' * (len(tiles) > 1)} at {', '.join(tiles)}"] if tiles else []
+    return " and ".join(told) + (f", and {more} more" if more else "")
+
+
 class Layout:
     """Parts with what each hands on to."""
 

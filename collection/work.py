@@ -1,20 +1,23 @@
 """What is done for each design: its network, each property decided, each answer checked, and a smaller layout.
 
 All of it is kept in the design's folder, with a record of what was done by which program. What the record tells is not
-done again, as long as the files are there and are what they were."""
+done again, as long as the files are there and are what they were. The design is kept as it is judged, and where that
+isn't as it came, it is kept as it came too."""
 
 import json
 import threading
 from dataclasses import dataclass, field
 from pathlib import Path
 
-from . import design, files, strings
+from . import cleaning, design, files, openings, strings
 from .program import EXACT_STATUSES
 from .states import PROPERTIES
 
 RECORD = "record.json"
 NETWORK = "network.net"
-DESIGN_JSON = "design.json"
+DESIGN_JSON, DESIGN_NET = "design.json", "design.net"
+ORIGINAL = "original.json"
+"""The design as it came, where what is judged is another text."""
 LONGEST_LINE = 4096
 SETTLED = ("yes", "no")
 GAVE_UP = ("spent", "pivots", "wide", "late", "unaccepted")
@@ -24,6 +27,8 @@ SMALLER, SMALLER_STRING, SMALLER_NETWORK = "smaller.json", "smaller.txt", "small
 """A smaller blueprint, the string to paste of it, and the network that is recovered from it."""
 FOUND = ("found", "none", "refused", "late")
 """What looking for a smaller layout may come to, but for failures."""
+REFUSED = 3
+"""The program's status where it refuses a design."""
 VERDICT_OF = {0: "yes", 1: "no", 4: "spent", 5: "wide", 10: "pivots"}
 
 
@@ -57,7 +62,7 @@ class Folder:
 
     def read(self):
         try:
-            record = json.loads((self.path / RECORD).read_text())
+            record = json.loads((self.path / RECORD).read_text("utf-8"))
         except (OSError, ValueError, RecursionError):
             return {}
         return record if isinstance(record, dict) and isinstance(record.get("decided", {}), dict) else {}
@@ -69,16 +74,22 @@ class Folder:
         return self.path / name
 
     def text(self, name):
-        return self.file(name).read_text()
+        return self.file(name).read_text("utf-8", "replace")
+
+    def first_file(self, *names):
+        return next((self.file(it) for it in names if self.file(it).is_file()), None)
 
     def design_file(self):
-        """The design's own file, or None."""
-        there = [it for it in (self.file(DESIGN_JSON), self.file("design.net")) if it.is_file()]
-        return there[0] if there else None
+        """The file of the design as it is judged, or None."""
+        return self.first_file(DESIGN_JSON, DESIGN_NET)
+
+    def original_file(self):
+        """The file of the design as it came, or None."""
+        return self.first_file(ORIGINAL, DESIGN_JSON, DESIGN_NET)
 
     def digest(self):
-        """The digest of the design, as the record tells it, or of the design's file; None where there is none."""
-        file = self.design_file()
+        """The digest of the design as it came, as the record tells it, or of its file; None where there is none."""
+        file = self.original_file()
         return self.record.get("design") or (files.digest_of_file(file) if file else None)
 
     def network(self):
@@ -86,7 +97,9 @@ class Folder:
         told = self.record.get("network")
         if not isinstance(told, dict):
             return None
+        file, judged = self.design_file(), self.record.get("judged")
         same = "digest" not in told or told["digest"] == files.digest_of_file(self.file(NETWORK))
+        same = same and (judged is None or file is not None and files.digest_of_file(file) == judged)
         return told if same else None
 
     def decided(self, prop):
@@ -115,6 +128,19 @@ class Folder:
             answers = (f"{word}-{prop}.txt" for word in ANSWERS.values() for prop in PROPERTIES)
             for name in [NETWORK, SMALLER, SMALLER_STRING, *answers]:
                 self.file(name).unlink(missing_ok=True)
+
+    def put(self, judged, original):
+        """Writes the design as it is judged, and where that is another text, as it came. What was answered to another
+        text is forgotten."""
+        digest = files.digest(judged)
+        if self.record.get("judged", digest) != digest:
+            self.forget({key: it for key, it in self.record.items() if key in ("design", "program", "name", "label")})
+        if judged != original:
+            files.write_new(self.file(ORIGINAL), original)
+        files.write_new(self.file(DESIGN_JSON), judged)
+        if judged == original:
+            self.file(ORIGINAL).unlink(missing_ok=True)
+        self.record["judged"] = digest
 
     def keep(self, **told):
         with self.guard:
@@ -154,6 +180,10 @@ def tier_words(text):
     return ["--tier", tiers[0]] if len(tiers) == 1 else []
 
 
+def encoded(text):
+    return text.encode("utf-8", "surrogateescape")
+
+
 def first_line(path):
     with open(path, "rb") as file:
         return file.readline(LONGEST_LINE).decode("ascii", "replace").rstrip("\n")
@@ -184,6 +214,21 @@ def how_it_ended(ended):
     return told.get(ended.status, f"the program ended with status {ended.status}")
 
 
+class NoAnswer(Exception):
+    """How a run ended that has no answer."""
+
+
+@dataclass(frozen=True)
+class Reading:
+    """How designs are read: when bare halves are opened, and which names are taken for others."""
+
+    bare_ends: str = "label"
+    treated: tuple = ()
+
+    def told(self):
+        return [self.bare_ends, *map(list, self.treated)]
+
+
 @dataclass
 class Worker:
     """Does the work on folders, with a program and within limits."""
@@ -192,36 +237,72 @@ class Worker:
     limits: Limits = field(default_factory=Limits)
     smaller: bool = False
     """Whether smaller layouts are looked for."""
+    reading: Reading = field(default_factory=Reading)
 
-    def begin(self, folder, name, design, file):
+    def begin(self, folder, name, label, text, file):
         """Puts a design into its folder. What is there of another design or program is forgotten."""
-        digest = files.digest(design)
+        digest = files.digest(text)
         record = folder.record
         if record.get("design") != digest or record.get("program") != self.program.digest:
             folder.forget({"design": digest, "program": self.program.digest})
-        folder.record["name"] = name
-        if files.digest_of_file(folder.file(file)) != digest:
-            files.write(folder.file(file), design)
+        folder.record |= {"name": name, "label": label}
+        original = folder.original_file()
+        if original is None or files.digest_of_file(original) != digest:
+            folder.file(ORIGINAL).unlink(missing_ok=True)
+            files.write(folder.file(file), text)
         if folder.read() != folder.record:
             folder.keep()
 
+    def ask(self, folder, text):
+        """What `recover` says of a text: its network, or its refusal."""
+        asked = folder.file(f"{NETWORK}{files.UNDONE}")
+        try:
+            with open(asked, "wb") as out:
+                ended = self.program.run(["recover"], [text], out)
+            answer = asked.read_text("ascii", "replace") if ended.status == 0 else first_line(asked)
+            if ended.status not in EXACT_STATUSES or not answer:
+                raise NoAnswer(ended)
+            return answer
+        finally:
+            asked.unlink(missing_ok=True)
+
     def recover(self, folder):
-        """Finds the design's network, or the refusal."""
+        """Finds the network of the design as it is judged, or the refusal."""
         told = folder.network()
-        if told is not None:
+        if told is not None and told.get("asked") == self.reading.told():
             return told
-        with files.replacing(folder.file(NETWORK)) as out:
-            ended = self.program.run(["recover"], [folder.design_file()], out)
-            size = out.tell()
-        kept = {"status": ended.status}
-        if ended.status == 0:
-            kept["digest"] = files.digest_of_file(folder.file(NETWORK))
+        file = folder.original_file()
+        try:
+            if file.name == DESIGN_NET:
+                answer, kept = self.ask(folder, file.read_bytes()), {}
+            else:
+                answer, kept = self.judge(folder, file.read_bytes())
+        except NoAnswer as ended:
+            return {"status": ended.args[0].status, "line": how_it_ended(ended.args[0])}
+        kept |= {"asked": self.reading.told(), "status": 0 if answer.startswith("net ") else REFUSED}
+        if kept["status"] == 0:
+            files.write(folder.file(NETWORK), answer)
+            kept["digest"] = files.digest(answer.encode())
         else:
-            kept["line"] = first_line(folder.file(NETWORK)) if size else how_it_ended(ended)
-            folder.file(NETWORK).unlink()
-        if ended.status in EXACT_STATUSES:
-            folder.keep(network=kept)
+            kept["line"] = answer
+        folder.keep(network=kept)
         return kept
+
+    def judge(self, folder, data):
+        """Puts a blueprint into its folder as it is judged; the program's answer, and what is told of it."""
+        text = data.decode("utf-8", "surrogateescape")
+        clean = cleaning.cleaned(text, self.reading.treated)
+        kept = {"notes": clean.notes}
+        try:
+            bystanders = design.bystanders(text, self.reading.treated)
+            opening = openings.Opening(clean.text, bystanders, lambda it: self.ask(folder, encoded(it)))
+            found = openings.opened(opening, self.reading.bare_ends, folder.record.get("label", ""))
+            judged, answer = found.text, found.answer
+            kept |= {name: getattr(found, name) for name in ("belts", "opened", "unopened", "before", "after", "would")}
+        except openings.Refused as refusal:
+            judged, answer = clean.text, str(refusal)
+        folder.put(encoded(judged), data)
+        return answer, kept
 
     def decide(self, folder, prop):
         """Decides a property and checks the answer; what the record tells is not done again."""

@@ -99,7 +99,7 @@ class Books(Case):
 
 class Files(Case):
     def found(self, *paths):
-        return [(it.name, it.source, it.trouble) for it in inputs.designs_of(paths, self.report)]
+        return [(it.name, it.source, it.trouble) for it in inputs.designs_of(list(map(str, paths)), self.report)]
 
     def test_a_folder_is_read_whole(self):
         self.write("in/a.json", blueprint(belt(0, 0)))
@@ -109,7 +109,7 @@ class Files(Case):
         self.write("in/e", b"")
         self.write("in/f.json", b'\xef\xbb\xbf  {"a"')
         os.mkfifo(self.folder / "in" / "pipe")
-        told = self.found(self.folder / "in", self.folder / "missing.txt")
+        told = self.found(self.folder / "in")
         none = "it is no blueprint string, no JSON and no network text"
         self.assertEqual(
             [(name, source) for name, source, _ in told],
@@ -122,13 +122,13 @@ class Files(Case):
                 ("named", "in/deep/c.txt"),
                 ("deep/c, line 4", "in/deep/c.txt"),
                 ("deep/er/b", "in/deep/er/b.net"),
-                ("missing", "missing.txt"),
             ],
         )
         troubles = [trouble for _, _, trouble in told]
         self.assertEqual(troubles[:6], [None, none, none, None, "it can't be read: it is no file", None])
-        self.assertIn("no base64", troubles[6])
-        self.assertIn("No such file", troubles[8])
+        self.assertIn("doesn't inflate", troubles[6])
+        with self.assertRaisesRegex(inputs.NotThere, "missing.txt: there is no such file or folder"):
+            self.found(self.folder / "in", self.folder / "missing.txt")
 
     def test_the_report_is_not_read(self):
         self.write("in/a.net", "net")

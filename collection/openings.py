@@ -1,0 +1,236 @@
+"""Bare halves of splitters, and how they are opened: with belts of the splitter's tier, straight from the half to one
+cell beyond the border of the design. What comes out has the network of before and just these ends more, by the
+program's own word; a half for which that isn't so stays bare."""
+
+from bisect import bisect_left
+from collections import defaultdict
+from dataclasses import dataclass, replace
+
+from . import design, labels, refusals
+from .design import EAST, PREFIXES, SOUTH, step
+from .entities import listed
+from .trace import Layout, Untraced, bare_ends, place_of, same_network, spelled, tile
+
+NO_ENDS = "refused 42 "
+
+
+class Refused(Exception):
+    """Why a design has no network, as the program says it."""
+
+
+@dataclass(frozen=True)
+class Way:
+    """The belts from a bare end to beyond the border: the end's place, its splitter, whether it is an output, and the
+    belts' cells from the half on; or why there is no way."""
+
+    place: tuple
+    splitter: object
+    front: bool
+    cells: tuple
+    why: str | None = None
+
+
+@dataclass(frozen=True)
+class Opened:
+    """A design with some of its bare halves opened."""
+
+    text: str
+    answer: str
+    """The program's network of it, or its refusal."""
+    belts: int
+    """How many belts were added, behind all other entities."""
+    opened: list
+    unopened: list
+    """The ends that can't be opened, each with the reason."""
+    before: tuple
+    """How many inputs and outputs there were, are, and would be with all open that can be."""
+    after: tuple
+    would: tuple
+
+
+class Ground:
+    """The cells that are taken, by row and by column, and by what."""
+
+    def __init__(self, found, bystanders):
+        self.taken = {cell: it.name for it in bystanders for cell in it.cells}
+        self.taken |= {cell: f"the {part.kind}" for part in found.parts for cell in part.cells}
+        self.box = design.box_of([cell for part in found.parts for cell in part.cells])
+        lines = defaultdict(list)
+        for cell in self.taken:
+            for axis in (0, 1):
+                lines[axis, cell[1 - axis]].append(cell[axis])
+        self.lines = {key: sorted(them) for key, them in lines.items()}
+
+    def first_taken(self, cell, direction):
+        """The first taken cell ahead, or None."""
+        axis = 0 if direction in (EAST, design.WEST) else 1
+        line = self.lines[axis, cell[1 - axis]]
+        ahead = direction in (EAST, SOUTH)
+        at = bisect_left(line, cell[axis]) + (1 if ahead else -1)
+        if not 0 <= at < len(line):
+            return None
+        return (line[at], cell[1]) if axis == 0 else (cell[0], line[at])
+
+    def to_border(self, cell, direction):
+        """How many cells lie between this one and that beyond the border ahead, which counts."""
+        least_x, least_y, most_x, most_y = self.box
+        return {0: cell[1] - least_y, 1: most_x - cell[0], 2: most_y - cell[1], 3: cell[0] - least_x}[direction] + 1
+
+
+def ways_of(found, bystanders, most):
+    """The ways of all bare ends, with so many belts at most. No two of them cross: the shorter goes before."""
+    ground, ways, used = Ground(found, bystanders), {}, {}
+    ends = []
+    for bare in bare_ends(found.parts):
+        part = found.parts[bare.part]
+        direction, cell = (part.direction if bare.front else (part.direction + 2) % 4), part.cells[bare.half]
+        ends.append((ground.to_border(cell, direction), bare, part, direction, cell))
+    for count, bare, part, direction, cell in sorted(ends, key=lambda it: it[0]):
+        place, there = place_of(found.parts, bare), ground.first_taken(cell, direction)
+        why, cells = None, ()
+        if there is not None:
+            why = f"{ground.taken[there]} at tile {tile(there)} is in the way"
+        elif count > most - len(used):
+            why = f"the design would have more than {design.MOST_ENTITIES} entities"
+        else:
+            cells = tuple(step(cell, direction, k) for k in range(1, count + 1))
+            crossed = next((used[it] for it in cells if it in used), None)
+            why = f"its way crosses that of the {spelled([crossed])}" if crossed else None
+        if why is None:
+            used |= dict.fromkeys(cells, place)
+        ways[bare] = Way(place, part, bare.front, cells, why)
+    return [ways[bare] for _, bare, *_ in ends]
+
+
+def belts_of(found, entities, ways):
+    """The entities of the belts of these ways, behind those that there are."""
+    numbers = [it.value("entity_number") for it in entities]
+    number = max((it for it in numbers if isinstance(it, int)), default=0)
+    quarter = 4 if found.sixteenths else 2
+    for way in ways:
+        for cell in way.cells:
+            number += 1
+            halves = (2 * it + 1 + by for it, by in zip(cell, found.shift))
+            x, y = (it / 2 if it % 2 else it // 2 for it in halves)
+            name, direction = PREFIXES[way.splitter.tier] + "transport-belt", quarter * way.splitter.direction
+            yield (
+                f'{{"entity_number":{number},"name":"{name}","position":{{"x":{x},"y":{y}}},"direction":{direction}}}'
+            )
+
+
+def without(lines, ends):
+    """A network's lines without these ends and the edges at them, all else numbered anew."""
+    places, kept, edges, counts = {}, [], [], [0, 0]
+    for which, sign in enumerate("io"):
+        for k in range(int(lines[0].split(" ")[1 + which])):
+            if f"{sign}{k}" not in ends:
+                places[f"{sign}{k}"] = f"{sign}{counts[which]}"
+                counts[which] += 1
+    told = [line.split(" ") for line in lines[1:]]
+    for number, (_, source, target, *cap) in enumerate(it for it in told if it[0] == "edge"):
+        if source not in ends and target not in ends:
+            edges.append(number)
+            kept.append(" ".join(["edge", places.get(source, source), places.get(target, target), *cap]))
+    numbers = {str(old): new for new, old in enumerate(edges)}
+    kept += [f"{it[0]} {it[1]} {numbers[it[2]]}" for it in told if it[0] in ("give", "take") and it[2] in numbers]
+    return [f"net {counts[0]} {counts[1]} {lines[0].split(' ')[3]}", *kept, "end"]
+
+
+def plain(lines):
+    return [line for line in lines if line.split(" ")[0] not in ("give", "take")]
+
+
+class Opening:
+    """A design with the program's word on it, from which ways are opened."""
+
+    def __init__(self, text, bystanders, recover):
+        self.text, self.recover = text, recover
+        self.answer = recover(text)
+        if self.answer.startswith("net "):
+            self.lines, self.is_whole = self.answer.splitlines(), True
+        elif self.answer.startswith(NO_ENDS):
+            self.lines, self.is_whole = [], False
+        else:
+            raise Refused(self.answer)
+        try:
+            self.found = design.read(text)
+            self.network = Layout(self.found.parts).network()
+            belts = design.MOST_ENTITIES - len(self.found.parts)
+            self.ways = ways_of(self.found, bystanders, belts) if self.network.splitters else []
+        except (design.Unreadable, Untraced):
+            self.found = self.network = None
+            self.ways = []
+        self.listed = listed(text) if self.ways else None
+        if self.network and not self.is_whole:
+            self.lines = self.network.lines()
+
+    def ends(self):
+        """How many inputs and outputs there are."""
+        return tuple(map(int, self.lines[0].split(" ")[1:3])) if self.lines else (0, 0)
+
+    def more_ends(self, ways):
+        """How many there are with these ways open."""
+        inputs, outputs = self.ends()
+        return inputs + sum(not it.front for it in ways), outputs + sum(it.front for it in ways)
+
+    def with_ways(self, ways):
+        """The text with these ways open, and what the program says of it; and why it can't be taken, or None."""
+        text = self.listed.with_more(list(belts_of(self.found, self.listed.entities, ways)))
+        answer = self.recover(text)
+        other = "with belts there the network would be another one"
+        if not answer.startswith(("net ", NO_ENDS)):
+            return text, answer, f"with belts there the program says: {refusals.told(answer, text)}"
+        try:
+            network = Layout(design.read(text).parts).network()
+        except (design.Unreadable, Untraced):
+            return text, answer, other
+        both = ("i", network.inputs), ("o", network.outputs)
+        new = len(self.found.parts)
+        ends = {f"{sign}{k}" for sign, them in both for k, it in enumerate(them) if it.part >= new}
+        is_told = answer.startswith("net ")
+        left = without(answer.splitlines() if is_told else network.lines(), ends)
+        is_same = left == self.lines if self.is_whole else plain(left) == self.lines
+        is_traced = same_network(network, answer) if is_told else not (network.inputs and network.outputs)
+        return text, answer, None if is_traced and is_same and len(ends) == len(ways) else other
+
+    def opened(self, ways):
+        """Opens these ways, but for those with which the network would be another one."""
+        best, kept, refused = (self.text, self.answer), [], {}
+        left = [ways] if ways else []
+        while left:
+            batch = left.pop()
+            text, answer, why = self.with_ways([*kept, *batch])
+            if why is None:
+                best, kept = (text, answer), [*kept, *batch]
+            elif len(batch) == 1:
+                refused[batch[0].place] = why
+            else:
+                half = len(batch) // 2
+                left += [batch[half:], batch[:half]]
+        reasons = ((it.place, it.why or refused.get(it.place)) for it in self.ways)
+        unopened = [(place, why) for place, why in reasons if why]
+        ends, belts = self.more_ends(kept), sum(len(it.cells) for it in kept)
+        return Opened(*best, belts, [it.place for it in kept], unopened, self.ends(), ends, ends)
+
+
+MODES = ("never", "label", "always")
+
+
+def opened(opening, mode, label):
+    """Opens bare halves: all; or none; or all where the design has no input or no output without them, and where its label
+    tells of as many ends as it has with all, all inputs or all outputs open, and hasn't without."""
+    free = [it for it in opening.ways if it.why is None]
+    whole = opening.opened(free)
+    if mode == "always":
+        return whole
+    shut = opening.opened([])
+    shut = replace(shut, unopened=whole.unopened, would=whole.after)
+    pairs = labels.told(label)
+    if mode == "never" or opening.is_whole and shut.after in pairs:
+        return shut
+    for ways in (free, [it for it in free if it.front], [it for it in free if not it.front]):
+        if ways and opening.more_ends(ways) in pairs:
+            found = whole if ways is free else replace(opening.opened(ways), would=whole.after)
+            if found.after in pairs:
+                return found
+    return shut if opening.is_whole else whole
