@@ -16,27 +16,22 @@ const LONGEST_SHOWN = 20000;
 const MOST_SHOWN = 5000;
 const LONGEST_LINK = 2000000;
 
+/** So many cells wide a picture is at most that stands beside the verdicts. */
+const WIDEST_BESIDE = 22;
+
 const encoder = new TextEncoder();
 const LINE_FEED = new Uint8Array([10]);
 
-/** These bytes one behind the other, each but the last with a line feed. */
-const lined = (...texts) => {
-  const parts = texts.flatMap((it, at) => (at ? [LINE_FEED, it] : [it]));
-  const whole = new Uint8Array(parts.reduce((length, it) => length + it.length, 0));
-  let at = 0;
-  for (const it of parts) {
-    whole.set(it, at);
-    at += it.length;
-  }
-  return whole;
-};
+/** These bytes one behind the other, with a line feed between. */
+const lined = (...texts) => glued(between(texts, LINE_FEED));
 
 let program = null;
 let given = [];
 let view = null;
 
-/** What is drawn of a design: its parts and its network where that is the one that the program told, and what is lacking. */
-const drawingOf = (bytes, network, refusal, label, bares = [], added = new Set()) => {
+/** What is drawn of a design: its parts and its network where that is the one that the program told, and what is lacking.
+    Behind all other parts so many belts were added, and besides what stands by is drawn. */
+const drawingOf = (bytes, network, refused, label, belts = 0, bystanders = []) => {
   if (!isJson(bytes)) return { lack: "A network text has no parts, so there is no picture." };
   let design = null;
   try {
@@ -45,20 +40,46 @@ const drawingOf = (bytes, network, refusal, label, bares = [], added = new Set()
     if (!(fault instanceof Unreadable)) throw fault;
     return { lack: `There is no picture: ${fault.message}.` };
   }
-  const places = refusal ? refusedEntities(refusal) : [];
-  const all = [...design.parts.map((it) => [it.entity, it.cells]), ...design.strangers.map((it) => [it.entity, [it.middle.map(half)]])];
-  const refused = places.flatMap((place) => all.filter(([entity]) => entity === place).map(([, cells]) => ({ cells, words: refusal })));
-  const marks = { bare: bareEnds(design.parts), added, refused };
-  const plainly = (lack) => ({ design, lack, drawing: new Drawing(design, null, marks, label) });
+  const [leastX, leastY, mostX, mostY] = boxOfDesign(design);
+  const isNear = ([x, y]) => x >= leastX - 1 && x <= mostX + 1 && y >= leastY - 1 && y <= mostY + 1;
+  const seen = { ...design, strangers: [...design.strangers, ...bystanders.filter((it) => it.cells.every(isNear))] };
+  const first = design.parts.length - belts;
+  const marks = { bare: bareEnds(design.parts), added: new Set(design.parts.map((_, at) => at).filter((at) => at >= first)), refused };
+  const plainly = (lack) => ({ design, lack, drawing: new Drawing(seen, null, marks, label) });
   if (!network) return plainly(null);
   try {
     const traced = new Layout(design.parts).network();
     if (!isSameNetwork(traced, network)) return plainly("Ends and states aren't drawn: traced for the picture, the network is another one.");
-    return { design, lack: null, traced, drawing: new Drawing(design, traced, marks, label) };
+    return { design, lack: null, traced, drawing: new Drawing(seen, traced, marks, label) };
   } catch (fault) {
     if (!(fault instanceof Untraced)) throw fault;
     return plainly(`Ends and states aren't drawn: as traced for the picture, ${fault.message}.`);
   }
+};
+
+/** What is amiss with the number of ends, in words, where the label tells of others; or null. */
+const warningOf = (label, net, reading, bare) => {
+  const pairs = pairsIn(label);
+  const own = [net.inputs, net.outputs];
+  if (!pairs.length || isAmong(own, pairs)) return null;
+  const said = `its label says ${spelledPairs(pairs)}, but its network is ${own.join(" to ")}`;
+  const doubt = "which of them are meant can't be known, so put a belt at each one that is an end";
+  if (reading.opened.length) return `${said}, with belts at its bare halves: ${doubt}`;
+  if (!isAmong(reading.would, [own])) return `${said}, and with belts at its bare halves it would be ${spelledPairs([reading.would])}: ${doubt}`;
+  return bare.length ? `${said}: ${doubt}` : `${said}: a belt may be missing, or be one too many`;
+};
+
+/** How many bare halves a sentence names at most. */
+const MOST_REMARKED = 8;
+
+/** What there is to say of how the design was read, in sentences without their ends. */
+const remarksOf = (reading, bare, notes) => {
+  const { opened, unopened, belts } = reading;
+  const remarks = opened.length ? [`opened by ${count(belts, "belt")}, drawn dashed: ${spelled(opened, MOST_REMARKED)}`] : [];
+  if (bare.length) remarks.push(`bare halves: ${spelled(bare, MOST_REMARKED)}`);
+  const reasons = unopened.slice(0, MOST_REMARKED).map((it) => `${spelled([it.place])}, since ${it.why}`);
+  if (reasons.length) remarks.push(`not opened: ${reasons.join("; ")}${unopened.length > MOST_REMARKED ? `, and ${unopened.length - MOST_REMARKED} more` : ""}`);
+  return [...remarks, ...notes];
 };
 
 /** The one tier of a design's parts, or null. */
@@ -146,14 +167,16 @@ class Verdict {
   }
 }
 
+/** A run that told nothing of the design, in words. */
+class NoAnswer extends Error {}
+
 /** What is told of one design. */
 class View {
   constructor(found) {
     this.found = found;
-    this.original = found.bytes;
     this.bytes = found.bytes;
+    this.mode = "label";
     this.runs = new Set();
-    this.states = [];
     this.isLeft = false;
     this.element = $("design");
   }
@@ -176,7 +199,7 @@ class View {
   heading() {
     const { name, books, place } = this.found;
     const crumbs = [...books, place && `design ${place}`].filter(Boolean).join(" / ");
-    return make("div", { class: "title" }, crumbs ? make("p", { class: "crumbs" }, told(crumbs)) : null, make("h2", { tabindex: -1, id: "name" }, told(name)), (this.facts = make("ul", { class: "facts" })));
+    return make("div", { class: "title" }, crumbs ? make("p", { class: "crumbs" }, told(crumbs)) : null, make("h2", { tabindex: -1, id: "name" }, told(name)), (this.facts = make("ul", { class: "facts" })), (this.remarks = make("ul", { class: "remarks" })));
   }
 
   fail(words) {
@@ -187,38 +210,81 @@ class View {
     this.element.hidden = false;
     this.element.replaceChildren(this.heading());
     if (this.found.trouble) return this.fail(`It isn't a design: ${this.found.trouble}.`);
-    await this.begin();
-  }
-
-  /** Recovers the network, draws it, and decides. */
-  async begin() {
-    this.states = [];
-    const ended = await this.run(["recover"], this.bytes, "Reading the design");
-    if (this.isLeft) return;
-    this.element.replaceChildren(this.heading());
-    const fault = faultOf(ended);
-    if (fault) return this.fail(`The design wasn't read: ${fault}.`);
-    const text = decoder.decode(ended.written);
-    this.network = ended.status === 0 ? text : null;
-    const refusal = this.network ? null : text.trim();
-    Object.assign(this, { drawing: null, design: null, traced: null }, drawingOf(this.bytes, this.network, refusal, `${plain(this.found.name)}, drawn from its parts`, this.bares, this.added));
-    this.canDraw = Boolean(this.drawing && this.traced);
-    if (refusal) this.fail(`The program refuses it: ${toldRefusal(refusal, this.bytes)}.`);
-    if (!this.network) {
-      if (this.drawing) this.element.append(this.stage());
-      else if (this.lack) this.element.append(make("p", { class: "note" }, this.lack));
+    try {
+      await this.read();
+    } catch (fault) {
+      if (!(fault instanceof NoAnswer)) throw fault;
+      if (!this.isLeft) this.fail(`The design wasn't read: ${fault.message}.`);
       return;
     }
-    this.net = readNet(this.network);
-    this.tellFacts();
+    if (!this.isLeft) await this.tell();
+  }
+
+  /** What the program says of a text: its network, or its refusal. */
+  async recover(bytes) {
+    const ended = await this.run(["recover"], bytes, "Reading the design");
+    const fault = faultOf(ended);
+    if (fault) throw new NoAnswer(fault);
+    return ended.status === 0 ? decoder.decode(ended.written) : firstLine(ended.written);
+  }
+
+  /** Leaves out what stands by, opens bare halves as is asked, and has the program recover the network. */
+  async read() {
+    const { bytes, name } = this.found;
+    const unopened = { belts: 0, opened: [], unopened: [] };
+    if (!isJson(bytes)) {
+      Object.assign(this, { notes: [], bystanders: [], ways: 0, reading: { ...unopened, bytes, answer: await this.recover(bytes) } });
+      return;
+    }
+    const clean = cleaned(bytes);
+    Object.assign(this, { notes: clean.notes, bystanders: clean.notes.length ? bystandersOf(bytes) : [], ways: 0 });
+    try {
+      const opening = await Opening.of(clean.bytes, bystandersOf(bytes), (it) => this.recover(it));
+      this.ways = opening.ways.length;
+      this.reading = await openedBy(opening, this.mode, name);
+    } catch (fault) {
+      if (!(fault instanceof Refused)) throw fault;
+      this.reading = { ...unopened, bytes: clean.bytes, answer: fault.message };
+    }
+  }
+
+  /** Tells what was read, draws it, and decides. */
+  async tell() {
+    const { reading } = this;
+    this.bytes = reading.bytes;
+    this.network = reading.answer.startsWith("net ") ? reading.answer : null;
+    const refusal = this.network ? null : toldRefusal(reading.answer, this.bytes);
+    Object.assign(this, { states: [], at: 0, drawing: null, design: null, traced: null });
+    Object.assign(this, drawingOf(this.bytes, this.network, refusal?.places ?? [], `${plain(this.found.name)}, drawn from its parts`, reading.belts, this.bystanders));
+    this.canDraw = Boolean(this.drawing && this.traced);
+    this.element.replaceChildren(this.heading());
+    const bare = this.design ? bareEnds(this.design.parts).map((it) => placeOf(this.design.parts, it)) : [];
+    this.tellRemarks(bare);
+    if (refusal) this.fail(`The program refuses it: ${refusal.words}.`);
+    if (!this.network) {
+      this.element.append(this.drawing ? this.stage() : make("p", { class: "note" }, this.lack));
+      return;
+    }
     this.verdicts = PROPERTIES.map((it) => new Verdict(this, it));
     const list = make("ol", { class: "verdicts", "aria-label": "Verdicts" }, ...this.verdicts.map((it) => it.element));
-    const isWide = this.drawing ? this.drawing.box[2] > 22 : true;
+    const isWide = this.drawing ? this.drawing.box[2] > WIDEST_BESIDE : true;
     this.element.append(make("div", { class: `both${isWide ? " wide" : ""}` }, this.drawing ? this.stage() : make("p", { class: "note" }, this.lack), list));
     this.element.append(new More(this).element);
     for (const it of this.verdicts) {
       if (this.isLeft || !(await it.decide())) break;
     }
+  }
+
+  /** What there is to say of how the design was read: a warning first. */
+  tellRemarks(bare) {
+    if (this.network) {
+      this.net = readNet(this.network);
+      this.tellFacts();
+    }
+    const warning = this.network && isJson(this.bytes) ? warningOf(this.found.name, this.net, { would: [this.net.inputs, this.net.outputs], ...this.reading }, bare) : null;
+    const sentence = (it) => `${it[0].toUpperCase()}${it.slice(1)}.`;
+    const remarks = remarksOf(this.reading, this.network ? bare : [], this.notes).map((it) => make("li", {}, told(sentence(it))));
+    this.remarks.replaceChildren(...(warning ? [make("li", { class: "held" }, told(sentence(warning)))] : []), ...remarks);
   }
 
   tellFacts() {
@@ -249,9 +315,17 @@ class View {
     return this.figure;
   }
 
-  /** The switch that opens bare halves, where there are any. */
+  /** The switch that opens bare halves, where there are any that could be. */
   opening() {
-    return [];
+    if (!this.ways) return [];
+    const box = make("input", { type: "checkbox", checked: this.reading.opened.length > 0 });
+    box.addEventListener("change", () => {
+      for (const run of [...this.runs]) run.stop();
+      view = Object.assign(new View(this.found), { mode: box.checked ? "always" : "never" });
+      this.isLeft = true;
+      view.open();
+    });
+    return [make("label", { class: "switch" }, box, `open the ${count(this.ways, "bare half").replace("halfs", "halves")} with belts to the border`)];
   }
 
   /** Adds a breaking state; gives its place on the slider, which begins with none. */
@@ -325,7 +399,7 @@ class More {
     const line = ended.written ? firstLine(ended.written) : "";
     if (fault) out.append(make("p", { class: "held" }, `There is none: ${fault}.`));
     else if (ended.status === 4) out.append(make("p", { class: "held" }, `None was found in ${line.split(" ")[1]} steps. That says nothing of whether there is one.`));
-    else if (ended.status !== 0) out.append(make("p", { class: "trouble" }, told(`The program refuses it: ${toldRefusal(line, view.bytes)}.`)));
+    else if (ended.status !== 0) out.append(make("p", { class: "trouble" }, told(`The program refuses it: ${toldRefusal(line, view.bytes).words}.`)));
     else await this.showSmaller(ended, out);
   }
 
@@ -336,7 +410,7 @@ class More {
     const [width, height] = firstLine(ended.written).replace("grid ", "").split("x").map(Number);
     const recovered = await view.run(["recover"], blueprint, "Reading the layout");
     const network = recovered.status === 0 ? decoder.decode(recovered.written) : null;
-    const { drawing } = drawingOf(blueprint, network, null, `${plain(view.found.name)}, laid out smaller`);
+    const { drawing } = drawingOf(blueprint, network, [], `${plain(view.found.name)}, laid out smaller`);
     const string = await deflate(blueprint.at(-1) === 10 ? blueprint.subarray(0, -1) : blueprint);
     const [leastX, leastY, mostX, mostY] = view.design ? boxOfDesign(view.design) : [0, 0, -1, -1];
     const own = view.design ? `, where the design has ${mostX - leastX + 1} × ${mostY - leastY + 1}, ${count((mostX - leastX + 1) * (mostY - leastY + 1), "tile")}` : "";
@@ -383,7 +457,7 @@ class More {
     const say = (kind, ...words) => out.append(make("p", { class: kind }, ...words));
     if (fault) return say("held", `No answer: ${fault}.`);
     if (ended.status > 1 && ended.status !== 3) return say("held", `The program gave up: ${line.split(" ").slice(0, 2).join(" ")}.`);
-    if (ended.status === 3) return say("trouble", told(`The program refuses them: ${toldRefusal(line, new Uint8Array())}.`));
+    if (ended.status === 3) return say("trouble", told(`The program refuses them: ${toldRefusal(line, new Uint8Array()).words}.`));
     const isSame = ended.status === 0;
     say("", make("span", { class: `verdict ${isSame ? "yes" : "no"}` }, isSame ? "✓ the same" : "✕ they differ"), isSame ? ` In every two steady states with equal loads and rooms each output carries the same in both. Shown in ${seconds(ended.seconds)}.` : " Two steady states with equal loads and rooms, in which an output carries more:");
     const checked = make("button", { type: "button" }, "Check it");
@@ -404,7 +478,7 @@ class More {
     const network = recovered.status === 0 ? decoder.decode(recovered.written) : null;
     for (const [which, name, bytes, net] of [[0, view.found.name, view.bytes, view.network], [1, other.name, other.bytes, network]]) {
       const state = readState(text, which);
-      const found = drawingOf(bytes, net, null, `${plain(name)}: its state`);
+      const found = drawingOf(bytes, net, [], `${plain(name)}: its state`);
       const carried = net ? listed(atEnds(readNet(net), state)[1]) : "";
       if (found.traced) found.drawing.show(state);
       pair.append(make("div", {}, make("h3", {}, told(name)), make("p", { class: "note" }, `The outputs carry ${carried}.`), found.drawing?.plane ?? null));

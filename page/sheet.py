@@ -11,16 +11,17 @@ from pathlib import Path
 HERE = Path(__file__).resolve().parent
 TOP = HERE.parent
 EXAMPLES = TOP / "examples"
-SCRIPTS = "strings books design trace picture states refusals inputs runs dom drawing page".split()
+SCRIPTS = "strings books design trace picture states refusals entities cleaning labels openings inputs runs dom drawing page".split()
 PICTURE_RULES = re.compile(r"^\.body\{.*?(?=^@media)", re.M | re.S)
 COLORS = re.compile(r"^:root\{.*?\n(?=\*\{)", re.M | re.S)
 MOST_BYTES = 500_000
 
 
-def script():
-    """The scripts, which share their names, as one."""
-    texts = [(HERE / f"{name}.js").read_text("utf-8") for name in SCRIPTS]
-    return '"use strict";\n' + "\n".join(texts)
+def scripts(names):
+    """These scripts, which share their names, as one, with the list of what can't touch a belt."""
+    tiles = json.loads((TOP / "collection" / "bystanders.json").read_text("utf-8"))["tiles"]
+    listed = f"const BYSTANDER_TILES = {json.dumps(tiles, separators=(',', ':'))};"
+    return "\n".join(['"use strict";', listed, *((HERE / f"{name}.js").read_text("utf-8") for name in names)])
 
 
 def style():
@@ -70,7 +71,7 @@ def policy(script_text, style_text):
 
 def page_of(module):
     """The whole page around this module."""
-    texts = {"style": style(), "script": script(), "worker": (HERE / "worker.js").read_text("utf-8")}
+    texts = {"style": style(), "script": scripts(SCRIPTS), "worker": (HERE / "worker.js").read_text("utf-8")}
     for name, text in texts.items():
         if "</" + name in text or "<!--" in text or "</script" in text:
             raise ValueError(f"the {name} holds a mark that would end it")

@@ -5,6 +5,17 @@ const MOST_INFLATED = 64 * 2 ** 20;
 
 class Damaged extends Error {}
 
+/** These bytes one behind the other. */
+const glued = (parts) => {
+  const whole = new Uint8Array(parts.reduce((length, it) => length + it.length, 0));
+  let at = 0;
+  for (const it of parts) {
+    whole.set(it, at);
+    at += it.length;
+  }
+  return whole;
+};
+
 const fromBase64 = (text) => {
   const binary = atob(text);
   const bytes = new Uint8Array(binary.length);
@@ -36,13 +47,7 @@ const through = async (bytes, stream, most) => {
     }
     parts.push(value);
   }
-  const whole = new Uint8Array(length);
-  let at = 0;
-  for (const it of parts) {
-    whole.set(it, at);
-    at += it.length;
-  }
-  return whole;
+  return glued(parts);
 };
 
 /** The bytes that a blueprint string holds. */

@@ -36,6 +36,21 @@ const bareEnds = (parts) => {
   return found;
 };
 
+const tile = ([x, y]) => `(${x}, ${y})`;
+
+/** A bare end as what it would be, an input or an output, and the cell of its half. */
+const placeOf = (parts, bare) => ({ kind: bare.front ? "output" : "input", cell: parts[bare.part].cells[bare.half] });
+
+/** Such places in words, so many at most. */
+const spelled = (places, most = Infinity) => {
+  const more = Math.max(0, places.length - most);
+  const words = ["input", "output"].flatMap((kind) => {
+    const tiles = places.slice(0, places.length - more).filter((it) => it.kind === kind).map((it) => tile(it.cell));
+    return tiles.length ? [`${kind}${tiles.length > 1 ? "s" : ""} at ${tiles.join(", ")}`] : [];
+  });
+  return words.join(" and ") + (more ? `, and ${more} more` : "");
+};
+
 const nameOf = (it) => `${it.part}.${it.half}`;
 
 /** Parts with what each hands on to. */

@@ -25,10 +25,9 @@ def page_path():
 
 def run_scripts(names, driver, data=b"", seconds=600):
     """What a script writes, run behind these scripts of the page."""
-    texts = [(sheet.HERE / f"{name}.js").read_text("utf-8") for name in names]
     with tempfile.TemporaryDirectory() as folder:
         path = Path(folder, "driver.cjs")
-        path.write_text("\n".join([*texts, driver]), "utf-8")
+        path.write_text(f"{sheet.scripts(names)}\n{driver}", "utf-8")
         ended = subprocess.run([NODE, path], input=data, stdout=subprocess.PIPE, stderr=subprocess.PIPE, timeout=seconds, check=False)
     if ended.returncode:
         raise AssertionError(ended.stderr.decode("utf-8", "replace")[-3000:])

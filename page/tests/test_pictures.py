@@ -12,13 +12,13 @@ from collection.tests import belt, blueprint, program_path
 
 from . import EXAMPLES, needs_node, run_scripts
 
-NAMES = ["strings", "books", "design", "trace", "picture", "states", "refusals", "inputs"]
+NAMES = ["strings", "books", "design", "trace", "picture", "states", "refusals"]
 DRIVER = """
 const fs = require("fs");
 const asked = JSON.parse(fs.readFileSync(0, "utf8"));
 const bytesOf = (text) => new TextEncoder().encode(text);
 const answers = asked.map(({ text, states, line }) => {
-  if (line) return { told: toldRefusal(line, bytesOf(text)), places: refusedEntities(line) };
+  if (line) return toldRefusal(line, bytesOf(text));
   let found = null;
   try {
     found = readDesign(bytesOf(text));
@@ -58,6 +58,8 @@ def texts():
         blueprint(belt(0, 0), belt(0.5, 0)),
         blueprint(belt(0, 0), {"name": "<b>inserter</b>\u202e", "position": {"x": 1.5, "y": 0.5}}),
         blueprint(belt(0, 0), belt(0, 0)),
+        blueprint(belt(0, 0), {"name": "pump", "position": {"x": 4.5, "y": 0}, "direction": 2}, {"name": "radar", "position": {"x": -3.25, "y": -1.5}}),
+        blueprint({"name": "radar"}, {"name": 5, "position": {"x": 1, "y": 1}}),
         blueprint(belt(0, 0, 2), belt(2, 0, 6), belt(1, 0)),
         blueprint(belt(-3, -7, 6), belt(-4, -7), belt(-3, -8, 6)),
         blueprint({"name": "splitter", "position": {"x": 3, "y": 5.5}, "direction": 4, "output_priority": "right", "input_priority": "left"}),
@@ -128,15 +130,21 @@ class Pictures(unittest.TestCase):
             self.assertEqual(sorted(ours), sorted(theirs))
 
     def test_refusals_are_told_in_the_same_words(self):
-        two = blueprint(belt(0, 0), belt(0, 0), {"name": "<i>\u202e", "position": {"x": 1.5, "y": 0.5}})
+        inserter = {"name": "<i>\u202e", "position": {"x": 1.5, "y": 0.5}}
+        splitter = {"name": "splitter", "position": {"x": 7, "y": 4.5}}
+        facing = blueprint(belt(0, 0), belt(0, 0), inserter, belt(4, 4, 2), belt(5, 4, 6), splitter)
+        loaded = blueprint(belt(0, 0), belt(0, 1), belt(1, 0, 6), belt(-1, 0, 2), {"name": "radar"})
         lines = ["refused 23 Unsupported 2", "refused 30 Overlap 0 1", "refused 24 BadMember 1 direction", "refused 42 NoEnds"]
-        lines += ["refused 10 Json 5", "refused 40 NetLine 3", "usage"]
-        data = [{"text": two, "line": it} for it in lines]
+        lines += ["refused 32 SideLoad 0", "refused 33 Blocked 3", "refused 25 OffGrid 2", "refused 31 Unpaired 4", "refused 34 Ring 99"]
+        lines += ["refused 10 Json 5", "refused 40 NetLine 3", "usage", "too long", "refused 99 What 1"]
+        data = [{"text": text, "line": it} for it in lines for text in (facing, loaded, "{")]
         answers = json.loads(run_scripts(NAMES, DRIVER, json.dumps(data).encode()))
-        for line, ours in zip(lines, answers, strict=True):
-            with self.subTest(line=line):
-                self.assertEqual(ours["places"], refusals.marked(line))
-                self.assertEqual(ours["told"], refusals.told(line, two))
+        for it, ours in zip(data, answers, strict=True):
+            with self.subTest(line=it["line"]):
+                theirs = refusals.refusal(it["line"], it["text"])
+                self.assertEqual(ours["words"], theirs.words)
+                places = [{"cells": [list(cell) for cell in cells], "words": words} for cells, words in theirs.places]
+                self.assertEqual(ours["places"], places)
 
 
 if __name__ == "__main__":
