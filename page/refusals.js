@@ -47,7 +47,11 @@ const numberOf = (line) => {
 };
 
 /** Some tiles in words. */
-const tilesIn = (cells) => `tile${cells.length > 1 ? "s" : ""} ${cells.map(tile).join(" and ")}`;
+const tilesIn = (cells) => {
+  const tiles = cells.map(tile);
+  const first = tiles.slice(0, -1).join(", ");
+  return tiles.length > 1 ? `tiles ${first} and ${tiles[tiles.length - 1]}` : `tile ${tiles[0]}`;
+};
 
 /** An entity by its number in the blueprint, its name and its tiles, or where it has none, its position. */
 const toldEntity = (entities, index, cells) => {
