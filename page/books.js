@@ -8,6 +8,12 @@ class Fault extends Error {}
 
 const QUOTE = 0x22;
 const SIGN = Object.fromEntries([..."{}[],:"].map((it) => [it, it.charCodeAt(0)]));
+const [OPEN, CLOSE, OPEN_LIST, CLOSE_LIST, COMMA_SIGN, COLON] = [..."{}[],:"].map((it) => it.charCodeAt(0));
+const BACKSLASH = 0x5c;
+const BLANKS = [0x20, 0x09, 0x0a, 0x0d];
+
+/** What ends a number or a word. */
+const ENDING = new Set([OPEN, CLOSE, OPEN_LIST, CLOSE_LIST, COMMA_SIGN, COLON, QUOTE, ...BLANKS]);
 const isBlank = (byte) => byte === 0x20 || byte === 0x09 || byte === 0x0a || byte === 0x0d;
 
 class Walk {
@@ -27,38 +33,32 @@ class Walk {
     this.at += 1;
   }
 
-  /** Goes past the string that stands here. */
-  string() {
-    const { bytes } = this;
-    const start = this.at;
-    let at = start + 1;
-    while (bytes[at] !== QUOTE) {
-      if (at >= bytes.length) throw new Fault(`the text is damaged at byte ${start}: a string has no end`);
-      at += bytes[at] === 0x5c ? 2 : 1;
-    }
-    this.at = at + 1;
-  }
-
   /** Goes past the value that stands here, by its brackets and strings alone. */
   value() {
     const { bytes } = this;
     this.sign();
     const start = this.at;
+    const length = bytes.length;
+    let at = start;
     let depth = 0;
     do {
-      const sign = this.sign();
-      if (sign === undefined) throw new Fault(`the text ends in the value at byte ${start}`);
-      if (sign === QUOTE) this.string();
-      else {
-        if (sign === SIGN["{"] || sign === SIGN["["]) depth += 1;
-        else if (sign === SIGN["}"] || sign === SIGN["]"]) depth -= 1;
-        else if (depth === 0 && (sign === SIGN[","] || sign === SIGN[":"])) throw new Fault(`the text is damaged at byte ${this.at}: a value is expected there`);
-        this.at += 1;
-        if (depth === 0 && sign !== SIGN["}"] && sign !== SIGN["]"]) while (this.at < bytes.length && !isBlank(bytes[this.at]) && !",:{}[]\"".includes(String.fromCharCode(bytes[this.at]))) this.at += 1;
+      if (at >= length) throw new Fault(`the text ends in the value at byte ${start}`);
+      const sign = bytes[at];
+      at += 1;
+      if (sign === QUOTE) {
+        while (at < length && bytes[at] !== QUOTE) at += bytes[at] === BACKSLASH ? 2 : 1;
+        at += 1;
+        if (at > length) throw new Fault(`the text ends in a string of the value at byte ${start}`);
+      } else if (sign === OPEN || sign === OPEN_LIST) depth += 1;
+      else if (sign === CLOSE || sign === CLOSE_LIST) depth -= 1;
+      else if (depth === 0) {
+        if (sign === COMMA_SIGN || sign === COLON) depth = -1;
+        else while (at < length && !ENDING.has(bytes[at])) at += 1;
       }
-      if (depth < 0) throw new Fault(`the text is damaged at byte ${this.at - 1}: a bracket closes that wasn't opened`);
     } while (depth > 0);
-    return bytes.subarray(start, this.at);
+    if (depth < 0) throw new Fault(`the text is damaged at byte ${at - 1}: a value is expected there`);
+    this.at = at;
+    return bytes.subarray(start, at);
   }
 
   /** Stops at each item of the list or object that stands here; who asks goes past the item. */

@@ -8,6 +8,7 @@ const BEGINNING = /(?<![\w+/])0e[AFJN][\w+/-]+=*/g;
 const GOING_ON = /^[\w+/-]+=*$/;
 
 const decoder = new TextDecoder();
+const encoder = new TextEncoder();
 const isJson = (bytes) => new Walk(bytes).sign() === SIGN["{"];
 
 /** The blueprint strings in a text: each may be wrapped over lines or quoted, and other words may stand around them. */
@@ -53,21 +54,44 @@ const fromString = async (string, name) => {
   }
 };
 
-/** The designs in what was given: blueprint strings, JSON or a network text. */
-const designsIn = async (given, name) => {
-  const bytes = given[0] === 0xef && given[1] === 0xbb && given[2] === 0xbf ? given.subarray(3) : given;
+const FENCE = /^[ \t]*```.*(?:\r?\n|$)/gm;
+
+/** How a design of JSON begins in the midst of words. */
+const JSON_START = /\{\s*"blueprint(?:_book)?"\s*:/;
+
+/** A text of JSON without the words behind it, where it can be told where they begin. */
+const unworded = (bytes) => {
   const walk = new Walk(bytes);
-  if (walk.sign() === undefined) return [];
-  if (walk.sign() === SIGN["{"]) return fromJson(bytes, name);
-  const written = decoder.decode(bytes);
-  if (/^\s*net( |$)/.test(written)) return [{ name, books: [], place: "", bytes }];
-  const found = stringsIn(written);
-  if (!found.length) {
-    const word = written.trim();
-    if (/^\d\S+$/.test(word)) return fromString(word, name);
-    return [{ name, books: [], place: "", bytes: null, trouble: "it is no blueprint string, no JSON and no network text" }];
+  try {
+    walk.value();
+  } catch (fault) {
+    if (!(fault instanceof Fault)) throw fault;
+    return bytes;
   }
+  return bytes.subarray(0, walk.at);
+};
+
+/** The bytes as signs of one byte each, in which places are those of the bytes. */
+const latin = (bytes) => new TextDecoder("latin1").decode(bytes);
+
+/** The designs in what was given: blueprint strings, JSON or a network text, with fences or words around them. */
+const designsIn = async (given, name) => {
+  let bytes = given[0] === 0xef && given[1] === 0xbb && given[2] === 0xbf ? given.subarray(3) : given;
+  let written = decoder.decode(bytes);
+  if (!written.trim()) return [];
+  if (written.trimStart().startsWith("```")) {
+    written = written.replace(FENCE, "");
+    bytes = encoder.encode(written);
+  }
+  if (isJson(bytes)) return fromJson(bytes, name);
+  if (/^\s*net(\s|$)/.test(written)) return [{ name, books: [], place: "", bytes: encoder.encode(written.replace(/\r\n/g, "\n")) }];
+  const found = stringsIn(written);
   const designs = [];
   for (const [at, it] of found.entries()) designs.push(...(await fromString(it, found.length === 1 ? name : `${name}, string ${at + 1}`)));
-  return designs;
+  if (designs.length) return designs;
+  const begin = latin(bytes).search(JSON_START);
+  if (begin >= 0) return fromJson(unworded(bytes.subarray(begin)), name);
+  const word = written.trim();
+  if (/^\d\S+$/.test(word)) return fromString(word, name);
+  return [{ name, books: [], place: "", bytes: null, trouble: "it is no blueprint string, no JSON and no network text" }];
 };

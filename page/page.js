@@ -19,7 +19,6 @@ const LONGEST_LINK = 2000000;
 /** So many cells wide a picture is at most that stands beside the verdicts. */
 const WIDEST_BESIDE = 22;
 
-const encoder = new TextEncoder();
 const LINE_FEED = new Uint8Array([10]);
 
 /** These bytes one behind the other, with a line feed between. */
