@@ -5,7 +5,11 @@ import re
 
 LAYOUT = re.compile(r'^target datalayout = ".*"$', re.M)
 TRIPLE = re.compile(r'^target triple = ".*"$', re.M)
-FOREIGN = re.compile(r' "(?:probe-stack|stack-probe-size|target-cpu|target-features|tune-cpu|frame-pointer)"="[^"]*"')
+PROBED = ' "probe-stack"="inline-asm" "stack-probe-size"="3072" "target-cpu"="x86-64'
+FOREIGN = re.compile(re.escape(PROBED) + r'(?:-v2)?"(?= \})')
+"""What an attribute group of the program's own functions ends in: how its stack is probed, and its processor."""
+
+OTHERWISE = re.compile(r"probe|target-|tune-|frame-")
 ATTRIBUTES = re.compile(r"^attributes #\d+ = \{.*\}$", re.M)
 ENTRY = re.compile(r"^define [^\n]*@main\([^\n]*\{\n.*?^\}$", re.M | re.S)
 START = re.compile(r'call i32 (@"[^"\n]*\+start")\(\)')
@@ -25,7 +29,8 @@ def once(pattern, text, by):
 
 
 def changed(text, layout, triple):
-    """The text for a target with this layout; and how many attributes were left out."""
+    """The text for a target with this layout. Each group of attributes that names the other processor, or how its stack is
+    probed, ends in these words alone, and is left without them."""
     entry = ENTRY.search(text)
     starts = set(START.findall(entry.group())) if entry else set()
     if len(starts) != 1:
@@ -33,12 +38,10 @@ def changed(text, layout, triple):
     text = once(ENTRY, text, lambda _: STARTED.format(*starts))
     text = once(LAYOUT, text, lambda _: f'target datalayout = "{layout}"')
     text = once(TRIPLE, text, lambda _: f'target triple = "{triple}"')
-    left_out = 0
-
-    def plain(found):
-        nonlocal left_out
-        kept, count = FOREIGN.subn("", found.group())
-        left_out += count
-        return kept
-
-    return ATTRIBUTES.sub(plain, text), left_out
+    groups = ATTRIBUTES.findall(text)
+    plain = [FOREIGN.sub("", it) for it in groups]
+    left = [it for it in plain if OTHERWISE.search(it)]
+    if left or groups == plain:
+        raise Unexpected(f"a group of attributes is another than is known: {(left or groups)[0]}")
+    kept = iter(plain)
+    return ATTRIBUTES.sub(lambda _: next(kept), text)

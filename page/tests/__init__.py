@@ -8,6 +8,8 @@ import tempfile
 import unittest
 from pathlib import Path
 
+from collection.tests import program_path
+
 from .. import sheet
 
 TOP = sheet.TOP
@@ -17,10 +19,12 @@ needs_node = unittest.skipUnless(NODE, "the command node isn't there, so the pag
 
 
 def page_path():
-    """The page that is tested: the one beside the program that bin/beltproof starts, or none."""
-    asked = subprocess.run([TOP / "tools" / "program"], stdout=subprocess.PIPE, text=True, check=False)
-    told = os.environ.get("BELTPROOF_PAGE") or str(Path(asked.stdout.strip()).with_name("beltproof.html"))
-    return Path(told) if Path(told).is_file() else None
+    """The page that is tested: the one beside the program that bin/beltproof starts, or beside the same one in out/, or none."""
+    if told := os.environ.get("BELTPROOF_PAGE"):
+        return Path(told)
+    program = Path(program_path())
+    others = [it for it in (program, TOP / "out" / program.name) if it.is_file() and it.read_bytes() == program.read_bytes()]
+    return next((it.with_name("beltproof.html") for it in others if it.with_name("beltproof.html").is_file()), None)
 
 
 def run_scripts(names, driver, data=b"", seconds=600):
