@@ -1,0 +1,175 @@
+// Blueprint books: the bytes of each design in a book, with its place there. Bytes are walked, and not made into values,
+// so that each design stays what it was, faults and all, for the program to judge; and without recursion.
+
+/** How many books stand in one another at most. */
+const MOST_NESTED = 100000;
+
+class Fault extends Error {}
+
+const QUOTE = 0x22;
+const SIGN = Object.fromEntries([..."{}[],:"].map((it) => [it, it.charCodeAt(0)]));
+const [OPEN, CLOSE, OPEN_LIST, CLOSE_LIST, COMMA_SIGN, COLON] = [..."{}[],:"].map((it) => it.charCodeAt(0));
+const BACKSLASH = 0x5c;
+const BLANKS = [0x20, 0x09, 0x0a, 0x0d];
+
+/** What ends a number or a word. */
+const ENDING = new Set([OPEN, CLOSE, OPEN_LIST, CLOSE_LIST, COMMA_SIGN, COLON, QUOTE, ...BLANKS]);
+const isBlank = (byte) => byte === 0x20 || byte === 0x09 || byte === 0x0a || byte === 0x0d;
+
+class Walk {
+  constructor(bytes) {
+    this.bytes = bytes;
+    this.at = 0;
+  }
+
+  /** The next byte that isn't blank, or undefined at the end. */
+  sign() {
+    while (isBlank(this.bytes[this.at])) this.at += 1;
+    return this.bytes[this.at];
+  }
+
+  expect(sign) {
+    if (this.sign() !== SIGN[sign]) throw new Fault(`the text is damaged at byte ${this.at}: ${sign} is expected there`);
+    this.at += 1;
+  }
+
+  /** Goes past the value that stands here, by its brackets and strings alone. */
+  value() {
+    const { bytes } = this;
+    this.sign();
+    const start = this.at;
+    const length = bytes.length;
+    let at = start;
+    let depth = 0;
+    do {
+      if (at >= length) throw new Fault(`the text ends in the value at byte ${start}`);
+      const sign = bytes[at];
+      at += 1;
+      if (sign === QUOTE) {
+        while (at < length && bytes[at] !== QUOTE) at += bytes[at] === BACKSLASH ? 2 : 1;
+        at += 1;
+        if (at > length) throw new Fault(`the text ends in a string of the value at byte ${start}`);
+      } else if (sign === OPEN || sign === OPEN_LIST) depth += 1;
+      else if (sign === CLOSE || sign === CLOSE_LIST) depth -= 1;
+      else if (depth === 0) {
+        if (sign === COMMA_SIGN || sign === COLON) depth = -1;
+        else while (at < length && !ENDING.has(bytes[at])) at += 1;
+      }
+    } while (depth > 0);
+    if (depth < 0) throw new Fault(`the text is damaged at byte ${at - 1}: a value is expected there`);
+    this.at = at;
+    return bytes.subarray(start, at);
+  }
+
+  /** Stops at each item of the list or object that stands here; who asks goes past the item. */
+  *parts(opening, closing) {
+    this.expect(opening);
+    if (this.sign() !== SIGN[closing]) {
+      yield;
+      while (this.sign() !== SIGN[closing]) {
+        this.expect(",");
+        yield;
+      }
+    }
+    this.expect(closing);
+  }
+
+  /** The name of each member of the object that stands here; who asks goes past the value. */
+  *members() {
+    for (const _ of this.parts("{", "}")) {
+      if (this.sign() !== QUOTE) throw new Fault(`the text is damaged at byte ${this.at}: a name is expected there`);
+      const name = text(this.value());
+      this.expect(":");
+      yield name;
+    }
+  }
+}
+
+/** A string's value, or what is written where it isn't one. */
+const text = (bytes) => {
+  const written = new TextDecoder().decode(bytes);
+  try {
+    const value = JSON.parse(written);
+    return typeof value === "string" ? value : written;
+  } catch {
+    return written;
+  }
+};
+
+/** The label of a design or a book whose value this is, or null. */
+const labelOf = (bytes) => {
+  const walk = new Walk(bytes);
+  let label = null;
+  if (walk.sign() !== SIGN["{"]) return null;
+  try {
+    for (const name of walk.members()) {
+      const isString = walk.sign() === QUOTE;
+      const value = walk.value();
+      if (name === "label" && isString) label = text(value);
+    }
+  } catch {
+    return label;
+  }
+  return label?.trim() ? label : null;
+};
+
+/** Reads one entry: a design, a book, or what is neither. */
+function* entry(walk, found, book, number, depth) {
+  walk.sign();
+  const start = walk.at;
+  let label = null;
+  let held = false;
+  if (walk.sign() !== SIGN["{"]) walk.value();
+  else
+    for (const name of walk.members()) {
+      if (name === "blueprint_book" && walk.sign() === SIGN["{"]) {
+        held = true;
+        yield pages(walk, found, { above: book, number, label: null }, depth + 1);
+      } else label = labelOf(walk.value()) ?? label;
+    }
+  if (!held) found.push({ book, number, label, bytes: walk.bytes.subarray(start, walk.at) });
+}
+
+/** Reads a book: its label, and its entries. */
+function* pages(walk, found, book, depth) {
+  if (depth > MOST_NESTED) throw new Fault(`more than ${MOST_NESTED} books stand in one another`);
+  for (const name of walk.members()) {
+    if (name === "blueprints" && walk.sign() === SIGN["["]) {
+      let number = 0;
+      for (const _ of walk.parts("[", "]")) {
+        number += 1;
+        yield entry(walk, found, book, number, depth);
+      }
+    } else {
+      const isString = walk.sign() === QUOTE;
+      const value = walk.value();
+      if (name === "label" && isString && text(value).trim()) book.label = text(value);
+    }
+  }
+}
+
+/** The entries of a text of JSON, and what is wrong with the text, or null. Those before the fault are told too. */
+const entries = (bytes) => {
+  const walk = new Walk(bytes);
+  const found = [];
+  const open = [entry(walk, found, null, 1, 0)];
+  try {
+    while (open.length) {
+      const { done, value } = open[open.length - 1].next();
+      if (done) open.pop();
+      else if (value) open.push(value);
+    }
+    if (walk.sign() !== undefined) throw new Fault(`more follows at byte ${walk.at}, where the text's value ends`);
+  } catch (fault) {
+    if (!(fault instanceof Fault)) throw fault;
+    return { found, fault: fault.message };
+  }
+  return { found, fault: null };
+};
+
+/** The books around an entry, from the outermost on. */
+const booksAround = (it) => {
+  const line = [];
+  for (let book = it.book; book; book = book.above) line.unshift(book);
+  return line;
+};

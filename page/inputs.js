@@ -1,0 +1,97 @@
+// What was pasted or dropped: the designs in it, each with its name, its place in a book and its bytes, or why there is none.
+
+/** How many bytes are read of a file at most. */
+const MOST_READ = 64 * 2 ** 20;
+
+/** How a blueprint string begins: the version byte, and what base64 makes of the head of zlib's formats. */
+const BEGINNING = /(?<![\w+/])0e[AFJN][\w+/-]+=*/g;
+const GOING_ON = /^[\w+/-]+=*$/;
+
+const decoder = new TextDecoder();
+const encoder = new TextEncoder();
+const isJson = (bytes) => new Walk(bytes).sign() === SIGN["{"];
+
+/** The blueprint strings in a text: each may be wrapped over lines or quoted, and other words may stand around them. */
+const stringsIn = (written) => {
+  const found = [];
+  let isOpen = false;
+  for (const line of written.split("\n").map((it) => it.replace(/^[>\s]+|\s+$/g, ""))) {
+    const begun = line.match(BEGINNING) ?? [];
+    if (isOpen && !begun.length && GOING_ON.test(line)) found[found.length - 1] += line;
+    else {
+      found.push(...begun);
+      isOpen = begun.length > 0 && line.endsWith(begun[begun.length - 1]);
+    }
+  }
+  return found;
+};
+
+/** The designs in a text of JSON: itself, or those of a book. */
+const fromJson = (bytes, name) => {
+  const { found, fault } = entries(bytes);
+  // No book: the program tells what is wrong with the text.
+  if (fault && !found.some((it) => it.book)) return [{ name, books: [], place: "", bytes }];
+  const designs = found.map((it) => {
+    const around = booksAround(it);
+    const books = around.slice(1).map((book) => plain(book.label ?? String(book.number)));
+    const place = around.length ? [...around.slice(1).map((book) => book.number), it.number].join(".") : "";
+    const label = plain(it.label ?? (it.book ? String(it.number) : name));
+    return { name: label, books, place, bytes: it.book ? it.bytes : bytes };
+  });
+  if (fault) designs.push({ name: "the rest", books: [], place: "", bytes: null, trouble: `${fault}, and what stands behind isn't read` });
+  return designs;
+};
+
+/** The designs of one blueprint string. */
+const fromString = async (string, name) => {
+  try {
+    const bytes = await inflate(string.replace(/-/g, "+").replace(/_/g, "/"));
+    if (!isJson(bytes)) throw new Damaged("the string holds no object of JSON");
+    return fromJson(bytes, name);
+  } catch (fault) {
+    if (!(fault instanceof Damaged)) throw fault;
+    return [{ name, books: [], place: "", bytes: null, trouble: fault.message }];
+  }
+};
+
+const FENCE = /^[ \t]*```.*(?:\r?\n|$)/gm;
+
+/** How a design of JSON begins in the midst of words. */
+const JSON_START = /\{\s*"blueprint(?:_book)?"\s*:/;
+
+/** A text of JSON without the words behind it, where it can be told where they begin. */
+const unworded = (bytes) => {
+  const walk = new Walk(bytes);
+  try {
+    walk.value();
+  } catch (fault) {
+    if (!(fault instanceof Fault)) throw fault;
+    return bytes;
+  }
+  return bytes.subarray(0, walk.at);
+};
+
+/** The bytes as signs of one byte each, in which places are those of the bytes. */
+const latin = (bytes) => new TextDecoder("latin1").decode(bytes);
+
+/** The designs in what was given: blueprint strings, JSON or a network text, with fences or words around them. */
+const designsIn = async (given, name) => {
+  let bytes = given[0] === 0xef && given[1] === 0xbb && given[2] === 0xbf ? given.subarray(3) : given;
+  let written = decoder.decode(bytes);
+  if (!written.trim()) return [];
+  if (written.trimStart().startsWith("```")) {
+    written = written.replace(FENCE, "");
+    bytes = encoder.encode(written);
+  }
+  if (isJson(bytes)) return fromJson(bytes, name);
+  if (/^\s*net(\s|$)/.test(written)) return [{ name, books: [], place: "", bytes: encoder.encode(written.replace(/\r\n/g, "\n")) }];
+  const found = stringsIn(written);
+  const designs = [];
+  for (const [at, it] of found.entries()) designs.push(...(await fromString(it, found.length === 1 ? name : `${name}, string ${at + 1}`)));
+  if (designs.length) return designs;
+  const begin = latin(bytes).search(JSON_START);
+  if (begin >= 0) return fromJson(unworded(bytes.subarray(begin)), name);
+  const word = written.trim();
+  if (/^\d\S+$/.test(word)) return fromString(word, name);
+  return [{ name, books: [], place: "", bytes: null, trouble: "it is no blueprint string, no JSON and no network text" }];
+};

@@ -1,0 +1,212 @@
+// Bare halves of splitters, and how they are opened: with belts of the splitter's tier, straight from the half to one cell
+// beyond the border of the design. What comes out has the network of before and just these ends more, by the program's own
+// word; a half for which that isn't so stays bare. The same as `collection/openings.py`.
+
+/** Why a design has no network, as the program says it. */
+class Refused extends Error {}
+
+const WITHOUT_ENDS = `refused ${NO_ENDS} `;
+
+/** The cells that are taken, by row and by column, and by what. */
+class Ground {
+  constructor(found, bystanders) {
+    this.taken = new Map(bystanders.flatMap((it) => it.cells.map((cell) => [keyOf(cell), { cell, by: it.name }])));
+    for (const part of found.parts) for (const cell of part.cells) this.taken.set(keyOf(cell), { cell, by: `the ${part.kind}` });
+    this.box = spanOf(found.parts.flatMap((it) => it.cells));
+    this.lines = new Map();
+    for (const { cell } of this.taken.values())
+      for (const axis of [0, 1]) {
+        const line = `${axis}:${cell[1 - axis]}`;
+        if (!this.lines.has(line)) this.lines.set(line, []);
+        this.lines.get(line).push(cell[axis]);
+      }
+    for (const line of this.lines.values()) line.sort((a, b) => a - b);
+  }
+
+  /** The first taken cell ahead, or null. */
+  firstTaken(cell, direction) {
+    const axis = direction === EAST || direction === WEST ? 0 : 1;
+    const line = this.lines.get(`${axis}:${cell[1 - axis]}`);
+    const isAhead = direction === EAST || direction === SOUTH;
+    const found = isAhead ? line.find((it) => it > cell[axis]) : line.findLast((it) => it < cell[axis]);
+    if (found === undefined) return null;
+    return axis === 0 ? [found, cell[1]] : [cell[0], found];
+  }
+
+  /** How many cells lie between this one and that beyond the border ahead, which counts. */
+  toBorder([x, y], direction) {
+    const [leastX, leastY, mostX, mostY] = this.box;
+    return [y - leastY, mostX - x, mostY - y, x - leastX][direction] + 1;
+  }
+}
+
+/** The ways of all bare ends, with so many belts at most. No two of them cross: the shorter goes before. */
+const waysOf = (found, bystanders, most) => {
+  const ground = new Ground(found, bystanders);
+  const used = new Map();
+  const ends = bareEnds(found.parts).map((bare) => {
+    const part = found.parts[bare.part];
+    const direction = bare.front ? part.direction : (part.direction + 2) % 4;
+    const cell = part.cells[bare.half];
+    return { bare, part, direction, cell, count: ground.toBorder(cell, direction) };
+  });
+  for (const end of [...ends].sort((a, b) => a.count - b.count)) {
+    const { bare, part, direction, cell, count } = end;
+    const place = placeOf(found.parts, bare);
+    const there = ground.firstTaken(cell, direction);
+    let why = null;
+    let cells = [];
+    if (there) why = `${ground.taken.get(keyOf(there)).by} at tile ${tile(there)} is in the way`;
+    else if (count > most - used.size) why = `the design would have more than ${MOST_ENTITIES} entities`;
+    else {
+      cells = Array.from({ length: count }, (_, at) => step(cell, direction, at + 1));
+      const crossed = cells.map((it) => used.get(keyOf(it))).find(Boolean);
+      why = crossed ? `its way crosses that of the ${spelled([crossed])}` : null;
+    }
+    if (!why) for (const it of cells) used.set(keyOf(it), place);
+    end.way = { place, splitter: part, front: bare.front, cells, why };
+  }
+  return ends.map((it) => it.way);
+};
+
+/** The entities of the belts of these ways, as texts. */
+const beltsOf = (found, bytes, ways) => {
+  const list = new Listed(bytes);
+  let number = Math.max(0, ...list.entities.map((it) => list.value(it, "entity_number")).filter(Number.isInteger));
+  const quarter = found.isSixteenths ? 4 : 2;
+  return ways.flatMap((way) =>
+    way.cells.map((cell) => {
+      number += 1;
+      const [x, y] = cell.map((it, axis) => (2 * it + 1 + found.shift[axis]) / 2);
+      const name = `${PREFIXES[way.splitter.tier]}transport-belt`;
+      return asBytes(`{"entity_number":${number},"name":"${name}","position":{"x":${x},"y":${y}},"direction":${quarter * way.splitter.direction}}`);
+    }),
+  );
+};
+
+/** A network's lines without these ends and the edges at them, all else numbered anew. */
+const linesWithout = (lines, ends) => {
+  const head = lines[0].split(" ");
+  const places = new Map();
+  const counts = [0, 0];
+  ["i", "o"].forEach((sign, which) => {
+    for (let k = 0; k < Number(head[1 + which]); k += 1)
+      if (!ends.has(`${sign}${k}`)) {
+        places.set(`${sign}${k}`, `${sign}${counts[which]}`);
+        counts[which] += 1;
+      }
+  });
+  const told = lines.slice(1).map((it) => it.split(" "));
+  const numbers = new Map();
+  const kept = [];
+  told
+    .filter((it) => it[0] === "edge")
+    .forEach(([, source, target, ...cap], number) => {
+      if (ends.has(source) || ends.has(target)) return;
+      numbers.set(String(number), numbers.size);
+      kept.push(["edge", places.get(source) ?? source, places.get(target) ?? target, ...cap].join(" "));
+    });
+  for (const [word, splitter, edge] of told) if ((word === "give" || word === "take") && numbers.has(edge)) kept.push(`${word} ${splitter} ${numbers.get(edge)}`);
+  return [`net ${counts[0]} ${counts[1]} ${head[3]}`, ...kept, "end"];
+};
+
+const plainLines = (lines) => lines.filter((it) => !/^(give|take) /.test(it));
+const areSame = (some, others) => some.length === others.length && some.every((it, at) => it === others[at]);
+const linesIn = (written) => written.split("\n").filter((it, at, all) => it || at < all.length - 1);
+
+/** A design with the program's word on it, from which ways are opened. `recover` asks the program. */
+class Opening {
+  static async of(bytes, bystanders, recover) {
+    const it = new Opening();
+    Object.assign(it, { bytes, recover, answer: await recover(bytes), found: null, network: null, ways: [] });
+    it.isWhole = it.answer.startsWith("net ");
+    if (!it.isWhole && !it.answer.startsWith(WITHOUT_ENDS)) throw new Refused(it.answer);
+    it.lines = it.isWhole ? linesIn(it.answer) : [];
+    try {
+      const found = readDesign(bytes);
+      it.network = new Layout(found.parts).network();
+      it.found = found;
+      if (it.network.splitters.length) it.ways = waysOf(found, bystanders, MOST_ENTITIES - found.parts.length);
+    } catch (fault) {
+      if (!(fault instanceof Unreadable || fault instanceof Untraced)) throw fault;
+      it.network = null;
+    }
+    if (it.network && !it.isWhole) it.lines = linesOf(it.network);
+    return it;
+  }
+
+  /** How many inputs and outputs there are. */
+  ends() {
+    return this.lines.length ? this.lines[0].split(" ").slice(1, 3).map(Number) : [0, 0];
+  }
+
+  /** How many there are with these ways open. */
+  moreEnds(ways) {
+    const [inputs, outputs] = this.ends();
+    return [inputs + ways.filter((it) => !it.front).length, outputs + ways.filter((it) => it.front).length];
+  }
+
+  /** The bytes with these ways open, and what the program says of them; and why they can't be taken, or null. */
+  async withWays(ways) {
+    const bytes = new Listed(this.bytes).withMore(beltsOf(this.found, this.bytes, ways));
+    const answer = await this.recover(bytes);
+    const other = "with belts there the network would be another one";
+    if (!answer.startsWith("net ") && !answer.startsWith(WITHOUT_ENDS)) return { bytes, answer, why: `with belts there the program says: ${toldRefusal(answer, bytes).words}` };
+    let network = null;
+    try {
+      network = new Layout(readDesign(bytes).parts).network();
+    } catch (fault) {
+      if (!(fault instanceof Unreadable || fault instanceof Untraced)) throw fault;
+      return { bytes, answer, why: other };
+    }
+    const before = this.found.parts.length;
+    const added = (sign, them) => them.flatMap((it, k) => (it.part >= before ? [`${sign}${k}`] : []));
+    const ends = new Set([...added("i", network.inputs), ...added("o", network.outputs)]);
+    const isTold = answer.startsWith("net ");
+    const left = linesWithout(isTold ? linesIn(answer) : linesOf(network), ends);
+    const isSame = this.isWhole ? areSame(left, this.lines) : areSame(plainLines(left), this.lines);
+    const isTraced = isTold ? isSameNetwork(network, answer) : !(network.inputs.length && network.outputs.length);
+    return { bytes, answer, why: isTraced && isSame && ends.size === ways.length ? null : other };
+  }
+
+  /** Opens these ways, but for those with which the network would be another one. */
+  async opened(ways) {
+    let best = { bytes: this.bytes, answer: this.answer };
+    let kept = [];
+    const refused = new Map();
+    const left = ways.length ? [ways] : [];
+    while (left.length) {
+      const batch = left.pop();
+      const { bytes, answer, why } = await this.withWays([...kept, ...batch]);
+      if (why === null) {
+        best = { bytes, answer };
+        kept = [...kept, ...batch];
+      } else if (batch.length === 1) refused.set(batch[0], why);
+      else {
+        const middle = Math.floor(batch.length / 2);
+        left.push(batch.slice(middle), batch.slice(0, middle));
+      }
+    }
+    const unopened = this.ways.filter((it) => it.why || refused.has(it)).map((it) => ({ place: it.place, why: it.why ?? refused.get(it) }));
+    const after = this.moreEnds(kept);
+    const belts = kept.reduce((count, it) => count + it.cells.length, 0);
+    return { ...best, belts, opened: kept.map((it) => it.place), unopened, before: this.ends(), after, would: after };
+  }
+}
+
+/** Opens bare halves: all; or none; or all where the design has no input or no output without them, and where its label tells
+    of as many ends as it has with all, all inputs or all outputs open, and hasn't without. */
+const openedBy = async (opening, mode, label) => {
+  const free = opening.ways.filter((it) => !it.why);
+  const whole = await opening.opened(free);
+  if (mode === "always") return whole;
+  const shut = { ...(await opening.opened([])), unopened: whole.unopened, would: whole.after };
+  const pairs = pairsIn(label);
+  if (mode === "never" || (opening.isWhole && isAmong(shut.after, pairs))) return shut;
+  for (const ways of [free, free.filter((it) => it.front), free.filter((it) => !it.front)]) {
+    if (!ways.length || !isAmong(opening.moreEnds(ways), pairs)) continue;
+    const found = { ...(await opening.opened(ways)), would: whole.after };
+    if (isAmong(found.after, pairs)) return found;
+  }
+  return opening.isWhole ? shut : whole;
+};

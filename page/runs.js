@@ -1,0 +1,77 @@
+// Runs of the program, each in a worker that can be stopped.
+
+/** How a run ended where the program told nothing, in words. */
+const TROUBLES = {
+  stack: "the program's stack ended before it had an answer",
+  trap: "the program trapped, which is a fault of it or of what built this page",
+  fault: "the browser couldn't run the program",
+  stopped: "it was stopped",
+};
+
+/** Statuses that say nothing of the design, in words. */
+const FAULTS = {
+  2: "the program doesn't know these words",
+  6: "the program couldn't read what it was given",
+  7: "the program couldn't write its answer",
+  8: "there was too little memory: a page has 4 GB at most, and the browser may give less",
+  11: "the text is longer than the program reads",
+};
+
+class Program {
+  constructor(bytes, source) {
+    this.bytes = bytes;
+    this.address = URL.createObjectURL(new Blob([source], { type: "text/javascript" }));
+    this.idle = [];
+    this.running = new Set();
+    this.changed = () => {};
+  }
+
+  worker() {
+    const worker = this.idle.pop();
+    if (worker) return worker;
+    const made = new Worker(this.address);
+    made.postMessage({ program: this.bytes });
+    return made;
+  }
+
+  /** Begins a run of these words over these bytes; `told` is a promise of how it ended, and `stop` ends it. */
+  run(words, input, what) {
+    const worker = this.worker();
+    const run = { what, words, since: performance.now() };
+    run.told = new Promise((resolve) => {
+      const end = (told, keeps) => {
+        if (!this.running.delete(run)) return;
+        if (keeps) this.idle.push(worker);
+        else worker.terminate();
+        this.changed();
+        resolve(told);
+      };
+      worker.onmessage = ({ data }) => end(data, !data.trouble);
+      worker.onerror = (event) => {
+        event.preventDefault();
+        end({ trouble: "fault", why: event.message ?? "", seconds: 0 }, false);
+      };
+      run.stop = () => end({ trouble: "stopped", seconds: (performance.now() - run.since) / 1000 }, false);
+    });
+    this.running.add(run);
+    this.changed();
+    worker.postMessage({ words, input });
+    return run;
+  }
+
+  stopAll() {
+    for (const run of [...this.running]) run.stop();
+  }
+}
+
+/** Why a run told nothing of the design, in words, or null where it did. */
+const faultOf = (told) => {
+  if (told.trouble) return told.trouble === "fault" && told.why ? `${TROUBLES.fault} (${told.why})` : TROUBLES[told.trouble];
+  return FAULTS[told.status] ?? null;
+};
+
+/** The first line of what was written. */
+const firstLine = (bytes) => {
+  const end = bytes.indexOf(10);
+  return new TextDecoder().decode(bytes.subarray(0, end < 0 ? Math.min(bytes.length, 4096) : Math.min(end, 4096)));
+};

@@ -1,0 +1,89 @@
+"""The page as one file: the program, the examples, the scripts and the style in one text that loads nothing."""
+
+import base64
+import hashlib
+import json
+import re
+import struct
+import zlib
+from pathlib import Path
+
+HERE = Path(__file__).resolve().parent
+TOP = HERE.parent
+EXAMPLES = TOP / "examples"
+SCRIPTS = "strings books design trace picture states refusals entities cleaning labels openings inputs runs dom drawing page".split()
+PICTURE_RULES = re.compile(r"^\.body\{.*?(?=^@media)", re.M | re.S)
+COLORS = re.compile(r"^:root\{.*?\n(?=\*\{)", re.M | re.S)
+MOST_BYTES = 500_000
+
+
+def scripts(names):
+    """These scripts, which share their names, as one, with the list of what can't touch a belt."""
+    tiles = json.loads((TOP / "collection" / "bystanders.json").read_text("utf-8"))["tiles"]
+    listed = f"const BYSTANDER_TILES = {json.dumps(tiles, separators=(',', ':'))};"
+    return "\n".join(['"use strict";', listed, *((HERE / f"{name}.js").read_text("utf-8") for name in names)])
+
+
+def style():
+    """The style: the colours of pictures and their rules are those of the report."""
+    report = (TOP / "collection" / "report.css").read_text("utf-8")
+    shared = [COLORS.search(report).group(), PICTURE_RULES.search(report).group()]
+    return "".join([*shared, (HERE / "style.css").read_text("utf-8")])
+
+
+def samples():
+    """The examples that can be chosen: each with its name and its text."""
+    lines = (HERE / "samples.txt").read_text("utf-8").splitlines()
+    named = [line.split(maxsplit=1) for line in lines]
+    return [{"name": name, "text": (EXAMPLES / file).read_text("utf-8")} for file, name in named]
+
+
+def packed(module):
+    """The examples and the program, compressed: the length of the examples in four bytes, their JSON, and the module."""
+    told = json.dumps(samples(), separators=(",", ":")).encode()
+    squeeze = zlib.compressobj(9, zlib.DEFLATED, 15, 9)
+    return base64.b64encode(squeeze.compress(struct.pack("<I", len(told)) + told + module) + squeeze.flush()).decode()
+
+
+def unpacked(page):
+    """A page with what is packed in it as it was before: what compresses it may differ from machine to machine."""
+    found = re.search(rb'(<script type="application/octet-stream" id="program">)([^<]*)', page)
+    return page[: found.start(2)] + zlib.decompress(base64.b64decode(found.group(2))) + page[found.end(2) :]
+
+
+def hash_of(text):
+    return f"'sha256-{base64.b64encode(hashlib.sha256(text.encode()).digest()).decode()}'"
+
+
+def policy(script_text, style_text):
+    """What the page may do: run its own script and its worker, and show its own style; and load nothing."""
+    rules = {
+        "default-src": "'none'",
+        "script-src": f"{hash_of(script_text)} 'wasm-unsafe-eval'",
+        "style-src": hash_of(style_text),
+        "worker-src": "blob:",
+        "img-src": "data:",
+        "base-uri": "'none'",
+        "form-action": "'none'",
+    }
+    return "; ".join(f"{name} {value}" for name, value in rules.items())
+
+
+def page_of(module):
+    """The whole page around this module."""
+    texts = {"style": style(), "script": scripts(SCRIPTS), "worker": (HERE / "worker.js").read_text("utf-8")}
+    for name, text in texts.items():
+        if "</" + name in text or "<!--" in text or "</script" in text:
+            raise ValueError(f"the {name} holds a mark that would end it")
+    texts |= {"policy": policy(texts["script"], texts["style"]), "program": packed(module)}
+    template = (HERE / "template.html").read_text("utf-8")
+    whole = re.sub(r"\{(style|script|worker|policy|program)\}", lambda found: texts[found.group(1)], template)
+    return whole.encode()
+
+
+def module_of(page):
+    """The program in a page."""
+    found = re.search(rb'<script type="application/octet-stream" id="program">([^<]*)', page)
+    whole = zlib.decompress(base64.b64decode(found.group(1)))
+    (length,) = struct.unpack_from("<I", whole)
+    return whole[4 + length :]

@@ -1,0 +1,71 @@
+// Blueprint strings: a version byte, and then, in base64, JSON that is compressed with zlib.
+
+/** How many bytes a string inflates to at most. */
+const MOST_INFLATED = 64 * 2 ** 20;
+
+class Damaged extends Error {}
+
+/** These bytes one behind the other. */
+const glued = (parts) => {
+  const whole = new Uint8Array(parts.reduce((length, it) => length + it.length, 0));
+  let at = 0;
+  for (const it of parts) {
+    whole.set(it, at);
+    at += it.length;
+  }
+  return whole;
+};
+
+const fromBase64 = (text) => {
+  const binary = atob(text);
+  const bytes = new Uint8Array(binary.length);
+  for (let at = 0; at < binary.length; at += 1) bytes[at] = binary.charCodeAt(at);
+  return bytes;
+};
+
+const toBase64 = (bytes) => {
+  const parts = [];
+  for (let at = 0; at < bytes.length; at += 0x8000) parts.push(String.fromCharCode(...bytes.subarray(at, at + 0x8000)));
+  return btoa(parts.join(""));
+};
+
+/** What passes through a stream, at most so many bytes of it: more is an error. */
+const through = async (bytes, stream, most) => {
+  const writer = stream.writable.getWriter();
+  // What goes wrong here shows where it is read.
+  writer.write(bytes).then(() => writer.close()).catch(() => {});
+  const reader = stream.readable.getReader();
+  const parts = [];
+  let length = 0;
+  for (;;) {
+    const { done, value } = await reader.read();
+    if (done) break;
+    length += value.length;
+    if (length > most) {
+      reader.cancel().catch(() => {});
+      throw new Damaged(`the string inflates past ${most / 2 ** 20} MB`);
+    }
+    parts.push(value);
+  }
+  return glued(parts);
+};
+
+/** The bytes that a blueprint string holds. */
+const inflate = async (string) => {
+  if (!string.startsWith("0")) throw new Damaged(`a blueprint string begins with 0, its version byte, and not with ${string.slice(0, 1)}`);
+  let packed = null;
+  try {
+    packed = fromBase64(string.slice(1));
+  } catch {
+    throw new Damaged("the string is damaged: it is no base64");
+  }
+  try {
+    return await through(packed, new DecompressionStream("deflate"), MOST_INFLATED);
+  } catch (fault) {
+    if (fault instanceof Damaged) throw fault;
+    throw new Damaged("the string is damaged: it doesn't inflate, or it ends too early, or more follows behind it");
+  }
+};
+
+/** The blueprint string of these bytes. */
+const deflate = async (bytes) => `0${toBase64(await through(bytes, new CompressionStream("deflate"), Infinity))}`;

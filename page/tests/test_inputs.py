@@ -1,0 +1,127 @@
+"""What is pasted or dropped: strings however they are wrapped, books, JSON, network texts, and what is none of these."""
+
+import base64
+import json
+import time
+import unittest
+import zlib
+
+from collection import inputs
+from collection.strings import deflate
+from collection.tests import BOOK, belt, blueprint
+
+from . import EXAMPLES, needs_node, run_scripts
+
+NAMES = ["strings", "books", "design", "refusals", "inputs"]
+DRIVER = """
+const fs = require("fs");
+const asked = JSON.parse(fs.readFileSync(0, "utf8"));
+const main = async () => {
+  const answers = [];
+  for (const it of asked) {
+    const bytes = new Uint8Array(Buffer.from(it, "base64"));
+    const began = performance.now();
+    const found = await designsIn(bytes, "pasted");
+    const designs = found.map((one) => ({ name: one.name, books: one.books.join("/"), place: one.place, text: one.bytes && Buffer.from(one.bytes).toString("base64"), trouble: one.trouble ?? null }));
+    answers.push({ designs, seconds: (performance.now() - began) / 1000 });
+  }
+  fs.writeSync(1, JSON.stringify(answers.length > 1 || answers[0].designs.length < 3000 ? answers : [{ seconds: answers[0].seconds, count: answers[0].designs.length }]));
+};
+main();
+"""
+
+
+def book(*designs, label="outer"):
+    return {"blueprint_book": {"item": "blueprint-book", "label": label, "blueprints": [{"index": n, **it} for n, it in enumerate(designs)]}}
+
+
+def wrapped(string, width=60, start=""):
+    return "\n".join(start + string[at : at + width] for at in range(0, len(string), width))
+
+
+def given(texts):
+    return json.dumps([base64.b64encode(it if isinstance(it, bytes) else it.encode()).decode() for it in texts]).encode()
+
+
+@needs_node
+class Inputs(unittest.TestCase):
+    def ask(self, *texts):
+        return json.loads(run_scripts(NAMES, DRIVER, given(texts)))
+
+    def test_each_way_to_paste_gives_the_design(self):
+        text = (EXAMPLES / "balancer-4-to-4.json").read_bytes()
+        string = deflate(text)
+        lines = {
+            "as it is": string,
+            "blanks around": f"  \n{string}\r\n\n",
+            "wrapped": wrapped(string),
+            "wrapped, CRLF": wrapped(string).replace("\n", "\r\n"),
+            "quoted": wrapped(string, start="> "),
+            "words around": f"Look at this balancer:\n\n{string}\n\nIsn't it fine? 0 to 4.",
+            "in a line": f"my balancer is {string} and works",
+            "fenced": f"```\n{string}\n```",
+            "fenced and wrapped": f"here:\n```text\n{wrapped(string)}\n```\nbye",
+            "no padding": string.rstrip("="),
+            "mark of order": b"\xef\xbb\xbf" + string.encode(),
+            "JSON": text,
+            "JSON, fenced": b"```json\n" + text + b"```\n",
+            "JSON with words": b"this is it: " + text + b" and that was it",
+        }
+        for name, it in zip(lines, self.ask(*lines.values()), strict=True):
+            with self.subTest(name):
+                self.assertEqual(len(it["designs"]), 1)
+                self.assertEqual(json.loads(base64.b64decode(it["designs"][0]["text"])), json.loads(text))
+
+    def test_books_are_those_of_the_report(self):
+        deep = '{"blueprint_book":{"blueprints":[' * 5000 + '{"blueprint":{"label":"deep"}}' + "]}}" * 5000
+        texts = [
+            BOOK.read_bytes(),
+            json.dumps(book(json.loads(blueprint(belt(0, 0), label="one")), {"upgrade_planner": {}}, book({"blueprint": {"label": "\u202etwo"}}, label="in"))),
+            deep,
+            '{"blueprint_book":{"blueprints":[{"blueprint":{"label":"a"}},{"blueprint":{"label":"b"},]}}',
+            '{"blueprint_book":{"label":"x","blueprints":[]}}',
+            '{"blueprint_book":{"blueprints":[{"blueprint":{"label":"a \\u00e9 \\" ]"}}]}} more',
+            '{"blueprint":{"label":"alone"}}',
+            '{"blueprint":',
+            "[]",
+        ]
+        for text, it in zip(texts, self.ask(*texts), strict=True):
+            data = text if isinstance(text, bytes) else text.encode()
+            theirs = inputs.from_bytes(data, "pasted", "pasted")
+            with self.subTest(text=text[:60]):
+                self.assertEqual(len(it["designs"]), len(theirs))
+                for ours, other in zip(it["designs"], theirs):
+                    self.assertEqual((ours["text"] and base64.b64decode(ours["text"])), other.text)
+                    if other.text is not None:
+                        self.assertEqual((ours["name"], ours["books"], ours["place"]), (other.label(), other.books, other.place))
+                    else:
+                        self.assertTrue(ours["trouble"])
+
+    def test_what_is_no_design_is_told(self):
+        bomb = "0" + base64.b64encode(zlib.compress(b"[" * (65 << 20), 9)).decode()
+        cases = {
+            "what": "no blueprint string",
+            "1eNqrVg": "version byte",
+            "0eNq*": "damaged",
+            "0" + "e" * 30: "damaged",
+            deflate(b"{}")[:-12]: "damaged",
+            deflate(b"[1]"): "no object of JSON",
+            bomb: "past 64 MB",
+        }
+        began = time.monotonic()
+        for (text, why), it in zip(cases.items(), self.ask(*cases), strict=True):
+            with self.subTest(text=text[:40]):
+                self.assertEqual([one["text"] for one in it["designs"]], [None])
+                self.assertIn(why, it["designs"][0]["trouble"])
+        self.assertLess(time.monotonic() - began, 60)
+        self.assertEqual([it["designs"] for it in self.ask("", " \n ")], [[], []])
+
+    def test_a_large_book_is_opened(self):
+        text = (EXAMPLES / "balancer-8-to-8.json").read_text()
+        whole = json.dumps(book(*([json.loads(text)] * 3000)))
+        found = self.ask(deflate(whole.encode()))
+        self.assertEqual(found[0]["count"], 3000)
+
+
+if __name__ == "__main__":
+    unittest.main()

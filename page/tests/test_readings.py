@@ -1,0 +1,130 @@
+"""What is left out of a design and how its bare halves are opened: the same as the report's tools do it, byte for byte."""
+
+import json
+import subprocess
+import unittest
+
+from collection import cleaning, design, labels, openings
+from collection.books import entries
+from collection.strings import inflate
+from collection.tests import belt, blueprint, program_path
+
+from . import EXAMPLES, needs_node, run_scripts
+
+NAMES = ["strings", "books", "design", "trace", "states", "refusals", "entities", "cleaning", "labels", "openings"]
+DRIVER = """
+const fs = require("fs");
+const { spawnSync } = require("child_process");
+const { program, cases, labels } = JSON.parse(fs.readFileSync(0, "utf8"));
+const recover = async (bytes) => {
+  const told = spawnSync(program, ["recover"], { input: bytes });
+  const text = told.stdout.toString();
+  return told.status === 0 ? text : text.split("\\n")[0];
+};
+const written = (bytes) => Buffer.from(bytes).toString();
+const place = ({ kind, cell }) => [kind, ...cell];
+const answer = async ({ text, mode, label }) => {
+  const bytes = new TextEncoder().encode(text);
+  const clean = cleaned(bytes);
+  try {
+    const opening = await Opening.of(clean.bytes, bystandersOf(bytes), recover);
+    const found = await openedBy(opening, mode, label);
+    const unopened = found.unopened.map((it) => [place(it.place), it.why]);
+    const { answer, belts, before, after, would } = found;
+    return { notes: clean.notes, text: written(found.bytes), answer, belts, opened: found.opened.map(place), unopened, before, after, would };
+  } catch (fault) {
+    if (!(fault instanceof Refused)) throw fault;
+    return { notes: clean.notes, text: written(clean.bytes), refused: fault.message };
+  }
+};
+const main = async () => {
+  const answers = [];
+  for (const it of cases) answers.push(await answer(it));
+  fs.writeSync(1, JSON.stringify({ answers, pairs: labels.map(pairsIn), spelled: labels.map((it) => spelledPairs(pairsIn(it))) }));
+};
+main();
+"""
+SPELLINGS = ["4 to 4", "4-4", "4:4", "4x4", "4→4", "4 -> 2", "3 => 5 balancer", "8 × 8 (9x11)", "v2.0", "4-to-4 and 2-to-2", "1:2:3", "[color=red]6[/color] to 6", "10x10cm", "", "a 4–4", "0 to 4", "4 to 4.5"]
+
+
+def trimmed(text):
+    """A design without its belts."""
+    told = json.loads(text)
+    told["blueprint"]["entities"] = [it for it in told["blueprint"]["entities"] if "splitter" in it["name"]]
+    return json.dumps(told)
+
+
+def with_more(text, *entities):
+    told = json.loads(text)
+    told["blueprint"]["entities"] += entities
+    return json.dumps(told)
+
+
+def without_one(text, at):
+    """A design without one of its entities."""
+    told = json.loads(text)
+    del told["blueprint"]["entities"][at]
+    return json.dumps(told)
+
+
+POLE = {"entity_number": 900, "name": "small-electric-pole", "position": {"x": 0.5, "y": 40.5}}
+
+
+def cases():
+    texts = [it.read_text() for it in sorted(EXAMPLES.glob("*.json")) if "16-to-16" not in it.name]
+    texts += [it.text for it in entries(inflate((EXAMPLES / "collection" / "book.txt").read_text()).decode())[0]][:6]
+    texts = [it for it in texts if "blueprint_book" not in it]
+    for text in texts:
+        yield text, "label", "4 to 4"
+        yield trimmed(text), "label", ""
+        yield with_more(trimmed(text), POLE, {"name": "radar", "position": {"x": 3.5, "y": -2.5}}), "always", ""
+        yield without_one(text, 0), "always", ""
+        yield without_one(text, -1), "label", "4-4"
+    reading = belt(9, 9, control_behavior={"circuit_read_hand_contents": True, "circuit_enabled": False, "circuit_condition": {}})
+    stopping = belt(9, 9, control_behavior={"circuit_enabled": True})
+    two = blueprint({"name": "splitter", "position": {"x": 3, "y": 5.5}}, {"name": "fast-splitter", "position": {"x": 3, "y": 2.5}, "direction": 2}, version=2 << 48)
+    turned = blueprint({"name": "splitter", "position": {"x": 3.5, "y": 5}, "direction": 4}, {"name": "splitter", "position": {"x": 6, "y": 5.5}, "direction": 0}, version=2 << 48)
+    for text in (blueprint(reading), blueprint(stopping), two, turned, with_more(two, POLE), "{", "{}", blueprint(), '{"blueprint":{"entities":[1]}}', blueprint(POLE)):
+        yield text, "always", ""
+        yield text, "never", "2 to 2"
+
+
+def read_by_report(text, mode, label, recover):
+    """The same as the script's driver, by the report's modules."""
+    clean = cleaning.cleaned(text)
+    told = {"notes": clean.notes}
+    try:
+        opening = openings.Opening(clean.text, design.bystanders(text), recover)
+        found = openings.opened(opening, mode, label)
+    except openings.Refused as refusal:
+        return told | {"text": clean.text, "refused": str(refusal)}
+    return told | {name: getattr(found, name) for name in "text answer belts opened unopened before after would".split()}
+
+
+def recover(text):
+    told = subprocess.run([program_path(), "recover"], input=text.encode(), stdout=subprocess.PIPE, check=False)
+    written = told.stdout.decode()
+    return written if told.returncode == 0 else written.partition("\n")[0]
+
+
+@needs_node
+class Readings(unittest.TestCase):
+    maxDiff = 3000
+
+    def test_designs_are_read_and_opened_as_by_the_report(self):
+        asked = [dict(zip(("text", "mode", "label"), it)) for it in cases()]
+        data = {"program": str(program_path()), "cases": asked, "labels": SPELLINGS}
+        told = json.loads(run_scripts(NAMES, DRIVER, json.dumps(data).encode()))
+        opened = 0
+        for it, ours in zip(asked, told["answers"], strict=True):
+            theirs = json.loads(json.dumps(read_by_report(**it, recover=recover)))
+            opened += bool(theirs.get("opened"))
+            with self.subTest(text=it["text"][:80], mode=it["mode"]):
+                self.assertEqual(ours, theirs)
+        self.assertGreater(opened, 10)
+        self.assertEqual(told["pairs"], [[list(pair) for pair in labels.told(it)] for it in SPELLINGS])
+        self.assertEqual(told["spelled"], [labels.spelled(labels.told(it)) for it in SPELLINGS])
+
+
+if __name__ == "__main__":
+    unittest.main()
