@@ -1,8 +1,9 @@
 //! A search for a layout where one is likely: of the placement formula with more clauses, by a plan.
-ghost use Rattle.std.specs.Prelude.{IfOk, IfSome};
+ghost use Rattle.std.specs.Prelude.{◌≡◌, IfOk, IfSome};
 ghost use Rattle.bt_place.specs.Narrowed.{IsNarrowed};
 ghost use Rattle.bt_place.specs.PlaceFormula.{place_formula};
-ghost use Rattle.bt_layout.specs.inner.Likely.{IsLaidOut, IsTrial, Solves};
+ghost use Rattle.bt_sat.specs.Solving.{begun};
+ghost use Rattle.bt_layout.specs.inner.Likely.{IsLaidOut, IsNarrowedSearch, IsTrial, Solves};
 
 use bt_cnf::{Formula, Lit};
 use bt_model::Request;
@@ -178,21 +179,64 @@ fn trial_of(alloc: Global, request: &Request, answer: Answer) -> Result<Trial, A
     }
 }
 
-/// Searches for a layout of a request where one is likely in a window of its rectangle. What is found is a layout; where
-/// none is found, nothing is said.
-pub fn look_in(alloc: Global, request: &Request, attempt: Attempt) -> Result<Tried, AllocError>
-    ensures { IfOk result (λ tried. IsTrial request.now tried.trial) }
+/// A search of a formula by a plan, with at most so many steps.
+fn planned(
+    alloc: Global,
+    formula: Formula,
+    plan: Plan,
+    steps: u64,
+) -> Result<Solver<Active>, AllocError>
+    ensures { IfOk result (λ solver. solver.kernel ≡ begun formula steps) }
+{
+    let choosers = vec![in alloc; Active::new(alloc)?]?;
+    Solver::by_plan(alloc, formula, choosers, steps, plan)
+}
+
+/// The search of an attempt, where the facts have these numbers.
+fn solver_by(
+    alloc: Global,
+    request: &Request,
+    numbers: &Numbers,
+    attempt: Attempt,
+) -> Result<Solver<Active>, AllocError>
+    ensures { IfOk result (λ solver. IsNarrowedSearch request.now solver.kernel) }
+{
+    let formula = narrowed(alloc, request, numbers, attempt.window)?;
+    let plan = likely(alloc, &formula, numbers, request, attempt)?;
+    planned(alloc, formula, plan, attempt.steps)
+}
+
+/// The search of an attempt.
+fn solver_of(
+    alloc: Global,
+    request: &Request,
+    attempt: Attempt,
+) -> Result<Solver<Active>, AllocError>
+    ensures { IfOk result (λ solver. IsNarrowedSearch request.now solver.kernel) }
 {
     let numbers = Numbers::new(alloc, request)?;
-    let formula = narrowed(alloc, request, &numbers, attempt.window)?;
-    let plan = likely(alloc, &formula, &numbers, request, attempt)?;
-    let choosers = vec![in alloc; Active::new(alloc)?]?;
-    let mut solver = Solver::by_plan(alloc, formula, choosers, attempt.steps, plan)?;
+    solver_by(alloc, request, &numbers, attempt)
+}
+
+/// What a search comes to, and the steps that it takes.
+fn trial_by(alloc: Global, request: &Request, solver: &mut Solver<Active>) -> Result<Tried, AllocError>
+    requires { IsNarrowedSearch request.now solver.old.kernel }
+    ensures { IfOk result (λ tried. IsTrial request.now tried.trial) }
+{
     let answer = solver.next_model()?;
     Ok(Tried {
         trial: trial_of(alloc, request, answer)?,
         steps: solver.log().len() as u64,
     })
+}
+
+/// Searches for a layout of a request where one is likely in a window of its rectangle. What is found is a layout; where
+/// none is found, nothing is said.
+pub fn look_in(alloc: Global, request: &Request, attempt: Attempt) -> Result<Tried, AllocError>
+    ensures { IfOk result (λ tried. IsTrial request.now tried.trial) }
+{
+    let mut solver = solver_of(alloc, request, attempt)?;
+    trial_by(alloc, request, &mut solver)
 }
 
 /// Searches for a layout of a request where one is likely, by at most so many steps of all windows together. What is

@@ -1,9 +1,13 @@
 -- What is found where a layout is likely.
-use Rattle.std.specs.Prelude.{List, AllPairs}
+use Rattle.std.specs.Prelude.{◌≡◌, ℕ, List, AllPairs}
 use Rattle.bt_parts.specs.declared.part.Part.{Part}
 use Rattle.bt_model.specs.Laying.{Lays}
 use Rattle.bt_model.specs.Requests.{LayoutRequest}
+use Rattle.bt_cnf.specs.Formulas.{FormulaParts}
+use Rattle.bt_place.specs.Narrowed.{IsNarrowed}
+use Rattle.bt_place.specs.PlaceFormula.{place_formula}
 use Rattle.bt_place.specs.Solutions.{ComesAbove, IsSolution}
+use Rattle.bt_sat.specs.Solving.{SolverParts, begun}
 use Rattle.bt_sat.specs.declared.solver.Answer.{Answer}
 use Rattle.bt_sat.specs.declared.solver.Answer.TheVariants as answer
 use Rattle.bt_layout.specs.declared.likely.Trial.{Trial}
@@ -12,6 +16,13 @@ use Rattle.bt_layout.specs.declared.likely.Trial.TheVariants.{Found, Refuted, Sp
 -- the parts lay the request, in ascending order of y and then x
 abbrev pub IsLaidOut : LayoutRequest → List Part → Type 0
 IsLaidOut r parts = Lays parts r × AllPairs ComesAbove parts
+
+-- the search begins, of the placement formula of the request with more clauses
+pub record IsNarrowedSearch (r : LayoutRequest) (s : SolverParts) : Type 0 where
+  pub formula : FormulaParts
+  pub narrowed : IsNarrowed (place_formula r) formula
+  pub limit : ℕ
+  pub begins : s ≡ begun formula limit
 
 -- a model that is answered is a solution of the request
 abbrev pub Solves : LayoutRequest → Answer → Type 0
