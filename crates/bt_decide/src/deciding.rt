@@ -3,19 +3,35 @@ ghost use Rattle.std.specs.Prelude.{◌≡◌, IfOk};
 ghost use Rattle.bt_decide.specs.Verdicts.{IsVerdict};
 ghost use Rattle.bt_decide.specs.inner.Outcomes.{IsVerdictOf};
 
-use crate::guessing::guesses_of;
 use crate::scopes::scopes_of;
 use crate::verdict::Verdict;
 use bt_cnf::{Chooser, Limits};
 use bt_fenc::{encode, state_of};
 use bt_flow::Property;
 use bt_net::Net;
+use bt_simulate::simplest;
 use bt_theory::{Outcome, solve};
 use std::alloc::{AllocError, Global};
 
-/// Decides within limits whether every steady state of a network has a property. Simulations that seem to
-/// break it are tried before the search. The choosers steer the search, which is right whatever they answer.
+/// Decides within limits whether every steady state of a network has a property. A state that simulations show is looked
+/// for before the search. The choosers steer the search, which is right whatever they answer.
 pub fn decide<C: Chooser>(
+    alloc: Global,
+    net: &Net,
+    property: Property,
+    limits: Limits,
+    choosers: Vec<C>,
+) -> Result<Verdict, AllocError>
+    ensures { IfOk result (IsVerdict net.now property limits) }
+{
+    match simplest(alloc, net, property)? {
+        Some(state) => Ok(Verdict::No(state)),
+        None => search(alloc, net, property, limits, choosers),
+    }
+}
+
+/// Decides by a search within limits whether every steady state of a network has a property.
+fn search<C: Chooser>(
     alloc: Global,
     net: &Net,
     property: Property,
@@ -26,8 +42,7 @@ pub fn decide<C: Chooser>(
 {
     let formula = encode(alloc, net, property)?;
     let scopes = scopes_of(alloc, net, property, formula.rows())?;
-    let guesses = guesses_of(alloc, net, property, &formula)?;
-    let outcome = solve(alloc, formula, &scopes, &guesses, choosers, limits)?;
+    let outcome = solve(alloc, formula, &scopes, &[], choosers, limits)?;
     let verdict = verdict_of(alloc, net, outcome)?;
     Ok(verdict)
 }

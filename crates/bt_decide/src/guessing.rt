@@ -1,37 +1,19 @@
-//! Guesses: assignments of a flow formula from simulations that break the property. They are tried before
-//! the search, and nothing rests on them.
+//! Guesses: assignments of the formula of two networks from simulations in which they behave otherwise. They are tried
+//! before the search, and nothing rests on them.
 ghost use Rattle.std.specs.Prelude.{◌≡◌, IfOk, All, length};
 
 use bt_cnf::Formula;
-use bt_flow::Property;
 use bt_frac::{Frac, Relation, Row};
 use bt_net::Net;
-use bt_simulate::{Case, Found, UNIT, breaking, differing};
+use bt_simulate::{Case, Found, UNIT, differing};
 use std::alloc::{AllocError, Global};
 
 /// By how much the sides of a row may differ that a simulation shows as equal, in parts of `UNIT`.
 const TOLERANCE: i128 = 1024;
 
-/// Assignments that are likely to meet the flow formula of a network and a property, those first that were
-/// found first: the marks are those of a simulation, and an atom is true where its row holds there but for
-/// little. Of a row and its strict opposite one is true.
-pub fn guesses_of(
-    alloc: Global,
-    net: &Net,
-    property: Property,
-    formula: &Formula,
-) -> Result<Vec<Vec<bool>>, AllocError>
-    ensures { IfOk result (λ guesses. All (λ guess. length guess.items ≡ formula.now.vars) guesses.items) }
-{
-    let mut guesses = Vec::new(alloc);
-    let shown = breaking(alloc, net, property)?;
-    for found in &shown {
-        guesses.push(guess_of(alloc, formula, found)?)?;
-    }
-    Ok(guesses)
-}
-
-/// The same of the formula of two networks, whose columns and marks are those of simulations of the one behind the other.
+/// Assignments that are likely to meet the formula of two networks, whose columns and marks are those of simulations of the
+/// one behind the other; those first that were found first. The marks are those of a simulation, and an atom is true where
+/// its row holds there but for little. Of a row and its strict opposite one is true.
 pub fn guesses_of_both(
     alloc: Global,
     first: &Net,

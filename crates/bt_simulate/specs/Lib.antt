@@ -1,1 +1,2 @@
 pub mod Simulations
+pub mod inner

@@ -3,10 +3,12 @@ use Rattle.std.specs.Prelude.{◌≡◌, ℕ, ◌*◌, ◌≤◌, length}
 use Rattle.std.specs.List.{AllZip}
 use Rattle.bt_net.specs.declared.network.Edge.{Edge}
 use Rattle.bt_net.specs.Network.{Network}
+use Rattle.bt_flow.specs.declared.property.Property.{Property}
+use Rattle.bt_flow.specs.States.{Fractions, AreLowest, IsTrueOf}
+use Rattle.bt_flow.specs.Properties.{Breaks}
 use Rattle.bt_simulate.specs.declared.belt.TheConstants.{UNIT}
 use Rattle.bt_simulate.specs.declared.simulation.Simulated.{Simulated}
 use Rattle.bt_simulate.specs.declared.case.Case.{Case}
-use Rattle.bt_simulate.specs.declared.finding.Found.{Found}
 
 -- a flow in parts of `UNIT` is at most the cap of its edge
 abbrev pub IsWithinCap : Edge → ℕ → Type 0
@@ -22,7 +24,6 @@ pub record IsCase (n : Network) (c : Case) : Type 0 where
   pub loads : length c.loads.items ≡ n.inputs
   pub rooms : length c.rooms.items ≡ n.outputs
 
--- a simulation of the network, with its loads and rooms
-pub record IsFound (n : Network) (f : Found) : Type 0 where
-  pub simulated : IsSimulated n f.simulated
-  pub case : IsCase n f.case
+-- the state breaks the property, and its fractions are in lowest terms
+abbrev pub IsBreaking : Network → Property → Fractions → Type 0
+IsBreaking n p state = IsTrueOf n state (Breaks n p) × AreLowest state

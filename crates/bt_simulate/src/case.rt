@@ -18,6 +18,8 @@ pub struct Case {
 /// Which of the loads or rooms stay at their cap.
 #[derive(Clone, Copy)]
 pub enum Choice {
+    /// Those whose bits are set, of the loads and of the rooms behind them that may be lower; the others become 0.
+    These(usize),
     /// So many, drawn at random; the others become 0.
     Few(usize),
     /// Each stays, becomes half of it or 0, drawn at random.
@@ -30,8 +32,16 @@ impl Choice {
     /// Whether it is one alone.
     fn is_only(self) -> bool {
         match self {
-            Choice::Few(_) | Choice::Parts => false,
+            Choice::These(_) | Choice::Few(_) | Choice::Parts => false,
             Choice::Only(_) => true,
+        }
+    }
+
+    /// The choice of what comes behind so many.
+    fn behind(self, count: usize) -> Choice {
+        match self {
+            Choice::These(bits) => Choice::These(shifted(bits, count)),
+            Choice::Few(_) | Choice::Parts | Choice::Only(_) => self,
         }
     }
 }
@@ -67,8 +77,10 @@ impl Case {
     {
         let mut loads = self.loads.clone()?;
         let mut rooms = self.rooms.clone()?;
+        let mut choice = choice;
         if !property.asks_loads() {
             lower(&mut loads, choice, random);
+            choice = choice.behind(loads.len());
         }
         if lowers_rooms(property, choice) {
             lower(&mut rooms, choice, random);
@@ -92,9 +104,24 @@ fn set(numbers: &mut [u32], place: u32, number: u32) {
 /// Lowers numbers but for those of a choice.
 fn lower(numbers: &mut [u32], choice: Choice, random: &mut Random) {
     match choice {
+        Choice::These(bits) => keep_these(numbers, bits),
         Choice::Few(count) => keep_few(numbers, count, random),
         Choice::Parts => keep_parts(numbers, random),
         Choice::Only(number) => keep_only(numbers, number),
+    }
+}
+
+/// The bits behind so many, of which there are 64.
+fn shifted(bits: usize, count: usize) -> usize {
+    if count < 64 { bits >> count } else { 0 }
+}
+
+/// Keeps the numbers whose bits are set.
+fn keep_these(numbers: &mut [u32], bits: usize) {
+    for place in 0..numbers.len() {
+        if shifted(bits, place) % 2 == 0 {
+            numbers[place] = 0;
+        }
     }
 }
 

@@ -1,11 +1,16 @@
 //! Looking for simulations in which two networks behave otherwise.
-use crate::case::Case;
-use crate::finding::{ENOUGH_STEPS, Found, LEAST_FAILURE, MOST_FOUND, MOST_TRIES, choice_of};
+use crate::case::{Case, Choice};
+use crate::finding::Found;
 use crate::random::Random;
+use crate::rank::LEAST_FAILURE;
 use crate::simulation::{Simulated, simulate};
+use crate::tries::{MOST_TRIES, Tries};
 use bt_flow::{Property, Role};
 use bt_net::Net;
 use std::alloc::{AllocError, Global};
+
+/// The most simulations that are given.
+pub const MOST_FOUND: usize = 3;
 
 /// Simulations of two networks under equal loads and rooms in which nothing moves any more and the flow of some output
 /// differs. Each has the flows and marks of the first network, and behind them those of the second. They are at most
@@ -13,15 +18,19 @@ use std::alloc::{AllocError, Global};
 pub fn differing(alloc: Global, first: &Net, second: &Net) -> Result<Vec<Found>, AllocError> {
     let full = lesser(Case::full(alloc, first)?, &Case::full(alloc, second)?);
     let mut random = Random::new();
+    let mut tries = Tries::new(&full, Property::Unlimited);
     let mut found = Vec::new(alloc);
-    let mut steps: u32 = 0;
-    for number in 0..MOST_TRIES {
-        let shown = tried(alloc, first, second, &full, number, &mut random)?;
-        steps = steps.saturating_add(shown.simulated.steps);
+    for _ in 0..MOST_TRIES {
+        let Some(choice) = tries.choice() else {
+            break;
+        };
+        let shown = tried(alloc, first, second, &full, choice, &mut random)?;
+        tries.count(shown.simulated.steps);
         if shown.simulated.is_still && differs(alloc, first, second, &shown.simulated.flows)? {
             found.push(shown)?;
+            tries.leave_parts();
         }
-        if found.len() >= MOST_FOUND || steps >= ENOUGH_STEPS {
+        if found.len() >= MOST_FOUND {
             break;
         }
     }
@@ -43,16 +52,16 @@ fn lower_to(numbers: &mut [u32], others: &[u32]) {
     }
 }
 
-/// The simulations of both networks of the try with a number.
+/// The simulations of both networks under the loads and rooms of a choice.
 fn tried(
     alloc: Global,
     first: &Net,
     second: &Net,
     full: &Case,
-    number: usize,
+    choice: Choice,
     random: &mut Random,
 ) -> Result<Found, AllocError> {
-    let case = full.chosen(alloc, Property::Unlimited, choice_of(full, number), random)?;
+    let case = full.chosen(alloc, Property::Unlimited, choice, random)?;
     let one = simulate(alloc, first, &case.loads, &case.rooms)?;
     let other = simulate(alloc, second, &case.loads, &case.rooms)?;
     let simulated = joined(one, &other)?;

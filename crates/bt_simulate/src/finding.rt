@@ -1,194 +1,194 @@
-//! Looking for simulations that break a property.
-ghost use Rattle.std.specs.Prelude.{◌≡◌, IfOk, All};
-ghost use Rattle.bt_simulate.specs.Simulations.{IsCase, IsFound};
+//! Looking for a state that breaks a property, of those that simulations show the one that convinces most.
+ghost use Rattle.std.specs.Prelude.{IfOk, IfSome, IsTrue};
+ghost use Rattle.bt_flow.specs.States.{Fits};
+ghost use Rattle.bt_simulate.specs.Simulations.{IsCase, IsBreaking};
+ghost use Rattle.bt_simulate.specs.inner.Finding.{IsFound};
 
-use crate::belt::UNIT;
 use crate::case::{Case, Choice};
+use crate::exact::state_of;
 use crate::random::Random;
+use crate::rank::{Rank, rank_of};
 use crate::simulation::{Simulated, simulate};
-use bt_flow::Property;
-use bt_net::{Edge, Net, Start, Target};
+use crate::tries::{MOST_TRIES, Tries};
+use bt_flow::{Judgement, Property, State, breaks};
+use bt_net::Net;
 use std::alloc::{AllocError, Global};
 
-/// The most simulations that are given.
-pub const MOST_FOUND: usize = 3;
+/// The most work, in steps of an edge, that is begun once a state is found.
+const MORE_WORK: u64 = 1 << 21;
 
-/// The most simulations that are tried.
-pub const MOST_TRIES: usize = 256;
+/// The most simulations that may show no state before nothing more is tried.
+const MOST_FAILURES: u32 = 8;
 
-/// After so many steps in all no further simulation is tried.
-pub const ENOUGH_STEPS: u32 = 16_384;
-
-/// The least that a conclusion has to fail by, in parts of `UNIT`.
-pub const LEAST_FAILURE: u64 = UNIT as u64 / 256;
-
-/// By how much the number of a few grows from one such try to the next, counted round.
-const SPREAD: usize = 7;
-
-/// A simulation that breaks a property, and its loads and rooms.
+/// A simulation, and its loads and rooms.
 #[derive(Drop)]
 pub struct Found {
     pub case: Case,
     pub simulated: Simulated,
 }
 
-/// Simulations of a network in which nothing moves any more and the conclusion of a property fails, within
-/// the property's condition. They are at most `MOST_FOUND`, those first that are found first.
-pub fn breaking(alloc: Global, net: &Net, property: Property) -> Result<Vec<Found>, AllocError>
-    ensures { IfOk result (λ found. All (IsFound net.now) found.items) }
+/// Of the states that simulations show and that break a property one that convinces most, or none. The first that
+/// is found is followed by as many tries as take little time.
+pub fn simplest(alloc: Global, net: &Net, property: Property) -> Result<Option<State>, AllocError>
+    ensures { IfOk result (λ found. IfSome found (IsBreaking net.now property)) }
 {
     let full = Case::full(alloc, net)?;
-    let mut random = Random::new();
-    let mut found = Vec::new(alloc);
-    let mut steps: u32 = 0;
-    for number in 0..tries(property) {
-        let shown = tried(alloc, net, property, &full, number, &mut random)?;
-        steps = steps.saturating_add(shown.simulated.steps);
-        keep_breaking(net, property, shown, &mut found)?;
-        if found.len() >= MOST_FOUND || steps >= ENOUGH_STEPS {
-            break;
+    let mut search = Search::new(&full, property);
+    let mut simplest = None;
+    'tries: for _ in 0..MOST_TRIES {
+        let Some(found) = search.next(alloc, net, property, &full)? else {
+            break 'tries;
+        };
+        let state = breaking_state(alloc, net, property, &found)?;
+        search.learn(state.is_some());
+        if state.is_some() {
+            simplest = state;
         }
     }
-    Ok(found)
+    Ok(simplest)
 }
 
-/// The simulation of the try with a number.
+/// The state that a simulation shows, where it breaks a property.
+fn breaking_state(
+    alloc: Global,
+    net: &Net,
+    property: Property,
+    found: &Found,
+) -> Result<Option<State>, AllocError>
+    requires { IsFound net.now found.now }
+    ensures { IfOk result (λ state. IfSome state (IsBreaking net.now property)) }
+{
+    let Some(state) = state_of(alloc, net, found)? else {
+        return Ok(None);
+    };
+    if is_breaking(net, property, &state) {
+        Ok(Some(state))
+    } else {
+        Ok(None)
+    }
+}
+
+/// Whether a state breaks a property, and no sum that this asks for leaves 128 bits.
+fn is_breaking(net: &Net, property: Property, state: &State) -> bool
+    requires { Fits net.now state.now }
+    ensures { IsTrue result → IsBreaking net.now property state.now }
+{
+    // Its fractions are in lowest terms by its type.
+    let _ = state.flows();
+    match breaks(net, property, state) {
+        Ok(Judgement::Passes) => true,
+        Ok(Judgement::Fails { .. }) | Err(_) => false,
+    }
+}
+
+/// How far the search is.
+#[derive(Drop)]
+struct Search {
+    tries: Tries,
+    random: Random,
+    /// The rank of the state that was found, where one was.
+    best: Option<Rank>,
+    /// The rank of the simulation that was shown last.
+    shown: Rank,
+    /// How many steps of an edge were simulated.
+    work: u64,
+    /// After so much work nothing more is tried.
+    enough: u64,
+    /// How many simulations showed no state that breaks the property.
+    failures: u32,
+}
+
+impl Search {
+    /// The search that begins.
+    fn new(full: &Case, property: Property) -> Search {
+        Search {
+            tries: Tries::new(full, property),
+            random: Random::new(),
+            best: None,
+            shown: Rank::NOTHING,
+            work: 0,
+            enough: u64::MAX,
+            failures: 0,
+        }
+    }
+
+    /// The next simulation that seems to break the property, and to convince more than the state that was found.
+    fn next(
+        &mut self,
+        alloc: Global,
+        net: &Net,
+        property: Property,
+        full: &Case,
+    ) -> Result<Option<Found>, AllocError>
+        requires { IsCase net.now full.now }
+        ensures { IfOk result (λ found. IfSome found (IsFound net.now)) }
+    {
+        for _ in 0..MOST_TRIES {
+            let Some(choice) = self.choice() else {
+                return Ok(None);
+            };
+            let found = tried(alloc, net, property, full, choice, &mut self.random)?;
+            self.count(net, found.simulated.steps);
+            self.shown = rank_of(net, property, full, &found);
+            if self.is_better() {
+                return Ok(Some(found));
+            }
+        }
+        Ok(None)
+    }
+
+    /// What is tried next, or nothing where enough is tried.
+    fn choice(&mut self) -> Option<Choice> {
+        if self.work >= self.enough || self.failures >= MOST_FAILURES {
+            None
+        } else {
+            self.tries.choice()
+        }
+    }
+
+    /// Counts the work of a simulation.
+    fn count(&mut self, net: &Net, steps: u32) {
+        self.tries.count(steps);
+        let work = u64::from(steps).saturating_mul(net.edges().len() as u64);
+        self.work = self.work.saturating_add(work);
+    }
+
+    /// Whether what was shown last breaks the property clearly, and convinces more than what was found.
+    fn is_better(&self) -> bool {
+        let convinces = match self.best {
+            Some(best) => self.shown.convinces_more(best),
+            None => true,
+        };
+        convinces && self.shown.is_clear()
+    }
+
+    /// Learns whether what was shown last gives a state that breaks the property.
+    fn learn(&mut self, breaks: bool) {
+        if !breaks {
+            self.failures = self.failures.saturating_add(1);
+            return;
+        }
+        if self.best.is_none() {
+            self.enough = self.work.saturating_add(MORE_WORK);
+        }
+        self.best = Some(self.shown);
+        self.tries.leave_parts();
+    }
+}
+
+/// The simulation of a choice.
 fn tried(
     alloc: Global,
     net: &Net,
     property: Property,
     full: &Case,
-    number: usize,
+    choice: Choice,
     random: &mut Random,
 ) -> Result<Found, AllocError>
     requires { IsCase net.now full.now }
     ensures { IfOk result (IsFound net.now) }
 {
-    let case = full.chosen(alloc, property, choice_of(full, number), random)?;
+    let case = full.chosen(alloc, property, choice, random)?;
     let simulated = simulate(alloc, net, &case.loads, &case.rooms)?;
     Ok(Found { case, simulated })
-}
-
-/// Keeps a simulation where it breaks the property.
-fn keep_breaking(
-    net: &Net,
-    property: Property,
-    shown: Found,
-    found: &mut Vec<Found>,
-) -> Result<(), AllocError>
-    requires shown { IsFound net.now shown }
-    requires found { All (IsFound net.now) found.old.items }
-    ensures { IfOk result (λ _. All (IsFound net.now) found.new.items) }
-{
-    if breaks(net.edges(), property, &shown) {
-        found.push(shown)?;
-    }
-    Ok(())
-}
-
-/// Whether nothing moves any more in a simulation and the conclusion of a property fails.
-fn breaks(edges: &[Edge], property: Property, shown: &Found) -> bool {
-    shown.simulated.is_still && fails(edges, property, &shown.case, &shown.simulated.flows)
-}
-
-/// How many simulations are tried: where all loads and rooms are at their caps there is one.
-fn tries(property: Property) -> usize {
-    if property.asks_loads() && property.asks_rooms() {
-        1
-    } else {
-        MOST_TRIES
-    }
-}
-
-/// The choice of a try: half of them of a few, a quarter of parts, and a quarter of each end in turn.
-pub fn choice_of(full: &Case, number: usize) -> Choice {
-    let ends = full.loads.len().min(full.rooms.len());
-    match number % 4 {
-        1 => Choice::Parts,
-        3 => Choice::Only(number / 4),
-        _ if ends == 0 => Choice::Parts,
-        _ => Choice::Few(1 + (number / 2).wrapping_mul(SPREAD) % ends),
-    }
-}
-
-/// Whether flows fail the conclusion of a property, clearly.
-fn fails(edges: &[Edge], property: Property, case: &Case, flows: &[u32]) -> bool {
-    let failure = match property {
-        Property::Balanced => output_spread(edges, flows),
-        Property::DrawnEvenly => input_spread(edges, flows),
-        Property::Unlimited | Property::Full => shortfall(edges, case, flows),
-    };
-    failure > LEAST_FAILURE
-}
-
-/// How far apart the flows of the edges that end at outputs are.
-fn output_spread(edges: &[Edge], flows: &[u32]) -> u64 {
-    let mut span = Span::new();
-    for (edge, flow) in edges.iter().zip(flows) {
-        if let Target::Output(_) = edge.target {
-            span.add(*flow);
-        }
-    }
-    span.width()
-}
-
-/// How far apart the flows of the edges that start at inputs are.
-fn input_spread(edges: &[Edge], flows: &[u32]) -> u64 {
-    let mut span = Span::new();
-    for (edge, flow) in edges.iter().zip(flows) {
-        if let Start::Input(_) = edge.start {
-            span.add(*flow);
-        }
-    }
-    span.width()
-}
-
-/// The least and the greatest of some numbers.
-#[derive(Clone, Copy)]
-struct Span {
-    least: u32,
-    greatest: u32,
-}
-
-impl Span {
-    /// That of no number.
-    fn new() -> Span {
-        Span {
-            least: u32::MAX,
-            greatest: 0,
-        }
-    }
-
-    /// Takes one more number.
-    fn add(&mut self, number: u32) {
-        self.least = self.least.min(number);
-        self.greatest = self.greatest.max(number);
-    }
-
-    /// How far the greatest is above the least.
-    fn width(&self) -> u64 {
-        u64::from(self.greatest.saturating_sub(self.least))
-    }
-}
-
-/// How much less flows to outputs than is loaded and taken.
-fn shortfall(edges: &[Edge], case: &Case, flows: &[u32]) -> u64 {
-    let mut sum: u64 = 0;
-    for (edge, flow) in edges.iter().zip(flows) {
-        if let Target::Output(_) = edge.target {
-            sum = sum.saturating_add(u64::from(*flow));
-        }
-    }
-    sum_of(&case.loads)
-        .min(sum_of(&case.rooms))
-        .saturating_sub(sum)
-}
-
-/// The sum of numbers.
-fn sum_of(numbers: &[u32]) -> u64 {
-    let mut sum: u64 = 0;
-    for number in numbers {
-        sum = sum.saturating_add(u64::from(*number));
-    }
-    sum
 }

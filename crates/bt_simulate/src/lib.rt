@@ -1,18 +1,22 @@
-//! Simulations of networks in whole numbers, which show states that break a property. Nothing rests on
-//! what they show: who uses a state judges it.
+//! Simulations of networks in whole numbers, and the exact states that they show. Of these one that breaks a property is
+//! given, which is tested; nothing else rests on what simulations show.
 #![tactic(auto)]
 
 mod belt;
 mod case;
 mod comparing;
+mod exact;
 mod finding;
+mod preference;
 mod random;
+mod rank;
 mod simulation;
 mod splitter;
+mod tries;
 
 pub use belt::UNIT;
 pub use case::Case;
-pub use comparing::differing;
-pub use finding::{Found, MOST_FOUND, breaking};
+pub use comparing::{MOST_FOUND, differing};
+pub use finding::{Found, simplest};
 pub use simulation::{Simulated, simulate};
 pub use std::alloc::AllocError as Memory;

@@ -1,15 +1,18 @@
-//! What a splitter does in a step: it draws evenly from its in edges and gives evenly to its out edges,
-//! as far as these give and take.
+//! What a splitter does in a step: it draws evenly from its in edges and gives evenly to its out edges, or first those that
+//! it prefers, as far as these give and take.
 use crate::belt::Belt;
+use crate::preference::{Preference, preferred_at};
 use bt_flow::{Port, Ports};
 use bt_net::Net;
 use std::alloc::{AllocError, Global};
 
-/// The edges of a splitter.
+/// The edges of a splitter, and those that come first.
 #[derive(Clone, Copy)]
 pub struct Splitter {
-    into: Port,
-    out_of: Port,
+    pub into: Port,
+    pub out_of: Port,
+    pub takes: Preference,
+    pub gives: Preference,
 }
 
 /// An amount for each of the two edges of a port, 0 where there is no such edge.
@@ -24,11 +27,15 @@ impl Shares {
         self.first.saturating_add(self.second)
     }
 
-    /// The amount, evenly as far as these shares allow.
-    fn divide(self, amount: u32) -> Shares {
-        let half = amount / 2;
+    /// The amount, evenly or first the preferred edge, as far as these shares allow.
+    fn divide(self, amount: u32, preferred: Preference) -> Shares {
+        let wanted = match preferred {
+            Preference::Neither => amount / 2,
+            Preference::First => amount,
+            Preference::Second => 0,
+        };
         let least = amount.saturating_sub(self.second);
-        let first = half.max(least).min(self.first);
+        let first = wanted.max(least).min(self.first);
         Shares {
             first,
             second: amount.saturating_sub(first),
@@ -41,9 +48,13 @@ pub fn splitters_of(alloc: Global, net: &Net) -> Result<Vec<Splitter>, AllocErro
     let ports = Ports::of(net);
     let mut splitters = Vec::new(alloc);
     for number in 0..net.splitters() as usize {
+        let into = port_at(&ports.into, number);
+        let out_of = port_at(&ports.out_of, number);
         splitters.push(Splitter {
-            into: port_at(&ports.into, number),
-            out_of: port_at(&ports.out_of, number),
+            into,
+            out_of,
+            takes: preferred_at(into, net.take(number)),
+            gives: preferred_at(out_of, net.give(number)),
         })?;
     }
     Ok(splitters)
@@ -63,8 +74,8 @@ impl Splitter {
         let supplies = supplies(belts, self.into);
         let spaces = spaces(belts, self.out_of);
         let amount = supplies.sum().min(spaces.sum());
-        pass_at(belts, self.into, supplies.divide(amount));
-        put_at(belts, self.out_of, spaces.divide(amount));
+        pass_at(belts, self.into, supplies.divide(amount, self.takes));
+        put_at(belts, self.out_of, spaces.divide(amount, self.gives));
     }
 }
 

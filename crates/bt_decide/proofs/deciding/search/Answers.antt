@@ -3,7 +3,7 @@ use Rattle.std.specs.List.{All}
 use Rattle.std.proofs.lemmas.List.{length-map}
 use Rattle.bt_frac.specs.Rows.{RowParts}
 use Rattle.bt_theory.specs.Outcomes.{AreRowsOf, IsOutcome}
-use Rattle.bt_decide.proofs.deciding.decide.Goals as goal
+use Rattle.bt_decide.proofs.deciding.search.Goals as goal
 
 pub solve-requires : goal.solve-requires
 solve-requires g c =
