@@ -61,13 +61,13 @@ class Ground:
                 lines[axis, cell[1 - axis]].append(cell[axis])
         self.lines = {key: sorted(them) for key, them in lines.items()}
 
-    def first_taken(self, cell, direction):
-        """The first taken cell ahead, or None."""
+    def first_taken(self, cell, direction, most):
+        """The first taken cell ahead, so many cells away at most, or None."""
         axis = 0 if direction in (EAST, design.WEST) else 1
         line = self.lines[axis, cell[1 - axis]]
         ahead = direction in (EAST, SOUTH)
         at = bisect_left(line, cell[axis]) + (1 if ahead else -1)
-        if not 0 <= at < len(line):
+        if not 0 <= at < len(line) or abs(line[at] - cell[axis]) > most:
             return None
         return (line[at], cell[1]) if axis == 0 else (cell[0], line[at])
 
@@ -86,7 +86,7 @@ def ways_of(found, bystanders, most):
         direction, cell = (part.direction if bare.front else (part.direction + 2) % 4), part.cells[bare.half]
         ends.append((ground.to_border(cell, direction), bare, part, direction, cell))
     for count, bare, part, direction, cell in sorted(ends, key=lambda it: it[0]):
-        place, there = place_of(found.parts, bare), ground.first_taken(cell, direction)
+        place, there = place_of(found.parts, bare), ground.first_taken(cell, direction, count)
         why, cells = None, ()
         if there is not None:
             why = f"{ground.taken[there]} at tile {tile(there)} is in the way"

@@ -338,7 +338,7 @@ def whole(rows, title, program):
     drawn = [(row.id(), row.picture[0]) for row in own if row.picture[0]]
     store = "".join(f'<g id="p-{name}">{picture.parts(f"w-{name}")}</g>' for name, picture in drawn)
     pages = (page(row, before, after) for before, row, after in zip([None, *own], own, [*own[1:], None]))
-    style, script = ((HERE / name).read_text() for name in ("report.css", "report.js"))
+    style, script = ((HERE / name).read_text("utf-8") for name in ("report.css", "report.js"))
     head = (
         '<meta charset="utf-8"><meta name="viewport" content="width=device-width, initial-scale=1">'
         '<meta name="color-scheme" content="light dark">',

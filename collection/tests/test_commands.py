@@ -121,7 +121,7 @@ class Started(Case):
         for words, text in (([], given), (["-"], strings.deflate(given).encode()), ([strings.deflate(given)], b"")):
             status, out, wrong = self.start("bare-ends", *words, given=text)
             told = json.loads(out)["blueprint"]
-            self.assertEqual((status, len(told["entities"]), told["label"]), (0, 2 + 5, "é"))
+            self.assertEqual((status, len(told["entities"]), told["label"]), (0, 2 + 4, "é"))
             self.assertIn("bare-ends: opened by 1 belt: output at (0, 0)\n", wrong)
             self.assertIn("bare-ends: 2 to 2, and 1 to 0 before\n", wrong)
             self.assertEqual(self.start("beltproof", "recover", given=out.encode())[1].splitlines()[0], "net 2 2 1")

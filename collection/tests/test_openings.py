@@ -43,7 +43,7 @@ class Labels(Case):
                 self.assertEqual(labels.told(label), [(4, 4)])
 
     def test_what_tells_nothing(self):
-        silent = "tree,2023-10-05,v1.2:3,4x4x4,0 to 4,to 4,4 to,4 to 4.5,4-4b,a4-4"
+        silent = "tree,2023-10,2023-10-05,10-2023,v1.2:3,4x4x4,0 to 4,to 4,4 to,4 to 4.5,4-4b,a4-4"
         for label in ["", *silent.split(",")]:
             with self.subTest(label=label):
                 self.assertEqual(labels.told(label), [])
@@ -129,14 +129,15 @@ class Openings(Case):
 
     def test_a_way_that_is_taken_is_told(self):
         pole = {"name": "small-electric-pole", "position": {"x": 1.5, "y": -1.5}}
-        text = blueprint(splitter(0, 0), belt(0, 1), belt(1, 1), belt(0, -4), pole)
+        beyond = {"name": "small-electric-pole", "position": {"x": 1.5, "y": 3.5}}
+        text = blueprint(splitter(0, 0), belt(0, 1), belt(0, -4), pole, beyond)
         clean = cleaning.cleaned(text)
         opening = openings.Opening(clean.text, design.bystanders(text), recover)
         it = openings.opened(opening, "always", "")
         reasons = dict(it.unopened)
         self.assertEqual(reasons["output", 0, 0], "the belt at tile (0, -4) is in the way")
         self.assertEqual(reasons["output", 1, 0], "small-electric-pole at tile (1, -2) is in the way")
-        self.assertEqual(it.opened, [])
+        self.assertEqual(it.opened, [("input", 1, 0)])
 
     def test_of_two_ways_that_cross_the_shorter_is_opened(self):
         under = belt(2, 1, 2, UNDER, **DOWN), belt(7, 1, 2, UNDER, **UP)
