@@ -324,7 +324,7 @@ class View {
       this.isLeft = true;
       view.open();
     });
-    return [make("label", { class: "switch" }, box, `open the ${count(this.ways, "bare half").replace("halfs", "halves")} with belts to the border`)];
+    return [make("label", { class: "switch" }, box, `open ${this.ways === 1 ? "its bare half" : `its ${this.ways} bare halves`} with belts to the border`)];
   }
 
   /** Adds a breaking state; gives its place on the slider, which begins with none. */
