@@ -15,8 +15,9 @@ mod sat;
 mod simplex;
 mod theory;
 
-use bt_cnf::{Formula, Lit};
+use bt_cnf::{Chooser, Formula, Lit};
 use bt_frac::{Frac, Relation, Row};
+use bt_sat::{Answer, Solver};
 use std::alloc::{AllocError, Global};
 
 /// The fields of a row; those that it lacks are empty.
@@ -107,4 +108,54 @@ fn add_clause(alloc: Global, formula: &mut Formula, clause: &str) -> Result<(), 
         formula.add_clause(&lits)?;
     }
     Ok(())
+}
+
+/// Adds the clauses of a text, between which commas stand.
+fn add_clauses(alloc: Global, formula: &mut Formula, clauses: &str) -> Result<(), AllocError> {
+    for clause in clauses.split(',') {
+        if !clause.is_empty() {
+            add_clause(alloc, formula, clause)?;
+        }
+    }
+    Ok(())
+}
+
+/// Adds an atom with the row of each of these texts.
+fn add_atoms(alloc: Global, formula: &mut Formula, rows: &[&str]) -> Result<(), AllocError> {
+    for row in rows {
+        if let Some(row) = row_of(alloc, row)? {
+            formula.add_atom(row)?;
+        }
+    }
+    Ok(())
+}
+
+/// A formula of so many variables, and of an atom with the row of each of these texts, with the clauses of a text.
+fn formula_of(
+    alloc: Global,
+    vars: usize,
+    rows: &[&str],
+    clauses: &str,
+) -> Result<Formula, AllocError> {
+    let mut formula = Formula::new(alloc, vars)?;
+    add_atoms(alloc, &mut formula, rows)?;
+    add_clauses(alloc, &mut formula, clauses)?;
+    Ok(formula)
+}
+
+/// Whether these are the values of a text, in which `t` is true.
+fn are_values(values: &[bool], letters: &str) -> bool {
+    let same = values
+        .iter()
+        .zip(letters.as_bytes())
+        .all(|(value, letter)| *value == (*letter == b't'));
+    same && values.len() == letters.len()
+}
+
+/// Whether the next model of a search has the values of a text.
+fn is_modelled<C: Chooser>(solver: &mut Solver<C>, letters: &str) -> Result<bool, AllocError> {
+    match solver.next_model()? {
+        Answer::Model(model) => Ok(are_values(&model, letters)),
+        Answer::Refuted | Answer::Spent => Ok(false),
+    }
 }

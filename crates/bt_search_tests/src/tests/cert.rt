@@ -1,7 +1,7 @@
 //! Certificates for a small formula, whole and cut and changed.
 ghost use Rattle.std.specs.Prelude.{◌≤◌, ◌<◌, ◌^◌};
 
-use super::{add_clause, fields, number_of};
+use super::{fields, formula_of, number_of};
 use bt_cert::{Cause, CertFault, check_log};
 use bt_cnf::Formula;
 use bt_io::MemSource;
@@ -9,12 +9,8 @@ use std::alloc::{AllocError, Global};
 use std::test::Fail;
 
 // Two variables, no atoms, and the clauses `1 2`, `-1` and `-2`.
-fn formula(alloc: Global) -> Result<Formula, AllocError> {
-    let mut formula = Formula::new(alloc, 2)?;
-    for clause in ["1 2", "-1", "-2"] {
-        add_clause(alloc, &mut formula, clause)?;
-    }
-    Ok(formula)
+fn three_clauses(alloc: Global) -> Result<Formula, AllocError> {
+    formula_of(alloc, 2, &[], "1 2,-1,-2")
 }
 
 // What is answered to a head and a source that gives at most so many bytes a call.
@@ -170,28 +166,52 @@ fn is_fault_told(alloc: Global, formula: &Formula, call: u64) -> Result<bool, Al
     })
 }
 
+// Whether each place where the certificate may be cut is as it is to be.
+fn are_joined(alloc: Global, formula: &Formula) -> Result<bool, AllocError> {
+    for length in 0..CERTIFICATE.len() {
+        if !is_joined(alloc, formula, length)? {
+            return Ok(false);
+        }
+    }
+    Ok(true)
+}
+
+// Whether the fault of a source is told at each of the first calls.
+fn are_faults_told(alloc: Global, formula: &Formula) -> Result<bool, AllocError> {
+    for call in 1..6 {
+        if !is_fault_told(alloc, formula, call)? {
+            return Ok(false);
+        }
+    }
+    Ok(true)
+}
+
+// Whether the certificate is refused wherever one bit is changed.
+fn are_refused(alloc: Global, formula: &Formula) -> Result<bool, AllocError> {
+    for at in 0..CERTIFICATE.len() {
+        for bit in [1, 2, 4, 8, 16, 32, 64, 128] {
+            if !is_refused(alloc, formula, at, bit)? {
+                return Ok(false);
+            }
+        }
+    }
+    Ok(true)
+}
+
 #[test]
-fn certificates(rt: HostRuntime) -> Result<(), Fail> {
-    let formula = formula(rt.alloc())?;
+fn texts(rt: HostRuntime) -> Result<(), Fail> {
+    let formula = three_clauses(rt.alloc())?;
     for row in TEXTS {
         assert!(rt; is_answered(rt.alloc(), &formula, row)?, "{row}");
-    }
-    for length in 0..CERTIFICATE.len() {
-        assert!(rt; is_joined(rt.alloc(), &formula, length)?);
-    }
-    for call in 1..6 {
-        assert!(rt; is_fault_told(rt.alloc(), &formula, call)?);
     }
     Ok(())
 }
 
 #[test]
-fn refuses_what_is_changed(rt: HostRuntime) -> Result<(), Fail> {
-    let formula = formula(rt.alloc())?;
-    for at in 0..CERTIFICATE.len() {
-        for bit in [1, 2, 4, 8, 16, 32, 64, 128] {
-            assert!(rt; is_refused(rt.alloc(), &formula, at, bit)?);
-        }
-    }
+fn certificates(rt: HostRuntime) -> Result<(), Fail> {
+    let formula = three_clauses(rt.alloc())?;
+    assert!(rt; are_joined(rt.alloc(), &formula)?);
+    assert!(rt; are_faults_told(rt.alloc(), &formula)?);
+    assert!(rt; are_refused(rt.alloc(), &formula)?);
     Ok(())
 }

@@ -1,7 +1,7 @@
 //! What the choosers pick.
-use super::{add_clause, fields, literals_of, number_of};
+use super::{add_clauses, fields, is_modelled, literals_of, number_of};
 use bt_cnf::{Chooser, Formula};
-use bt_sat::{Active, Answer, Highest, Lowest, Recent, Solver};
+use bt_sat::{Active, Highest, Lowest, Recent, Solver};
 use std::alloc::{AllocError, Global};
 use std::test::Fail;
 
@@ -38,69 +38,78 @@ const MODELS: &[&str] = &[
     "active highest|1 2 3|fft",
 ];
 
-/// Whether `Recent` picks what a row says.
-fn is_picked(alloc: Global, formula: &Formula, row: &str) -> Result<bool, AllocError> {
-    let [clause, place, ..] = fields(row, '|');
-    let mut recent = Recent::new(alloc)?;
-    recent.told(&literals_of(alloc, formula, clause)?)?;
-    match (formula.var_at(0), formula.var_at(2)) {
-        (Some(first), Some(third)) => Ok(recent.pick(&[first, third]).place == number_of(place)),
-        _ => Ok(false),
-    }
-}
-
-/// Whether `Active` picks what a row says.
-fn is_most_active(alloc: Global, formula: &Formula, row: &str) -> Result<bool, AllocError> {
+/// Whether a chooser that is told of a row's clauses picks, of the first and the third variable, the one with this place,
+/// with this sign.
+fn is_picked(
+    alloc: Global,
+    formula: &Formula,
+    chooser: &mut impl Chooser,
+    row: &str,
+) -> Result<bool, AllocError> {
     let [clauses, place, sign, ..] = fields(row, '|');
-    let mut active = Active::new(alloc)?;
     for clause in clauses.split(',') {
-        active.told(&literals_of(alloc, formula, clause)?)?;
+        chooser.told(&literals_of(alloc, formula, clause)?)?;
     }
     let (Some(first), Some(third)) = (formula.var_at(0), formula.var_at(2)) else {
         return Ok(false);
     };
-    let pick = active.pick(&[first, third]);
+    let pick = chooser.pick(&[first, third]);
     Ok(pick.place == number_of(place) && pick.positive == (sign == "true"))
 }
 
-/// The first model of clauses of three variables, with the named choosers.
-fn model_by(alloc: Global, names: &str, clauses: &str) -> Result<Vec<bool>, AllocError> {
-    let mut formula = Formula::new(alloc, 3)?;
-    for clause in clauses.split(',').filter(|clause| !clause.is_empty()) {
-        add_clause(alloc, &mut formula, clause)?;
+/// Adds the chooser of a name.
+fn add_chooser(
+    alloc: Global,
+    choosers: &mut Vec<Box<dyn Chooser>>,
+    name: &str,
+) -> Result<(), AllocError> {
+    match name {
+        "lowest" => choosers.push(Box::new(alloc, Lowest::new())?)?,
+        "highest" => choosers.push(Box::new(alloc, Highest::new())?)?,
+        "recent" => choosers.push(Box::new(alloc, Recent::new(alloc)?)?)?,
+        "active" => choosers.push(Box::new(alloc, Active::new(alloc)?)?)?,
+        _ => (),
     }
-    let mut choosers: Vec<Box<dyn Chooser>> = Vec::new(alloc);
+    Ok(())
+}
+
+/// Adds a row's choosers and clauses.
+fn add_row(
+    alloc: Global,
+    choosers: &mut Vec<Box<dyn Chooser>>,
+    formula: &mut Formula,
+    row: &str,
+) -> Result<(), AllocError> {
+    let [names, clauses, ..] = fields(row, '|');
     for name in names.split(' ') {
-        match name {
-            "lowest" => choosers.push(Box::new(alloc, Lowest::new())?)?,
-            "highest" => choosers.push(Box::new(alloc, Highest::new())?)?,
-            "recent" => choosers.push(Box::new(alloc, Recent::new(alloc)?)?)?,
-            "active" => choosers.push(Box::new(alloc, Active::new(alloc)?)?)?,
-            _ => (),
-        }
+        add_chooser(alloc, choosers, name)?;
     }
-    match Solver::new(alloc, formula, choosers, 9)?.next_model()? {
-        Answer::Model(model) => Ok(model),
-        Answer::Refuted | Answer::Spent => Ok(Vec::new(alloc)),
-    }
+    add_clauses(alloc, formula, clauses)
+}
+
+/// A search with a row's choosers and clauses of three variables.
+fn solver_of(alloc: Global, row: &str) -> Result<Solver<Box<dyn Chooser>>, AllocError> {
+    let mut formula = Formula::new(alloc, 3)?;
+    let mut choosers = Vec::new(alloc);
+    add_row(alloc, &mut choosers, &mut formula, row)?;
+    Solver::new(alloc, formula, choosers, 9)
 }
 
 /// Whether the first model is what a row says.
-fn is_modelled(alloc: Global, row: &str) -> Result<bool, AllocError> {
-    let [names, clauses, values, ..] = fields(row, '|');
-    let model = model_by(alloc, names, clauses)?;
-    let same = model
-        .iter()
-        .zip(values.as_bytes())
-        .all(|(value, letter)| *value == (*letter == b't'));
-    Ok(same && model.len() == values.len())
+fn is_decided(alloc: Global, row: &str) -> Result<bool, AllocError> {
+    let [_, _, values, ..] = fields(row, '|');
+    is_modelled(&mut solver_of(alloc, row)?, values)
 }
 
 #[test]
 fn recent_picks_the_first_that_is_unset(rt: HostRuntime) -> Result<(), Fail> {
     let formula = Formula::new(rt.alloc(), 4)?;
     for row in PICKS {
-        assert!(rt; is_picked(rt.alloc(), &formula, row)?, "{row}");
+        let mut chooser = Recent::new(rt.alloc())?;
+        assert!(rt;
+            is_picked(rt.alloc(), &formula, &mut chooser, row)?,
+            "{row}"
+        );
     }
     Ok(())
 }
@@ -109,7 +118,11 @@ fn recent_picks_the_first_that_is_unset(rt: HostRuntime) -> Result<(), Fail> {
 fn active_picks_the_greatest_score(rt: HostRuntime) -> Result<(), Fail> {
     let formula = Formula::new(rt.alloc(), 4)?;
     for row in ACTIVE_PICKS {
-        assert!(rt; is_most_active(rt.alloc(), &formula, row)?, "{row}");
+        let mut chooser = Active::new(rt.alloc())?;
+        assert!(rt;
+            is_picked(rt.alloc(), &formula, &mut chooser, row)?,
+            "{row}"
+        );
     }
     Ok(())
 }
@@ -117,7 +130,7 @@ fn active_picks_the_greatest_score(rt: HostRuntime) -> Result<(), Fail> {
 #[test]
 fn picks_decide_the_first_model(rt: HostRuntime) -> Result<(), Fail> {
     for row in MODELS {
-        assert!(rt; is_modelled(rt.alloc(), row)?, "{row}");
+        assert!(rt; is_decided(rt.alloc(), row)?, "{row}");
     }
     Ok(())
 }

@@ -1,6 +1,6 @@
 //! Certificates with lemmas, each of which is the first step that isn't valid.
 use super::cert::is_answered;
-use super::{add_clause, row_of};
+use super::formula_of;
 use bt_cnf::Formula;
 use std::alloc::{AllocError, Global};
 use std::test::Fail;
@@ -19,15 +19,7 @@ const LEMMAS: &[&str] = &[
 
 /// The units `1` and `2`, which say that x >= 1 and that -x >= 0.
 fn two_units(alloc: Global) -> Result<Formula, AllocError> {
-    let mut formula = Formula::new(alloc, 0)?;
-    for row in [">= 1 1", ">= 0 -1"] {
-        if let Some(row) = row_of(alloc, row)? {
-            formula.add_atom(row)?;
-        }
-    }
-    add_clause(alloc, &mut formula, "1")?;
-    add_clause(alloc, &mut formula, "2")?;
-    Ok(formula)
+    formula_of(alloc, 0, &[">= 1 1", ">= 0 -1"], "1,2")
 }
 
 #[test]

@@ -1,7 +1,7 @@
 //! What a search decides by a plan.
-use super::{add_clause, fields, literals_of, number_of};
+use super::{add_clauses, fields, is_modelled, literals_of, number_of};
 use bt_cnf::Formula;
-use bt_sat::{Answer, Highest, Part, Plan, Solver, Turn};
+use bt_sat::{Highest, Part, Plan, Solver, Turn};
 use std::alloc::{AllocError, Global};
 use std::test::Fail;
 
@@ -20,57 +20,57 @@ const MODELS: &[&str] = &[
     "-1 2 3|-3 -2||0|fff",
 ];
 
-/// The literals of a part, as far as they are of variables.
-fn part_of(alloc: Global, formula: &Formula, text: &str, turn: Turn) -> Result<Part, AllocError> {
+/// Adds a part with the literals of a text, as far as they are of variables.
+fn add_part(
+    alloc: Global,
+    plan: &mut Plan,
+    formula: &Formula,
+    text: &str,
+    turn: Turn,
+) -> Result<(), AllocError> {
     let is_brittle = text.ends_with('!');
     let lits = literals_of(alloc, formula, text.trim_end_matches('!'))?;
-    Ok(Part::new(lits, turn, is_brittle))
+    plan.push(Part::new(lits, turn, is_brittle))
 }
 
-/// Clauses of three variables.
-fn formula_of(alloc: Global, clauses: &str) -> Result<Formula, AllocError> {
-    let mut formula = Formula::new(alloc, 3)?;
-    for clause in clauses.split(',').filter(|clause| !clause.is_empty()) {
-        add_clause(alloc, &mut formula, clause)?;
-    }
-    Ok(formula)
-}
-
-/// The first model of clauses by a plan that restarts after so many steps.
-fn model_by(alloc: Global, row: &str, unit: u64) -> Result<Vec<bool>, AllocError> {
+/// Adds the clauses and the parts of a row.
+fn add_row(
+    alloc: Global,
+    formula: &mut Formula,
+    plan: &mut Plan,
+    row: &str,
+) -> Result<(), AllocError> {
     let [clauses, first, second, stretch, ..] = fields(row, '|');
-    let formula = formula_of(alloc, clauses)?;
     let later = Turn {
         steps: 9,
         of: 2,
         number: number_of(stretch) as u64,
     };
-    let mut plan = Plan::new(alloc, unit);
-    plan.push(part_of(alloc, &formula, first, Turn::always())?)?;
-    plan.push(part_of(alloc, &formula, second, later)?)?;
+    add_clauses(alloc, formula, clauses)?;
+    add_part(alloc, plan, formula, first, Turn::always())?;
+    add_part(alloc, plan, formula, second, later)
+}
+
+/// A search by a row's plan that restarts after so many steps.
+fn solver_of(alloc: Global, row: &str, unit: u64) -> Result<Solver<Highest>, AllocError> {
     let choosers = vec![in alloc; Highest::new()]?;
-    match Solver::by_plan(alloc, formula, choosers, 9, plan)?.next_model()? {
-        Answer::Model(model) => Ok(model),
-        Answer::Refuted | Answer::Spent => Ok(Vec::new(alloc)),
-    }
+    let mut formula = Formula::new(alloc, 3)?;
+    let mut plan = Plan::new(alloc, unit);
+    add_row(alloc, &mut formula, &mut plan, row)?;
+    Solver::by_plan(alloc, formula, choosers, 9, plan)
 }
 
 /// Whether the first model is what a row says.
-fn is_modelled(alloc: Global, row: &str, unit: u64) -> Result<bool, AllocError> {
+fn is_decided(alloc: Global, row: &str, unit: u64) -> Result<bool, AllocError> {
     let [_, _, _, _, values] = fields(row, '|');
-    let model = model_by(alloc, row, unit)?;
-    let same = model
-        .iter()
-        .zip(values.as_bytes())
-        .all(|(value, letter)| *value == (*letter == b't'));
-    Ok(same && model.len() == values.len())
+    is_modelled(&mut solver_of(alloc, row, unit)?, values)
 }
 
 #[test]
 fn plans_decide_the_first_model(rt: HostRuntime) -> Result<(), Fail> {
     for row in MODELS {
-        assert!(rt; is_modelled(rt.alloc(), row, 0)?, "{row}");
-        assert!(rt; is_modelled(rt.alloc(), row, 1)?, "{row}");
+        assert!(rt; is_decided(rt.alloc(), row, 0)?, "{row}");
+        assert!(rt; is_decided(rt.alloc(), row, 1)?, "{row}");
     }
     Ok(())
 }

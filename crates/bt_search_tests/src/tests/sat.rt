@@ -47,22 +47,50 @@ fn clause_over(
     Ok(lits)
 }
 
-/// The formula that a seed names, with clauses of one to three literals, and sometimes an empty one.
-fn formula_of(alloc: Global, seed: u64, vars: usize) -> Result<Formula, AllocError>
+/// Adds a clause of so many literals.
+fn add_clause(
+    alloc: Global,
+    chance: &mut Chance,
+    formula: &mut Formula,
+    size: usize,
+    vars: usize,
+) -> Result<(), AllocError>
+    requires { 0 < vars }
+{
+    let lits = clause_over(alloc, chance, formula, size, vars)?;
+    formula.add_clause(&lits)?;
+    Ok(())
+}
+
+/// Adds the clauses that a seed names, of one to three literals, and sometimes an empty one.
+fn add_clauses(
+    alloc: Global,
+    formula: &mut Formula,
+    seed: u64,
+    vars: usize,
+) -> Result<(), AllocError>
     requires some { 0 < vars }
     requires few { vars < 9 }
 {
     let mut chance = Chance(seed);
-    let mut formula = Formula::new(alloc, vars)?;
     for _ in 0..chance.below(4 * vars) {
         let size = if chance.below(64) == 0 {
             0
         } else {
             chance.below(3) + 1
         };
-        let lits = clause_over(alloc, &mut chance, &formula, size, vars)?;
-        formula.add_clause(&lits)?;
+        add_clause(alloc, &mut chance, formula, size, vars)?;
     }
+    Ok(())
+}
+
+/// The formula that a seed names.
+fn formula_of(alloc: Global, seed: u64, vars: usize) -> Result<Formula, AllocError>
+    requires some { 0 < vars }
+    requires few { vars < 9 }
+{
+    let mut formula = Formula::new(alloc, vars)?;
+    add_clauses(alloc, &mut formula, seed, vars)?;
     Ok(formula)
 }
 
@@ -118,18 +146,35 @@ fn is_right<C: Chooser>(solver: &mut Solver<C>, has_model: bool) -> Result<bool,
     }
 }
 
-/// Whether a search with these choosers answers right.
+/// A search for a model of the formula that a seed names, with a chooser or with none.
+fn solver_of<C: Chooser>(
+    alloc: Global,
+    seed: u64,
+    vars: usize,
+    chooser: Option<C>,
+) -> Result<Solver<C>, AllocError>
+    requires some { 0 < vars }
+    requires few { vars < 9 }
+{
+    let mut choosers = Vec::new(alloc);
+    if let Some(chooser) = chooser {
+        choosers.push(chooser)?;
+    }
+    Solver::new(alloc, formula_of(alloc, seed, vars)?, choosers, 300)
+}
+
+/// Whether a search with a chooser, or with none, answers right.
 fn is_right_by<C: Chooser>(
     alloc: Global,
     seed: u64,
     vars: usize,
-    choosers: Vec<C>,
+    chooser: Option<C>,
 ) -> Result<bool, AllocError>
     requires some { 0 < vars }
     requires few { vars < 9 }
 {
-    let wanted = has_model(alloc, &formula_of(alloc, seed, vars)?)?;
-    let mut solver = Solver::new(alloc, formula_of(alloc, seed, vars)?, choosers, 300)?;
+    let mut solver = solver_of(alloc, seed, vars, chooser)?;
+    let wanted = has_model(alloc, solver.formula())?;
     is_right(&mut solver, wanted)
 }
 
@@ -138,15 +183,12 @@ fn are_right(alloc: Global, seed: u64, vars: usize) -> Result<bool, AllocError>
     requires some { 0 < vars }
     requires few { vars < 9 }
 {
-    let none: Vec<Lowest> = Vec::new(alloc);
-    let highest = vec![in alloc; Highest::new()]?;
-    let recent = vec![in alloc; Recent::new(alloc)?]?;
-    let active = vec![in alloc; Active::new(alloc)?]?;
+    let none: Option<Lowest> = None;
     Ok(
         is_right_by(alloc, seed, vars, none)?
-            && is_right_by(alloc, seed, vars, highest)?
-            && is_right_by(alloc, seed, vars, recent)?
-            && is_right_by(alloc, seed, vars, active)?,
+            && is_right_by(alloc, seed, vars, Some(Highest::new()))?
+            && is_right_by(alloc, seed, vars, Some(Recent::new(alloc)?))?
+            && is_right_by(alloc, seed, vars, Some(Active::new(alloc)?))?,
     )
 }
 
@@ -183,14 +225,19 @@ impl Chooser for Picky {
     }
 }
 
+/// Adds 290 clauses of the first 70 variables.
+fn add_many(alloc: Global, formula: &mut Formula) -> Result<(), AllocError> {
+    let mut chance = Chance(3);
+    for _ in 0..290 {
+        add_clause(alloc, &mut chance, formula, 3, 70)?;
+    }
+    Ok(())
+}
+
 /// A search over 71 variables, the last of which stands in no clause.
 fn with_free(alloc: Global, limit: u64, choosers: Vec<Picky>) -> Result<Solver<Picky>, AllocError> {
-    let mut chance = Chance(3);
     let mut formula = Formula::new(alloc, 71)?;
-    for _ in 0..290 {
-        let lits = clause_over(alloc, &mut chance, &formula, 3, 70)?;
-        formula.add_clause(&lits)?;
-    }
+    add_many(alloc, &mut formula)?;
     Solver::new(alloc, formula, choosers, limit)
 }
 
@@ -202,9 +249,14 @@ fn free_value(solver: &mut Solver<Picky>) -> Result<Option<bool>, AllocError> {
     }
 }
 
-/// Whether the free variable has this value once the first of some choosers, which picks the lowest variable, has served an
-/// epoch.
-fn is_free_value(alloc: Global, next: Option<Picky>, value: bool) -> Result<bool, AllocError> {
+/// Whether the free variable has this value in the first model, which comes after an epoch.
+fn is_free_value(solver: &mut Solver<Picky>, value: bool) -> Result<bool, AllocError> {
+    Ok(free_value(solver)? == Some(value) && solver.log().len() > 128)
+}
+
+/// Whether the free variable has this value once one that picks the lowest variable has served an epoch, and where there is
+/// one, another chooser serves.
+fn is_picked(alloc: Global, next: Option<Picky>, value: bool) -> Result<bool, AllocError> {
     let first = Picky {
         is_high: false,
         left: 1000,
@@ -213,8 +265,7 @@ fn is_free_value(alloc: Global, next: Option<Picky>, value: bool) -> Result<bool
     if let Some(next) = next {
         choosers.push(next)?;
     }
-    let mut solver = with_free(alloc, 1000, choosers)?;
-    Ok(free_value(&mut solver)? == Some(value) && solver.log().len() > 128)
+    is_free_value(&mut with_free(alloc, 1000, choosers)?, value)
 }
 
 #[test]
@@ -223,33 +274,43 @@ fn asks_the_next_chooser_after_an_epoch(rt: HostRuntime) -> Result<(), Fail> {
         is_high: true,
         left: 1000,
     };
-    assert!(rt; is_free_value(rt.alloc(), None, false)?);
-    assert!(rt; is_free_value(rt.alloc(), Some(next), true)?);
+    assert!(rt; is_picked(rt.alloc(), None, false)?);
+    assert!(rt; is_picked(rt.alloc(), Some(next), true)?);
     Ok(())
 }
 
 /// The most steps, the steps that the chooser may be told of, how a search ends, and its steps.
 const ENDS: &[&str] = &["0|9|spent|0", "1|9|spent|1", "9|2|no memory|3"];
 
-/// Whether a search ends as a row says, and again where it goes on.
-fn ends(alloc: Global, row: &str) -> Result<bool, AllocError> {
-    let [limit, left, end, steps, ..] = fields(row, '|');
+/// A search of so many steps at most, whose chooser lacks memory once it was told of so many.
+fn limited(alloc: Global, limit: &str, left: &str) -> Result<Solver<Picky>, AllocError> {
     let chooser = Picky {
         is_high: false,
         left: number_of(left) as u64,
     };
-    let mut solver = with_free(alloc, number_of(limit) as u64, vec![in alloc; chooser]?)?;
-    for _ in 0..2 {
-        let told = match free_value(&mut solver) {
-            Ok(None) => "spent",
-            Ok(Some(_)) => "model",
-            Err(_) => "no memory",
-        };
-        if told != end || solver.log().len() != number_of(steps) {
-            return Ok(false);
-        }
-    }
-    Ok(true)
+    with_free(alloc, number_of(limit) as u64, vec![in alloc; chooser]?)
+}
+
+/// Whether a search ends like this after so many steps.
+fn is_end(solver: &mut Solver<Picky>, end: &str, steps: usize) -> bool {
+    let told = match free_value(solver) {
+        Ok(None) => "spent",
+        Ok(Some(_)) => "model",
+        Err(_) => "no memory",
+    };
+    told == end && solver.log().len() == steps
+}
+
+/// Whether a search ends like this, and again where it goes on.
+fn ends_twice(solver: &mut Solver<Picky>, end: &str, steps: usize) -> bool {
+    is_end(solver, end, steps) && is_end(solver, end, steps)
+}
+
+/// Whether a search ends as a row says, and again where it goes on.
+fn ends(alloc: Global, row: &str) -> Result<bool, AllocError> {
+    let [limit, left, end, steps, ..] = fields(row, '|');
+    let mut solver = limited(alloc, limit, left)?;
+    Ok(ends_twice(&mut solver, end, number_of(steps)))
 }
 
 #[test]

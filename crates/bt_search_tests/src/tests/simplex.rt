@@ -2,7 +2,7 @@
 use super::{fields, number_of, rows_of};
 use bt_frac::{Frac, Row};
 use bt_lin::{eval, farkas};
-use bt_simplex::{Check, Operation, Tableau, Wide, WidePlace, are_over};
+use bt_simplex::{Check, Operation, Tableau, WidePlace, are_over};
 use std::alloc::{AllocError, Global};
 use std::test::Fail;
 
@@ -137,32 +137,55 @@ fn checked(
 
 /// Whether the checks of two rows answer what the letters say. The first may make no turn, and in the third one the second
 /// row isn't bound.
-fn is_answered(alloc: Global, row: &str) -> Result<bool, AllocError> {
-    let [first, second, letters, ..] = fields(row, '|');
-    let rows = rows_of(alloc, &[first, second])?;
-    let Some(mut tableau) = bound_tableau(alloc, &rows, 1)? else {
-        return Ok(false);
-    };
+fn are_answered(
+    alloc: Global,
+    tableau: &mut Tableau,
+    rows: &[Row],
+    letters: &str,
+) -> Result<bool, AllocError> {
     for (place, letter) in letters.bytes().enumerate() {
         let turns = if place == 0 { 0 } else { 10 };
-        if checked(alloc, &mut tableau, &rows, place != 2, turns)? != letter {
+        if checked(alloc, tableau, rows, place != 2, turns)? != letter {
             return Ok(false);
         }
     }
     Ok(true)
 }
 
+/// Whether the checks of a row's two rows answer what its letters say.
+fn is_answered(alloc: Global, row: &str) -> Result<bool, AllocError> {
+    let [first, second, letters, ..] = fields(row, '|');
+    let rows = rows_of(alloc, &[first, second])?;
+    match bound_tableau(alloc, &rows, 1)? {
+        Some(mut tableau) => are_answered(alloc, &mut tableau, &rows, letters),
+        None => Ok(false),
+    }
+}
+
+/// What a check of all these rows answers within ten turns.
+fn check_of(alloc: Global, rows: &[Row], columns: usize) -> Result<Option<Check>, AllocError> {
+    match bound_tableau(alloc, rows, columns)? {
+        Some(mut tableau) => Ok(Some(tableau.check(alloc, 10)?)),
+        None => Ok(None),
+    }
+}
+
+/// Whether a check ends with values that meet the rows where it is told so, and else without.
+fn is_end(check: &Check, rows: &[Row], has_values: bool) -> bool {
+    match check {
+        Check::Sat(values) => has_values && meet(rows, values),
+        Check::Unsat(_) => !has_values,
+        Check::Pivots(_) | Check::Wide(_) => false,
+    }
+}
+
 /// Whether a check of all these rows over two columns ends within ten turns, with values where it is told so, and else
 /// without.
 fn ends(alloc: Global, fields: &[&str], has_values: bool) -> Result<bool, AllocError> {
     let rows = rows_of(alloc, fields)?;
-    let Some(mut tableau) = bound_tableau(alloc, &rows, 2)? else {
-        return Ok(false);
-    };
-    match tableau.check(alloc, 10)? {
-        Check::Sat(values) => Ok(has_values && meet(&rows, &values)),
-        Check::Unsat(_) => Ok(!has_values),
-        Check::Pivots(_) | Check::Wide(_) => Ok(false),
+    match check_of(alloc, &rows, 2)? {
+        Some(check) => Ok(is_end(&check, &rows, has_values)),
+        None => Ok(false),
     }
 }
 
@@ -182,28 +205,27 @@ fn operation_named(name: &str) -> Operation {
     }
 }
 
-/// Where a check of all rows meets a number that doesn't fit.
-fn wide_of(alloc: Global, rows: &[Row]) -> Result<Option<Wide>, AllocError> {
-    let Some(mut tableau) = bound_tableau(alloc, rows, 1)? else {
-        return Ok(None);
-    };
-    match tableau.check(alloc, 10)? {
-        Check::Wide(wide) => Ok(Some(wide)),
-        _ => Ok(None),
+/// Whether a check meets a number that is too wide where a row says so.
+fn is_wide_at(check: &Check, row: &str) -> bool {
+    let [_, _, place, operation, at] = fields(row, '|');
+    let [turns, row, ..] = fields(at, ' ');
+    match check {
+        Check::Wide(wide) => {
+            wide.place == place_named(place)
+                && wide.row == number_of(row)
+                && wide.operation == operation_named(operation)
+                && wide.trail.turns.len() == number_of(turns)
+        }
+        _ => false,
     }
 }
 
 /// Whether a number is too wide where a row says so.
 fn is_wide(alloc: Global, row: &str) -> Result<bool, AllocError> {
-    let [first, second, place, operation, at] = fields(row, '|');
-    let [turns, row, ..] = fields(at, ' ');
+    let [first, second, ..] = fields(row, '|');
     let rows = rows_of(alloc, &[first, second])?;
-    match wide_of(alloc, &rows)? {
-        Some(wide) => {
-            let is_there = wide.place == place_named(place) && wide.row == number_of(row);
-            let is_so = wide.operation == operation_named(operation);
-            Ok(is_there && is_so && wide.trail.turns.len() == number_of(turns))
-        }
+    match check_of(alloc, &rows, 1)? {
+        Some(check) => Ok(is_wide_at(&check, row)),
         None => Ok(false),
     }
 }

@@ -3,7 +3,7 @@ ghost use Rattle.std.specs.Prelude.{◌≡◌, ◌<◌, IfOk, length};
 ghost use Rattle.std.specs.List.{All};
 ghost use Rattle.bt_theory.specs.Outcomes.{AreRowsOf};
 
-use super::{add_clause, fields, number_of, row_of};
+use super::{fields, formula_of, number_of};
 use bt_cnf::{Chooser, Formula};
 use bt_theory::{GaveUp, Limits, Outcome, solve};
 use std::alloc::{AllocError, Global};
@@ -47,19 +47,6 @@ const CASES: &[&str] = &[
     "1 3,1 -3||101|9 9|sat",
     "1 2,1 -2|0 1|000|9 9|sat",
 ];
-
-fn formula_of(alloc: Global, clauses: &str) -> Result<Formula, AllocError> {
-    let mut formula = Formula::new(alloc, 0)?;
-    for row in ROWS {
-        if let Some(row) = row_of(alloc, row)? {
-            formula.add_atom(row)?;
-        }
-    }
-    for clause in clauses.split(',') {
-        add_clause(alloc, &mut formula, clause)?;
-    }
-    Ok(formula)
-}
 
 /// The places of a scope, as far as there is a row.
 fn scope_of(alloc: Global, formula: &Formula, text: &str) -> Result<Vec<usize>, AllocError>
@@ -123,20 +110,35 @@ fn name_of(outcome: &Outcome) -> &'static str {
     }
 }
 
-/// Whether a formula comes to what a row says.
-fn is_outcome(alloc: Global, row: &str) -> Result<bool, AllocError> {
-    let [clauses, scopes, guesses, limits, name] = fields(row, '|');
-    let [learnt, pivots, ..] = fields(limits, ' ');
-    let choosers: Vec<Box<dyn Chooser>> = Vec::new(alloc);
-    let limits = Limits {
+fn limits_of(text: &str) -> Limits {
+    let [learnt, pivots, ..] = fields(text, ' ');
+    Limits {
         learnt: number_of(learnt) as u64,
         pivots: number_of(pivots) as u64,
-    };
-    let formula = formula_of(alloc, clauses)?;
-    let scopes = scopes_of(alloc, &formula, scopes)?;
+    }
+}
+
+/// What a row's formula comes to.
+fn outcome_of(alloc: Global, row: &str) -> Result<Outcome, AllocError> {
+    let [clauses, scopes, guesses, limits, _] = fields(row, '|');
     let guesses = guesses_of(alloc, guesses)?;
-    let outcome = solve(alloc, formula, &scopes, &guesses, choosers, limits)?;
-    Ok(name_of(&outcome) == name)
+    let formula = formula_of(alloc, 0, ROWS, clauses)?;
+    let scopes = scopes_of(alloc, &formula, scopes)?;
+    let choosers: Vec<Box<dyn Chooser>> = Vec::new(alloc);
+    solve(
+        alloc,
+        formula,
+        &scopes,
+        &guesses,
+        choosers,
+        limits_of(limits),
+    )
+}
+
+/// Whether a formula comes to what a row says.
+fn is_outcome(alloc: Global, row: &str) -> Result<bool, AllocError> {
+    let [_, _, _, _, name] = fields(row, '|');
+    Ok(name_of(&outcome_of(alloc, row)?) == name)
 }
 
 #[test]
