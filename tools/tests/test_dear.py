@@ -31,6 +31,7 @@ class Owners(unittest.TestCase):
             "Rattle-bt_x-proofs.plans.model_by.decls": ("plans.model_by", "decls"),
             "Rattle-bt_x-proofs.plans.model_by.Lts.decls": ("plans.model_by", "Lts"),
             "Rattle-bt_x.TheLink": ("(the crate's root)", "TheLink"),
+            "Rattle-bt_x-specs.Nets": ("specs.Nets", "itself"),
             "Rattle.Syntax": ("Rattle.Syntax", "itself"),
         }.items():
             self.assertEqual(dear.owner_of(module, "bt_x"), owner, module)

@@ -1,6 +1,7 @@
 //! Which texts are blueprints of which parts, and why others are refused: values after the Factorio Wiki.
 use super::{fields, part_of};
 use bt_entities::{EntityFault, Member, parts_of};
+use bt_json::{Tree, read};
 use bt_parts::Part;
 use std::alloc::{AllocError, Global};
 use std::test::Fail;
@@ -111,14 +112,19 @@ fn spelled(told: &str) -> Result<Option<Part>, Told> {
     }
 }
 
+/// The last part of the blueprint that a value is, or its fault.
+fn told_of(alloc: Global, tree: &Tree) -> Result<Option<Part>, Told> {
+    match parts_of(alloc, tree) {
+        Ok(parts) => Ok(parts.last().copied()),
+        Err(fault) => Err(told_fault(&fault)),
+    }
+}
+
 /// Whether a field tells the last part of the blueprint that the text is, or its fault.
 fn is_told(alloc: Global, text: &[u8], told: &str) -> bool {
-    match bt_json::read(alloc, text) {
-        Ok((tree, _)) => match parts_of(alloc, &tree) {
-            Ok(parts) => Ok(parts.last().copied()) == spelled(told),
-            Err(fault) => Err(told_fault(&fault)) == spelled(told),
-        },
-        _ => false,
+    match read(alloc, text) {
+        Ok((tree, _)) => told_of(alloc, &tree) == spelled(told),
+        Err(_) => false,
     }
 }
 

@@ -8,30 +8,28 @@ use std::test::Fail;
 const TEXT: &[u8] = b"f -9 12 0 -1/2 3\nr 0 1 13 0\nend\n";
 
 // A negative and a positive literal; none where the formula lacks their variables.
-fn literals(alloc: Global) -> Result<Option<[Lit; 2]>, AllocError> {
-    let formula = Formula::new(alloc, 13)?;
-    Ok(match (formula.var_at(8), formula.var_at(11)) {
-        (Some(first), Some(second)) => Some([
-            Lit {
-                var: first,
-                positive: false,
-            },
-            Lit {
-                var: second,
-                positive: true,
-            },
-        ]),
-        _ => None,
-    })
+fn literals_of(formula: &Formula) -> Option<[Lit; 2]> {
+    let first = Lit {
+        var: formula.var_at(8)?,
+        positive: false,
+    };
+    let second = Lit {
+        var: formula.var_at(11)?,
+        positive: true,
+    };
+    Some([first, second])
 }
 
-// A log of a lemma and a learnt clause.
-fn two_steps(alloc: Global, lits: &[Lit]) -> Result<Log, AllocError> {
+fn literals(alloc: Global) -> Result<Option<[Lit; 2]>, AllocError> {
+    let formula = Formula::new(alloc, 13)?;
+    Ok(literals_of(&formula))
+}
+
+// Adds a lemma and a learnt clause.
+fn add_steps(log: &mut Log, lits: &[Lit]) -> Result<(), AllocError> {
     let half = Frac::read(b"-1/2").unwrap_or(Frac::whole(0));
-    let mut log = Log::new(alloc, 12)?;
     log.add_lemma(lits, &[half, Frac::whole(3)])?;
-    log.add_learnt(&[], &[0, 12])?;
-    Ok(log)
+    log.add_learnt(&[], &[0, 12])
 }
 
 // Whether so much room is enough for the log's text, or isn't, and this is written.
@@ -57,13 +55,20 @@ fn ends_with_hints(log: &Log, numbers: &[usize]) -> bool {
     }
 }
 
+// Whether a log of the two steps has them, and is printed.
+fn is_kept(alloc: Global, log: &Log) -> Result<bool, AllocError> {
+    Ok(
+        ends_with_hints(log, &[0, 12])
+            && is_printed(alloc, log, 100, true, TEXT)?
+            && is_printed(alloc, log, 20, false, b"f -9 12 0 -1/2 3\nr 0")?,
+    )
+}
+
 #[test]
 fn prints_its_steps(rt: HostRuntime) -> Result<(), Fail> {
-    let alloc = rt.alloc();
-    let lits = literals(alloc)?.ok_or("no variable")?;
-    let log = two_steps(alloc, &lits)?;
-    assert!(rt; ends_with_hints(&log, &[0, 12]));
-    assert!(rt; is_printed(alloc, &log, 100, true, TEXT)?);
-    assert!(rt; is_printed(alloc, &log, 20, false, b"f -9 12 0 -1/2 3\nr 0")?);
+    let lits = literals(rt.alloc())?.ok_or("no variable")?;
+    let mut log = Log::new(rt.alloc(), 12)?;
+    add_steps(&mut log, &lits)?;
+    assert!(rt; is_kept(rt.alloc(), &log)?);
     Ok(())
 }

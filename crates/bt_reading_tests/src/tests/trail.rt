@@ -42,31 +42,42 @@ fn operation_named(name: &str) -> Operation {
 
 /// Whether turns are printed as this text.
 fn is_printed(alloc: Global, turns: &[Turn], text: &str) -> Result<bool, AllocError> {
-    let mut sink = MemSink::new(alloc, 100, vec![in alloc]?, 7)?;
-    let printed = print_pivots(&trail(alloc, turns)?, &mut sink).is_ok();
+    let trail = trail(alloc, turns)?;
+    let mut sink = MemSink::new(alloc, 100, Vec::new(alloc), 7)?;
+    let printed = print_pivots(&trail, &mut sink).is_ok();
+    Ok(printed && sink.held() == text.as_bytes())
+}
+
+/// The numbers of a place and an operation.
+fn wide(alloc: Global, place: &str, operation: &str) -> Result<Wide, AllocError> {
+    let turn = Turn {
+        leaves: 3,
+        enters: 1,
+    };
+    let basis = vec![in alloc; 1, 4, 10]?;
+    Ok(Wide {
+        trail: trail(alloc, &[turn])?,
+        place: place_named(place),
+        basis,
+        row: 4,
+        column: 1,
+        operation: operation_named(operation),
+        left: Frac::new(1, 3).unwrap_or(Frac::whole(0)),
+        right: Frac::whole(-2),
+    })
+}
+
+/// Whether numbers are printed as this text.
+fn is_told(alloc: Global, wide: &Wide, text: &str) -> Result<bool, AllocError> {
+    let mut sink = MemSink::new(alloc, 100, Vec::new(alloc), 7)?;
+    let printed = print_wide(wide, &mut sink).is_ok();
     Ok(printed && sink.held() == text.as_bytes())
 }
 
 /// Whether the numbers at a row's place and for its operation are printed as its text.
 fn is_wide(alloc: Global, row: &str) -> Result<bool, AllocError> {
     let [place, operation, text, ..] = fields(row, '|');
-    let turn = Turn {
-        leaves: 3,
-        enters: 1,
-    };
-    let wide = Wide {
-        trail: trail(alloc, &[turn])?,
-        place: place_named(place),
-        basis: vec![in alloc; 1, 4, 10]?,
-        row: 4,
-        column: 1,
-        operation: operation_named(operation),
-        left: Frac::new(1, 3).unwrap_or(Frac::whole(0)),
-        right: Frac::whole(-2),
-    };
-    let mut sink = MemSink::new(alloc, 100, vec![in alloc]?, 7)?;
-    let printed = print_wide(&wide, &mut sink).is_ok();
-    Ok(printed && sink.held() == text.as_bytes())
+    is_told(alloc, &wide(alloc, place, operation)?, text)
 }
 
 #[test]

@@ -182,14 +182,20 @@ fn spelled(text: &str) -> Option<Command> {
     }
 }
 
+/// The words of a text.
+fn words_of(alloc: Global, text: &str) -> Result<Vec<String>, AllocError> {
+    let mut words = Vec::new(alloc);
+    for word in text.split(' ') {
+        words.push(String::from_str(alloc, word)?)?;
+    }
+    Ok(words)
+}
+
 /// Whether a row's words are its command.
 fn is_command(alloc: Global, row: &str) -> Result<bool, AllocError> {
     let [words, wanted, ..] = fields(row, '|');
-    let mut all = Vec::new(alloc);
-    for word in words.split(' ') {
-        all.push(String::from_str(alloc, word)?)?;
-    }
-    Ok(command_of(&all) == spelled(wanted))
+    let words = words_of(alloc, words)?;
+    Ok(command_of(&words) == spelled(wanted))
 }
 
 #[test]

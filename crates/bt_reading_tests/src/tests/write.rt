@@ -1,7 +1,7 @@
 //! Blueprints of no part and of one, byte by byte, and of a few, which are read back.
 use super::{fields, part_of};
 use bt_entities::parts_of;
-use bt_json::read;
+use bt_json::{Tree, read};
 use bt_parts::Part;
 use bt_write::text_of;
 use std::alloc::{AllocError, Global};
@@ -30,24 +30,33 @@ fn parts_spelled(alloc: Global, words: &str) -> Result<Vec<Part>, AllocError> {
     Ok(parts)
 }
 
+/// The blueprint of entities.
+fn blueprint_of(alloc: Global, entities: &str) -> Result<String, AllocError> {
+    let front = r#"{"blueprint":{"item":"blueprint","entities":["#;
+    format!(in alloc; "{front}{entities}],\"version\":281479271677952}}}}\n")
+}
+
 /// Whether a row's parts are written as its entities.
 fn is_written(alloc: Global, row: &str) -> Result<bool, AllocError> {
     let [parts, entities, ..] = fields(row, '|');
     let parts = parts_spelled(alloc, parts)?;
-    let mut wanted = String::from_str(alloc, r#"{"blueprint":{"item":"blueprint","entities":["#)?;
-    wanted.push_str(entities)?;
-    wanted.push_str("],\"version\":281479271677952}}\n")?;
-    Ok(text_of(alloc, &parts)?.as_slice() == wanted.as_bytes())
+    let written = text_of(alloc, &parts)?;
+    Ok(written.as_slice() == blueprint_of(alloc, entities)?.as_bytes())
+}
+
+/// Whether these parts are read of a value.
+fn has_parts(alloc: Global, tree: &Tree, parts: &[Part]) -> bool {
+    match parts_of(alloc, tree) {
+        Ok(found) => found.as_slice() == parts,
+        Err(_) => false,
+    }
 }
 
 /// Whether the blueprint of parts is read as these parts, and a line feed alone stands behind it.
 fn is_read_back(alloc: Global, parts: &[Part]) -> Result<bool, AllocError> {
     let text = text_of(alloc, parts)?;
-    let Ok((tree, used)) = read(alloc, &text) else {
-        return Ok(false);
-    };
-    match parts_of(alloc, &tree) {
-        Ok(found) => Ok(used + 1 == text.len() && found.as_slice() == parts),
+    match read(alloc, &text) {
+        Ok((tree, used)) => Ok(used + 1 == text.len() && has_parts(alloc, &tree, parts)),
         Err(_) => Ok(false),
     }
 }

@@ -119,23 +119,32 @@ fn bytes_that_go_on(rt: HostRuntime) -> Result<(), Fail> {
     Ok(())
 }
 
+/// Whether these values have ended, whatever byte stands behind them.
+fn are_ended(alloc: Global, byte: u8) -> Result<bool, AllocError> {
+    let mut holds = true;
+    for front in ["null", "true", "\"a\"", "[]", "{}"] {
+        let told = answer_behind(alloc, front.as_bytes(), byte)?;
+        holds &= told == Ok(front.len());
+    }
+    Ok(holds)
+}
+
+/// Whether the byte behind a number is one more of its characters, or the number has ended.
+fn is_behind_number(alloc: Global, byte: u8) -> Result<bool, AllocError> {
+    let wanted = match byte {
+        b'0'..=b'9' => Ok(2),
+        b'.' | b'e' | b'E' => Err(JsonFault::Json(2)),
+        b'+' | b'-' => Err(JsonFault::Json(1)),
+        _ => Ok(1),
+    };
+    Ok(answer_behind(alloc, b"7", byte)? == wanted)
+}
+
 #[test]
 fn bytes_behind_a_value(rt: HostRuntime) -> Result<(), Fail> {
-    let alloc = rt.alloc();
-    let ended: [&[u8]; 5] = [b"null", b"true", b"\"a\"", b"[]", b"{}"];
     for byte in 0..=u8::MAX {
-        for front in ended {
-            let told = answer_behind(alloc, front, byte)?;
-            assert!(rt; told == Ok(front.len()), "{front:?} {byte}");
-        }
-        let wanted = match byte {
-            b'0'..=b'9' => Ok(2),
-            b'.' | b'e' | b'E' => Err(JsonFault::Json(2)),
-            b'+' | b'-' => Err(JsonFault::Json(1)),
-            _ => Ok(1),
-        };
-        let told = answer_behind(alloc, b"7", byte)?;
-        assert!(rt; told == wanted, "{byte}");
+        assert!(rt; are_ended(rt.alloc(), byte)?, "{byte}");
+        assert!(rt; is_behind_number(rt.alloc(), byte)?, "{byte}");
     }
     Ok(())
 }

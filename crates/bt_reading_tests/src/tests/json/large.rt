@@ -1,4 +1,5 @@
 //! Texts that are made: of many names, of many kinds of objects, and of as many levels as there may be.
+use super::super::fields;
 use super::answer;
 use bt_json::{JsonFault, MOST_LEVELS, Tree, read};
 use std::alloc::{AllocError, Global};
@@ -15,17 +16,29 @@ fn last_member(tree: &Tree, name: &str) -> Option<u64> {
     }
 }
 
+/// Whether the member of that name of the last object of a list is this number.
+fn is_last(alloc: Global, text: &str, name: &str, wanted: u64) -> bool {
+    match read(alloc, text.as_bytes()) {
+        Ok((tree, _)) => last_member(&tree, name) == Some(wanted),
+        Err(_) => false,
+    }
+}
+
+/// Adds an object to the front of a list, and tells whether the list is read with it.
+fn is_read_on(alloc: Global, front: &mut String, number: u64) -> Result<bool, AllocError> {
+    let kind = format!(in alloc; "{}", number % 20)?;
+    front.push_str(&format!(in alloc; "{{\"{kind}\":{number}}}")?)?;
+    let text = format!(in alloc; "{front}]")?;
+    front.push_str(",")?;
+    Ok(is_last(alloc, &text, &kind, number))
+}
+
 /// Objects of more kinds than the reader keeps the names of.
 #[test]
 fn objects_of_many_kinds(rt: HostRuntime) -> Result<(), Fail> {
-    let alloc = rt.alloc();
-    let mut front = String::from_str(alloc, "[")?;
+    let mut front = String::from_str(rt.alloc(), "[")?;
     for number in 0..40 {
-        let kind = format!(in alloc; "{}", number % 20)?;
-        front.push_str(&format!(in alloc; "{{\"{kind}\":{number}}}")?)?;
-        let (tree, _) = read(alloc, format!(in alloc; "{front}]")?.as_bytes())?;
-        assert!(rt; last_member(&tree, &kind) == Some(number), "{number}");
-        front.push_str(",")?;
+        assert!(rt; is_read_on(rt.alloc(), &mut front, number)?, "{number}");
     }
     Ok(())
 }
@@ -48,59 +61,100 @@ fn has_text(member: Option<&Tree>, wanted: &str) -> bool {
     }
 }
 
-/// Whether an object has the name, with itself as its text, and can't have it twice; the front is all but its brace.
-fn is_kept(alloc: Global, tree: &Tree, front: &str, name: &str) -> Result<bool, AllocError> {
+/// Whether an object has a number's name, with itself as its text, and can't have it twice; the front is all but its brace.
+fn is_kept(alloc: Global, tree: &Tree, front: &str, number: u64) -> Result<bool, AllocError> {
+    let name = format!(in alloc; "{number}")?;
     let twice = format!(in alloc; "{front}, \"{name}\"")?;
     let wanted = Err(JsonFault::DuplicateKey(front.len().saturating_add(2)));
-    Ok(has_text(tree.member(name), name) && answer(alloc, twice.as_bytes()) == wanted)
+    Ok(has_text(tree.member(&name), &name) && answer(alloc, twice.as_bytes()) == wanted)
+}
+
+/// Whether an object has so many names.
+fn are_kept(alloc: Global, tree: &Tree, front: &str, count: u64) -> Result<bool, AllocError> {
+    for number in 0..count {
+        if !is_kept(alloc, tree, front, number)? {
+            return Ok(false);
+        }
+    }
+    Ok(true)
+}
+
+/// Whether an object of so many names is read.
+fn is_object(alloc: Global, count: u64) -> Result<bool, AllocError> {
+    let front = numbered(alloc, count)?;
+    let text = format!(in alloc; "{front}}}")?;
+    match read(alloc, text.as_bytes()) {
+        Ok((tree, _)) => are_kept(alloc, &tree, &front, count),
+        Err(_) => Ok(false),
+    }
 }
 
 #[test]
 fn many_names(rt: HostRuntime) -> Result<(), Fail> {
-    let alloc = rt.alloc();
     for count in [1, 7, 8, 9, 10, 300] {
-        let front = numbered(alloc, count)?;
-        let (tree, _) = read(alloc, format!(in alloc; "{front}}}")?.as_bytes())?;
-        for number in 0..count {
-            let name = format!(in alloc; "{number}")?;
-            assert!(rt; is_kept(alloc, &tree, &front, &name)?, "{name} of {count}");
-        }
+        assert!(rt; is_object(rt.alloc(), count)?, "{count}");
     }
     Ok(())
 }
 
-#[test]
-fn levels(rt: HostRuntime) -> Result<(), Fail> {
-    let alloc = rt.alloc();
+/// What follows 64 levels in 160 bytes, whether that is a level too many or bad, and where.
+const LEVELS: &[&str] = &[
+    "|bad|160",
+    "[|deep|160",
+    "{|deep|160",
+    " \n[|deep|162",
+    "1,\"a\":{|deep|166",
+    // A bracket that no value begins with.
+    "]|bad|160",
+    "1[|bad|161",
+    "1,{|bad|162",
+    // A level that has ended counts no more.
+    "1},[|bad|164",
+    "1}]|bad|163",
+];
+
+/// So many levels.
+fn opened(alloc: Global) -> Result<Vec<u8>, AllocError> {
     let mut front = Vec::new(alloc);
     for _ in 0..MOST_LEVELS / 2 {
         front.extend_from_slice(b"[{\"\":")?;
     }
-    // What follows 64 levels in 160 bytes.
-    let table: [(&[u8], JsonFault); 10] = [
-        (b"", JsonFault::Json(160)),
-        (b"[", JsonFault::Deep(160)),
-        (b"{", JsonFault::Deep(160)),
-        (b" \n[", JsonFault::Deep(162)),
-        (b"1,\"a\":{", JsonFault::Deep(166)),
-        // A bracket that no value begins with.
-        (b"]", JsonFault::Json(160)),
-        (b"1[", JsonFault::Json(161)),
-        (b"1,{", JsonFault::Json(162)),
-        // A level that has ended counts no more.
-        (b"1},[", JsonFault::Json(164)),
-        (b"1}]", JsonFault::Json(163)),
-    ];
-    for (more, fault) in table {
-        let mut bytes = front.clone()?;
-        bytes.extend_from_slice(more)?;
-        assert!(rt; answer(alloc, &bytes) == Err(fault), "{more:?}");
+    Ok(front)
+}
+
+/// The fault that fields spell.
+fn fault_of(name: &str, place: &str) -> JsonFault {
+    let place = place.parse::<usize>().unwrap_or(0);
+    match name {
+        "deep" => JsonFault::Deep(place),
+        _ => JsonFault::Json(place),
     }
-    let mut closed = front.clone()?;
+}
+
+/// Whether a row's text is refused behind this front as the row says.
+fn is_refused(alloc: Global, front: &[u8], row: &str) -> Result<bool, AllocError> {
+    let [more, name, place, ..] = fields(row, '|');
+    let mut bytes = Vec::from_slice(alloc, front)?;
+    bytes.extend_from_slice(more.as_bytes())?;
+    Ok(answer(alloc, &bytes) == Err(fault_of(name, place)))
+}
+
+/// Whether the most levels are read.
+fn is_read(alloc: Global, front: &[u8]) -> Result<bool, AllocError> {
+    let mut closed = Vec::from_slice(alloc, front)?;
     closed.push(b'1')?;
     for _ in 0..MOST_LEVELS / 2 {
         closed.extend_from_slice(b"}]")?;
     }
-    assert!(rt; answer(alloc, &closed) == Ok(225));
+    Ok(answer(alloc, &closed) == Ok(225))
+}
+
+#[test]
+fn levels(rt: HostRuntime) -> Result<(), Fail> {
+    let front = opened(rt.alloc())?;
+    for row in LEVELS {
+        assert!(rt; is_refused(rt.alloc(), &front, row)?, "{row:?}");
+    }
+    assert!(rt; is_read(rt.alloc(), &front)?);
     Ok(())
 }

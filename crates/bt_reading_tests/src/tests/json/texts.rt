@@ -162,12 +162,15 @@ pub fn told_value(alloc: Global, tree: &Tree) -> Result<String, AllocError> {
     }
 }
 
+/// What is told of a value that ends at a place.
+fn told_at(alloc: Global, tree: &Tree, after: usize) -> Result<String, AllocError> {
+    let value = told_value(alloc, tree)?;
+    format!(in alloc; "{value} to {after}")
+}
+
 fn told(alloc: Global, text: &str) -> Result<String, AllocError> {
     match read(alloc, text.as_bytes()) {
-        Ok((tree, after)) => {
-            let value = told_value(alloc, &tree)?;
-            format!(in alloc; "{value} to {after}")
-        }
+        Ok((tree, after)) => told_at(alloc, &tree, after),
         Err(JsonFault::Json(at)) => format!(in alloc; "bad at {at}"),
         Err(JsonFault::DuplicateKey(at)) => format!(in alloc; "repeated at {at}"),
         Err(JsonFault::Deep(at)) => format!(in alloc; "deep at {at}"),
