@@ -5,7 +5,7 @@ use Rattle.std.specs.List.{All, Any, AllZip}
 use Rattle.std.proofs.lemmas.Bool.{false≢true}
 use Rattle.std.proofs.lemmas.List.{length-map, get_or-map}
 use Rattle.std.proofs.lemmas.List.Elements.{All-nil, All-cons, All-head, All-tail, All-append, All-map, All-contains, All-weaker, Contains-get_or, Contains-append_left}
-use Rattle.bt_frac.specs.Ratio.{Ratio, IsLowest}
+use Rattle.bt_frac.specs.Ratio.{Ratio}
 use Rattle.bt_frac.specs.Rows.{RowParts}
 use Rattle.bt_frac.specs.Values.{value_in, RowHolds}
 use Rattle.bt_lin.specs.Farkas.{IsFarkas}
@@ -14,8 +14,8 @@ use Rattle.bt_cnf.specs.Assignments.{truth_in}
 use Rattle.bt_cnf.specs.Formulas.{FormulaParts}
 use Rattle.bt_cnf.specs.Meeting.{IsTrueUnder, MeetsClause, Meets}
 use Rattle.bt_log.specs.Logs.{Step, Lemma, Learnt}
-use Rattle.bt_log.specs.Validity.{NegatesAtom, IsValidLemma}
-use Rattle.bt_sat.specs.Solving.{SolverParts, IsLearnt, GoesOnBy, IsSoundLog, IsSpent, IsLemmaOf}
+use Rattle.bt_log.specs.Validity.{NegatesAtom}
+use Rattle.bt_sat.specs.Solving.{SolverParts, IsLearnt, GoesOnBy, IsSoundLog, IsSpent}
 use Rattle.bt_sat.specs.Answering.{GivesNext}
 use Rattle.bt_sat.specs.declared.solver.Answer.{Answer}
 use Rattle.bt_sat.specs.declared.solver.Answer.TheVariants as answer
@@ -26,8 +26,7 @@ use Rattle.bt_simplex.specs.Runs.{LeadsTo}
 use Rattle.bt_simplex.specs.Checks.{IsBound, MeetsBoundRows, RefutesBoundRows}
 use Rattle.bt_theory.specs.Reaching.{atom_rows, atom_vars, IsTableauOf, IsReachable, IsReached}
 use Rattle.bt_theory.specs.Outcomes.{IsSolution, FitsLemma, Fits, IsSound, IsUsedUp}
-use Rattle.bt_theory.specs.inner.Choosing.{IsChosen}
-use Rattle.bt_theory.specs.inner.Rounds.{IsReady, HasModel, HasChosen, MakesLemma, IsLemmaLearnt, IsEnd, IsRound}
+use Rattle.bt_theory.specs.inner.Rounds.{IsReady, HasChosen, MakesLemma, IsLemmaLearnt, IsEnd, IsRound}
 use Rattle.bt_theory.specs.inner.Scopes.{negations, IsConflictOf, AreAtoms, IsScopeOf, IsConflict, IsConflictIn}
 use Rattle.bt_theory.specs.declared.lemma.Conflict.{Conflict}
 use Rattle.bt_theory.specs.declared.round.End.{End}

@@ -1,5 +1,5 @@
 -- One round of a search: a model, what is chosen of it, and what the tableau says of the rows that are bound.
-use Rattle.std.specs.Prelude.{◌≡◌, ℕ, ◌<◌, ◌≤◌, Bool, List, [], ◌∷◌, length, Option, Some, None}
+use Rattle.std.specs.Prelude.{◌≡◌, ℕ, ◌<◌, ◌≤◌, Bool, List, [], ◌∷◌, length, map, Option, Some, None}
 use Rattle.std.specs.List.{All}
 use Rattle.bt_frac.specs.Ratio.{IsLowest}
 use Rattle.bt_cnf.specs.Formulas.{FormulaParts}
@@ -13,6 +13,8 @@ use Rattle.bt_theory.specs.declared.lemma.Conflict.{Conflict}
 use Rattle.bt_theory.specs.declared.outcome.Outcome.{Outcome}
 use Rattle.bt_theory.specs.declared.outcome.Solution.{Solution}
 use Rattle.bt_theory.specs.inner.Choosing.{IsChosen}
+use Rattle.bt_theory.specs.inner.Scopes.{IsScopeOf, parts_of}
+use Rattle.bt_theory.specs.declared.solving.Tables.{Tables}
 use Rattle.bt_theory.specs.declared.round.End.{End}
 use Rattle.bt_theory.specs.declared.round.End.TheVariants as end
 
@@ -20,6 +22,11 @@ use Rattle.bt_theory.specs.declared.round.End.TheVariants as end
 pub record IsFirst (f : FormulaParts) (t : TableauParts) : Type 0 where
   pub tableau : IsTableauOf f t
   pub basis : basis_of t.slots ≡ positions_from (columns_of f) (atom_rows f)
+
+-- the tables are those of a formula at the start of a search
+pub record AreTablesOf (f : FormulaParts) (tables : Tables) : Type 0 where
+  pub scopes : All (IsScopeOf f) (map parts_of tables.scopes.items)
+  pub tableau : IsFirst f tables.tableau
 
 -- between rounds: the tableau is one of the formula's rows at a reachable basis, and the sums of all lemmas fit
 pub record IsReady (s : SolverParts) (t : TableauParts) : Type 0 where

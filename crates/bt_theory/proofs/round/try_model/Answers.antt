@@ -9,7 +9,7 @@ use Rattle.bt_log.specs.Logs.{clause_of}
 use Rattle.bt_sat.specs.Solving.{SolverParts}
 use Rattle.bt_theory.specs.inner.Choosing.{IsChosen}
 use Rattle.bt_theory.specs.inner.Rounds.{HasModel, HasChosen, IsLemmaLearnt, IsRound}
-use Rattle.bt_theory.specs.inner.Scopes.{IsConflict, IsConflictIn, parts_of}
+use Rattle.bt_theory.specs.inner.Scopes.{IsConflictIn, parts_of}
 use Rattle.bt_theory.proofs.Rounds.{all_front, conflict_among, makes_lemma, learnt_round}
 use Rattle.bt_theory.proofs.round.try_model.Goals as goal
 
