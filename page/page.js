@@ -447,8 +447,9 @@ class More {
     return this.part("Compare with another design", make("p", { class: "note" }, words), area, make("div", { class: "row" }, go, others.length ? chosen : null), out);
   }
 
-  async showSame(other, out) {
+  async showSame(asked, out) {
     const { view } = this;
+    const other = { ...asked, bytes: isJson(asked.bytes) ? cleaned(asked.bytes).bytes : asked.bytes };
     const both = lined(view.bytes, other.bytes);
     const ended = await view.run(["same"], both, "Comparing two designs");
     const fault = faultOf(ended);
@@ -527,7 +528,7 @@ class More {
 
   /** What a link to the design ends in. */
   async fragment() {
-    const { bytes } = this.view;
+    const { bytes } = this.view.found;
     return isJson(bytes) ? deflate(bytes) : encodeURIComponent(decoder.decode(bytes));
   }
 }
@@ -538,8 +539,12 @@ const choose = (at, isFocused = true) => {
   view = new View(given[at]);
   [...$("designs").children].forEach((it, place) => (place === at ? it.firstChild.setAttribute("aria-current", "true") : it.firstChild.removeAttribute("aria-current")));
   $("about").hidden = true;
+  document.title = `${plain(given[at].name)} – beltproof`;
   const opened = view.open();
-  if (isFocused) $("name")?.focus({ preventScroll: true });
+  if (isFocused) {
+    $("name")?.focus({ preventScroll: true });
+    if ($("design").getBoundingClientRect().top > innerHeight / 2 || matchMedia("(max-width: 62rem)").matches) $("design").scrollIntoView();
+  }
   return opened;
 };
 
@@ -683,6 +688,7 @@ const offerExamples = (samples) => {
 };
 
 const start = async () => {
+  $("given").textContent = "";
   $("promises").append(...PROPERTIES.map((it) => make("div", {}, make("dt", {}, `${FIELD[it].title} `, make("code", {}, it)), make("dd", {}, FIELD[it].promise))));
   if (typeof DecompressionStream === "undefined" || typeof WebAssembly === "undefined") {
     $("given").textContent = "This browser is too old for the page: it lacks WebAssembly or DecompressionStream.";
