@@ -1,5 +1,5 @@
-"""What is left out of a design, or is taken for something else, before the program reads it: bystanders, what only reads
-a belt, and parts of a mod. All else of the text stays, faults and all, for the program to judge."""
+"""What is left out of a design, or is taken for something else, before the program reads it: bystanders, what only
+reads a belt, and parts of a mod. All else of the text stays, faults and all, for the program to judge."""
 
 import json
 from collections import Counter

@@ -51,8 +51,8 @@ def treating(parser):
 
 def opening(parser):
     """The word that tells when bare halves are opened."""
-    told = "opens halves of splitters to which no belt leads, by belts to the border: never; where the label tells so, as 4 "
-    told += "to 4, or without it there is no input or no output (label, which is the default); or always"
+    told = "opens halves of splitters to which no belt leads, by belts to the border: never; where the label tells so, "
+    told += "as 4 to 4, or without it there is no input or no output (label, which is the default); or always"
     parser.add_argument("--bare-ends", choices=openings.MODES, default="label", help=told)
 
 
@@ -263,8 +263,8 @@ def write_report(rows, output, program):
             row.smaller = row.same_as.smaller
     report.write(output, rows, program)
     for row in rows:
-        told = [row.reason()] if row.is_broken() else [] if row.same_as else row.remarks()
-        print("".join(f"collection: {files.plain(f'{row.found.name}: {it}')}\n" for it in told), end="", file=sys.stderr)
+        for it in [row.reason()] if row.is_broken() else [] if row.same_as else row.remarks():
+            print(f"collection: {files.plain(f'{row.found.name}: {it}')}", file=sys.stderr)
     with_network = [row for row in rows if row.net]
     verdicts = Counter(row.answer(prop)["verdict"] for row in with_network for prop in PROPERTIES)
     told = ", ".join(f"{number} {LABELS[verdict]}" for verdict, number in verdicts.items())

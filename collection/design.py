@@ -58,8 +58,8 @@ class Part:
 
 @dataclass(frozen=True)
 class Stranger:
-    """An entity that is no part: where its middle is, in halves of a tile; how many tiles wide and high it is; and whether
-    it stands by, since it can't touch a belt."""
+    """An entity that is no part: where its middle is, in halves of a tile; how many tiles wide and high it is; and
+    whether it stands by, since it can't touch a belt."""
 
     entity: int
     name: str
@@ -189,8 +189,8 @@ def cells_of(kind, direction, middle):
 
 
 def part_of(index, entity, name, middle, shift, sixteenths):
-    """The part that an entity of this name is, on the grid with this shift, or where none is given on its own; None where
-    it is none."""
+    """The part that an entity of this name is, on the grid with this shift, or where none is given on its own; None
+    where it is none."""
     direction = direction_of(entity, sixteenths)
     if name not in NAMES or direction is None or any(it != int(it) for it in middle):
         return None, shift
@@ -205,8 +205,9 @@ def part_of(index, entity, name, middle, shift, sixteenths):
 
 
 def read(text, bounded=True, treated=()):
-    """The parts of a blueprint's text, and what is no part; the first part tells how the grid lies. What has no position
-    is left out. Where it is bounded, what is too much for a picture isn't read. Names are taken for others as told."""
+    """The parts of a blueprint's text, and what is no part; the first part tells how the grid lies. What has no
+    position is left out. Where it is bounded, what is too much for a picture isn't read. Names are taken for others as
+    told."""
     blueprint = blueprint_of(text)
     entities = entities_of(text)
     if bounded and len(entities) > MOST_ENTITIES:

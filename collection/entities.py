@@ -40,12 +40,12 @@ class Listed:
     def text_of(self, entity):
         return self.text[entity.start : entity.end]
 
-    def changed(self, entity, without=(), texts=()):
+    def changed(self, entity, without, texts):
         """An entity's text without some of its members, and with other texts for the values of some."""
         kept = [(name, it) for name, it in entity.members.items() if name not in without]
-        texts = dict(texts)
-        told = (self.text[it.start : it.value_start] + texts.get(name, self.text[it.value_start : it.end]) for name, it in kept)
-        return "{" + ",".join(told) + "}"
+        heads = (self.text[it.start : it.value_start] for _, it in kept)
+        values = (texts.get(name, self.text[it.value_start : it.end]) for name, it in kept)
+        return "{" + ",".join(map("".join, zip(heads, values))) + "}"
 
     def with_all(self, texts):
         """The blueprint's text with these entities in place of its own."""

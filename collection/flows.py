@@ -1,5 +1,5 @@
-"""States on pictures: of each edge a line as wide as its flow, with the number. The elements are as in `picture`, of whole
-numbers alone."""
+"""States on pictures: of each edge a line as wide as its flow, with the number. The elements are as in `picture`, of
+whole numbers alone."""
 
 from .design import STEPS
 from .picture import HALF, middle_of, short, sign, svg, titled
@@ -51,8 +51,8 @@ def label_place(parts, edge, taken):
 
 
 def flowing(parts, network, badges, state, ways):
-    """The elements that draw a state's flows. Between them and their numbers stands what tells the belts' directions, the
-    group of this name."""
+    """The elements that draw a state's flows. Between them and their numbers stands what tells the belts' directions,
+    the group of this name."""
     lines, labels = [], []
     most, at = max(edge.cap for edge in network.edges), standing(parts)
     taken = {cell for cell in badges.values() if cell in at}

@@ -6,11 +6,12 @@ RICH_TEXT = re.compile(r"\[/?[a-z-]+(?:=[^\][]*)?\]")
 """The game's marks in a label, as of colours and of small pictures."""
 
 ARROWS = "to|-+>|=+>|→|⇒|➔|➜|➡\ufe0f?"
-PLAIN = re.compile(rf"(?<![\d.])(\d{{1,4}})[\s_-]*(?:{ARROWS})[\s_-]*(\d{{1,4}})(?![\d.]*\d)", re.I)
+PLAIN = re.compile(rf"(?<![\d.])(\d{{1,3}})[\s_-]*(?:{ARROWS})[\s_-]*(\d{{1,3}})(?![\d.]*\d)", re.I)
 """Two numbers that can hardly be anything else."""
 
 SIGNS = ":x×*‐‑–—−-"
-BRIEF = re.compile(rf"(?<![A-Za-z\d.{SIGNS}])(\d{{1,4}})\s*[{SIGNS}]\s*(\d{{1,4}})(?!\s*[{SIGNS}]\s*\d|[.]?\d|[a-z])", re.I)
+MORE = rf"\s*[{SIGNS}]\s*\d|[.]?\d|[a-z]"
+BRIEF = re.compile(rf"(?<![A-Za-z\d.{SIGNS}])(\d{{1,3}})\s*[{SIGNS}]\s*(\d{{1,3}})(?!{MORE})", re.I)
 """Two numbers that may be the size of a layout too: taken where none are told plainly."""
 
 

@@ -1,6 +1,6 @@
-"""Bare halves of splitters, and how they are opened: with belts of the splitter's tier, straight from the half to one cell
-beyond the border of the design. What comes out has the network of before and just these ends more, by the program's own
-word; a half for which that isn't so stays bare."""
+"""Bare halves of splitters, and how they are opened: with belts of the splitter's tier, straight from the half to one
+cell beyond the border of the design. What comes out has the network of before and just these ends more, by the
+program's own word; a half for which that isn't so stays bare."""
 
 from bisect import bisect_left
 from collections import defaultdict
@@ -61,13 +61,13 @@ class Ground:
                 lines[axis, cell[1 - axis]].append(cell[axis])
         self.lines = {key: sorted(them) for key, them in lines.items()}
 
-    def first_taken(self, cell, direction):
-        """The first taken cell ahead, or None."""
+    def first_taken(self, cell, direction, most):
+        """The first taken cell ahead, so many cells away at most, or None."""
         axis = 0 if direction in (EAST, design.WEST) else 1
         line = self.lines[axis, cell[1 - axis]]
         ahead = direction in (EAST, SOUTH)
         at = bisect_left(line, cell[axis]) + (1 if ahead else -1)
-        if not 0 <= at < len(line):
+        if not 0 <= at < len(line) or abs(line[at] - cell[axis]) > most:
             return None
         return (line[at], cell[1]) if axis == 0 else (cell[0], line[at])
 
@@ -86,7 +86,7 @@ def ways_of(found, bystanders, most):
         direction, cell = (part.direction if bare.front else (part.direction + 2) % 4), part.cells[bare.half]
         ends.append((ground.to_border(cell, direction), bare, part, direction, cell))
     for count, bare, part, direction, cell in sorted(ends, key=lambda it: it[0]):
-        place, there = place_of(found.parts, bare), ground.first_taken(cell, direction)
+        place, there = place_of(found.parts, bare), ground.first_taken(cell, direction, count)
         why, cells = None, ()
         if there is not None:
             why = f"{ground.taken[there]} at tile {tile(there)} is in the way"
@@ -102,9 +102,9 @@ def ways_of(found, bystanders, most):
     return [ways[bare] for _, bare, *_ in ends]
 
 
-def belts_of(found, text, ways):
-    """The entities of the belts of these ways."""
-    numbers = [it.value("entity_number") for it in listed(text).entities]
+def belts_of(found, entities, ways):
+    """The entities of the belts of these ways, behind those that there are."""
+    numbers = [it.value("entity_number") for it in entities]
     number = max((it for it in numbers if isinstance(it, int)), default=0)
     quarter = 4 if found.sixteenths else 2
     for way in ways:
@@ -160,6 +160,7 @@ class Opening:
         except (design.Unreadable, Untraced):
             self.found = self.network = None
             self.ways = []
+        self.listed = listed(text) if self.ways else None
         if self.network and not self.is_whole:
             self.lines = self.network.lines()
 
@@ -174,7 +175,7 @@ class Opening:
 
     def with_ways(self, ways):
         """The text with these ways open, and what the program says of it; and why it can't be taken, or None."""
-        text = listed(self.text).with_more(list(belts_of(self.found, self.text, ways)))
+        text = self.listed.with_more(list(belts_of(self.found, self.listed.entities, ways)))
         answer = self.recover(text)
         other = "with belts there the network would be another one"
         if not answer.startswith(("net ", NO_ENDS)):
@@ -183,8 +184,9 @@ class Opening:
             network = Layout(design.read(text).parts).network()
         except (design.Unreadable, Untraced):
             return text, answer, other
-        count = len(self.found.parts)
-        ends = {f"{sign}{k}" for sign, them in zip("io", (network.inputs, network.outputs)) for k, it in enumerate(them) if it.part >= count}
+        both = ("i", network.inputs), ("o", network.outputs)
+        new = len(self.found.parts)
+        ends = {f"{sign}{k}" for sign, them in both for k, it in enumerate(them) if it.part >= new}
         is_told = answer.startswith("net ")
         left = without(answer.splitlines() if is_told else network.lines(), ends)
         is_same = left == self.lines if self.is_whole else plain(left) == self.lines
@@ -205,7 +207,8 @@ class Opening:
             else:
                 half = len(batch) // 2
                 left += [batch[half:], batch[:half]]
-        unopened = [(it.place, it.why or refused[it.place]) for it in self.ways if it.why or it.place in refused]
+        reasons = ((it.place, it.why or refused.get(it.place)) for it in self.ways)
+        unopened = [(place, why) for place, why in reasons if why]
         ends, belts = self.more_ends(kept), sum(len(it.cells) for it in kept)
         return Opened(*best, belts, [it.place for it in kept], unopened, self.ends(), ends, ends)
 
@@ -227,7 +230,7 @@ def opened(opening, mode, label):
         return shut
     for ways in (free, [it for it in free if it.front], [it for it in free if not it.front]):
         if ways and opening.more_ends(ways) in pairs:
-            found = replace(opening.opened(ways), would=whole.after)
+            found = whole if ways is free else replace(opening.opened(ways), would=whole.after)
             if found.after in pairs:
                 return found
     return shut if opening.is_whole else whole

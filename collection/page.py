@@ -118,7 +118,8 @@ def table_row(row, alone):
     ]
     words = [row.found.name, row.found.source, f"{net.inputs} to {net.outputs}", *row.tiers()]
     words += [f"{prop}:{row.answer(prop)['verdict']}" for prop in PROPERTIES]
-    words += [word for word, told in (("bare", row.bare), ("opened", row.of_reading("opened")), ("warning", row.warning())) if told]
+    marks = ("bare", row.bare), ("opened", row.of_reading("opened")), ("warning", row.warning())
+    words += [word for word, told in marks if told]
     head = element("th", who(row, alone), scope="row", data_sort=files.plain(row.found.name).lower())
     rest = (
         element("td", content, data_label=label, data_sort=sort) for label, (content, sort) in zip(COLUMNS[1:], cells)
@@ -146,8 +147,8 @@ def facts(row):
         under = kinds["entrance"] + kinds["exit"]
         words = ((kinds["belt"], "belt"), (under, "underground end"), (kinds["splitter"], "splitter"))
         told.append(("Parts", f"{tier_mark(tier)} {', '.join(counted(*it) for it in words if it[0])}"))
-    if parts and parts.strangers:
-        names = Counter(it.name for it in parts.strangers)
+    names = Counter(it.name for it in parts.strangers if not it.stands_by) if parts else None
+    if names:
         told.append(("Others", ", ".join(f"{number} × {shown(name)}" for name, number in names.items())))
     told.append(("From", shown(row.found.source + (f", place {row.found.place}" if row.found.place else ""))))
     kept = [row.found.file(), *([ORIGINAL] if row.is_changed() else []), *([NETWORK] if net else [])]
@@ -294,9 +295,8 @@ def summary(rows):
 
 
 CERTIFICATES = (
-    "A certificate is a proof that needs no trust in who found it: whoever gets a design and its certificate has it "
-    "checked in a moment, by beltproof check or by second/check.py, which shares no code with it, and needn’t try the "
-    "design out in the game, where no number of trials shows that a property always holds."
+    "A certificate is good for this: who has it and the design can be sure of the property, for every load and "
+    "blocking, without trust in its author or in this program, by checking it with a program of their own."
 )
 
 SEARCH = (
@@ -326,10 +326,10 @@ def front(rows, title, program):
         element("code", "beltproof check"),
         f" has accepted each. Program {element('code', program[:16])}. The results are in ",
         element("a", "results.tsv", href="results.tsv"),
-        ", one line for each design and property. ",
-        CERTIFICATES,
+        ", one line for each design and property.",
     )
-    return element("main", *content, element("footer", *words), id="all", class_="front")
+    foot = element("footer", element("p", *words), element("p", CERTIFICATES))
+    return element("main", *content, foot, id="all", class_="front")
 
 
 def whole(rows, title, program):
@@ -338,7 +338,7 @@ def whole(rows, title, program):
     drawn = [(row.id(), row.picture[0]) for row in own if row.picture[0]]
     store = "".join(f'<g id="p-{name}">{picture.parts(f"w-{name}")}</g>' for name, picture in drawn)
     pages = (page(row, before, after) for before, row, after in zip([None, *own], own, [*own[1:], None]))
-    style, script = ((HERE / name).read_text() for name in ("report.css", "report.js"))
+    style, script = ((HERE / name).read_text("utf-8") for name in ("report.css", "report.js"))
     head = (
         '<meta charset="utf-8"><meta name="viewport" content="width=device-width, initial-scale=1">'
         '<meta name="color-scheme" content="light dark">',

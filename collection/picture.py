@@ -6,10 +6,10 @@
   elements are JSON; `svg` spells them.
 - Every number is a whole one, and none comes about by rounding. A cell is 24 units wide: the cell (x, y) is the square
   from (24x, 24y) to (24x + 24, 24y + 24), where x grows to the east and y to the south.
-- A shape is a list of commands: M and L with a point, A with a radius, whether it turns clockwise, and a point, and Z. It
-  is drawn for a part that goes north, around the middle of its cells. `placed` turns it by the part's direction (north,
-  east, south and west are 0 to 3), each quarter taking (x, y) to (-y, x), moves it there, and spells it, with a blank
-  between two numbers alone.
+- A shape is a list of commands: M and L with a point, A with a radius, whether it turns clockwise, and a point, and Z.
+  It is drawn for a part that goes north, around the middle of its cells. `placed` turns it by the part's direction
+  (north, east, south and west are 0 to 3), each quarter taking (x, y) to (-y, x), moves it there, and spells it, with a
+  blank between two numbers alone.
 - All shapes of one layer and tier make one path, in the order of the parts, and of a splitter its lesser half's first.
   So a design of a thousand parts is a few elements. The paths come in the order of `LAYERS`, each layer by tier; one
   without a shape is left out. The members of a path are `class`, which is the layer and then the tier, and `d`.
@@ -67,8 +67,8 @@ UNTIERED = ("body", "body added", "hole", "cut")
 
 @dataclass(frozen=True)
 class Marks:
-    """What is marked on a picture: the bare ends of halves, as `Bare` tells them; the numbers of added belts; and what is
-    refused, each with its cells and with words."""
+    """What is marked on a picture: the bare ends of halves, as `Bare` tells them; the numbers of added belts; and what
+    is refused, each with its cells and with words."""
 
     bare: tuple = ()
     added: frozenset = frozenset()

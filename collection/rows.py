@@ -100,20 +100,21 @@ class Row:
         if not self.net or not pairs or (self.net.inputs, self.net.outputs) in pairs:
             return None
         said = f"its label says {labels.spelled(pairs)}, but its network is {self.ends()}"
-        would = self.of_reading("would")
+        would = tuple(self.of_reading("would"))
         if self.of_reading("opened"):
             said += ", with belts at its bare halves"
-        elif would and would != [self.net.inputs, self.net.outputs]:
+        elif would and would != (self.net.inputs, self.net.outputs):
             said += f", and with belts at its bare halves it would be {labels.spelled([would])}"
-        elif not self.bare:
+        else:
             return f"{said}: a belt may be missing, or be one too many"
         return f"{said}: which of them are meant can't be known, so put a belt at each one that is an end"
 
     def remarks(self, most=MOST_LISTED):
-        """What there is to say of how the design was read, in sentences without their ends, with so many halves each."""
+        """What there is to say of how the design was read, in sentences without stops, with so many halves each."""
         opened, unopened = self.of_reading("opened"), self.of_reading("unopened")
         told = [self.warning()] if self.warning() else []
-        told += [f"opened by {counted(self.of_reading('belts'), 'belt')}: {trace.spelled(opened, most)}"] if opened else []
+        belts = counted(self.of_reading("belts") or 0, "belt")
+        told += [f"opened by {belts}: {trace.spelled(opened, most)}"] if opened else []
         told += [f"bare halves: {trace.spelled(self.bare, most)}"] if self.bare and self.net else []
         reasons = [f"{trace.spelled([place])}, since {why}" for place, why in unopened[:most]]
         more = f", and {len(unopened) - most} more" if len(unopened) > most else ""
@@ -150,7 +151,7 @@ class Row:
         treated = [tuple(it) for it in self.of_reading("asked")[1:]]
         them = design.bystanders(self.found.text.decode("utf-8", "replace"), treated)
         near = range(least_x - 1, most_x + 2), range(least_y - 1, most_y + 2)
-        return [it for it in them if all(x in near[0] and y in near[1] for x, y in it.cells)]
+        return [it for it in them if any(x in near[0] and y in near[1] for x, y in it.cells)]
 
     def tiers(self):
         parts, _ = self.design
@@ -161,7 +162,8 @@ class Row:
         parts, _ = self.design
         if not parts:
             return None
-        least_x, least_y, most_x, most_y = parts.box()
+        cells = [cell for it in parts.parts or parts.strangers for cell in it.cells]
+        least_x, least_y, most_x, most_y = design.box_of(cells)
         return most_x - least_x + 1, most_y - least_y + 1
 
     @cached_property
@@ -190,10 +192,11 @@ class Row:
         marks = Marks(tuple(trace.bare_ends(parts.parts)), added, self.refused.places if self.refused else ())
         if self.net is None:
             return Picture(parts, marks=marks), None
+        lack = "Ends and states aren't drawn: "
         try:
             network = trace.Layout(parts.parts).network()
         except trace.Untraced as reason:
-            return Picture(parts, marks=marks), f"Ends and states aren't drawn: as traced for the picture, {reason}."
+            return Picture(parts, marks=marks), f"{lack}as traced for the picture, {reason}."
         if not trace.same_network(network, self.net_text):
-            return Picture(parts, marks=marks), "Ends and states aren't drawn: traced for the picture, the network is another one."
+            return Picture(parts, marks=marks), f"{lack}traced for the picture, the network is another one."
         return Picture(parts, network, marks), None

@@ -47,7 +47,8 @@ def decoded(signs):
 def held_at(text, start):
     """What the string that begins here holds, and where it ends."""
     if text[start : start + 1] != VERSION:
-        raise Damaged(f"a blueprint string begins with {VERSION}, its version byte, and not with {text[start : start + 1]!r}")
+        there = repr(text[start : start + 1])
+        raise Damaged(f"a blueprint string begins with {VERSION}, its version byte, and not with {there}")
     unpacking, held, size, at, rest = zlib.decompressobj(), [], 0, start + 1, ""
     while True:
         block = BLOCK.match(text, at)

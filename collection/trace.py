@@ -65,8 +65,8 @@ def exit_ahead(parts, at, entrance):
 
 @dataclass(frozen=True)
 class Bare:
-    """An end of a splitter's half to which no belt leads: the splitter's number among the parts, the number of the half's
-    cell, and whether it is the end in front, where nothing takes, or that at the back, which nothing feeds."""
+    """An end of a splitter's half to which no belt leads: the splitter's number among the parts, the number of the
+    half's cell, and whether it is the end in front, where nothing takes, or that at the back, which nothing feeds."""
 
     part: int
     half: int

@@ -69,7 +69,8 @@ class Parts(Case):
 
     def test_what_is_no_part_is_kept_at_its_tiles(self):
         inserter = {"name": "inserter", "position": {"x": 1.5, "y": 0.5}}
-        odd = belt(0.25, 4), belt(0.5, 5), belt(0, 6, 1), {"name": 7, "position": {"x": -0.5, "y": 0.5}}, {"name": "splitter"}
+        nameless, nowhere = {"name": 7, "position": {"x": -0.5, "y": 0.5}}, {"name": "splitter"}
+        odd = belt(0.25, 4), belt(0.5, 5), belt(0, 6, 1), nameless, nowhere
         found = design.read(blueprint(belt(0, 0), inserter, *odd))
         told = [(it.entity, it.name, it.cells, it.stands_by) for it in found.strangers]
         names = ["inserter", *["transport-belt"] * 3, "7"]

@@ -2,8 +2,8 @@
 
 from html.parser import HTMLParser
 
-from .. import refusals
-from . import BOOK, EXAMPLES, Case, belt, blueprint, run
+from .. import files, refusals, states
+from . import BOOK, EXAMPLES, Case, belt, blueprint, run, trimming
 
 VOID = {"meta", "input"}
 
@@ -72,7 +72,8 @@ class Report(Case):
         for it in told.values():
             self.assertEqual(it["accepted"], "yes" if it["verdict"] in ("yes", "no") else "")
             self.assertTrue(it["file"] == "" or (self.report / it["file"]).is_file())
-        self.assertIn("entity 5 (splitter at tiles (0, 1) and (1, 1))", told["Broken on purpose/4 to 4, with a filter", "-"]["why"])
+        why = told["Broken on purpose/4 to 4, with a filter", "-"]["why"]
+        self.assertIn("entity 5 (splitter at tiles (0, 1) and (1, 1))", why)
         for (design, prop), it in told.items():
             if it["verdict"] in ("yes", "no"):
                 self.assertEqual(self.listed(design)[prop], it["verdict"])
@@ -105,6 +106,115 @@ class Report(Case):
         self.tags()
 
 
+class Published(Case):
+    """Designs that end at their splitters."""
+
+    def setUp(self):
+        super().setUp()
+        texts = dict(trimming.designs())
+        self.tree = trimming.trimmed(texts["tree-1-to-4"])
+        self.one_missing = next(trimming.with_one_missing(texts["balancer-4-to-4"]))
+
+    def told(self, *words, prop="unlimited"):
+        """The status, what was said, and the lines of a property by their designs."""
+        status, _, wrong = run(self.folder / "in", "-o", self.report, "--jobs", "1", *words)
+        return status, wrong, {it["design"]: it for it in self.results() if it["property"] in (prop, "-")}
+
+    def kept(self, name):
+        return self.report / "designs" / name
+
+    def test_what_is_opened_is_marked_everywhere(self):
+        self.write("in/tree 1 to 4.json", self.tree)
+        self.write("in/4 to 4.json", self.one_missing)
+        status, wrong, lines = self.told()
+        self.assertEqual(status, 0)
+        self.assertIn("collection: 4 to 4: opened by 2 belts: output at (0, 1)\n", wrong)
+        said = "its label says 1 to 4, but its network is 4 to 4, with belts at its bare halves: which of them are meant "
+        self.assertIn(f"collection: tree 1 to 4: {said}can't be known", wrong)
+        tree, other = lines["tree 1 to 4"], lines["4 to 4"]
+        self.assertEqual((other["ends"], other["opened"], other["bare"]), ("4 to 4", "output at (0, 1)", ""))
+        self.assertEqual((tree["ends"], tree["opened"].count("(")), ("4 to 4", 8))
+        self.assertIn(said, tree["remarks"])
+        self.assertEqual(tree["known_as"], "throughput unlimited (TU)")
+        self.assertIn('class="warning"', self.page())
+        self.assertIn('<path class="rim added basic"', self.page())
+        self.assertIn("dashed rims: belts that were added", self.page())
+        kept = self.kept("tree-1-to-4")
+        self.assertEqual((kept / "original.json").read_text(), self.tree)
+        self.assertEqual(tree["design_digest"], files.digest((kept / "design.json").read_bytes()))
+        self.assertIn("original.json", self.page())
+
+    def test_another_way_to_read_makes_it_anew(self):
+        self.write("in/tree 1 to 4.json", self.tree)
+        kept = self.kept("tree-1-to-4")
+        for words, ends in (([], "4 to 4"), (["--bare-ends", "never"], ""), (["--bare-ends", "always"], "4 to 4")):
+            status, _, lines = self.told(*words)
+            self.assertEqual((status, lines["tree 1 to 4"]["ends"]), (0, ends))
+            self.assertEqual((kept / "original.json").exists(), ends != "")
+            self.assertEqual(len(list(kept.glob("*-*.txt"))), 4 if ends else 0)
+        page, changed = self.page(), (kept / "record.json").stat().st_mtime_ns
+        self.told("--bare-ends", "always")
+        self.assertEqual((self.page(), (kept / "record.json").stat().st_mtime_ns), (page, changed))
+        _, _, lines = self.told("--gather")
+        self.assertEqual(lines["tree 1 to 4"]["ends"], "4 to 4")
+
+    def test_what_is_bare_is_named(self):
+        self.write("in/tree.json", (EXAMPLES / "tree-1-to-4.json").read_text())
+        _, wrong, lines = self.told()
+        self.assertEqual(wrong, "collection: tree: bare halves: inputs at (0, 1), (3, 1), (2, 3)\n")
+        self.assertEqual(lines["tree"]["bare"], "inputs at (0, 1), (3, 1), (2, 3)")
+        for text in ("Bare halves: inputs at (0, 1)", '<path class="hole"', "hollow: a half to which no belt leads"):
+            self.assertIn(text, self.page())
+
+    def test_a_belt_that_was_forgotten_is_a_warning(self):
+        name = "Broken on purpose/4 to 4, a belt is missing"
+        status, _, wrong = run(BOOK, "-o", self.report, "--jobs", "2", "--learnt", "200")
+        self.assertEqual(status, 0)
+        said = "its label says 4 to 4, but its network is 5 to 5: a belt may be missing, or be one too many"
+        self.assertEqual([it for it in wrong.splitlines() if "label" in it], [f"collection: {name}: {said}"])
+
+    def test_which_splitters_want_a_belt(self):
+        self.write("in/tree.json", self.tree)
+        _, _, lines = self.told("--bare-ends", "never")
+        self.assertIn("belts are wanted at halves of splitters: inputs at (0, 1), (3, 1)", lines["tree"]["why"])
+        self.assertEqual(self.page().count('<rect class="frame"'), 8)
+
+    def test_what_is_left_out_is_told(self):
+        texts = {"name": "small-lamp", "position": {"x": 1.5, "y": 0.5}}, belt(0, 0, name="my-belt", control_behavior={})
+        self.write("in/one.json", blueprint(*texts))
+        _, _, lines = self.told()
+        self.assertEqual(lines["one"]["verdict"], "refused")
+        status, wrong, lines = self.told("--treat-as", "my-belt=fast")
+        self.assertEqual((status, lines["one"]["verdict"], lines["one"]["ends"]), (0, "yes", "1 to 1"))
+        notes = (
+            "left out, since it can't touch a belt: 1 × small-lamp",
+            "left out, since it only reads: control_behavior of 1 × transport belt",
+            "taken for another: 1 × my-belt as fast-transport-belt",
+        )
+        for note in notes:
+            self.assertIn(f"collection: one: {note}\n", wrong)
+        self.assertEqual(lines["one"]["remarks"], "; ".join(notes))
+        self.assertIn('<rect class="bystander" x="26" y="2" width="20" height="20" rx="3"/>', self.page())
+        plan = run(self.folder / "in", "-o", self.report, "--plan", "--treat-as", "my-belt=fast", "--learnt", "1")[1]
+        self.assertEqual(plan, "")
+
+    def test_it_is_read_so_elsewhere(self):
+        self.write("in/tree 1 to 4.json", self.tree)
+        words = self.folder / "in", "-o", self.report
+        _, plan, _ = run(*words, "--plan", "--bare-ends", "always", "--treat-as", "a-belt=fast")
+        self.assertIn(" --bare-ends always --treat-as a-belt=fast --one ", plan)
+        self.assertEqual(run(*plan.split()[1:]), (0, "", ""))
+        run(*words, "--gather")
+        self.assertEqual({it["ends"] for it in self.results()}, {"4 to 4"})
+
+    def test_each_property_has_its_name_in_the_field(self):
+        run(EXAMPLES / "one-belt.net", "-o", self.report, "--jobs", "1")
+        for words in states.KNOWN_AS.values():
+            self.assertGreaterEqual(self.page().count(words), 3)
+        self.assertEqual([it["known_as"] for it in self.results()], list(states.KNOWN_AS.values()))
+        self.assertIn("A certificate is good for this", self.page())
+
+
 class Refusals(Case):
     TEXT = blueprint(belt(0, 0), {"name": "inserter", "position": {"x": 1.5, "y": 0.5}})
 
@@ -123,4 +233,5 @@ class Refusals(Case):
         }
         for line, words in cases.items():
             self.assertEqual(refusals.told(line, self.TEXT), words)
-        self.assertEqual([cells for cells, _ in refusals.refusal("refused 30 Overlap 0 9", self.TEXT).places], [((0, 0),)])
+        found = refusals.refusal("refused 30 Overlap 0 9", self.TEXT)
+        self.assertEqual([cells for cells, _ in found.places], [((0, 0),)])

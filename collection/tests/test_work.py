@@ -285,6 +285,7 @@ class Elsewhere(Case):
 
     def test_wrong_words(self):
         cases = ("", "x", "-o x", "x -o y --jobs 0", "x -o y --plan --gather", "x -o y --job 1", "x -o y --seconds inf")
+        cases += "x -o y --bare-ends sometimes", "x -o y --treat-as belt", "x -o y --treat-as splitter=fast"
         for words in map(str.split, cases):
             with self.subTest(words=words), self.assertRaises(SystemExit) as ended:
                 run(*words)
