@@ -41,7 +41,7 @@ const drawingOf = (bytes, network, refused, label, belts = 0, bystanders = []) =
   }
   const [leastX, leastY, mostX, mostY] = boxOfDesign(design);
   const isNear = ([x, y]) => x >= leastX - 1 && x <= mostX + 1 && y >= leastY - 1 && y <= mostY + 1;
-  const seen = { ...design, strangers: [...design.strangers, ...bystanders.filter((it) => it.cells.every(isNear))] };
+  const seen = { ...design, strangers: [...design.strangers, ...bystanders.filter((it) => it.cells.some(isNear))] };
   const first = design.parts.length - belts;
   const marks = { bare: bareEnds(design.parts), added: new Set(design.parts.map((_, at) => at).filter((at) => at >= first)), refused };
   const plainly = (lack) => ({ design, lack, drawing: new Drawing(seen, null, marks, label) });
@@ -57,15 +57,15 @@ const drawingOf = (bytes, network, refused, label, belts = 0, bystanders = []) =
 };
 
 /** What is amiss with the number of ends, in words, where the label tells of others; or null. */
-const warningOf = (label, net, reading, bare) => {
+const warningOf = (label, net, reading) => {
   const pairs = pairsIn(label);
   const own = [net.inputs, net.outputs];
   if (!pairs.length || isAmong(own, pairs)) return null;
   const said = `its label says ${spelledPairs(pairs)}, but its network is ${own.join(" to ")}`;
   const doubt = "which of them are meant can't be known, so put a belt at each one that is an end";
   if (reading.opened.length) return `${said}, with belts at its bare halves: ${doubt}`;
-  if (!isAmong(reading.would, [own])) return `${said}, and with belts at its bare halves it would be ${spelledPairs([reading.would])}: ${doubt}`;
-  return bare.length ? `${said}: ${doubt}` : `${said}: a belt may be missing, or be one too many`;
+  if (isAmong(reading.would, [own])) return `${said}: a belt may be missing, or be one too many`;
+  return `${said}, and with belts at its bare halves it would be ${spelledPairs([reading.would])}: ${doubt}`;
 };
 
 /** How many bare halves a sentence names at most. */
@@ -280,7 +280,7 @@ class View {
       this.net = readNet(this.network);
       this.tellFacts();
     }
-    const warning = this.network && isJson(this.bytes) ? warningOf(this.found.name, this.net, { would: [this.net.inputs, this.net.outputs], ...this.reading }, bare) : null;
+    const warning = this.network && isJson(this.bytes) ? warningOf(this.found.name, this.net, { would: [this.net.inputs, this.net.outputs], ...this.reading }) : null;
     const sentence = (it) => `${it[0].toUpperCase()}${it.slice(1)}.`;
     const remarks = remarksOf(this.reading, this.network ? bare : [], this.notes).map((it) => make("li", {}, told(sentence(it))));
     this.remarks.replaceChildren(...(warning ? [make("li", { class: "held" }, told(sentence(warning)))] : []), ...remarks);
