@@ -217,8 +217,8 @@ MODES = ("never", "label", "always")
 
 
 def opened(opening, mode, label):
-    """Opens bare halves: all; or none; or all where the design has no input or no output without them, and where its label
-    tells of as many ends as it has with all, all inputs or all outputs open, and hasn't without."""
+    """Opens bare halves: all; or none; or those that make the ends that the label tells of, where all, all inputs or
+    all outputs do and the design hasn't these without; else all, where without them it has no input or no output."""
     free = [it for it in opening.ways if it.why is None]
     whole = opening.opened(free)
     if mode == "always":

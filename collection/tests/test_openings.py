@@ -252,8 +252,8 @@ class Cleaning(Case):
                 cleaning.of_tier(words)
 
     def test_the_rest_of_the_text_stays(self):
-        odd = '{ "blueprint" :{"x":[1.50e2,"é"],"entities":[%s {"position":{"x":0.50,"y":5e-1},"name":"transport-belt"} '
-        odd += '], "version":1 }}'
+        odd = '{ "blueprint" :{"x":[1.50e2,"é"],"entities":[%s {"position":{"x":0.50,"y":5e-1},"name":'
+        odd += '"transport-belt"} ], "version":1 }}'
         lamp = '{"name":"small-lamp","position":{"x":9,"y":9}},'
         self.assertEqual(cleaning.cleaned(odd % lamp).text, odd.replace("%s ", ""))
         twice = '{"blueprint":{"entities":[{"name":"small-lamp","name":"x"}]}}'
