@@ -30,7 +30,7 @@ let view = null;
 
 /** What is drawn of a design: its parts and its network where that is the one that the program told, and what is lacking.
     Behind all other parts so many belts were added, and besides what stands by is drawn. */
-const drawingOf = (bytes, network, refused, label, belts = 0, bystanders = []) => {
+const drawingOf = (bytes, network, refused, label, belts = 0, bystanders = [], isRuled = false) => {
   if (!isJson(bytes)) return { lack: "A network text has no parts, so there is no picture." };
   let design = null;
   try {
@@ -44,12 +44,12 @@ const drawingOf = (bytes, network, refused, label, belts = 0, bystanders = []) =
   const seen = { ...design, strangers: [...design.strangers, ...bystanders.filter((it) => it.cells.some(isNear))] };
   const first = design.parts.length - belts;
   const marks = { bare: bareEnds(design.parts), added: new Set(design.parts.map((_, at) => at).filter((at) => at >= first)), refused };
-  const plainly = (lack) => ({ design, lack, drawing: new Drawing(seen, null, marks, label) });
+  const plainly = (lack) => ({ design, lack, drawing: new Drawing(seen, null, marks, label, isRuled) });
   if (!network) return plainly(null);
   try {
     const traced = new Layout(design.parts).network();
     if (!isSameNetwork(traced, network)) return plainly("Ends and states aren't drawn: traced for the picture, the network is another one.");
-    return { design, lack: null, traced, drawing: new Drawing(seen, traced, marks, label) };
+    return { design, lack: null, traced, drawing: new Drawing(seen, traced, marks, label, isRuled) };
   } catch (fault) {
     if (!(fault instanceof Untraced)) throw fault;
     return plainly(`Ends and states aren't drawn: as traced for the picture, ${fault.message}.`);
@@ -254,7 +254,7 @@ class View {
     this.network = reading.answer.startsWith("net ") ? reading.answer : null;
     const refusal = this.network ? null : toldRefusal(reading.answer, this.bytes);
     Object.assign(this, { states: [], at: 0, drawing: null, design: null, traced: null });
-    Object.assign(this, drawingOf(this.bytes, this.network, refusal?.places ?? [], `${plain(this.found.name)}, drawn from its parts`, reading.belts, this.bystanders));
+    Object.assign(this, drawingOf(this.bytes, this.network, refusal?.places ?? [], `${plain(this.found.name)}, drawn from its parts`, reading.belts, this.bystanders, true));
     this.canDraw = Boolean(this.drawing && this.traced);
     this.element.replaceChildren(this.heading());
     const bare = this.design ? bareEnds(this.design.parts).map((it) => placeOf(this.design.parts, it)) : [];
