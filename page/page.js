@@ -107,6 +107,11 @@ class Verdict {
     this.row.replaceChildren(...buttons);
   }
 
+  /** Offers to decide. */
+  offer() {
+    this.tell("", "not decided", null, this.button("Decide it", () => this.decide()));
+  }
+
   async decide() {
     this.tell("", "deciding…", null);
     const words = ["decide", this.property, ...(this.steps === STEPS_AT_FIRST ? [] : ["--learnt", String(this.steps)])];
@@ -269,9 +274,14 @@ class View {
     const isWide = this.drawing ? this.drawing.box[2] > WIDEST_BESIDE : true;
     this.element.append(make("div", { class: `both${isWide ? " wide" : ""}` }, this.drawing ? this.stage() : make("p", { class: "note" }, this.lack), list));
     this.element.append(new More(this).element);
-    for (const it of this.verdicts) {
-      if (this.isLeft || !(await it.decide())) break;
-    }
+    await this.decideAll();
+  }
+
+  /** Decides one property after the other; what is left where one was stopped can be asked for. */
+  async decideAll() {
+    const left = [...this.verdicts];
+    while (left.length && !this.isLeft && (await left.shift().decide()));
+    for (const it of left) it.offer();
   }
 
   /** What there is to say of how the design was read: a warning first. */
@@ -319,9 +329,8 @@ class View {
     if (!this.ways) return [];
     const box = make("input", { type: "checkbox", checked: this.reading.opened.length > 0 });
     box.addEventListener("change", () => {
-      for (const run of [...this.runs]) run.stop();
+      this.leave();
       view = Object.assign(new View(this.found), { mode: box.checked ? "always" : "never" });
-      this.isLeft = true;
       view.open();
     });
     return [make("label", { class: "switch" }, box, `open ${this.ways === 1 ? "its bare half" : `its ${this.ways} bare halves`} with belts to the border`)];
