@@ -23,13 +23,13 @@ class Ground {
     for (const line of this.lines.values()) line.sort((a, b) => a - b);
   }
 
-  /** The first taken cell ahead, or null. */
-  firstTaken(cell, direction) {
+  /** The first taken cell ahead, so many cells away at most, or null. */
+  firstTaken(cell, direction, most) {
     const axis = direction === EAST || direction === WEST ? 0 : 1;
     const line = this.lines.get(`${axis}:${cell[1 - axis]}`);
     const isAhead = direction === EAST || direction === SOUTH;
     const found = isAhead ? line.find((it) => it > cell[axis]) : line.findLast((it) => it < cell[axis]);
-    if (found === undefined) return null;
+    if (found === undefined || Math.abs(found - cell[axis]) > most) return null;
     return axis === 0 ? [found, cell[1]] : [cell[0], found];
   }
 
@@ -53,7 +53,7 @@ const waysOf = (found, bystanders, most) => {
   for (const end of [...ends].sort((a, b) => a.count - b.count)) {
     const { bare, part, direction, cell, count } = end;
     const place = placeOf(found.parts, bare);
-    const there = ground.firstTaken(cell, direction);
+    const there = ground.firstTaken(cell, direction, count);
     let why = null;
     let cells = [];
     if (there) why = `${ground.taken.get(keyOf(there)).by} at tile ${tile(there)} is in the way`;
