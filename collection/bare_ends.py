@@ -65,7 +65,7 @@ def told(clean, opening, found):
     yield from clean.notes
     for way in opening.ways:
         if way.place in found.opened:
-            yield f"opened by {counted(len(way.cells), 'belt')}: {trace.spelled([way.place])}"
+            yield f"opened by {counted(len(way.belts), 'belt')}: {trace.spelled([way.place])}"
     for place, why in found.unopened:
         yield f"not opened: {trace.spelled([place])}, since {why}"
     if not opening.ways:
