@@ -1,60 +1,22 @@
-//! One table for each subject, whose answers are worked out by hand. A row is one text, whose fields stand between
-//! bars: a table of structs takes far longer to prove.
-mod certificates;
+//! What no run of the program shows: streams that give and take few bytes a call or fail at one, and choosers that
+//! nobody would choose. All else that the program answers is in the rows of the folder `rows/`.
+//!
+//! A row is one text, whose fields stand between bars: a table of structs takes far longer to prove.
 mod choosers;
-mod cut;
-mod designs;
-mod formulas;
-mod found;
-mod inputs;
-mod least;
-mod limits;
 mod long;
-mod networks;
-mod own_requests;
-mod requests;
-mod same;
-mod small;
-mod states;
+mod streams;
 
-use bt_cnf::Chooser;
-use bt_io::{MemSink, MemSource};
-use bt_sat::{Active, Recent};
+use bt_io::{MemSink, Sink, Source};
 use bt_top::{Choosers, run};
-use inputs::input_of;
 use std::alloc::{AllocError, Global};
-use std::process::Abort;
 
-/// The most bytes that a sink holds: the certificate of an eight to eight balancer has fewer.
+/// The most bytes that a sink holds, unless a test says otherwise.
 const SINK_ROOM: usize = 4_000_000;
 
-/// What a source and a sink do.
-#[derive(Clone, Copy)]
-struct Streams {
-    /// The call at which the source fails, or 0.
-    source_fails: u64,
-    /// The call at which the sink fails, or 0.
-    sink_fails: u64,
-    /// The most bytes that they give and take at a call.
-    most: usize,
-    /// The most bytes that the sink holds.
-    room: usize,
-}
-
-/// Streams that never fail.
-const fn smooth(most: usize) -> Streams {
-    Streams {
-        source_fails: 0,
-        sink_fails: 0,
-        most,
-        room: SINK_ROOM,
-    }
-}
-
 /// The fields of a row; those that it lacks are empty.
-fn fields(row: &str, mark: char) -> [&str; 6] {
+fn fields(row: &str) -> [&str; 6] {
     let mut fields = [""; 6];
-    for (place, text) in row.split(mark).enumerate() {
+    for (place, text) in row.split('|').enumerate() {
         if place < 6 {
             fields[place] = text;
         }
@@ -80,67 +42,34 @@ fn words_of(alloc: Global, words: &str) -> Result<Vec<String>, AllocError> {
     Ok(all)
 }
 
-/// The status and what the sink holds, where these choosers steer.
-fn answer_by(
+/// A sink with room for so many bytes, which takes at most so many at a call, and fails at one, or at none for 0.
+fn sink_of(alloc: Global, room: usize, most: usize, fails: u64) -> Result<MemSink, AllocError> {
+    let fails = vec![in alloc; fails]?;
+    MemSink::new(alloc, room, fails, most.max(1))
+}
+
+/// The status with which words are answered.
+fn asked<R: Source, W: Sink>(
     alloc: Global,
     words: &str,
-    input: Vec<u8>,
-    streams: Streams,
+    source: &mut R,
+    sink: &mut W,
     choosers: Choosers,
-) -> Result<(u8, Vec<u8>), AllocError> {
+) -> Result<u8, AllocError> {
     let words = words_of(alloc, words)?;
-    let most = streams.most.max(1);
-    let mut source = MemSource::new(input, vec![in alloc; streams.source_fails]?, most);
-    let mut sink = MemSink::new(
-        alloc,
-        streams.room,
-        vec![in alloc; streams.sink_fails]?,
-        most,
-    )?;
-    let status = run(alloc, &words, &mut source, &mut sink, choosers);
-    Ok((status, Vec::from_slice(alloc, sink.held())?))
+    Ok(run(alloc, &words, source, sink, choosers))
 }
 
-/// The status and what the sink holds.
-fn answer(
+/// The same where nobody steers.
+fn asked_alone<R: Source, W: Sink>(
     alloc: Global,
     words: &str,
-    input: Vec<u8>,
-    streams: Streams,
-) -> Result<(u8, Vec<u8>), AllocError> {
-    let active: Box<dyn Chooser> = Box::new(alloc, Active::new(alloc)?)?;
-    let recent: Box<dyn Chooser> = Box::new(alloc, Recent::new(alloc)?)?;
+    source: &mut R,
+    sink: &mut W,
+) -> Result<u8, AllocError> {
     let choosers = Choosers {
-        decisions: vec![in alloc; active]?,
-        layouts: vec![in alloc; recent]?,
+        decisions: Vec::new(alloc),
+        layouts: Vec::new(alloc),
     };
-    answer_by(alloc, words, input, streams, choosers)
-}
-
-/// Whether a row's words and input are answered with its status and its text.
-fn is_answered(alloc: Global, row: &str, most: usize) -> Result<bool, AllocError> {
-    let [words, input, status, text, ..] = fields(row, '|');
-    let (given, written) = answer(alloc, words, input_of(alloc, input)?, smooth(most))?;
-    Ok(is_status(given, status) && written.as_slice() == text.as_bytes())
-}
-
-/// Asks for each row, where the streams give and take at most so many bytes a call.
-fn answers_by(
-    rt: &impl Abort,
-    alloc: Global,
-    rows: &[&str],
-    most: usize,
-) -> Result<(), AllocError> {
-    for row in rows {
-        assert!(rt; is_answered(alloc, row, most)?, "{row}");
-    }
-    Ok(())
-}
-
-/// The same by one byte a call, by two, by seven, and by a thousand.
-fn answers_all(rt: &impl Abort, alloc: Global, rows: &[&str]) -> Result<(), AllocError> {
-    for most in [1, 2, 7, 1000] {
-        answers_by(rt, alloc, rows, most)?;
-    }
-    Ok(())
+    asked(alloc, words, source, sink, choosers)
 }

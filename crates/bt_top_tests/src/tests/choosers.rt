@@ -1,8 +1,9 @@
 //! Choosers that nobody would choose: the program's answers are as with any other.
 ghost use Rattle.std.specs.Prelude.{Some};
 
-use super::{answer_by, fields, input_of, is_status, smooth};
+use super::{SINK_ROOM, asked, asked_alone, fields, is_status, sink_of};
 use bt_cnf::{Chooser, Lit, Pick, Var};
+use bt_io::{MemSink, SliceSource};
 use bt_top::Choosers;
 use std::alloc::{AllocError, Global};
 use std::cell::Cell;
@@ -10,9 +11,8 @@ use std::rc::Rc;
 use std::test::Fail;
 
 /// Who steers a search.
-#[derive(Clone, Copy, PartialEq, Eq)]
+#[derive(Clone, Copy)]
 enum Steering {
-    Nobody,
     /// Picks the last variable, and changes the sign each time.
     Last,
     /// Picks a variable by how many literals it was told, and sets it to true.
@@ -54,7 +54,7 @@ impl Chooser for Odd {
     }
 
     fn told(&mut self, clause: &[Lit]) -> Result<(), AllocError> {
-        if self.steering == Steering::Forgetful && self.lengths.len() == 2 {
+        if matches!(self.steering, Steering::Forgetful) && self.lengths.len() == 2 {
             return Err(AllocError);
         }
         self.lits.extend_from_slice(clause)?;
@@ -92,40 +92,87 @@ fn untold(alloc: Global, steering: Steering, asked: &Rc<Cell<u64>>) -> Result<Od
     })
 }
 
-/// The status and the text with which words and an input are answered, where this one steers.
+/// The status with which a row's words and input are answered, where these steer.
 fn steered(
     alloc: Global,
-    words: &str,
-    input: Vec<u8>,
+    row: &str,
+    sink: &mut MemSink,
+    decisions: Odd,
+    layouts: Odd,
+) -> Result<u8, AllocError> {
+    let decisions: Box<dyn Chooser> = Box::new(alloc, decisions)?;
+    let layouts: Box<dyn Chooser> = Box::new(alloc, layouts)?;
+    let choosers = Choosers {
+        decisions: vec![in alloc; decisions]?,
+        layouts: vec![in alloc; layouts]?,
+    };
+    let [words, input, ..] = fields(row);
+    asked(
+        alloc,
+        words,
+        &mut SliceSource::new(input.as_bytes()),
+        sink,
+        choosers,
+    )
+}
+
+/// The same, where two of a kind steer.
+fn steered_by(
+    alloc: Global,
+    row: &str,
+    sink: &mut MemSink,
     steering: Steering,
     asked: &Rc<Cell<u64>>,
-) -> Result<(u8, Vec<u8>), AllocError> {
-    let mut decisions: Vec<Box<dyn Chooser>> = Vec::new(alloc);
-    let mut layouts: Vec<Box<dyn Chooser>> = Vec::new(alloc);
-    if steering != Steering::Nobody {
-        decisions.push(Box::new(alloc, untold(alloc, steering, asked)?)?)?;
-        layouts.push(Box::new(alloc, untold(alloc, steering, asked)?)?)?;
+) -> Result<u8, AllocError> {
+    let decisions = untold(alloc, steering, asked)?;
+    let layouts = untold(alloc, steering, asked)?;
+    steered(alloc, row, sink, decisions, layouts)
+}
+
+/// Whether a status and a text are a row's.
+fn is_told(row: &str, status: u8, text: &[u8]) -> bool {
+    let [_, _, wanted, begins, ..] = fields(row);
+    is_status(status, wanted) && text.starts_with(begins.as_bytes())
+}
+
+/// Whether these are the status and the text where a chooser was asked, or wasn't. One who finds no memory may end the
+/// run.
+fn is_told_by(row: &str, steering: Steering, is_asked: bool, status: u8, text: &[u8]) -> bool {
+    let [_, _, _, _, asks, ..] = fields(row);
+    match steering {
+        Steering::Forgetful if status == 8 => text.is_empty(),
+        _ => (is_asked || asks.is_empty()) && is_told(row, status, text),
     }
-    let choosers = Choosers { decisions, layouts };
-    answer_by(alloc, words, input, smooth(1000), choosers)
 }
 
 /// Whether a row is answered as it says, where this one steers.
 fn is_answered_by(alloc: Global, row: &str, steering: Steering) -> Result<bool, AllocError> {
-    let [words, input, status, begins, asks, ..] = fields(row, '|');
     let asked = Rc::new(alloc, Cell::new(0))?;
-    let (given, text) = steered(alloc, words, input_of(alloc, input)?, steering, &asked)?;
-    if steering == Steering::Forgetful && given == 8 {
-        return Ok(text.is_empty());
+    let mut sink = sink_of(alloc, SINK_ROOM, 1000, 0)?;
+    let status = steered_by(alloc, row, &mut sink, steering, &asked)?;
+    Ok(is_told_by(row, steering, asked.get() > 0, status, sink.held()))
+}
+
+/// Whether a row is answered as it says, where nobody steers.
+fn is_answered_alone(alloc: Global, row: &str) -> Result<bool, AllocError> {
+    let [words, input, ..] = fields(row);
+    let mut sink = sink_of(alloc, SINK_ROOM, 1000, 0)?;
+    let mut source = SliceSource::new(input.as_bytes());
+    let status = asked_alone(alloc, words, &mut source, &mut sink)?;
+    Ok(is_told(row, status, sink.held()))
+}
+
+#[test]
+fn answers_where_nobody_steers(rt: HostRuntime) -> Result<(), Fail> {
+    for row in STEERED {
+        assert!(rt; is_answered_alone(rt.alloc(), row)?, "{row}");
     }
-    let is_asked = asked.get() > 0 || asks.is_empty() || steering == Steering::Nobody;
-    Ok(is_asked && is_status(given, status) && text.starts_with(begins.as_bytes()))
+    Ok(())
 }
 
 #[test]
 fn answers_whoever_steers(rt: HostRuntime) -> Result<(), Fail> {
     for steering in [
-        Steering::Nobody,
         Steering::Last,
         Steering::Kept,
         Steering::First,
