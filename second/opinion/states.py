@@ -5,8 +5,8 @@ backed, where items queue up to its end and wait, or free, where all move on. Lo
 flows are parts of a full belt; where a design has several tiers, of a basic one.
 """
 
-from functools import reduce
 from fractions import Fraction
+from functools import reduce
 from typing import NamedTuple
 
 from opinion.answers import WIDE_STATE, Answer, need
