@@ -20,8 +20,8 @@ def words_of(arguments):
     parser = argparse.ArgumentParser(
         prog="bare-ends",
         allow_abbrev=False,
-        description="Opens each half of a splitter to which no belt leads: by belts of the splitter's tier, straight to "
-        "one cell beyond the design's border, where the network stays what it was but for this end more. Writes the "
+        description="Opens each half of a splitter to which no belt leads: by belts of the splitter's tier, straight "
+        "to one cell beyond the design's border, where the network stays what it was but for this end more. Writes the "
         "design, as JSON and without what can't touch a belt, on standard output, and what it did on standard error.",
     )
     parser.add_argument("path", nargs="?", default=inputs.STANDARD_INPUT, metavar="PATH", help=PATHS)
@@ -65,7 +65,7 @@ def told(clean, opening, found):
     yield from clean.notes
     for way in opening.ways:
         if way.place in found.opened:
-            yield f"opened by {counted(len(way.cells), 'belt')}: {trace.spelled([way.place])}"
+            yield f"opened by {counted(len(way.belts), 'belt')}: {trace.spelled([way.place])}"
     for place, why in found.unopened:
         yield f"not opened: {trace.spelled([place])}, since {why}"
     if not opening.ways:

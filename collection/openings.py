@@ -1,13 +1,14 @@
 """Bare halves of splitters, and how they are opened: with belts of the splitter's tier, straight from the half to one
-cell beyond the border of the design. What comes out has the network of before and just these ends more, by the
-program's own word; a half for which that isn't so stays bare."""
+cell beyond the border of the design, where that way is free; where it crosses another such way, turned at the first
+belt. What comes out has the network of before and just these ends more, by the program's own word; a half for which
+that isn't so stays bare."""
 
-from bisect import bisect_left
+from bisect import bisect_left, bisect_right
 from collections import defaultdict
 from dataclasses import dataclass, replace
 
 from . import design, labels, refusals
-from .design import EAST, PREFIXES, SOUTH, step
+from .design import EAST, PREFIXES, SOUTH, WEST, step
 from .entities import listed
 from .trace import Layout, Untraced, bare_ends, place_of, same_network, spelled, tile
 
@@ -21,12 +22,12 @@ class Refused(Exception):
 @dataclass(frozen=True)
 class Way:
     """The belts from a bare end to beyond the border: the end's place, its splitter, whether it is an output, and the
-    belts' cells from the half on; or why there is no way."""
+    belts from the half on, each with its cell and its direction; or why there is no way."""
 
     place: tuple
     splitter: object
     front: bool
-    cells: tuple
+    belts: tuple
     why: str | None = None
 
 
@@ -63,10 +64,9 @@ class Ground:
 
     def first_taken(self, cell, direction, most):
         """The first taken cell ahead, so many cells away at most, or None."""
-        axis = 0 if direction in (EAST, design.WEST) else 1
-        line = self.lines[axis, cell[1 - axis]]
-        ahead = direction in (EAST, SOUTH)
-        at = bisect_left(line, cell[axis]) + (1 if ahead else -1)
+        axis = 0 if direction in (EAST, WEST) else 1
+        line = self.lines.get((axis, cell[1 - axis]), [])
+        at = bisect_right(line, cell[axis]) if direction in (EAST, SOUTH) else bisect_left(line, cell[axis]) - 1
         if not 0 <= at < len(line) or abs(line[at] - cell[axis]) > most:
             return None
         return (line[at], cell[1]) if axis == 0 else (cell[0], line[at])
@@ -77,28 +77,46 @@ class Ground:
         return {0: cell[1] - least_y, 1: most_x - cell[0], 2: most_y - cell[1], 3: cell[0] - least_x}[direction] + 1
 
 
+def straight(cell, direction, count, front):
+    """The belts of a straight way that leads from a half in a direction."""
+    belt = direction if front else (direction + 2) % 4
+    return tuple((step(cell, direction, k), belt) for k in range(1, count + 1))
+
+
+def turned(ground, used, cell, direction, front):
+    """The belts of the shorter way that is turned at its first belt, to the left or to the right; or None."""
+    first, found = step(cell, direction), []
+    for aside in ((direction + 3) % 4, (direction + 1) % 4):
+        count = ground.to_border(first, aside)
+        if count > 0 and ground.first_taken(first, aside, count) is None:
+            rest = straight(first, aside, count, front)
+            found.append(((first, aside if front else (direction + 2) % 4), *rest))
+    found = [it for it in found if not any(place in used for place, _ in it)]
+    return min(found, key=len, default=None)
+
+
 def ways_of(found, bystanders, most):
-    """The ways of all bare ends, with so many belts at most. No two of them cross: the shorter goes before."""
-    ground, ways, used = Ground(found, bystanders), {}, {}
-    ends = []
+    """The ways of all bare ends, with so many belts at most. No two of them cross: the shorter goes before, and the other
+    is turned where it can be."""
+    ground, ways, used, ends = Ground(found, bystanders), {}, {}, []
     for bare in bare_ends(found.parts):
         part = found.parts[bare.part]
         direction, cell = (part.direction if bare.front else (part.direction + 2) % 4), part.cells[bare.half]
-        ends.append((ground.to_border(cell, direction), bare, part, direction, cell))
-    for count, bare, part, direction, cell in sorted(ends, key=lambda it: it[0]):
+        ends.append((ground.to_border(cell, direction), bare, direction, cell))
+    for count, bare, direction, cell in sorted(ends, key=lambda it: it[0]):
         place, there = place_of(found.parts, bare), ground.first_taken(cell, direction, count)
-        why, cells = None, ()
+        why, belts = None, ()
         if there is not None:
             why = f"{ground.taken[there]} at tile {tile(there)} is in the way"
-        elif count > most - len(used):
-            why = f"the design would have more than {design.MOST_ENTITIES} entities"
-        else:
-            cells = tuple(step(cell, direction, k) for k in range(1, count + 1))
-            crossed = next((used[it] for it in cells if it in used), None)
-            why = f"its way crosses that of the {spelled([crossed])}" if crossed else None
-        if why is None:
-            used |= dict.fromkeys(cells, place)
-        ways[bare] = Way(place, part, bare.front, cells, why)
+        elif count <= most - len(used):
+            belts = straight(cell, direction, count, bare.front)
+            crossed = next((used[it] for it, _ in belts if it in used), None)
+            belts = belts if crossed is None else turned(ground, used, cell, direction, bare.front) or ()
+            why = None if belts else f"its way crosses that of the {spelled([crossed])}"
+        if why is None and not 0 < len(belts) <= most - len(used):
+            why, belts = f"the design would have more than {design.MOST_ENTITIES} entities", ()
+        used |= {it: place for it, _ in belts}
+        ways[bare] = Way(place, found.parts[bare.part], bare.front, belts, why)
     return [ways[bare] for _, bare, *_ in ends]
 
 
@@ -108,14 +126,12 @@ def belts_of(found, entities, ways):
     number = max((it for it in numbers if isinstance(it, int)), default=0)
     quarter = 4 if found.sixteenths else 2
     for way in ways:
-        for cell in way.cells:
+        for cell, direction in way.belts:
             number += 1
             halves = (2 * it + 1 + by for it, by in zip(cell, found.shift))
             x, y = (it / 2 if it % 2 else it // 2 for it in halves)
-            name, direction = PREFIXES[way.splitter.tier] + "transport-belt", quarter * way.splitter.direction
-            yield (
-                f'{{"entity_number":{number},"name":"{name}","position":{{"x":{x},"y":{y}}},"direction":{direction}}}'
-            )
+            name, turn = PREFIXES[way.splitter.tier] + "transport-belt", quarter * direction
+            yield f'{{"entity_number":{number},"name":"{name}","position":{{"x":{x},"y":{y}}},"direction":{turn}}}'
 
 
 def without(lines, ends):
@@ -209,7 +225,7 @@ class Opening:
                 left += [batch[half:], batch[:half]]
         reasons = ((it.place, it.why or refused.get(it.place)) for it in self.ways)
         unopened = [(place, why) for place, why in reasons if why]
-        ends, belts = self.more_ends(kept), sum(len(it.cells) for it in kept)
+        ends, belts = self.more_ends(kept), sum(len(it.belts) for it in kept)
         return Opened(*best, belts, [it.place for it in kept], unopened, self.ends(), ends, ends)
 
 
@@ -217,8 +233,8 @@ MODES = ("never", "label", "always")
 
 
 def opened(opening, mode, label):
-    """Opens bare halves: all; or none; or all where the design has no input or no output without them, and where its label
-    tells of as many ends as it has with all, all inputs or all outputs open, and hasn't without."""
+    """Opens bare halves: all; or none; or those that make the ends that the label tells of, where all, all inputs or
+    all outputs do and the design hasn't these without; else all, where without them it has no input or no output."""
     free = [it for it in opening.ways if it.why is None]
     whole = opening.opened(free)
     if mode == "always":

@@ -59,12 +59,14 @@ def spent_time(seconds):
     return f"{seconds:.2f} s" if seconds >= 0.01 else "under 0.01 s"
 
 
-def figure(picture, content, label):
-    """A picture that is as wide as it needs, and can be moved where the screen is narrower."""
-    width = picture.box[2]
+def figure(picture, content, label, ruled=False):
+    """A picture that is as wide as it needs, and can be moved where the screen is narrower; with the numbers of columns
+    and rows where it is ruled."""
+    width = picture.box[2] + ruled
+    content = picture.rules() + content if ruled else content
     pixels = min(MOST_PIXELS, max(PIXELS, PLENTY // width))
     style = f"max-width:{width * pixels}px;min-width:{width * LEAST_PIXELS}px"
-    drawn = element("svg", content, role="img", aria_label=label, viewBox=picture.view(), style=style)
+    drawn = element("svg", content, role="img", aria_label=label, viewBox=picture.view(ruled), style=style)
     return element("div", drawn, class_="plane", tabindex=0, role="group", aria_label=label)
 
 
@@ -261,7 +263,7 @@ def page(row, before, after):
     drawn = ""
     if picture:
         label = f"{files.plain(row.found.name)}, drawn from its parts"
-        drawn = figure(picture, f'<use href="#p-{row.id()}"/>{picture.ends()}', label)
+        drawn = figure(picture, f'<use href="#p-{row.id()}"/>{picture.ends()}', label, ruled=True)
         drawn += marks_legend(row)
     drawn += note(shown(lack)) if lack else ""
     told = facts(row) + (verdicts(row) if row.net else "")

@@ -18,6 +18,8 @@
 - Behind the paths come the preferred sides of splitters, in the order of the parts and `give` before `take`; then what
   is no part; then what is refused, in the order given. Each is a group with a title.
 
+`badges` numbers the ends of a network, on the cells that `badge_cells` gives, and `rules` the columns and rows.
+
 What tells what: an entrance narrows on its way and an exit widens, and between them the run below is dashed. A half's
 end to which no belt leads is hollow. Added belts have dashed rims. A preferred side has a triangle, at the front for an
 output and at the back for an input. What is refused has a red frame."""
@@ -285,6 +287,14 @@ def box_of(design, cells=()):
     return min(xs), min(ys), max(xs) - min(xs) + 1, max(ys) - min(ys) + 1
 
 
+def rules(box):
+    """The elements that number each fifth column of tiles above a picture, and each fifth row at its left."""
+    x, y, width, height = box
+    columns, rows = ([k for k in range(*them) if k % 5 == 0] for them in ((x, x + width), (y, y + height)))
+    found = [sign(str(k), k * CELL + HALF, y * CELL - 7, "rule") for k in columns]
+    return found + [sign(str(k), x * CELL - 12, k * CELL + HALF + 3, "rule") for k in rows]
+
+
 def svg(elements):
     """The text of elements."""
     found = []
@@ -303,14 +313,18 @@ class Picture:
         self.badges = badge_cells(design.parts, network) if network else {}
         self.box = box_of(design, self.badges.values())
 
-    def view(self):
-        """The part of the plane that the picture shows, with a narrow margin."""
-        x, y, width, height = (it * CELL for it in self.box)
-        return f"{x - 4} {y - 4} {width + 8} {height + 8}"
+    def view(self, ruled=False):
+        """The part of the plane that the picture shows, with a narrow margin, and where it is ruled, the numbers."""
+        (x, y, width, height), more = (it * CELL for it in self.box), 20 if ruled else 0
+        return f"{x - 4 - more} {y - 4 - more} {width + 8 + more} {height + 8 + more}"
 
     def parts(self, ways):
         """The text of the parts; the group of this name tells the directions of straight belts."""
         return svg(drawn(self.design.parts, self.design.strangers, self.marks, ways))
+
+    def rules(self):
+        """The text of the numbers of columns and rows."""
+        return svg(rules(self.box))
 
     def ends(self, told=None):
         """The text of the numbers of the ends; with a state, each with its load or room."""

@@ -7,8 +7,8 @@ const MOST_PIXELS = 46;
 let pictures = 0;
 
 class Drawing {
-  /** The picture of a design, of its network where that is traced, and with marks. */
-  constructor(design, network, marks, label) {
+  /** The picture of a design, of its network where that is traced, with marks, and with columns and rows numbered if ruled. */
+  constructor(design, network, marks, label, isRuled) {
     pictures += 1;
     this.ways = `ways-${pictures}`;
     this.design = design;
@@ -19,18 +19,19 @@ class Drawing {
     this.parts.append(...svgOf(drawn(design, marks, this.ways)));
     this.over = document.createElementNS(SVG, "g");
     this.svg = document.createElementNS(SVG, "svg");
-    this.svg.setAttribute("viewBox", viewOf(this.box));
+    this.isRuled = isRuled;
+    this.svg.setAttribute("viewBox", viewOf(this.box, isRuled));
     this.svg.setAttribute("role", "img");
     this.svg.setAttribute("aria-label", label);
-    this.svg.append(this.parts, this.over);
+    this.svg.append(...(isRuled ? svgOf(rulesOf(this.box)) : []), this.parts, this.over);
     this.plane = make("div", { class: "plane fit", tabindex: 0, role: "group", "aria-label": label }, this.svg);
     this.fit(true);
     this.show(null);
   }
 
-  /** How many cells wide and high the picture is, with a margin of a third of a cell. */
+  /** How many cells wide the picture is, with its margin. */
   get cellsWide() {
-    return this.box[2] + 1 / 3;
+    return this.box[2] + (this.isRuled ? 28 : 8) / CELL;
   }
 
   /** As wide as its place, or one to one. */

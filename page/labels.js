@@ -5,10 +5,10 @@
 const RICH_TEXT = /\[\/?[a-z-]+(?:=[^\][]*)?\]/g;
 
 /** Two numbers that can hardly be anything else. */
-const PLAINLY = /(?<![\d.])(\d{1,4})[\s_-]*(?:to|-+>|=+>|→|⇒|➔|➜|➡\ufe0f?)[\s_-]*(\d{1,4})(?![\d.]*\d)/gi;
+const PLAINLY = /(?<![\d.])(\d{1,3})[\s_-]*(?:to|-+>|=+>|→|⇒|➔|➜|➡\ufe0f?)[\s_-]*(\d{1,3})(?![\d.]*\d)/gi;
 
 /** Two numbers that may be the size of a layout too: taken where none are told plainly. */
-const BRIEFLY = /(?<![A-Za-z\d.:x×*‐‑–—−-])(\d{1,4})\s*[:x×*‐‑–—−-]\s*(\d{1,4})(?!\s*[:x×*‐‑–—−-]\s*\d|[.]?\d|[a-z])/gi;
+const BRIEFLY = /(?<![A-Za-z\d.:x×*‐‑–—−-])(\d{1,3})\s*[:x×*‐‑–—−-]\s*(\d{1,3})(?!\s*[:x×*‐‑–—−-]\s*\d|[.]?\d|[a-z])/gi;
 
 /** The numbers of inputs and outputs that a label tells of: one pair, or several where it isn't clear, or none. */
 const pairsIn = (label) => {

@@ -205,6 +205,8 @@ def refused(page):
     page.value("document.getElementById('stop').click()")
     if page.wait("document.querySelector('#design').textContent.includes('it was stopped')", 10) is None:
         yield "a stop isn't told"
+    if not page.value("[...document.querySelectorAll('#design button')].some((it) => it.textContent === 'Decide it')"):
+        yield "what wasn't decided can't be asked for"
 
 
 def links(page, address):

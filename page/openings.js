@@ -1,6 +1,7 @@
 // Bare halves of splitters, and how they are opened: with belts of the splitter's tier, straight from the half to one cell
-// beyond the border of the design. What comes out has the network of before and just these ends more, by the program's own
-// word; a half for which that isn't so stays bare. The same as `collection/openings.py`.
+// beyond the border of the design, where that way is free; where it crosses another such way, turned at the first belt. What
+// comes out has the network of before and just these ends more, by the program's own word; a half for which that isn't so
+// stays bare. The same as `collection/openings.py`.
 
 /** Why a design has no network, as the program says it. */
 class Refused extends Error {}
@@ -23,13 +24,13 @@ class Ground {
     for (const line of this.lines.values()) line.sort((a, b) => a - b);
   }
 
-  /** The first taken cell ahead, or null. */
-  firstTaken(cell, direction) {
+  /** The first taken cell ahead, so many cells away at most, or null. */
+  firstTaken(cell, direction, most) {
     const axis = direction === EAST || direction === WEST ? 0 : 1;
-    const line = this.lines.get(`${axis}:${cell[1 - axis]}`);
+    const line = this.lines.get(`${axis}:${cell[1 - axis]}`) ?? [];
     const isAhead = direction === EAST || direction === SOUTH;
     const found = isAhead ? line.find((it) => it > cell[axis]) : line.findLast((it) => it < cell[axis]);
-    if (found === undefined) return null;
+    if (found === undefined || Math.abs(found - cell[axis]) > most) return null;
     return axis === 0 ? [found, cell[1]] : [cell[0], found];
   }
 
@@ -40,7 +41,26 @@ class Ground {
   }
 }
 
-/** The ways of all bare ends, with so many belts at most. No two of them cross: the shorter goes before. */
+/** The belts of a straight way that leads from a half in a direction, each with its cell and its direction. */
+const straight = (cell, direction, count, isFront) => {
+  const belt = isFront ? direction : (direction + 2) % 4;
+  return Array.from({ length: count }, (_, at) => ({ cell: step(cell, direction, at + 1), direction: belt }));
+};
+
+/** The belts of the shorter way that is turned at its first belt, to the left or to the right; or null. */
+const turnedWay = (ground, used, cell, direction, isFront) => {
+  const first = step(cell, direction);
+  const found = [(direction + 3) % 4, (direction + 1) % 4].flatMap((aside) => {
+    const count = ground.toBorder(first, aside);
+    if (count <= 0 || ground.firstTaken(first, aside, count)) return [];
+    return [[{ cell: first, direction: isFront ? aside : (direction + 2) % 4 }, ...straight(first, aside, count, isFront)]];
+  });
+  const free = found.filter((way) => !way.some((it) => used.has(keyOf(it.cell))));
+  return free.sort((a, b) => a.length - b.length)[0] ?? null;
+};
+
+/** The ways of all bare ends, with so many belts at most. No two of them cross: the shorter goes before, and the other is
+    turned where it can be. */
 const waysOf = (found, bystanders, most) => {
   const ground = new Ground(found, bystanders);
   const used = new Map();
@@ -53,18 +73,22 @@ const waysOf = (found, bystanders, most) => {
   for (const end of [...ends].sort((a, b) => a.count - b.count)) {
     const { bare, part, direction, cell, count } = end;
     const place = placeOf(found.parts, bare);
-    const there = ground.firstTaken(cell, direction);
+    const there = ground.firstTaken(cell, direction, count);
     let why = null;
-    let cells = [];
+    let belts = [];
     if (there) why = `${ground.taken.get(keyOf(there)).by} at tile ${tile(there)} is in the way`;
-    else if (count > most - used.size) why = `the design would have more than ${MOST_ENTITIES} entities`;
-    else {
-      cells = Array.from({ length: count }, (_, at) => step(cell, direction, at + 1));
-      const crossed = cells.map((it) => used.get(keyOf(it))).find(Boolean);
-      why = crossed ? `its way crosses that of the ${spelled([crossed])}` : null;
+    else if (count <= most - used.size) {
+      belts = straight(cell, direction, count, bare.front);
+      const crossed = belts.map((it) => used.get(keyOf(it.cell))).find(Boolean);
+      if (crossed) belts = turnedWay(ground, used, cell, direction, bare.front) ?? [];
+      why = belts.length ? null : `its way crosses that of the ${spelled([crossed])}`;
     }
-    if (!why) for (const it of cells) used.set(keyOf(it), place);
-    end.way = { place, splitter: part, front: bare.front, cells, why };
+    if (!why && !(belts.length > 0 && belts.length <= most - used.size)) {
+      why = `the design would have more than ${MOST_ENTITIES} entities`;
+      belts = [];
+    }
+    for (const it of belts) used.set(keyOf(it.cell), place);
+    end.way = { place, splitter: part, front: bare.front, belts, why };
   }
   return ends.map((it) => it.way);
 };
@@ -75,11 +99,11 @@ const beltsOf = (found, bytes, ways) => {
   let number = Math.max(0, ...list.entities.map((it) => list.value(it, "entity_number")).filter(Number.isInteger));
   const quarter = found.isSixteenths ? 4 : 2;
   return ways.flatMap((way) =>
-    way.cells.map((cell) => {
+    way.belts.map(({ cell, direction }) => {
       number += 1;
       const [x, y] = cell.map((it, axis) => (2 * it + 1 + found.shift[axis]) / 2);
       const name = `${PREFIXES[way.splitter.tier]}transport-belt`;
-      return asBytes(`{"entity_number":${number},"name":"${name}","position":{"x":${x},"y":${y}},"direction":${quarter * way.splitter.direction}}`);
+      return asBytes(`{"entity_number":${number},"name":"${name}","position":{"x":${x},"y":${y}},"direction":${quarter * direction}}`);
     }),
   );
 };
@@ -189,7 +213,7 @@ class Opening {
     }
     const unopened = this.ways.filter((it) => it.why || refused.has(it)).map((it) => ({ place: it.place, why: it.why ?? refused.get(it) }));
     const after = this.moreEnds(kept);
-    const belts = kept.reduce((count, it) => count + it.cells.length, 0);
+    const belts = kept.reduce((count, it) => count + it.belts.length, 0);
     return { ...best, belts, opened: kept.map((it) => it.place), unopened, before: this.ends(), after, would: after };
   }
 }

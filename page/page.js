@@ -30,7 +30,7 @@ let view = null;
 
 /** What is drawn of a design: its parts and its network where that is the one that the program told, and what is lacking.
     Behind all other parts so many belts were added, and besides what stands by is drawn. */
-const drawingOf = (bytes, network, refused, label, belts = 0, bystanders = []) => {
+const drawingOf = (bytes, network, refused, label, belts = 0, bystanders = [], isRuled = false) => {
   if (!isJson(bytes)) return { lack: "A network text has no parts, so there is no picture." };
   let design = null;
   try {
@@ -41,15 +41,15 @@ const drawingOf = (bytes, network, refused, label, belts = 0, bystanders = []) =
   }
   const [leastX, leastY, mostX, mostY] = boxOfDesign(design);
   const isNear = ([x, y]) => x >= leastX - 1 && x <= mostX + 1 && y >= leastY - 1 && y <= mostY + 1;
-  const seen = { ...design, strangers: [...design.strangers, ...bystanders.filter((it) => it.cells.every(isNear))] };
+  const seen = { ...design, strangers: [...design.strangers, ...bystanders.filter((it) => it.cells.some(isNear))] };
   const first = design.parts.length - belts;
   const marks = { bare: bareEnds(design.parts), added: new Set(design.parts.map((_, at) => at).filter((at) => at >= first)), refused };
-  const plainly = (lack) => ({ design, lack, drawing: new Drawing(seen, null, marks, label) });
+  const plainly = (lack) => ({ design, lack, drawing: new Drawing(seen, null, marks, label, isRuled) });
   if (!network) return plainly(null);
   try {
     const traced = new Layout(design.parts).network();
     if (!isSameNetwork(traced, network)) return plainly("Ends and states aren't drawn: traced for the picture, the network is another one.");
-    return { design, lack: null, traced, drawing: new Drawing(seen, traced, marks, label) };
+    return { design, lack: null, traced, drawing: new Drawing(seen, traced, marks, label, isRuled) };
   } catch (fault) {
     if (!(fault instanceof Untraced)) throw fault;
     return plainly(`Ends and states aren't drawn: as traced for the picture, ${fault.message}.`);
@@ -57,15 +57,15 @@ const drawingOf = (bytes, network, refused, label, belts = 0, bystanders = []) =
 };
 
 /** What is amiss with the number of ends, in words, where the label tells of others; or null. */
-const warningOf = (label, net, reading, bare) => {
+const warningOf = (label, net, reading) => {
   const pairs = pairsIn(label);
   const own = [net.inputs, net.outputs];
   if (!pairs.length || isAmong(own, pairs)) return null;
   const said = `its label says ${spelledPairs(pairs)}, but its network is ${own.join(" to ")}`;
   const doubt = "which of them are meant can't be known, so put a belt at each one that is an end";
   if (reading.opened.length) return `${said}, with belts at its bare halves: ${doubt}`;
-  if (!isAmong(reading.would, [own])) return `${said}, and with belts at its bare halves it would be ${spelledPairs([reading.would])}: ${doubt}`;
-  return bare.length ? `${said}: ${doubt}` : `${said}: a belt may be missing, or be one too many`;
+  if (isAmong(reading.would, [own])) return `${said}: a belt may be missing, or be one too many`;
+  return `${said}, and with belts at its bare halves it would be ${spelledPairs([reading.would])}: ${doubt}`;
 };
 
 /** How many bare halves a sentence names at most. */
@@ -105,6 +105,11 @@ class Verdict {
     this.badge.textContent = label;
     if (words) this.words.replaceChildren(words);
     this.row.replaceChildren(...buttons);
+  }
+
+  /** Offers to decide. */
+  offer() {
+    this.tell("", "not decided", null, this.button("Decide it", () => this.decide()));
   }
 
   async decide() {
@@ -254,7 +259,7 @@ class View {
     this.network = reading.answer.startsWith("net ") ? reading.answer : null;
     const refusal = this.network ? null : toldRefusal(reading.answer, this.bytes);
     Object.assign(this, { states: [], at: 0, drawing: null, design: null, traced: null });
-    Object.assign(this, drawingOf(this.bytes, this.network, refusal?.places ?? [], `${plain(this.found.name)}, drawn from its parts`, reading.belts, this.bystanders));
+    Object.assign(this, drawingOf(this.bytes, this.network, refusal?.places ?? [], `${plain(this.found.name)}, drawn from its parts`, reading.belts, this.bystanders, true));
     this.canDraw = Boolean(this.drawing && this.traced);
     this.element.replaceChildren(this.heading());
     const bare = this.design ? bareEnds(this.design.parts).map((it) => placeOf(this.design.parts, it)) : [];
@@ -269,9 +274,14 @@ class View {
     const isWide = this.drawing ? this.drawing.box[2] > WIDEST_BESIDE : true;
     this.element.append(make("div", { class: `both${isWide ? " wide" : ""}` }, this.drawing ? this.stage() : make("p", { class: "note" }, this.lack), list));
     this.element.append(new More(this).element);
-    for (const it of this.verdicts) {
-      if (this.isLeft || !(await it.decide())) break;
-    }
+    await this.decideAll();
+  }
+
+  /** Decides one property after the other; what is left where one was stopped can be asked for. */
+  async decideAll() {
+    const left = [...this.verdicts];
+    while (left.length && !this.isLeft && (await left.shift().decide()));
+    for (const it of left) it.offer();
   }
 
   /** What there is to say of how the design was read: a warning first. */
@@ -280,7 +290,7 @@ class View {
       this.net = readNet(this.network);
       this.tellFacts();
     }
-    const warning = this.network && isJson(this.bytes) ? warningOf(this.found.name, this.net, { would: [this.net.inputs, this.net.outputs], ...this.reading }, bare) : null;
+    const warning = this.network && isJson(this.bytes) ? warningOf(this.found.name, this.net, { would: [this.net.inputs, this.net.outputs], ...this.reading }) : null;
     const sentence = (it) => `${it[0].toUpperCase()}${it.slice(1)}.`;
     const remarks = remarksOf(this.reading, this.network ? bare : [], this.notes).map((it) => make("li", {}, told(sentence(it))));
     this.remarks.replaceChildren(...(warning ? [make("li", { class: "held" }, told(sentence(warning)))] : []), ...remarks);
@@ -319,9 +329,8 @@ class View {
     if (!this.ways) return [];
     const box = make("input", { type: "checkbox", checked: this.reading.opened.length > 0 });
     box.addEventListener("change", () => {
-      for (const run of [...this.runs]) run.stop();
+      this.leave();
       view = Object.assign(new View(this.found), { mode: box.checked ? "always" : "never" });
-      this.isLeft = true;
       view.open();
     });
     return [make("label", { class: "switch" }, box, `open ${this.ways === 1 ? "its bare half" : `its ${this.ways} bare halves`} with belts to the border`)];
@@ -447,8 +456,9 @@ class More {
     return this.part("Compare with another design", make("p", { class: "note" }, words), area, make("div", { class: "row" }, go, others.length ? chosen : null), out);
   }
 
-  async showSame(other, out) {
+  async showSame(asked, out) {
     const { view } = this;
+    const other = { ...asked, bytes: isJson(asked.bytes) ? cleaned(asked.bytes).bytes : asked.bytes };
     const both = lined(view.bytes, other.bytes);
     const ended = await view.run(["same"], both, "Comparing two designs");
     const fault = faultOf(ended);
@@ -527,7 +537,7 @@ class More {
 
   /** What a link to the design ends in. */
   async fragment() {
-    const { bytes } = this.view;
+    const { bytes } = this.view.found;
     return isJson(bytes) ? deflate(bytes) : encodeURIComponent(decoder.decode(bytes));
   }
 }
@@ -538,8 +548,12 @@ const choose = (at, isFocused = true) => {
   view = new View(given[at]);
   [...$("designs").children].forEach((it, place) => (place === at ? it.firstChild.setAttribute("aria-current", "true") : it.firstChild.removeAttribute("aria-current")));
   $("about").hidden = true;
+  document.title = `${plain(given[at].name)} – beltproof`;
   const opened = view.open();
-  if (isFocused) $("name")?.focus({ preventScroll: true });
+  if (isFocused) {
+    $("name")?.focus({ preventScroll: true });
+    if ($("design").getBoundingClientRect().top > innerHeight / 2 || matchMedia("(max-width: 62rem)").matches) $("design").scrollIntoView();
+  }
   return opened;
 };
 
@@ -683,6 +697,7 @@ const offerExamples = (samples) => {
 };
 
 const start = async () => {
+  $("given").textContent = "";
   $("promises").append(...PROPERTIES.map((it) => make("div", {}, make("dt", {}, `${FIELD[it].title} `, make("code", {}, it)), make("dd", {}, FIELD[it].promise))));
   if (typeof DecompressionStream === "undefined" || typeof WebAssembly === "undefined") {
     $("given").textContent = "This browser is too old for the page: it lacks WebAssembly or DecompressionStream.";

@@ -221,10 +221,18 @@ const boxOf = (design, cells) => {
   return [x, y, Math.max(mostX, ...xs) - x + 1, Math.max(mostY, ...ys) - y + 1];
 };
 
-/** The part of the plane that a picture shows, with a narrow margin. */
-const viewOf = (box) => {
+/** The part of the plane that a picture shows, with a narrow margin, and where it is ruled, the numbers. */
+const viewOf = (box, isRuled = false) => {
   const [x, y, width, height] = box.map((it) => it * CELL);
-  return `${x - 4} ${y - 4} ${width + 8} ${height + 8}`;
+  const more = isRuled ? 20 : 0;
+  return `${x - 4 - more} ${y - 4 - more} ${width + 8 + more} ${height + 8 + more}`;
+};
+
+/** The elements that number each fifth column of tiles above a picture, and each fifth row at its left. */
+const rulesOf = ([x, y, width, height]) => {
+  const fifths = (first, size) => Array.from({ length: size }, (_, at) => first + at).filter((it) => it % 5 === 0);
+  const columns = fifths(x, width).map((it) => sign(String(it), it * CELL + HALF, y * CELL - 7, "rule"));
+  return [...columns, ...fifths(y, height).map((it) => sign(String(it), x * CELL - 12, it * CELL + HALF + 3, "rule"))];
 };
 
 /** An edge's way as lists of points, each with whether it lies under the ground. */

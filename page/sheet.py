@@ -27,8 +27,10 @@ def scripts(names):
 def style():
     """The style: the colours of pictures and their rules are those of the report."""
     report = (TOP / "collection" / "report.css").read_text("utf-8")
-    shared = [COLORS.search(report).group(), PICTURE_RULES.search(report).group()]
-    return "".join([*shared, (HERE / "style.css").read_text("utf-8")])
+    shared = [COLORS.search(report), PICTURE_RULES.search(report)]
+    if None in shared:
+        raise ValueError("the colours or the rules of pictures aren't where they are sought in the report's style")
+    return "".join([*(it.group() for it in shared), (HERE / "style.css").read_text("utf-8")])
 
 
 def samples():

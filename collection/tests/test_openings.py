@@ -9,8 +9,8 @@ from . import Case, belt, blueprint, program_path, trimming
 WHOLE = {"balancer-16-to-16", "balancer-4-to-4", "balancer-8-to-8", "balancer-8-to-8-in-9x11", "loop-back-3-to-3"}
 WHOLE |= {"pinned-4-to-4", "splitter-2-to-2", "woven-3-to-3", "Balancers/2 to 2", "Balancers/3 to 3, looped"}
 WHOLE |= {"Balancers/4 to 4", "Balancers/4 to 4, throughput unlimited", "Balancers/6 to 6, looped", "Balancers/8 to 8"}
-WHOLE |= {"Balancers/16 to 16", "Mixing/3 to 3, woven"}
-"""The examples whose splitters have no unused half, and whose straight ways out don't cross."""
+WHOLE |= {"Balancers/16 to 16", "Mixing/3 to 3, woven", "Mixing/8 to 8 of 8 splitters"}
+"""The examples whose splitters have no unused half."""
 
 UNDER, DOWN, UP = "underground-belt", {"type": "input"}, {"type": "output"}
 
@@ -139,12 +139,19 @@ class Openings(Case):
         self.assertEqual(reasons["output", 1, 0], "small-electric-pole at tile (1, -2) is in the way")
         self.assertEqual(it.opened, [("input", 1, 0)])
 
-    def test_of_two_ways_that_cross_the_shorter_is_opened(self):
-        under = belt(2, 1, 2, UNDER, **DOWN), belt(7, 1, 2, UNDER, **UP)
-        text = blueprint(splitter(3, 4), belt(3, 5), belt(4, 5), splitter(1, 1, 2), *under)
-        it = opened(text, mode="always")
-        self.assertEqual(it.unopened, [(("output", 1, 2), "its way crosses that of the output at (3, 4)")])
-        self.assertEqual((it.after, it.would), ((4, 3), (4, 3)))
+    def test_of_two_ways_that_cross_the_longer_is_turned(self):
+        def crossing(direction, *more):
+            under = belt(2, 1, direction, UNDER, **DOWN), belt(7, 1, direction, UNDER, **UP)
+            under = under if direction == 2 else (under[0] | UP, under[1] | DOWN)
+            return blueprint(splitter(3, 4), belt(3, 5), belt(4, 5), splitter(1, 1, direction), *under, *more)
+
+        for direction, kind, turns in ((2, "output", [4] * 5), (6, "input", [6, 0, 0, 0, 0])):
+            it = opened(crossing(direction), mode="always")
+            self.assertEqual((it.unopened, sum(it.after)), ([], 8))
+            told = {part.cells[0]: 2 * part.direction for part in design.read(it.text).parts}
+            self.assertEqual([told[2, y] for y in range(2, 7)], turns)
+            it = opened(crossing(direction, belt(2, 4)), mode="always")
+            self.assertEqual(it.unopened, [((kind, 1, 2), "its way crosses that of the output at (3, 4)")])
 
     def test_where_the_program_refuses_what_comes_out_it_stays_bare(self):
         it = opened(blueprint(splitter(0, 0), belt(0, 1), belt(1, 1), belt(1, -1, 6)), mode="always")
@@ -252,8 +259,8 @@ class Cleaning(Case):
                 cleaning.of_tier(words)
 
     def test_the_rest_of_the_text_stays(self):
-        odd = '{ "blueprint" :{"x":[1.50e2,"é"],"entities":[%s {"position":{"x":0.50,"y":5e-1},"name":"transport-belt"} '
-        odd += '], "version":1 }}'
+        odd = '{ "blueprint" :{"x":[1.50e2,"é"],"entities":[%s {"position":{"x":0.50,"y":5e-1},"name":'
+        odd += '"transport-belt"} ], "version":1 }}'
         lamp = '{"name":"small-lamp","position":{"x":9,"y":9}},'
         self.assertEqual(cleaning.cleaned(odd % lamp).text, odd.replace("%s ", ""))
         twice = '{"blueprint":{"entities":[{"name":"small-lamp","name":"x"}]}}'

@@ -181,6 +181,10 @@ class Pictures(Case):
         self.assertEqual({type(it) for it in numbers(elements)}, {int})
         self.assertEqual(re.findall(r"\d[.]", picture.svg(elements)), [])
 
+    def test_each_fifth_column_and_row_is_numbered(self):
+        told = [(content, it["x"], it["y"]) for _, it, content in picture.rules((-1, 4, 7, 7))]
+        self.assertEqual(told, [("0", 12, 89), ("5", 132, 89), ("5", -36, 135), ("10", -36, 255)])
+
     def test_bare_ends(self):
         found = [(it.part, it.half, it.front) for it in trace.bare_ends(marked_picture().design.parts)]
         self.assertEqual(found[:3], [(0, 0, False), (0, 1, True), (1, 0, False)])

@@ -129,8 +129,8 @@ class Published(Case):
         status, wrong, lines = self.told()
         self.assertEqual(status, 0)
         self.assertIn("collection: 4 to 4: opened by 2 belts: output at (0, 1)\n", wrong)
-        said = "its label says 1 to 4, but its network is 4 to 4, with belts at its bare halves: which of them are meant "
-        self.assertIn(f"collection: tree 1 to 4: {said}can't be known", wrong)
+        said = "its label says 1 to 4, but its network is 4 to 4, with belts at its bare halves: which of them are meant"
+        self.assertIn(f"collection: tree 1 to 4: {said} can't be known", wrong)
         tree, other = lines["tree 1 to 4"], lines["4 to 4"]
         self.assertEqual((other["ends"], other["opened"], other["bare"]), ("4 to 4", "output at (0, 1)", ""))
         self.assertEqual((tree["ends"], tree["opened"].count("(")), ("4 to 4", 8))
@@ -180,8 +180,8 @@ class Published(Case):
         self.assertEqual(self.page().count('<rect class="frame"'), 8)
 
     def test_what_is_left_out_is_told(self):
-        texts = {"name": "small-lamp", "position": {"x": 1.5, "y": 0.5}}, belt(0, 0, name="my-belt", control_behavior={})
-        self.write("in/one.json", blueprint(*texts))
+        lamp = {"name": "small-lamp", "position": {"x": 1.5, "y": 0.5}}
+        self.write("in/one.json", blueprint(lamp, belt(0, 0, name="my-belt", control_behavior={})))
         _, _, lines = self.told()
         self.assertEqual(lines["one"]["verdict"], "refused")
         status, wrong, lines = self.told("--treat-as", "my-belt=fast")

@@ -9,6 +9,9 @@ from pathlib import Path
 from .. import lower, sheet
 from . import NODE
 
+GLOBALS = 6
+"""The number of a module's section of globals."""
+
 DRIVER = """
 const fs = require("fs");
 const crypto = require("crypto");
@@ -61,5 +64,19 @@ def with_memory(module, pages):
             count, flags, least = reader.unsigned(), reader.byte(), reader.unsigned()
             assert (count, flags) == (1, 1)
             data = b"\1\1" + lower.unsigned(least) + lower.unsigned(max(least, pages))
+        parts += [bytes([number]), lower.unsigned(len(data)), data]
+    return b"".join(parts)
+
+
+def with_stack(module, length):
+    """The module with a stack of so many bytes: the first of its globals, a number of 64 bits, tells where it begins."""
+    parts = [lower.MAGIC]
+    for number, data in lower.sections(module):
+        if number == GLOBALS:
+            reader = lower.Reader(data)
+            count, head = reader.unsigned(), reader.take(3)
+            assert head == bytes([lower.I64, 1, lower.I64_CONST])
+            reader.signed()
+            data = lower.unsigned(count) + head + lower.signed(length) + data[reader.at :]
         parts += [bytes([number]), lower.unsigned(len(data)), data]
     return b"".join(parts)

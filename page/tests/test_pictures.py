@@ -37,7 +37,7 @@ const answers = asked.map(({ text, states, line }) => {
       const state = readState(text);
       return { flows: flowing(found.parts, network, cells, state, "ways"), badges: badges(cells, toldAtEnds(state)), shown: shown(property, net, state) };
     });
-    return { ...whole, lines: linesOf(network), badges: badges(cells), view: viewOf(boxOf(found, cells)), told };
+    return { ...whole, lines: linesOf(network), badges: badges(cells), view: viewOf(boxOf(found, cells)), ruled: viewOf(boxOf(found, cells), true), rules: rulesOf(boxOf(found, cells)), told };
   } catch (fault) {
     if (!(fault instanceof Untraced)) throw fault;
     return { ...whole, untraced: fault.message, view: viewOf(boxOf(found, [])) };
@@ -109,7 +109,7 @@ def drawn_by_report(text, told):
                 "shown": states.shown(prop, net, state),
             }
         )
-    return whole | {"lines": network.lines(), "badges": picture.badges(seen.badges), "view": seen.view(), "told": answers}
+    return whole | {"lines": network.lines(), "badges": picture.badges(seen.badges), "view": seen.view(), "ruled": seen.view(True), "rules": picture.rules(seen.box), "told": answers}
 
 
 @needs_node

@@ -8,7 +8,7 @@ from collection.tests import program_path
 
 from .. import sheet
 from . import EXAMPLES, TOP, needs_node, page_path
-from .programs import by_page, by_program, with_memory
+from .programs import by_page, by_program, with_memory, with_stack
 
 PROPERTIES = ("balanced", "drawn-evenly", "unlimited", "full")
 GRIDS = {
@@ -110,6 +110,12 @@ class Programs(unittest.TestCase):
         design = (EXAMPLES / "balancer-16-to-16.json").read_bytes()
         found = {pages: by_page(with_memory(self.module, pages), [(["decide", "balanced"], design)])[0] for pages in (66, 70, 80, 2000)}
         self.assertEqual([it["status"] for it in found.values()], [8, 8, 8, 0])
+
+    def test_a_stack_that_ends_is_told(self):
+        design = (EXAMPLES / "balancer-16-to-16.json").read_bytes()
+        told = [by_page(with_stack(self.module, length), [(["decide", "balanced"], design)])[0] for length in (4096, 65536, 4 << 20)]
+        self.assertEqual([it.get("trouble") for it in told], ["stack", "stack", None])
+        self.assertEqual([it.get("digest") for it in told[:2]], ["", ""])
 
     def test_a_run_leaves_nothing_behind(self):
         design = (EXAMPLES / "balancer-4-to-4.net").read_bytes()
