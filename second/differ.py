@@ -19,7 +19,7 @@ from pathlib import Path
 
 sys.dont_write_bytecode = True
 
-import check
+import opinion
 
 EXAMPLES = Path(__file__).resolve().parent.parent / "examples"
 MUTANTS, SHORT = 20000, 50
@@ -51,8 +51,8 @@ class Differ:
         theirs = theirs or self.run(words, data)
         if theirs is None:
             return
-        self.hold(kind, mine or words, data, theirs, check.run(mine or words, lambda most: data[:most],
-                                                               (files or {}).__getitem__))
+        ours = opinion.run(mine or words, lambda most: data[:most], (files or {}).__getitem__)
+        self.hold(kind, mine or words, data, theirs, ours)
 
     def hold(self, kind, words, data, theirs, ours):
         """Counts one case, and prints where the two answers to it differ."""
@@ -83,9 +83,9 @@ class Differ:
         theirs = self.run(["formula", prop], design)
         if theirs:
             try:
-                net = check.read_design(design.decode("latin-1"), False, True)[0]
-                ours = 0, formula_text(net, check.flow_formula(net, prop))
-            except check.Answer as refused:
+                net = opinion.read_design(design.decode("latin-1"), alone=True)[0]
+                ours = 0, formula_text(net, opinion.FlowFormula(net, prop))
+            except opinion.Answer as refused:
                 ours = refused.status, refused.text
             self.hold("formula", ["formula", prop], design, theirs, ours)
 
@@ -316,7 +316,7 @@ def thrown_blueprint(chance):
         kind, tier, way = chance.choice("bbbbbsu"), chance.choice(tiers), chance.choice(ways)
         x, y = chance.randrange(width), chance.randrange(height)
         if kind == "u":
-            steps, (dx, dy) = chance.choice((1, 2, 3, 4, 5, 6, 11, 12)), check.STEPS[way]
+            steps, (dx, dy) = chance.choice((1, 2, 3, 4, 5, 6, 11, 12)), opinion.STEPS[way]
             put(tier + "underground-belt", way, x, y, ',"type":"input"')
             if chance.randrange(6):
                 other = chance.choice((way,) * 9 + (chance.randrange(4),))
@@ -335,8 +335,8 @@ def thrown_state(chance, design, prop):
     few = [Fraction(word) for word in chance.choice(("0 1", "0 1/2 1", "1", "0 1/3 2/3 1", "1 2 3 4")).split()]
     loads, rooms, flows = ([chance.choice(few) for _ in range(count)] for count in (inputs, outputs, edges))
     try:
-        net = check.read_net(design.decode(), False)[0]
-    except check.Answer:
+        net = opinion.read_net(design.decode())[0]
+    except opinion.Answer:
         net = None
     if net and chance.randrange(5):
         share = {s: Fraction(chance.choice(("1/2", "1/2", "1/2", "1", "0", "1/3"))) for s in net.ends("s")}
@@ -357,8 +357,8 @@ def thrown_state(chance, design, prop):
 def thrown_certificate(chance, design, prop):
     """Steps of which some follow by propagation, some are sums of rows, and some were then changed."""
     try:
-        formula = check.flow_formula(check.read_net(design.decode(), False)[0], prop)
-    except check.Answer:
+        formula = opinion.FlowFormula(opinion.read_net(design.decode())[0], prop)
+    except opinion.Answer:
         return f"yes {prop}\nend\n".encode()
     clauses, lines = [list(clause) for clause in formula.clauses], [f"yes {prop}"]
     for _ in range(chance.randrange(1, 7)):
@@ -407,7 +407,7 @@ def examples(differ, short):
             sources[kind].append(data)
         elif kind.split("-")[0] in ("yes", "not", "nearly"):
             # What is said of two networks is held against `same.py`.
-            certificates += [(name, prop, data) for prop in check.PROPERTIES if kind.endswith(prop)]
+            certificates += [(name, prop, data) for prop in opinion.PROPERTIES if kind.endswith(prop)]
         elif kind == "request":
             sources["request"].append((data, ["--grid", "5x8"]))
     for name, prop, data in certificates[::8 if short else 1]:
@@ -418,7 +418,7 @@ def examples(differ, short):
             sources["certificate" if data[:3] == b"yes" else "state"].append((designs[name][-1], prop, data))
     for name in list(designs)[::4 if short else 1]:
         design = min(designs[name], key=len)
-        for prop in check.PROPERTIES if len(design) < (MUTATED if short else CHECKED) else ():
+        for prop in opinion.PROPERTIES if len(design) < (MUTATED if short else CHECKED) else ():
             differ.formula(design, prop)
             certificate = differ.decided(design, prop)
             if certificate and len(certificate) <= MUTATED:
@@ -438,7 +438,7 @@ def examples(differ, short):
 def mutants(differ, chance, sources, count):
     for _ in range(count):
         roll = chance.randrange(100)
-        prop = chance.choice(check.PROPERTIES)
+        prop = chance.choice(opinion.PROPERTIES)
         if roll < 30:
             design, prop, data = chance.choice(sources["certificate"])
             differ.compare("certificate", ["check", prop], design + mutant(chance, data))

@@ -18,8 +18,8 @@ from itertools import permutations, product
 
 sys.dont_write_bytecode = True
 
-import check
-from check import BELT, ENTRANCE, EXIT, SPLITTER, STEPS, WAYS, Answer, Part
+import opinion
+from opinion import BELT, ENTRANCE, EXIT, SPLITTER, STEPS, WAYS, Answer, Part
 
 GRIDS = (1, 1), (1, 2), (2, 1), (1, 4), (3, 1), (2, 2), (2, 3), (3, 2), (2, 4), (4, 2), (3, 3), (2, 5), (5, 2)
 REQUESTS, MOST = 5000, 3  # and the most splitters, inputs and outputs
@@ -78,7 +78,7 @@ class Listing:
         for content in CONTENTS:
             more = content is not None and content[0] == "lesser"
             out = (content is not None and content[0] in (BELT, EXIT)
-                   and not self.is_inside(*check.moved((x, y), content[1])))
+                   and not self.is_inside(*opinion.moved((x, y), content[1])))
             if splitters + more > MOST or outputs + out > MOST or not self.has_mate(x, y, content):
                 continue
             lines = (1, y), (0, x)
@@ -139,7 +139,7 @@ class Listing:
         fed = self.feeders(x, y)
         if fed or content[0] in HALVES:
             return fed <= 1
-        return not self.is_inside(*check.moved((x, y), (content[1] + 2) % 4))
+        return not self.is_inside(*opinion.moved((x, y), (content[1] + 2) % 4))
 
     def add(self):
         """Adds the layout, where it has a network of few ends, all of them at the border."""
@@ -147,12 +147,12 @@ class Listing:
         parts = [Part(kinds.get(content[0], content[0]), 0, content[1], cell, None, None)
                  for cell, content in self.at.items() if content is not None and content[0] != "greater"]
         try:
-            net, firsts, lasts = check.recover(parts)
+            net, firsts, lasts = opinion.recover(parts)
         except Answer:
             return
         ends = [*((part, -1) for part in firsts), *((part, 1) for part in lasts)]
         if max(len(firsts), len(lasts)) > MOST or any(
-                self.is_inside(*check.moved(part.cell, part.dir, by)) for part, by in ends):
+                self.is_inside(*opinion.moved(part.cell, part.dir, by)) for part, by in ends):
             return
         self.count += 1
         mask = sum(1 << (x + self.width * y) for (x, y), content in self.at.items() if content is not None)
@@ -212,9 +212,9 @@ def thrown_net(chance):
 
 
 def network(inputs, outputs, splitters, ends):
-    net = check.Net(inputs, outputs, splitters)
+    net = opinion.Net(inputs, outputs, splitters)
     for start, target in ends:
-        net.add(check.Edge(start, target, 1))
+        net.add(opinion.Edge(start, target, 1))
     return net
 
 
@@ -226,13 +226,13 @@ def listed_net(chance, listing):
     net = network(len(firsts), len(lasts), splitters, [((e[0], e[1]), (e[2], e[3])) for e in edges])
     spots = dict(zip(net.ends("i") + net.ends("o"), firsts + lasts))
     ends = chance.sample(list(spots), chance.randint(0, len(spots)))
-    return net, [check.Pin(end, spots[end][0], chance.choice((None, spots[end][1])), 0) for end in ends]
+    return net, [opinion.Pin(end, spots[end][0], chance.choice((None, spots[end][1])), 0) for end in ends]
 
 
 def thrown_pins(chance, net, cells):
     """Pins of some ends on cells, each turned some way or any."""
     ends = chance.sample(net.ends("i") + net.ends("o"), chance.choice((0, 0, 1, 2)))
-    return [check.Pin(end, chance.choice(cells), chance.choice((None, *range(4))), 0) for end in ends]
+    return [opinion.Pin(end, chance.choice(cells), chance.choice((None, *range(4))), 0) for end in ends]
 
 
 def thrown_request(chance, listing):
@@ -280,11 +280,11 @@ class Comparing:
 
     def found(self, options, text, written, listing):
         """The written blueprint lays the request, and `recover` reads a network of as many parts of it."""
-        request = check.read_request(text, listing.width, listing.height)
-        parts = check.parts_of(check.json_value(written.decode("latin-1"), 0)[0], False)
+        request = opinion.read_request(text, listing.width, listing.height)
+        parts = opinion.parts_of(opinion.json_value(written.decode("latin-1"), 0)[0], False)
         status, shown = self.run(["recover"], written)
-        again = check.read_net(shown.decode("latin-1"), False)[0] if status == 0 else None
-        if not check.lays(*request, listing.width, listing.height, 0, parts) or again is None or shape(again) != shape(request[0]):
+        again = opinion.read_net(shown.decode("latin-1"))[0] if status == 0 else None
+        if not opinion.lays(*request, listing.width, listing.height, 0, parts) or again is None or shape(again) != shape(request[0]):
             self.fail("a layout of another request", options, text)
 
     def refuted(self, chance, options, text, written):

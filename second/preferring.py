@@ -17,7 +17,7 @@ from collections import Counter
 
 sys.dont_write_bytecode = True
 
-import check
+import opinion
 import differ
 
 NETWORKS = 2000
@@ -28,7 +28,7 @@ DIRECTION = re.compile(rb'"name":"[a-z-]*splitter"')
 def with_sides(chance, blueprint):
     """The blueprint, in which each splitter prefers sides by chance; a few belts are told to, which says nothing."""
     def told(found):
-        sides = b"".join(b',"%s":"%s"' % (member.encode(), side) for member in check.SIDES
+        sides = b"".join(b',"%s":"%s"' % (member.encode(), side) for member in opinion.SIDES
                          for side in [chance.choice((b"left", b"right", b"none", b""))] if side)
         return found[0] + sides
 
@@ -46,8 +46,8 @@ def thrown(chance, examples, kind):
 def preferred(design):
     """The network of a design in which a splitter prefers an edge, or None."""
     try:
-        net = check.read_design(design.decode("latin-1"), False, True)[0]
-    except check.Answer:
+        net = opinion.read_design(design.decode("latin-1"), alone=True)[0]
+    except opinion.Answer:
         return None
     return net if any(net.first.values()) else None
 
@@ -69,7 +69,7 @@ def main():
         networks[kind] += 1
         both.compare(f"{kind} recovered", ["recover"], design)
         text = (net.text() + "\n").encode()
-        for prop in chance.sample(check.PROPERTIES, 2):
+        for prop in chance.sample(opinion.PROPERTIES, 2):
             state = differ.thrown_state(chance, text, prop)
             both.compare(f"{kind} with a state", ["flow-check", prop], design + b"\n" + state)
             both.decided(design + b"\n" * (kind != "text"), prop)

@@ -18,8 +18,8 @@ from collections import Counter
 
 sys.dont_write_bytecode = True
 
-import check
-from check import Answer, Formula, need
+import opinion
+from opinion import Answer, Formula, need
 from exhaust import network
 
 PAIRS, MUTANTS, SECONDS = 300, 12, 20
@@ -42,7 +42,7 @@ def same_formula(first, second):
     edges, others = len(first.edges), len(second.edges)
     formula = Formula(edges + others)
     for net, before, behind in (first, 0, others), (second, edges, 0):
-        laws, shift = check.flow_formula(net, None), formula.variables - len(net.edges)
+        laws, shift = opinion.FlowFormula(net, None), formula.variables - len(net.edges)
 
         def variable(literal):
             number = abs(literal) + (before if abs(literal) <= len(net.edges) else shift)
@@ -70,10 +70,10 @@ def read_pair(nets, lines):
     for number, (word, count) in enumerate(zip(DIFFER, counts), 1):
         line = lines[number - 1] if number <= len(lines) else ""
         told, *values = line.split(" ")
-        reader = {"f": 0, "b": 1}.get if word == "mark" else check.fraction_of
+        reader = {"f": 0, "b": 1}.get if word == "mark" else opinion.fraction_of
         lists.append([reader(value) for value in values])
         need(told == word and len(values) == count and None not in lists[-1], 50, "CertLine", number)
-    check.nothing_after(lines, 8)
+    opinion.nothing_after(lines, 8)
     _, loads, rooms, *states, _ = lists
     return loads, rooms, states[:2], states[2:]
 
@@ -83,7 +83,7 @@ def check_pair(nets, pair):
     loads, rooms, *states = pair
     for name, net, (flows, marks) in zip(("first", "second"), nets, states):
         try:
-            for test, at, right in check.tests(net, None, loads, rooms, flows, marks):
+            for test, at, right in opinion.tests(net, None, loads, rooms, flows, marks):
                 need(right, 54, "NotBreaking", name, test, at)
         except Answer as found:
             raise Answer(found.status, found.text.replace("wide state", f"wide {name}").rstrip("\n")) from None
@@ -94,13 +94,13 @@ def check_pair(nets, pair):
 
 def check_same(text):
     """Ends with an Answer to two designs and a certificate."""
-    first, _, _, behind = check.read_design(text, None)
+    first, _, _, behind = opinion.read_design(text, opinion.Extras.NOTHING)
     text = text[behind:]
-    second, _, _, behind = check.read_design(text, None)
+    second, _, _, behind = opinion.read_design(text, opinion.Extras.NOTHING)
     need(all(first.counts[letter] == second.counts[letter] for letter in "io"), 47, "Ends")
-    lines = check.lines_of(text[behind:])
+    lines = opinion.lines_of(text[behind:])
     if lines[0] == "same":
-        check.check_steps(same_formula(first, second), "same", lines)
+        opinion.check_steps(same_formula(first, second), "same", lines)
         raise Answer(0, "same")
     check_pair((first, second), read_pair((first, second), lines))
     raise Answer(1, "differ")

@@ -20,7 +20,7 @@ from pathlib import Path
 
 sys.dont_write_bytecode = True
 
-import check
+import opinion
 
 EXAMPLES = Path(__file__).resolve().parent.parent / "examples"
 ONE, ROUNDS, NEAR, FEW = 1 << 40, 4000, 1 << 28, 10  # a belt of the slowest tier, and what counts as no difference
@@ -116,7 +116,7 @@ def state_of(net, loads, rooms):
 
 
 def passes(net, prop, loads, rooms, flows, backed):
-    return all(passed for _, _, passed in check.tests(net, prop, loads, rooms, flows, backed))
+    return all(passed for _, _, passed in opinion.tests(net, prop, loads, rooms, flows, backed))
 
 
 def loss(net, prop, loads, rooms, flows):
@@ -142,8 +142,8 @@ def whole_losses(net, prop):
     """How much is lost in each state found of loads and rooms of 0 and full that breaks the property."""
     inputs, outputs = ends_of(net)
     caps = [[net.edges[e].cap for e in edges] for edges in (inputs, outputs)]
-    for loads in choices(caps[0], prop in check.FULL_LOADS):
-        for rooms in choices(caps[1], prop in check.FULL_ROOMS):
+    for loads in choices(caps[0], prop in opinion.FULL_LOADS):
+        for rooms in choices(caps[1], prop in opinion.FULL_ROOMS):
             if len(inputs) + len(outputs) > FEW and len([*filter(None, loads)]) != len([*filter(None, rooms)]):
                 continue
             flows, backed = state_of(net, loads, rooms)
@@ -160,7 +160,7 @@ def others(net, loads, rooms):
 
 def fault(net, prop, lines):
     """What is wrong with a state, or nothing; and what is said of it."""
-    loads, rooms, flows, backed = check.read_state(net, prop, lines)
+    loads, rooms, flows, backed = opinion.read_state(net, prop, lines)
     if not passes(net, prop, loads, rooms, flows, backed):
         return "doesn't break the property", ""
     count, lost = others(net, loads, rooms), loss(net, prop, loads, rooms, flows)
@@ -175,8 +175,8 @@ def states(program):
     """Each example's name, network, property and the lines of the state in which it fails."""
     for path in sorted(EXAMPLES.glob("*.net")):
         text = path.read_text("latin-1")
-        net = check.read_design(text, False, True)[0]
-        for prop in check.PROPERTIES:
+        net = opinion.read_design(text, alone=True)[0]
+        for prop in opinion.PROPERTIES:
             beside = path.with_name(f"{path.stem}.not-{prop}")
             if not beside.exists():
                 continue
@@ -184,7 +184,7 @@ def states(program):
             if program:
                 run = subprocess.run([program, "decide", prop], input=text.encode("latin-1"), stdout=subprocess.PIPE, check=False)
                 said = run.stdout.decode("latin-1")
-            yield path.stem, net, prop, check.lines_of(said)
+            yield path.stem, net, prop, opinion.lines_of(said)
 
 
 def main():

@@ -5,7 +5,9 @@ import sys
 
 sys.dont_write_bytecode = True
 
+import ast
 import random
+import subprocess
 import unittest
 from collections import Counter
 from fractions import Fraction
@@ -16,7 +18,7 @@ from pathlib import Path
 HERE = Path(__file__).resolve().parent
 sys.path.insert(0, str(HERE))
 
-import check
+import opinion
 
 BELT = "net 1 1 0\nedge i0 o0\nend\n"
 SPLITTER = "net 2 2 1\nedge i0 s0\nedge i1 s0\nedge s0 o0\nedge s0 o1\nend\n"
@@ -53,7 +55,7 @@ MAP = """
 def run(words, data, **files):
     files = {name: text.encode() for name, text in files.items()}
     data = data if isinstance(data, bytes) else data.encode()
-    return check.run(words.split(), lambda most: data[:most], files.__getitem__)
+    return opinion.run(words.split(), lambda most: data[:most], files.__getitem__)
 
 
 def state(prop, loads, rooms, flows, marks):
@@ -104,16 +106,16 @@ class Numbers(unittest.TestCase):
     def test_one_spelling(self):
         most = 2 ** 127 - 1
         for word in ("0", "-3", "5/6", "-1/2", str(most), f"1/{most}"):
-            self.assertEqual(check.fraction_of(word), Fraction(word), word)
+            self.assertEqual(opinion.fraction_of(word), Fraction(word), word)
         for word in ("2/4", "3/1", "-0", "+1", "1/-2", "01", "1/0", "1/02", "0/2", "", "1/", str(most + 1), "1\n"):
-            self.assertIsNone(check.fraction_of(word), word)
+            self.assertIsNone(opinion.fraction_of(word), word)
 
     def test_sums_within_128_bits(self):
-        self.assertEqual(check.plus(Fraction(1, 2), Fraction(1, 3)), Fraction(5, 6))
-        self.assertEqual(check.plus(Fraction(1, 2 ** 126), Fraction(1, 2 ** 126)), Fraction(1, 2 ** 125))
+        self.assertEqual(opinion.plus(Fraction(1, 2), Fraction(1, 3)), Fraction(5, 6))
+        self.assertEqual(opinion.plus(Fraction(1, 2 ** 126), Fraction(1, 2 ** 126)), Fraction(1, 2 ** 125))
         for x, y in (Fraction(1, 2 ** 126), Fraction(1, 3)), (Fraction(2 ** 127 - 1), Fraction(1)):
-            self.assertRaises(OverflowError, check.plus, x, y)
-        self.assertRaises(OverflowError, check.plus, Fraction(0), Fraction(2 ** 126), 2)
+            self.assertRaises(OverflowError, opinion.plus, x, y)
+        self.assertRaises(OverflowError, opinion.plus, Fraction(0), Fraction(2 ** 126), 2)
 
 
 class States(unittest.TestCase):
@@ -194,8 +196,8 @@ class Networks(unittest.TestCase):
 
 class Formulas(unittest.TestCase):
     def test_one_belt(self):
-        net = check.read_net(BELT, False)[0]
-        formula = check.flow_formula(net, "unlimited")
+        net = opinion.read_net(BELT)[0]
+        formula = opinion.FlowFormula(net, "unlimited")
         self.assertEqual(formula.variables, 17)
         self.assertEqual(formula.clauses, [[2], [3], [4], [5], [6], [7], [8, 9], [10, 11], [12, 13], [14], [1, 10],
                                            [15], [-1, 12], [16], [17]])
@@ -203,19 +205,19 @@ class Formulas(unittest.TestCase):
                 11: ([(0, -1), (1, 1)], ">", 0), 12: ([(0, 1), (2, -1)], ">=", 0), 14: ([(0, -1), (1, 1)], ">=", 0),
                 16: ([(0, -1), (1, 1)], ">", 0), 17: ([(0, -1), (2, 1)], ">", 0)}
         self.assertEqual({variable: formula.rows[variable] for variable in rows}, rows)
-        balanced = check.flow_formula(net, "balanced")
+        balanced = opinion.FlowFormula(net, "balanced")
         self.assertEqual((balanced.variables, len(balanced.clauses), balanced.clauses[-1]), (16, 15, []))
 
     def test_caps_and_priorities(self):
-        express = check.flow_formula(check.read_net(EXPRESS, False)[0], "full")
+        express = opinion.FlowFormula(opinion.read_net(EXPRESS)[0], "full")
         even = [clause for clause in express.clauses if clause[0] in (2, 3)]
         self.assertEqual([len(clause) for clause in even], [3, 2])
-        first = check.flow_formula(check.read_net(FIRST, False)[0], "full")
+        first = opinion.FlowFormula(opinion.read_net(FIRST)[0], "full")
         enough = next(v for v, row in first.rows.items() if row == ([(2, -1)], ">=", 0))
         full = next(v for v, row in first.rows.items() if row == ([(1, 1)], ">=", 1))
         self.assertIn([2, full, enough], first.clauses)
         self.assertIn([enough, enough + 1], first.clauses)
-        taken = check.flow_formula(check.read_net(TAKEN, False)[0], "full")
+        taken = opinion.FlowFormula(opinion.read_net(TAKEN)[0], "full")
         self.assertEqual(sum(clause[0] == -1 and len(clause) == 3 for clause in taken.clauses), 2)
 
 
@@ -227,8 +229,8 @@ class Formulas(unittest.TestCase):
             return {">=": value >= bound, ">": value > bound, "=": value == bound}[relation]
         chance, met = random.Random(1), Counter()
         for text, prop, loads, rooms, flows, marks in BREAKING:
-            net = check.read_net(text, False)[0]
-            formula = check.flow_formula(net, prop)
+            net = opinion.read_net(text)[0]
+            formula = opinion.FlowFormula(net, prop)
             for turn in range(150):
                 lists = [[Fraction(word) for word in words.split()] for words in (loads, rooms, flows)]
                 backed = [mark == "b" for mark in marks.split()]
@@ -240,7 +242,7 @@ class Formulas(unittest.TestCase):
                 true = {n + 1 for n, mark in enumerate(backed) if mark}
                 true |= {variable for variable, row in formula.rows.items() if holds(row, columns)}
                 meets = all(any((literal > 0) == (abs(literal) in true) for literal in c) for c in formula.clauses)
-                breaks = all(passed for _, _, passed in check.tests(net, prop, *lists, backed))
+                breaks = all(passed for _, _, passed in opinion.tests(net, prop, *lists, backed))
                 self.assertEqual(meets, breaks, (text, prop, lists, backed))
                 met[meets] += 1
         self.assertGreater(met[True], 3 * len(BREAKING))
@@ -427,9 +429,10 @@ class Layouts(unittest.TestCase):
 
     def test_same_but_for_names(self):
         def net(text):
-            return check.read_net(text, False)[0]
+            return opinion.read_net(text)[0]
         def same(one, other):
-            return check.same((one, other), [{end: end[0] for k in "ios" for end in n.ends(k)} for n in (one, other)])
+            colours = [{end: end[0] for k in "ios" for end in n.ends(k)} for n in (one, other)]
+            return opinion.are_alike((one, other), colours)
         renamed = BUTTERFLY.translate(str.maketrans("0123", "3120"))
         renamed = "net 4 4 4" + renamed[9:]
         self.assertTrue(same(net(BUTTERFLY), net(renamed)))
@@ -449,12 +452,45 @@ class Words(unittest.TestCase):
             self.assertEqual(run(words, BELT), (2, "usage\n"), words)
 
     def test_too_long(self):
-        self.assertEqual(check.run(["recover"], lambda most: b" " * most, None), (11, "too long\n"))
+        self.assertEqual(opinion.run(["recover"], lambda most: b" " * most, None), (11, "too long\n"))
 
     def test_no_file(self):
         def gone(path):
             raise FileNotFoundError(path)
-        self.assertEqual(check.run(["none", "formula"], lambda most: b"", gone), (6, ""))
+        self.assertEqual(opinion.run(["none", "formula"], lambda most: b"", gone), (6, ""))
+
+    def test_as_a_command(self):
+        command, before = [sys.executable, str(HERE / "check.py")], set(HERE.rglob("*.pyc"))
+        ran = subprocess.run([*command, "recover"], input=BELT.encode(), capture_output=True, check=False)
+        self.assertEqual((ran.returncode, ran.stdout), (0, BELT.encode()))
+        ran = subprocess.run([*command, "none", "."], input=b"none\n", capture_output=True, check=False)
+        self.assertEqual((ran.returncode, ran.stdout, ran.stderr), (6, b"", b""))
+        self.assertEqual(set(HERE.rglob("*.pyc")), before)
+
+    def test_options(self):
+        one, written = blueprint(belt(0, 0, 2)), []
+        def asked(path):
+            written.append(path)
+            return BELT.encode()
+        for words in ("--grid 1x1 request", "--grid=1x1 request", "--grid=1x1 --tier=basic request",
+                      "--grid 1x1 --tier basic request", "--grid 1x1 --tier", "--grid 1x1 --tier=basic"):
+            answer = opinion.run(["laid", *words.split()], lambda most: one.encode(), asked)
+            self.assertEqual(answer, (0, "laid\n"), words)
+        self.assertEqual(written, ["request"] * 4 + ["--tier", "--tier=basic"])
+        for words in ("--grid", "--grid=", "1x1", "--grid 1x1 --tier basic", "--grid 1x1 a b",
+                      "--tier basic --grid 1x1 a"):
+            self.assertEqual(run(f"laid {words}", BELT), (2, "usage\n"), words)
+
+
+class Form(unittest.TestCase):
+    def test_readable(self):
+        """Of the modules that are read by those who trust nothing: short lines, and words for each function."""
+        for path in (HERE / "check.py", *sorted((HERE / "opinion").glob("*.py"))):
+            text = path.read_text(encoding="utf-8")
+            self.assertLessEqual(max(map(len, text.splitlines())), 100, path.name)
+            for node in ast.walk(ast.parse(text)):
+                if isinstance(node, ast.FunctionDef) and node.name not in ("__init__", "main"):
+                    self.assertTrue(ast.get_docstring(node), f"{path.name}: {node.name}")
 
 
 if __name__ == "__main__":

@@ -7,12 +7,12 @@ from pathlib import Path
 sys.dont_write_bytecode = True
 sys.path.insert(0, str(Path(__file__).resolve().parent))
 
-import check
+import opinion
 import exhaust
 
 
 def request(*lines):
-    return check.read_request("\n".join([*lines, "end", ""]), 16, 16)
+    return opinion.read_request("\n".join([*lines, "end", ""]), 16, 16)
 
 
 class Listings(unittest.TestCase):

@@ -73,7 +73,7 @@ class Sameness(unittest.TestCase):
             net = same.thrown(chance, 2, 3)
             _, other = same.partner(chance, net)
             for each in net, other:
-                again = same.check.read_net(each.text() + "\n", None)[0]
+                again = same.opinion.read_net(each.text() + "\n", same.opinion.Extras.NOTHING)[0]
                 self.assertEqual((again.text(), again.counts["i"], again.counts["o"]), (each.text(), 2, 3))
 
 

@@ -7,7 +7,7 @@ from pathlib import Path
 sys.dont_write_bytecode = True
 sys.path.insert(0, str(Path(__file__).resolve().parent))
 
-import check
+import opinion
 import simplest
 
 FORK = "net 1 2 1\nedge i0 s0\nedge s0 o0\nedge s0 o1\ngive s0 1\nend\n"
@@ -15,8 +15,8 @@ SLOW = "net 1 2 1\nedge i0 s0 2\nedge s0 o0\nedge s0 o1 2\nend\n"
 
 
 def fault(text, prop, *lines):
-    net = check.read_design(text, False, True)[0]
-    return simplest.fault(net, prop, check.lines_of("\n".join([f"no {prop}", *lines, "end", ""])))
+    net = opinion.read_design(text, alone=True)[0]
+    return simplest.fault(net, prop, opinion.lines_of("\n".join([f"no {prop}", *lines, "end", ""])))
 
 
 class States(unittest.TestCase):
@@ -40,7 +40,7 @@ class States(unittest.TestCase):
         for text, prop, wanted in (
                 (FORK, "balanced", [1]), (FORK, "unlimited", []), (FORK, "full", []),
                 (SLOW, "balanced", []), (SLOW, "drawn-evenly", [])):
-            net = check.read_design(text, False, True)[0]
+            net = opinion.read_design(text, alone=True)[0]
             self.assertEqual([*simplest.whole_losses(net, prop)], wanted, (text, prop))
 
 

@@ -1,0 +1,34 @@
+"""A second opinion on what beltproof says, by Python's standard library alone.
+
+It was written from the formats and shares no code with the program. A text has one character for
+each byte. To be read in this order:
+
+    answers         verdicts and refusals
+    numbers, lines  exact fractions within 128 bits, and the lines of a text
+    networks        networks and their texts
+    json_text       JSON, and where it goes wrong
+    parts           the belts, underground pieces and splitters of a blueprint
+    recovery        the network that they show
+    designs         a network, by its text or by a blueprint
+    properties      the four properties
+    states          the laws of a steady state, and when a property fails in it
+    formula         the flow formula, which says the same in clauses and rows
+    certificates    steps that refute a formula
+    layouts         requests, and whether a blueprint lays one
+    words           the commands
+"""
+
+from opinion.answers import Answer, need
+from opinion.certificates import check_steps
+from opinion.designs import read_design
+from opinion.formula import FlowFormula, Formula
+from opinion.json_text import json_value
+from opinion.layouts import are_alike, lays, read_request
+from opinion.lines import lines_of, nothing_after
+from opinion.networks import WAYS, Edge, Extras, Net, Pin, read_net
+from opinion.numbers import fraction_of, plus
+from opinion.parts import BELT, ENTRANCE, EXIT, SIDES, SPLITTER, STEPS, Part, moved, parts_of
+from opinion.properties import FULL_LOADS, FULL_ROOMS, PROPERTIES
+from opinion.recovery import recover
+from opinion.states import read_state, tests
+from opinion.words import run

@@ -1,0 +1,30 @@
+"""Designs: a network text, or a blueprint in JSON, at the front of a text."""
+
+from opinion.answers import need
+from opinion.json_text import json_value
+from opinion.lines import past_blanks
+from opinion.networks import Extras, Read, read_net
+from opinion.parts import parts_of
+from opinion.recovery import recover
+
+
+def read_design(text, extras=Extras.PRIORITIES, alone=False):
+    """The network at the front of a text, and the place behind it and the blanks there.
+
+    What begins with a brace, behind blanks or not, is a blueprint, and all else a network text.
+    A design that stands alone has nothing but blanks behind it.
+    """
+    start = past_blanks(text, 0)
+    is_blueprint = text[start:start + 1] == "{"
+    if is_blueprint:
+        root, behind = json_value(text, start)
+        parts = parts_of(root, extras is Extras.PRIORITIES)
+        read = Read(recover(parts)[0], [], [], behind)
+    else:
+        read = read_net(text, extras)
+    rest = past_blanks(text, read.behind)
+    if alone and is_blueprint:
+        need(rest == len(text), 10, "Json", rest)
+    elif alone:
+        need(rest == len(text), 40, "NetLine", text.count("\n", 0, rest) + 1)
+    return read._replace(behind=rest)

@@ -1,0 +1,136 @@
+"""Placement: requests for layouts, and whether a blueprint lays one.
+
+A request is a network text with pins and blocked cells, and a rectangle of cells.
+"""
+
+from collections import Counter
+
+from opinion.answers import need
+from opinion.designs import read_design
+from opinion.networks import Extras
+from opinion.parts import cells_of, moved
+from opinion.recovery import recover
+
+MOST = 128  # edges, and splitters, of a request
+
+
+def read_request(text, width, height):
+    """The network of a request that may be laid out in a rectangle, its pins and blocks.
+
+    All its edges have the cap 1. A pin lies in the rectangle, and no end has two. A block lies
+    there too, once, and where no pin is.
+    """
+    net, pins, blocks, _ = read_design(text, Extras.PINS, True)
+    need(max(len(net.edges), net.counts["s"]) <= MOST, 41, "TooLarge")
+    for number, edge in enumerate(net.edges):
+        need(edge.cap == 1, 45, "Cap", number)
+    pinned = set()
+    for pin in pins:
+        need(is_inside(pin.cell, width, height) and pin.end not in pinned, 44, "Pin", pin.line)
+        pinned.add(pin.end)
+    taken = {pin.cell for pin in pins}
+    for block in blocks:
+        is_free = is_inside(block.cell, width, height) and block.cell not in taken
+        need(is_free, 46, "Block", block.line)
+        taken.add(block.cell)
+    return net, pins, blocks
+
+
+def is_inside(cell, width, height):
+    """Whether a cell lies in the rectangle whose north-western cell is (0, 0)."""
+    return 0 <= cell[0] < width and 0 <= cell[1] < height
+
+
+def lays(net, pins, blocks, width, height, tier, parts):
+    """Whether parts lay a request.
+
+    They lie inside the rectangle, off the blocks, and are of the tier. All ends are at the
+    border, those that are pinned at their pins, and the network is the request's.
+    """
+    shown, firsts, lasts = recover(parts)
+    wanted, found = names_of_pinned(net, shown, pins, firsts, lasts)
+    blocked = {block.cell for block in blocks}
+    return (
+        all(part.tier == tier for part in parts)
+        and all(
+            is_inside(cell, width, height) and cell not in blocked
+            for part in parts
+            for cell in cells_of(part)
+        )
+        and not any(is_inside(moved(p.cell, p.dir, -1), width, height) for p in firsts)
+        and not any(is_inside(moved(p.cell, p.dir), width, height) for p in lasts)
+        and are_alike((net, shown), (wanted, found))
+    )
+
+
+def names_of_pinned(net, shown, pins, firsts, lasts):
+    """Names of the ends of the network wanted, and of the one found, which must correspond.
+
+    An end is named by its letter, and where it is pinned by its cell too. So is the end that is
+    found there, if its part has the direction that the pin tells.
+    """
+    wanted, found = (
+        {end: end[0] for letter in "ios" for end in each.ends(letter)} for each in (net, shown)
+    )
+    for pin in pins:
+        letter = pin.end[0]
+        wanted[pin.end] = f"{letter}{pin.cell}"
+        for number, part in enumerate(firsts if letter == "i" else lasts):
+            if part.cell == pin.cell and pin.dir in (None, part.dir):
+                found[letter, number] = wanted[pin.end]
+    return wanted, found
+
+
+def are_alike(nets, colours):
+    """Whether two networks are the same but for the names of ends that share a colour.
+
+    `colours` has of either network the colour of each end. Ends of one colour are told apart by
+    what is near them. If some still share one, then each of the other network's is tried in the
+    place of one of them.
+    """
+    refined = refined_colours(nets, colours)
+    if refined is None:
+        return False
+    one, two = refined
+    counts = Counter(one.values())
+    shared = next((end for end, colour in one.items() if counts[colour] > 1), None)
+    if shared is None:
+        return have_same_edges(nets, refined)
+    return any(
+        are_alike(nets, ({**one, shared: -1}, {**two, other: -1}))
+        for other, colour in two.items()
+        if colour == one[shared]
+    )
+
+
+def refined_colours(nets, colours):
+    """Colours that also tell those before and after an end, and so on until no more are told.
+
+    None where the two networks have not the same colours as often.
+    """
+    kinds = 0
+    while kinds < len(set(colours[0].values())):
+        kinds, names = len(set(colours[0].values())), {}
+        colours = [finer_colours(net, each, names) for net, each in zip(nets, colours)]
+        if Counter(colours[0].values()) != Counter(colours[1].values()):
+            return None
+    return colours
+
+
+def finer_colours(net, colours, names):
+    """The colour of each end, by its own and those near it; `names` has those that were met."""
+    finer = {}
+    for end, colour in colours.items():
+        after = sorted(colours[net.edges[edge].target] for edge in net.outs[end])
+        before = sorted(colours[net.edges[edge].start] for edge in net.ins[end])
+        finer[end] = names.setdefault((colour, tuple(after), tuple(before)), len(names))
+    return finer
+
+
+def have_same_edges(nets, colours):
+    """Whether two networks have the same edges, where each colour is one end's and names it."""
+    one, two = (
+        sorted((colour[edge.start], colour[edge.target]) for edge in net.edges)
+        for net, colour in zip(nets, colours)
+    )
+    return one == two

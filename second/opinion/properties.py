@@ -1,0 +1,9 @@
+"""The four properties, and what each presumes of loads and rooms.
+
+A load is what an input may give, and a room what an output can take.
+"""
+
+PROPERTIES = ("balanced", "drawn-evenly", "unlimited", "full")
+FULL_LOADS = ("drawn-evenly", "full")  # of these all loads are at the caps
+FULL_ROOMS = ("balanced", "full")  # and of these all rooms
+EVEN = ("balanced", "drawn-evenly")  # these promise that all outputs, or inputs, carry the same
