@@ -1,17 +1,23 @@
 """The page of a report: one file that needs neither scripts nor a network."""
 
+import base64
+import hashlib
 from collections import Counter
+from dataclasses import dataclass
 from html import escape
 from pathlib import Path
 
 from . import files, states, strings
+from .answers import SETTLED
 from .files import counted
 from .flows import flows
-from .rows import LABELS
+from .rows import LABELS, Row
 from .states import KNOWN_AS, PROMISES, PROPERTIES
-from .work import DESIGN_JSON, NETWORK, ORIGINAL, SETTLED, SMALLER, SMALLER_STRING
+from .work import DESIGN_JSON, NETWORK, ORIGINAL, SMALLER, SMALLER_STRING
 
 HERE = Path(__file__).resolve().parent
+VOID = {"meta", "input"}
+"""The elements that have no content, and no end."""
 SIGNS = {"yes": "✓", "no": "✕"}
 PIXELS, MOST_PIXELS, PLENTY = 34, 46, 420
 """How wide a cell is on a large screen: more where the whole picture is small."""
@@ -26,12 +32,22 @@ MOST_IN_TABLE, MOST_IN_PAGE = 3, 24
 COLUMNS = ("design", "ends", "splitters", "cells", "tiers", *PROPERTIES, "seconds")
 
 
-def element(name, *content, **members):
+def element(name, /, *content, **members):
     """An element of HTML; its content is HTML already, the values of its members are not."""
     told = "".join(
         f' {key.rstrip("_").replace("_", "-")}="{escape(str(value))}"' for key, value in members.items() if value != ""
     )
-    return f"<{name}{told}>{''.join(map(str, content))}</{name}>"
+    return f"<{name}{told}>" + ("" if name in VOID else f"{''.join(map(str, content))}</{name}>")
+
+
+def page_id(row):
+    """The name of a design's page: no other element of the report has one like it."""
+    return f"d-{row.id()}"
+
+
+def link(row, name):
+    """A link to a file of a design's folder."""
+    return element("a", name, href=f"designs/{row.id()}/{name}")
 
 
 def shown(text):
@@ -41,9 +57,9 @@ def shown(text):
 
 def badge(told, prop=""):
     """A verdict."""
-    verdict = told["verdict"]
+    verdict = told.verdict
     kind = verdict if verdict in SIGNS else "withheld"
-    title = f"{prop}: {told.get('why') or verdict}" if prop else ""
+    title = f"{prop}: {told.why or verdict}" if prop else ""
     return element("span", f"{SIGNS.get(verdict, '–')} {LABELS[verdict]}", class_=f"verdict {kind}", title=title)
 
 
@@ -55,8 +71,13 @@ def tier_mark(tier):
     return element("span", tier, class_=f"tier {tier}")
 
 
-def spent_time(seconds):
-    return f"{seconds:.2f} s" if seconds >= 0.01 else "under 0.01 s"
+def spent_time(told):
+    """How long an answer took, of a processor and, where that is another time, by the clock."""
+    if told.processor is None:
+        return ""
+    processor = f"{told.processor:.2f} s" if told.processor >= 0.01 else "under 0.01 s"
+    apart = told.clock - told.processor > max(1, told.processor / 10)
+    return f"{processor} of a processor" + (f", {told.clock:.2f} s by the clock" if apart else "")
 
 
 def figure(picture, content, label, ruled=False):
@@ -73,12 +94,12 @@ def figure(picture, content, label, ruled=False):
 def thumb(row):
     """The small picture of a design."""
     picture, _ = row.picture
-    if picture is None:
+    if picture is None or not row.folder:
         return element("span", "–" if row.found.text is None or row.found.is_json() else "net", class_="thumb none")
     width, height = map(float, picture.view().split()[2:])
     scale = THUMB / max(width, height)
     size = {"width": round(width * scale), "height": round(height * scale)}
-    drawn = f'<use href="#p-{row.id()}"/>'
+    drawn = element("use", href=f"#p-{row.id()}")
     return element("span", element("svg", drawn, aria_hidden="true", viewBox=picture.view(), **size), class_="thumb")
 
 
@@ -100,7 +121,7 @@ def who(row, alone):
     first = row.same_as or row
     name = shown(row.found.label())
     if row.folder:
-        name = element("a", name, href=f"#{first.id()}")
+        name = element("a", name, href=f"#{page_id(first)}")
     same = note(f"the same design as {shown(first.found.name)}") if row.same_as else ""
     told = remarks(row, MOST_IN_TABLE)
     return element("div", thumb(first), element("div", name, same, where(row, alone), told), class_="who")
@@ -109,17 +130,17 @@ def who(row, alone):
 def table_row(row, alone):
     """A design's row of the table; whether all are from one file."""
     net, size, order = row.net, row.size(), list(LABELS)
-    seconds = sum(row.answer(prop).get("seconds", 0) for prop in PROPERTIES)
+    seconds = sum(row.answer(prop).processor or 0 for prop in PROPERTIES)
     cells = [
         (f"{net.inputs} → {net.outputs}", net.inputs * 10000 + net.outputs),
         (net.splitters, net.splitters),
         (f"{size[0]} × {size[1]}", size[0] * size[1]) if size else ("–", -1),
         (" ".join(map(tier_mark, row.tiers())) or "–", " ".join(row.tiers())),
-        *((badge(row.answer(prop), prop), order.index(row.answer(prop)["verdict"])) for prop in PROPERTIES),
+        *((badge(row.answer(prop), prop), order.index(row.answer(prop).verdict)) for prop in PROPERTIES),
         (f"{seconds:.1f}", seconds),
     ]
     words = [row.found.name, row.found.source, f"{net.inputs} to {net.outputs}", *row.tiers()]
-    words += [f"{prop}:{row.answer(prop)['verdict']}" for prop in PROPERTIES]
+    words += [f"{prop}:{row.answer(prop).verdict}" for prop in PROPERTIES]
     marks = ("bare", row.bare), ("opened", row.of_reading("opened")), ("warning", row.warning())
     words += [word for word, told in marks if told]
     head = element("th", who(row, alone), scope="row", data_sort=files.plain(row.found.name).lower())
@@ -154,21 +175,21 @@ def facts(row):
         told.append(("Others", ", ".join(f"{number} × {shown(name)}" for name, number in names.items())))
     told.append(("From", shown(row.found.source + (f", place {row.found.place}" if row.found.place else ""))))
     kept = [row.found.file(), *([ORIGINAL] if row.is_changed() else []), *([NETWORK] if net else [])]
-    told.append(("Files", ", ".join(element("a", name, href=f"designs/{row.id()}/{name}") for name in kept)))
-    told.append(("Digest", element("code", row.judged_digest()[:16])))
+    told.append(("Files", ", ".join(link(row, name) for name in kept)))
+    told.append(("Digest", element("code", shown(row.judged_digest()[:16]))))
     lines = (element("div", element("dt", key), element("dd", value)) for key, value in told)
     return element("dl", *lines, class_="facts")
 
 
 def about(row, told):
     """What there is to a verdict: the file that shows it, or why there is none."""
-    why = shown(told["why"]) if told.get("why") else ""
-    if not told.get("file"):
+    why = shown(told.why) if told.why else ""
+    if not told.file:
         return why
-    breaks = told["file"].startswith("not")
-    what = "breaking state" if breaks else f"certificate of {counted(told['steps'], 'step')}"
-    link = element("a", what, href=f"designs/{row.id()}/{told['file']}")
-    return link + (", accepted" if told["verdict"] in SETTLED else f". {why}")
+    breaks = told.file.startswith("not")
+    what = "breaking state" if breaks else f"certificate of {counted(told.steps, 'step')}"
+    leading = element("a", what, href=f"designs/{row.id()}/{told.file}")
+    return leading + (", accepted" if told.verdict in SETTLED else f". {why}")
 
 
 def verdicts(row):
@@ -176,7 +197,7 @@ def verdicts(row):
     lines = []
     for prop in PROPERTIES:
         told = row.answer(prop)
-        seconds = note(spent_time(told["seconds"])) if "seconds" in told else ""
+        seconds = note(spent_time(told)) if told.processor is not None else ""
         head = element("th", prop, note(KNOWN_AS[prop]), note(PROMISES[prop]), scope="row")
         lines.append(element("tr", head, element("td", badge(told)), element("td", about(row, told), " ", seconds)))
     return element("table", element("tbody", *lines), class_="verdicts")
@@ -219,14 +240,14 @@ def state_table(net, state):
 
 def breaking(row, prop):
     """The breaking state of a property: what it shows, drawn on the picture, and in full."""
-    text = row.folder.text(row.answer(prop)["file"])
+    text = row.folder.text(row.answer(prop).file)
     state, (picture, _) = states.read_state(text), row.picture
     content = [element("h3", "Why it isn’t ", element("em", prop))]
     content.append(element("p", escape(states.shown(prop, row.net, state))))
     if picture and picture.network:
         ends = {f"i{k}": load for k, load in enumerate(state.loads)}
         ends |= {f"o{k}": room for k, room in enumerate(state.rooms)}
-        below = f'<use class="below" href="#p-{row.id()}"/>'
+        below = element("use", class_="below", href=f"#p-{row.id()}")
         drawn = below + flows(picture, state, f"w-{row.id()}") + picture.ends(ends)
         content.append(figure(picture, drawn, f"{files.plain(row.found.name)}: a state that breaks {prop}"))
         content.append(legend("full belts" if len(row.tiers()) == 1 else "full basic belts"))
@@ -238,12 +259,12 @@ def breaking(row, prop):
 def smaller(row):
     """The smaller layout that was found: its size, its picture and its string; or why there is none."""
     told, heading = row.smaller, element("h3", "A smaller layout")
-    if told["verdict"] != "found":
-        return element("section", heading, element("p", shown(told["why"])), class_="smaller")
-    width, height = told["size"]
+    if told.verdict != "found":
+        return element("section", heading, element("p", shown(row.why_no_smaller())), class_="smaller")
+    width, height = told.size
     own = row.size()
     than = f", where the design has {own[0]} × {own[1]}, {counted(own[0] * own[1], 'cell')}" if own else ""
-    links = " and ".join(element("a", it, href=f"designs/{row.id()}/{it}") for it in (SMALLER, SMALLER_STRING))
+    links = " and ".join(link(row, it) for it in (SMALLER, SMALLER_STRING))
     said = element("p", f"{width} × {height}, {counted(width * height, 'cell')}{than}: ", links)
     picture = row.smaller_picture
     label = f"{files.plain(row.found.name)}, laid out smaller"
@@ -253,23 +274,27 @@ def smaller(row):
     return element("section", heading, said, drawn, string, class_="smaller")
 
 
-def page(row, before, after):
-    """A design's page, with the ways to those before and after it."""
+def ways(before, after):
+    """The ways from a design's page: to all, and to those before and after it."""
+    steps = (element("a", word, href=f"#{page_id(it)}") for word, it in (("previous", before), ("next", after)) if it)
+    return element("nav", element("a", "← All designs", href="#all"), element("span", *steps))
+
+
+def page(row):
+    """What a design's page tells."""
     picture, lack = row.picture
-    steps = (element("a", word, href=f"#{it.id()}") for word, it in (("previous", before), ("next", after)) if it)
-    ways = element("nav", element("a", "← All designs", href="#all"), element("span", *steps))
     name = row.found.name.replace("/", " / ") if row.found.books else row.found.name
     refused = element("p", shown(row.reason()), class_="refused") if row.reason() else ""
     drawn = ""
     if picture:
         label = f"{files.plain(row.found.name)}, drawn from its parts"
-        drawn = figure(picture, f'<use href="#p-{row.id()}"/>{picture.ends()}', label, ruled=True)
+        drawn = figure(picture, element("use", href=f"#p-{row.id()}") + picture.ends(), label, ruled=True)
         drawn += marks_legend(row)
     drawn += note(shown(lack)) if lack else ""
     told = facts(row) + (verdicts(row) if row.net else "")
     small = not picture or picture.box[2] <= WIDEST_BESIDE
     both = element("div", element("div", drawn), element("div", told), class_="two" if small else "one")
-    noes = [prop for prop in PROPERTIES if row.net and row.answer(prop)["verdict"] == "no"]
+    noes = [prop for prop in PROPERTIES if row.net and row.answer(prop).verdict == "no"]
     shows = element("div", *(breaking(row, prop) for prop in noes), class_="states") if noes else ""
     string = ""
     if row.found.is_json():
@@ -280,8 +305,7 @@ def page(row, before, after):
         string = element("details", summary, element("code", strings.deflate(text), class_="string"))
     less = smaller(row) if row.smaller else ""
     told = remarks(row, MOST_IN_PAGE)
-    content = ways, element("h2", shown(name)), refused, told, both, shows, less, string
-    return element("article", *content, class_="page", id=row.id())
+    return "".join((element("h2", shown(name)), refused, told, both, shows, less, string))
 
 
 def summary(rows):
@@ -289,7 +313,7 @@ def summary(rows):
     with_network = [row for row in rows if row.net]
     tiles = [(len(rows), "found"), (len(with_network), "with a network")]
     for prop in PROPERTIES:
-        number = sum(row.answer(prop)["verdict"] == "yes" for row in with_network)
+        number = sum(row.answer(prop).verdict == "yes" for row in with_network)
         tiles.append((f"{number}{element('small', f' of {len(with_network)}')}", prop))
     return element(
         "ul", *(element("li", element("strong", it), element("span", word)) for it, word in tiles), class_="tiles"
@@ -301,32 +325,58 @@ CERTIFICATES = (
     "blocking, without trust in its author or in this program, by checking it with a program of their own."
 )
 
-SEARCH = (
-    '<p class="search" hidden><label for="words">Search</label><input id="words" type="search" autocomplete="off" '
-    'placeholder="words, or unlimited:no"><output id="left" for="words"></output></p>'
+SEARCH = element(
+    "p",
+    element("label", "Search", for_="words"),
+    element("input", id="words", type="search", autocomplete="off", placeholder="words, or unlimited:no"),
+    element("output", id="left", for_="words"),
+    class_="search",
+    hidden="hidden",
 )
 
 
-def front(rows, title, program):
+@dataclass(frozen=True)
+class Shown:
+    """A design as the page has it: its row of a table, what its page tells, and its picture's shapes."""
+
+    row: Row
+    line: str
+    page: str = ""
+    shapes: str = ""
+
+
+def show(row, alone):
+    """A design as the page has it; whether all are from one file."""
+    if not row.net:
+        line = refused_row(row, alone)
+    else:
+        line = table_row(row, alone)
+    if not row.folder or row.same_as:
+        return Shown(row, line)
+    picture, _ = row.picture
+    shapes = element("g", picture.parts(f"w-{row.id()}"), id=f"p-{row.id()}") if picture else ""
+    return Shown(row, line, page(row), shapes)
+
+
+def front(designs, title, program):
     """The first page: the table of all designs, and what has no network."""
-    alone = len({row.found.source for row in rows}) == 1
     head = element("tr", *(element("th", it, scope="col", title=KNOWN_AS.get(it, "")) for it in COLUMNS))
-    lines = (table_row(row, alone) for row in rows if row.net)
+    lines = (it.line for it in designs if it.row.net)
     table = element("table", element("thead", head), element("tbody", *lines), class_="designs", id="designs")
     promises = (
         element("div", element("dt", prop), element("dd", element("em", KNOWN_AS[prop]), f": {words}"))
         for prop, words in PROMISES.items()
     )
-    content = [element("header", element("h1", shown(title)), summary(rows))]
+    content = [element("header", element("h1", shown(title)), summary([it.row for it in designs]))]
     content += [element("dl", *promises, class_="promises"), SEARCH, element("div", table, class_="wide")]
-    others = [refused_row(row, alone) for row in rows if not row.net]
+    others = [it.line for it in designs if not it.row.net]
     if others:
         table = element("table", element("tbody", *others), class_="others")
         content.append(element("section", element("h2", "Without a network"), table))
     words = (
         "Every yes has a certificate and every no a steady state in which the property fails, and ",
         element("code", "beltproof check"),
-        f" has accepted each. Program {element('code', program[:16])}. The results are in ",
+        f" has accepted each. Program {element('code', shown(program[:16]))}. The results are in ",
         element("a", "results.tsv", href="results.tsv"),
         ", one line for each design and property.",
     )
@@ -334,19 +384,31 @@ def front(rows, title, program):
     return element("main", *content, foot, id="all", class_="front")
 
 
-def whole(rows, title, program):
+def policy(script):
+    """What the page may do: it loads nothing, and runs this script alone."""
+    digest = base64.b64encode(hashlib.sha256(script.encode()).digest()).decode()
+    allowed = f"default-src 'none'; style-src 'unsafe-inline'; script-src 'sha256-{digest}'; base-uri 'none'"
+    return element("meta", http_equiv="Content-Security-Policy", content=f"{allowed}; form-action 'none'")
+
+
+def whole(designs, title, program):
     """The whole page."""
-    own = [row for row in rows if row.folder and not row.same_as]
-    drawn = [(row.id(), row.picture[0]) for row in own if row.picture[0]]
-    store = "".join(f'<g id="p-{name}">{picture.parts(f"w-{name}")}</g>' for name, picture in drawn)
-    pages = (page(row, before, after) for before, row, after in zip([None, *own], own, [*own[1:], None]))
+    own = [it for it in designs if it.page]
+    around = zip([None, *own], own, [*own[1:], None])
+    pages = (
+        element("article", ways(before and before.row, after and after.row), it.page, class_="page", id=page_id(it.row))
+        for before, it, after in around
+    )
     style, script = ((HERE / name).read_text("utf-8") for name in ("report.css", "report.js"))
     head = (
-        '<meta charset="utf-8"><meta name="viewport" content="width=device-width, initial-scale=1">'
-        '<meta name="color-scheme" content="light dark">',
+        element("meta", charset="utf-8"),
+        policy(script),
+        element("meta", name="viewport", content="width=device-width, initial-scale=1"),
+        element("meta", name="color-scheme", content="light dark"),
         element("title", escape(files.plain(title))),
         element("style", style),
     )
-    shapes = element("svg", element("defs", store), class_="store", width="0", height="0", aria_hidden="true")
-    body = element("body", shapes, front(rows, title, program), *pages, element("script", script))
+    shapes = element("defs", *(it.shapes for it in designs))
+    store = element("svg", shapes, class_="store", width="0", height="0", aria_hidden="true")
+    body = element("body", store, front(designs, title, program), *pages, element("script", script))
     return f"<!DOCTYPE html>\n{element('html', element('head', *head), body, lang='en')}\n"
