@@ -26,6 +26,9 @@ SMALLER, SMALLER_STRING, SMALLER_NETWORK = "smaller.json", "smaller.txt", "small
 """A smaller blueprint, the string to paste of it, and the network that is recovered from it."""
 REFUSED = 3
 """The program's status where it refuses a design."""
+FIRST_LEARNT, TIMES_LEARNT, DEFAULT_LEARNT = 500, 4, 100_000
+"""The steps of the first search where the time is bounded, how many times as many the next one has, and the program's own
+bound."""
 GRID = re.compile(rb"grid (\d{1,9})x(\d{1,9})")
 FAILED = -1
 """What stands for its status where it gave no answer."""
@@ -199,6 +202,29 @@ def spent_on(ended):
     return {"processor": round(ended.processor, 3), "clock": round(ended.clock, 3)}
 
 
+def rounds(limits):
+    """The words for one search after the other: with more and more steps where the time is bounded, else one alone."""
+    if limits.seconds is None:
+        return [limits.words_to_find()]
+    most, steps = DEFAULT_LEARNT if limits.learnt is None else limits.learnt, FIRST_LEARNT
+    found = []
+    while steps < most:
+        found.append(["--learnt", str(steps)])
+        steps *= TIMES_LEARNT
+    return [*found, ["--learnt", str(most)]]
+
+
+@dataclass
+class Spent:
+    """What several runs took, in seconds of a processor and by the clock."""
+
+    processor: float = 0
+    clock: float = 0
+
+    def add(self, ended):
+        self.processor, self.clock = self.processor + ended.processor, self.clock + ended.clock
+
+
 class NoAnswer(Exception):
     """How a run ended that has no answer."""
 
@@ -360,24 +386,36 @@ class Worker:
         return told
 
     def shrink_anew(self, folder, answer):
+        """Looks for a smaller layout; where the time is bounded, with more and more steps, so that what was found stands
+        when the time is up."""
         for name in (SMALLER, SMALLER_STRING):
             folder.file(name).unlink(missing_ok=True)
-        tier = tier_words(folder.design_file().read_text("utf-8", "replace"))
+        tier, found, spent, told = tier_words(folder.text(folder.design_file().name)), None, Spent(), None
+        for steps in rounds(self.limits):
+            left = self.limits.seconds and max(0.001, self.limits.seconds - spent.clock)
+            told = self.look(folder, answer, [*tier, *steps], left, spent)
+            if told.verdict == "found":
+                found = told
+            elif told.verdict != "none":
+                break
+        told = found if found and told.verdict in ("late", "none") else told
+        return replace(told, processor=round(spent.processor, 3), clock=round(spent.clock, 3), limits=self.limits.told())
+
+    def look(self, folder, answer, words, seconds, spent):
+        """Looks for a smaller layout once, with these words and for so many seconds."""
         with open(answer, "wb") as out:
-            words = ["smallest", "--found", *tier, *self.limits.words_to_find()]
-            ended = self.program.run(words, [folder.design_file()], out, self.limits.seconds)
+            ended = self.program.run(["smallest", "--found", *words], [folder.design_file()], out, seconds)
+        spent.add(ended)
         line = first_line(answer)
         if ended.late:
-            told = Smaller("late", f"the time was up after {self.limits.seconds:g} seconds by the clock")
-        elif ended.status == 0 and line:
-            told = self.keep_smaller(folder, answer)
-        elif ended.status == 4 and word_of(line, 1).isdigit():
-            told = Smaller("none", f"none was found in {word_of(line, 1)} steps")
-        elif ended.status in EXACT_STATUSES and line:
-            told = Smaller("refused", line)
-        else:
-            told = Smaller("failed", line or how_it_ended(ended))
-        return replace(told, **spent_on(ended), limits=self.limits.told())
+            return Smaller("late", f"the time was up after {self.limits.seconds:g} seconds by the clock")
+        if ended.status == 0 and line:
+            return self.keep_smaller(folder, answer)
+        if ended.status == 4 and word_of(line, 1).isdigit():
+            return Smaller("none", f"none was found in {word_of(line, 1)} steps")
+        if ended.status in EXACT_STATUSES and line:
+            return Smaller("refused", line)
+        return Smaller("failed", line or how_it_ended(ended))
 
     def keep_smaller(self, folder, answer):
         """Keeps a smaller blueprint and its string, where its network has the sizes of the design's."""

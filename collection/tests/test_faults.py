@@ -1,12 +1,13 @@
 """What others wrote, or left half done, spoils neither the page nor the rest of the report."""
 
+import io
 import json
 import os
 import random
 import subprocess
 import sys
 
-from .. import answers, books, files, inputs, picture, refusals, report
+from .. import answers, books, files, inputs, picture, progress, refusals, report
 from ..design import read
 from ..rows import Row
 from ..work import Folder
@@ -154,6 +155,26 @@ class Programs(Case):
             self.assertLess(float(it["processor_seconds"]), 1)
             self.assertGreater(float(it["clock_seconds"]), 1.4)
         self.assertIn("s by the clock", (self.report / "index.html").read_text())
+
+    def test_what_was_found_stands_when_the_time_is_up(self):
+        small = blueprint(belt(0, 0))
+        net = 'case $1$6 in recover) printf "net 1 1 0\\nedge i0 o0\\nend\\n";; '
+        search = "smallest500 | smallest2000) printf 'grid 1x1\\n%s\\n' '" + small + "';; smallest*) exec sleep 60;; "
+        self.told(net + search + "*) exit 4;; esac", "--smaller", "--seconds", 3)
+        (line,) = [it for it in self.results() if it["property"] == "smaller"]
+        self.assertEqual((line["verdict"], line["why"]), ("found", "1 x 1"))
+        self.assertGreater(float(line["clock_seconds"]), 1)
+
+    def test_progress_is_told_where_there_is_no_terminal(self):
+        now, told = [0.0], io.StringIO()
+        line = progress.Progress(4, told, lambda: now[0])
+        line.running[1] = "a\x1b[1m full"
+        for now[0] in (0.5, 9.9, 10, 15, 19.9, 20.5):
+            line.done = int(now[0]) // 10
+            line.draw()
+        line.end()
+        lines = ["1 done, 3 to do, some 0:30 left", "2 done, 2 to do, some 0:20 left"]
+        self.assertEqual(told.getvalue(), "".join(f"collection: {it}: a\\u001b[1m full\n" for it in lines))
 
     def test_a_plan_of_which_only_a_part_is_read(self):
         for k in range(300):
