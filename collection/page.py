@@ -2,12 +2,13 @@
 
 import base64
 import hashlib
+import zlib
 from collections import Counter
 from dataclasses import dataclass
 from html import escape
 from pathlib import Path
 
-from . import files, states, strings
+from . import files, labels, states, strings
 from .answers import SETTLED
 from .files import counted
 from .flows import flows
@@ -29,7 +30,10 @@ THUMB = 60
 """How wide and how high the small picture in the table is at most."""
 MOST_IN_TABLE, MOST_IN_PAGE = 3, 24
 """How many bare halves a sentence names at most, in the table and on a design's own page."""
-COLUMNS = ("design", "ends", "splitters", "cells", "tiers", *PROPERTIES, "seconds")
+SOMETIMES = ("bare", "smaller", "seconds")
+"""The columns of the table that are there where at least one design has something in them."""
+LEAST_SECONDS = 0.05
+"""So long the decisions on a design take at least where the table tells their time."""
 
 
 def element(name, /, *content, **members):
@@ -53,6 +57,11 @@ def link(row, name):
 def shown(text):
     """A text that others wrote, as HTML."""
     return f"<bdi>{escape(files.plain(text))}</bdi>"
+
+
+def named(text):
+    """A label as HTML, with the game's marks as words."""
+    return shown(labels.in_words(text))
 
 
 def badge(told, prop=""):
@@ -100,7 +109,8 @@ def thumb(row):
     scale = THUMB / max(width, height)
     size = {"width": round(width * scale), "height": round(height * scale)}
     drawn = element("use", href=f"#p-{row.id()}")
-    return element("span", element("svg", drawn, aria_hidden="true", viewBox=picture.view(), **size), class_="thumb")
+    drawn = element("svg", drawn, aria_hidden="true", viewBox=picture.view(), **size)
+    return element("span", drawn, class_="thumb", data_of=f"k-{row.id()}")
 
 
 def where(row, alone):
@@ -119,43 +129,58 @@ def remarks(row, most):
 def who(row, alone):
     """A design's name with its small picture, leading to its page."""
     first = row.same_as or row
-    name = shown(row.found.label())
+    name = named(row.found.label())
     if row.folder:
         name = element("a", name, href=f"#{page_id(first)}")
-    same = note(f"the same design as {shown(first.found.name)}") if row.same_as else ""
+    same = note(f"the same design as {named(first.found.name)}") if row.same_as else ""
     told = remarks(row, MOST_IN_TABLE)
     return element("div", thumb(first), element("div", name, same, where(row, alone), told), class_="who")
 
 
-def table_row(row, alone):
-    """A design's row of the table; whether all are from one file."""
+def cells_of(row):
+    """What the table tells of a design: of each column what is shown, and by what it is sorted."""
     net, size, order = row.net, row.size(), list(LABELS)
     seconds = sum(row.answer(prop).processor or 0 for prop in PROPERTIES)
-    cells = [
-        (f"{net.inputs} → {net.outputs}", net.inputs * 10000 + net.outputs),
-        (net.splitters, net.splitters),
-        (f"{size[0]} × {size[1]}", size[0] * size[1]) if size else ("–", -1),
-        (" ".join(map(tier_mark, row.tiers())) or "–", " ".join(row.tiers())),
-        *((badge(row.answer(prop), prop), order.index(row.answer(prop).verdict)) for prop in PROPERTIES),
-        (f"{seconds:.1f}", seconds),
-    ]
-    words = [row.found.name, row.found.source, f"{net.inputs} to {net.outputs}", *row.tiers()]
-    words += [f"{prop}:{row.answer(prop).verdict}" for prop in PROPERTIES]
+    less = row.smaller.size[0] * row.smaller.size[1] if row.smaller and row.smaller.verdict == "found" else 0
+    area = size[0] * size[1] if size else 0
+    return {
+        "ends": (f"{net.inputs} → {net.outputs}", net.inputs * 10000 + net.outputs),
+        "bare": (len(row.bare) or "", len(row.bare)),
+        "splitters": (net.splitters, net.splitters),
+        "cells": (f"{size[0]} × {size[1]}", area) if size else ("–", -1),
+        "tiers": (" ".join(map(tier_mark, row.tiers())) or "–", " ".join(row.tiers())),
+        **{it: (badge(row.answer(it), it), order.index(row.answer(it).verdict)) for it in PROPERTIES},
+        "smaller": (f"{area} → {less} cells", less - area) if less else ("", 0),
+        "seconds": (f"{seconds:.1f}" if seconds >= LEAST_SECONDS else "", seconds),
+    }
+
+
+def sought(row, words, **more):
+    """By what a row of a table is found: the design's own words, and apart those of the books and the file around it."""
+    own = files.plain(" ".join([row.found.label(), *words])).lower()
+    around = files.plain(f"{row.found.books} {row.found.source}").lower()
+    return {"data_words": own, "data_around": around, **more}
+
+
+def table_row(row, alone, columns):
+    """A design's row of the table, with these columns; whether all are from one file."""
+    net, verdicts_ = row.net, [f"{prop}:{row.answer(prop).verdict}" for prop in PROPERTIES]
     marks = ("bare", row.bare), ("opened", row.of_reading("opened")), ("warning", row.warning())
-    words += [word for word, told in marks if told]
+    words = [*row.tiers(), *verdicts_, *(word for word, told in marks if told)]
+    told = {"data_ends": f"{net.inputs}-{net.outputs}", "data_tiers": " ".join(row.tiers())}
+    told |= {"data_verdicts": " ".join(verdicts_), "data_page": page_id(row.same_as or row)}
     head = element("th", who(row, alone), scope="row", data_sort=files.plain(row.found.name).lower())
-    rest = (
-        element("td", content, data_label=label, data_sort=sort) for label, (content, sort) in zip(COLUMNS[1:], cells)
-    )
-    return element("tr", head, *rest, data_words=files.plain(" ".join(words)).lower())
+    cells = cells_of(row)
+    rest = (element("td", cells[it][0], data_label=it, data_sort=cells[it][1]) for it in columns)
+    return element("tr", head, *rest, **sought(row, words, **told))
 
 
 def refused_row(row, alone):
     """A row for what has no network; whether all are from one file."""
     reason = row.reason() or "not read yet"
-    words = f"{row.found.name} {row.found.source} {reason}"
     head = element("th", who(row, alone), scope="row")
-    return element("tr", head, element("td", shown(reason)), data_words=files.plain(words).lower())
+    told = {"data_page": page_id(row.same_as or row)} if row.folder else {}
+    return element("tr", head, element("td", shown(reason)), **sought(row, [reason], **told))
 
 
 def facts(row):
@@ -274,10 +299,9 @@ def smaller(row):
     return element("section", heading, said, drawn, string, class_="smaller")
 
 
-def ways(before, after):
-    """The ways from a design's page: to all, and to those before and after it."""
-    steps = (element("a", word, href=f"#{page_id(it)}") for word, it in (("previous", before), ("next", after)) if it)
-    return element("nav", element("a", "← All designs", href="#all"), element("span", *steps))
+WAYS = element("nav", element("a", "← All designs", href="#all"), element("span"))
+"""The ways from a design's page: to all, and to those before and after it, which the order of the table tells."""
+UNDRAWN = "Without scripts no picture is drawn here and no design’s page; the verdicts are below, and all files in designs/."
 
 
 def page(row):
@@ -304,8 +328,9 @@ def page(row):
         summary = element("summary", f"Blueprint string, to paste into the game{what}")
         string = element("details", summary, element("code", strings.deflate(text), class_="string"))
     less = smaller(row) if row.smaller else ""
+    described = element("p", named(row.description()), class_="described") if row.description() else ""
     told = remarks(row, MOST_IN_PAGE)
-    return "".join((element("h2", shown(name)), refused, told, both, shows, less, string))
+    return "".join((element("h2", named(name)), described, refused, told, both, shows, less, string))
 
 
 def summary(rows):
@@ -328,7 +353,8 @@ CERTIFICATES = (
 SEARCH = element(
     "p",
     element("label", "Search", for_="words"),
-    element("input", id="words", type="search", autocomplete="off", placeholder="words, or unlimited:no"),
+    element("input", id="words", type="search", autocomplete="off", placeholder="4 to 4, words, or unlimited:no"),
+    element("span", id="filters"),
     element("output", id="left", for_="words"),
     class_="search",
     hidden="hidden",
@@ -337,31 +363,41 @@ SEARCH = element(
 
 @dataclass(frozen=True)
 class Shown:
-    """A design as the page has it: its row of a table, what its page tells, and its picture's shapes."""
+    """A design as the page has it: which columns of the table it has something in, what its page tells, and its
+    picture's shapes."""
 
     row: Row
-    line: str
+    columns: set
     page: str = ""
     shapes: str = ""
 
 
 def show(row, alone):
     """A design as the page has it; whether all are from one file."""
-    if not row.net:
-        line = refused_row(row, alone)
-    else:
-        line = table_row(row, alone)
+    cells = cells_of(row) if row.net else {}
+    columns = {it for it, (content, _) in cells.items() if content != ""}
+    table_row(row, alone, cells) if row.net else refused_row(row, alone)
     if not row.folder or row.same_as:
-        return Shown(row, line)
+        return Shown(row, columns)
     picture, _ = row.picture
     shapes = element("g", picture.parts(f"w-{row.id()}"), id=f"p-{row.id()}") if picture else ""
-    return Shown(row, line, page(row), shapes)
+    return Shown(row, columns, page(row), shapes)
+
+
+def packed(text):
+    """HTML as the page keeps it until it is shown: compressed with zlib, in base64."""
+    return base64.b64encode(zlib.compress(text.encode(), 9)).decode()
 
 
 def front(designs, title, program):
     """The first page: the table of all designs, and what has no network."""
-    head = element("tr", *(element("th", it, scope="col", title=KNOWN_AS.get(it, "")) for it in COLUMNS))
-    lines = (it.line for it in designs if it.row.net)
+    alone = len({it.row.found.source for it in designs}) == 1
+    there = set().union(*(it.columns for it in designs))
+    columns = ["ends", "bare", "splitters", "cells", "tiers", *PROPERTIES, "smaller", "seconds"]
+    columns = [it for it in columns if it in there or it not in SOMETIMES]
+    titles = (element("th", it, scope="col", title=KNOWN_AS.get(it, "")) for it in ("design", *columns))
+    head = element("tr", *titles)
+    lines = (table_row(it.row, alone, columns) for it in designs if it.row.net)
     table = element("table", element("thead", head), element("tbody", *lines), class_="designs", id="designs")
     promises = (
         element("div", element("dt", prop), element("dd", element("em", KNOWN_AS[prop]), f": {words}"))
@@ -369,7 +405,7 @@ def front(designs, title, program):
     )
     content = [element("header", element("h1", shown(title)), summary([it.row for it in designs]))]
     content += [element("dl", *promises, class_="promises"), SEARCH, element("div", table, class_="wide")]
-    others = [it.line for it in designs if not it.row.net]
+    others = [refused_row(it.row, alone) for it in designs if not it.row.net]
     if others:
         table = element("table", element("tbody", *others), class_="others")
         content.append(element("section", element("h2", "Without a network"), table))
@@ -380,8 +416,9 @@ def front(designs, title, program):
         element("a", "results.tsv", href="results.tsv"),
         ", one line for each design and property.",
     )
-    foot = element("footer", element("p", *words), element("p", CERTIFICATES))
-    return element("main", *content, foot, id="all", class_="front")
+    every = element("button", "Print all, a design a sheet", type="button", id="every", hidden="hidden")
+    foot = element("footer", element("p", *words), element("p", CERTIFICATES), every)
+    return element("section", *content, foot, id="all", class_="front")
 
 
 def policy(script):
@@ -393,11 +430,8 @@ def policy(script):
 
 def whole(designs, title, program):
     """The whole page."""
-    own = [it for it in designs if it.page]
-    around = zip([None, *own], own, [*own[1:], None])
     pages = (
-        element("article", ways(before and before.row, after and after.row), it.page, class_="page", id=page_id(it.row))
-        for before, it, after in around
+        element("article", WAYS, class_="page", id=page_id(it.row), data_kept=packed(it.page)) for it in designs if it.page
     )
     style, script = ((HERE / name).read_text("utf-8") for name in ("report.css", "report.js"))
     head = (
@@ -408,7 +442,11 @@ def whole(designs, title, program):
         element("title", escape(files.plain(title))),
         element("style", style),
     )
-    shapes = element("defs", *(it.shapes for it in designs))
+    kept = (
+        element("g", id=f"k-{it.row.id()}", data_kept=packed(it.shapes)) for it in designs if it.shapes
+    )
+    shapes = element("defs", *kept)
     store = element("svg", shapes, class_="store", width="0", height="0", aria_hidden="true")
-    body = element("body", store, front(designs, title, program), *pages, element("script", script))
+    main = element("main", front(designs, title, program), *pages)
+    body = element("body", store, element("noscript", element("p", UNDRAWN)), main, element("script", script))
     return f"<!DOCTYPE html>\n{element('html', element('head', *head), body, lang='en')}\n"

@@ -164,6 +164,14 @@ class Row:
         near = range(least_x - 1, most_x + 2), range(least_y - 1, most_y + 2)
         return [it for it in them if any(x in near[0] and y in near[1] for x, y in it.cells)]
 
+    def description(self):
+        """What the design's author says of it."""
+        try:
+            told = design.blueprint_of(self.text).get("description") if self.found.is_json() else None
+        except design.Unreadable:
+            return ""
+        return told if isinstance(told, str) else ""
+
     def tiers(self):
         parts, _ = self.design
         return parts.tiers() if parts else {}
