@@ -17,20 +17,18 @@ from .states import KNOWN_AS, PROMISES, PROPERTIES
 from .work import DESIGN_JSON, NETWORK, ORIGINAL, SMALLER, SMALLER_STRING
 
 HERE = Path(__file__).resolve().parent
-VOID = {"meta", "input"}
+VOID = {"br", "meta", "input"}
 """The elements that have no content, and no end."""
 SIGNS = {"yes": "✓", "no": "✕"}
 PIXELS, MOST_PIXELS, PLENTY = 34, 46, 420
 """How wide a cell is on a large screen: more where the whole picture is small."""
-LEAST_PIXELS = 15
-"""How wide it is at least; a picture that doesn't fit then is moved to and fro."""
 WIDEST_BESIDE = 20
 """So many cells wide a picture is at most that stands beside what is told of it."""
 THUMB = 60
 """How wide and how high the small picture in the table is at most."""
 MOST_IN_TABLE, MOST_IN_PAGE = 3, 24
 """How many bare halves a sentence names at most, in the table and on a design's own page."""
-SOMETIMES = ("bare", "smaller", "seconds")
+SOMETIMES = ("bare", "same network", "smaller", "seconds")
 """The columns of the table that are there where at least one design has something in them."""
 LEAST_SECONDS = 0.05
 """So long the decisions on a design take at least where the table tells their time."""
@@ -90,12 +88,12 @@ def spent_time(told):
 
 
 def figure(picture, content, label, ruled=False):
-    """A picture that is as wide as it needs, and can be moved where the screen is narrower; with the numbers of columns
-    and rows where it is ruled."""
+    """A picture that is as wide as it needs, or as the screen is; with the numbers of columns and rows where it is
+    ruled."""
     width = picture.box[2] + ruled
     content = picture.rules() + content if ruled else content
     pixels = min(MOST_PIXELS, max(PIXELS, PLENTY // width))
-    style = f"max-width:{width * pixels}px;min-width:{width * LEAST_PIXELS}px"
+    style = f"max-width:{width * pixels}px"
     drawn = element("svg", content, role="img", aria_label=label, viewBox=picture.view(ruled), style=style)
     return element("div", drawn, class_="plane", tabindex=0, role="group", aria_label=label)
 
@@ -137,6 +135,29 @@ def who(row, alone):
     return element("div", thumb(first), element("div", name, same, where(row, alone), told), class_="who")
 
 
+def same_network(row):
+    """What the table tells of the designs with the same network: which is the least, and how many cells more it has."""
+    if not row.kin or row.same_as:
+        return "", 0
+    least = row.kin[0]
+    if row is least:
+        return f"least of {len(row.kin)}", 0
+    more = row.cells() - least.cells() if row.cells() is not None else None
+    told = "no layout" if more is None else f"{counted(more, 'cell')} more" if more else "as many cells"
+    return f"{told} {note('than ' if more else 'as ', named(least.found.label()))}", more or 0
+
+
+def kin_of(row):
+    """The other designs with the same network, each with its cells, in a line."""
+    for it in row.kin:
+        if it is not row:
+            more = it.cells() - row.cells() if None not in (it.cells(), row.cells()) else None
+            apart = "" if more is None else f": {counted(it.cells(), 'cell')}, " + (
+                f"{abs(more)} {'more' if more > 0 else 'less'}" if more else "as many"
+            )
+            yield element("a", named(it.found.label()), href=f"#{page_id(it)}") + apart
+
+
 def cells_of(row):
     """What the table tells of a design: of each column what is shown, and by what it is sorted."""
     net, size, order = row.net, row.size(), list(LABELS)
@@ -150,6 +171,7 @@ def cells_of(row):
         "cells": (f"{size[0]} × {size[1]}", area) if size else ("–", -1),
         "tiers": (" ".join(map(tier_mark, row.tiers())) or "–", " ".join(row.tiers())),
         **{it: (badge(row.answer(it), it), order.index(row.answer(it).verdict)) for it in PROPERTIES},
+        "same network": same_network(row),
         "smaller": (f"{area} → {less} cells", less - area) if less else ("", 0),
         "seconds": (f"{seconds:.1f}" if seconds >= LEAST_SECONDS else "", seconds),
     }
@@ -198,6 +220,8 @@ def facts(row):
     names = Counter(it.name for it in parts.strangers if not it.stands_by) if parts else None
     if names:
         told.append(("Others", ", ".join(f"{number} × {shown(name)}" for name, number in names.items())))
+    if row.kin:
+        told.append(("The same network", element("br").join(kin_of(row))))
     told.append(("From", shown(row.found.source + (f", place {row.found.place}" if row.found.place else ""))))
     kept = [row.found.file(), *([ORIGINAL] if row.is_changed() else []), *([NETWORK] if net else [])]
     told.append(("Files", ", ".join(link(row, name) for name in kept)))
@@ -304,6 +328,19 @@ WAYS = element("nav", element("a", "← All designs", href="#all"), element("spa
 UNDRAWN = "Without scripts no picture is drawn here and no design’s page; the verdicts are below, and all files in designs/."
 
 
+def arranged(row, picture, drawn):
+    """A design's picture with what is told of it: beside it where none of its properties is broken, and else the states
+    that break them stand beside it."""
+    small, judged = not picture or picture.box[2] <= WIDEST_BESIDE, verdicts(row) if row.net else ""
+    noes = [prop for prop in PROPERTIES if row.net and row.answer(prop).verdict == "no"]
+    if not noes:
+        told = element("div", facts(row), judged)
+        return element("div", element("div", drawn), told, class_="two" if small else "one")
+    shows = [breaking(row, prop) for prop in noes]
+    pictures = element("div", element("div", drawn, class_="itself"), *shows, class_="states" if small else "one")
+    return pictures + element("div", element("div", facts(row)), element("div", judged), class_="two")
+
+
 def page(row):
     """What a design's page tells."""
     picture, lack = row.picture
@@ -315,11 +352,7 @@ def page(row):
         drawn = figure(picture, element("use", href=f"#p-{row.id()}") + picture.ends(), label, ruled=True)
         drawn += marks_legend(row)
     drawn += note(shown(lack)) if lack else ""
-    told = facts(row) + (verdicts(row) if row.net else "")
-    small = not picture or picture.box[2] <= WIDEST_BESIDE
-    both = element("div", element("div", drawn), element("div", told), class_="two" if small else "one")
-    noes = [prop for prop in PROPERTIES if row.net and row.answer(prop).verdict == "no"]
-    shows = element("div", *(breaking(row, prop) for prop in noes), class_="states") if noes else ""
+    both = arranged(row, picture, drawn)
     string = ""
     if row.found.is_json():
         opened = row.of_reading("opened")
@@ -330,7 +363,7 @@ def page(row):
     less = smaller(row) if row.smaller else ""
     described = element("p", named(row.description()), class_="described") if row.description() else ""
     told = remarks(row, MOST_IN_PAGE)
-    return "".join((element("h2", named(name)), described, refused, told, both, shows, less, string))
+    return "".join((element("h2", named(name)), described, refused, told, both, less, string))
 
 
 def summary(rows):
@@ -393,7 +426,7 @@ def front(designs, title, program):
     """The first page: the table of all designs, and what has no network."""
     alone = len({it.row.found.source for it in designs}) == 1
     there = set().union(*(it.columns for it in designs))
-    columns = ["ends", "bare", "splitters", "cells", "tiers", *PROPERTIES, "smaller", "seconds"]
+    columns = ["ends", "bare", "splitters", "cells", "tiers", *PROPERTIES, "same network", "smaller", "seconds"]
     columns = [it for it in columns if it in there or it not in SOMETIMES]
     titles = (element("th", it, scope="col", title=KNOWN_AS.get(it, "")) for it in ("design", *columns))
     head = element("tr", *titles)

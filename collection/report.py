@@ -1,8 +1,9 @@
 """The report: a page to look at, and a table of all results."""
 
+from collections import defaultdict
 from pathlib import Path
 
-from . import files, page, trace
+from . import files, networks, page, trace
 from .answers import SETTLED
 from .rows import Row
 from .running import share
@@ -13,7 +14,7 @@ FORMULAS = tuple("=+-@")
 """How a text begins that a spreadsheet takes for a formula."""
 
 COLUMNS = "design place source property verdict why steps processor_seconds clock_seconds accepted file".split()
-COLUMNS += "design_digest program_digest known_as ends bare opened remarks".split()
+COLUMNS += "design_digest program_digest known_as ends bare opened remarks same_network_as".split()
 
 
 def took(told):
@@ -26,7 +27,8 @@ def lines_of(row, program):
     start = [row.found.name, row.found.place, row.found.source]
     digests = [row.judged_digest(), program if row.found.text is not None else ""]
     halves = (trace.spelled(row.bare), trace.spelled(row.of_reading("opened")))
-    of_ends = [row.ends(), *halves, "; ".join(row.remarks())]
+    same = row.kin[0].found.name if row.kin else ""
+    of_ends = [row.ends(), *halves, "; ".join(row.remarks()), same]
     if not row.net:
         verdict = "failed" if row.trouble else "refused" if row.refusal() else "unread"
         return [[*start, "-", verdict, row.reason() or "not read yet", 0, 0, 0, "", "", *digests, "", *of_ends]]
@@ -54,6 +56,39 @@ def cell(word):
 
 def table(lines):
     return "".join("\t".join(map(cell, line)) + "\n" for line in [COLUMNS, *lines])
+
+
+def find_kin(rows):
+    """Tells each design which others have the same network."""
+    own = []
+    for row in rows:
+        try:
+            if row.folder and not row.same_as and row.net and networks.is_plain(row.net_text):
+                own.append((row, row.cells() is None, row.cells() or 0))
+        except Exception:
+            continue  # What is wrong with it is told where it is shown.
+    groups = {}
+    for first, one in zip(networks.grouped([row.net for row, _, _ in own]), own):
+        groups.setdefault(first, []).append(one)
+    for them in groups.values():
+        kin = [row for row, _, _ in sorted(them, key=lambda it: it[1:])]
+        for row in kin if len(kin) > 1 else []:
+            row.kin = kin
+
+
+def standing_together(rows):
+    """The rows in their order, but those with the same network together, the least in cells first."""
+    found, seen = [], set()
+    copies = defaultdict(list)
+    for row in rows:
+        if row.same_as:
+            copies[id(row.same_as)].append(row)
+    for row in rows:
+        for it in row.kin or [row]:
+            if not it.same_as and id(it) not in seen:
+                seen.add(id(it))
+                found += [it, *copies[id(it)]]
+    return found
 
 
 def title_of(rows):
@@ -88,6 +123,8 @@ def write(output, rows, program):
     for left in output.glob(f".*{files.UNDONE}"):
         left.unlink()
     share(rows)
+    find_kin(rows)
+    rows = standing_together(rows)
     alone = len({row.found.source for row in rows}) == 1
     unshown = set()
     made = [guarded(row, alone, program, unshown) for row in rows]

@@ -46,6 +46,8 @@ class Row:
     decided: dict = field(default_factory=dict)
     """The answer of each property that was decided."""
     smaller: Smaller | None = None
+    kin: list = field(default_factory=list)
+    """The designs that have the same network, itself too, the least in cells first; empty where it is alone."""
 
     def id(self):
         """The name of its folder."""
@@ -163,6 +165,11 @@ class Row:
         them = design.bystanders(self.found.text.decode("utf-8", "replace"), treated)
         near = range(least_x - 1, most_x + 2), range(least_y - 1, most_y + 2)
         return [it for it in them if any(x in near[0] and y in near[1] for x, y in it.cells)]
+
+    def cells(self):
+        """How many cells the design's rectangle has, or None where it has no parts."""
+        size = self.size()
+        return size[0] * size[1] if size else None
 
     def description(self):
         """What the design's author says of it."""

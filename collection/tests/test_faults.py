@@ -154,7 +154,7 @@ class Programs(Case):
         for it in self.results():
             self.assertLess(float(it["processor_seconds"]), 1)
             self.assertGreater(float(it["clock_seconds"]), 1.4)
-        self.assertIn("s by the clock", (self.report / "index.html").read_text())
+        self.assertIn("s by the clock", self.page())
 
     def test_what_was_found_stands_when_the_time_is_up(self):
         small = blueprint(belt(0, 0))

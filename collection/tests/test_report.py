@@ -5,7 +5,7 @@ from html.parser import HTMLParser
 from .. import files, refusals, states
 from . import BOOK, EXAMPLES, Case, belt, blueprint, run, trimming
 
-VOID = {"meta", "input"}
+VOID = {"br", "meta", "input"}
 
 
 class Tags(HTMLParser):
@@ -93,7 +93,7 @@ class Report(Page):
         self.tags()
         self.assertEqual(self.page().count("<script>"), 1)
         self.assertNotIn("\u202e", self.page())
-        self.assertEqual({line.count("\t") for line in (self.report / "results.tsv").read_text().splitlines()}, {17})
+        self.assertEqual({line.count("\t") for line in (self.report / "results.tsv").read_text().splitlines()}, {18})
 
     def test_a_network_text_has_no_picture_and_a_state_in_words(self):
         run(EXAMPLES / "chain-1-to-3.net", "-o", self.report, "--jobs", "1")
