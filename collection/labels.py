@@ -23,7 +23,9 @@ def in_words(text):
 def mark_in_words(mark):
     """What is told in place of a mark."""
     name, _, value = mark[0].strip("[]").partition("=")
-    return "" if name.lstrip("/") in ("color", "font") else f" {value.partition(',')[0]} "
+    if name.lstrip("/") in ("color", "font"):
+        return ""
+    return f" {value.partition(',')[0]} " if value else mark[0]
 
 
 def told(label):

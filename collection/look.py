@@ -17,7 +17,7 @@ from pathlib import Path
 WIDE, NARROW = (1280, 900), (390, 844)
 PAPER = (794, 1123)
 """A sheet of A4, in pixels of the style."""
-LONGEST_PICTURE, MOST_PICTURES = 12000, 24
+LONGEST_PICTURE, MOST_PICTURES = 12000, 6
 MOST_BYTES = 4 * 10**6
 """How long the page may be, with three hundred designs."""
 WORDS = (

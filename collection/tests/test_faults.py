@@ -7,11 +7,11 @@ import random
 import subprocess
 import sys
 
-from .. import answers, books, files, inputs, picture, progress, refusals, report
+from .. import answers, books, files, inputs, labels, picture, progress, refusals, report
 from ..design import read
 from ..rows import Row
 from ..work import Folder
-from . import EXAMPLES, TOP, Case, belt, blueprint, run
+from . import BOOK, EXAMPLES, TOP, Case, belt, blueprint, run
 from .test_report import Page
 
 PIECES = (b'"', b"}", b"]", b"{", b"9e999", b"null")
@@ -212,3 +212,41 @@ class Mutated(Case):
             found = inputs.from_bytes(bytes(data), "book", "book")
             made = [report.guarded(Row(it), True, "", set()) for it in found]
             self.assertFalse([it.row.trouble for it, _ in made if "can't be shown" in (it.row.trouble or "")], number)
+
+
+class Found(Page):
+    """By what the page's script finds, filters and names designs."""
+
+    def test_marks_of_the_game_are_words(self):
+        cases = {
+            "[item=iron-plate] 4 to 4": "iron-plate 4 to 4",
+            "[color=1,0,0]red[/color] [font=default-bold]b[/font]": "red b",
+            "[virtual-signal=signal-A][entity=splitter]": "signal-A splitter",
+            "[train=1] a [b] c": "1 a [b] c",
+            "plain": "plain",
+        }
+        for text, words in cases.items():
+            self.assertEqual(labels.in_words(text), words)
+
+    def test_a_design_s_own_words_stand_apart_from_those_around_it(self):
+        entry = blueprint(belt(0, 0), label="[item=belt] one", description="About <b>it</b>")
+        self.write("in/4 to 4.json", '{"blueprint_book":{"label":"Eight","blueprints":[%s]}}' % entry)
+        run(self.folder / "in", "-o", self.report, "--program", self.fake())
+        self.tags()
+        words = "[item=belt] one basic balanced:yes drawn-evenly:yes unlimited:yes full:yes"
+        told = f'<tr data-words="{words}" data-around=" in/4 to 4.json, eight" data-ends="1-1" data-tiers="basic"'
+        for text in (told, ">belt one<", "About &lt;b&gt;it&lt;/b&gt;", ' data-page="d-item-belt-one"'):
+            self.assertIn(text, self.page())
+
+    def test_columns_are_there_where_a_design_has_something_in_them(self):
+        self.write("in/a.json", blueprint(belt(0, 0)))
+        run(self.folder / "in", "-o", self.report, "--program", self.fake())
+        for name in ("bare", "same network", "smaller"):
+            self.assertNotIn(f">{name}</th>", self.page())
+        run(self.folder / "in", "-o", self.report, "--program", self.fake("small"), "--smaller")
+        self.assertIn(">smaller</th>", self.page())
+        self.assertIn("1 → 1 cells", self.page())
+
+    def test_the_page_keeps_designs_compressed(self):
+        run(BOOK, "-o", self.report, "--program", self.fake())
+        self.assertLess((self.report / "index.html").stat().st_size, len(self.page().encode()) * 2 / 3)
