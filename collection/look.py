@@ -155,7 +155,7 @@ def checks(browser, address):
 
 
 def main(report, pictures):
-    address, size = Path(report, "index.html").resolve().as_uri(), Path(report, "index.html").stat().st_size
+    address, length = Path(report, "index.html").resolve().as_uri(), Path(report, "index.html").stat().st_size
     Path(pictures).mkdir(parents=True, exist_ok=True)
     with tempfile.TemporaryDirectory(ignore_cleanup_errors=True) as folder:
         browser = Browser(folder)
@@ -179,8 +179,8 @@ def main(report, pictures):
         finally:
             browser.process.terminate()
             browser.process.wait()
-    wrong += [f"it has {size} bytes"] if size > MOST_BYTES else []
-    print("\n".join(wrong) or f"sorting, search, filters and widths are right, in {size} bytes")
+    wrong += [f"it has {length} bytes"] if length > MOST_BYTES else []
+    print("\n".join(wrong) or f"sorting, search, filters and widths are right, in {length} bytes")
     return bool(wrong)
 
 

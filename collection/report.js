@@ -107,7 +107,9 @@
   all.hidden = false;
   all.addEventListener("click", async () => {
     await Promise.all([...document.querySelectorAll(".page")].map(drawPage));
+    document.body.classList.add("every");
     print();
+    document.body.classList.remove("every");
   });
   show();
 })();
