@@ -24,6 +24,7 @@ class Book:
 
     parent: "Book | None"
     number: int
+    """The number of its place, as the book that it stands in tells it; where it doesn't, counted from 1."""
     label: str | None = None
 
     def above(self):
@@ -111,19 +112,28 @@ def label_of(value):
     return label if isinstance(label, str) and label.strip() else None
 
 
+def index_of(value, number):
+    """The number of a place that a member `index` tells, or where that is none, this one."""
+    return value if isinstance(value, int) and not isinstance(value, bool) and value >= 0 else number
+
+
 def entry(reader, book, number, depth):
     """Reads one entry: a design, a book, or what is neither."""
     reader.sign()
-    start, label, held = reader.at, None, False
+    start, label, held = reader.at, None, None
     if reader.sign() != "{":
         reader.value()
     else:
         for name in reader.members():
             if name == "blueprint_book" and reader.sign() == "{":
-                held = True
-                yield pages(reader, Book(book, number), depth + 1)
-            else:
-                label = label_of(reader.value()) or label
+                held = Book(book, number)
+                yield pages(reader, held, depth + 1)
+                continue
+            value = reader.value()
+            label = label_of(value) or label
+            number = index_of(value, number) if name == "index" else number
+            if held:
+                held.number = number
     if not held:
         reader.found.append(Entry(book, number, reader.text[start : reader.at], label))
 

@@ -3,7 +3,7 @@
 import hashlib
 import os
 import re
-import tempfile
+import secrets
 import unicodedata
 from contextlib import contextmanager
 from pathlib import Path
@@ -17,21 +17,21 @@ BLOCK = 1 << 20
 
 @contextmanager
 def replacing(path, synced=False):
-    """A new file that takes this path's place once all is written; where that fails, nothing is left of it. Where it is
-    synced, it is on the disk before."""
+    """A new file that takes this path's place once all is written; where that fails, nothing is left of it. Who may
+    read it is as the umask tells. Where it is synced, it is on the disk before."""
     path = Path(path)
     path.parent.mkdir(parents=True, exist_ok=True)
-    handle, other = tempfile.mkstemp(prefix="." + path.name[:40], suffix=UNDONE, dir=path.parent)
+    other = path.parent / f".{path.name[:40]}{secrets.token_hex(8)}{UNDONE}"
+    handle = os.open(other, os.O_WRONLY | os.O_CREAT | os.O_EXCL, 0o666)
     try:
         with os.fdopen(handle, "wb") as file:
             yield file
             file.flush()
             if synced:
                 os.fsync(file.fileno())
-        os.chmod(other, 0o644)
         os.replace(other, path)
     except BaseException:
-        Path(other).unlink(missing_ok=True)
+        other.unlink(missing_ok=True)
         raise
 
 
@@ -78,6 +78,11 @@ def slug(name):
     flat = "".join(it for it in unicodedata.normalize("NFKD", name) if not unicodedata.combining(it))
     word = re.sub(r"[^A-Za-z0-9]+", "-", flat).strip("-").lower()[:LONGEST_NAME].strip("-")
     return word or "design"
+
+
+def is_slug(name):
+    """Whether a folder has a name that is made of a design's."""
+    return re.fullmatch(r"[a-z0-9]+(?:-[a-z0-9]+)*", name) is not None
 
 
 def free_name(name, taken):

@@ -5,10 +5,11 @@ import os
 import re
 import stat
 from dataclasses import dataclass
+from functools import cached_property
 from pathlib import Path
 
 from . import strings
-from .books import end_of_value, entries
+from .books import Fault, Reader, end_of_value, entries
 from .files import digest, plain
 
 MOST_READ = 64 * 2**20
@@ -20,6 +21,11 @@ FENCE = b"```"
 STANDARD_INPUT = "-"
 PASTED = re.compile(r"\s*(?:\{|0e[A-Za-z0-9+/\s]{18}|```)")
 """How a word begins that is a design itself, and no file's name."""
+ANSWER = re.compile(rb"(?:(?:yes|no) [a-z-]+|same|differ|none)\r?\n")
+"""How a certificate begins, or a state that shows the opposite: an answer of the program, and no design."""
+PASSED_FOLDERS = {".git"}
+REPORT = ("index.html", "results.tsv", "designs")
+"""What a folder has that is a report."""
 JSON_START = re.compile(rb'\{\s*"blueprint(?:_book)?"\s*:')
 """How a design of JSON begins in the midst of words."""
 
@@ -43,8 +49,10 @@ class Design:
         """Its name without those of the books around it."""
         return self.name.removeprefix(self.books + "/") if self.books else self.name
 
+    @cached_property
     def digest(self):
-        return digest(self.text) if self.text is not None else ""
+        """The digest of its text, but for its place in a book; of what has no text it is empty."""
+        return design_digest(self.text) if self.text is not None else ""
 
     def is_json(self):
         return self.text is not None and self.text.lstrip(BLANKS).startswith(b"{")
@@ -60,11 +68,46 @@ def shown_path(file, path):
     return plain(os.fsencode(told).decode("utf-8", "backslashreplace"))
 
 
+def without_index(text):
+    """A text of JSON without the member `index` of its object, where that has one; a fault where it is damaged."""
+    reader, starts, ends, found = Reader(text), [], [], []
+    for _ in reader.parts("{", "}"):
+        reader.sign()
+        starts.append(reader.at)
+        found += [len(ends)] if reader.value() == "index" else []
+        reader.expect(":")
+        reader.value()
+        ends.append(reader.at)
+    if len(found) != 1:
+        return text
+    (at,) = found
+    if at:
+        return text[: ends[at - 1]] + text[ends[at] :]
+    return text[: starts[0]] + text[starts[1] if len(starts) > 1 else ends[0] :]
+
+
+def design_digest(data):
+    """A design's digest: that of its text without the number of its place in a book, which makes it no other design."""
+    if data.lstrip(BLANKS).startswith(b"{"):
+        try:
+            return digest(without_index(data.decode("utf-8", "surrogateescape")).encode("utf-8", "surrogateescape"))
+        except Fault:
+            pass
+    return digest(data)
+
+
+def is_passed_over(folder, but):
+    """Whether nothing in a folder is read: it is this one, a report, or what git keeps."""
+    report = all(Path(folder, name).exists() for name in REPORT)
+    return report or folder.name in PASSED_FOLDERS or folder.resolve() == but
+
+
 def files_in(path, but):
-    """The files of a folder and of those in it but one, in order; what can't be listed, too, with the reason."""
+    """The files of a folder and of those in it, in order, but for folders that are passed over; what can't be listed,
+    too, with the reason."""
     faults = []
     for folder, folders, names in os.walk(path, onerror=lambda fault: faults.append((fault.filename, fault))):
-        folders[:] = sorted(name for name in folders if Path(folder, name).resolve() != but)
+        folders[:] = sorted(name for name in folders if not is_passed_over(Path(folder, name), but))
         yield from ((Path(folder, name), None) for name in sorted(names))
     yield from ((Path(name), fault) for name, fault in faults)
 
@@ -152,7 +195,9 @@ def in_path(path, but):
         try:
             if fault:
                 raise fault
-            yield from from_bytes(read_file(file), name, shown_path(file, path))
+            data = read_file(file)
+            if not (inside and ANSWER.match(data)):
+                yield from from_bytes(data, name, shown_path(file, path))
         except OSError as reason:
             why = f"it can't be read: {reason.strerror or reason}"
             yield Design(name, shown_path(file, path), "", None, why)

@@ -15,6 +15,19 @@ BRIEF = re.compile(rf"(?<![A-Za-z\d.{SIGNS}])(\d{{1,3}})\s*[{SIGNS}]\s*(\d{{1,3}
 """Two numbers that may be the size of a layout too: taken where none are told plainly."""
 
 
+def in_words(text):
+    """A text with the game's marks as words: of a small picture its name, and of a colour or a font nothing."""
+    return " ".join(RICH_TEXT.sub(mark_in_words, text).split())
+
+
+def mark_in_words(mark):
+    """What is told in place of a mark."""
+    name, _, value = mark[0].strip("[]").partition("=")
+    if name.lstrip("/") in ("color", "font"):
+        return ""
+    return f" {value.partition(',')[0]} " if value else mark[0]
+
+
 def told(label):
     """The numbers of inputs and outputs that a label tells of: one pair, or several where it isn't clear, or none."""
     text = RICH_TEXT.sub(" ", label)

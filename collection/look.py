@@ -1,4 +1,4 @@
-"""Opens a report in Chromium, takes pictures of it, and checks that sorting and search work.
+"""Opens a report in Chromium, takes pictures of it, and checks sorting, search, filters, the pages and the budget.
 
     python3 -m collection.look REPORT PICTURES
 
@@ -11,10 +11,15 @@ import os
 import subprocess
 import sys
 import tempfile
+import time
 from pathlib import Path
 
 WIDE, NARROW = (1280, 900), (390, 844)
-LONGEST_PICTURE = 12000
+PAPER = (794, 1123)
+"""A sheet of A4, in pixels of the style."""
+LONGEST_PICTURE, MOST_PICTURES = 12000, 6
+MOST_BYTES = 4 * 10**6
+"""How long the page may be, with three hundred designs."""
 WORDS = (
     "exec chromium --headless --no-sandbox --disable-gpu --hide-scrollbars --remote-debugging-pipe --user-data-dir={} "
     "3<&{} 4>&{}"
@@ -76,8 +81,16 @@ class Browser:
         screen = {"width": width, "height": height, "deviceScaleFactor": 2 if narrow else 1, "mobile": narrow}
         self.ask("Emulation.setDeviceMetricsOverride", **screen)
 
-    def theme(self, name):
-        self.ask("Emulation.setEmulatedMedia", features=[{"name": "prefers-color-scheme", "value": name}])
+    def theme(self, name, media=""):
+        self.ask("Emulation.setEmulatedMedia", media=media, features=[{"name": "prefers-color-scheme", "value": name}])
+
+    def show(self, name):
+        """Goes to a page of the report, and waits until it is drawn."""
+        self.value(f"location.hash = '{name}'")
+        undrawn = f"document.getElementById('{name}').dataset.kept !== undefined || !document.querySelector('.page:target h2')"
+        end = time.monotonic() + 60
+        while name != "all" and self.value(undrawn) and time.monotonic() < end:
+            time.sleep(0.02)
 
     def picture(self, path):
         height = min(LONGEST_PICTURE, self.value("document.documentElement.scrollHeight"))
@@ -92,31 +105,46 @@ def checks(browser, address):
     browser.size(*WIDE)
     browser.open(address)
     rows = "[...document.querySelectorAll('#designs tbody tr')]"
-    column = f"{rows}.map((it) => Number(it.cells[2].dataset.sort))"
-    button = "document.querySelectorAll('#designs thead button')[2]"
-    browser.value(f"{button}.click()")
-    if browser.value(column) != sorted(browser.value(column)):
-        yield "the splitters aren't sorted upwards"
-    browser.value(f"{button}.click()")
-    if browser.value(column) != sorted(browser.value(column), reverse=True):
-        yield "the splitters aren't sorted downwards"
+    number = browser.value("[...document.querySelectorAll('#designs thead th')].findIndex((it) => it.innerText.startsWith('splitters'))")
+    column = f"{rows}.map((it) => Number(it.cells[{number}].dataset.sort))"
+    button = f"document.querySelectorAll('#designs thead button')[{number}]"
+    for way, down in (("upwards", False), ("downwards", True)):
+        browser.value(f"{button}.click()")
+        if browser.value(column) != sorted(browser.value(column), reverse=down):
+            yield f"the splitters aren't sorted {way}"
     if browser.value("document.querySelectorAll('[aria-sort]').length") != 1:
         yield "the sorted column isn't told"
     all_rows = browser.value(f"{rows}.length")
+    ends = browser.value(f"{rows}.map((it) => it.dataset.ends)[0]")
+    of_ends = browser.value(f"{rows}.filter((it) => it.dataset.ends === '{ends}').length")
+    for sign in (" to ", "-", " → ", ":"):
+        browser.value(f"document.getElementById('words').value = '{ends}'.replace('-', '{sign}')")
+        browser.value("document.getElementById('words').dispatchEvent(new Event('input'))")
+        first = f"{rows}.filter((it) => !it.hidden).slice(0, {of_ends}).every((it) => it.dataset.ends === '{ends}')"
+        if not browser.value(first):
+            yield f"designs of ends {ends} aren't the first that are found with {sign!r} between"
     for words in ("unlimited:no", "no such words anywhere", ""):
         browser.value(f"document.getElementById('words').value = '{words}'")
         browser.value("document.getElementById('words').dispatchEvent(new Event('input'))")
         left = browser.value(f"{rows}.filter((it) => it.getClientRects().length).length")
-        has = f"'{words}'.split(' ').every((word) => it.dataset.words.includes(word))"
+        has = f"'{words}'.split(' ').every((word) => `${{it.dataset.words}} ${{it.dataset.around}}`.includes(word))"
         expected = browser.value(f"{rows}.filter((it) => {has}).length")
         if left != expected or (words == "" and left != all_rows):
             yield f"the search for {words!r} leaves {left} rows, and not {expected}"
+    for name in browser.value("[...document.querySelectorAll('#filters select')].map((it) => it.name)"):
+        select = f"document.querySelector('#filters [name={name}]')"
+        browser.value(f"{select}.selectedIndex = 1; {select}.dispatchEvent(new Event('change'))")
+        told = browser.value(f"{select}.value")
+        kept = f"{rows}.filter((it) => it.dataset.{name}.split(' ').includes('{told}')).length"
+        if browser.value(f"{rows}.filter((it) => !it.hidden).length") != browser.value(kept):
+            yield f"the filter {told} leaves other designs"
+        browser.value(f"{select}.selectedIndex = 0; {select}.dispatchEvent(new Event('change'))")
     if browser.value("performance.getEntriesByType('resource').length"):
         yield "the page loads something"
     for width in (320, NARROW[0], WIDE[0]):
         browser.size(width, 800)
         for name in ["all", *browser.value("[...document.querySelectorAll('.page')].map((it) => it.id)")]:
-            browser.value(f"location.hash = '{name}'")
+            browser.show(name)
             if browser.value("document.documentElement.scrollWidth") > width:
                 yield f"{name} is wider than a screen of {width}"
     browser.ask("Emulation.setScriptExecutionDisabled", value=True)
@@ -127,7 +155,7 @@ def checks(browser, address):
 
 
 def main(report, pictures):
-    address = Path(report, "index.html").resolve().as_uri()
+    address, length = Path(report, "index.html").resolve().as_uri(), Path(report, "index.html").stat().st_size
     Path(pictures).mkdir(parents=True, exist_ok=True)
     with tempfile.TemporaryDirectory(ignore_cleanup_errors=True) as folder:
         browser = Browser(folder)
@@ -138,15 +166,21 @@ def main(report, pictures):
                 for word, size in (("wide", WIDE), ("narrow", NARROW)):
                     browser.size(*size, word == "narrow")
                     browser.open(address)
-                    names = browser.value("[...document.querySelectorAll('.page')].map((it) => it.id)")
+                    names = browser.value("[...document.querySelectorAll('.page')].map((it) => it.id)")[:MOST_PICTURES]
                     browser.picture(Path(pictures, f"all-{word}-{theme}.png"))
                     for name in names:
-                        browser.value(f"location.hash = '{name}'")
+                        browser.show(name)
                         browser.picture(Path(pictures, f"{name}-{word}-{theme}.png"))
+            browser.theme("light", "print")
+            browser.size(*PAPER)
+            for name in ["all", *names[:1]]:
+                browser.show(name)
+                browser.picture(Path(pictures, f"{name}-print.png"))
         finally:
             browser.process.terminate()
             browser.process.wait()
-    print("\n".join(wrong) or "sorting, search and widths are right")
+    wrong += [f"it has {length} bytes"] if length > MOST_BYTES else []
+    print("\n".join(wrong) or f"sorting, search, filters and widths are right, in {length} bytes")
     return bool(wrong)
 
 

@@ -1,37 +1,55 @@
 """The page of a report: one file that needs neither scripts nor a network."""
 
+import base64
+import hashlib
+import zlib
 from collections import Counter
+from dataclasses import dataclass
 from html import escape
 from pathlib import Path
 
-from . import files, states, strings
+from . import files, labels, states, strings
+from .answers import SETTLED
 from .files import counted
 from .flows import flows
-from .rows import LABELS
+from .rows import LABELS, Row
 from .states import KNOWN_AS, PROMISES, PROPERTIES
-from .work import DESIGN_JSON, NETWORK, ORIGINAL, SETTLED, SMALLER, SMALLER_STRING
+from .work import DESIGN_JSON, NETWORK, ORIGINAL, SMALLER, SMALLER_STRING
 
 HERE = Path(__file__).resolve().parent
+VOID = {"br", "meta", "input"}
+"""The elements that have no content, and no end."""
 SIGNS = {"yes": "✓", "no": "✕"}
 PIXELS, MOST_PIXELS, PLENTY = 34, 46, 420
 """How wide a cell is on a large screen: more where the whole picture is small."""
-LEAST_PIXELS = 15
-"""How wide it is at least; a picture that doesn't fit then is moved to and fro."""
 WIDEST_BESIDE = 20
 """So many cells wide a picture is at most that stands beside what is told of it."""
 THUMB = 60
 """How wide and how high the small picture in the table is at most."""
 MOST_IN_TABLE, MOST_IN_PAGE = 3, 24
 """How many bare halves a sentence names at most, in the table and on a design's own page."""
-COLUMNS = ("design", "ends", "splitters", "cells", "tiers", *PROPERTIES, "seconds")
+SOMETIMES = ("bare", "same network", "smaller", "seconds")
+"""The columns of the table that are there where at least one design has something in them."""
+LEAST_SECONDS = 0.05
+"""So long the decisions on a design take at least where the table tells their time."""
 
 
-def element(name, *content, **members):
+def element(name, /, *content, **members):
     """An element of HTML; its content is HTML already, the values of its members are not."""
     told = "".join(
         f' {key.rstrip("_").replace("_", "-")}="{escape(str(value))}"' for key, value in members.items() if value != ""
     )
-    return f"<{name}{told}>{''.join(map(str, content))}</{name}>"
+    return f"<{name}{told}>" + ("" if name in VOID else f"{''.join(map(str, content))}</{name}>")
+
+
+def page_id(row):
+    """The name of a design's page: no other element of the report has one like it."""
+    return f"d-{row.id()}"
+
+
+def link(row, name):
+    """A link to a file of a design's folder."""
+    return element("a", name, href=f"designs/{row.id()}/{name}")
 
 
 def shown(text):
@@ -39,11 +57,16 @@ def shown(text):
     return f"<bdi>{escape(files.plain(text))}</bdi>"
 
 
+def named(text):
+    """A label as HTML, with the game's marks as words."""
+    return shown(labels.in_words(text))
+
+
 def badge(told, prop=""):
     """A verdict."""
-    verdict = told["verdict"]
+    verdict = told.verdict
     kind = verdict if verdict in SIGNS else "withheld"
-    title = f"{prop}: {told.get('why') or verdict}" if prop else ""
+    title = f"{prop}: {told.why or verdict}" if prop else ""
     return element("span", f"{SIGNS.get(verdict, '–')} {LABELS[verdict]}", class_=f"verdict {kind}", title=title)
 
 
@@ -55,17 +78,22 @@ def tier_mark(tier):
     return element("span", tier, class_=f"tier {tier}")
 
 
-def spent_time(seconds):
-    return f"{seconds:.2f} s" if seconds >= 0.01 else "under 0.01 s"
+def spent_time(told):
+    """How long an answer took, of a processor and, where that is another time, by the clock."""
+    if told.processor is None:
+        return ""
+    processor = f"{told.processor:.2f} s" if told.processor >= 0.01 else "under 0.01 s"
+    apart = told.clock - told.processor > max(1, told.processor / 10)
+    return f"{processor} of a processor" + (f", {told.clock:.2f} s by the clock" if apart else "")
 
 
 def figure(picture, content, label, ruled=False):
-    """A picture that is as wide as it needs, and can be moved where the screen is narrower; with the numbers of columns
-    and rows where it is ruled."""
+    """A picture that is as wide as it needs, or as the screen is; with the numbers of columns and rows where it is
+    ruled."""
     width = picture.box[2] + ruled
     content = picture.rules() + content if ruled else content
     pixels = min(MOST_PIXELS, max(PIXELS, PLENTY // width))
-    style = f"max-width:{width * pixels}px;min-width:{width * LEAST_PIXELS}px"
+    style = f"max-width:{width * pixels}px"
     drawn = element("svg", content, role="img", aria_label=label, viewBox=picture.view(ruled), style=style)
     return element("div", drawn, class_="plane", tabindex=0, role="group", aria_label=label)
 
@@ -73,13 +101,14 @@ def figure(picture, content, label, ruled=False):
 def thumb(row):
     """The small picture of a design."""
     picture, _ = row.picture
-    if picture is None:
+    if picture is None or not row.folder:
         return element("span", "–" if row.found.text is None or row.found.is_json() else "net", class_="thumb none")
     width, height = map(float, picture.view().split()[2:])
     scale = THUMB / max(width, height)
     size = {"width": round(width * scale), "height": round(height * scale)}
-    drawn = f'<use href="#p-{row.id()}"/>'
-    return element("span", element("svg", drawn, aria_hidden="true", viewBox=picture.view(), **size), class_="thumb")
+    drawn = element("use", href=f"#p-{row.id()}")
+    drawn = element("svg", drawn, aria_hidden="true", viewBox=picture.view(), **size)
+    return element("span", drawn, class_="thumb", data_of=f"k-{row.id()}")
 
 
 def where(row, alone):
@@ -98,43 +127,82 @@ def remarks(row, most):
 def who(row, alone):
     """A design's name with its small picture, leading to its page."""
     first = row.same_as or row
-    name = shown(row.found.label())
+    name = named(row.found.label())
     if row.folder:
-        name = element("a", name, href=f"#{first.id()}")
-    same = note(f"the same design as {shown(first.found.name)}") if row.same_as else ""
+        name = element("a", name, href=f"#{page_id(first)}")
+    same = note(f"the same design as {named(first.found.name)}") if row.same_as else ""
     told = remarks(row, MOST_IN_TABLE)
     return element("div", thumb(first), element("div", name, same, where(row, alone), told), class_="who")
 
 
-def table_row(row, alone):
-    """A design's row of the table; whether all are from one file."""
+def same_network(row):
+    """What the table tells of the designs with the same network: which is the least, and how many cells more it has."""
+    if not row.kin or row.same_as:
+        return "", 0
+    least = row.kin[0]
+    if row is least:
+        return f"least of {len(row.kin)}", 0
+    more = row.cells() - least.cells() if row.cells() is not None else None
+    told = "no layout" if more is None else f"{counted(more, 'cell')} more" if more else "as many cells"
+    return f"{told} {note('than ' if more else 'as ', named(least.found.label()))}", more or 0
+
+
+def kin_of(row):
+    """The other designs with the same network, each with its cells, in a line."""
+    for it in row.kin:
+        if it is not row:
+            more = it.cells() - row.cells() if None not in (it.cells(), row.cells()) else None
+            apart = "" if more is None else f": {counted(it.cells(), 'cell')}, " + (
+                f"{abs(more)} {'more' if more > 0 else 'less'}" if more else "as many"
+            )
+            yield element("a", named(it.found.label()), href=f"#{page_id(it)}") + apart
+
+
+def cells_of(row):
+    """What the table tells of a design: of each column what is shown, and by what it is sorted."""
     net, size, order = row.net, row.size(), list(LABELS)
-    seconds = sum(row.answer(prop).get("seconds", 0) for prop in PROPERTIES)
-    cells = [
-        (f"{net.inputs} → {net.outputs}", net.inputs * 10000 + net.outputs),
-        (net.splitters, net.splitters),
-        (f"{size[0]} × {size[1]}", size[0] * size[1]) if size else ("–", -1),
-        (" ".join(map(tier_mark, row.tiers())) or "–", " ".join(row.tiers())),
-        *((badge(row.answer(prop), prop), order.index(row.answer(prop)["verdict"])) for prop in PROPERTIES),
-        (f"{seconds:.1f}", seconds),
-    ]
-    words = [row.found.name, row.found.source, f"{net.inputs} to {net.outputs}", *row.tiers()]
-    words += [f"{prop}:{row.answer(prop)['verdict']}" for prop in PROPERTIES]
+    seconds = sum(row.answer(prop).processor or 0 for prop in PROPERTIES)
+    less = row.smaller.size[0] * row.smaller.size[1] if row.smaller and row.smaller.verdict == "found" else 0
+    area = size[0] * size[1] if size else 0
+    return {
+        "ends": (f"{net.inputs} → {net.outputs}", net.inputs * 10000 + net.outputs),
+        "bare": (len(row.bare) or "", len(row.bare)),
+        "splitters": (net.splitters, net.splitters),
+        "cells": (f"{size[0]} × {size[1]}", area) if size else ("–", -1),
+        "tiers": (" ".join(map(tier_mark, row.tiers())) or "–", " ".join(row.tiers())),
+        **{it: (badge(row.answer(it), it), order.index(row.answer(it).verdict)) for it in PROPERTIES},
+        "same network": same_network(row),
+        "smaller": (f"{area} → {less} cells", less - area) if less else ("", 0),
+        "seconds": (f"{seconds:.1f}" if seconds >= LEAST_SECONDS else "", seconds),
+    }
+
+
+def sought(row, words, **more):
+    """By what a row of a table is found: the design's own words, and apart those of the books and the file around it."""
+    own = files.plain(" ".join([row.found.label(), *words])).lower()
+    around = files.plain(f"{row.found.books} {row.found.source}").lower()
+    return {"data_words": own, "data_around": around, **more}
+
+
+def table_row(row, alone, columns):
+    """A design's row of the table, with these columns; whether all are from one file."""
+    net, verdicts_ = row.net, [f"{prop}:{row.answer(prop).verdict}" for prop in PROPERTIES]
     marks = ("bare", row.bare), ("opened", row.of_reading("opened")), ("warning", row.warning())
-    words += [word for word, told in marks if told]
+    words = [*row.tiers(), *verdicts_, *(word for word, told in marks if told)]
+    told = {"data_ends": f"{net.inputs}-{net.outputs}", "data_tiers": " ".join(row.tiers())}
+    told |= {"data_verdicts": " ".join(verdicts_), "data_page": page_id(row.same_as or row)}
     head = element("th", who(row, alone), scope="row", data_sort=files.plain(row.found.name).lower())
-    rest = (
-        element("td", content, data_label=label, data_sort=sort) for label, (content, sort) in zip(COLUMNS[1:], cells)
-    )
-    return element("tr", head, *rest, data_words=files.plain(" ".join(words)).lower())
+    cells = cells_of(row)
+    rest = (element("td", cells[it][0], data_label=it, data_sort=cells[it][1]) for it in columns)
+    return element("tr", head, *rest, **sought(row, words, **told))
 
 
 def refused_row(row, alone):
     """A row for what has no network; whether all are from one file."""
     reason = row.reason() or "not read yet"
-    words = f"{row.found.name} {row.found.source} {reason}"
     head = element("th", who(row, alone), scope="row")
-    return element("tr", head, element("td", shown(reason)), data_words=files.plain(words).lower())
+    told = {"data_page": page_id(row.same_as or row)} if row.folder else {}
+    return element("tr", head, element("td", shown(reason)), **sought(row, [reason], **told))
 
 
 def facts(row):
@@ -152,23 +220,25 @@ def facts(row):
     names = Counter(it.name for it in parts.strangers if not it.stands_by) if parts else None
     if names:
         told.append(("Others", ", ".join(f"{number} × {shown(name)}" for name, number in names.items())))
+    if row.kin:
+        told.append(("The same network", element("br").join(kin_of(row))))
     told.append(("From", shown(row.found.source + (f", place {row.found.place}" if row.found.place else ""))))
     kept = [row.found.file(), *([ORIGINAL] if row.is_changed() else []), *([NETWORK] if net else [])]
-    told.append(("Files", ", ".join(element("a", name, href=f"designs/{row.id()}/{name}") for name in kept)))
-    told.append(("Digest", element("code", row.judged_digest()[:16])))
+    told.append(("Files", ", ".join(link(row, name) for name in kept)))
+    told.append(("Digest", element("code", shown(row.judged_digest()[:16]))))
     lines = (element("div", element("dt", key), element("dd", value)) for key, value in told)
     return element("dl", *lines, class_="facts")
 
 
 def about(row, told):
     """What there is to a verdict: the file that shows it, or why there is none."""
-    why = shown(told["why"]) if told.get("why") else ""
-    if not told.get("file"):
+    why = shown(told.why) if told.why else ""
+    if not told.file:
         return why
-    breaks = told["file"].startswith("not")
-    what = "breaking state" if breaks else f"certificate of {counted(told['steps'], 'step')}"
-    link = element("a", what, href=f"designs/{row.id()}/{told['file']}")
-    return link + (", accepted" if told["verdict"] in SETTLED else f". {why}")
+    breaks = told.file.startswith("not")
+    what = "breaking state" if breaks else f"certificate of {counted(told.steps, 'step')}"
+    leading = element("a", what, href=f"designs/{row.id()}/{told.file}")
+    return leading + (", accepted" if told.verdict in SETTLED else f". {why}")
 
 
 def verdicts(row):
@@ -176,7 +246,7 @@ def verdicts(row):
     lines = []
     for prop in PROPERTIES:
         told = row.answer(prop)
-        seconds = note(spent_time(told["seconds"])) if "seconds" in told else ""
+        seconds = note(spent_time(told)) if told.processor is not None else ""
         head = element("th", prop, note(KNOWN_AS[prop]), note(PROMISES[prop]), scope="row")
         lines.append(element("tr", head, element("td", badge(told)), element("td", about(row, told), " ", seconds)))
     return element("table", element("tbody", *lines), class_="verdicts")
@@ -219,14 +289,14 @@ def state_table(net, state):
 
 def breaking(row, prop):
     """The breaking state of a property: what it shows, drawn on the picture, and in full."""
-    text = row.folder.text(row.answer(prop)["file"])
+    text = row.folder.text(row.answer(prop).file)
     state, (picture, _) = states.read_state(text), row.picture
     content = [element("h3", "Why it isn’t ", element("em", prop))]
     content.append(element("p", escape(states.shown(prop, row.net, state))))
     if picture and picture.network:
         ends = {f"i{k}": load for k, load in enumerate(state.loads)}
         ends |= {f"o{k}": room for k, room in enumerate(state.rooms)}
-        below = f'<use class="below" href="#p-{row.id()}"/>'
+        below = element("use", class_="below", href=f"#p-{row.id()}")
         drawn = below + flows(picture, state, f"w-{row.id()}") + picture.ends(ends)
         content.append(figure(picture, drawn, f"{files.plain(row.found.name)}: a state that breaks {prop}"))
         content.append(legend("full belts" if len(row.tiers()) == 1 else "full basic belts"))
@@ -238,12 +308,12 @@ def breaking(row, prop):
 def smaller(row):
     """The smaller layout that was found: its size, its picture and its string; or why there is none."""
     told, heading = row.smaller, element("h3", "A smaller layout")
-    if told["verdict"] != "found":
-        return element("section", heading, element("p", shown(told["why"])), class_="smaller")
-    width, height = told["size"]
+    if told.verdict != "found":
+        return element("section", heading, element("p", shown(row.why_no_smaller())), class_="smaller")
+    width, height = told.size
     own = row.size()
     than = f", where the design has {own[0]} × {own[1]}, {counted(own[0] * own[1], 'cell')}" if own else ""
-    links = " and ".join(element("a", it, href=f"designs/{row.id()}/{it}") for it in (SMALLER, SMALLER_STRING))
+    links = " and ".join(link(row, it) for it in (SMALLER, SMALLER_STRING))
     said = element("p", f"{width} × {height}, {counted(width * height, 'cell')}{than}: ", links)
     picture = row.smaller_picture
     label = f"{files.plain(row.found.name)}, laid out smaller"
@@ -253,24 +323,36 @@ def smaller(row):
     return element("section", heading, said, drawn, string, class_="smaller")
 
 
-def page(row, before, after):
-    """A design's page, with the ways to those before and after it."""
+WAYS = element("nav", element("a", "← All designs", href="#all"), element("span"))
+"""The ways from a design's page: to all, and to those before and after it, which the order of the table tells."""
+UNDRAWN = "Without scripts no picture is drawn here and no design’s page; the verdicts are below, and all files in designs/."
+
+
+def arranged(row, picture, drawn):
+    """A design's picture with what is told of it: beside it where none of its properties is broken, and else the states
+    that break them stand beside it."""
+    small, judged = not picture or picture.box[2] <= WIDEST_BESIDE, verdicts(row) if row.net else ""
+    noes = [prop for prop in PROPERTIES if row.net and row.answer(prop).verdict == "no"]
+    if not noes:
+        told = element("div", facts(row), judged)
+        return element("div", element("div", drawn), told, class_="two" if small else "one")
+    shows = [breaking(row, prop) for prop in noes]
+    pictures = element("div", element("div", drawn, class_="itself"), *shows, class_="states" if small else "one")
+    return pictures + element("div", element("div", facts(row)), element("div", judged), class_="two")
+
+
+def page(row):
+    """What a design's page tells."""
     picture, lack = row.picture
-    steps = (element("a", word, href=f"#{it.id()}") for word, it in (("previous", before), ("next", after)) if it)
-    ways = element("nav", element("a", "← All designs", href="#all"), element("span", *steps))
     name = row.found.name.replace("/", " / ") if row.found.books else row.found.name
     refused = element("p", shown(row.reason()), class_="refused") if row.reason() else ""
     drawn = ""
     if picture:
         label = f"{files.plain(row.found.name)}, drawn from its parts"
-        drawn = figure(picture, f'<use href="#p-{row.id()}"/>{picture.ends()}', label, ruled=True)
+        drawn = figure(picture, element("use", href=f"#p-{row.id()}") + picture.ends(), label, ruled=True)
         drawn += marks_legend(row)
     drawn += note(shown(lack)) if lack else ""
-    told = facts(row) + (verdicts(row) if row.net else "")
-    small = not picture or picture.box[2] <= WIDEST_BESIDE
-    both = element("div", element("div", drawn), element("div", told), class_="two" if small else "one")
-    noes = [prop for prop in PROPERTIES if row.net and row.answer(prop)["verdict"] == "no"]
-    shows = element("div", *(breaking(row, prop) for prop in noes), class_="states") if noes else ""
+    both = arranged(row, picture, drawn)
     string = ""
     if row.found.is_json():
         opened = row.of_reading("opened")
@@ -279,9 +361,9 @@ def page(row, before, after):
         summary = element("summary", f"Blueprint string, to paste into the game{what}")
         string = element("details", summary, element("code", strings.deflate(text), class_="string"))
     less = smaller(row) if row.smaller else ""
+    described = element("p", named(row.description()), class_="described") if row.description() else ""
     told = remarks(row, MOST_IN_PAGE)
-    content = ways, element("h2", shown(name)), refused, told, both, shows, less, string
-    return element("article", *content, class_="page", id=row.id())
+    return "".join((element("h2", named(name)), described, refused, told, both, less, string))
 
 
 def summary(rows):
@@ -289,7 +371,7 @@ def summary(rows):
     with_network = [row for row in rows if row.net]
     tiles = [(len(rows), "found"), (len(with_network), "with a network")]
     for prop in PROPERTIES:
-        number = sum(row.answer(prop)["verdict"] == "yes" for row in with_network)
+        number = sum(row.answer(prop).verdict == "yes" for row in with_network)
         tiles.append((f"{number}{element('small', f' of {len(with_network)}')}", prop))
     return element(
         "ul", *(element("li", element("strong", it), element("span", word)) for it, word in tiles), class_="tiles"
@@ -301,52 +383,103 @@ CERTIFICATES = (
     "blocking, without trust in its author or in this program, by checking it with a program of their own."
 )
 
-SEARCH = (
-    '<p class="search" hidden><label for="words">Search</label><input id="words" type="search" autocomplete="off" '
-    'placeholder="words, or unlimited:no"><output id="left" for="words"></output></p>'
+SEARCH = element(
+    "p",
+    element("label", "Search", for_="words"),
+    element("input", id="words", type="search", autocomplete="off", placeholder="4 to 4, words, or unlimited:no"),
+    element("span", id="filters"),
+    element("output", id="left", for_="words"),
+    class_="search",
+    hidden="hidden",
 )
 
 
-def front(rows, title, program):
+@dataclass(frozen=True)
+class Shown:
+    """A design as the page has it: which columns of the table it has something in, what its page tells, and its
+    picture's shapes."""
+
+    row: Row
+    columns: set
+    page: str = ""
+    shapes: str = ""
+
+
+def show(row, alone):
+    """A design as the page has it; whether all are from one file."""
+    cells = cells_of(row) if row.net else {}
+    columns = {it for it, (content, _) in cells.items() if content != ""}
+    table_row(row, alone, cells) if row.net else refused_row(row, alone)
+    if not row.folder or row.same_as:
+        return Shown(row, columns)
+    picture, _ = row.picture
+    shapes = element("g", picture.parts(f"w-{row.id()}"), id=f"p-{row.id()}") if picture else ""
+    return Shown(row, columns, page(row), shapes)
+
+
+def packed(text):
+    """HTML as the page keeps it until it is shown: compressed with zlib, in base64."""
+    return base64.b64encode(zlib.compress(text.encode(), 9)).decode()
+
+
+def front(designs, title, program):
     """The first page: the table of all designs, and what has no network."""
-    alone = len({row.found.source for row in rows}) == 1
-    head = element("tr", *(element("th", it, scope="col", title=KNOWN_AS.get(it, "")) for it in COLUMNS))
-    lines = (table_row(row, alone) for row in rows if row.net)
+    alone = len({it.row.found.source for it in designs}) == 1
+    there = set().union(*(it.columns for it in designs))
+    columns = ["ends", "bare", "splitters", "cells", "tiers", *PROPERTIES, "same network", "smaller", "seconds"]
+    columns = [it for it in columns if it in there or it not in SOMETIMES]
+    titles = (element("th", it, scope="col", title=KNOWN_AS.get(it, "")) for it in ("design", *columns))
+    head = element("tr", *titles)
+    lines = (table_row(it.row, alone, columns) for it in designs if it.row.net)
     table = element("table", element("thead", head), element("tbody", *lines), class_="designs", id="designs")
     promises = (
         element("div", element("dt", prop), element("dd", element("em", KNOWN_AS[prop]), f": {words}"))
         for prop, words in PROMISES.items()
     )
-    content = [element("header", element("h1", shown(title)), summary(rows))]
+    content = [element("header", element("h1", shown(title)), summary([it.row for it in designs]))]
     content += [element("dl", *promises, class_="promises"), SEARCH, element("div", table, class_="wide")]
-    others = [refused_row(row, alone) for row in rows if not row.net]
+    others = [refused_row(it.row, alone) for it in designs if not it.row.net]
     if others:
         table = element("table", element("tbody", *others), class_="others")
         content.append(element("section", element("h2", "Without a network"), table))
     words = (
         "Every yes has a certificate and every no a steady state in which the property fails, and ",
         element("code", "beltproof check"),
-        f" has accepted each. Program {element('code', program[:16])}. The results are in ",
+        f" has accepted each. Program {element('code', shown(program[:16]))}. The results are in ",
         element("a", "results.tsv", href="results.tsv"),
         ", one line for each design and property.",
     )
-    foot = element("footer", element("p", *words), element("p", CERTIFICATES))
-    return element("main", *content, foot, id="all", class_="front")
+    every = element("button", "Print all, a design a sheet", type="button", id="every", hidden="hidden")
+    foot = element("footer", element("p", *words), element("p", CERTIFICATES), every)
+    return element("section", *content, foot, id="all", class_="front")
 
 
-def whole(rows, title, program):
+def policy(script):
+    """What the page may do: it loads nothing, and runs this script alone."""
+    digest = base64.b64encode(hashlib.sha256(script.encode()).digest()).decode()
+    allowed = f"default-src 'none'; style-src 'unsafe-inline'; script-src 'sha256-{digest}'; base-uri 'none'"
+    return element("meta", http_equiv="Content-Security-Policy", content=f"{allowed}; form-action 'none'")
+
+
+def whole(designs, title, program):
     """The whole page."""
-    own = [row for row in rows if row.folder and not row.same_as]
-    drawn = [(row.id(), row.picture[0]) for row in own if row.picture[0]]
-    store = "".join(f'<g id="p-{name}">{picture.parts(f"w-{name}")}</g>' for name, picture in drawn)
-    pages = (page(row, before, after) for before, row, after in zip([None, *own], own, [*own[1:], None]))
+    pages = (
+        element("article", WAYS, class_="page", id=page_id(it.row), data_kept=packed(it.page)) for it in designs if it.page
+    )
     style, script = ((HERE / name).read_text("utf-8") for name in ("report.css", "report.js"))
     head = (
-        '<meta charset="utf-8"><meta name="viewport" content="width=device-width, initial-scale=1">'
-        '<meta name="color-scheme" content="light dark">',
+        element("meta", charset="utf-8"),
+        policy(script),
+        element("meta", name="viewport", content="width=device-width, initial-scale=1"),
+        element("meta", name="color-scheme", content="light dark"),
         element("title", escape(files.plain(title))),
         element("style", style),
     )
-    shapes = element("svg", element("defs", store), class_="store", width="0", height="0", aria_hidden="true")
-    body = element("body", shapes, front(rows, title, program), *pages, element("script", script))
+    kept = (
+        element("g", id=f"k-{it.row.id()}", data_kept=packed(it.shapes)) for it in designs if it.shapes
+    )
+    shapes = element("defs", *kept)
+    store = element("svg", shapes, class_="store", width="0", height="0", aria_hidden="true")
+    main = element("main", front(designs, title, program), *pages)
+    body = element("body", store, element("noscript", element("p", UNDRAWN)), main, element("script", script))
     return f"<!DOCTYPE html>\n{element('html', element('head', *head), body, lang='en')}\n"

@@ -4,6 +4,7 @@ import os
 import signal
 import subprocess
 import threading
+import time
 from dataclasses import dataclass
 from pathlib import Path
 
@@ -20,10 +21,12 @@ class NoProgram(Exception):
 
 @dataclass(frozen=True)
 class Ended:
-    """How a run ended: its status, negative for a signal; its processor seconds; whether its time was up."""
+    """How a run ended: its status, negative for a signal; how many seconds it took of a processor, and by the clock;
+    whether its time was up."""
 
     status: int
-    seconds: float
+    processor: float
+    clock: float
     late: bool
 
 
@@ -45,6 +48,7 @@ class Program:
                 [self.path, *words], stdin=subprocess.PIPE, stdout=writes, stderr=subprocess.DEVNULL
             )
             self.running[process.pid] = False
+        begin = time.monotonic()
         timer = threading.Timer(seconds, self.end, [process.pid]) if seconds else None
         if timer:
             timer.daemon = True
@@ -59,7 +63,8 @@ class Program:
             process.returncode = os.waitstatus_to_exitcode(status)
             if timer:
                 timer.cancel()
-        return Ended(process.returncode, usage.ru_utime + usage.ru_stime, late)
+        clock = time.monotonic() - begin
+        return Ended(process.returncode, usage.ru_utime + usage.ru_stime, clock, late)
 
     def end(self, pid):
         """Ends a run that is under way."""

@@ -1,42 +1,94 @@
 """The report: a page to look at, and a table of all results."""
 
+from collections import defaultdict
 from pathlib import Path
 
-from . import files, page, trace
+from . import files, networks, page, trace
+from .answers import SETTLED
+from .rows import Row
+from .running import share
 from .states import KNOWN_AS, PROPERTIES
-from .work import SETTLED, SMALLER
+from .work import SMALLER
 
-COLUMNS = "design place source property verdict why steps seconds accepted file design_digest program_digest".split()
-COLUMNS += "known_as ends bare opened remarks".split()
+FORMULAS = tuple("=+-@")
+"""How a text begins that a spreadsheet takes for a formula."""
+
+COLUMNS = "design place source property verdict why steps processor_seconds clock_seconds accepted file".split()
+COLUMNS += "design_digest program_digest known_as ends bare opened remarks same_network_as".split()
 
 
-def table(rows, program):
-    """The results, one line for each design and property."""
-    lines = [COLUMNS]
+def took(told):
+    """How many seconds an answer took, of a processor and by the clock."""
+    return [told.processor or 0, told.clock or 0]
+
+
+def lines_of(row, program):
+    """The results of a design, a line of words each."""
+    start = [row.found.name, row.found.place, row.found.source]
+    digests = [row.judged_digest(), program if row.found.text is not None else ""]
+    halves = (trace.spelled(row.bare), trace.spelled(row.of_reading("opened")))
+    same = row.kin[0].found.name if row.kin else ""
+    of_ends = [row.ends(), *halves, "; ".join(row.remarks()), same]
+    if not row.net:
+        verdict = "failed" if row.trouble else "refused" if row.refusal() else "unread"
+        return [[*start, "-", verdict, row.reason() or "not read yet", 0, 0, 0, "", "", *digests, "", *of_ends]]
+    lines = []
+    for prop in PROPERTIES:
+        told = row.answer(prop)
+        file = f"designs/{row.id()}/{told.file}" if told.file else ""
+        accepted = ("yes" if told.verdict in SETTLED else "no") if file else ""
+        line = [prop, told.verdict, told.why, told.steps, *took(told), accepted, file]
+        lines.append([*start, *line, *digests, KNOWN_AS[prop], *of_ends])
+    if row.smaller:
+        told = row.smaller
+        found = told.verdict == "found"
+        why = "{} x {}".format(*told.size) if found else row.why_no_smaller()
+        line = ["smaller", told.verdict, why, 0, *took(told), "", f"designs/{row.id()}/{SMALLER}" if found else ""]
+        lines.append([*start, *line, *digests, "", *of_ends])
+    return lines
+
+
+def cell(word):
+    """A cell of the table: a text that a spreadsheet takes for a formula has a mark in front that makes it none."""
+    text = files.plain(str(word))
+    return f"'{text}" if text[:1] in FORMULAS and text != "-" else text
+
+
+def table(lines):
+    return "".join("\t".join(map(cell, line)) + "\n" for line in [COLUMNS, *lines])
+
+
+def find_kin(rows):
+    """Tells each design which others have the same network."""
+    own = []
     for row in rows:
-        start = [row.found.name, row.found.place, row.found.source]
-        digests = [row.judged_digest(), program if row.found.text is not None else ""]
-        halves = (trace.spelled(row.bare), trace.spelled(row.of_reading("opened")))
-        of_ends = [row.ends(), *halves, "; ".join(row.remarks())]
-        if not row.net:
-            verdict = "refused" if row.refusal() else "unread"
-            lines.append([*start, "-", verdict, row.reason() or "not read yet", 0, 0, "", "", *digests, "", *of_ends])
-            continue
-        for prop in PROPERTIES:
-            told = row.answer(prop)
-            file = f"designs/{row.id()}/{told['file']}" if told.get("file") else ""
-            accepted = ("yes" if told["verdict"] in SETTLED else "no") if file else ""
-            numbers = [told.get("steps", 0), told.get("seconds", 0)]
-            line = [prop, told["verdict"], told.get("why", ""), *numbers, accepted, file]
-            lines.append([*start, *line, *digests, KNOWN_AS[prop], *of_ends])
-        if row.smaller:
-            told = row.smaller
-            found = told["verdict"] == "found"
-            why = "{} x {}".format(*told["size"]) if found else told["why"]
-            file = f"designs/{row.id()}/{SMALLER}" if found else ""
-            line = ["smaller", told["verdict"], why, 0, told.get("seconds", 0), "", file]
-            lines.append([*start, *line, *digests, "", *of_ends])
-    return "".join("\t".join(files.plain(str(word)) for word in line) + "\n" for line in lines)
+        try:
+            if row.folder and not row.same_as and row.net and networks.is_plain(row.net_text):
+                own.append((row, row.cells() is None, row.cells() or 0))
+        except Exception:
+            continue  # What is wrong with it is told where it is shown.
+    groups = {}
+    for first, one in zip(networks.grouped([row.net for row, _, _ in own]), own):
+        groups.setdefault(first, []).append(one)
+    for them in groups.values():
+        kin = [row for row, _, _ in sorted(them, key=lambda it: it[1:])]
+        for row in kin if len(kin) > 1 else []:
+            row.kin = kin
+
+
+def standing_together(rows):
+    """The rows in their order, but those with the same network together, the least in cells first."""
+    found, seen = [], set()
+    copies = defaultdict(list)
+    for row in rows:
+        if row.same_as:
+            copies[id(row.same_as)].append(row)
+    for row in rows:
+        for it in row.kin or [row]:
+            if not it.same_as and id(it) not in seen:
+                seen.add(id(it))
+                found += [it, *copies[id(it)]]
+    return found
 
 
 def title_of(rows):
@@ -47,13 +99,40 @@ def title_of(rows):
     return sources[0].partition(", ")[2] or Path(sources[0]).stem
 
 
+class NotShown(Exception):
+    """Why a design can't be shown: the one that it is the same as can't be."""
+
+
+def guarded(row, alone, program, unshown):
+    """A design as the page has it, and its lines of the table; where they can't be made, the reason, and its folder's
+    name is one of those that aren't shown."""
+    try:
+        if row.id() in unshown:
+            raise NotShown(row.found.digest[:16])
+        return page.show(row, alone), lines_of(row, program)
+    except Exception as fault:
+        if row.folder:
+            unshown.add(row.id())
+        why = f"what is kept of it can't be shown ({type(fault).__name__}: {fault})"
+        bare = Row(row.found, trouble=why)
+        return page.show(bare, alone), lines_of(bare, program)
+
+
 def write(output, rows, program):
-    """Writes the report into its folder; both files, or none."""
+    """Writes the report into its folder; both files, or none. Gives the rows as it shows them."""
     for left in output.glob(f".*{files.UNDONE}"):
         left.unlink()
-    lines, text = table(rows, program), page.whole(rows, title_of(rows), program)
+    share(rows)
+    find_kin(rows)
+    rows = standing_together(rows)
+    alone = len({row.found.source for row in rows}) == 1
+    unshown = set()
+    made = [guarded(row, alone, program, unshown) for row in rows]
+    lines = table(line for _, them in made for line in them)
+    text = page.whole([it for it, _ in made], title_of(rows), program)
     with files.replacing(output / "results.tsv", synced=True) as results:
         with files.replacing(output / "index.html", synced=True) as whole:
             whole.write(text.encode())
             results.write(lines.encode())
             results.flush()
+    return [it.row for it, _ in made]

@@ -3,10 +3,12 @@
 from dataclasses import dataclass, field, replace
 from functools import cached_property
 
-from . import design, labels, refusals, states, trace
+from . import design, files, labels, refusals, states, trace
+from .answers import UNDECIDED, Network, Smaller
 from .files import counted
+from .inputs import Design
 from .picture import Marks, Picture
-from .work import DESIGN_JSON, NETWORK, SMALLER, SMALLER_STRING
+from .work import DESIGN_JSON, NETWORK, ORIGINAL, SMALLER, SMALLER_STRING, Folder
 
 LABELS = {
     "yes": "yes",
@@ -22,6 +24,12 @@ LABELS = {
 """How the report calls the verdicts, in the order in which it sorts them."""
 
 
+TO_LAY_OUT = {
+    27: "a splitter prefers a side, and a layout is looked for of designs in which none does",
+    41: "a layout is looked for of networks of at most 128 edges and splitters, and this one has more",
+    45: "a layout is looked for of networks in which each edge carries one full belt, and of this one an edge doesn't",
+}
+"""Why no smaller layout of a design is looked for, where the refusal means something else than of a design."""
 MOST_LISTED = 8
 """How many bare halves a sentence names at most."""
 
@@ -30,20 +38,24 @@ MOST_LISTED = 8
 class Row:
     """A design of the collection, with its folder and what became of it."""
 
-    found: object
-    folder: object = None
+    found: Design
+    folder: Folder | None = None
     trouble: str | None = None
     same_as: "Row | None" = None
-    network: dict | None = None
+    network: Network | None = None
     decided: dict = field(default_factory=dict)
-    smaller: dict | None = None
+    """The answer of each property that was decided."""
+    smaller: Smaller | None = None
+    kin: list = field(default_factory=list)
+    """The designs that have the same network, itself too, the least in cells first; empty where it is alone."""
 
     def id(self):
+        """The name of its folder."""
         return self.folder.path.name if self.folder else ""
 
     def refusal(self):
         """The program's line where it doesn't take the design."""
-        return (self.network or {}).get("line")
+        return self.network.line if self.network else ""
 
     def reason(self):
         """Why this is no design of belts, or couldn't be dealt with, in words; None where it has a network."""
@@ -58,12 +70,12 @@ class Row:
 
     def is_broken(self):
         """Whether this is no design at all, whatever the program would say of one."""
-        number = refusals.number_of(self.refusal() or "")
+        number = refusals.number_of(self.refusal())
         return self.found.text is None or number in refusals.BROKEN
 
     def answer(self, prop):
         """What became of a property."""
-        return self.decided.get(prop) or {"verdict": "open", "why": "not decided yet"}
+        return self.decided.get(prop) or UNDECIDED
 
     @cached_property
     def text(self):
@@ -74,15 +86,16 @@ class Row:
 
     def judged_digest(self):
         """The digest of the design as it is judged."""
-        return (self.folder.record.get("judged") if self.folder else None) or self.found.digest()
+        file = self.folder.design_file() if self.folder else None
+        return (files.digest_of_file(file) if file else None) or self.found.digest
 
     def is_changed(self):
         """Whether what is judged is another text than what came."""
-        return self.judged_digest() != self.found.digest()
+        return self.folder.file(ORIGINAL).is_file()
 
     def of_reading(self, name):
         """What is told of how the design was read: a list, or a number."""
-        return (self.network or {}).get(name) or []
+        return (getattr(self.network, name) if self.network else None) or []
 
     @cached_property
     def bare(self):
@@ -128,7 +141,7 @@ class Row:
     @cached_property
     def net(self):
         """The network in numbers, where there is one."""
-        if not self.network or self.network.get("status") != 0:
+        if not self.network or self.network.status != 0:
             return None
         return states.read_net(self.net_text)
 
@@ -153,6 +166,19 @@ class Row:
         near = range(least_x - 1, most_x + 2), range(least_y - 1, most_y + 2)
         return [it for it in them if any(x in near[0] and y in near[1] for x, y in it.cells)]
 
+    def cells(self):
+        """How many cells the design's rectangle has, or None where it has no parts."""
+        size = self.size()
+        return size[0] * size[1] if size else None
+
+    def description(self):
+        """What the design's author says of it."""
+        try:
+            told = design.blueprint_of(self.text).get("description") if self.found.is_json() else None
+        except design.Unreadable:
+            return ""
+        return told if isinstance(told, str) else ""
+
     def tiers(self):
         parts, _ = self.design
         return parts.tiers() if parts else {}
@@ -169,7 +195,7 @@ class Row:
     @cached_property
     def smaller_picture(self):
         """The picture of the smaller layout that was found, or None."""
-        if not self.smaller or self.smaller["verdict"] != "found":
+        if not self.smaller or self.smaller.verdict != "found":
             return None
         parts = design.read(self.folder.text(SMALLER))
         marks = Marks(tuple(trace.bare_ends(parts.parts)))
@@ -177,6 +203,14 @@ class Row:
             return Picture(parts, trace.Layout(parts.parts).network(), marks)
         except trace.Untraced:
             return Picture(parts, marks=marks)
+
+    def why_no_smaller(self):
+        """Why there is no smaller layout, in words."""
+        line = self.smaller.why
+        number = refusals.number_of(line)
+        if number in TO_LAY_OUT:
+            return f"refused {number} {line.split(' ')[2]}: {TO_LAY_OUT[number]}"
+        return refusals.told(line, self.text)
 
     def smaller_string(self):
         """The smaller layout as a string to paste."""

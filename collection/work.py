@@ -5,11 +5,14 @@ done again, as long as the files are there and are what they were. The design is
 isn't as it came, it is kept as it came too."""
 
 import json
+import re
 import threading
-from dataclasses import dataclass, field
+from dataclasses import dataclass, field, replace
 from pathlib import Path
 
 from . import cleaning, design, files, openings, strings
+from .answers import ANSWERS, FOUND, GAVE_UP, SETTLED, Answer, Limits, Network, Smaller
+from .inputs import design_digest
 from .program import EXACT_STATUSES
 from .states import PROPERTIES
 
@@ -19,38 +22,17 @@ DESIGN_JSON, DESIGN_NET = "design.json", "design.net"
 ORIGINAL = "original.json"
 """The design as it came, where what is judged is another text."""
 LONGEST_LINE = 4096
-SETTLED = ("yes", "no")
-GAVE_UP = ("spent", "pivots", "wide", "late", "unaccepted")
-ANSWERS = {"yes": "yes", "no": "not"}
-"""How the name of a file begins that holds a certificate, or a breaking state."""
 SMALLER, SMALLER_STRING, SMALLER_NETWORK = "smaller.json", "smaller.txt", "smaller.net"
 """A smaller blueprint, the string to paste of it, and the network that is recovered from it."""
-FOUND = ("found", "none", "refused", "late")
-"""What looking for a smaller layout may come to, but for failures."""
 REFUSED = 3
 """The program's status where it refuses a design."""
+FIRST_LEARNT, TIMES_LEARNT, DEFAULT_LEARNT = 500, 4, 100_000
+"""The steps of the first search where the time is bounded, how many times as many the next one has, and the program's own
+bound."""
+GRID = re.compile(rb"grid (\d{1,9})x(\d{1,9})")
+FAILED = -1
+"""What stands for its status where it gave no answer."""
 VERDICT_OF = {0: "yes", 1: "no", 4: "spent", 5: "wide", 10: "pivots"}
-
-
-@dataclass(frozen=True)
-class Limits:
-    """What a decision may take: seconds, the steps of a log, and the turns for a choice of rows."""
-
-    seconds: float | None = None
-    learnt: int | None = None
-    pivots: int | None = None
-
-    def words(self):
-        """The words that tell the program of them."""
-        given = (("--learnt", self.learnt), ("--pivots", self.pivots))
-        return [word for name, value in given if value is not None for word in (name, str(value))]
-
-    def told(self):
-        return [self.seconds, self.learnt, self.pivots]
-
-    def words_to_find(self):
-        """The words that tell the program of them where it looks for layouts, which takes no turns."""
-        return ["--learnt", str(self.learnt)] if self.learnt is not None else []
 
 
 class Folder:
@@ -65,7 +47,9 @@ class Folder:
             record = json.loads((self.path / RECORD).read_text("utf-8"))
         except (OSError, ValueError, RecursionError):
             return {}
-        return record if isinstance(record, dict) and isinstance(record.get("decided", {}), dict) else {}
+        kinds = {"decided": dict} | dict.fromkeys(("design", "judged", "program", "name", "label"), str)
+        sound = isinstance(record, dict) and all(isinstance(record.get(it, kind()), kind) for it, kind in kinds.items())
+        return record if sound else {}
 
     def write(self):
         files.write(self.path / RECORD, json.dumps(self.record, indent=1) + "\n")
@@ -89,37 +73,41 @@ class Folder:
 
     def digest(self):
         """The digest of the design as it came, as the record tells it, or of its file; None where there is none."""
+        return self.record.get("design") or self.digest_of_original()
+
+    def digest_of_original(self):
+        """The digest of the design as it came, or None where its file can't be read."""
         file = self.original_file()
-        return self.record.get("design") or (files.digest_of_file(file) if file else None)
+        try:
+            return design_digest(file.read_bytes()) if file else None
+        except OSError:
+            return None
 
     def network(self):
         """What the record tells of the network, where the files are what they were."""
-        told = self.record.get("network")
-        if not isinstance(told, dict):
+        told = Network.of(self.record.get("network"))
+        if told is None:
             return None
         file, judged = self.design_file(), self.record.get("judged")
-        same = "digest" not in told or told["digest"] == files.digest_of_file(self.file(NETWORK))
+        same = not told.digest or told.digest == files.digest_of_file(self.file(NETWORK))
         same = same and (judged is None or file is not None and files.digest_of_file(file) == judged)
         return told if same else None
 
     def decided(self, prop):
         """What the record tells of a property, where the files are what they were."""
-        told = self.record.get("decided", {}).get(prop)
-        if not isinstance(told, dict) or told.get("verdict") not in SETTLED + GAVE_UP:
+        told = Answer.of(self.record.get("decided", {}).get(prop))
+        if told is None or not told.is_of(prop):
             return None
-        if told.get("file") and files.digest_of_file(self.file(told["file"])) != told.get("digest"):
-            return None
-        return told
+        return told if not told.file or files.digest_of_file(self.file(told.file)) == told.digest else None
 
     def smaller(self):
         """What the record tells of a smaller layout, where the files are what they were."""
-        told = self.record.get("smaller")
-        if not isinstance(told, dict) or told.get("verdict") not in FOUND:
+        told = Smaller.of(self.record.get("smaller"))
+        if told is None or told.verdict not in FOUND:
             return None
-        kept = told.get("digests", {})
-        if not isinstance(kept, dict) or any(files.digest_of_file(self.file(it)) != kept[it] for it in kept):
-            return None
-        return None if told["verdict"] == "found" and SMALLER not in kept else told
+        names = {SMALLER, SMALLER_STRING} if told.verdict == "found" else set()
+        same = set(told.digests) == names and (told.size is not None) == bool(names)
+        return told if same and all(files.digest_of_file(self.file(it)) == told.digests[it] for it in names) else None
 
     def forget(self, record):
         """Takes away what another program answered, or what was answered to another design."""
@@ -149,20 +137,8 @@ class Folder:
 
     def keep_decided(self, prop, told):
         with self.guard:
-            self.record.setdefault("decided", {})[prop] = told
+            self.record.setdefault("decided", {})[prop] = told.kept()
             self.write()
-
-
-def stands(told, limits):
-    """Whether an answer needs no second run: a verdict, which was checked, or the same limits once more."""
-    if told is None:
-        return False
-    return told["verdict"] in SETTLED or told["verdict"] in GAVE_UP and told.get("limits") == limits.told()
-
-
-def is_looked_for(told, limits):
-    """Whether a smaller layout needs no second run: a refusal, or the same limits once more."""
-    return told is not None and (told["verdict"] == "refused" or told.get("limits") == limits.told())
 
 
 def sizes(text):
@@ -189,6 +165,11 @@ def first_line(path):
         return file.readline(LONGEST_LINE).decode("ascii", "replace").rstrip("\n")
 
 
+def word_of(line, at):
+    """A word of a line, or an empty one where it has fewer."""
+    return (line.split(" ")[at:] or [""])[0]
+
+
 def numbers_line(path):
     """The line that tells two numbers whose sum or product leaves 128 bits."""
     with open(path, "rb") as file:
@@ -208,10 +189,40 @@ def count_steps(path):
 
 def how_it_ended(ended):
     """Why a run has no answer, in words."""
+    if ended.status in EXACT_STATUSES:
+        return f"the program wrote no answer, and ended with status {ended.status}"
     if ended.status < 0:
         return f"the program was ended by signal {-ended.status}"
     told = {6: "the program couldn't read", 7: "the program couldn't write", 8: "the program had no memory left"}
     return told.get(ended.status, f"the program ended with status {ended.status}")
+
+
+def spent_on(ended):
+    """What a run took, in seconds, as an answer tells it."""
+    return {"processor": round(ended.processor, 3), "clock": round(ended.clock, 3)}
+
+
+def rounds(limits):
+    """The words for one search after the other: with more and more steps where the time is bounded, else one alone."""
+    if limits.seconds is None:
+        return [limits.words_to_find()]
+    most, steps = DEFAULT_LEARNT if limits.learnt is None else limits.learnt, FIRST_LEARNT
+    found = []
+    while steps < most:
+        found.append(["--learnt", str(steps)])
+        steps *= TIMES_LEARNT
+    return [*found, ["--learnt", str(most)]]
+
+
+@dataclass
+class Spent:
+    """What several runs took, in seconds of a processor and by the clock."""
+
+    processor: float = 0
+    clock: float = 0
+
+    def add(self, ended):
+        self.processor, self.clock = self.processor + ended.processor, self.clock + ended.clock
 
 
 class NoAnswer(Exception):
@@ -241,13 +252,12 @@ class Worker:
 
     def begin(self, folder, name, label, text, file):
         """Puts a design into its folder. What is there of another design or program is forgotten."""
-        digest = files.digest(text)
+        digest = design_digest(text)
         record = folder.record
         if record.get("design") != digest or record.get("program") != self.program.digest:
             folder.forget({"design": digest, "program": self.program.digest})
         folder.record |= {"name": name, "label": label}
-        original = folder.original_file()
-        if original is None or files.digest_of_file(original) != digest:
+        if folder.digest_of_original() != digest:
             folder.file(ORIGINAL).unlink(missing_ok=True)
             files.write(folder.file(file), text)
         if folder.read() != folder.record:
@@ -269,7 +279,7 @@ class Worker:
     def recover(self, folder):
         """Finds the network of the design as it is judged, or the refusal."""
         told = folder.network()
-        if told is not None and told.get("asked") == self.reading.told():
+        if told is not None and told.asked == self.reading.told():
             return told
         file = folder.original_file()
         try:
@@ -278,15 +288,14 @@ class Worker:
             else:
                 answer, kept = self.judge(folder, file.read_bytes())
         except NoAnswer as ended:
-            return {"status": ended.args[0].status, "line": how_it_ended(ended.args[0])}
-        kept |= {"asked": self.reading.told(), "status": 0 if answer.startswith("net ") else REFUSED}
-        if kept["status"] == 0:
+            return Network(FAILED, how_it_ended(ended.args[0]))
+        if answer.startswith("net "):
             files.write(folder.file(NETWORK), answer)
-            kept["digest"] = files.digest(answer.encode())
+            told = Network(0, digest=files.digest(answer.encode()), asked=self.reading.told(), **kept)
         else:
-            kept["line"] = answer
-        folder.keep(network=kept)
-        return kept
+            told = Network(REFUSED, answer, asked=self.reading.told(), **kept)
+        folder.keep(network=told.kept())
+        return told
 
     def judge(self, folder, data):
         """Puts a blueprint into its folder as it is judged; the program's answer, and what is told of it."""
@@ -307,14 +316,14 @@ class Worker:
     def decide(self, folder, prop):
         """Decides a property and checks the answer; what the record tells is not done again."""
         told = folder.decided(prop)
-        if stands(told, self.limits):
+        if told and told.stands(self.limits):
             return told
         answer = folder.file(f"{prop}.answer{files.UNDONE}")
         try:
             told = self.decide_anew(folder, prop, answer)
         finally:
             answer.unlink(missing_ok=True)
-        if told["verdict"] in SETTLED + GAVE_UP:
+        if told.verdict in SETTLED + GAVE_UP:
             folder.keep_decided(prop, told)
         return told
 
@@ -322,20 +331,23 @@ class Worker:
         with open(answer, "wb") as out:
             words = ["decide", prop, *self.limits.words()]
             ended = self.program.run(words, [folder.design_file()], out, self.limits.seconds)
-        told = {"steps": 0, "seconds": round(ended.seconds, 3), "limits": self.limits.told()}
-        if ended.late:
-            return told | {"verdict": "late", "why": f"the time was up after {self.limits.seconds:g} seconds"}
         verdict, line = VERDICT_OF.get(ended.status), first_line(answer)
-        if verdict in SETTLED:
-            return told | self.settle(folder, prop, verdict, answer)
-        if verdict is None:
-            return told | {"verdict": "failed", "why": line or how_it_ended(ended)}
-        if verdict == "spent":
-            told["steps"] = int(line.split(" ")[1])
-        why = {"spent": "the log is full: {1} steps", "pivots": "{1} turns were made for one choice of rows"}
-        numbers = numbers_line(answer)
-        wide = f"a number leaves 128 bits ({line}{'; ' * bool(numbers)}{numbers})"
-        return told | {"verdict": verdict, "why": why.get(verdict, "").format(*line.split(" ")) or wide}
+        if ended.late:
+            told = Answer("late", f"the time was up after {self.limits.seconds:g} seconds by the clock")
+        elif verdict in SETTLED and line:
+            told = self.settle(folder, prop, verdict, answer)
+        elif verdict is None or not line:
+            told = Answer("failed", line or how_it_ended(ended))
+        elif verdict == "spent" and word_of(line, 1).isdigit():
+            told = Answer(verdict, f"the log is full: {word_of(line, 1)} steps", int(word_of(line, 1)))
+        elif verdict == "pivots":
+            told = Answer(verdict, f"{word_of(line, 1)} turns were made for one choice of rows")
+        elif verdict == "wide":
+            numbers = numbers_line(answer)
+            told = Answer(verdict, f"a number leaves 128 bits ({line}{'; ' * bool(numbers)}{numbers})")
+        else:
+            told = Answer("failed", line)
+        return replace(told, **spent_on(ended), limits=self.limits.told())
 
     def settle(self, folder, prop, verdict, answer):
         """Checks an answer, and keeps it under the name that tells what it says."""
@@ -352,50 +364,65 @@ class Worker:
             folder.file(f"{other}-{prop}.txt").unlink(missing_ok=True)
         steps = count_steps(answer) if verdict == "yes" else 0
         answer.rename(folder.file(name))
-        told = {"verdict": verdict, "steps": steps, "file": name, "digest": files.digest_of_file(folder.file(name))}
+        told = Answer(verdict, "", steps, file=name, digest=files.digest_of_file(folder.file(name)))
         if line == f"{verdict} {prop}":
             return told
-        exact = check.late or check.status in EXACT_STATUSES
+        exact = check.late or check.status in EXACT_STATUSES and line != how_it_ended(check)
         why = f"{verdict}, but check doesn't accept it: {line}"
-        return told | {"verdict": "unaccepted" if exact else "failed", "why": why}
-
+        return replace(told, verdict="unaccepted" if exact else "failed", why=why)
 
     def shrink(self, folder):
         """Looks for a smaller layout of a design that is laid out; what the record tells is not done again."""
         told = folder.smaller()
-        if is_looked_for(told, self.limits):
+        if told and told.stands(self.limits):
             return told
         answer = folder.file(f"smaller.answer{files.UNDONE}")
         try:
             told = self.shrink_anew(folder, answer)
         finally:
             answer.unlink(missing_ok=True)
-        if told["verdict"] in FOUND:
-            folder.keep(smaller=told)
+        if told.verdict in FOUND:
+            folder.keep(smaller=told.kept())
         return told
 
     def shrink_anew(self, folder, answer):
+        """Looks for a smaller layout; where the time is bounded, with more and more steps, so that what was found stands
+        when the time is up."""
         for name in (SMALLER, SMALLER_STRING):
             folder.file(name).unlink(missing_ok=True)
-        tier = tier_words(folder.design_file().read_text("utf-8", "replace"))
+        tier, found, spent, told = tier_words(folder.text(folder.design_file().name)), None, Spent(), None
+        for steps in rounds(self.limits):
+            left = self.limits.seconds and max(0.001, self.limits.seconds - spent.clock)
+            told = self.look(folder, answer, [*tier, *steps], left, spent)
+            if told.verdict == "found":
+                found = told
+            elif told.verdict != "none":
+                break
+        told = found if found and told.verdict in ("late", "none") else told
+        return replace(told, processor=round(spent.processor, 3), clock=round(spent.clock, 3), limits=self.limits.told())
+
+    def look(self, folder, answer, words, seconds, spent):
+        """Looks for a smaller layout once, with these words and for so many seconds."""
         with open(answer, "wb") as out:
-            words = ["smallest", "--found", *tier, *self.limits.words_to_find()]
-            ended = self.program.run(words, [folder.design_file()], out, self.limits.seconds)
-        told = {"seconds": round(ended.seconds, 3), "limits": self.limits.told()}
-        if ended.late:
-            return told | {"verdict": "late", "why": f"the time was up after {self.limits.seconds:g} seconds"}
+            ended = self.program.run(["smallest", "--found", *words], [folder.design_file()], out, seconds)
+        spent.add(ended)
         line = first_line(answer)
-        if ended.status == 0:
-            return told | self.keep_smaller(folder, answer)
-        if ended.status == 4:
-            return told | {"verdict": "none", "why": f"none was found in {line.split(' ')[1]} steps"}
-        if ended.status in EXACT_STATUSES:
-            return told | {"verdict": "refused", "why": line}
-        return told | {"verdict": "failed", "why": line or how_it_ended(ended)}
+        if ended.late:
+            return Smaller("late", f"the time was up after {self.limits.seconds:g} seconds by the clock")
+        if ended.status == 0 and line:
+            return self.keep_smaller(folder, answer)
+        if ended.status == 4 and word_of(line, 1).isdigit():
+            return Smaller("none", f"none was found in {word_of(line, 1)} steps")
+        if ended.status in EXACT_STATUSES and line:
+            return Smaller("refused", line)
+        return Smaller("failed", line or how_it_ended(ended))
 
     def keep_smaller(self, folder, answer):
         """Keeps a smaller blueprint and its string, where its network has the sizes of the design's."""
         grid, _, blueprint = answer.read_bytes().partition(b"\n")
+        size = GRID.fullmatch(grid)
+        if size is None:
+            return Smaller("failed", f"the program wrote no size of a grid: {first_line(answer)!r}")
         asked = folder.file(f"{SMALLER_NETWORK}{files.UNDONE}")
         try:
             with open(asked, "wb") as out:
@@ -404,20 +431,19 @@ class Worker:
         finally:
             asked.unlink(missing_ok=True)
         if ended.status != 0 or sizes(shown) != sizes(folder.text(NETWORK)):
-            return {"verdict": "failed", "why": f"what was found shows another network: {shown[:LONGEST_LINE]!r}"}
+            return Smaller("failed", f"what was found shows another network: {shown[:LONGEST_LINE]!r}")
         files.write(folder.file(SMALLER), blueprint)
         files.write(folder.file(SMALLER_STRING), strings.deflate(blueprint.rstrip(b"\n")) + "\n")
         digests = {name: files.digest_of_file(folder.file(name)) for name in (SMALLER, SMALLER_STRING)}
-        width, _, height = grid.decode("ascii", "replace").removeprefix("grid ").partition("x")
-        return {"verdict": "found", "size": [int(width), int(height)], "digests": digests}
+        return Smaller("found", size=[int(it) for it in size.groups()], digests=digests)
 
 
 def all_of(worker, folder):
     """Does all work on one folder, one thing after the other; gives what failed, in words."""
     network = worker.recover(folder)
-    if network["status"] not in EXACT_STATUSES:
-        return [network["line"]]
-    answers = [worker.decide(folder, prop) for prop in PROPERTIES] if network["status"] == 0 else []
-    if worker.smaller and network["status"] == 0 and folder.design_file().name == DESIGN_JSON:
+    if network.status == FAILED:
+        return [network.line]
+    answers = [worker.decide(folder, prop) for prop in PROPERTIES] if network.status == 0 else []
+    if worker.smaller and network.status == 0 and folder.design_file().name == DESIGN_JSON:
         answers.append(worker.shrink(folder))
-    return [it["why"] for it in answers if it["verdict"] == "failed"]
+    return [it.why for it in answers if it.verdict == "failed"]

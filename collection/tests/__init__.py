@@ -4,8 +4,11 @@ import contextlib
 import io
 import json
 import os
+import re
 import tempfile
 import unittest
+import zlib
+from base64 import b64decode
 from pathlib import Path
 
 from .. import program
@@ -97,7 +100,9 @@ class Case(unittest.TestCase):
         return [dict(zip(head.split("\t"), line.split("\t"))) for line in lines]
 
     def page(self):
-        return (self.report / "index.html").read_text()
+        """The report's page, with all that it keeps compressed in its place."""
+        text = (self.report / "index.html").read_text()
+        return re.sub(r' data-kept="([^"]*)">', lambda it: ">" + zlib.decompress(b64decode(it[1])).decode(), text)
 
     def left_undone(self):
         return [it for it in self.report.rglob("*") if it.name.endswith(".part")]

@@ -140,7 +140,7 @@ class Started(Case):
             ([], b'{"blueprint":', "refused 10 Json"),
             (["nowhere"], b"", "nowhere: there is no such file"),
             (["--program", "nowhere"], TEXT, "nowhere is no program"),
-            (["--program", shutil.which("false")], TEXT, "the program ended with status 1"),
+            (["--program", shutil.which("false")], TEXT, "the program wrote no answer, and ended with status 1"),
         )
         for words, given, why in cases:
             with self.subTest(why=why):

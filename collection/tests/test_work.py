@@ -117,7 +117,7 @@ class Resuming(Case):
         status, _, _ = run(*self.words("--seconds", 0.3, how="slow"))
         self.assertLess(time.monotonic() - begin, 20)
         told = {(it["verdict"], it["why"]) for it in self.results()}
-        self.assertEqual(told, {("late", "the time was up after 0.3 seconds")})
+        self.assertEqual(told, {("late", "the time was up after 0.3 seconds by the clock")})
         self.assertEqual((status, self.left_undone()), (0, []))
 
     def start(self, *more, how=""):
@@ -239,7 +239,8 @@ class Smaller(Case):
     def test_each_failure_is_a_line(self):
         cases = {
             "": (0, "none", "none was found in 7 steps"),
-            "refused": (0, "refused", "refused 45 Cap 0"),
+            "refused": (0, "refused", "refused 45 Cap: a layout is looked for of networks in which each edge carries one full "
+            "belt, and of this one an edge doesn't"),
             "killed": (1, "failed", "the program was ended by signal 9"),
             "other": (1, "failed", "what was found shows another network: 'net 2 2 0\\n'"),
         }
@@ -251,7 +252,7 @@ class Smaller(Case):
 
     def test_the_time_is_kept(self):
         self.assertEqual(self.run_on("--seconds", 0.3, how="slow"), 0)
-        self.assertEqual(self.told(), ("late", "the time was up after 0.3 seconds", ""))
+        self.assertEqual(self.told(), ("late", "the time was up after 0.3 seconds by the clock", ""))
         self.assertEqual(self.left_undone(), [])
 
     def test_it_is_planned_and_done_elsewhere(self):
@@ -267,7 +268,7 @@ class Elsewhere(Case):
     def test_plan_one_and_gather_make_the_same_report(self):
         design = [EXAMPLES / "splitter-2-to-2.json", EXAMPLES / "chain-1-to-3.net", EXAMPLES / "README.md"]
         self.assertEqual(run(*design, "-o", self.report, "--jobs", "1")[0], 0)
-        together = [{**it, "seconds": ""} for it in self.results()]
+        together = [{**it, "processor_seconds": "", "clock_seconds": ""} for it in self.results()]
         self.report = self.folder / "other"
         status, plan, _ = run(*design, "-o", self.report, "--plan", "--learnt", 9999)
         self.assertEqual((status, plan.count("\n")), (0, 2))
@@ -280,7 +281,7 @@ class Elsewhere(Case):
             self.assertEqual(words[:3], ["--learnt", "9999", "--one"])
             self.assertEqual(run(*words), (0, "", ""))
         self.assertEqual(run(*design, "-o", self.report, "--gather")[0], 0)
-        self.assertEqual([{**it, "seconds": ""} for it in self.results()], together)
+        self.assertEqual([{**it, "processor_seconds": "", "clock_seconds": ""} for it in self.results()], together)
         self.assertEqual(run(*design, "-o", self.report, "--plan", "--learnt", 9999)[1], "")
 
     def test_wrong_words(self):

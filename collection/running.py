@@ -1,0 +1,175 @@
+"""The work on all designs: each has its folder, what is to be done is done so many at once, and what goes wrong with one
+of them is told of this one and ends nothing else."""
+
+import os
+import shlex
+from concurrent.futures import FIRST_COMPLETED, ThreadPoolExecutor, wait
+
+from . import design, files
+from .answers import Answer, Smaller
+from .progress import REDRAWN_EACH, Progress
+from .states import PROPERTIES
+from .work import DESIGN_JSON, FAILED, Folder
+
+
+def fault_of(fault):
+    """What went wrong, in words."""
+    return fault.strerror or str(fault) if isinstance(fault, OSError) else f"{type(fault).__name__}: {fault}"
+
+
+def place(rows, output):
+    """Gives each design its folder; the same design twice has the same one. A folder that is there is used again, where
+    its name is one that a design is given."""
+    there, taken, first = {}, set(), {}
+    folder = output / "designs"
+    for path in sorted(folder.iterdir()) if folder.is_dir() else []:
+        taken.add(path.name)
+        if files.is_slug(path.name) and path.is_dir() and not path.is_symlink():
+            there.setdefault(Folder(path).digest(), path)
+    for row in rows:
+        digest = row.found.digest
+        if not digest:
+            continue
+        if digest in first:
+            row.same_as, row.folder = first[digest], first[digest].folder
+            continue
+        path = there.get(digest) or folder / files.free_name(row.found.name, taken)
+        taken.add(path.name)
+        row.folder, first[digest] = Folder(path), row
+
+
+def own_rows(rows):
+    return [row for row in rows if row.folder and not row.same_as]
+
+
+def fill(rows):
+    """Takes what the folders' records tell into the rows."""
+    for row in rows:
+        if row.folder and row.folder.record.get("design") == row.found.digest:
+            row.network, row.smaller = row.folder.network(), row.folder.smaller()
+            told = {prop: row.folder.decided(prop) for prop in PROPERTIES}
+            row.decided = {prop: it for prop, it in told.items() if it}
+
+
+def share(rows):
+    """Gives each design that is there before what became of the first one."""
+    for row in rows:
+        if row.same_as:
+            row.network, row.decided, row.trouble = row.same_as.network, row.same_as.decided, row.same_as.trouble
+            row.smaller = row.same_as.smaller
+
+
+def clean(folder):
+    """Takes away what a run that was ended left half written."""
+    for left in list(folder.path.iterdir()) if folder.path.is_dir() else []:
+        if left.name.endswith(files.UNDONE):
+            left.unlink()
+
+
+def begin(worker, row):
+    """Puts a design into its folder; whether that could be done."""
+    try:
+        clean(row.folder)
+        worker.begin(row.folder, row.found.name, row.found.label(), row.found.text, row.found.file())
+    except Exception as fault:
+        row.trouble = f"its folder can't be written: {fault_of(fault)}"
+    return row.trouble is None
+
+
+def recover(worker, row):
+    try:
+        told = worker.recover(row.folder)
+        row.network, row.trouble = (None, told.line) if told.status == FAILED else (told, None)
+    except Exception as fault:
+        row.trouble = f"its network can't be written: {fault_of(fault)}"
+
+
+def decide(worker, row, prop):
+    try:
+        row.decided[prop] = worker.decide(row.folder, prop)
+    except Exception as fault:
+        row.decided[prop] = Answer("failed", f"the answer can't be written: {fault_of(fault)}")
+
+
+def shrink(worker, row):
+    try:
+        row.smaller = worker.shrink(row.folder)
+    except Exception as fault:
+        row.smaller = Smaller("failed", f"the smaller layout can't be written: {fault_of(fault)}")
+
+
+def is_to_shrink(folder, worker):
+    """Whether a smaller layout of this design is still to be looked for."""
+    told = folder.smaller()
+    return worker.smaller and folder.file(DESIGN_JSON).is_file() and not (told and told.stands(worker.limits))
+
+
+def undecided(folder, worker):
+    """The properties that are still to be decided."""
+    told = {prop: folder.decided(prop) for prop in PROPERTIES}
+    return [prop for prop, it in told.items() if not (it and it.stands(worker.limits))]
+
+
+def tasks_of(rows, worker):
+    """What is to be done for each design and property, with its name."""
+    for row in rows:
+        left = undecided(row.folder, worker)
+        row.decided = {prop: row.folder.decided(prop) for prop in PROPERTIES if prop not in left}
+        row.smaller = row.folder.smaller()
+        yield from ((f"{row.found.name} {prop}", (decide, worker, row, prop)) for prop in left)
+        if is_to_shrink(row.folder, worker):
+            yield f"{row.found.name} smaller", (shrink, worker, row)
+
+
+def run_all(tasks, jobs, program):
+    """Does all tasks, so many at once."""
+    progress = Progress(len(tasks))
+
+    def run(name, call, *rest):
+        progress.running[id(rest)] = name
+        try:
+            call(*rest)
+        finally:
+            progress.running.pop(id(rest))
+
+    pool = ThreadPoolExecutor(jobs)
+    try:
+        left = {pool.submit(run, name, *task) for name, task in tasks}
+        while left:
+            progress.draw()
+            done, left = wait(left, REDRAWN_EACH, FIRST_COMPLETED)
+            progress.done += len(done)
+            for it in done:
+                it.result()
+    except BaseException:
+        program.stop()
+        pool.shutdown(cancel_futures=True)
+        raise
+    finally:
+        progress.end()
+        pool.shutdown()
+
+
+def work(rows, worker, jobs):
+    """All the work: networks first, then decisions."""
+    own = [row for row in own_rows(rows) if begin(worker, row)]
+    run_all([(row.found.name, (recover, worker, row)) for row in own], jobs, worker.program)
+    with_network = [row for row in own if row.network and row.network.status == 0]
+    run_all(list(tasks_of(with_network, worker)), jobs, worker.program)
+
+
+def words_for_one(asked):
+    """The words of a command for one design that asks for the same."""
+    given = [(f"--{name}", getattr(asked, name)) for name in ("seconds", "learnt", "pivots", "program")]
+    words = [word for name, value in given if value is not None for word in (name, str(value))]
+    words += ["--smaller"] if asked.smaller else []
+    words += ["--bare-ends", asked.bare_ends] if asked.bare_ends != "label" else []
+    return words + [it for name, part in asked.treat_as for it in ("--treat-as", f"{name}={design.NAMES[part][1]}")]
+
+
+def plan(rows, worker, asked):
+    """A command for each design that has work left."""
+    command, words = os.environ.get("COLLECTION_COMMAND", "bin/collection"), words_for_one(asked)
+    for row in own_rows(rows):
+        if begin(worker, row) and (undecided(row.folder, worker) or is_to_shrink(row.folder, worker)):
+            yield shlex.join([command, *words, "--one", str(row.folder.path)])
