@@ -219,7 +219,11 @@ fn solver_of(
 }
 
 /// What a search comes to, and the steps that it takes.
-fn trial_by(alloc: Global, request: &Request, solver: &mut Solver<Active>) -> Result<Tried, AllocError>
+fn trial_by(
+    alloc: Global,
+    request: &Request,
+    solver: &mut Solver<Active>,
+) -> Result<Tried, AllocError>
     requires { IsNarrowedSearch request.now solver.old.kernel }
     ensures { IfOk result (λ tried. IsTrial request.now tried.trial) }
 {
