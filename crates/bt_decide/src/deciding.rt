@@ -1,20 +1,22 @@
 //! Deciding a property of a network by its flow formula.
-ghost use Rattle.std.specs.Prelude.{◌≡◌, IfOk};
+ghost use Rattle.std.specs.Prelude.{◌≡◌, IfOk, IfSome};
 ghost use Rattle.bt_decide.specs.Verdicts.{IsVerdict};
 ghost use Rattle.bt_decide.specs.inner.Outcomes.{IsVerdictOf};
+ghost use Rattle.bt_simulate.specs.Simulations.{IsBreaking};
 
 use crate::scopes::scopes_of;
 use crate::verdict::Verdict;
 use bt_cnf::{Chooser, Limits};
 use bt_fenc::{encode, state_of};
-use bt_flow::Property;
+use bt_flow::{Property, State};
 use bt_net::Net;
 use bt_simulate::simplest;
 use bt_theory::{Outcome, solve};
 use std::alloc::{AllocError, Global};
 
 /// Decides within limits whether every steady state of a network has a property. A state that simulations show is looked
-/// for before the search. The choosers steer the search, which is right whatever they answer.
+/// for before the search, but where no turns are allowed. The choosers steer the search, which is right whatever they
+/// answer.
 pub fn decide<C: Chooser>(
     alloc: Global,
     net: &Net,
@@ -24,10 +26,25 @@ pub fn decide<C: Chooser>(
 ) -> Result<Verdict, AllocError>
     ensures { IfOk result (IsVerdict net.now property limits) }
 {
-    match simplest(alloc, net, property)? {
+    match shown(alloc, net, property, limits)? {
         Some(state) => Ok(Verdict::No(state)),
         None => search(alloc, net, property, limits, choosers),
     }
+}
+
+/// A state that simulations show and that breaks the property, where turns are allowed: they are asked for no state else.
+fn shown(
+    alloc: Global,
+    net: &Net,
+    property: Property,
+    limits: Limits,
+) -> Result<Option<State>, AllocError>
+    ensures { IfOk result (λ found. IfSome found (IsBreaking net.now property)) }
+{
+    if limits.pivots == 0 {
+        return Ok(None);
+    }
+    simplest(alloc, net, property)
 }
 
 /// Decides by a search within limits whether every steady state of a network has a property.
