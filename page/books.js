@@ -1,8 +1,12 @@
 // Blueprint books: the bytes of each design in a book, with its place there. Bytes are walked, and not made into values,
-// so that each design stays what it was, faults and all, for the program to judge; and without recursion.
+// so that each design stays what it was, faults and all, for the program to judge; and without recursion. The same as
+// `collection/books.py`.
 
 /** How many books stand in one another at most. */
 const MOST_NESTED = 100000;
+
+/** How many digits a place in a book has at most: the report reads none longer. */
+const LONGEST_INDEX = 4300;
 
 class Fault extends Error {}
 
@@ -105,7 +109,7 @@ const labelOf = (bytes) => {
     for (const name of walk.members()) {
       const isString = walk.sign() === QUOTE;
       const value = walk.value();
-      if (name === "label" && isString) label = text(value);
+      if (name === "label") label = isString ? text(value) : null;
     }
   } catch {
     return label;
@@ -113,19 +117,35 @@ const labelOf = (bytes) => {
   return label?.trim() ? label : null;
 };
 
-/** Reads one entry: a design, a book, or what is neither. */
+/** A whole number from 0 on, as JSON writes it: digits alone, which are kept as they are, since a number may be too long. */
+const WHOLE = /^-?(?:0|[1-9]\d*)$/;
+
+/** The number of a place that a member `index` tells, or where that is none, this one. */
+const indexOf = (bytes, number) => {
+  const written = new TextDecoder().decode(bytes.subarray(0, LONGEST_INDEX + 1));
+  if (written === "-0") return "0";
+  return bytes.length <= LONGEST_INDEX && WHOLE.test(written) && written[0] !== "-" ? written : number;
+};
+
+/** Reads one entry: a design, a book, or what is neither. Its number is that of its place, as the book that it stands in
+    tells it; where it doesn't, counted from 1. */
 function* entry(walk, found, book, number, depth) {
   walk.sign();
   const start = walk.at;
   let label = null;
-  let held = false;
+  let held = null;
   if (walk.sign() !== SIGN["{"]) walk.value();
   else
     for (const name of walk.members()) {
       if (name === "blueprint_book" && walk.sign() === SIGN["{"]) {
-        held = true;
-        yield pages(walk, found, { above: book, number, label: null }, depth + 1);
-      } else label = labelOf(walk.value()) ?? label;
+        held = { above: book, number, label: null };
+        yield pages(walk, found, held, depth + 1);
+        continue;
+      }
+      const value = walk.value();
+      label = labelOf(value) ?? label;
+      if (name === "index") number = indexOf(value, number);
+      if (held) held.number = number;
     }
   if (!held) found.push({ book, number, label, bytes: walk.bytes.subarray(start, walk.at) });
 }
@@ -138,7 +158,7 @@ function* pages(walk, found, book, depth) {
       let number = 0;
       for (const _ of walk.parts("[", "]")) {
         number += 1;
-        yield entry(walk, found, book, number, depth);
+        yield entry(walk, found, book, String(number), depth);
       }
     } else {
       const isString = walk.sign() === QUOTE;
@@ -152,7 +172,7 @@ function* pages(walk, found, book, depth) {
 const entries = (bytes) => {
   const walk = new Walk(bytes);
   const found = [];
-  const open = [entry(walk, found, null, 1, 0)];
+  const open = [entry(walk, found, null, "1", 0)];
   try {
     while (open.length) {
       const { done, value } = open[open.length - 1].next();

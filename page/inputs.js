@@ -33,9 +33,9 @@ const fromJson = (bytes, name) => {
   if (fault && !found.some((it) => it.book)) return [{ name, books: [], place: "", bytes }];
   const designs = found.map((it) => {
     const around = booksAround(it);
-    const books = around.slice(1).map((book) => plain(book.label ?? String(book.number)));
+    const books = around.slice(1).map((book) => plain(book.label ?? book.number));
     const place = around.length ? [...around.slice(1).map((book) => book.number), it.number].join(".") : "";
-    const label = plain(it.label ?? (it.book ? String(it.number) : name));
+    const label = plain(it.label ?? (it.book ? it.number : name));
     return { name: label, books, place, bytes: it.book ? it.bytes : bytes };
   });
   if (fault) designs.push({ name: "the rest", books: [], place: "", bytes: null, trouble: `${fault}, and what stands behind isn't read` });

@@ -35,7 +35,7 @@ class Program {
   }
 
   /** Begins a run of these words over these bytes; `told` is a promise of how it ended, and `stop` ends it. */
-  run(words, input, what) {
+  run(words, input, what, isMeasured = false) {
     const worker = this.worker();
     const run = { what, words, since: performance.now() };
     run.told = new Promise((resolve) => {
@@ -55,7 +55,7 @@ class Program {
     });
     this.running.add(run);
     this.changed();
-    worker.postMessage({ words, input });
+    worker.postMessage({ words, input, isMeasured });
     return run;
   }
 

@@ -2,7 +2,16 @@
 // Runs the program in a thread of its own: a new instance for each run, so that none leaves anything behind.
 let compiled = null;
 
-const run = (program, words, input) => {
+/** How many bytes of a memory stand in pages of 4 KB that hold something: what a run took of the machine. */
+const PAGE = 4096;
+const touched = (memory) => {
+  const numbers = new BigUint64Array(memory.buffer);
+  let pages = 0;
+  for (let at = 0; at < numbers.length; at += PAGE / 8) pages += numbers.subarray(at, at + PAGE / 8).some((it) => it !== 0n);
+  return pages * PAGE;
+};
+
+const run = (program, words, input, isMeasured = false) => {
   const written = [];
   let taken = 0;
   let memory = null;
@@ -30,7 +39,7 @@ const run = (program, words, input) => {
   memory = exports.memory;
   try {
     const status = exports.run();
-    return { status, written, memory: memory.buffer.byteLength };
+    return { status, written, memory: memory.buffer.byteLength, touched: isMeasured ? touched(memory) : null };
   } catch (fault) {
     const stack = BigInt.asIntN(64, exports.__stack_pointer.value);
     const ended = stack < 0n || (fault instanceof RangeError && /call stack/.test(fault.message)) || /recursion/.test(fault.message);
@@ -49,12 +58,12 @@ const joined = (parts) => {
   return whole;
 };
 
-const answer = (program, { words, input }) => {
+const answer = (program, { words, input, isMeasured }) => {
   const began = performance.now();
   const encoder = new TextEncoder();
   let told = null;
   try {
-    told = run(program, ["beltproof", ...words].map((it) => encoder.encode(it)), input);
+    told = run(program, ["beltproof", ...words].map((it) => encoder.encode(it)), input, isMeasured);
     if (told.written) told.written = joined(told.written);
   } catch (fault) {
     told = { trouble: "fault", why: String(fault.message) };

@@ -74,10 +74,16 @@ class Inputs(unittest.TestCase):
 
     def test_books_are_those_of_the_report(self):
         deep = '{"blueprint_book":{"blueprints":[' * 5000 + '{"blueprint":{"label":"deep"}}' + "]}}" * 5000
+        alone = blueprint(belt(0, 0))
         texts = [
             BOOK.read_bytes(),
             json.dumps(book(json.loads(blueprint(belt(0, 0), label="one")), {"upgrade_planner": {}}, book({"blueprint": {"label": "\u202etwo"}}, label="in"))),
             deep,
+            json.dumps({"blueprint_book": {"blueprints": [{"index": it, **json.loads(alone)} for it in (0, 7, 7, -1, 1.0, True, "3", None, 10**30)]}}),
+            '{"blueprint_book":{"blueprints":[{"blueprint":{},"index":4},{"index":-0,"blueprint":{}},{"index":5,"blueprint":{},"index":[]}]}}',
+            json.dumps(book(book(json.loads(alone), label=""), book(json.loads(alone), label=5))),
+            '{"blueprint_book":{"blueprints":[{"blueprint_book":{"blueprints":[{"blueprint":{}}]},"index":9}]}}',
+            '{"blueprint_book":{"blueprints":[{"blueprint":{"label":"a","label":5}},{"blueprint":{"label":" "}}]}}',
             '{"blueprint_book":{"blueprints":[{"blueprint":{"label":"a"}},{"blueprint":{"label":"b"},]}}',
             '{"blueprint_book":{"label":"x","blueprints":[]}}',
             '{"blueprint_book":{"blueprints":[{"blueprint":{"label":"a \\u00e9 \\" ]"}}]}} more',

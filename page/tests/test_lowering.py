@@ -28,8 +28,16 @@ refuse:                                           ; preds = %start
   ret i32 127
 }
 
+define internal i64 @"beltproof::compare::<#2 #3>"(ptr noundef %a0) #2 {
+start:
+  %r0 = call i64 %a0() #3
+  ret i64 %r0
+}
+
 attributes #0 = { nounwind "probe-stack"="inline-asm" "stack-probe-size"="3072" "target-cpu"="x86-64-v2" }
 attributes #1 = { nounwind "probe-stack"="inline-asm" "stack-probe-size"="3072" "target-cpu"="x86-64" }
+attributes #2 = { nounwind "probe-stack"="inline-asm" "rattle-sig"="4" "stack-probe-size"="3072" "target-cpu"="x86-64-v2" }
+attributes #3 = { nounwind "rattle-sig"="4" }
 """
 
 
@@ -46,7 +54,8 @@ class Text(unittest.TestCase):
         self.assertIn('define i32 @started() {\n  %status = call i32 @"beltproof::main+start"()\n  ret i32 %status\n}', changed)
         for word in ("@main(", "__sysv_signal", "probe", "x86", "127"):
             self.assertNotIn(word, changed)
-        self.assertEqual(changed.count("attributes #"), 2)
+        self.assertIn('attributes #2 = { nounwind "rattle-sig"="4" }', changed)
+        self.assertEqual(changed.count("attributes #"), 4)
 
     def test_what_is_not_as_expected_is_refused(self):
         cases = {
@@ -55,7 +64,13 @@ class Text(unittest.TestCase):
             "two layouts": MODULE + 'target datalayout = "e"\n',
             "no target": MODULE.replace("target triple", "; target triple"),
             "another attribute": MODULE.replace('"target-cpu"="x86-64" }', '"target-features"="+sse4" }'),
+            "one more": MODULE.replace('"target-cpu"="x86-64" }', '"target-cpu"="x86-64" "target-features"="+sse4" }'),
+            "another processor": MODULE.replace('"target-cpu"="x86-64" }', '"target-cpu"="x86-64-v4" }'),
             "none of a group": MODULE.replace(' "target-cpu"="x86-64" }', " }"),
+            "one at a call": MODULE.replace('#3 = { nounwind "rattle-sig"="4"', '#3 = { nounwind "target-cpu"="x86-64"'),
+            "all at a call": MODULE.replace('#3 = { nounwind "rattle-sig"="4"', '#3 = { nounwind "probe-stack"="inline-asm" "stack-probe-size"="3072" "target-cpu"="x86-64"'),
+            "a function without": MODULE.replace("%a0) #2 {", "%a0) {"),
+            "a group that isn't there": MODULE.replace("%a0) #2 {", "%a0) #9 {"),
         }
         for name, module in cases.items():
             with self.subTest(name), self.assertRaises(text.Unexpected):

@@ -138,9 +138,10 @@ class Pictures(unittest.TestCase):
         lines += ["refused 32 SideLoad 0", "refused 33 Blocked 3", "refused 25 OffGrid 2", "refused 31 Unpaired 4", "refused 34 Ring 99"]
         lines += ["refused 10 Json 5", "refused 40 NetLine 3", "usage", "too long", "refused 99 What 1"]
         data = [{"text": text, "line": it} for it in lines for text in (facing, loaded, "{")]
+        data += [{"text": text, "line": f"refused {number} Name {at} {2 * at} direction"} for text in texts() for number in refusals.WORDS for at in (0, 2)]
         answers = json.loads(run_scripts(NAMES, DRIVER, json.dumps(data).encode()))
         for it, ours in zip(data, answers, strict=True):
-            with self.subTest(line=it["line"]):
+            with self.subTest(line=it["line"], text=it["text"][:70]):
                 theirs = refusals.refusal(it["line"], it["text"])
                 self.assertEqual(ours["words"], theirs.words)
                 places = [{"cells": [list(cell) for cell in cells], "words": words} for cells, words in theirs.places]
