@@ -12,9 +12,13 @@ const FIELD = {
 /** The largest number of steps that may be asked for. */
 const MOST_STEPS = 1000000000;
 const STEPS_AT_FIRST = 100000;
+const USAGE = 2;
 const LONGEST_SHOWN = 20000;
 const MOST_SHOWN = 5000;
 const LONGEST_LINK = 2000000;
+
+/** How many characters of what was given the field shows: with more of them it takes seconds to lay out. */
+const LONGEST_WRITTEN = 100000;
 
 /** So many cells wide a picture is at most that stands beside the verdicts. */
 const WIDEST_BESIDE = 22;
@@ -27,6 +31,19 @@ const lined = (...texts) => glued(between(texts, LINE_FEED));
 let program = null;
 let given = [];
 let view = null;
+
+/** What the field shows of what was given, and all of it. */
+let written = { shown: "", whole: "" };
+
+/** Puts a text into the field: of a long one its beginning. */
+const write = (whole) => {
+  const shown = whole.length > LONGEST_WRITTEN ? `${whole.slice(0, LONGEST_WRITTEN / 100)}…` : whole;
+  written = { shown, whole };
+  $("text").value = shown;
+};
+
+/** What the field holds, all of it. */
+const fieldText = () => ($("text").value === written.shown ? written.whole : $("text").value);
 
 /** What is drawn of a design: its parts and its network where that is the one that the program told, and what is lacking.
     Behind all other parts so many belts were added, and besides what stands by is drawn. */
@@ -366,6 +383,9 @@ class View {
   }
 }
 
+/** Whether the program can keep each end of a design at its side: it takes the word. */
+const knowsSides = async () => (await program.run(["smallest", "--found", "--sides"], new Uint8Array(), "Asking for what can be kept").told).status !== USAGE;
+
 /** What can be asked besides: a smaller layout, a saved certificate, another design, and the texts. */
 class More {
   constructor(view) {
@@ -378,7 +398,8 @@ class More {
   }
 
   smaller() {
-    const sides = make("input", { type: "checkbox", checked: true });
+    const sides = make("input", { type: "checkbox" });
+    const keeping = make("label", { class: "switch", hidden: true }, sides, "keep each end at its side");
     const steps = make("select", {}, ...[1, 10, 100].map((it) => make("option", { value: it * STEPS_AT_FIRST }, `${(it * STEPS_AT_FIRST).toLocaleString("en")} steps`)));
     const out = make("div", { class: "found" });
     const look = make("button", { type: "button", class: "main" }, "Look for one");
@@ -389,8 +410,11 @@ class More {
       look.disabled = false;
     });
     const words = "The program looks for a layout of the same network on fewer tiles. Each that it writes shows this very network.";
-    const row = make("div", { class: "row" }, look, make("label", { class: "switch" }, sides, "keep each end at its side"), make("label", { class: "select" }, "at most ", steps));
-    return this.part("A smaller layout", make("p", { class: "note" }, words), row, out);
+    const row = make("div", { class: "row" }, look, keeping, make("label", { class: "select" }, "at most ", steps));
+    const part = this.part("A smaller layout", make("p", { class: "note" }, words), row, out);
+    const offer = async () => (keeping.hidden = !(sides.checked = await knowsSides()));
+    part.addEventListener("toggle", offer, { once: true });
+    return part;
   }
 
   async lookForSmaller(keepsSides, steps, out) {
@@ -398,11 +422,7 @@ class More {
     const tier = tierOf(view.design);
     const rest = [...(tier ? ["--tier", tier] : []), ...(steps === STEPS_AT_FIRST ? [] : ["--learnt", String(steps)])];
     const what = "Looking for a smaller layout";
-    let ended = await view.run(["smallest", "--found", ...(keepsSides ? ["--sides"] : []), ...rest], view.bytes, what);
-    if (keepsSides && ended.status === 2) {
-      out.append(make("p", { class: "held" }, "This program can't keep sides: ends come where there is room."));
-      ended = await view.run(["smallest", "--found", ...rest], view.bytes, what);
-    }
+    const ended = await view.run(["smallest", "--found", ...(keepsSides ? ["--sides"] : []), ...rest], view.bytes, what);
     const fault = faultOf(ended);
     const line = ended.written ? firstLine(ended.written) : "";
     if (fault) out.append(make("p", { class: "held" }, `There is none: ${fault}.`));
@@ -438,7 +458,7 @@ class More {
   compare() {
     const area = make("textarea", { rows: 2, spellcheck: "false", "aria-label": "The other design", placeholder: "The other design: a blueprint string, JSON or a network text" });
     const others = given.filter((it) => it.bytes && it !== this.view.found);
-    const chosen = make("select", { "aria-label": "Another design of the list" }, make("option", { value: "" }, "or one of the list…"), ...others.slice(0, MOST_SHOWN).map((it, at) => make("option", { value: at }, plain(it.name))));
+    const chosen = make("select", { "aria-label": "Another design of the list" }, make("option", { value: "" }, "or one of the list…"));
     const out = make("div");
     const go = make("button", { type: "button", class: "main" }, "Compare");
     go.addEventListener("click", async () => {
@@ -453,7 +473,11 @@ class More {
       }
     });
     const words = "Do two designs behave the same: does each output carry the same in both, whatever comes in and whatever is taken?";
-    return this.part("Compare with another design", make("p", { class: "note" }, words), area, make("div", { class: "row" }, go, others.length ? chosen : null), out);
+    const part = this.part("Compare with another design", make("p", { class: "note" }, words), area, make("div", { class: "row" }, go, others.length ? chosen : null), out);
+    // A book may have thousands.
+    const list = () => chosen.append(...others.slice(0, MOST_SHOWN).map((it, at) => make("option", { value: at }, plain(it.name))));
+    part.addEventListener("toggle", list, { once: true });
+    return part;
   }
 
   async showSame(asked, out) {
@@ -546,7 +570,8 @@ class More {
 const choose = (at, isFocused = true) => {
   view?.leave();
   view = new View(given[at]);
-  [...$("designs").children].forEach((it, place) => (place === at ? it.firstChild.setAttribute("aria-current", "true") : it.firstChild.removeAttribute("aria-current")));
+  $("designs").querySelector("[aria-current]")?.removeAttribute("aria-current");
+  $("designs").children[at]?.firstChild.setAttribute("aria-current", "true");
   $("about").hidden = true;
   document.title = `${plain(given[at].name)} – beltproof`;
   const opened = view.open();
@@ -590,12 +615,13 @@ const addDesigns = (found) => {
 
 /** Opens what was given: its designs take the place of those before. */
 const openBytes = async (bytes, name) => {
-  $("given").textContent = "";
   if (bytes.length > MOST_READ) {
     $("given").textContent = `It is longer than ${MOST_READ / 2 ** 20} MB.`;
     return;
   }
+  $("given").textContent = bytes.length > LONGEST_WRITTEN ? "Reading it…" : "";
   const found = await designsIn(bytes, name);
+  $("given").textContent = found.length ? "" : "There is nothing to open.";
   if (!found.length) return;
   given = found;
   $("filter").value = "";
@@ -624,7 +650,7 @@ const openFragment = () => {
   } catch {
     // It is taken as it stands.
   }
-  $("text").value = text;
+  write(text);
   openText(text, "Linked design");
 };
 
@@ -646,18 +672,26 @@ const watch = () => {
   $("stop").addEventListener("click", () => program.stopAll());
 };
 
+/** Opens what is pasted: into the field, where it is put at the cursor unless it is long, or anywhere but in another field. */
+const paste = (event) => {
+  const field = event.target.closest?.("textarea, input");
+  if (field && field !== $("text")) return;
+  const text = event.clipboardData?.getData("text/plain") ?? "";
+  if (field && text.length <= LONGEST_WRITTEN) {
+    setTimeout(() => openText(fieldText()));
+    return;
+  }
+  event.preventDefault();
+  write(text);
+  openText(text);
+};
+
 const listen = () => {
-  $("open").addEventListener("click", () => openText($("text").value));
-  $("text").addEventListener("paste", () => setTimeout(() => openText($("text").value)));
+  $("open").addEventListener("click", () => openText(fieldText()));
   $("text").addEventListener("keydown", (event) => {
-    if (event.key === "Enter" && (event.ctrlKey || event.metaKey)) openText($("text").value);
+    if (event.key === "Enter" && (event.ctrlKey || event.metaKey)) openText(fieldText());
   });
-  document.addEventListener("paste", (event) => {
-    if (event.target.closest?.("textarea, input")) return;
-    const text = event.clipboardData?.getData("text/plain") ?? "";
-    $("text").value = text;
-    openText(text);
-  });
+  document.addEventListener("paste", paste);
   $("choose").addEventListener("click", () => $("file").click());
   $("file").addEventListener("change", () => $("file").files[0] && openFile($("file").files[0]));
   $("filter").addEventListener("input", search);
@@ -691,7 +725,7 @@ const offerExamples = (samples) => {
     const sample = samples[$("examples").value];
     if (!sample) return;
     const bytes = encoder.encode(sample.text);
-    $("text").value = isJson(bytes) ? await deflate(bytes) : sample.text.trim();
+    write(isJson(bytes) ? await deflate(bytes) : sample.text.trim());
     openText(sample.text, sample.name);
   });
 };
