@@ -128,7 +128,7 @@ def more_looks(page):
     smaller = part("A smaller")
     page.value(f"{smaller}.open = true")
     page.click("Look for one", smaller)
-    if page.wait(f"{smaller}.querySelector('.found svg') || {smaller}.querySelector('.found .held:last-child')") is None:
+    if page.wait(f"{smaller}.querySelector('.found svg, .found .held:last-child') !== null") is None:
         yield "looking for a smaller layout doesn't end"
     checks = part("Check a saved")
     page.value(f"{checks}.open = true")
@@ -146,7 +146,8 @@ def more_looks(page):
         page.click("Compare", pair)
         if page.wait(f"{pair}.textContent.includes({json.dumps(words)})") is None:
             yield f"the comparison doesn't say {words!r}"
-    page.wait(f"{pair}.querySelector('.pair')", 20)
+    if page.wait(f"{pair}.querySelector('.pair') !== null", 20) is None:
+        yield "the states that show a difference aren't told"
 
 
 def books(page):
@@ -197,8 +198,8 @@ def refused(page):
     inside = [it for it in trimmed["blueprint"]["entities"] if "splitter" in it["name"] or it["position"]["y"] not in (-0.5, 7.5, 0.5)]
     trimmed["blueprint"]["entities"] = inside
     page.give(json.dumps(trimmed))
-    page.wait("document.querySelector('.remarks li')")
-    if page.value("document.querySelector('.switch input')") is None:
+    page.wait("document.querySelector('.stage .switch input') !== null")
+    if not page.value("document.querySelector('.stage .switch input') !== null"):
         yield "there is no switch for bare halves"
     page.give((EXAMPLES / "balancer-16-to-16.json").read_text())
     page.wait("document.getElementById('what').textContent.startsWith('Deciding')")

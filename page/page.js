@@ -514,7 +514,7 @@ class More {
       const found = drawingOf(bytes, net, [], `${plain(name)}: its state`);
       const carried = net ? listed(atEnds(readNet(net), state)[1]) : "";
       if (found.traced) found.drawing.show(state);
-      pair.append(make("div", {}, make("h3", {}, told(name)), make("p", { class: "note" }, `The outputs carry ${carried}.`), found.drawing?.plane ?? null));
+      pair.append(make("div", {}, make("h3", {}, told(name)), make("p", { class: "note" }, `The outputs carry ${carried}.`), found.drawing?.plane ?? make("p", { class: "note" }, found.lack)));
     }
     out.append(pair, legend(false));
   }

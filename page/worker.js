@@ -11,7 +11,7 @@ const touched = (memory) => {
   return pages * PAGE;
 };
 
-const run = (program, words, input, isMeasured = false) => {
+const run = (program, words, input) => {
   const written = [];
   let taken = 0;
   let memory = null;
@@ -39,7 +39,7 @@ const run = (program, words, input, isMeasured = false) => {
   memory = exports.memory;
   try {
     const status = exports.run();
-    return { status, written, memory: memory.buffer.byteLength, touched: isMeasured ? touched(memory) : null };
+    return { status, written, memory };
   } catch (fault) {
     const stack = BigInt.asIntN(64, exports.__stack_pointer.value);
     const ended = stack < 0n || (fault instanceof RangeError && /call stack/.test(fault.message)) || /recursion/.test(fault.message);
@@ -58,17 +58,19 @@ const joined = (parts) => {
   return whole;
 };
 
-const answer = (program, { words, input, isMeasured }) => {
+const answer = (program, { words, input, isMeasured = false }) => {
   const began = performance.now();
   const encoder = new TextEncoder();
   let told = null;
   try {
-    told = run(program, ["beltproof", ...words].map((it) => encoder.encode(it)), input, isMeasured);
+    told = run(program, ["beltproof", ...words].map((it) => encoder.encode(it)), input);
     if (told.written) told.written = joined(told.written);
   } catch (fault) {
     told = { trouble: "fault", why: String(fault.message) };
   }
-  return { ...told, seconds: (performance.now() - began) / 1000 };
+  const seconds = (performance.now() - began) / 1000;
+  const { memory, ...rest } = told;
+  return { ...rest, seconds, ...(isMeasured && memory ? { memory: memory.buffer.byteLength, touched: touched(memory) } : {}) };
 };
 
 const receive = async ({ data }) => {

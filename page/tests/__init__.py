@@ -4,6 +4,7 @@ skipped where it isn't there. None of them needs a browser: page/look does."""
 import os
 import shutil
 import subprocess
+import sys
 import tempfile
 import unittest
 from pathlib import Path
@@ -15,6 +16,8 @@ from .. import sheet
 TOP = sheet.TOP
 EXAMPLES = sheet.EXAMPLES
 NODE = shutil.which("node") or shutil.which("nodejs")
+if not NODE:
+    print("the command node isn't there: tests that run the page's scripts are skipped", file=sys.stderr)
 needs_node = unittest.skipUnless(NODE, "the command node isn't there, so the page's scripts were not run")
 
 
