@@ -18,6 +18,10 @@ const BLANKS = [0x20, 0x09, 0x0a, 0x0d];
 
 /** What ends a number or a word. */
 const ENDING = new Set([OPEN, CLOSE, OPEN_LIST, CLOSE_LIST, COMMA_SIGN, COLON, QUOTE, ...BLANKS]);
+
+/** Which bytes neither open nor close anything. */
+const IS_PLAIN = new Uint8Array(256).fill(1);
+for (const it of [OPEN, CLOSE, OPEN_LIST, CLOSE_LIST, QUOTE]) IS_PLAIN[it] = 0;
 const isBlank = (byte) => byte === 0x20 || byte === 0x09 || byte === 0x0a || byte === 0x0d;
 
 class Walk {
@@ -49,6 +53,7 @@ class Walk {
       if (at >= length) throw new Fault(`the text ends in the value at byte ${start}`);
       const sign = bytes[at];
       at += 1;
+      if (IS_PLAIN[sign] && depth) continue;
       if (sign === QUOTE) {
         while (at < length && bytes[at] !== QUOTE) at += bytes[at] === BACKSLASH ? 2 : 1;
         at += 1;
@@ -100,20 +105,25 @@ const text = (bytes) => {
   }
 };
 
-/** The label of a design or a book whose value this is, or null. */
-const labelOf = (bytes) => {
-  const walk = new Walk(bytes);
+/** Goes past the value that stands here, of a design or of anything: its label, or null. Where it is damaged within, its
+    brackets and strings alone tell where it ends. */
+const labelOf = (walk) => {
   let label = null;
-  if (walk.sign() !== SIGN["{"]) return null;
-  try {
-    for (const name of walk.members()) {
-      const isString = walk.sign() === QUOTE;
-      const value = walk.value();
-      if (name === "label") label = isString ? text(value) : null;
+  if (walk.sign() === OPEN) {
+    const start = walk.at;
+    try {
+      for (const name of walk.members()) {
+        const isString = walk.sign() === QUOTE;
+        const value = walk.value();
+        if (name === "label") label = isString ? text(value) : null;
+      }
+      return label?.trim() ? label : null;
+    } catch (fault) {
+      if (!(fault instanceof Fault)) throw fault;
+      walk.at = start;
     }
-  } catch {
-    return label;
   }
+  walk.value();
   return label?.trim() ? label : null;
 };
 
@@ -142,9 +152,10 @@ function* entry(walk, found, book, number, depth) {
         yield pages(walk, found, held, depth + 1);
         continue;
       }
-      const value = walk.value();
-      label = labelOf(value) ?? label;
-      if (name === "index") number = indexOf(value, number);
+      walk.sign();
+      const begin = walk.at;
+      label = labelOf(walk) ?? label;
+      if (name === "index") number = indexOf(walk.bytes.subarray(begin, walk.at), number);
       if (held) held.number = number;
     }
   if (!held) found.push({ book, number, label, bytes: walk.bytes.subarray(start, walk.at) });

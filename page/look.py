@@ -122,6 +122,32 @@ def first_looks(page, address):
             yield f"the check of {prop} doesn't accept it"
 
 
+def ways(page):
+    """What is pasted anywhere, pasted into the field though it is long, dropped, and chosen among the examples."""
+    tree = deflate((EXAMPLES / "tree-1-to-4.json").read_bytes())
+    pasted = "(() => {{ const data = new DataTransfer(); data.setData('text/plain', {}); {}.dispatchEvent(new ClipboardEvent('paste', {{ clipboardData: data, bubbles: true, cancelable: true }})); }})()"
+    page.value(pasted.format(json.dumps(tree), "document.body"))
+    if page.wait("document.querySelector('#name')?.textContent === 'Pasted design' && document.querySelector('.facts').textContent.includes('1 → 4')") is None:
+        yield "what is pasted beside the field isn't opened"
+    many = "\n\n".join([tree] * (200_000 // len(tree)))
+    page.value(pasted.format(json.dumps(many), "document.getElementById('text')"))
+    count = many.count("\n\n") + 1
+    if page.wait(f"document.querySelectorAll('#designs button').length === {count}") is None or page.value("document.getElementById('text').value.length") > 5000:
+        yield "a long text isn't opened, or is written out"
+    page.click("Open")
+    if page.wait(f"document.querySelectorAll('#designs button').length === {count} && document.getElementById('work').hidden") is None:
+        yield "a long text isn't opened again"
+    dropped = f"(() => {{ const data = new DataTransfer(); data.items.add(new File([{json.dumps(tree)}], 'my tree.txt')); window.dispatchEvent(new DragEvent('drop', {{ dataTransfer: data, bubbles: true, cancelable: true }})); }})()"
+    page.value(dropped)
+    if page.wait("document.querySelector('#name')?.textContent === 'my tree' && document.querySelector('.facts').textContent.includes('1 → 4')") is None:
+        yield "what is dropped isn't opened"
+    page.value("(() => { const it = document.getElementById('examples'); it.value = 1; it.dispatchEvent(new Event('change')); })()")
+    if page.wait("document.querySelector('#name')?.textContent === document.getElementById('examples').selectedOptions[0].textContent") is None:
+        yield "an example isn't opened"
+    if page.verdicts() is None:
+        yield "an example isn't decided"
+
+
 def more_looks(page):
     """A smaller layout, a saved certificate, another design, and a link."""
     text = (EXAMPLES / "balancer-4-to-4.json").read_bytes()
@@ -253,7 +279,7 @@ def main(path, folder):
     with tempfile.TemporaryDirectory(ignore_cleanup_errors=True) as room:
         page = Page(room)
         try:
-            looks = [first_looks(page, address), more_looks(page), refused(page), books(page), links(page, address)]
+            looks = [first_looks(page, address), more_looks(page), ways(page), refused(page), books(page), links(page, address)]
             looks.append(pictures(page, address, Path(folder)))
             wrong = []
             for it in looks:

@@ -55,7 +55,9 @@ class Program {
     });
     this.running.add(run);
     this.changed();
-    worker.postMessage({ words, input, isMeasured });
+    // A part of a book is copied by itself: with it would go the whole book.
+    const own = input.length === input.buffer.byteLength ? input : input.slice();
+    worker.postMessage({ words, input: own, isMeasured }, own === input ? [] : [own.buffer]);
     return run;
   }
 

@@ -1,5 +1,6 @@
 """The page's program answers as the program does: bytes and statuses, on all examples with all commands, and on mutants."""
 
+import json
 import random
 import sys
 import unittest
@@ -7,7 +8,7 @@ import unittest
 from collection.tests import program_path
 
 from .. import sheet
-from . import EXAMPLES, TOP, needs_node, page_path
+from . import EXAMPLES, TOP, needs_node, page_path, run_scripts
 from .programs import by_page, by_program, with_memory, with_stack
 
 PROPERTIES = ("balanced", "drawn-evenly", "unlimited", "full")
@@ -116,6 +117,15 @@ class Programs(unittest.TestCase):
         told = [by_page(with_stack(self.module, length), [(["decide", "balanced"], design)])[0] for length in (4096, 65536, 4 << 20)]
         self.assertEqual([it.get("trouble") for it in told], ["stack", "stack", None])
         self.assertEqual([it.get("digest") for it in told[:2]], ["", ""])
+
+    def test_what_tells_nothing_of_a_design_is_told_in_words(self):
+        ends = [{"trouble": it} for it in ("stack", "trap", "stopped")] + [{"trouble": "fault", "why": "no module"}]
+        ends += [{"status": it} for it in (8, 6, 7, 11, 2, 0, 1, 3, 4, 5, 9, 10)]
+        driver = f'require("fs").writeSync(1, JSON.stringify({json.dumps(ends)}.map(faultOf)));'
+        told = json.loads(run_scripts(["runs"], driver))
+        for it, words in zip(("stack ended", "trapped", "stopped", "(no module)", "too little memory"), told):
+            self.assertIn(it, words)
+        self.assertEqual([it is None for it in told[5:]], [False] * 4 + [True] * 7)
 
     def test_a_run_leaves_nothing_behind(self):
         design = (EXAMPLES / "balancer-4-to-4.net").read_bytes()
