@@ -17,11 +17,20 @@ COLORS = re.compile(r"^:root\{.*?\n(?=\*\{)", re.M | re.S)
 MOST_BYTES = 500_000
 
 
+COMMENT = re.compile(r"^\s*(?://.*|/\*\*(?:[^*]|\*(?!/))*\*/)$", re.M)
+"""A comment that has its lines for itself."""
+
+
+def stripped(script):
+    """A script without such comments and without its indentation: in none of them a text goes over several lines."""
+    return "\n".join(line.strip() for line in COMMENT.sub("", script).splitlines() if line.strip())
+
+
 def scripts(names):
     """These scripts, which share their names, as one, with the list of what can't touch a belt."""
     tiles = json.loads((TOP / "collection" / "bystanders.json").read_text("utf-8"))["tiles"]
     listed = f"const BYSTANDER_TILES = {json.dumps(tiles, separators=(',', ':'))};"
-    return "\n".join(['"use strict";', listed, *((HERE / f"{name}.js").read_text("utf-8") for name in names)])
+    return "\n".join(['"use strict";', listed, *(stripped((HERE / f"{name}.js").read_text("utf-8")) for name in names)])
 
 
 def style():
@@ -73,7 +82,7 @@ def policy(script_text, style_text):
 
 def page_of(module):
     """The whole page around this module."""
-    texts = {"style": style(), "script": scripts(SCRIPTS), "worker": (HERE / "worker.js").read_text("utf-8")}
+    texts = {"style": style(), "script": scripts(SCRIPTS), "worker": stripped((HERE / "worker.js").read_text("utf-8"))}
     for name, text in texts.items():
         if "</" + name in text or "<!--" in text or "</script" in text:
             raise ValueError(f"the {name} holds a mark that would end it")
