@@ -18,8 +18,9 @@ WIDE, NARROW = (1280, 900), (390, 844)
 PAPER = (794, 1123)
 """A sheet of A4, in pixels of the style."""
 LONGEST_PICTURE, MOST_PICTURES = 12000, 6
-MOST_BYTES = 4 * 10**6
-"""How long the page may be, with three hundred designs."""
+MOST_BYTES, MOST_SECONDS, OPENINGS = 4 * 10**6, 0.5, 5
+"""How long the page may be, and how many seconds it may take to open, with three hundred designs; the least of so many
+openings counts."""
 WORDS = (
     "exec chromium --headless --no-sandbox --disable-gpu --hide-scrollbars --remote-debugging-pipe --user-data-dir={} "
     "3<&{} 4>&{}"
@@ -40,6 +41,7 @@ class Browser:
         target = self.ask("Target.createTarget", url="about:blank")["targetId"]
         self.session = self.ask("Target.attachToTarget", targetId=target, flatten=True)["sessionId"]
         self.ask("Page.enable")
+        self.ask("Page.setLifecycleEventsEnabled", enabled=True)
 
     def message(self):
         while b"\0" not in self.rest:
@@ -59,20 +61,28 @@ class Browser:
         while text:
             text = text[os.write(self.writes, text) :]
         while (told := self.message()).get("id") != self.number:
-            self.events.append(told.get("method"))
+            self.events.append(told)
         if "error" in told:
             raise SystemExit(f"{method}: {told['error']['message']}")
         return told["result"]
 
+    @staticmethod
+    def is_load(event, loader):
+        """Whether a message tells that what this loader loads is loaded."""
+        told = event.get("params", {})
+        return event.get("method") == "Page.lifecycleEvent" and (told["name"], told["loaderId"]) == ("load", loader)
+
     def open(self, address):
-        self.events.clear()
-        self.ask("Page.navigate", url="about:blank")
-        self.ask("Page.navigate", url=address)
-        while self.value("document.readyState") != "complete" or self.value("location.href") == "about:blank":
-            pass
+        """Opens a page, and waits until it is loaded."""
+        for url in ("about:blank", address):
+            self.events.clear()
+            loader = self.ask("Page.navigate", url=url)["loaderId"]
+            while not any(self.is_load(it, loader) for it in self.events):
+                self.events.append(self.message())
 
     def value(self, script):
-        told = self.ask("Runtime.evaluate", expression=script, returnByValue=True)
+        """What a script gives; where that is a promise, what it is kept by."""
+        told = self.ask("Runtime.evaluate", expression=script, returnByValue=True, awaitPromise=True)
         if "exceptionDetails" in told:
             raise SystemExit(f"{script}: {told['exceptionDetails']['text']}")
         return told["result"].get("value")
@@ -154,12 +164,26 @@ def checks(browser, address):
         yield "without scripts the table isn't whole"
 
 
+DRAWN = "new Promise((draw) => requestAnimationFrame(() => requestAnimationFrame(draw)))"
+"""Kept once what a page shows is drawn."""
+
+
+def seconds_to_open(browser, address):
+    """How long it takes to open a page, load it whole and draw what it shows."""
+    browser.size(*WIDE)
+    begin = time.monotonic()
+    browser.open(address)
+    browser.value(DRAWN)
+    return time.monotonic() - begin
+
+
 def main(report, pictures):
     address, length = Path(report, "index.html").resolve().as_uri(), Path(report, "index.html").stat().st_size
     Path(pictures).mkdir(parents=True, exist_ok=True)
     with tempfile.TemporaryDirectory(ignore_cleanup_errors=True) as folder:
         browser = Browser(folder)
         try:
+            seconds = min(seconds_to_open(browser, address) for _ in range(OPENINGS))
             wrong = list(checks(browser, address))
             for theme in ("light", "dark"):
                 browser.theme(theme)
@@ -180,7 +204,9 @@ def main(report, pictures):
             browser.process.terminate()
             browser.process.wait()
     wrong += [f"it has {length} bytes"] if length > MOST_BYTES else []
-    print("\n".join(wrong) or f"sorting, search, filters and widths are right, in {length} bytes")
+    wrong += [f"it takes {seconds:.2f} s to open"] if seconds > MOST_SECONDS else []
+    print("\n".join(wrong) or "sorting, search, filters and widths are right")
+    print(f"it has {length} bytes, and opens in {seconds:.2f} s")
     return bool(wrong)
 
 
