@@ -1,4 +1,5 @@
-"""Opens a report in Chromium, takes pictures of it, and checks sorting, search, filters, the pages and the budget.
+"""Opens a report in Chromium, takes pictures of it and prints it, and checks sorting, search, filters, the pages, how long
+it is and how long it takes to open.
 
     python3 -m collection.look REPORT PICTURES
 
@@ -8,6 +9,7 @@ pipe: messages of JSON, each ended by a zero byte. It exits with 1 where a check
 import base64
 import json
 import os
+import re
 import subprocess
 import sys
 import tempfile
@@ -15,8 +17,9 @@ import time
 from pathlib import Path
 
 WIDE, NARROW = (1280, 900), (390, 844)
-PAPER = (794, 1123)
-"""A sheet of A4, in pixels of the style."""
+A4 = (8.27, 11.69)
+"""A sheet, in inches."""
+SHEET = re.compile(rb"/Type\s*/Page\b")
 LONGEST_PICTURE, MOST_PICTURES = 12000, 6
 MOST_BYTES, MOST_SECONDS, OPENINGS = 4 * 10**6, 0.5, 5
 """How long the page may be, and how many seconds it may take to open, with three hundred designs; the least of so many
@@ -102,6 +105,14 @@ class Browser:
         while name != "all" and self.value(undrawn) and time.monotonic() < end:
             time.sleep(0.02)
 
+    def sheets(self, path=None):
+        """How many sheets of A4 a page is printed on, written as a PDF where a path is given."""
+        told = self.ask("Page.printToPDF", printBackground=True, paperWidth=A4[0], paperHeight=A4[1])["data"]
+        data = base64.b64decode(told)
+        if path:
+            Path(path).write_bytes(data)
+        return len(SHEET.findall(data))
+
     def picture(self, path):
         height = min(LONGEST_PICTURE, self.value("document.documentElement.scrollHeight"))
         width = self.value("document.documentElement.clientWidth")
@@ -177,6 +188,22 @@ def seconds_to_open(browser, address):
     return time.monotonic() - begin
 
 
+def wrong_in_print(browser, address, folder):
+    """What is wrong with the report in print: the table alone, and with all designs, a sheet each."""
+    browser.size(*WIDE)
+    browser.open(address)
+    table = browser.sheets(Path(folder, "table.pdf"))
+    browser.value("new Promise((done) => { window.print = done; document.getElementById('every').click(); })")
+    # The button's own script takes the mark away where the printing has ended.
+    browser.value("document.body.classList.add('every')")
+    browser.value(DRAWN)
+    designs, sheets = browser.value("document.querySelectorAll('.page').length"), browser.sheets(Path(folder, "all.pdf"))
+    if browser.value("document.querySelectorAll('.page[data-kept]').length"):
+        yield "not all designs are drawn before they are printed"
+    if sheets != table + designs:
+        yield f"{designs} designs are printed on {sheets - table} sheets"
+
+
 def main(report, pictures):
     address, length = Path(report, "index.html").resolve().as_uri(), Path(report, "index.html").stat().st_size
     Path(pictures).mkdir(parents=True, exist_ok=True)
@@ -184,7 +211,7 @@ def main(report, pictures):
         browser = Browser(folder)
         try:
             seconds = min(seconds_to_open(browser, address) for _ in range(OPENINGS))
-            wrong = list(checks(browser, address))
+            wrong = [*wrong_in_print(browser, address, pictures), *checks(browser, address)]
             for theme in ("light", "dark"):
                 browser.theme(theme)
                 for word, size in (("wide", WIDE), ("narrow", NARROW)):
@@ -195,11 +222,6 @@ def main(report, pictures):
                     for name in names:
                         browser.show(name)
                         browser.picture(Path(pictures, f"{name}-{word}-{theme}.png"))
-            browser.theme("light", "print")
-            browser.size(*PAPER)
-            for name in ["all", *names[:1]]:
-                browser.show(name)
-                browser.picture(Path(pictures, f"{name}-print.png"))
         finally:
             browser.process.terminate()
             browser.process.wait()

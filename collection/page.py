@@ -294,7 +294,7 @@ def breaking(row, prop):
     text = row.folder.text(row.answer(prop).file)
     state, (picture, _) = states.read_state(text), row.picture
     content = [element("h3", "Why it isn’t ", element("em", prop))]
-    content.append(element("p", escape(states.shown(prop, row.net, state))))
+    content.append(element("p", escape(states.shown(prop, row.net, state, tuple(row.tiers())))))
     if picture and picture.network:
         ends = {f"i{k}": load for k, load in enumerate(state.loads)}
         ends |= {f"o{k}": room for k, room in enumerate(state.rooms)}
