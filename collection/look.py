@@ -113,8 +113,9 @@ class Browser:
             Path(path).write_bytes(data)
         return len(SHEET.findall(data))
 
-    def picture(self, path):
-        height = min(LONGEST_PICTURE, self.value("document.documentElement.scrollHeight"))
+    def picture(self, path, most=LONGEST_PICTURE):
+        """Takes a picture of the whole page, of so many pixels of the style in height at most."""
+        height = min(most, self.value("document.documentElement.scrollHeight"))
         width = self.value("document.documentElement.clientWidth")
         clip = {"x": 0, "y": 0, "width": width, "height": height, "scale": 1}
         data = self.ask("Page.captureScreenshot", clip=clip, captureBeyondViewport=True)["data"]
