@@ -122,6 +122,31 @@ class Browser:
         Path(path).write_bytes(base64.b64decode(data))
 
 
+DRAWN = "new Promise((draw) => requestAnimationFrame(() => requestAnimationFrame(draw)))"
+"""Kept once what a page shows is drawn."""
+
+
+def wrong_steps(browser):
+    """What is wrong with the ways from one design's page to the next, which follow the order and the filters, and with
+    the titles of these pages."""
+    browser.value("document.querySelector('#designs thead button').click()")
+    verdict = "document.querySelector('#filters [name=verdicts]')"
+    browser.value(f"{verdict}.selectedIndex = 1; {verdict}.dispatchEvent(new Event('change'))")
+    shown = browser.value("[...document.querySelectorAll('tr[data-page]')].filter((it) => !it.hidden).map((it) => it.dataset.page)")
+    shown = list(dict.fromkeys(shown))
+    for before, name, after in zip([None, *shown], shown, [*shown[1:], None]):
+        browser.show(name)
+        browser.value(DRAWN)
+        told = browser.value("[...document.querySelectorAll('.page:target nav span a')].map((it) => it.textContent + it.hash)")
+        wanted = [f"previous#{before}"] * bool(before) + [f"next#{after}"] * bool(after)
+        if told != wanted:
+            yield f"the ways from {name} are {told}, and not {wanted}"
+        if not browser.value("document.title.startsWith(document.querySelector('.page:target h2').textContent)"):
+            yield f"the title of {name} is another one"
+    browser.show("all")
+    browser.value(f"{verdict}.selectedIndex = 0; {verdict}.dispatchEvent(new Event('change'))")
+
+
 def checks(browser, address):
     """What is wrong with the page's sorting, search and layout, in words."""
     browser.size(*WIDE)
@@ -161,6 +186,7 @@ def checks(browser, address):
         if browser.value(f"{rows}.filter((it) => !it.hidden).length") != browser.value(kept):
             yield f"the filter {told} leaves other designs"
         browser.value(f"{select}.selectedIndex = 0; {select}.dispatchEvent(new Event('change'))")
+    yield from wrong_steps(browser)
     if browser.value("performance.getEntriesByType('resource').length"):
         yield "the page loads something"
     for width in (320, NARROW[0], WIDE[0]):
@@ -174,10 +200,6 @@ def checks(browser, address):
     browser.ask("Emulation.setScriptExecutionDisabled", value=False)
     if not browser.value(f"{rows}.length === {all_rows} && document.getElementById('words').closest('p').hidden"):
         yield "without scripts the table isn't whole"
-
-
-DRAWN = "new Promise((draw) => requestAnimationFrame(() => requestAnimationFrame(draw)))"
-"""Kept once what a page shows is drawn."""
 
 
 def seconds_to_open(browser, address):
