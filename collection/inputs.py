@@ -131,6 +131,8 @@ def from_json(data, name, source):
     if fault and not any(it.book for it in found):
         # No book: the program tells what is wrong with the text.
         return [Design(name, source, "", data)]
+    if not found:
+        return [Design(name, source, "", None, "it is a book in which nothing stands")]
     title = f"{source}, {plain(found[0].title())}" if found and found[0].title() else source
     designs = []
     for it in found:

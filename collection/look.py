@@ -1,4 +1,5 @@
-"""Opens a report in Chromium, takes pictures of it, and checks sorting, search, filters, the pages and the budget.
+"""Opens a report in Chromium, takes pictures of it and prints it, and checks sorting, search, filters, the pages, how long
+it is and how long it takes to open.
 
     python3 -m collection.look REPORT PICTURES
 
@@ -8,6 +9,7 @@ pipe: messages of JSON, each ended by a zero byte. It exits with 1 where a check
 import base64
 import json
 import os
+import re
 import subprocess
 import sys
 import tempfile
@@ -15,11 +17,13 @@ import time
 from pathlib import Path
 
 WIDE, NARROW = (1280, 900), (390, 844)
-PAPER = (794, 1123)
-"""A sheet of A4, in pixels of the style."""
+A4 = (8.27, 11.69)
+"""A sheet, in inches."""
+SHEET = re.compile(rb"/Type\s*/Page\b")
 LONGEST_PICTURE, MOST_PICTURES = 12000, 6
-MOST_BYTES = 4 * 10**6
-"""How long the page may be, with three hundred designs."""
+MOST_BYTES, MOST_SECONDS, OPENINGS = 4 * 10**6, 0.5, 5
+"""How long the page may be, and how many seconds it may take to open, with three hundred designs; the least of so many
+openings counts."""
 WORDS = (
     "exec chromium --headless --no-sandbox --disable-gpu --hide-scrollbars --remote-debugging-pipe --user-data-dir={} "
     "3<&{} 4>&{}"
@@ -40,6 +44,7 @@ class Browser:
         target = self.ask("Target.createTarget", url="about:blank")["targetId"]
         self.session = self.ask("Target.attachToTarget", targetId=target, flatten=True)["sessionId"]
         self.ask("Page.enable")
+        self.ask("Page.setLifecycleEventsEnabled", enabled=True)
 
     def message(self):
         while b"\0" not in self.rest:
@@ -59,20 +64,28 @@ class Browser:
         while text:
             text = text[os.write(self.writes, text) :]
         while (told := self.message()).get("id") != self.number:
-            self.events.append(told.get("method"))
+            self.events.append(told)
         if "error" in told:
             raise SystemExit(f"{method}: {told['error']['message']}")
         return told["result"]
 
+    @staticmethod
+    def is_load(event, loader):
+        """Whether a message tells that what this loader loads is loaded."""
+        told = event.get("params", {})
+        return event.get("method") == "Page.lifecycleEvent" and (told["name"], told["loaderId"]) == ("load", loader)
+
     def open(self, address):
-        self.events.clear()
-        self.ask("Page.navigate", url="about:blank")
-        self.ask("Page.navigate", url=address)
-        while self.value("document.readyState") != "complete" or self.value("location.href") == "about:blank":
-            pass
+        """Opens a page, and waits until it is loaded."""
+        for url in ("about:blank", address):
+            self.events.clear()
+            loader = self.ask("Page.navigate", url=url)["loaderId"]
+            while not any(self.is_load(it, loader) for it in self.events):
+                self.events.append(self.message())
 
     def value(self, script):
-        told = self.ask("Runtime.evaluate", expression=script, returnByValue=True)
+        """What a script gives; where that is a promise, what it is kept by."""
+        told = self.ask("Runtime.evaluate", expression=script, returnByValue=True, awaitPromise=True)
         if "exceptionDetails" in told:
             raise SystemExit(f"{script}: {told['exceptionDetails']['text']}")
         return told["result"].get("value")
@@ -92,12 +105,46 @@ class Browser:
         while name != "all" and self.value(undrawn) and time.monotonic() < end:
             time.sleep(0.02)
 
-    def picture(self, path):
-        height = min(LONGEST_PICTURE, self.value("document.documentElement.scrollHeight"))
+    def sheets(self, path=None):
+        """How many sheets of A4 a page is printed on, written as a PDF where a path is given."""
+        told = self.ask("Page.printToPDF", printBackground=True, paperWidth=A4[0], paperHeight=A4[1])["data"]
+        data = base64.b64decode(told)
+        if path:
+            Path(path).write_bytes(data)
+        return len(SHEET.findall(data))
+
+    def picture(self, path, most=LONGEST_PICTURE):
+        """Takes a picture of the whole page, of so many pixels of the style in height at most."""
+        height = min(most, self.value("document.documentElement.scrollHeight"))
         width = self.value("document.documentElement.clientWidth")
         clip = {"x": 0, "y": 0, "width": width, "height": height, "scale": 1}
         data = self.ask("Page.captureScreenshot", clip=clip, captureBeyondViewport=True)["data"]
         Path(path).write_bytes(base64.b64decode(data))
+
+
+DRAWN = "new Promise((draw) => requestAnimationFrame(() => requestAnimationFrame(draw)))"
+"""Kept once what a page shows is drawn."""
+
+
+def wrong_steps(browser):
+    """What is wrong with the ways from one design's page to the next, which follow the order and the filters, and with
+    the titles of these pages."""
+    browser.value("document.querySelector('#designs thead button').click()")
+    verdict = "document.querySelector('#filters [name=verdicts]')"
+    browser.value(f"{verdict}.selectedIndex = 1; {verdict}.dispatchEvent(new Event('change'))")
+    shown = browser.value("[...document.querySelectorAll('tr[data-page]')].filter((it) => !it.hidden).map((it) => it.dataset.page)")
+    shown = list(dict.fromkeys(shown))
+    for before, name, after in zip([None, *shown], shown, [*shown[1:], None]):
+        browser.show(name)
+        browser.value(DRAWN)
+        told = browser.value("[...document.querySelectorAll('.page:target nav span a')].map((it) => it.textContent + it.hash)")
+        wanted = [f"previous#{before}"] * bool(before) + [f"next#{after}"] * bool(after)
+        if told != wanted:
+            yield f"the ways from {name} are {told}, and not {wanted}"
+        if not browser.value("document.title.startsWith(document.querySelector('.page:target h2').textContent)"):
+            yield f"the title of {name} is another one"
+    browser.show("all")
+    browser.value(f"{verdict}.selectedIndex = 0; {verdict}.dispatchEvent(new Event('change'))")
 
 
 def checks(browser, address):
@@ -139,6 +186,7 @@ def checks(browser, address):
         if browser.value(f"{rows}.filter((it) => !it.hidden).length") != browser.value(kept):
             yield f"the filter {told} leaves other designs"
         browser.value(f"{select}.selectedIndex = 0; {select}.dispatchEvent(new Event('change'))")
+    yield from wrong_steps(browser)
     if browser.value("performance.getEntriesByType('resource').length"):
         yield "the page loads something"
     for width in (320, NARROW[0], WIDE[0]):
@@ -154,13 +202,39 @@ def checks(browser, address):
         yield "without scripts the table isn't whole"
 
 
+def seconds_to_open(browser, address):
+    """How long it takes to open a page, load it whole and draw what it shows."""
+    browser.size(*WIDE)
+    begin = time.monotonic()
+    browser.open(address)
+    browser.value(DRAWN)
+    return time.monotonic() - begin
+
+
+def wrong_in_print(browser, address, folder):
+    """What is wrong with the report in print: the table alone, and with all designs, a sheet each."""
+    browser.size(*WIDE)
+    browser.open(address)
+    table = browser.sheets(Path(folder, "table.pdf"))
+    browser.value("new Promise((done) => { window.print = done; document.getElementById('every').click(); })")
+    # The button's own script takes the mark away where the printing has ended.
+    browser.value("document.body.classList.add('every')")
+    browser.value(DRAWN)
+    designs, sheets = browser.value("document.querySelectorAll('.page').length"), browser.sheets(Path(folder, "all.pdf"))
+    if browser.value("document.querySelectorAll('.page[data-kept]').length"):
+        yield "not all designs are drawn before they are printed"
+    if sheets != table + designs:
+        yield f"{designs} designs are printed on {sheets - table} sheets"
+
+
 def main(report, pictures):
     address, length = Path(report, "index.html").resolve().as_uri(), Path(report, "index.html").stat().st_size
     Path(pictures).mkdir(parents=True, exist_ok=True)
     with tempfile.TemporaryDirectory(ignore_cleanup_errors=True) as folder:
         browser = Browser(folder)
         try:
-            wrong = list(checks(browser, address))
+            seconds = min(seconds_to_open(browser, address) for _ in range(OPENINGS))
+            wrong = [*wrong_in_print(browser, address, pictures), *checks(browser, address)]
             for theme in ("light", "dark"):
                 browser.theme(theme)
                 for word, size in (("wide", WIDE), ("narrow", NARROW)):
@@ -171,16 +245,13 @@ def main(report, pictures):
                     for name in names:
                         browser.show(name)
                         browser.picture(Path(pictures, f"{name}-{word}-{theme}.png"))
-            browser.theme("light", "print")
-            browser.size(*PAPER)
-            for name in ["all", *names[:1]]:
-                browser.show(name)
-                browser.picture(Path(pictures, f"{name}-print.png"))
         finally:
             browser.process.terminate()
             browser.process.wait()
     wrong += [f"it has {length} bytes"] if length > MOST_BYTES else []
-    print("\n".join(wrong) or f"sorting, search, filters and widths are right, in {length} bytes")
+    wrong += [f"it takes {seconds:.2f} s to open"] if seconds > MOST_SECONDS else []
+    print("\n".join(wrong) or "sorting, search, filters and widths are right")
+    print(f"it has {length} bytes, and opens in {seconds:.2f} s")
     return bool(wrong)
 
 

@@ -28,6 +28,8 @@ THUMB = 60
 """How wide and how high the small picture in the table is at most."""
 MOST_IN_TABLE, MOST_IN_PAGE = 3, 24
 """How many bare halves a sentence names at most, in the table and on a design's own page."""
+AT_ONCE = 40
+"""So many rows of the table are laid out when the page opens; those behind them once it is there."""
 SOMETIMES = ("bare", "same network", "smaller", "seconds")
 """The columns of the table that are there where at least one design has something in them."""
 LEAST_SECONDS = 0.05
@@ -292,7 +294,7 @@ def breaking(row, prop):
     text = row.folder.text(row.answer(prop).file)
     state, (picture, _) = states.read_state(text), row.picture
     content = [element("h3", "Why it isn’t ", element("em", prop))]
-    content.append(element("p", escape(states.shown(prop, row.net, state))))
+    content.append(element("p", escape(states.shown(prop, row.net, state, tuple(row.tiers())))))
     if picture and picture.network:
         ends = {f"i{k}": load for k, load in enumerate(state.loads)}
         ends |= {f"o{k}": room for k, room in enumerate(state.rooms)}
@@ -325,6 +327,8 @@ def smaller(row):
 
 WAYS = element("nav", element("a", "← All designs", href="#all"), element("span"))
 """The ways from a design's page: to all, and to those before and after it, which the order of the table tells."""
+UNSCRIPTED = ".designs .later{display:table-row-group}"
+"""The style of a page without scripts: all rows are there from the beginning."""
 UNDRAWN = "Without scripts no picture is drawn here and no design’s page; the verdicts are below, and all files in designs/."
 
 
@@ -430,8 +434,10 @@ def front(designs, title, program):
     columns = [it for it in columns if it in there or it not in SOMETIMES]
     titles = (element("th", it, scope="col", title=KNOWN_AS.get(it, "")) for it in ("design", *columns))
     head = element("tr", *titles)
-    lines = (table_row(it.row, alone, columns) for it in designs if it.row.net)
-    table = element("table", element("thead", head), element("tbody", *lines), class_="designs", id="designs")
+    lines = [table_row(it.row, alone, columns) for it in designs if it.row.net]
+    bodies = [element("tbody", *lines[:AT_ONCE])]
+    bodies += [element("tbody", *lines[AT_ONCE:], class_="later")] if lines[AT_ONCE:] else []
+    table = element("table", element("thead", head), *bodies, class_="designs", id="designs")
     promises = (
         element("div", element("dt", prop), element("dd", element("em", KNOWN_AS[prop]), f": {words}"))
         for prop, words in PROMISES.items()
@@ -474,6 +480,7 @@ def whole(designs, title, program):
         element("meta", name="color-scheme", content="light dark"),
         element("title", escape(files.plain(title))),
         element("style", style),
+        element("noscript", element("style", UNSCRIPTED)),
     )
     kept = (
         element("g", id=f"k-{it.row.id()}", data_kept=packed(it.shapes)) for it in designs if it.shapes

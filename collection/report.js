@@ -2,7 +2,16 @@
 // Sorting, search and filters, and the pages of the designs, which are kept compressed until they are shown.
 (() => {
   const table = document.getElementById("designs"), body = table.tBodies[0], base = document.title;
-  const rows = [...document.querySelectorAll("tr[data-words]")], order = [...body.rows];
+  const rows = [...document.querySelectorAll("tr[data-words]")], order = [...table.tBodies].flatMap((it) => [...it.rows]);
+  // The rows that aren't laid out at first; each is, once the page is there and nothing else is to be done.
+  const later = table.querySelector(".later"), MORE = 60;
+  const more = () => {
+    if (!later?.rows.length) return;
+    body.append(...[...later.rows].slice(0, MORE));
+    idle(more);
+  };
+  const idle = window.requestIdleCallback ?? ((call) => setTimeout(call, 50));
+  addEventListener("load", () => idle(more));
   const left = document.getElementById("left"), words = document.getElementById("words");
 
   const unpacked = async (text) => {

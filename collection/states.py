@@ -3,6 +3,8 @@
 from dataclasses import dataclass
 from fractions import Fraction
 
+from .design import SPEED
+
 PROPERTIES = ("balanced", "drawn-evenly", "unlimited", "full")
 
 PROMISES = {
@@ -20,6 +22,8 @@ KNOWN_AS = {
 }
 """What players call the properties."""
 
+ITEMS = 15
+"""How many items a second a full basic belt carries; a full belt of each tier above carries so many more."""
 MOST_LISTED = 24
 """How many numbers a sentence has at most."""
 
@@ -66,21 +70,59 @@ def at_ends(net, state):
     return [carried[f"i{k}"] for k in range(net.inputs)], [carried[f"o{k}"] for k in range(net.outputs)]
 
 
-def listed(numbers):
-    """The numbers; where there are many, the first ones and between which all are."""
+def listed(numbers, spelled=str):
+    """The numbers, so spelled; where there are many, the first ones and between which all are."""
     if len(numbers) <= MOST_LISTED:
-        return ", ".join(map(str, numbers))
-    return f"{', '.join(map(str, numbers[:MOST_LISTED]))} and so on, from {min(numbers)} to {max(numbers)}"
+        return ", ".join(map(spelled, numbers))
+    first, least, most = ", ".join(map(spelled, numbers[:MOST_LISTED])), spelled(min(numbers)), spelled(max(numbers))
+    return f"{first} and so on, from {least} to {most}"
 
 
-def shown(prop, net, state):
-    """What the state shows, in words."""
+def decimal(number):
+    """A number with two decimal places at most: the nearest, of two the greater."""
+    whole, rest = divmod((200 * number.numerator + number.denominator) // (2 * number.denominator), 100)
+    return f"{whole}.{rest:02}".rstrip("0").rstrip(".")
+
+
+def together(names):
+    """Names in a row, the last two with a word between."""
+    return " and ".join([", ".join(names[:-1]), names[-1]] if names[1:] else names)
+
+
+def told_of_ends(word, names, told, rest):
+    """What is told of each of some ends, those of which the same is told together, and one thing last, of all others."""
+    groups = {}
+    for name, it in zip(names, told):
+        groups.setdefault(it, []).append(name)
+    if len(groups) == 1 and len(names) > 1:
+        return f"all {word}s {told[0]}"
+    shown_ = [f"{together(them)} {it}" for it, them in groups.items() if it != rest or len(groups) == 1]
+    others = [f"the others {rest}"] if rest in groups and len(groups) > 1 else []
+    many = len(names) - len(groups.get(rest, [])) > 1
+    return f"{word}{'s' if many else ''} {', '.join(shown_ + others)}"
+
+
+def set_up(net, state):
+    """What comes in at each input and what is taken at each output, in words."""
+    caps = {end: cap for source, target, cap in net.edges for end in (source, target)}
+    inputs, outputs = ([f"{word}{k}" for k in range(count)] for word, count in (("i", net.inputs), ("o", net.outputs)))
+    loads = [{0: "empty", caps[end]: "full"}.get(it, f"with {it}") for end, it in zip(inputs, state.loads)]
+    rooms = [{0: "blocked", caps[end]: "open"}.get(it, f"open for {it}") for end, it in zip(outputs, state.rooms)]
+    return f"{told_of_ends('input', inputs, loads, 'empty')}; {told_of_ends('output', outputs, rooms, 'open')}"
+
+
+def shown(prop, net, state, tiers=()):
+    """What the state shows, in words: in belts and, where the tiers of the design's parts are known, in items a second."""
     given, carried = at_ends(net, state)
-    if prop == "balanced":
-        return f"No output is blocked, and yet the outputs carry {listed(carried)}."
-    if prop == "drawn-evenly":
-        return f"Every input is fully loaded, and yet the inputs give {listed(given)}."
-    loaded, taken, out = sum(state.loads), sum(state.rooms), sum(carried)
-    less = min(loaded, taken) - out
-    start = f"{loaded} are loaded and {taken} would be taken"
-    return f"{start}, and yet the outputs together carry {out}, which is {less} less than they could."
+    belt = "basic belt" if len(tiers) > 1 else "belt"
+    speed = ITEMS * (SPEED[tiers[0]] if len(tiers) == 1 else 1)
+    if prop in ("balanced", "drawn-evenly"):
+        what, flows = ("outputs carry", carried) if prop == "balanced" else ("inputs give", given)
+        items = f", or {listed([it * speed for it in flows], decimal)} items a second" if tiers else ""
+        said = f"The {what} {listed(flows)} {belt}s{items}, and should all {what.split()[1]} the same"
+    else:
+        out, most = sum(carried), min(sum(state.loads), sum(state.rooms))
+        items = f", {decimal(out * speed)} of {decimal(most * speed)} items a second" if tiers else ""
+        comes = "comes" if most == 1 or 0 < out <= 1 else "come"
+        said = f"{out} of {most} {belt}{'' if most == 1 else 's'} {comes} through{items}"
+    return f"{said}: {set_up(net, state)}."

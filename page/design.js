@@ -14,6 +14,9 @@ const PIECES = { input: "entrance", output: "exit" };
 
 const [NORTH, EAST, SOUTH, WEST] = [0, 1, 2, 3];
 
+/** The tiers of a design's parts, the slowest first; none where there is no design. */
+const tiersOf = (design) => TIERS.filter((tier) => design?.parts.some((it) => it.tier === tier));
+
 /** How a cell's coordinates change by a step: x grows to the east, y to the south. */
 const STEPS = [[0, -1], [1, 0], [0, 1], [-1, 0]];
 

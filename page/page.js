@@ -169,7 +169,7 @@ class Verdict {
     const state = readState(decoder.decode(this.answer));
     const at = this.view.addState({ property: this.property, state });
     const see = this.view.canDraw ? [this.button("See it", () => this.view.showState(at, true))] : [];
-    this.tell("no", "✕ no", shown(this.property, this.view.net, state), ...see, this.saving("no"), this.checking());
+    this.tell("no", "✕ no", shown(this.property, this.view.net, state, tiersOf(this.view.design)), ...see, this.saving("no"), this.checking());
   }
 
   gaveUp(ended, again) {
@@ -320,7 +320,7 @@ class View {
     if (this.design) {
       const [leastX, leastY, mostX, mostY] = boxOfDesign(this.design);
       facts.push(make("li", {}, strong(`${mostX - leastX + 1} × ${mostY - leastY + 1}`), " tiles"));
-      for (const tier of TIERS.filter((it) => this.design.parts.some((part) => part.tier === it))) facts.push(make("li", { class: `tier ${tier}` }, tier));
+      for (const tier of tiersOf(this.design)) facts.push(make("li", { class: `tier ${tier}` }, tier));
     }
     this.facts.replaceChildren(...facts);
   }
@@ -377,7 +377,7 @@ class View {
     this.drawing.show(told?.state ?? null);
     this.range.value = at;
     this.range.setAttribute("aria-valuetext", told ? `not ${FIELD[told.property].name}` : "none");
-    this.says.replaceChildren(...(told ? [make("strong", {}, `Not ${FIELD[told.property].name}. `), shown(told.property, this.net, told.state)] : ["Move the slider to see how items stand where a promise fails."]));
+    this.says.replaceChildren(...(told ? [make("strong", {}, `Not ${FIELD[told.property].name}. `), shown(told.property, this.net, told.state, tiersOf(this.design))] : ["Move the slider to see how items stand where a promise fails."]));
     this.slider.querySelector(".legend").hidden = !told;
     if (isAsked) this.figure.scrollIntoView({ block: "nearest" });
   }

@@ -28,6 +28,10 @@ class Fraction {
     return new Fraction(this.above * other.below - other.above * this.below, this.below * other.below);
   }
 
+  times(other) {
+    return new Fraction(this.above * other.above, this.below * other.below);
+  }
+
   isLess(other) {
     return this.above * other.below < other.above * this.below;
   }
@@ -77,20 +81,62 @@ const atEnds = (net, state) => {
 /** How many numbers a sentence has at most. */
 const MOST_LISTED = 24;
 
-/** The numbers; where there are many, the first ones and between which all are. */
-const listed = (numbers) => {
-  if (numbers.length <= MOST_LISTED) return numbers.join(", ");
+/** How many items a second a full basic belt carries; a full belt of each tier above carries so many more. */
+const ITEMS = 15;
+
+/** The numbers, so spelled; where there are many, the first ones and between which all are. */
+const listed = (numbers, spelled = String) => {
+  if (numbers.length <= MOST_LISTED) return numbers.map(spelled).join(", ");
   const least = numbers.reduce((a, b) => (b.isLess(a) ? b : a));
   const most = numbers.reduce((a, b) => (a.isLess(b) ? b : a));
-  return `${numbers.slice(0, MOST_LISTED).join(", ")} and so on, from ${least} to ${most}`;
+  return `${numbers.slice(0, MOST_LISTED).map(spelled).join(", ")} and so on, from ${spelled(least)} to ${spelled(most)}`;
 };
 
-/** What the state shows, in words. */
-const shown = (property, net, state) => {
+/** A number with two decimal places at most: the nearest, of two the greater. */
+const decimal = (number) => {
+  const hundredths = (200n * number.above + number.below) / (2n * number.below);
+  return `${hundredths / 100n}.${String(hundredths % 100n).padStart(2, "0")}`.replace(/0+$/, "").replace(/\.$/, "");
+};
+
+/** Names in a row, the last two with a word between. */
+const together = (names) => (names.length > 1 ? `${names.slice(0, -1).join(", ")} and ${names.at(-1)}` : names[0]);
+
+/** What is told of each of some ends, those of which the same is told together, and one thing last, of all others. */
+const toldOfEnds = (word, names, told, rest) => {
+  const groups = new Map();
+  names.forEach((name, at) => groups.set(told[at], [...(groups.get(told[at]) ?? []), name]));
+  if (groups.size === 1 && names.length > 1) return `all ${word}s ${told[0]}`;
+  const shownOnes = [...groups].filter(([it]) => it !== rest || groups.size === 1).map(([it, them]) => `${together(them)} ${it}`);
+  const others = groups.has(rest) && groups.size > 1 ? [`the others ${rest}`] : [];
+  const isMany = names.length - (groups.get(rest) ?? []).length > 1;
+  return `${word}${isMany ? "s" : ""} ${[...shownOnes, ...others].join(", ")}`;
+};
+
+/** What comes in at each input and what is taken at each output, in words. */
+const setUp = (net, state) => {
+  const caps = new Map(net.edges.flatMap(({ source, target, cap }) => [[source, cap], [target, cap]]));
+  const namesOf = (word, count) => Array.from({ length: count }, (_, k) => `${word}${k}`);
+  const wordOf = (end, number, none, whole, part) => (`${number}` === "0" ? none : `${number}` === `${caps.get(end)}` ? whole : `${part} ${number}`);
+  const [inputs, outputs] = [namesOf("i", net.inputs), namesOf("o", net.outputs)];
+  const loads = inputs.map((end, at) => wordOf(end, state.loads[at], "empty", "full", "with"));
+  const rooms = outputs.map((end, at) => wordOf(end, state.rooms[at], "blocked", "open", "open for"));
+  return `${toldOfEnds("input", inputs, loads, "empty")}; ${toldOfEnds("output", outputs, rooms, "open")}`;
+};
+
+/** What the state shows, in words: in belts and, where the tiers of the design's parts are known, in items a second. */
+const shown = (property, net, state, tiers = []) => {
   const [given, carried] = atEnds(net, state);
-  if (property === "balanced") return `No output is blocked, and yet the outputs carry ${listed(carried)}.`;
-  if (property === "drawn-evenly") return `Every input is fully loaded, and yet the inputs give ${listed(given)}.`;
-  const [loaded, taken, out] = [sum(state.loads), sum(state.rooms), sum(carried)];
-  const less = (taken.isLess(loaded) ? taken : loaded).minus(out);
-  return `${loaded} are loaded and ${taken} would be taken, and yet the outputs together carry ${out}, which is ${less} less than they could.`;
+  const belt = tiers.length > 1 ? "basic belt" : "belt";
+  const speed = new Fraction(BigInt(ITEMS * (tiers.length === 1 ? SPEED[tiers[0]] : 1)), 1n);
+  const itemsOf = (it) => decimal(it.times(speed));
+  if (property === "balanced" || property === "drawn-evenly") {
+    const [ends, verb, flows] = property === "balanced" ? ["outputs", "carry", carried] : ["inputs", "give", given];
+    const items = tiers.length ? `, or ${listed(flows, itemsOf)} items a second` : "";
+    return `The ${ends} ${verb} ${listed(flows)} ${belt}s${items}, and should all ${verb} the same: ${setUp(net, state)}.`;
+  }
+  const [out, loaded, taken] = [carried, state.loads, state.rooms].map(sum);
+  const most = taken.isLess(loaded) ? taken : loaded;
+  const items = tiers.length ? `, ${itemsOf(out)} of ${itemsOf(most)} items a second` : "";
+  const comes = `${most}` === "1" || (out.above > 0n && out.above <= out.below) ? "comes" : "come";
+  return `${out} of ${most} ${belt}${`${most}` === "1" ? "" : "s"} ${comes} through${items}: ${setUp(net, state)}.`;
 };

@@ -4,6 +4,7 @@ import io
 import json
 import os
 import random
+import re
 import subprocess
 import sys
 
@@ -11,7 +12,7 @@ from .. import answers, books, files, inputs, labels, picture, progress, refusal
 from ..design import read
 from ..rows import Row
 from ..work import Folder
-from . import BOOK, EXAMPLES, TOP, Case, belt, blueprint, run
+from . import BOOK, EXAMPLES, TOP, Case, belt, blueprint, many, run
 from .test_report import Page
 
 PIECES = (b'"', b"}", b"]", b"{", b"9e999", b"null")
@@ -246,6 +247,14 @@ class Found(Page):
         run(self.folder / "in", "-o", self.report, "--program", self.fake("small"), "--smaller")
         self.assertIn(">smaller</th>", self.page())
         self.assertIn("1 → 1 cells", self.page())
+
+    def test_rows_far_down_are_laid_out_later(self):
+        self.write("book.json", json.dumps(many.book(90)))
+        run(self.folder / "book.json", "-o", self.report, "--program", self.fake())
+        page = (self.report / "index.html").read_text()
+        first, later = re.findall("<tbody.*?</tbody>", page.partition('id="designs"')[2])[:2]
+        self.assertEqual((first.count("<tr "), later.count("<tr ")), (40, 50))
+        self.assertIn('<tbody class="later">', later)
 
     def test_the_page_keeps_designs_compressed(self):
         run(BOOK, "-o", self.report, "--program", self.fake())

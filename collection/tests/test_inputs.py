@@ -130,6 +130,11 @@ class Files(Case):
         with self.assertRaisesRegex(inputs.NotThere, "missing.txt: there is no such file or folder"):
             self.found(self.folder / "in", self.folder / "missing.txt")
 
+    def test_a_book_in_which_nothing_stands_is_told_of(self):
+        for inside in ('"blueprints":[]', '"label":"b"', '"blueprints":[{"blueprint_book":{}}]'):
+            path = self.write("book.json", '{"blueprint_book":{%s}}' % inside)
+            self.assertEqual(self.found(path), [("book", "book.json", "it is a book in which nothing stands")])
+
     def test_the_report_is_not_read(self):
         self.write("in/a.net", "net")
         self.write("in/report/designs/b/design.net", "net")

@@ -99,7 +99,7 @@ class Report(Page):
         run(EXAMPLES / "chain-1-to-3.net", "-o", self.report, "--jobs", "1")
         self.tags()
         self.assertIn("A network text has no parts", self.page())
-        self.assertIn("No output is blocked, and yet the outputs carry", self.page())
+        self.assertIn("The outputs carry 1/2, 1/4, 1/4 belts, and should all carry the same: input i0 full; ", self.page())
 
     def test_an_empty_collection(self):
         self.write("in/none", "")

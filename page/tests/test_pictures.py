@@ -35,7 +35,7 @@ const answers = asked.map(({ text, states, line }) => {
     const net = { inputs: network.inputs.length, outputs: network.outputs.length, edges: network.edges };
     const told = states.map(({ property, text }) => {
       const state = readState(text);
-      return { flows: flowing(found.parts, network, cells, state, "ways"), badges: badges(cells, toldAtEnds(state)), shown: shown(property, net, state) };
+      return { flows: flowing(found.parts, network, cells, state, "ways"), badges: badges(cells, toldAtEnds(state)), shown: shown(property, net, state, tiersOf(found)), plainly: shown(property, net, state) };
     });
     return { ...whole, lines: linesOf(network), badges: badges(cells), view: viewOf(boxOf(found, cells)), ruled: viewOf(boxOf(found, cells), true), rules: rulesOf(boxOf(found, cells)), told };
   } catch (fault) {
@@ -106,7 +106,8 @@ def drawn_by_report(text, told):
             {
                 "flows": flows.flowing(found.parts, network, seen.badges, state, "ways"),
                 "badges": picture.badges(seen.badges, ends),
-                "shown": states.shown(prop, net, state),
+                "shown": states.shown(prop, net, state, tuple(found.tiers())),
+                "plainly": states.shown(prop, net, state),
             }
         )
     return whole | {"lines": network.lines(), "badges": picture.badges(seen.badges), "view": seen.view(), "ruled": seen.view(True), "rules": picture.rules(seen.box), "told": answers}
