@@ -31,6 +31,7 @@ const fromJson = (bytes, name) => {
   const { found, fault } = entries(bytes);
   // No book: the program tells what is wrong with the text.
   if (fault && !found.some((it) => it.book)) return [{ name, books: [], place: "", bytes }];
+  if (!found.length) return [{ name, books: [], place: "", bytes: null, trouble: "it is a book in which nothing stands" }];
   const designs = found.map((it) => {
     const around = booksAround(it);
     const books = around.slice(1).map((book) => plain(book.label ?? String(book.number)));
