@@ -169,5 +169,6 @@ def main(arguments):
     except NoProgram as reason:
         print(f"collection: {reason}", file=sys.stderr)
     except OSError as fault:
-        print(f"collection: the report can't be written: {files.plain(str(fault))}", file=sys.stderr)
+        why = ": ".join(filter(None, (fault.filename and str(fault.filename), running.fault_of(fault))))
+        print(f"collection: the report can't be written: {files.plain(why)}", file=sys.stderr)
     return FAILED

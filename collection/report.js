@@ -32,7 +32,8 @@
     const text = row.cells[at].dataset.sort ?? "";
     return text === "" || isNaN(text) ? text : Number(text);
   };
-  const compare = (a, b) => typeof a === "number" && typeof b === "number" ? a - b : String(a).localeCompare(String(b), undefined, { numeric: true });
+  const ordered = new Intl.Collator(undefined, { numeric: true });
+  const compare = (a, b) => typeof a === "number" && typeof b === "number" ? a - b : ordered.compare(a, b);
   [...table.tHead.rows[0].cells].forEach((head, at) => {
     const button = document.createElement("button");
     button.type = "button";

@@ -6,7 +6,7 @@ import shutil
 import subprocess
 
 from .. import inputs, strings
-from . import BOOK, EXAMPLES, TOP, Case, belt, blueprint, program_path
+from . import BOOK, EXAMPLES, TOP, Case, belt, blueprint, program_path, run
 
 WORDS = "Here is my balancer:"
 TEXT = blueprint(belt(0, 0), label="Ü 1→1").encode()
@@ -107,6 +107,13 @@ class Started(Case):
         status, out, wrong = self.start("collection", "none.txt", "no/where", EXAMPLES, "-o", "report")
         told = "".join(f"collection: {it}: there is no such file or folder\n" for it in ("none.txt", "no/where"))
         self.assertEqual((status, out, wrong, list(self.folder.iterdir())), (1, "", told, []))
+
+    def test_a_folder_that_can_t_be_written(self):
+        self.write("file", "")
+        belt_ = self.write("belt.json", blueprint(belt(0, 0)))
+        status, out, wrong = run(belt_, "-o", self.folder / "file" / "report", "--program", self.fake())
+        why = f"{self.folder}/file/report: Not a directory"
+        self.assertEqual((status, out, wrong), (1, "", f"collection: the report can't be written: {why}\n"))
 
     def test_nothing_but_broken_input(self):
         for given in (b"", b"words", b"0broken", b"{", b'{"a":1}'):
