@@ -26,3 +26,7 @@ CanBeMet r = (assignment : ℕ → Bool) × ((values : ℕ → Ratio) → Meets 
 -- each layout that lays a request gives an assignment that meets the request's formula
 abbrev pub LayingMeets : Type 0
 LayingMeets = (r : LayoutRequest) (parts : List Part) → IsRequest r → Lays parts r → CanBeMet r
+
+-- where no layout lays a request, no assignment meets its formula: one that can be met has a layout
+abbrev pub UnlaidIsUnmet : Type 0
+UnlaidIsUnmet = (r : LayoutRequest) → IsRequest r → ((parts : List Part) → Lays parts r → ⊥) → CanBeMet r → ⊥
