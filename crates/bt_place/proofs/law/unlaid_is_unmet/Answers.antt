@@ -1,4 +1,4 @@
-use Rattle.bt_place.proofs.Met as proved
+use Rattle.bt_place.proofs.Unlaid as proved
 use Rattle.bt_place.proofs.law.unlaid_is_unmet.Goals as goal
 
 pub returns : goal.returns
