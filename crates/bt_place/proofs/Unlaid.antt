@@ -14,8 +14,8 @@ gathered t solved (suc n) within absent =
     let lt : n < spots_in t.request.rect = omega (arith, within) in
     let next : n + 1 ≡ suc n = omega arith in
     gathered t solved n (omega (arith, within)) (λ parts on.
-    let none = λ part kept at. absent (parts ++ part ∷ []) (subst (λ m. IsGathered t m (parts ++ part ∷ [])) next (gathered_kept t solved n lt parts on part kept at)) in
-    no parts (subst (λ m. IsGathered t m parts) next (gathered_same t solved n lt parts on none)))
+    absent parts (subst (λ m. IsGathered t m parts) next (gathered_same t solved n lt parts on
+    (λ part kept at. absent (parts ++ part ∷ []) (subst (λ m. IsGathered t m (parts ++ part ∷ [])) next (gathered_kept t solved n lt parts on part kept at))))))
 
 pub unlaid_is_unmet : UnlaidIsUnmet
 unlaid_is_unmet = λ r assignment is unlaid solution.
