@@ -2,14 +2,15 @@
 use Rattle.std.specs.Prelude.{◌≡◌, ◌⊎◌, ℕ, ◌<◌, Bool, List, [], ◌∷◌, ◌++◌, Option, Some, None, Contains, slice_get}
 use Rattle.std.specs.List.{All}
 use Rattle.bt_cnf.specs.declared.chooser.Pick.{Pick}
+use Rattle.bt_cnf.specs.declared.literal.Lit.{Lit}
 
 -- each number is below all that follow
 abbrev pub Ascends : List ℕ → Type 0
 Ascends [] = Unit {0}
 Ascends (n ∷ ns) = All (λ m. n < m) ns × Ascends ns
 
--- these lengths were added to the list, where it is told; whether it is told doesn't change
-abbrev pub Gains : Option (List ℕ) → Option (List ℕ) → List ℕ → Type 0
+-- these clauses were added to the list, where it is told; whether it is told doesn't change
+abbrev pub Gains : Option (List (List Lit)) → Option (List (List Lit)) → List (List Lit) → Type 0
 Gains None None more = Unit {0}
 Gains None (Some new) more = ⊥
 Gains (Some old) None more = ⊥

@@ -4,6 +4,7 @@ ghost use Rattle.std.specs.List.Sorted.{IsPermutation};
 ghost use Rattle.std.specs.declared.option.Option.{Option};
 ghost use Rattle.bt_cnf.specs.Choosing.{AreInPickOrder, Ascends, Gains};
 ghost use Rattle.bt_cnf.specs.declared.chooser.Pick.{Pick};
+ghost use Rattle.bt_cnf.specs.declared.literal.Lit.{Lit};
 
 use crate::literal::{Lit, Var};
 use std::alloc::AllocError;
@@ -19,8 +20,8 @@ pub struct Pick {
 
 /// Steers a search. What it answers never changes whether an answer of the search is right.
 pub trait Chooser: Drop {
-    /// The lengths of the clauses that it was told, where it tells them. Whether it does never changes.
-    ghost told_lengths: { Self → Option (List ℕ) };
+    /// The clauses that it was told, in order, where it tells them. Whether it does never changes.
+    ghost told_clauses: { Self → Option (List (List Lit)) };
 
     /// What it may pick among unset variables. Where nothing is said, it may pick any.
     ghost may_pick: { Self → List ℕ → Pick → Type 0 } = { λ _ _ _. Unit {0} };
@@ -34,13 +35,13 @@ pub trait Chooser: Drop {
         requires ascending { Ascends unset.now }
         ensures in_range { result.place < length unset.now }
         ensures picks { may_pick self.old unset.now result }
-        ensures same { told_lengths self.new ≡ told_lengths self.old };
+        ensures same { told_clauses self.new ≡ told_clauses self.old };
 
     /// Is told of a clause that was learnt. A chooser that grows keeps its own allocator.
     fn told(&mut self, clause: &[Lit]) -> Result<(), AllocError>
         ensures gains { OnOk result
-            (Gains (told_lengths self.old) (told_lengths self.new) (length clause.now ∷ [])) }
-        ensures keeps { OnErr result (told_lengths self.new ≡ told_lengths self.old) };
+            (Gains (told_clauses self.old) (told_clauses self.new) (clause.now ∷ [])) }
+        ensures keeps { OnErr result (told_clauses self.new ≡ told_clauses self.old) };
 
     /// Puts variables in the order in which it picks them, and tells whether it has one: until it is told of
     /// a clause, it may pick the first of them that is unset, whichever are. By default it has none.
@@ -61,7 +62,7 @@ pub trait Chooser: Drop {
 
 // A box asks and tells the chooser in it.
 impl Chooser for Box<dyn Chooser> {
-    ghost told_lengths = { λ b. (Chooser-box b).told_lengths b.value };
+    ghost told_clauses = { λ b. (Chooser-box b).told_clauses b.value };
 
     ghost may_pick = { λ b. (Chooser-box b).may_pick b.value };
 

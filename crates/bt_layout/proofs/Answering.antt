@@ -4,6 +4,7 @@ use Rattle.std.specs.List.{All}
 use Rattle.std.proofs.lemmas.List.Elements.{All-weaker}
 use Rattle.bt_frac.specs.Values.{nothing}
 use Rattle.bt_cnf.specs.Assignments.{truth_in}
+use Rattle.bt_cnf.specs.declared.literal.Lit.{Lit}
 use Rattle.bt_cnf.specs.Formulas.{FormulaParts}
 use Rattle.bt_cnf.specs.Meeting.{MeetsClause}
 use Rattle.bt_log.specs.Logs.{Step, clause_of}
@@ -20,7 +21,7 @@ use Rattle.bt_theory.proofs.Rounds.{all_front, learnt_fit, sound_log, used_up}
 use Rattle.bt_layout.specs.inner.Ends.{EndsWith}
 use Rattle.bt_layout.proofs.Refuted.{refuted_has_no_layout}
 
-module _ (r : LayoutRequest) (learnt : ℕ) (f : FormulaParts) (old new : SolverParts) (waiting left : List (Option (List ℕ))) (answer : Answer)
+module _ (r : LayoutRequest) (learnt : ℕ) (f : FormulaParts) (old new : SolverParts) (waiting left : List (Option (List (List Lit)))) (answer : Answer)
     (is : f ≡ place_formula r) (begins : old ≡ begun f learnt) (gives : GivesNext old waiting new left answer) where
   formula : new.formula ≡ place_formula r
   formula = gives.goes_on.formula ∙ ap (λ (s : SolverParts). s.formula) begins ∙ is
@@ -60,7 +61,7 @@ module _ (r : LayoutRequest) (learnt : ℕ) (f : FormulaParts) (old new : Solver
       (subst (λ g. IsUsedUp g learnt new.steps) formula (subst (λ n. IsUsedUp new.formula n new.steps) limit (used_up new gives.sound fits h)))
 
 -- what the answer of the first search says of the request
-pub ends_with : (r : LayoutRequest) (learnt : ℕ) (f : FormulaParts) (old new : SolverParts) (waiting left : List (Option (List ℕ))) (answer : Answer) (log : List Step)
+pub ends_with : (r : LayoutRequest) (learnt : ℕ) (f : FormulaParts) (old new : SolverParts) (waiting left : List (Option (List (List Lit)))) (answer : Answer) (log : List Step)
     → IsRequest r → f ≡ place_formula r → old ≡ begun f learnt → log ≡ new.steps → GivesNext old waiting new left answer → EndsWith r learnt log answer
 ends_with r learnt f old new waiting left (Model model) log request is begins e gives =
     model_solves r learnt f old new waiting left (Model model) is begins gives model.items gives.says.1

@@ -5,6 +5,7 @@ use Rattle.bt_frac.specs.Values.{nothing}
 use Rattle.bt_cnf.specs.Assignments.{truth_in}
 use Rattle.bt_cnf.specs.Formulas.{FormulaParts}
 use Rattle.bt_cnf.specs.Meeting.{MeetsClause}
+use Rattle.bt_cnf.specs.declared.literal.Lit.{Lit}
 use Rattle.bt_log.specs.Logs.{clause_of}
 use Rattle.bt_sat.specs.Answering.{GivesNext}
 use Rattle.bt_sat.specs.Solving.{SolverParts, begun, IsModel}
@@ -17,7 +18,7 @@ use Rattle.bt_place.specs.Solutions.{IsSolution}
 use Rattle.bt_layout.specs.inner.Likely.{Solves}
 use Rattle.bt_theory.proofs.Rounds.{all_front}
 
-narrowed_solves : (r : LayoutRequest) (learnt : ℕ) (f : FormulaParts) (old new : SolverParts) (waiting left : List (Option (List ℕ))) (answer : Answer) (model : List Bool)
+narrowed_solves : (r : LayoutRequest) (learnt : ℕ) (f : FormulaParts) (old new : SolverParts) (waiting left : List (Option (List (List Lit)))) (answer : Answer) (model : List Bool)
     → IsNarrowed (place_formula r) f → old ≡ begun f learnt → GivesNext old waiting new left answer → IsModel new model → IsSolution r model
 narrowed_solves r learnt f old new waiting left answer model narrowed begins gives h =
     let formula : new.formula ≡ record (place_formula r) { clauses = (place_formula r).clauses ++ narrowed.0 } =
@@ -31,7 +32,7 @@ narrowed_solves r learnt f old new waiting left answer model narrowed begins giv
       },
     )
 
-pub answer_solves : (r : LayoutRequest) (learnt : ℕ) (f : FormulaParts) (old new : SolverParts) (waiting left : List (Option (List ℕ))) (answer : Answer)
+pub answer_solves : (r : LayoutRequest) (learnt : ℕ) (f : FormulaParts) (old new : SolverParts) (waiting left : List (Option (List (List Lit)))) (answer : Answer)
     → IsNarrowed (place_formula r) f → old ≡ begun f learnt → GivesNext old waiting new left answer → Solves r answer
 answer_solves r learnt f old new waiting left (Model model) narrowed begins gives =
     narrowed_solves r learnt f old new waiting left (Model model) model.items narrowed begins gives gives.says.1

@@ -63,9 +63,9 @@ module _ (t : Told) (solved : IsSolved t) where
   none_on_greater i other way lt there greater of dir own says =
       own (one_shape (solved_of t solved) (cell_in t i) (numbered_inside t.request.rect i solved.is_request.grid lt) of other dir way says there ∙ greater)
 
-  module _ (marks : List Bool) (are : AreMarks t marks) (n : ℕ) (lt : n < spots_in t.request.rect) (parts : List Part) (on : IsGathered t n parts) where
+  module _ (n : ℕ) (lt : n < spots_in t.request.rect) (parts : List Part) (on : IsGathered t n parts) where
     -- no part on the cell with this number
-    gathered_same : ((part : Part) → KeptPart t part → part.cell ≡ cell_in t n → ⊥) → IsGathered t (n + 1) parts
+    pub gathered_same : ((part : Part) → KeptPart t part → part.cell ≡ cell_in t n → ⊥) → IsGathered t (n + 1) parts
     gathered_same none = record {
       all = λ part kept below. ⊎_elim (λ before. on.all part kept before)
           (λ here. let at : spot_in t.request.rect part.cell ≡ n = omega arith in
@@ -75,30 +75,9 @@ module _ (t : Told) (solved : IsSolved t) where
       order = on.order;
     }
 
-    -- an unmarked cell
-    pub gathered_unmarked : HasStarts t marks (spots_in t.request.rect) → (IsMarked marks n → ⊥) → IsGathered t (n + 1) parts
-    gathered_unmarked starts unmarked = gathered_same (λ part kept at. unmarked
-        (subst (IsMarked marks) (ap (spot_in t.request.rect) at ∙ numbered_spot t.request.rect n)
-        (all_marked t solved marks are starts part.cell kept.reached)))
-
-    -- a marked cell that is no part's own one
-    pub gathered_none : ((of : Shape) (dir : Dir) → of ≢ shape.Half Greater → Says t (holds (cell_in t n) of dir) → ⊥)
-        → IsGathered t (n + 1) parts
-    gathered_none none = gathered_same (λ part kept at. none kept.of part.dir kept.no_greater
-        (subst (λ c. Says t (holds c kept.of part.dir)) at kept.stands))
-
     -- one more part
-    pub gathered_more : (part : Part) → IsMarked marks n → part.cell ≡ cell_in t n → (of : Shape) → StandsAs t part of
-        → IsGathered t (n + 1) (parts ++ part ∷ [])
-    gathered_more part marked at of stands =
-        let kept : KeptPart t part = record {
-          of = of;
-          no_greater = stands.own;
-          reached = subst (λ c. Reached t c) (sym at) (are.sound n lt marked);
-          stands = stands.says;
-          is_kind = stands.is_kind;
-          tier = stands.tier;
-        } in
+    pub gathered_kept : (part : Part) → KeptPart t part → part.cell ≡ cell_in t n → IsGathered t (n + 1) (parts ++ part ∷ [])
+    gathered_kept part kept at =
         let here : spot_in t.request.rect part.cell ≡ n = ap (spot_in t.request.rect) at ∙ numbered_spot t.request.rect n in
         record {
           all = λ other other_kept below. ⊎_elim (λ before. Contains-append_left parts (part ∷ []) other (on.all other other_kept before))
@@ -122,6 +101,31 @@ module _ (t : Told) (solved : IsSolved t) where
             let says_b = subst (λ c. Says t (holds c y.of b.dir)) at_b y.stands in
             part_is a b (x.is_kind ∙ ap kind_of (one_shape w (cell_in t n) inside x.of y.of a.dir b.dir says_a says_b) ∙ sym y.is_kind) (x.tier ∙ sym y.tier)
             (one_dir w (cell_in t n) inside x.of y.of a.dir b.dir says_a says_b) (at_a ∙ sym at_b)
+
+  module _ (marks : List Bool) (are : AreMarks t marks) (n : ℕ) (lt : n < spots_in t.request.rect) (parts : List Part) (on : IsGathered t n parts) where
+    -- an unmarked cell
+    pub gathered_unmarked : HasStarts t marks (spots_in t.request.rect) → (IsMarked marks n → ⊥) → IsGathered t (n + 1) parts
+    gathered_unmarked starts unmarked = gathered_same n lt parts on (λ part kept at. unmarked
+        (subst (IsMarked marks) (ap (spot_in t.request.rect) at ∙ numbered_spot t.request.rect n)
+        (all_marked t solved marks are starts part.cell kept.reached)))
+
+    -- a marked cell that is no part's own one
+    pub gathered_none : ((of : Shape) (dir : Dir) → of ≢ shape.Half Greater → Says t (holds (cell_in t n) of dir) → ⊥)
+        → IsGathered t (n + 1) parts
+    gathered_none none = gathered_same n lt parts on (λ part kept at. none kept.of part.dir kept.no_greater
+        (subst (λ c. Says t (holds c kept.of part.dir)) at kept.stands))
+
+    -- a part on a marked cell
+    pub gathered_more : (part : Part) → IsMarked marks n → part.cell ≡ cell_in t n → (of : Shape) → StandsAs t part of
+        → IsGathered t (n + 1) (parts ++ part ∷ [])
+    gathered_more part marked at of stands = gathered_kept n lt parts on part (record {
+      of = of;
+      no_greater = stands.own;
+      reached = subst (λ c. Reached t c) (sym at) (are.sound n lt marked);
+      stands = stands.says;
+      is_kind = stands.is_kind;
+      tier = stands.tier;
+    }) at
 
   -- ---- all parts
 

@@ -7,6 +7,7 @@ pub mod Numbered
 pub mod Written
 pub mod Encoded
 pub mod Meeting
+mod Unlaid
 pub mod Laying
 pub mod Cells
 pub mod Solving

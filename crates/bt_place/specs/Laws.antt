@@ -9,6 +9,7 @@ use Rattle.bt_rules.specs.declared.fact.Fact.{Fact}
 use Rattle.bt_rules.specs.Laws.{KeepsRules}
 use Rattle.bt_place.specs.Numbering.{variable_of}
 use Rattle.bt_place.specs.PlaceFormula.{sizes_of, place_formula}
+use Rattle.bt_place.specs.Solutions.{IsSolution}
 
 -- the facts as an assignment reads them
 abbrev pub read_by : LayoutRequest → (ℕ → Bool) → Fact → Bool
@@ -26,3 +27,7 @@ CanBeMet r = (assignment : ℕ → Bool) × ((values : ℕ → Ratio) → Meets 
 -- each layout that lays a request gives an assignment that meets the request's formula
 abbrev pub LayingMeets : Type 0
 LayingMeets = (r : LayoutRequest) (parts : List Part) → IsRequest r → Lays parts r → CanBeMet r
+
+-- where no layout lays a request, no assignment meets its formula: one that can be met has a layout
+abbrev pub UnlaidIsUnmet : Type 0
+UnlaidIsUnmet = (r : LayoutRequest) (assignment : List Bool) → IsRequest r → ((parts : List Part) → Lays parts r → ⊥) → IsSolution r assignment → ⊥

@@ -1,5 +1,5 @@
 //! Laws of the placement formula, as contracts of functions that do nothing.
-ghost use Rattle.bt_place.specs.Laws.{MeetingKeeps, LayingMeets};
+ghost use Rattle.bt_place.specs.Laws.{LayingMeets, MeetingKeeps, UnlaidIsUnmet};
 
 /// An assignment that meets the formula of a request, whoever found it, keeps each rule over facts.
 pub fn meeting_keeps()
@@ -11,4 +11,9 @@ pub fn meeting_keeps()
 /// the formula, no layout lays the request.
 pub fn laying_meets()
     ensures { LayingMeets }
+{}
+
+/// A request whose formula can be met has a layout: where no layout lays it, no assignment meets the formula.
+pub fn unlaid_is_unmet()
+    ensures { UnlaidIsUnmet }
 {}

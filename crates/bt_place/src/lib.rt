@@ -17,7 +17,7 @@ mod writing;
 pub use blocks::Starts;
 pub use decoding::decode;
 pub use encoding::encode_place;
-pub use law::{laying_meets, meeting_keeps};
+pub use law::{laying_meets, meeting_keeps, unlaid_is_unmet};
 pub use narrowing::{literal_of, narrow};
 pub use numbering::Numbers;
 pub use std::alloc::AllocError as Memory;

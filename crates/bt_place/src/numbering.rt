@@ -344,7 +344,8 @@ impl Numbers {
     /// The variable of a fact, where it has one.
     pub fn find(&self, fact: Fact) -> Option<usize>
         ensures none { IfNone result (IsNumbered self.now fact → ⊥) }
-        ensures some { IfSome result (λ variable. variable ≡ numbering.variable_of self.now fact) }
+        ensures some { IfSome result (λ variable. IsNumbered self.now fact
+            × (variable ≡ numbering.variable_of self.now fact)) }
     {
         if self.has(fact) {
             Some(self.variable(fact))

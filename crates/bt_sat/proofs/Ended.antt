@@ -12,7 +12,7 @@ use Rattle.bt_log.specs.Logs.{Step, Learnt, Lemma, LogParts, clause_of}
 use Rattle.bt_log.specs.Refuting.{Refutes}
 use Rattle.bt_log.specs.Validity.{AreValid}
 use Rattle.bt_sat.specs.Answering.{AddsLemma, GivesNext, Says}
-use Rattle.bt_sat.specs.Serving.{IsFair}
+use Rattle.bt_sat.specs.Serving.{TellsSteps}
 use Rattle.bt_sat.specs.Solving.{AreFresh, AreNonempty, EndsRefuted, EndsSpent, IsLearnt, IsLemmaOf, IsModel, IsSoundLog, IsSpent, KeepsModel, LacksMemory, Searches, Standing}
 use Rattle.bt_sat.specs.declared.kernel.Stage.{Stage}
 use Rattle.bt_sat.specs.declared.kernel.Stage.TheVariants.{Running, Complete, Refuted, Spent, Lost}
@@ -28,7 +28,7 @@ use Rattle.bt_sat.specs.inner.Truths.{IsFalseIn}
 use Rattle.bt_sat.proofs.Counting.{fresh_steps_are_few}
 use Rattle.bt_sat.proofs.Logging.{fresh_push, valid_push}
 use Rattle.bt_sat.proofs.Modelled.{complete_model, lemma_falses, lemma_next}
-use Rattle.bt_sat.proofs.Served.{served_none, served_next}
+use Rattle.bt_sat.proofs.Served.{tells_none, tells_step}
 use Rattle.bt_sat.proofs.Settled.{all_of}
 
 all_front : {X : Type 0} (P : X → Type 0) (front : List X) (last : X) → All P (front ++ last ∷ []) → All P front
@@ -107,13 +107,13 @@ comes_says p answer.Refuted comes = (refl, refutes p comes)
 comes_says p answer.Spent comes = (refl, full_spent p Spent comes)
 
 -- an answer that was searched for
-pub gives : (old new : Progress) (was : Stage) (waiting left : List (Option (List ℕ))) (answer : Answer) → MayGoOn (parts_of old was).standing → AnswersBy old waiting new left answer
+pub gives : (old new : Progress) (was : Stage) (waiting left : List (Option (List (List Lit)))) (answer : Answer) → MayGoOn (parts_of old was).standing → AnswersBy old waiting new left answer
     → GivesNext (parts_of old was) waiting (parts_of new (stage_after answer)) left answer
 gives old new was waiting left answer may by = record {
   added = by.0.added;
   learnt = by.0.learnt;
   goes_on = record { formula = by.0.formula; limit = by.0.limit; steps = ap (λ (l : LogParts). l.steps) by.0.log };
-  serves = by.0.serves;
+  tells = by.0.tells;
   sound = comes_sound new answer by.1;
   says = comes_says new answer by.1;
   refuted = λ ends. absurd (subst MayGoOn ends may);
@@ -121,35 +121,34 @@ gives old new was waiting left answer may by = record {
 }
 
 -- the same answer again
-again : (p : Progress) (stage : Stage) (waiting : List (Option (List ℕ))) (answer : Answer) → IsFair p.served (length waiting) → IsSoundLog (parts_of p stage) → Says (parts_of p stage) answer
+again : (p : Progress) (stage : Stage) (waiting : List (Option (List (List Lit)))) (answer : Answer) → IsSoundLog (parts_of p stage) → Says (parts_of p stage) answer
     → GivesNext (parts_of p stage) waiting (parts_of p stage) waiting answer
-again p stage waiting answer fair sound says = record {
+again p stage waiting answer sound says = record {
   added = [];
   learnt = All-nil IsLearnt;
   goes_on = record { formula = refl; limit = refl; steps = sym (append-nil p.known.log.steps) };
-  serves = served_none p.served waiting fair;
+  tells = tells_none p.known.log.steps waiting;
   sound = sound;
   says = says;
   refuted = λ ends. refl;
   spent = λ ends. refl;
 }
 
-pub again_refuted : (p : Progress) (stage : Stage) (waiting : List (Option (List ℕ))) → stage ≡ Refuted → StandsAt p stage → IsFair p.served (length waiting)
+pub again_refuted : (p : Progress) (stage : Stage) (waiting : List (Option (List (List Lit)))) → stage ≡ Refuted → StandsAt p stage
     → GivesNext (parts_of p stage) waiting (parts_of p stage) waiting answer.Refuted
-again_refuted p stage waiting at stands fair =
+again_refuted p stage waiting at stands =
     let is : IsRefuted p = subst (StandsAt p) at stands in
-    subst (λ s. GivesNext (parts_of p s) waiting (parts_of p s) waiting answer.Refuted) (sym at) (again p Refuted waiting answer.Refuted fair (refuted_sound p is Refuted) (refl, refutes p is))
+    subst (λ s. GivesNext (parts_of p s) waiting (parts_of p s) waiting answer.Refuted) (sym at) (again p Refuted waiting answer.Refuted (refuted_sound p is Refuted) (refl, refutes p is))
 
-pub again_spent : (p : Progress) (stage : Stage) (waiting : List (Option (List ℕ))) → stage ≡ Spent → StandsAt p stage → IsFair p.served (length waiting)
+pub again_spent : (p : Progress) (stage : Stage) (waiting : List (Option (List (List Lit)))) → stage ≡ Spent → StandsAt p stage
     → GivesNext (parts_of p stage) waiting (parts_of p stage) waiting answer.Spent
-again_spent p stage waiting at stands fair =
+again_spent p stage waiting at stands =
     let is : HasSpent p = subst (StandsAt p) at stands in
-    subst (λ s. GivesNext (parts_of p s) waiting (parts_of p s) waiting answer.Spent) (sym at) (again p Spent waiting answer.Spent fair (logged_sound p Spent is.logged) (refl, full_spent p Spent is))
+    subst (λ s. GivesNext (parts_of p s) waiting (parts_of p s) waiting answer.Spent) (sym at) (again p Spent waiting answer.Spent (logged_sound p Spent is.logged) (refl, full_spent p Spent is))
 
 -- what is known where a lemma comes
 pub record MeetsLemma (p : Progress) (lits : List Lit) (weights : List Ratio) : Type 0 where
   pub complete : IsComplete p
-  pub paced : p.served ≤ length p.known.log.steps
   pub falses : All (IsFalseIn p.search.assignment.values) lits
   pub next : IsNextStep p.known (Lemma lits weights)
 
@@ -166,10 +165,9 @@ meets_lemma p Complete lits weights stands of =
     let same : model_of values ≡ of.model = ap model_in of.keeps in
     let unmet = subst (λ m. All (λ l. IsTrueUnder (truth_in m) l → ⊥) lits) (sym same) of.unmet in
     record {
-      complete = stands.0;
-      paced = stands.1;
+      complete = stands;
       falses = lemma_falses p.known.formula values lits weights of.valid unmet;
-      next = lemma_next p lits weights stands.0 of.valid unmet;
+      next = lemma_next p lits weights stands of.valid unmet;
     }
 meets_lemma p Refuted lits weights stands of =
     let no_model : EndsRefuted ≡ KeepsModel of.model = of.keeps in
@@ -182,12 +180,11 @@ meets_lemma p Lost lits weights stands of =
     cc
 
 -- the lemma was added
-pub adds : (old new : Progress) (was : Stage) (waiting left : List (Option (List ℕ))) (lits : List Lit) (weights : List Ratio) → IsFair old.served (length waiting)
-    → length old.known.log.steps < old.limit → AddsTo old waiting lits weights new left → AddsLemma (parts_of old was) waiting lits weights (parts_of new Running) left
-adds old new was waiting left lits weights fair room by = record {
+pub adds : (old new : Progress) (was : Stage) (waiting left : List (Option (List (List Lit)))) (lits : List Lit) (weights : List Ratio) → length old.known.log.steps < old.limit → AddsTo old waiting lits weights new left → AddsLemma (parts_of old was) waiting lits weights (parts_of new Running) left
+adds old new was waiting left lits weights room by = record {
   room = room;
   goes_on = record { formula = by.logs.formula; limit = by.limit; steps = ap (λ (l : LogParts). l.steps) by.logs.log };
-  serves = served_next old.served waiting [] old.served waiting (length lits) new.served left (served_none old.served waiting fair) by.tells;
+  tells = subst (λ steps. TellsSteps old.known.log.steps steps waiting left) (sym (ap (λ (l : LogParts). l.steps) by.logs.log)) (tells_step old.known.log.steps (Lemma lits weights) waiting left by.tells);
   sound = logged_sound new Running by.running.logged;
   searches = refl;
 }

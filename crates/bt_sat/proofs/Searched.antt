@@ -6,8 +6,7 @@ use Rattle.std.proofs.lemmas.List.{length-map, map-append}
 use Rattle.std.proofs.lemmas.List.Elements.{All-nil, All-push}
 use Rattle.bt_cnf.specs.declared.literal.Lit.{Lit}
 use Rattle.bt_log.specs.Logs.{Step, LogParts, clause_of}
-use Rattle.bt_sat.specs.Answering.{lengths_of}
-use Rattle.bt_sat.specs.Serving.{ServesOn, IsFair}
+use Rattle.bt_sat.specs.Serving.{TellsSteps}
 use Rattle.bt_sat.specs.Solving.{IsLearnt}
 use Rattle.bt_sat.specs.declared.cdcl.Found.{Found}
 use Rattle.bt_sat.specs.declared.cdcl.Found.TheVariants.{Model, Refuted, Spent}
@@ -19,7 +18,7 @@ use Rattle.bt_sat.specs.inner.Searching.{Finds, SearchesOn, LearnsAndTells, Step
 use Rattle.bt_sat.specs.inner.Levels.{Backjumps, IsHeld, IsOrdered, IsReady}
 use Rattle.bt_sat.specs.inner.Progressing.{KeepsFormula, Stands}
 use Rattle.bt_sat.proofs.Leveled
-use Rattle.bt_sat.proofs.Served.{served_next, served_none}
+use Rattle.bt_sat.proofs.Served.{tells_more, tells_none, tells_step}
 use Rattle.bt_sat.proofs.Visiting.{all_more}
 
 -- the search jumps back to a level that it has
@@ -49,40 +48,39 @@ kept_next old mid new was is = record {
 }
 
 -- at first no step was added
-pub searches_none : (p : Progress) (waiting : List (Option (List ℕ))) → IsFair p.served (length waiting) → p.served ≤ length p.known.log.steps → SearchesOn p waiting p waiting
-searches_none p waiting fair paced = record {
+pub searches_none : (p : Progress) (waiting : List (Option (List (List Lit)))) → SearchesOn p waiting p waiting
+searches_none p waiting = record {
   added = [];
   learnt = All-nil IsLearnt;
   formula = refl;
   log = ap (λ ss. record_of p.known.log.first ss) (sym (append-nil p.known.log.steps));
   limit = refl;
-  serves = served_none p.served waiting fair;
-  paced = paced;
+  tells = tells_none p.known.log.steps waiting;
 }
   where
     record_of : ℕ → List Step → LogParts
     record_of first steps = record { first = first; steps = steps }
 
 -- nothing of the log has changed
-pub searches_kept : (old mid new : Progress) (waiting left left' : List (Option (List ℕ))) → SearchesOn old waiting mid left → KeepsLog mid new → left' ≡ left → SearchesOn old waiting new left'
+pub searches_kept : (old mid new : Progress) (waiting left left' : List (Option (List (List Lit)))) → SearchesOn old waiting mid left → KeepsLog mid new → left' ≡ left → SearchesOn old waiting new left'
 searches_kept old mid new waiting left left' on keeps same = record {
   added = on.added;
   learnt = on.learnt;
   formula = ap (λ (k : LoggedFormula). k.formula) keeps.known ∙ on.formula;
   log = ap (λ (k : LoggedFormula). k.log) keeps.known ∙ on.log;
   limit = keeps.limit ∙ on.limit;
-  serves = subst (λ n. ServesOn old.served waiting (lengths_of on.added) n left') (sym keeps.served) (subst (ServesOn old.served waiting (lengths_of on.added) mid.served) (sym same) on.serves);
-  paced = subst (λ n. n ≤ length new.known.log.steps) (sym keeps.served) (subst (λ (k : LoggedFormula). mid.served ≤ length k.log.steps) (sym keeps.known) on.paced);
+  tells =
+      subst (λ (k : LoggedFormula). TellsSteps old.known.log.steps k.log.steps waiting left') (sym keeps.known)
+      (subst (TellsSteps old.known.log.steps mid.known.log.steps waiting) (sym same) on.tells);
 }
 
 -- one step more
-pub searches_step : (old mid new : Progress) (waiting left left' : List (Option (List ℕ))) → SearchesOn old waiting mid left → StepsOn mid left new left' → SearchesOn old waiting new left'
+pub searches_step : (old mid new : Progress) (waiting left left' : List (Option (List (List Lit)))) → SearchesOn old waiting mid left → StepsOn mid left new left' → SearchesOn old waiting new left'
 searches_step old mid new waiting left left' on steps =
     let mid_steps : mid.known.log.steps ≡ old.known.log.steps ++ on.added = ap (λ (l : LogParts). l.steps) on.log in
     let new_steps : new.known.log.steps ≡ mid.known.log.steps ++ steps.step ∷ [] = ap (λ (l : LogParts). l.steps) steps.logs.log in
     let mid_first : mid.known.log.first ≡ old.known.log.first = ap (λ (l : LogParts). l.first) on.log in
     let make : ℕ → List Step → LogParts = λ first ss. record { first = first; steps = ss } in
-    let more : length new.known.log.steps ≡ length mid.known.log.steps + 1 = ap length new_steps ∙ length-append mid.known.log.steps (steps.step ∷ []) in
     record {
       added = on.added ++ steps.step ∷ [];
       learnt = All-push IsLearnt on.added steps.step on.learnt steps.learnt;
@@ -91,29 +89,15 @@ searches_step old mid new waiting left left' on steps =
           steps.logs.log ∙ ap (λ n. make n (mid.known.log.steps ++ steps.step ∷ [])) mid_first
           ∙ ap (make old.known.log.first) (ap (λ ss. ss ++ steps.step ∷ []) mid_steps ∙ append_assoc old.known.log.steps on.added (steps.step ∷ []));
       limit = steps.limit ∙ on.limit;
-      serves =
-          subst (λ ls. ServesOn old.served waiting ls new.served left') (sym (map-append (λ step. length (clause_of step)) on.added (steps.step ∷ [])))
-          (served_next old.served waiting (lengths_of on.added) mid.served left (length (clause_of steps.step)) new.served left' on.serves steps.tells);
-      paced = elim steps.tells [
-        | inl told ↦ omega (arith, told.counted, on.paced, more)
-        | inr passed ↦ omega (arith, passed.begins)
-      ];
+      tells =
+          subst (λ all. TellsSteps old.known.log.steps all waiting left') (sym new_steps)
+          (tells_more old.known.log.steps mid.known.log.steps (mid.known.log.steps ++ steps.step ∷ []) waiting left left' on.tells
+          (tells_step mid.known.log.steps steps.step left left' steps.tells));
     }
 
 -- the search came to its end at a conflict
-pub searches_end : (old mid new : Progress) (waiting left left' : List (Option (List ℕ))) (found : Found) → SearchesOn old waiting mid left → LearnsAndTells mid left new left' (Some found)
+pub searches_end : (old mid new : Progress) (waiting left left' : List (Option (List (List Lit)))) (found : Found) → SearchesOn old waiting mid left → LearnsAndTells mid left new left' (Some found)
     → SearchesOn old waiting new left' × Finds new found
 searches_end old mid new waiting left left' Model on learns = absurd learns
 searches_end old mid new waiting left left' Refuted on learns = (searches_step old mid new waiting left left' on learns.0, learns.1)
 searches_end old mid new waiting left left' Spent on learns = (searches_kept old mid new waiting left left' on learns.0 learns.1, learns.2)
-
--- what vectors count
-pub fair_map : {X : Type 0} (f : X → Option (List ℕ)) (v : Vec X) (served : ℕ) → IsFair served (vec_len v) → IsFair served (length (map f v.items))
-fair_map f v served fair =
-    let size = length-map v.items f in
-    elim fair [ inl small ↦ inl small | inr one ↦ inr (omega (arith, one, size, v.ok.0)) ]
-
-pub fair_count : {X : Type 0} (f : X → Option (List ℕ)) (v : Vec X) (served : ℕ) → IsFair served (length (map f v.items)) → IsFair served (vec_len v)
-fair_count f v served fair =
-    let size = length-map v.items f in
-    elim fair [ inl small ↦ inl small | inr one ↦ inr (omega (arith, one, size, v.ok.0)) ]

@@ -1,21 +1,17 @@
 -- What the calls of a solver answer.
-use Rattle.std.specs.Prelude.{◌≡◌, ◌<◌, ℕ, List, [], ◌∷◌, length, map, Option, Result, Ok, Err}
+use Rattle.std.specs.Prelude.{◌≡◌, ◌<◌, List, [], ◌∷◌, length, Option, Result, Ok, Err}
 use Rattle.std.specs.List.{All}
 use Rattle.std.specs.declared.alloc.AllocError.{AllocError}
 use Rattle.bt_frac.specs.Ratio.{Ratio}
 use Rattle.bt_cnf.specs.declared.literal.Lit.{Lit}
-use Rattle.bt_log.specs.Logs.{Step, Lemma, clause_of}
+use Rattle.bt_log.specs.Logs.{Step, Lemma}
 use Rattle.bt_log.specs.Refuting.{Refutes}
-use Rattle.bt_sat.specs.Serving.{ServesOn}
+use Rattle.bt_sat.specs.Serving.{TellsSteps}
 use Rattle.bt_sat.specs.Solving.{SolverParts, KeepsModel, Searches, EndsRefuted, EndsSpent, LacksMemory, IsModel, IsSoundLog, IsSpent, IsLearnt, GoesOnBy}
 use Rattle.bt_sat.specs.declared.solver.Answer.{Answer}
 use Rattle.bt_sat.specs.declared.solver.Answer.TheVariants as answer
 use Rattle.bt_sat.specs.declared.solver.Added.{Added}
 use Rattle.bt_sat.specs.declared.solver.Added.TheVariants as added
-
--- the lengths of the clauses that steps add
-abbrev pub lengths_of : List Step → List ℕ
-lengths_of steps = map (λ step. length (clause_of step)) steps
 
 -- what an answer says of the solver that gives it
 abbrev pub Says : SolverParts → Answer → Type 0
@@ -25,11 +21,11 @@ Says s answer.Spent = (s.standing ≡ EndsSpent) × IsSpent s
 
 -- learnt steps alone were added, of which the choosers were told, each step of the log is valid and fresh, and the
 -- answer holds; where the search had come to its end, the answer is the same, and nothing has changed
-pub record GivesNext (old : SolverParts) (waiting : List (Option (List ℕ))) (new : SolverParts) (left : List (Option (List ℕ))) (answer : Answer) : Type 0 where
+pub record GivesNext (old : SolverParts) (waiting : List (Option (List (List Lit)))) (new : SolverParts) (left : List (Option (List (List Lit)))) (answer : Answer) : Type 0 where
   pub added : List Step
   pub learnt : All IsLearnt added
   pub goes_on : GoesOnBy added old new
-  pub serves : ServesOn old.served waiting (lengths_of added) new.served left
+  pub tells : TellsSteps old.steps new.steps waiting left
   pub sound : IsSoundLog new
   pub says : Says new answer
   pub refuted : old.standing ≡ EndsRefuted → new ≡ old
@@ -42,16 +38,16 @@ MayAnswer old (Ok answer) = old.standing ≡ LacksMemory → ⊥
 MayAnswer old (Err memory) = (old.standing ≡ EndsRefuted → ⊥) × (old.standing ≡ EndsSpent → ⊥)
 
 -- one more lemma is logged, of which the chooser that serves was told, and the search goes on
-pub record AddsLemma (old : SolverParts) (waiting : List (Option (List ℕ))) (lits : List Lit) (weights : List Ratio) (new : SolverParts) (left : List (Option (List ℕ))) : Type 0 where
+pub record AddsLemma (old : SolverParts) (waiting : List (Option (List (List Lit)))) (lits : List Lit) (weights : List Ratio) (new : SolverParts) (left : List (Option (List (List Lit)))) : Type 0 where
   pub room : length old.steps < old.limit
   pub goes_on : GoesOnBy (Lemma lits weights ∷ []) old new
-  pub serves : ServesOn old.served waiting (length lits ∷ []) new.served left
+  pub tells : TellsSteps old.steps new.steps waiting left
   pub sound : IsSoundLog new
   pub searches : new.standing ≡ Searches
 
 -- a lemma is added where there is room for a step; where there is none, nothing changes, and the lemma itself would be
 -- one more step that is valid and fresh; or memory ran out
-abbrev pub IsAdded : SolverParts → List (Option (List ℕ)) → List Lit → List Ratio → SolverParts → List (Option (List ℕ)) → Result Added AllocError → Type 0
+abbrev pub IsAdded : SolverParts → List (Option (List (List Lit))) → List Lit → List Ratio → SolverParts → List (Option (List (List Lit))) → Result Added AllocError → Type 0
 IsAdded old waiting lits weights new left (Ok added.Kept) = AddsLemma old waiting lits weights new left
 IsAdded old waiting lits weights new left (Ok added.Spent) = (new ≡ old) × (left ≡ waiting) × IsSpent old
 IsAdded old waiting lits weights new left (Err memory) = (new.standing ≡ LacksMemory) × (length old.steps < old.limit)

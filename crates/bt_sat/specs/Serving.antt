@@ -1,28 +1,23 @@
 -- Which chooser serves, and what each is told.
-use Rattle.std.specs.Prelude.{◌≡◌, ◌⊎◌, ◌+◌, ◌-◌, ◌*◌, ◌<◌, ◌≤◌, ℕ, List, [], ◌∷◌, length, drop, Option}
+use Rattle.std.specs.Prelude.{◌≡◌, ◌+◌, ◌*◌, ℕ, List, ◌++◌, length, map, take, drop, nat_lt, slice_get, if◌then◌else◌, Option, Some}
 use Rattle.bt_cnf.specs.Choosing.{Gains}
+use Rattle.bt_cnf.specs.declared.literal.Lit.{Lit}
+use Rattle.bt_log.specs.Logs.{Step, clause_of}
 use Rattle.bt_sat.specs.declared.solver.TheConstants.{EPOCH_STEPS}
 
--- the first gains these lengths, where there is one, and those that wait keep their lists
-abbrev pub FirstGains : List (Option (List ℕ)) → List (Option (List ℕ)) → List ℕ → Type 0
-FirstGains [] [] more = Unit {0}
-FirstGains (old ∷ waiting) (new ∷ still) more = Gains old new more × (still ≡ waiting)
-FirstGains _ _ more = ⊥
+-- the steps of a log that are a chooser's epoch: as many for each chooser in turn, and for the last one all that follow
+abbrev pub epoch : ℕ → ℕ → List Step → List Step
+epoch choosers place steps =
+    if nat_lt (place + 1) choosers then take EPOCH_STEPS (drop (EPOCH_STEPS * place) steps) else drop (EPOCH_STEPS * place) steps
 
--- so many epochs have ended, after each of which another chooser was left; the present one isn't full, or no other
--- chooser is left
-pub record EndsEpochs (choosers before added ended after : ℕ) : Type 0 where
-  pub counted : before + added ≡ EPOCH_STEPS * ended + after
-  pub another : (ended ≡ 0) ⊎ (ended < choosers)
-  pub present : (after < EPOCH_STEPS) ⊎ (choosers ≤ ended + 1)
+-- the chooser at a place was told, in order, the clauses of the steps by which its epoch has grown
+pub record HearsOf (choosers place : ℕ) (before after : List Step) (old new : Option (List (List Lit))) : Type 0 where
+  pub added : List Step
+  pub grows : epoch choosers place after ≡ epoch choosers place before ++ added
+  pub told : Gains old new (map clause_of added)
 
--- steps with clauses of these lengths are logged, in an epoch that has so many steps, and then so many: the choosers
--- whose epochs ended are gone, the one that serves was told of the steps of its epoch, and the others wait
-pub record ServesOn (before : ℕ) (old : List (Option (List ℕ))) (lengths : List ℕ) (after : ℕ) (new : List (Option (List ℕ))) : Type 0 where
-  pub ended : ℕ
-  pub epochs : EndsEpochs (length old) before (length lengths) ended after
-  pub told : FirstGains (drop ended old) new (drop (EPOCH_STEPS * ended - before) lengths)
-
--- the epoch isn't full, or no other chooser is left
-abbrev pub IsFair : ℕ → ℕ → Type 0
-IsFair served choosers = (served < EPOCH_STEPS) ⊎ (choosers ≤ 1)
+-- the log has grown, and each chooser was told of the steps of its epoch
+pub record TellsSteps (before after : List Step) (old new : List (Option (List (List Lit)))) : Type 0 where
+  pub count : length new ≡ length old
+  pub each : (place : ℕ) (was is : Option (List (List Lit))) → slice_get old place ≡ Some was → slice_get new place ≡ Some is
+      → HearsOf (length old) place before after was is

@@ -19,18 +19,16 @@ pub data Standing : Type 0 where
   EndsSpent : Standing
   LacksMemory : Standing
 
--- the formula, the steps of the log, how many steps it may have, how many belong to the epoch, and where the search
--- stands
+-- the formula, the steps of the log, how many steps it may have, and where the search stands
 pub record SolverParts : Type 0 where
   pub formula : FormulaParts
   pub steps : List Step
   pub limit : ℕ
-  pub served : ℕ
   pub standing : Standing
 
 -- a search that begins
 abbrev pub begun : FormulaParts → ℕ → SolverParts
-begun formula limit = record { formula = formula; steps = []; limit = limit; served = 0; standing = Searches }
+begun formula limit = record { formula = formula; steps = []; limit = limit; standing = Searches }
 
 -- the log
 abbrev pub log_of : SolverParts → LogParts

@@ -1,13 +1,12 @@
 //! The search: decisions down to a conflict, and on with the clause that is learnt from it.
-ghost use Rattle.std.specs.Prelude.{◌≡◌, ◌≤◌, length, map, IfOk, None, Some, vec_len};
-ghost use Rattle.bt_sat.specs.Serving.{IsFair};
+ghost use Rattle.std.specs.Prelude.{◌≡◌, map, IfOk, None, Some};
 ghost use Rattle.bt_sat.specs.inner.Searching.{SearchesTo, LearnsAndTells, Restarts};
 ghost use Rattle.bt_sat.specs.inner.Progressing.{IsRunning, KeepsFormula};
 
 use crate::deciding::decide_until_conflict;
 use crate::levels::backjump;
 use crate::progress::{Learning, Progress, learn};
-use crate::serving::tell;
+use crate::serving::{begins_epoch, tell};
 use bt_cnf::Chooser;
 use std::alloc::AllocError;
 
@@ -37,29 +36,27 @@ pub fn restart(progress: &mut Progress)
 /// Learns from a conflict, and tells the chooser that serves.
 fn learn_and_tell<C: Chooser>(
     progress: &mut Progress,
-    choosers: &mut Vec<C>,
+    choosers: &mut [C],
     conflict: usize,
 ) -> Result<Option<Found>, AllocError>
     requires running { IsRunning progress.old }
     requires conflict { progress.old.conflict ≡ Some conflict }
-    requires paced { progress.old.served ≤ length progress.old.known.log.steps }
-    requires fair { IsFair progress.old.served (vec_len choosers.old) }
     ensures kept { KeepsFormula progress.old progress.new }
-    ensures learns { IfOk result (LearnsAndTells progress.old (map C.told_lengths choosers.old.items)
-        progress.new (map C.told_lengths choosers.new.items)) }
+    ensures learns { IfOk result (LearnsAndTells progress.old (map C.told_clauses choosers.old)
+        progress.new (map C.told_clauses choosers.new)) }
 {
-    let served = progress.served;
+    let before = progress.known.log.len() as u64;
     match learn(progress, conflict)? {
         Learning::GoesOn => {
-            progress.served = tell(choosers, served, &progress.learnt_clause.lits)?;
+            tell(choosers, before, &progress.learnt_clause.lits)?;
             let steps = progress.known.log.len() as u64;
-            if progress.plan.is_restart_due(steps) || progress.served <= served {
+            if progress.plan.is_restart_due(steps) || begins_epoch(choosers.len(), steps) {
                 restart(progress);
             }
             Ok(None)
         }
         Learning::Refutes => {
-            progress.served = tell(choosers, served, &progress.learnt_clause.lits)?;
+            tell(choosers, before, &progress.learnt_clause.lits)?;
             Ok(Some(Found::Refuted))
         }
         Learning::Spent => Ok(Some(Found::Spent)),
@@ -69,14 +66,12 @@ fn learn_and_tell<C: Chooser>(
 /// Searches until there is a model, or the log refutes, or it has no room.
 pub fn find_model<C: Chooser>(
     progress: &mut Progress,
-    choosers: &mut Vec<C>,
+    choosers: &mut [C],
 ) -> Result<Found, AllocError>
-    requires running { IsRunning progress.old }
-    requires paced { progress.old.served ≤ length progress.old.known.log.steps }
-    requires fair { IsFair progress.old.served (vec_len choosers.old) }
+    requires { IsRunning progress.old }
     ensures kept { KeepsFormula progress.old progress.new }
-    ensures searches { IfOk result (SearchesTo progress.old (map C.told_lengths choosers.old.items)
-        progress.new (map C.told_lengths choosers.new.items)) }
+    ensures searches { IfOk result (SearchesTo progress.old (map C.told_clauses choosers.old)
+        progress.new (map C.told_clauses choosers.new)) }
 {
     while let Some(conflict) = decide_until_conflict(progress, choosers)? {
         if let Some(found) = learn_and_tell(progress, choosers, conflict)? {

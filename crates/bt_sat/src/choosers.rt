@@ -46,7 +46,7 @@ impl Recent {
 }
 
 impl Chooser for Lowest {
-    ghost told_lengths = { λ _. None };
+    ghost told_clauses = { λ _. None };
 
     ghost may_pick = { λ _. PicksLowest };
 
@@ -63,7 +63,7 @@ impl Chooser for Lowest {
 }
 
 impl Chooser for Highest {
-    ghost told_lengths = { λ _. None };
+    ghost told_clauses = { λ _. None };
 
     ghost may_pick = { λ _. PicksHighest };
 
@@ -80,7 +80,7 @@ impl Chooser for Highest {
 }
 
 impl Chooser for Recent {
-    ghost told_lengths = { λ _. None };
+    ghost told_clauses = { λ _. None };
 
     ghost may_pick = { λ r. PicksRecent r.clause.items };
 

@@ -1,5 +1,5 @@
 //! Choosing what to set next.
-ghost use Rattle.std.specs.Prelude.{◌≡◌, ◌<◌, length, map, OnOk, IfOk, None, vec_len};
+ghost use Rattle.std.specs.Prelude.{◌≡◌, ◌<◌, length, map, OnOk, IfOk, None};
 ghost use Rattle.bt_cnf.specs.Choosing.{Ascends};
 ghost use Rattle.bt_sat.specs.Picks.{AsksFirst};
 ghost use Rattle.bt_sat.specs.inner.Choices.{BeginsLevel, Decides, ListsUnset};
@@ -11,19 +11,19 @@ use crate::order::Order;
 use crate::plan::Plan;
 use crate::progress::Progress;
 use crate::search::Search;
+use crate::serving::serving_place;
 use crate::truth::Values;
 use bt_cnf::{Chooser, Lit, Pick, Var};
 use std::alloc::AllocError;
 
 /// Asks the first chooser, which is the one that serves. Where there is none, the lowest variable is set to
 /// false.
-pub fn ask<C: Chooser>(choosers: &mut Vec<C>, unset: &[Var]) -> Pick
+pub fn ask<C: Chooser>(choosers: &mut [C], unset: &[Var]) -> Pick
     requires some { 0 < length unset.now }
     requires ascending { Ascends unset.now }
     ensures in_range { result.place < length unset.now }
-    ensures asks { AsksFirst C.may_pick choosers.old.items unset.now result }
-    ensures same { map C.told_lengths choosers.new.items ≡ map C.told_lengths choosers.old.items }
-    ensures count { vec_len choosers.new ≡ vec_len choosers.old }
+    ensures asks { AsksFirst C.may_pick choosers.old unset.now result }
+    ensures same { map C.told_clauses choosers.new ≡ map C.told_clauses choosers.old }
 {
     if choosers.is_empty() {
         return Pick {
@@ -40,17 +40,19 @@ fn next<C: Chooser>(
     steps: u64,
     order: &mut Order,
     values: &Values,
-    choosers: &mut Vec<C>,
+    choosers: &mut [C],
 ) -> Result<Option<Lit>, AllocError>
     requires { HasUnset values.now order.old }
     ensures next { IfOk result (IsNext values.now) }
     ensures left { HasUnset values.now order.new }
-    ensures same { map C.told_lengths choosers.new.items ≡ map C.told_lengths choosers.old.items }
-    ensures count { vec_len choosers.new ≡ vec_len choosers.old }
+    ensures same { map C.told_clauses choosers.new ≡ map C.told_clauses choosers.old }
 {
     match plan.pick(steps, values) {
         Some(lit) => Ok(Some(lit)),
-        None => order.next(values, choosers),
+        None => {
+            let serving = serving_place(choosers.len(), steps);
+            order.next(values, &mut choosers[serving..])
+        }
     }
 }
 
@@ -65,18 +67,14 @@ fn begin_level(search: &mut Search, lit: &Lit) -> Result<(), AllocError>
 }
 
 /// Chooses a variable and a value, where a variable has none.
-pub fn decide<C: Chooser>(
-    progress: &mut Progress,
-    choosers: &mut Vec<C>,
-) -> Result<bool, AllocError>
+pub fn decide<C: Chooser>(progress: &mut Progress, choosers: &mut [C]) -> Result<bool, AllocError>
     requires running { IsRunning progress.old }
     requires none { progress.old.conflict ≡ None }
     requires settled { progress.old.settled ≡ length progress.old.search.assignment.trail.items }
     requires listed { ListsUnset progress.old }
     ensures decides { IfOk result (Decides progress.old progress.new) }
     ensures kept { KeepsFormula progress.old progress.new }
-    ensures same { map C.told_lengths choosers.new.items ≡ map C.told_lengths choosers.old.items }
-    ensures count { vec_len choosers.new ≡ vec_len choosers.old }
+    ensures same { map C.told_clauses choosers.new ≡ map C.told_clauses choosers.old }
 {
     let steps = progress.known.log.len() as u64;
     let next = next(

@@ -1,5 +1,5 @@
 //! Decisions and what they propagate, until there is a conflict or a model.
-ghost use Rattle.std.specs.Prelude.{◌≡◌, map, IfOk, OnOk, None, vec_len};
+ghost use Rattle.std.specs.Prelude.{◌≡◌, map, IfOk, OnOk, None};
 ghost use Rattle.bt_sat.specs.inner.Choices.{DecidesUntilConflict, HasPropagated, ListsUnset};
 ghost use Rattle.bt_sat.specs.inner.Progressing.{IsRunning, KeepsFormula};
 
@@ -40,13 +40,12 @@ fn propagate_decision(progress: &mut Progress) -> Result<(), AllocError>
 /// Tells such a clause.
 pub fn decide_until_conflict<C: Chooser>(
     progress: &mut Progress,
-    choosers: &mut Vec<C>,
+    choosers: &mut [C],
 ) -> Result<Option<usize>, AllocError>
     requires { IsRunning progress.old }
     ensures decides { IfOk result (DecidesUntilConflict progress.old progress.new) }
     ensures kept { KeepsFormula progress.old progress.new }
-    ensures same { map C.told_lengths choosers.new.items ≡ map C.told_lengths choosers.old.items }
-    ensures count { vec_len choosers.new ≡ vec_len choosers.old }
+    ensures same { map C.told_clauses choosers.new ≡ map C.told_clauses choosers.old }
 {
     propagate_first(progress)?;
     while progress.conflict.is_none() {

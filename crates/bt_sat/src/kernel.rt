@@ -1,7 +1,6 @@
 //! What a search holds beside its choosers.
-ghost use Rattle.std.specs.Prelude.{◌≡◌, map, IfOk, OnErr, vec_len};
+ghost use Rattle.std.specs.Prelude.{◌≡◌, map, IfOk, OnErr};
 ghost use Rattle.bt_sat.specs.Answering.{GivesNext, IsAdded, MayAnswer};
-ghost use Rattle.bt_sat.specs.Serving.{IsFair};
 ghost use Rattle.bt_sat.specs.Solving.{begun, log_of, IsLemmaOf, LacksMemory};
 ghost use Rattle.bt_sat.specs.inner.Kernels.{MayGoOn, stage_after};
 
@@ -79,12 +78,10 @@ impl Kernel {
 
     /// Searches on for the next model.
     fn go_on<C: Chooser>(&mut self, choosers: &mut Vec<C>) -> Result<Answer, AllocError>
-        requires goes_on { MayGoOn self.old.standing }
-        requires fair { IsFair self.old.served (vec_len choosers.old) }
-        ensures given { IfOk result (GivesNext self.old (map C.told_lengths choosers.old.items)
-            self.new (map C.told_lengths choosers.new.items)) }
+        requires { MayGoOn self.old.standing }
+        ensures given { IfOk result (GivesNext self.old (map C.told_clauses choosers.old.items)
+            self.new (map C.told_clauses choosers.new.items)) }
         ensures memory { OnErr result (self.new.standing ≡ LacksMemory) }
-        ensures fair { IsFair self.new.served (vec_len choosers.new) }
     {
         match answer(&mut self.progress, choosers) {
             Ok(answer) => {
@@ -93,7 +90,6 @@ impl Kernel {
             }
             Err(error) => {
                 self.stage = Stage::Lost;
-                self.progress.served = 0;
                 Err(error)
             }
         }
@@ -101,12 +97,10 @@ impl Kernel {
 
     /// Searches for the next model, where the search has not come to its end.
     pub fn next_model<C: Chooser>(&mut self, choosers: &mut Vec<C>) -> Result<Answer, AllocError>
-        requires { IsFair self.old.served (vec_len choosers.old) }
-        ensures given { IfOk result (GivesNext self.old (map C.told_lengths choosers.old.items)
-            self.new (map C.told_lengths choosers.new.items)) }
+        ensures given { IfOk result (GivesNext self.old (map C.told_clauses choosers.old.items)
+            self.new (map C.told_clauses choosers.new.items)) }
         ensures may { MayAnswer self.old result }
         ensures memory { OnErr result (self.new.standing ≡ LacksMemory) }
-        ensures fair { IsFair self.new.served (vec_len choosers.new) }
     {
         match self.stage {
             Stage::Running | Stage::Complete => self.go_on(choosers),
@@ -123,11 +117,9 @@ impl Kernel {
         lits: &[Lit],
         weights: &[Frac],
     ) -> Result<Added, AllocError>
-        requires lemma { IsLemmaOf self.old lits.now weights.now }
-        requires fair { IsFair self.old.served (vec_len choosers.old) }
-        ensures added { IsAdded self.old (map C.told_lengths choosers.old.items) lits.now weights.now
-            self.new (map C.told_lengths choosers.new.items) result }
-        ensures fair { IsFair self.new.served (vec_len choosers.new) }
+        requires { IsLemmaOf self.old lits.now weights.now }
+        ensures { IsAdded self.old (map C.told_clauses choosers.old.items) lits.now weights.now
+            self.new (map C.told_clauses choosers.new.items) result }
     {
         if self.progress.known.log.len() as u64 == self.progress.limit {
             return Ok(Added::Spent);
@@ -139,7 +131,6 @@ impl Kernel {
             }
             Err(error) => {
                 self.stage = Stage::Lost;
-                self.progress.served = 0;
                 Err(error)
             }
         }

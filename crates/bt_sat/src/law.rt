@@ -1,5 +1,8 @@
 //! Laws of propagation and of logs, as the contracts of functions that do nothing.
+ghost use Rattle.std.specs.Prelude.{◌≡◌};
 ghost use Rattle.bt_sat.specs.Laws.{FreshStepsAreFew, OnlyEmptyAfterConflict, SettledIsOpen};
+
+use crate::solver::EPOCH_STEPS;
 
 /// A clause is fresh where propagation has come to its end without a false clause, all its literals but
 /// one are false, and that one isn't true. So is the clause that a search learns, once it has gone back to
@@ -19,4 +22,9 @@ pub fn fresh_steps_are_few()
 /// after them. So a formula that propagation alone refutes is spent only where no step may be logged.
 pub fn only_empty_after_conflict()
     ensures { OnlyEmptyAfterConflict }
+{}
+
+/// The steps of an epoch, as a number.
+pub fn limits_are()
+    ensures { EPOCH_STEPS ≡ 128 }
 {}

@@ -33,7 +33,7 @@ mod watchers;
 pub use active::{Active, FIRST_BUMP, MOST_BUMP, MOST_SCORE};
 pub use choosers::{Highest, Lowest, Recent};
 pub use choosing::ask;
-pub use law::{fresh_steps_are_few, only_empty_after_conflict, settled_is_open};
+pub use law::{fresh_steps_are_few, limits_are, only_empty_after_conflict, settled_is_open};
 pub use plan::{Part, Plan, Turn};
 pub use solver::{Added, Answer, EPOCH_STEPS, Solver};
 pub use std::alloc::AllocError as Memory;

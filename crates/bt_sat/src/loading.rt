@@ -239,7 +239,6 @@ fn started(
         order: Order::new(alloc),
         plan,
         limit,
-        served: 0,
         settled: 0,
         conflict,
     })

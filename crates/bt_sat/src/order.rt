@@ -1,5 +1,5 @@
 //! The order in which variables are decided, which lasts from one conflict to the next.
-ghost use Rattle.std.specs.Prelude.{◌≡◌, ◌≤◌, ℕ, [], drop, length, map, IfOk, OnOk, Contains, vec_len};
+ghost use Rattle.std.specs.Prelude.{◌≡◌, ◌≤◌, ℕ, [], drop, length, map, IfOk, OnOk, Contains};
 ghost use Rattle.std.specs.List.Sorted.{IsPermutation};
 ghost use Rattle.bt_cnf.specs.Choosing.{Ascends};
 ghost use Rattle.bt_sat.specs.inner.Orders.{FindsUnset, HasFirst, HasUnset, IsAmong, IsLitAt, IsNext};
@@ -71,13 +71,12 @@ impl Order {
     pub fn next<C: Chooser>(
         &mut self,
         values: &Values,
-        choosers: &mut Vec<C>,
+        choosers: &mut [C],
     ) -> Result<Option<Lit>, AllocError>
         requires { HasUnset values.now self.old }
         ensures next { IfOk result (IsNext values.now) }
         ensures left { HasUnset values.now self.new }
-        ensures same { map C.told_lengths choosers.new.items ≡ map C.told_lengths choosers.old.items }
-        ensures count { vec_len choosers.new ≡ vec_len choosers.old }
+        ensures same { map C.told_clauses choosers.new ≡ map C.told_clauses choosers.old }
     {
         if self.is_arranged(choosers) {
             self.at = pass(&self.vars, self.at, values);
@@ -170,11 +169,10 @@ fn literal_at<C: Chooser>(vars: &[Var], place: usize, choosers: &[C]) -> Option<
 }
 
 /// The choice of the chooser that serves among variables, where there are any.
-fn asked<C: Chooser>(choosers: &mut Vec<C>, unset: &[Var]) -> Option<Lit>
+fn asked<C: Chooser>(choosers: &mut [C], unset: &[Var]) -> Option<Lit>
     requires { Ascends unset.now }
     ensures among { IsAmong unset.now result }
-    ensures same { map C.told_lengths choosers.new.items ≡ map C.told_lengths choosers.old.items }
-    ensures count { vec_len choosers.new ≡ vec_len choosers.old }
+    ensures same { map C.told_clauses choosers.new ≡ map C.told_clauses choosers.old }
 {
     if unset.is_empty() {
         return None;

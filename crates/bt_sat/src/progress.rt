@@ -21,8 +21,6 @@ pub struct Progress {
     pub plan: Plan,
     /// The most steps that the log may have.
     pub limit: u64,
-    /// The number of steps since the epoch began.
-    pub served: u64,
     /// How many literals of the trail are settled.
     pub settled: usize,
     /// The number of a clause whose literals are all false, where one is known.

@@ -1,41 +1,37 @@
 //! Which chooser serves, and what it is told.
-ghost use Rattle.std.specs.Prelude.{◌≡◌, ◌<◌, ◌+◌, ◌^◌, ◌≤◌, length, map, [], ◌∷◌, IfOk, OnOk, vec_len};
-ghost use Rattle.bt_sat.specs.Serving.{FirstGains, IsFair};
-ghost use Rattle.bt_sat.specs.inner.Telling.{Tells};
+ghost use Rattle.std.specs.Prelude.{◌≡◌, ◌<◌, ◌≤◌, length, map, IfErr, IfOk, OnOk};
+ghost use Rattle.bt_sat.specs.inner.Telling.{IsServing, TellsOne};
 
 use crate::solver::EPOCH_STEPS;
 use bt_cnf::{Chooser, Lit};
 use std::alloc::AllocError;
 
-/// Tells the chooser that serves of a step's clause. Where its epoch is over and another one is left, the
-/// next one serves. Gives the number of steps of the epoch.
-pub fn tell<C: Chooser>(
-    choosers: &mut Vec<C>,
-    served: u64,
-    clause: &[Lit],
-) -> Result<u64, AllocError>
-    requires room { served + 1 < 2 ^ 64 }
-    requires fair { IsFair served (vec_len choosers.old) }
-    ensures { IfOk result (λ after. Tells served (map C.told_lengths choosers.old.items)
-        (length clause.now) after (map C.told_lengths choosers.new.items)) }
+/// The place of the chooser that serves where the log has so many steps, or 0 where there is none.
+pub fn serving_place(choosers: usize, steps: u64) -> usize
+    ensures inside { result ≤ choosers }
+    ensures serves { 0 < choosers → IsServing choosers steps result }
 {
-    if choosers.is_empty() {
-        return Ok(served + 1);
+    if choosers == 0 {
+        return 0;
     }
-    tell_first(choosers, clause)?;
-    if served + 1 == EPOCH_STEPS && choosers.len() > 1 {
-        let _ = choosers.remove(0);
-        return Ok(0);
-    }
-    Ok(served + 1)
+    let last = choosers - 1;
+    (steps / EPOCH_STEPS).min(last as u64) as usize
 }
 
-/// Tells the first chooser.
-fn tell_first<C: Chooser>(choosers: &mut [C], clause: &[Lit]) -> Result<(), AllocError>
-    requires { 0 < length choosers.old }
-    ensures { OnOk result (FirstGains (map C.told_lengths choosers.old)
-        (map C.told_lengths choosers.new) (length clause.now ∷ [])) }
+/// Whether another chooser serves for the next step than for the last one.
+pub fn begins_epoch(choosers: usize, steps: u64) -> bool {
+    steps % EPOCH_STEPS == 0 && steps / EPOCH_STEPS < choosers as u64
+}
+
+/// Tells the chooser that serves, where there is one, of the clause of a step that was logged behind so many.
+pub fn tell<C: Chooser>(choosers: &mut [C], steps: u64, clause: &[Lit]) -> Result<(), AllocError>
+    ensures { OnOk result (TellsOne steps (map C.told_clauses choosers.old) clause.now
+        (map C.told_clauses choosers.new)) }
 {
-    choosers[0].told(clause)?;
+    if choosers.is_empty() {
+        return Ok(());
+    }
+    let place = serving_place(choosers.len(), steps);
+    choosers[place].told(clause)?;
     Ok(())
 }

@@ -1,8 +1,7 @@
 //! A search for models that learns clauses.
-ghost use Rattle.std.specs.Prelude.{◌≡◌, ◌≤◌, map, IfOk, OnErr, vec_len};
+ghost use Rattle.std.specs.Prelude.{◌≡◌, map, IfOk, OnErr};
 ghost use Rattle.bt_sat.specs.Answering.{GivesNext, IsAdded, MayAnswer};
 ghost use Rattle.bt_sat.specs.Solving.{begun, log_of, IsLemmaOf, LacksMemory};
-ghost use Rattle.bt_sat.specs.declared.solver.TheConstants.{EPOCH_STEPS};
 
 use crate::kernel::Kernel;
 use crate::plan::Plan;
@@ -11,7 +10,7 @@ use bt_frac::Frac;
 use bt_log::Log;
 use std::alloc::{AllocError, Global};
 
-/// The number of steps after which an epoch ends, where another chooser is left to serve the next one.
+/// The number of steps of an epoch, after which the next chooser serves. The last one serves on.
 pub const EPOCH_STEPS: u64 = 128;
 
 /// What a search for the next model comes to.
@@ -35,13 +34,12 @@ pub enum Added {
 }
 
 /// A search for models of a formula, whose log may have a limited number of steps, and which is steered by
-/// choosers: the first serves until it was told of 128 steps and another one is left, then the next. The
-/// choosers are of one type, which may be `Box<dyn Chooser>`.
+/// choosers: each in turn for an epoch of 128 steps of the log, of which it is told, and the last one for all that
+/// follow. The choosers are of one type, which may be `Box<dyn Chooser>`.
 #[derive(Drop)]
 pub struct Solver<C> {
     kernel: Kernel,
     choosers: Vec<C>,
-    ghost fair: { EPOCH_STEPS ≤ kernel.served → vec_len choosers ≤ 1 },
 }
 
 impl<C: Chooser> Solver<C> {
@@ -54,7 +52,7 @@ impl<C: Chooser> Solver<C> {
     ) -> Result<Solver<C>, AllocError>
         ensures kernel { IfOk result (λ s. s.kernel ≡ begun formula limit) }
         ensures choosers { IfOk result
-            (λ s. map C.told_lengths s.choosers.items ≡ map C.told_lengths choosers.items) }
+            (λ s. map C.told_clauses s.choosers.items ≡ map C.told_clauses choosers.items) }
     {
         Solver::by_plan(alloc, formula, choosers, limit, Plan::new(alloc, 0))
     }
@@ -70,7 +68,7 @@ impl<C: Chooser> Solver<C> {
     ) -> Result<Solver<C>, AllocError>
         ensures kernel { IfOk result (λ s. s.kernel ≡ begun formula limit) }
         ensures choosers { IfOk result
-            (λ s. map C.told_lengths s.choosers.items ≡ map C.told_lengths choosers.items) }
+            (λ s. map C.told_clauses s.choosers.items ≡ map C.told_clauses choosers.items) }
     {
         Ok(Solver {
             kernel: Kernel::new(alloc, formula, limit, plan)?,
@@ -81,8 +79,8 @@ impl<C: Chooser> Solver<C> {
     /// Searches for a model, and learns clauses. After `Refuted` and `Spent` each later call answers the
     /// same. After want of memory, here or in `add_lemma`, each later call lacks memory.
     pub fn next_model(&mut self) -> Result<Answer, AllocError>
-        ensures given { IfOk result (GivesNext self.old.kernel (map C.told_lengths self.old.choosers.items)
-            self.new.kernel (map C.told_lengths self.new.choosers.items)) }
+        ensures given { IfOk result (GivesNext self.old.kernel (map C.told_clauses self.old.choosers.items)
+            self.new.kernel (map C.told_clauses self.new.choosers.items)) }
         ensures may { MayAnswer self.old.kernel result }
         ensures memory { OnErr result (self.new.kernel.standing ≡ LacksMemory) }
     {
@@ -92,8 +90,8 @@ impl<C: Chooser> Solver<C> {
     /// Adds a lemma: a clause whose literals are all false under the model that was answered last.
     pub fn add_lemma(&mut self, lits: &[Lit], weights: &[Frac]) -> Result<Added, AllocError>
         requires { IsLemmaOf self.old.kernel lits.now weights.now }
-        ensures { IsAdded self.old.kernel (map C.told_lengths self.old.choosers.items) lits.now weights.now
-            self.new.kernel (map C.told_lengths self.new.choosers.items) result }
+        ensures { IsAdded self.old.kernel (map C.told_clauses self.old.choosers.items) lits.now weights.now
+            self.new.kernel (map C.told_clauses self.new.choosers.items) result }
     {
         self.kernel.add_lemma(&mut self.choosers, lits, weights)
     }

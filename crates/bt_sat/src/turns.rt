@@ -1,8 +1,7 @@
 //! One turn of a search: for the next model, or with one more lemma.
-ghost use Rattle.std.specs.Prelude.{◌≡◌, ◌<◌, ◌≤◌, length, map, slice_index_or, IfOk, OnOk, None, vec_len};
+ghost use Rattle.std.specs.Prelude.{◌≡◌, ◌<◌, length, map, slice_index_or, IfOk, OnOk, None};
 ghost use Rattle.std.specs.List.{All};
 ghost use Rattle.bt_log.specs.Logs.{Lemma};
-ghost use Rattle.bt_sat.specs.Serving.{IsFair};
 ghost use Rattle.bt_sat.specs.inner.Choices.{IsComplete};
 ghost use Rattle.bt_sat.specs.inner.Kernels.{AddsTo, AnswersBy, model_of, value_of};
 ghost use Rattle.bt_sat.specs.inner.Progressing.{HasRoom, IsNextStep, IsRunning, KeepsFormula};
@@ -11,7 +10,7 @@ ghost use Rattle.bt_sat.specs.inner.Truths.{IsFalseIn};
 use crate::cdcl::{Found, find_model, restart};
 use crate::lemmas::take_lemma;
 use crate::progress::Progress;
-use crate::serving::tell;
+use crate::serving::{begins_epoch, tell};
 use crate::solver::Answer;
 use crate::truth::Values;
 use bt_cnf::{Chooser, Lit};
@@ -38,16 +37,11 @@ fn list_model(alloc: Global, values: &Values) -> Result<Vec<bool>, AllocError>
 }
 
 /// Searches until there is a model, or the log refutes, or it has no room.
-pub fn answer<C: Chooser>(
-    progress: &mut Progress,
-    choosers: &mut Vec<C>,
-) -> Result<Answer, AllocError>
-    requires running { IsRunning progress.old }
-    requires paced { progress.old.served ≤ length progress.old.known.log.steps }
-    requires fair { IsFair progress.old.served (vec_len choosers.old) }
+pub fn answer<C: Chooser>(progress: &mut Progress, choosers: &mut [C]) -> Result<Answer, AllocError>
+    requires { IsRunning progress.old }
     ensures kept { KeepsFormula progress.old progress.new }
-    ensures answers { IfOk result (AnswersBy progress.old (map C.told_lengths choosers.old.items)
-        progress.new (map C.told_lengths choosers.new.items)) }
+    ensures answers { IfOk result (AnswersBy progress.old (map C.told_clauses choosers.old)
+        progress.new (map C.told_clauses choosers.new)) }
 {
     match find_model(progress, choosers)? {
         Found::Model => {
@@ -64,7 +58,7 @@ pub fn answer<C: Chooser>(
 /// ends.
 pub fn add<C: Chooser>(
     progress: &mut Progress,
-    choosers: &mut Vec<C>,
+    choosers: &mut [C],
     lits: &[Lit],
     weights: &[Frac],
 ) -> Result<(), AllocError>
@@ -72,16 +66,14 @@ pub fn add<C: Chooser>(
     requires falses { All (IsFalseIn progress.old.search.assignment.values) lits.now }
     requires next { IsNextStep progress.old.known (Lemma lits.now weights.now) }
     requires room { HasRoom progress.old }
-    requires paced { progress.old.served ≤ length progress.old.known.log.steps }
-    requires fair { IsFair progress.old.served (vec_len choosers.old) }
     ensures kept { KeepsFormula progress.old progress.new }
-    ensures adds { OnOk result (AddsTo progress.old (map C.told_lengths choosers.old.items)
-        lits.now weights.now progress.new (map C.told_lengths choosers.new.items)) }
+    ensures adds { OnOk result (AddsTo progress.old (map C.told_clauses choosers.old)
+        lits.now weights.now progress.new (map C.told_clauses choosers.new)) }
 {
-    let served = progress.served;
+    let steps = progress.known.log.len() as u64;
     take_lemma(progress, lits, weights)?;
-    progress.served = tell(choosers, served, lits)?;
-    if progress.served <= served {
+    tell(choosers, steps, lits)?;
+    if begins_epoch(choosers.len(), progress.known.log.len() as u64) {
         restart(progress);
     }
     Ok(())

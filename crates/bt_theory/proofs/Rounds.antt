@@ -10,6 +10,7 @@ use Rattle.bt_frac.specs.Rows.{RowParts}
 use Rattle.bt_frac.specs.Values.{value_in, RowHolds}
 use Rattle.bt_lin.specs.Farkas.{IsFarkas}
 use Rattle.bt_lin.specs.WeightedRows.{empty_row, picked}
+use Rattle.bt_cnf.specs.declared.literal.Lit.{Lit}
 use Rattle.bt_cnf.specs.Assignments.{truth_in}
 use Rattle.bt_cnf.specs.Formulas.{FormulaParts}
 use Rattle.bt_cnf.specs.Meeting.{IsTrueUnder, MeetsClause, Meets}
@@ -63,7 +64,7 @@ ready_on s s' t more goes table reach fits also =
       fits = subst (λ f. All (Fits f) s'.steps) e (subst (All (Fits s.formula)) (sym goes.steps) (All-append (Fits s.formula) s.steps more fits also));
     }
 
-module _ (old new : SolverParts) (t : TableauParts) (waiting left : List (Option (List ℕ))) (ready : IsReady old t) where
+module _ (old new : SolverParts) (t : TableauParts) (waiting left : List (Option (List (List Lit)))) (ready : IsReady old t) where
   pub ready_next : (a : Answer) → GivesNext old waiting new left a → IsReady new t
   ready_next a gives = ready_on old new t gives.added gives.goes_on ready.tableau ready.reachable ready.fits (All-weaker IsLearnt (Fits old.formula) (learnt_fit old.formula) gives.added gives.learnt)
 

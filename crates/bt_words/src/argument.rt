@@ -17,7 +17,7 @@ pub const MOST_ORDER: u32 = 999_999_999;
 pub const MOST_LEARNT: u64 = 1_000_000_000;
 
 /// The most turns to which `--pivots` may limit the solving of rows.
-pub const MOST_PIVOTS: u64 = 100_000;
+pub const MOST_PIVOTS: u64 = 1_000_000_000;
 
 /// An argument of a command.
 #[derive(Clone, Copy)]

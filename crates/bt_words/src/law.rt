@@ -8,7 +8,7 @@ use crate::command::{USUAL_LEARNT, USUAL_PIVOTS};
 pub fn limits_are()
     ensures order { MOST_ORDER ≡ 999999999 }
     ensures learnt { MOST_LEARNT ≡ 1000000000 }
-    ensures pivots { MOST_PIVOTS ≡ 100000 }
+    ensures pivots { MOST_PIVOTS ≡ 1000000000 }
     ensures usual_learnt { USUAL_LEARNT ≡ 100000 }
     ensures usual_pivots { USUAL_PIVOTS ≡ 100000 }
 {}

@@ -84,7 +84,7 @@ struct Wanting {
 }
 
 impl Chooser for Wanting {
-    ghost told_lengths = { λ _. None };
+    ghost told_clauses = { λ _. None };
 
     fn pick(&mut self, unset: &[Var]) -> Pick {
         for (place, var) in unset.iter().enumerate() {

@@ -16,7 +16,7 @@ decide full|decide full - -
 decide balanced --learnt 0 --pivots 0|decide balanced 0 0
 decide --pivots=0 --learnt=0 balanced|decide balanced 0 0
 decide --learnt 0 balanced --pivots=0|decide balanced 0 0
-decide --pivots 100000 full --learnt 1000000000|decide full 1000000000 100000
+decide --pivots 1000000000 full --learnt 1000000000|decide full 1000000000 1000000000
 decide full --learnt=7|decide full 7 -
 decide --pivots 10 full|decide full - 10
 make 2|make butterfly - - 2
@@ -72,7 +72,7 @@ decide balanced --learnt 01|none
 decide balanced --learnt=+1|none
 decide balanced --learnt=1=2|none
 decide balanced --learnt=1000000001|none
-decide balanced --pivots 100001|none
+decide balanced --pivots 1000000001|none
 decide balanced --pivots 99999999999999999999999999999999999999999|none
 decide balanced --learnt 1 --learnt 1|none
 decide balanced --learnt=1 --pivots 2 --learnt 3|none

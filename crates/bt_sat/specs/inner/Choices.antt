@@ -27,11 +27,10 @@ pub record BeginsLevel (l : Lit) (old new : Search) : Type 0 where
   pub watchers : new.watchers ≡ old.watchers
   pub numbers : new.numbers ≡ old.numbers
 
--- what is known, the limit and the epoch stay
+-- what is known and the limit stay
 pub record KeepsLog (old new : Progress) : Type 0 where
   pub known : new.known ≡ old.known
   pub limit : new.limit ≡ old.limit
-  pub served : new.served ≡ old.served
 
 -- all variables have a value, and nothing is unsettled
 pub record IsComplete (p : Progress) : Type 0 where

@@ -12,7 +12,7 @@ use Rattle.bt_sat.specs.declared.kernel.Stage.TheVariants.{Running, Complete, Re
 use Rattle.bt_sat.specs.inner.Choices.{IsComplete}
 use Rattle.bt_sat.specs.inner.Searching.{SearchesOn, HasSpent, IsRefuted}
 use Rattle.bt_sat.specs.inner.Progressing.{IsRunning, LogsStep}
-use Rattle.bt_sat.specs.inner.Telling.{Tells}
+use Rattle.bt_sat.specs.inner.Telling.{TellsOne}
 
 -- the value of a variable, which is false where it has none
 abbrev pub value_of : Option Bool → Bool
@@ -37,14 +37,13 @@ parts_of p stage = record {
   formula = p.known.formula;
   steps = p.known.log.steps;
   limit = p.limit;
-  served = p.served;
   standing = standing_of stage p.search.assignment.values;
 }
 
 -- what is known of the search at each stage
 abbrev pub StandsAt : Progress → Stage → Type 0
-StandsAt p Running = IsRunning p × (p.served ≤ length p.known.log.steps)
-StandsAt p Complete = IsComplete p × (p.served ≤ length p.known.log.steps)
+StandsAt p Running = IsRunning p
+StandsAt p Complete = IsComplete p
 StandsAt p Refuted = IsRefuted p
 StandsAt p Spent = HasSpent p
 StandsAt p Lost = Unit {0}
@@ -61,7 +60,7 @@ Comes p answer.Refuted = IsRefuted p
 Comes p answer.Spent = HasSpent p
 
 -- learnt steps were added, and the answer holds
-abbrev pub AnswersBy : Progress → List (Option (List ℕ)) → Progress → List (Option (List ℕ)) → Answer → Type 0
+abbrev pub AnswersBy : Progress → List (Option (List (List Lit))) → Progress → List (Option (List (List Lit))) → Answer → Type 0
 AnswersBy old waiting new left answer = SearchesOn old waiting new left × Comes new answer
 
 -- the stage to which an answer leads
@@ -77,8 +76,8 @@ MayGoOn (KeepsModel model) = Unit {0}
 MayGoOn _ = ⊥
 
 -- the lemma is one more step, of which the choosers were told, and the search may go on
-pub record AddsTo (old : Progress) (waiting : List (Option (List ℕ))) (lits : List Lit) (weights : List Ratio) (new : Progress) (left : List (Option (List ℕ))) : Type 0 where
+pub record AddsTo (old : Progress) (waiting : List (Option (List (List Lit)))) (lits : List Lit) (weights : List Ratio) (new : Progress) (left : List (Option (List (List Lit)))) : Type 0 where
   pub running : IsRunning new
   pub logs : LogsStep old.known new.known (Lemma lits weights)
   pub limit : new.limit ≡ old.limit
-  pub tells : Tells old.served waiting (length lits) new.served left
+  pub tells : TellsOne (length old.known.log.steps) waiting lits left

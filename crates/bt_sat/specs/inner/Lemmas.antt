@@ -21,7 +21,6 @@ pub record TakesLemma (old : Progress) (lits : List Lit) (weights : List Ratio) 
   pub running : IsRunning new
   pub logs : LogsStep old.known new.known (Lemma lits weights)
   pub limit : new.limit ≡ old.limit
-  pub served : new.served ≡ old.served
 
 -- the places of the literals of the trail are known, and its levels are in order
 pub record IsTraceable (s : Search) : Type 0 where

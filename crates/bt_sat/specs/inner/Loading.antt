@@ -9,5 +9,4 @@ pub record IsLoaded (of : FormulaParts) (most : ℕ) (p : Progress) : Type 0 whe
   pub formula : p.known.formula ≡ of
   pub steps : p.known.log.steps ≡ []
   pub limit : p.limit ≡ most
-  pub served : p.served ≡ 0
   pub running : IsRunning p

@@ -54,13 +54,13 @@ pub record HasRoom (p : Progress) : Type 0 where
 -- room for it
 abbrev pub Learns : Progress → Progress → Learning → Type 0
 Learns old new GoesOn =
-    IsRunning new × (new.conflict ≡ None) × HasRoom old × (new.limit ≡ old.limit) × (new.served ≡ old.served)
+    IsRunning new × (new.conflict ≡ None) × HasRoom old × (new.limit ≡ old.limit)
     × ((hints : List ℕ) × LogsStep old.known new.known (Learnt new.learnt_clause.lits.items hints) × IsNextStep old.known (Learnt new.learnt_clause.lits.items hints))
 Learns old new Refutes =
-    (new.limit ≡ old.limit) × (new.served ≡ old.served) × HasRoom old × (new.learnt_clause.lits.items ≡ [])
+    (new.limit ≡ old.limit) × HasRoom old × (new.learnt_clause.lits.items ≡ [])
     × ((hints : List ℕ) × LogsStep old.known new.known (Learnt [] hints) × IsNextStep old.known (Learnt [] hints))
 Learns old new Spent =
-    (new.known ≡ old.known) × (new.limit ≡ old.limit) × (new.served ≡ old.served) × (length old.known.log.steps ≡ old.limit)
+    (new.known ≡ old.known) × (new.limit ≡ old.limit) × (length old.known.log.steps ≡ old.limit)
     × ((step : Step) × IsNextStep old.known step)
 
 -- literals were added to the trail, and the order of variables stays
@@ -74,7 +74,6 @@ pub record PropagatesAll (old new : Progress) : Type 0 where
   pub running : IsRunning new
   pub known : new.known ≡ old.known
   pub limit : new.limit ≡ old.limit
-  pub served : new.served ≡ old.served
   pub settled : new.conflict ≡ None → new.settled ≡ length new.search.assignment.trail.items
   pub fewer : unset new.search.assignment.values ≤ unset old.search.assignment.values
   pub grows : Grows old new

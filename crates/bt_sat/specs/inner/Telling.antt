@@ -1,21 +1,17 @@
 -- What the choosers are told of one step.
-use Rattle.std.specs.Prelude.{◌≡◌, ◌⊎◌, ◌+◌, ◌<◌, ◌≤◌, ℕ, List, [], ◌∷◌, length, drop, Option}
-use Rattle.bt_sat.specs.Serving.{FirstGains}
+use Rattle.std.specs.Prelude.{◌≡◌, ◌⊎◌, ◌+◌, ◌*◌, ◌<◌, ◌≤◌, ℕ, List, [], ◌∷◌, length, slice_get, Option, Some}
+use Rattle.bt_cnf.specs.Choosing.{Gains}
+use Rattle.bt_cnf.specs.declared.literal.Lit.{Lit}
 use Rattle.bt_sat.specs.declared.solver.TheConstants.{EPOCH_STEPS}
 
--- the chooser that serves is told, and serves on
-pub record IsServedOn (before : ℕ) (old : List (Option (List ℕ))) (size after : ℕ) (new : List (Option (List ℕ))) : Type 0 where
-  pub counted : after ≡ before + 1
-  pub told : FirstGains old new (size ∷ [])
-  pub fair : (after < EPOCH_STEPS) ⊎ (length new ≤ 1)
+-- the next step is in the epoch of the chooser at a place
+pub record IsServing (choosers steps place : ℕ) : Type 0 where
+  pub inside : place < choosers
+  pub begun : EPOCH_STEPS * place ≤ steps
+  pub goes_on : (steps < EPOCH_STEPS * (place + 1)) ⊎ (place + 1 ≡ choosers)
 
--- the chooser that served is gone, and the next one serves
-pub record IsPassedOn (before : ℕ) (old : List (Option (List ℕ))) (after : ℕ) (new : List (Option (List ℕ))) : Type 0 where
-  pub counted : before + 1 ≡ EPOCH_STEPS
-  pub begins : after ≡ 0
-  pub left : new ≡ drop 1 old
-  pub others : 1 < length old
-
--- one or the other
-abbrev pub Tells : ℕ → List (Option (List ℕ)) → ℕ → ℕ → List (Option (List ℕ)) → Type 0
-Tells before old size after new = IsServedOn before old size after new ⊎ IsPassedOn before old after new
+-- the chooser that serves was told of a clause, and the others weren't
+pub record TellsOne (steps : ℕ) (old : List (Option (List (List Lit)))) (clause : List Lit) (new : List (Option (List (List Lit)))) : Type 0 where
+  pub count : length new ≡ length old
+  pub each : (place : ℕ) (was is : Option (List (List Lit))) → slice_get old place ≡ Some was → slice_get new place ≡ Some is
+      → (IsServing (length old) steps place × Gains was is (clause ∷ [])) ⊎ ((IsServing (length old) steps place → ⊥) × (is ≡ was))

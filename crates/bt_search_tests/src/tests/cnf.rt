@@ -1,4 +1,4 @@
-ghost use Rattle.std.specs.Prelude.{◌≡◌, Some, []};
+ghost use Rattle.std.specs.Prelude.{◌≡◌, Some, [], map};
 ghost use Rattle.bt_cnf.specs.Formulas.{IsNextAtom, LitsBelow};
 
 use bt_cnf::{Chooser, Formula, Lit, Memory, Pick, Var};
@@ -6,14 +6,14 @@ use bt_frac::{Frac, Relation, Row};
 use std::alloc::Global;
 use std::test::Fail;
 
-// Picks the last variable, and tells how long the clauses were.
+// Picks the last variable, and tells the clauses.
 #[derive(Drop)]
 struct Listing {
-    lengths: Vec<usize>,
+    clauses: Vec<Vec<Lit>>,
 }
 
 impl Chooser for Listing {
-    ghost told_lengths = { λ s. Some s.lengths.items };
+    ghost told_clauses = { λ s. Some (map (λ clause. clause.items) s.clauses.items) };
 
     fn pick(&mut self, unset: &[Var]) -> Pick {
         Pick {
@@ -23,7 +23,9 @@ impl Chooser for Listing {
     }
 
     fn told(&mut self, clause: &[Lit]) -> Result<(), Memory> {
-        self.lengths.push(clause.len())?;
+        let mut copy = Vec::new(self.clauses.allocator().clone()?);
+        copy.extend_from_slice(clause)?;
+        self.clauses.push(copy)?;
         Ok(())
     }
 }
@@ -118,7 +120,7 @@ fn asks_a_boxed_chooser(rt: HostRuntime) -> Result<(), Fail> {
     let mut chooser: Box<dyn Chooser> = Box::new(
         alloc,
         Listing {
-            lengths: Vec::new(alloc),
+            clauses: Vec::new(alloc),
         },
     )?;
     chooser.told(&[])?;

@@ -210,7 +210,7 @@ struct Picky {
 }
 
 impl Chooser for Picky {
-    ghost told_lengths = { λ _. None };
+    ghost told_clauses = { λ _. None };
 
     fn pick(&mut self, unset: &[Var]) -> Pick {
         Pick {

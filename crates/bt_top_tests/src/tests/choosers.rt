@@ -1,5 +1,5 @@
 //! Choosers that nobody would choose: the program's answers are as with any other.
-ghost use Rattle.std.specs.Prelude.{Some};
+ghost use Rattle.std.specs.Prelude.{None};
 
 use super::{SINK_ROOM, asked, asked_alone, fields, is_status, sink_of};
 use bt_cnf::{Chooser, Lit, Pick, Var};
@@ -23,17 +23,17 @@ enum Steering {
     Forgetful,
 }
 
-/// A chooser that counts how often it is asked, and keeps and tells what it was told.
+/// A chooser that counts how often it is asked and told, and keeps the literals that it was told.
 #[derive(Drop)]
 struct Odd {
     steering: Steering,
     asked: Rc<Cell<u64>>,
     lits: Vec<Lit>,
-    lengths: Vec<usize>,
+    told: u64,
 }
 
 impl Chooser for Odd {
-    ghost told_lengths = { λ s. Some s.lengths.items };
+    ghost told_clauses = { λ _. None };
 
     fn pick(&mut self, unset: &[Var]) -> Pick {
         self.asked.set(self.asked.get().saturating_add(1));
@@ -54,11 +54,11 @@ impl Chooser for Odd {
     }
 
     fn told(&mut self, clause: &[Lit]) -> Result<(), AllocError> {
-        if matches!(self.steering, Steering::Forgetful) && self.lengths.len() == 2 {
+        if matches!(self.steering, Steering::Forgetful) && self.told == 2 {
             return Err(AllocError);
         }
         self.lits.extend_from_slice(clause)?;
-        self.lengths.push(clause.len())?;
+        self.told = self.told.saturating_add(1);
         Ok(())
     }
 }
@@ -88,7 +88,7 @@ fn untold(alloc: Global, steering: Steering, asked: &Rc<Cell<u64>>) -> Result<Od
         steering,
         asked: asked.clone()?,
         lits: Vec::new(alloc),
-        lengths: Vec::new(alloc),
+        told: 0,
     })
 }
 

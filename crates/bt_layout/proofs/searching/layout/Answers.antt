@@ -5,8 +5,8 @@ use Rattle.bt_layout.proofs.searching.layout.Goals as goal
 
 pub layout_of-requires : goal.layout_of-requires
 layout_of-requires g c =
-    let waiting = map g.C.Chooser.told_lengths c.in_ok-solver.solver.choosers.items in
-    let left = map g.C.Chooser.told_lengths c.next_model.new.self.choosers.items in (
+    let waiting = map g.C.Chooser.told_clauses c.in_ok-solver.solver.choosers.items in
+    let left = map g.C.Chooser.told_clauses c.next_model.new.self.choosers.items in (
       c.args.learnt,
       ends_with c.args.request.now c.args.learnt c.in_ok-formula.formula c.in_ok-solver.solver.kernel c.next_model.new.self.kernel waiting left _ c.into_log.result.steps
           c.in_ok-formula.ensures.request c.in_ok-formula.ensures.formula c.in_ok-solver.ensures.kernel (ap (λ (l : LogParts). l.steps) c.into_log.ensures)
@@ -15,8 +15,8 @@ layout_of-requires g c =
 
 pub returns : goal.returns
 returns g c =
-    let waiting = map g.C.Chooser.told_lengths c.in_ok-solver.solver.choosers.items in
-    let left = map g.C.Chooser.told_lengths c.next_model.new.self.choosers.items in
+    let waiting = map g.C.Chooser.told_clauses c.in_ok-solver.solver.choosers.items in
+    let left = map g.C.Chooser.told_clauses c.next_model.new.self.choosers.items in
     c.layout_of.ensures c.args.learnt
     (ends_with c.args.request.now c.args.learnt c.in_ok-formula.formula c.in_ok-solver.solver.kernel c.next_model.new.self.kernel waiting left _ c.into_log.result.steps
     c.in_ok-formula.ensures.request c.in_ok-formula.ensures.formula c.in_ok-solver.ensures.kernel (ap (λ (l : LogParts). l.steps) c.into_log.ensures)

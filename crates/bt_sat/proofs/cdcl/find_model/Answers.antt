@@ -1,28 +1,26 @@
 use Rattle.std.proofs.Common.{map, refl, subst, None, Some}
 use Rattle.bt_sat.specs.inner.Choices.{DecidesUntilConflict}
 use Rattle.bt_sat.specs.inner.Searching.{SearchesOn, LearnsAndTells}
-use Rattle.bt_sat.proofs.Searched.{fair_count, fair_map, searches_end, searches_kept, searches_none, searches_step, kept_next}
-use Rattle.bt_sat.proofs.Served.{fair_after}
+use Rattle.bt_sat.proofs.Searched.{searches_end, searches_kept, searches_none, searches_step, kept_next}
 use Rattle.bt_sat.proofs.cdcl.find_model.Goals as goal
 
 pub loop-conflict-init : goal.loop-conflict-init
 loop-conflict-init g c =
-    let f = g.C.Chooser.told_lengths in
+    let f = g.C.Chooser.told_clauses in
     let p = c.args.progress.now in
     record {
-      on = searches_none p (map f c.args.choosers.now.items) (fair_map f c.args.choosers.now p.served c.requires.fair) c.requires.paced;
-      running = c.requires.running;
-      fair = c.requires.fair;
+      on = searches_none p (map f c.args.choosers.now);
+      running = c.requires;
       kept = record { formula = refl; first = refl };
     }
 
 pub returns-in-Some-2-clause-searches : goal.returns-in-Some-2-clause-searches
 returns-in-Some-2-clause-searches g c =
-    let f = g.C.Chooser.told_lengths in
-    let start = map f c.args.choosers.now.items in
-    let before = map f c.loop-conflict.choosers.items in
-    let down = map f c.decide_until_conflict.new.choosers.items in
-    let after = map f c.learn_and_tell.new.choosers.items in
+    let f = g.C.Chooser.told_clauses in
+    let start = map f c.args.choosers.now in
+    let before = map f c.loop-conflict.choosers in
+    let down = map f c.decide_until_conflict.new.choosers in
+    let after = map f c.learn_and_tell.new.choosers in
     let d = subst (DecidesUntilConflict c.loop-conflict.progress c.decide_until_conflict.new.progress) c.in-Some.is c.in_ok-conflict.ensures.decides in
     let m : LearnsAndTells c.decide_until_conflict.new.progress down c.learn_and_tell.new.progress after (Some c.in-Some-2.found) = subst (LearnsAndTells c.decide_until_conflict.new.progress down c.learn_and_tell.new.progress after) c.in-Some-2.is c.in_ok-found.ensures.learns in
     let on : SearchesOn c.args.progress.now start c.decide_until_conflict.new.progress down =
@@ -31,11 +29,11 @@ returns-in-Some-2-clause-searches g c =
 
 pub loop-conflict-preserved : goal.loop-conflict-preserved
 loop-conflict-preserved g c =
-    let f = g.C.Chooser.told_lengths in
-    let start = map f c.args.choosers.now.items in
-    let before = map f c.loop-conflict.choosers.items in
-    let down = map f c.decide_until_conflict.new.choosers.items in
-    let after = map f c.learn_and_tell.new.choosers.items in
+    let f = g.C.Chooser.told_clauses in
+    let start = map f c.args.choosers.now in
+    let before = map f c.loop-conflict.choosers in
+    let down = map f c.decide_until_conflict.new.choosers in
+    let after = map f c.learn_and_tell.new.choosers in
     let d = subst (DecidesUntilConflict c.loop-conflict.progress c.decide_until_conflict.new.progress) c.in-Some.is c.in_ok-conflict.ensures.decides in
     let m : LearnsAndTells c.decide_until_conflict.new.progress down c.learn_and_tell.new.progress after None = subst (LearnsAndTells c.decide_until_conflict.new.progress down c.learn_and_tell.new.progress after) c.in_default-2.is c.in_ok-found.ensures.learns in
     let on : SearchesOn c.args.progress.now start c.decide_until_conflict.new.progress down =
@@ -44,6 +42,5 @@ loop-conflict-preserved g c =
     record {
       on = now;
       running = m.1;
-      fair = fair_count f c.learn_and_tell.new.choosers c.learn_and_tell.new.progress.served (fair_after c.args.progress.now.served start _ c.learn_and_tell.new.progress.served after now.serves);
       kept = kept_next c.args.progress.now c.loop-conflict.progress c.learn_and_tell.new.progress c.loop-conflict.invariant.kept (kept_next c.loop-conflict.progress c.decide_until_conflict.new.progress c.learn_and_tell.new.progress c.in_ok-conflict.ensures.kept c.in_ok-found.ensures.kept);
     }

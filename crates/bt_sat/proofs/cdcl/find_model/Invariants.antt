@@ -1,14 +1,12 @@
-use Rattle.std.proofs.Common.{◌-◌, length, map, vec_len}
-use Rattle.bt_sat.specs.Serving.{IsFair}
+use Rattle.std.proofs.Common.{◌-◌, length, map}
 use Rattle.bt_sat.specs.inner.Searching.{SearchesOn}
 use Rattle.bt_sat.specs.inner.Progressing.{IsRunning, KeepsFormula}
 use Rattle.bt_sat.proofs.cdcl.find_model.Given as goal
 
 abbrev pub invariant-loop-conflict : goal.invariant-loop-conflict
 invariant-loop-conflict g l = record {
-  on : SearchesOn l.fn.progress (map g.C.Chooser.told_lengths l.fn.choosers.items) l.progress (map g.C.Chooser.told_lengths l.choosers.items);
+  on : SearchesOn l.fn.progress (map g.C.Chooser.told_clauses l.fn.choosers) l.progress (map g.C.Chooser.told_clauses l.choosers);
   running : IsRunning l.progress;
-  fair : IsFair l.progress.served (vec_len l.choosers);
   kept : KeepsFormula l.fn.progress l.progress;
 }
 

@@ -31,5 +31,4 @@ returns-then-len-gt0 c =
       };
       known = refl;
       limit = refl;
-      served = refl;
     }

@@ -21,7 +21,7 @@ returns-clause-decides g c =
     let was : IsReady all p.settled p.search = subst (Stands all p.settled p.search) c.requires.none c.requires.running.stands in
     let ready : IsReady all (length p.search.assignment.trail.items) p.search = subst (λ n. IsReady all n p.search) c.requires.settled was in
     let now = Chosen.level_ready all p.search new l begins ready is.0 is.1 in (
-      record { known = refl; limit = refl; served = refl },
+      record { known = refl; limit = refl },
       record {
         logged = c.requires.running.logged;
         variables = Chosen.same_values all p.search new l begins ready is.0 is.1 ∙ c.requires.running.variables;

@@ -10,8 +10,7 @@ invariant-loop-progress g l = record {
   running : IsRunning l.progress;
   choice : IsAtChoice l.progress;
   kept : KeepsFormula l.fn.progress l.progress;
-  same : map g.C.Chooser.told_lengths l.choosers.items ≡ map g.C.Chooser.told_lengths l.fn.choosers.items;
-  count : vec_len l.choosers ≡ vec_len l.fn.choosers;
+  same : map g.C.Chooser.told_clauses l.choosers ≡ map g.C.Chooser.told_clauses l.fn.choosers;
 }
 
 abbrev pub decreases-loop-progress : goal.decreases-loop-progress

@@ -9,7 +9,7 @@ returns-clause-propagates c =
     let q = c.propagate_all.new.progress in
     let propagates = c.in_ok-propagate_all.ensures.propagates in
     let size = propagates.running.variables ∙ ap (λ (k : LoggedFormula). k.formula.vars) propagates.known ∙ sym c.requires.running.variables in record {
-      keeps = record { known = propagates.known; limit = propagates.limit; served = propagates.served };
+      keeps = record { known = propagates.known; limit = propagates.limit };
       running = propagates.running;
       choice = record {
         settled = propagates.settled;

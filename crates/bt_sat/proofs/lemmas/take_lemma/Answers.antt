@@ -45,5 +45,4 @@ returns-clause-takes c =
       };
       logs = logs;
       limit = refl;
-      served = refl;
     }

@@ -15,7 +15,7 @@ returns-then-len-progress-clause-learns c =
     let hints = c.prepare.new.learnt_clause.analysis.hints.items in
     let is : IsPrepared (clauses_in p.known) p.known.formula.vars c.prepare.new.search lits hints =
     subst (λ n. IsPrepared (clauses_in p.known) n c.prepare.new.search lits hints) c.requires.running.variables c.in_ok-prepare.ensures in
-    (refl, refl, refl, sym c.len.ensures ∙ c.if-len-progress.true, (Learnt lits hints, Logging.prepared_next p.known c.prepare.new.search lits hints is))
+    (refl, refl, sym c.len.ensures ∙ c.if-len-progress.true, (Learnt lits hints, Logging.prepared_next p.known c.prepare.new.search lits hints is))
 
 pub returns-clause-learns : goal.returns-clause-learns
 returns-clause-learns c =
@@ -43,7 +43,6 @@ returns-clause-learns c =
       },
       refl,
       record { room = room; counts = counts },
-      refl,
       refl,
       (hints, logs, next),
     )

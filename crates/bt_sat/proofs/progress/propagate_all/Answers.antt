@@ -22,7 +22,6 @@ returns-in-Some-clause-propagates c =
       };
       known = refl;
       limit = refl;
-      served = refl;
       settled = λ none. absurd (Propagated.never_none all p.settled p.search s ready c.in-Some.id came (sym (c.number_of-progress.ensures ∙ ap (λ ns. slice_get ns c.in-Some.id) c.deref.ensures.value) ∙ none));
       fewer = Propagated.fewer p.search s came.0;
       grows = record { more = came.0.more; trail = came.0.trail; order = refl };
@@ -44,7 +43,6 @@ returns-in-None-clause-propagates c =
       };
       known = refl;
       limit = refl;
-      served = refl;
       settled = λ none. sym size;
       fewer = Propagated.fewer p.search s came.0;
       grows = record { more = came.0.more; trail = came.0.trail; order = refl };

@@ -7,8 +7,8 @@ use Rattle.bt_theory.proofs.round.round.Goals as goal
 
 pub try_model-requires-clause-ready : goal.try_model-requires-clause-ready
 try_model-requires-clause-ready g c =
-    ready_next c.args.solver.now.kernel c.next_model.new.self.kernel c.args.tableau.now (map g.C.Chooser.told_lengths c.args.solver.now.choosers.items)
-    (map g.C.Chooser.told_lengths c.next_model.new.self.choosers.items) c.requires.ready c.in_ok-next_model.field-0 c.in_ok-next_model.ensures.given
+    ready_next c.args.solver.now.kernel c.next_model.new.self.kernel c.args.tableau.now (map g.C.Chooser.told_clauses c.args.solver.now.choosers.items)
+    (map g.C.Chooser.told_clauses c.next_model.new.self.choosers.items) c.requires.ready c.in_ok-next_model.field-0 c.in_ok-next_model.ensures.given
 
 pub try_model-requires-clause-scopes : goal.try_model-requires-clause-scopes
 try_model-requires-clause-scopes g c =
@@ -18,8 +18,8 @@ pub returns-in-Refuted-clause-round : goal.returns-in-Refuted-clause-round
 returns-in-Refuted-clause-round g c =
     let old = c.args.solver.now.kernel in
     let new = c.next_model.new.self.kernel in
-    let waiting = map g.C.Chooser.told_lengths c.args.solver.now.choosers.items in
-    let left = map g.C.Chooser.told_lengths c.next_model.new.self.choosers.items in
+    let waiting = map g.C.Chooser.told_clauses c.args.solver.now.choosers.items in
+    let left = map g.C.Chooser.told_clauses c.next_model.new.self.choosers.items in
     refuted_round old new c.args.tableau.now waiting left c.requires.ready c.args.pivots
     (subst (GivesNext old waiting new left) c.in-Refuted.is c.in_ok-next_model.ensures.given)
 
@@ -27,6 +27,6 @@ pub returns-in-Spent-clause-round : goal.returns-in-Spent-clause-round
 returns-in-Spent-clause-round g c =
     let old = c.args.solver.now.kernel in
     let new = c.next_model.new.self.kernel in
-    let waiting = map g.C.Chooser.told_lengths c.args.solver.now.choosers.items in
-    let left = map g.C.Chooser.told_lengths c.next_model.new.self.choosers.items in
+    let waiting = map g.C.Chooser.told_clauses c.args.solver.now.choosers.items in
+    let left = map g.C.Chooser.told_clauses c.next_model.new.self.choosers.items in
     spent_round old new c.args.tableau.now waiting left c.requires.ready c.args.pivots (subst (GivesNext old waiting new left) c.in-Spent.is c.in_ok-next_model.ensures.given)

@@ -10,8 +10,8 @@ returns-then-is_arranged-clause-next g c =
     let place = c.pass-self-inside.result in
     let has : HasUnset values (drop c.self.inside.at vars) = subst (HasUnset values) (sym c.self.view_is) (λ v lacks. c.is_arranged.ensures v (c.requires v lacks)) in
     next_at values vars c.self.inside.at place c.literal_at.result
-    (subst (λ (vs : List ℕ). FindsUnset values vs c.self.inside.at place) c.deref-then-is_arranged.ensures.value c.pass-self-inside.ensures) has
-    (subst (λ (vs : List ℕ). IsLitAt vs place c.literal_at.result) c.deref-then-is_arranged-2.ensures.value c.literal_at.ensures)
+    (subst (λ (vs : List ℕ). FindsUnset values vs c.self.inside.at place) c.deref.ensures.value c.pass-self-inside.ensures) has
+    (subst (λ (vs : List ℕ). IsLitAt vs place c.literal_at.result) c.deref-then-is_arranged.ensures.value c.literal_at.ensures)
 
 pub returns-then-is_arranged-clause-left : goal.returns-then-is_arranged-clause-left
 returns-then-is_arranged-clause-left g c =
@@ -19,7 +19,7 @@ returns-then-is_arranged-clause-left g c =
     let vars : List ℕ = c.self.inside.vars.items in
     let place = c.pass-self-inside.result in
     let has : HasUnset values (drop c.self.inside.at vars) = subst (HasUnset values) (sym c.self.view_is) (λ v lacks. c.is_arranged.ensures v (c.requires v lacks)) in
-    let finds = subst (λ (vs : List ℕ). FindsUnset values vs c.self.inside.at place) c.deref-then-is_arranged.ensures.value c.pass-self-inside.ensures in
+    let finds = subst (λ (vs : List ℕ). FindsUnset values vs c.self.inside.at place) c.deref.ensures.value c.pass-self-inside.ensures in
     λ v lacks. finds.left v lacks (has v lacks)
 
 pub returns-in_err-list_unset-clause-left : goal.returns-in_err-list_unset-clause-left
