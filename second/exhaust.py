@@ -5,7 +5,7 @@
 
 It lists every layout of at most three splitters, inputs and outputs in some grids of at most ten cells, and makes so many
 requests for these grids (5000 where none is told): networks of listed layouts and networks that are thrown together, with
-pins, directions and blocks. The program must find a layout exactly where one is listed. What it finds must lay the
+pins, directions, sides and blocks. The program must find a layout exactly where one is listed. What it finds must lay the
 request by `check.py` and be read back by `recover`; a certificate that there is none must be accepted, and refused
 behind any one changed number. It prints how many it compared, and ends with 1 where one is wrong. It writes nothing."""
 
@@ -50,6 +50,16 @@ def is_heard(giver, taker, way):
 
 # From west to east, and from north to south, the pieces of one axis come in pairs: what stands first and what closes it.
 CLOSERS = {(ENTRANCE, 1): (EXIT, 1), (EXIT, 3): (ENTRANCE, 3), (ENTRANCE, 2): (EXIT, 2), (EXIT, 0): (ENTRANCE, 0)}
+
+
+def side_of(letter, way):
+    """The side across which an end at the border comes in or leaves, where it is turned this way."""
+    return way if letter == "o" else (way + 2) % 4
+
+
+def is_at(pin, cell, way):
+    """Whether an end on this cell, turned this way, is where the pin or the side has it."""
+    return pin.dir == side_of(pin.end[0], way) if pin.cell is None else pin.cell == cell and pin.dir in (None, way)
 
 
 class Listing:
@@ -165,7 +175,7 @@ class Listing:
         wanted = {pin.end: pin for pin in pins}
 
         def stand(letter, order, spots):
-            return all(pin is None or pin.cell == spots[spot][0] and pin.dir in (None, spots[spot][1])
+            return all(pin is None or is_at(pin, *spots[spot])
                        for pin, spot in ((wanted.get((letter, number)), spot) for number, spot in enumerate(order)))
 
         for ((firsts, lasts), edges), masks in self.groups.get(shape(net), {}).items():
@@ -226,13 +236,16 @@ def listed_net(chance, listing):
     net = network(len(firsts), len(lasts), splitters, [((e[0], e[1]), (e[2], e[3])) for e in edges])
     spots = dict(zip(net.ends("i") + net.ends("o"), firsts + lasts))
     ends = chance.sample(list(spots), chance.randint(0, len(spots)))
-    return net, [opinion.Pin(end, spots[end][0], chance.choice((None, spots[end][1])), 0) for end in ends]
+    pins = [opinion.Pin(end, spots[end][0], chance.choice((None, spots[end][1])), 0) for end in ends]
+    sides = [opinion.Pin(end, None, side_of(end[0], spots[end][1]), 0) for end in ends]
+    return net, [chance.choice((pin, pin, side)) for pin, side in zip(pins, sides)]
 
 
 def thrown_pins(chance, net, cells):
-    """Pins of some ends on cells, each turned some way or any."""
+    """Pins of some ends on cells, each turned some way or any, and sides of some."""
     ends = chance.sample(net.ends("i") + net.ends("o"), chance.choice((0, 0, 1, 2)))
-    return [opinion.Pin(end, chance.choice(cells), chance.choice((None, *range(4))), 0) for end in ends]
+    return [opinion.Pin(end, None, chance.randrange(4), 0) if chance.random() < 0.4 else
+            opinion.Pin(end, chance.choice(cells), chance.choice((None, *range(4))), 0) for end in ends]
 
 
 def thrown_request(chance, listing):
@@ -247,7 +260,8 @@ def thrown_request(chance, listing):
 
 def request_text(net, pins, blocks):
     lines = net.text().split("\n")[:-1]
-    lines += ["pin {}{} {} {}".format(*pin.end, *pin.cell) + (f" {WAYS[pin.dir]}" if pin.dir is not None else "")
+    lines += ["side {}{} {}".format(*pin.end, WAYS[pin.dir]) if pin.cell is None else
+              "pin {}{} {} {}".format(*pin.end, *pin.cell) + (f" {WAYS[pin.dir]}" if pin.dir is not None else "")
               for pin in pins]
     return "\n".join(lines + ["block {} {}".format(*cell) for cell in blocks] + ["end", ""])
 

@@ -403,6 +403,12 @@ class Layouts(unittest.TestCase):
             ("3x1", PINNED.replace("i0 0 0", "i0 1 0").replace("block 1", "block 0"), tunnel, no),
             ("1x1", BELT, one.replace("transport-belt", "fast-transport-belt"), no),
             ("2x3", SPLITTER, below, yes),
+            ("2x3", SPLITTER.replace("end", "side inputs south\nside o1 north\nend"), below, yes),
+            ("2x3", SPLITTER.replace("end", "side i0 south\nside outputs east\nend"), below, no),
+            ("2x3", SPLITTER.replace("end", "side i1 south\nside i0 north\nend"), below, no),
+            ("2x3", SPLITTER.replace("end", "pin i0 1 2\nside i1 south\nend"), below, yes),
+            ("1x1", BELT.replace("end", "side inputs west\nside outputs east\nend"), one, yes),
+            ("1x1", BELT.replace("end", "side i0 west\nside o0 north\nend"), one, no),
             ("2x2", SPLITTER, below, no),
             ("5x8", BUTTERFLY, drawn(MAP), yes),
             ("5x8", BUTTERFLY.replace("s0 s3", "s0 s2").replace("s1 s2", "s1 s3"), drawn(MAP), no),
@@ -421,6 +427,10 @@ class Layouts(unittest.TestCase):
             (BELT.replace("end", "pin o0 0 0\nblock 0 0\nend"), 3, "46 Block 4"), (FIRST, 3, "40 NetLine 5"),
             (BELT.replace("end", "block 0 0\npin o0 0 0\nend"), 3, "40 NetLine 4"), (BELT + "x", 3, "40 NetLine 4"),
             (BELT.replace("end", "pin i1 0 0\nend"), 3, "40 NetLine 3"),
+            (BELT.replace("end", "side i0 south\nside o0 north\nside o0 north\nend"), 3, "44 Pin 5"),
+            (BELT.replace("end", "pin i0 0 0\nside inputs south\nend"), 3, "44 Pin 4"),
+            (BELT.replace("end", "side i1 south\nend"), 3, "40 NetLine 3"),
+            (BELT.replace("end", "block 0 0\nside i0 south\nend"), 3, "40 NetLine 4"),
         ]
         for request, status, refusal in table:
             self.laid("1x1", request, one, (status, f"refused {refusal}\n"))

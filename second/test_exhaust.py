@@ -33,6 +33,10 @@ class Listings(unittest.TestCase):
                 (splitter, True),
                 ((*splitter, "pin o0 0 0", "pin o1 1 0"), True),
                 ((*splitter, "pin o0 0 0", "pin o1 0 0"), False),
+                ((*splitter, "side i0 south", "side outputs north"), True),
+                ((*splitter, "side i0 south", "side o0 north", "side o1 south"), False),
+                ((*belt, "side i0 south", "pin o0 1 0 south"), False),
+                ((*belt, "side inputs north", "pin o0 1 2 south"), True),
                 ((*splitter, "block 0 0", "block 0 1", "block 0 2"), False),
                 (("net 3 3 0", "edge i0 o0", "edge i1 o1", "edge i2 o2"), True)):
             net, pins, blocks, = request(*lines)

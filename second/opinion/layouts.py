@@ -1,6 +1,6 @@
 """Placement: requests for layouts, and whether a blueprint lays one.
 
-A request is a network text with pins and blocked cells, and a rectangle of cells.
+A request is a network text with pins, sides and blocked cells, and a rectangle of cells.
 """
 
 from collections import Counter
@@ -17,8 +17,8 @@ MOST = 128  # edges, and splitters, of a request
 def read_request(text, width, height):
     """The network of a request that may be laid out in a rectangle, its pins and blocks.
 
-    All its edges have the cap 1. A pin lies in the rectangle, and no end has two. A block lies
-    there too, once, and where no pin is.
+    All its edges have the cap 1. A pin lies in the rectangle, and no end has two pins or sides. A
+    block lies there too, once, and where no pin is.
     """
     net, pins, blocks, _ = read_design(text, Extras.PINS, True)
     need(max(len(net.edges), net.counts["s"]) <= MOST, 41, "TooLarge")
@@ -26,9 +26,10 @@ def read_request(text, width, height):
         need(edge.cap == 1, 45, "Cap", number)
     pinned = set()
     for pin in pins:
-        need(is_inside(pin.cell, width, height) and pin.end not in pinned, 44, "Pin", pin.line)
+        can_be = pin.cell is None or is_inside(pin.cell, width, height)
+        need(can_be and pin.end not in pinned, 44, "Pin", pin.line)
         pinned.add(pin.end)
-    taken = {pin.cell for pin in pins}
+    taken = {pin.cell for pin in pins if pin.cell is not None}
     for block in blocks:
         is_free = is_inside(block.cell, width, height) and block.cell not in taken
         need(is_free, 46, "Block", block.line)
@@ -45,10 +46,11 @@ def lays(net, pins, blocks, width, height, tier, parts):
     """Whether parts lay a request.
 
     They lie inside the rectangle, off the blocks, and are of the tier. All ends are at the
-    border, those that are pinned at their pins, and the network is the request's.
+    border, those with a pin or a side there, and the network is the request's.
     """
     shown, firsts, lasts = recover(parts)
     wanted, found = names_of_pinned(net, shown, pins, firsts, lasts)
+    free = [end for end, name in wanted.items() if name in ("i", "o")]
     blocked = {block.cell for block in blocks}
     return (
         all(part.tier == tier for part in parts)
@@ -59,7 +61,7 @@ def lays(net, pins, blocks, width, height, tier, parts):
         )
         and not any(is_inside(moved(p.cell, p.dir, -1), width, height) for p in firsts)
         and not any(is_inside(moved(p.cell, p.dir), width, height) for p in lasts)
-        and are_alike((net, shown), (wanted, found))
+        and fit((net, shown), wanted, found, free)
     )
 
 
@@ -67,18 +69,32 @@ def names_of_pinned(net, shown, pins, firsts, lasts):
     """Names of the ends of the network wanted, and of the one found, which must correspond.
 
     An end is named by its letter, and where it is pinned by its cell too. So is the end that is
-    found there, if its part has the direction that the pin tells.
+    found there, if its part has the direction that the pin tells. Where a request has sides, an
+    end that isn't pinned is named by its letter and its side: one at the border comes in against
+    its direction, or leaves in it.
     """
     wanted, found = (
         {end: end[0] for letter in "ios" for end in each.ends(letter)} for each in (net, shown)
     )
+    if any(pin.cell is None for pin in pins):
+        found |= {("i", number): f"i{(part.dir + 2) % 4}" for number, part in enumerate(firsts)}
+        found |= {("o", number): f"o{part.dir}" for number, part in enumerate(lasts)}
     for pin in pins:
         letter = pin.end[0]
-        wanted[pin.end] = f"{letter}{pin.cell}"
+        wanted[pin.end] = f"{letter}{pin.dir if pin.cell is None else pin.cell}"
         for number, part in enumerate(firsts if letter == "i" else lasts):
             if part.cell == pin.cell and pin.dir in (None, part.dir):
                 found[letter, number] = wanted[pin.end]
     return wanted, found
+
+
+def fit(nets, wanted, found, free):
+    """Whether two networks are alike, where a free end may have the name of any of its kind."""
+    left = Counter(found.values()) - Counter(wanted.values())
+    names = sorted(name for name in left if free and name[:1] == free[0][0])
+    if not free or not any(name != free[0][0] for name in left if name[:1] == free[0][0]):
+        return are_alike(nets, (wanted, found))
+    return any(fit(nets, {**wanted, free[0]: name}, found, free[1:]) for name in names)
 
 
 def are_alike(nets, colours):

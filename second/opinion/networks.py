@@ -22,6 +22,7 @@ NET_LINE = re.compile("net (0|[1-9][0-9]*) (0|[1-9][0-9]*) (0|[1-9][0-9]*)")
 EDGE_LINE = re.compile(f"edge ([is]){SHORT} ([so]){SHORT}(?: ([1-4]))?")
 PRIORITY_LINE = re.compile(f"(give|take) s{SHORT} {SHORT}")
 PIN_LINE = re.compile(f"pin ([io]){SHORT} {LONG} {LONG}(?: ({'|'.join(WAYS)}))?")
+SIDE_LINE = re.compile(f"side (?:([io]){SHORT}|(inputs|outputs)) ({'|'.join(WAYS)})")
 BLOCK_LINE = re.compile(f"block {LONG} {LONG}")
 
 
@@ -30,7 +31,7 @@ class Extras(Enum):
 
     NOTHING = 0
     PRIORITIES = 1  # of a design
-    PINS = 2  # and blocked cells: of a request for a layout
+    PINS = 2  # sides and blocked cells: of a request for a layout
 
 
 class Edge(NamedTuple):
@@ -42,7 +43,11 @@ class Edge(NamedTuple):
 
 
 class Pin(NamedTuple):
-    """The cell, and the direction or None, at which a request wants an end; and its line."""
+    """The cell, and the direction or None, at which a request wants an end; and its line.
+
+    Where the cell is None, the direction is that of the side of the rectangle across which the
+    end comes in or leaves.
+    """
 
     end: tuple
     cell: tuple
@@ -172,7 +177,7 @@ def sort_of(line, extras):
     if extras is Extras.PRIORITIES:
         sorts += [(1, take_priority, PRIORITY_LINE)]
     if extras is Extras.PINS:
-        sorts += [(1, take_pin, PIN_LINE), (2, take_block, BLOCK_LINE)]
+        sorts += [(1, take_pin, PIN_LINE), (1, take_side, SIDE_LINE), (2, take_block, BLOCK_LINE)]
     for turn, take, form in sorts:
         match = form.fullmatch(line)
         if match:
@@ -206,6 +211,14 @@ def take_pin(read, match, number):
     end, cell = (match[1], int(match[2])), (int(match[3]), int(match[4]))
     need(end[1] < read.net.counts[end[0]], 40, "NetLine", number)
     read.pins.append(Pin(end, cell, match[5] and WAYS.index(match[5]), number))
+
+
+def take_side(read, match, number):
+    """`side END WAY`, `side inputs WAY`, `side outputs WAY`: the side of one end, or of each."""
+    kind = match[3] and match[3][0]
+    ends = read.net.ends(kind) if kind else [(match[1], int(match[2]))]
+    need(all(end[1] < read.net.counts[end[0]] for end in ends), 40, "NetLine", number)
+    read.pins.extend(Pin(end, None, WAYS.index(match[4]), number) for end in ends)
 
 
 def take_block(read, match, number):

@@ -7,7 +7,7 @@ use bt_fenc::encode;
 use bt_flow::Property;
 use bt_frac::{Frac, Relation, Row};
 use bt_io::Source;
-use bt_net::read;
+use bt_net::{Admitted, read};
 use std::alloc::{AllocError, Global};
 
 /// The variables of the formula of implications.
@@ -41,7 +41,7 @@ fn formula_named(alloc: Global, name: &str) -> Option<Formula> {
 
 /// The formula of a network, where the text is that of one, and the property `unlimited`.
 pub fn flow_formula(alloc: Global, text: &[u8]) -> Option<Formula> {
-    match read(alloc, text) {
+    match read(alloc, Admitted::Nothing, text) {
         Ok(read) => encode(alloc, &read.net, Property::Unlimited).ok(),
         Err(_) => None,
     }

@@ -1,7 +1,7 @@
 //! Writing of placement formulas.
 use bt_cnf::Formula;
 use bt_model::Request;
-use bt_net::read;
+use bt_net::{Admitted, read};
 use bt_parts::{Rect, Tier};
 use bt_place::encode_place;
 use std::alloc::Global;
@@ -25,8 +25,8 @@ fn literals(formula: &Formula) -> usize {
 
 /// The request of a text for the slowest tier in 16x16, where it is one.
 fn request_of(alloc: Global, text: &[u8]) -> Option<Request> {
-    match read(alloc, text) {
-        Ok(found) => Request::new(found.net, RECT, Tier::Basic, found.pins, found.blocks).ok(),
+    match read(alloc, Admitted::All, text) {
+        Ok(found) => Request::new(found.net, RECT, Tier::Basic, found.demands, found.blocks).ok(),
         Err(_) => None,
     }
 }

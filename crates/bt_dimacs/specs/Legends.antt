@@ -32,7 +32,8 @@ place_blocks s =
     block s.halves s.belts (codes "half cell") ∷
     block s.belts s.begins (codes "belt cell") ∷
     block s.begins s.starts (codes "begins cell") ∷
-    block s.starts s.pairs (codes "starts cell input") ∷
+    block s.starts s.stops (codes "starts cell input") ∷
+    block s.stops s.pairs (codes "stops cell output") ∷
     block s.pairs s.tunnels (codes "pair cell direction distance") ∷
     block s.tunnels s.goings (codes "tunnel cell direction") ∷
     block s.goings s.columns (codes "goes cell direction") ∷

@@ -22,7 +22,7 @@ pub struct Block {
 }
 
 /// The blocks of a placement formula.
-pub fn place_blocks(starts: Starts) -> [Block; 15]
+pub fn place_blocks(starts: Starts) -> [Block; 16]
     ensures { map block_told result ≡ place_blocks starts }
 {
     [
@@ -48,8 +48,13 @@ pub fn place_blocks(starts: Starts) -> [Block; 15]
         },
         Block {
             from: starts.starts,
-            end: starts.pairs,
+            end: starts.stops,
             meaning: "starts cell input",
+        },
+        Block {
+            from: starts.stops,
+            end: starts.pairs,
+            meaning: "stops cell output",
         },
         Block {
             from: starts.pairs,

@@ -1,7 +1,7 @@
 -- The placement formula of a request is small, since the request is.
-use Rattle.std.proofs.Common.{◌≡◌, ℕ, ◌+◌, ◌-◌, ◌*◌, ◌<◌, ◌≤◌, List, [], ◌∷◌, length, map, not, Option, Some, None, sym, ◌∙◌, ap, arith, length-append}
+use Rattle.std.proofs.Common.{◌≡◌, ℕ, ◌+◌, ◌-◌, ◌*◌, ◌<◌, ◌≤◌, List, [], ◌∷◌, Bool, true, false, cond, length, map, get_or, not, Option, Some, None, refl, sym, ◌∙◌, ap, subst, inl, inr, arith, length-append}
 use Rattle.std.specs.Prelude.{unsigned_abs}
-use Rattle.std.specs.List.{flat_map, filter, range_with_len}
+use Rattle.std.specs.List.{flat_map, filter, list_any, range_with_len}
 use Rattle.std.proofs.lemmas.Nat.{mul-le}
 use Rattle.std.proofs.Math.Nat.{mul-le-mul_right}
 use Rattle.bt_parts.specs.declared.part.Cell.{Cell}
@@ -12,25 +12,30 @@ use Rattle.bt_parts.specs.declared.part.Tier.TheVariants.{Basic, Fast, Express, 
 use Rattle.bt_parts.specs.Cells.{step, steps, opposite}
 use Rattle.bt_parts.specs.Tiers.{reach_of}
 use Rattle.bt_net.specs.declared.network.Block.{Block}
+use Rattle.bt_net.specs.declared.network.Demand.{Demand}
+use Rattle.bt_net.specs.declared.network.Demand.TheVariants as demand
 use Rattle.bt_net.specs.declared.network.Edge.{Edge}
 use Rattle.bt_net.specs.declared.network.End.{End}
 use Rattle.bt_net.specs.declared.network.End.TheVariants.{Input, Output}
+use Rattle.bt_net.specs.declared.network.Ends.{Ends}
+use Rattle.bt_net.specs.declared.network.Ends.TheVariants.{One, Inputs, Outputs}
 use Rattle.bt_net.specs.declared.network.Pin.{Pin}
 use Rattle.bt_net.specs.Network.{leaves}
-use Rattle.bt_model.specs.Requests.{LayoutRequest, IsRequest, HasEnd, pinned, blocked}
+use Rattle.bt_net.specs.PinText.{HasEnds}
+use Rattle.bt_model.specs.Requests.{LayoutRequest, IsRequest, HasEnd, Names, ends_of, pinned, blocked}
 use Rattle.bt_rules.specs.declared.fact.Class.{Class}
 use Rattle.bt_rules.specs.declared.fact.Class.TheVariants as class
 use Rattle.bt_rules.specs.declared.fact.Content.TheVariants.{Empty}
 use Rattle.bt_rules.specs.declared.fact.Fact.{Fact}
-use Rattle.bt_rules.specs.declared.fact.Fact.TheVariants.{Kind, Carries, HalfOn, Begins, Starts, Pair, Tunnel, Goes, At, Column, Row, Points, EntersLesser}
+use Rattle.bt_rules.specs.declared.fact.Fact.TheVariants.{Kind, Carries, HalfOn, Begins, Starts, Stops, Pair, Tunnel, Goes, At, Column, Row, Points, EntersLesser}
 use Rattle.bt_rules.specs.declared.fact.Half.{Half}
 use Rattle.bt_rules.specs.declared.fact.Half.TheVariants.{Lesser}
 use Rattle.bt_rules.specs.declared.fact.Shape.TheVariants as shape
 use Rattle.bt_rules.specs.Carrying.{carried_rules, taken_rule, kept_in_rules, onward_rules, carrying_rules}
-use Rattle.bt_rules.specs.Classes.{classes_of, input_classes, occurs, ends_out, is_through, same_class, classes_into, splitters_of}
+use Rattle.bt_rules.specs.Classes.{classes_of, input_classes, occurs, ends_out, is_through, same_class, classes_into, splitters_of, shared_into}
 use Rattle.bt_rules.specs.Contents.{holds, contents, content_rules, shape_rules, mate_rules, class_rules}
 use Rattle.bt_rules.specs.Going.{going_rules, inner_rules, goes_into, fed_belt, fed_entrance, begin_rules, once_rules, handing_rules}
-use Rattle.bt_rules.specs.Pinning.{is_edge_of, end_shapes, turned_rules, pin_rules, clashes, clash_rules, block_rule}
+use Rattle.bt_rules.specs.Pinning.{is_edge_of, end_shapes, turned_rules, pin_rules, clashes, clash_rules, end_classes, not_begun, begun_rules, stop_rules, apart_rules, pins_other, unpinned_rules, side_end_rules, ends_named, demand_rules, block_rule}
 use Rattle.bt_rules.specs.PlaceRules.{cell_rules, splitter_rules, end_rules, rules_of}
 use Rattle.bt_rules.specs.Ports.{two_in_rules, in_rules, out_rules, standing_port_rules, port_rules}
 use Rattle.bt_rules.specs.Rules.{rule, rule_by, some_of, not_all}
@@ -38,7 +43,8 @@ use Rattle.bt_rules.specs.Spots.{dirs, halves, others_than, behind, mate, half_a
 use Rattle.bt_rules.specs.Standing.{owner_rule, at_rules, name_rule, standing_rules, place_rules}
 use Rattle.bt_rules.specs.Starts.{start_rules, input_rules}
 use Rattle.bt_rules.specs.Underground.{most_distance, tunnel_rules, pairs_from, pairs_into, back, paired_rules, way_rules, pair_class_rules, pair_rules, piece_rules, underground_rules}
-use Rattle.bt_rules.proofs.Keeping.{from_range}
+use Rattle.bt_rules.specs.Within.{sides_outputs, stopping}
+use Rattle.bt_rules.proofs.Keeping.{In, place_of, from_map, from_range}
 use Rattle.bt_place.specs.inner.Grid.{spot_in, spots_in, cell_numbered}
 use Rattle.bt_place.specs.PlaceFormula.{sizes_of, clause_of, place_formula}
 use Rattle.bt_place.proofs.Cells.{spot_within, spot_numbered}
@@ -71,10 +77,10 @@ module _ (r : LayoutRequest) (is : IsRequest r) where
   splitter_classes : HasFew (map class.Split (splitters_of r)) 128
   splitter_classes = few_map class.Split splitters
 
-  of_inputs : HasFew (input_classes r) 2176
-  of_inputs = few_filter (occurs r) (few_both (few_map class.Shared splitters) (few_map class.Input inputs))
+  of_inputs : HasFew (input_classes r) 2688
+  of_inputs = few_filter (occurs r) (few_both (few_flat shared_into 5 splitters (λ t h. as_they_are (shared_into t))) (few_map class.Input inputs))
 
-  classes : HasFew (classes_of r) 2304
+  classes : HasFew (classes_of r) 2816
   classes = few_both splitter_classes of_inputs
 
   distances : HasFew (range_with_len 1 (most_distance r)) 16
@@ -99,11 +105,33 @@ module _ (r : LayoutRequest) (is : IsRequest r) where
   one_end (Output k) (Input j) h g e = let le = is.net.few_inputs in absurd (omega (arith, g, le, e))
   one_end (Output k) (Output j) h g e = ap Output (let same : k ≡ j = omega (arith, e) in same)
 
-  pins : HasFew r.pins 4096
-  pins = record {
-    few = few_apart (λ (pin : Pin). end_number pin.end) r.pins 4096
-        (λ i j d before lt. λ e. is.pins_apart i j d before lt (one_end _ _ (is.ends i d (omega (arith, before, lt))) (is.ends j d lt) e))
-        (λ k d lt. end_below _ (is.ends k d lt));
+  -- an end that a line names
+  named_of : Ends → End
+  named_of (One one) = one
+  named_of Inputs = Input 0
+  named_of Outputs = Output 0
+
+  names_it : (ends : Ends) → Names ends (named_of ends)
+  unfolding named_of
+  names_it (One one) = refl
+  names_it Inputs = tt
+  names_it Outputs = tt
+
+  has_it : (ends : Ends) → HasEnds r.net ends → HasEnd r.net (named_of ends)
+  unfolding named_of
+  has_it (One one) has = has
+  has_it Inputs has = is.net.some_input
+  has_it Outputs has = is.net.some_output
+
+  demands : HasFew r.demands 4096
+  demands = record {
+    few = few_apart (λ (d : Demand). end_number (named_of (ends_of d))) r.demands 4096
+        (λ i j d before lt. λ e.
+        let one = get_or r.demands i d in
+        let other = get_or r.demands j d in
+        let same = one_end (named_of (ends_of one)) (named_of (ends_of other)) (has_it (ends_of one) (is.ends i d (omega (arith, before, lt)))) (has_it (ends_of other) (is.ends j d lt)) e in
+        is.demands_apart i j d before lt (named_of (ends_of one), names_it (ends_of one), subst (Names (ends_of other)) (sym same) (names_it (ends_of other))))
+        (λ k d lt. end_below (named_of (ends_of (get_or r.demands k d))) (has_it (ends_of (get_or r.demands k d)) (is.ends k d lt)));
   }
 
   blocks : HasFew r.blocks 256
@@ -126,7 +154,7 @@ module _ (r : LayoutRequest) (is : IsRequest r) where
   mates_few : (c : Cell) → HasFew (mate_rules r.rect c) 8
   mates_few c = as_they_are (mate_rules r.rect c)
 
-  classes_few : (c : Cell) → HasFew (class_rules r c) 5400000
+  classes_few : (c : Cell) → HasFew (class_rules r c) 8000000
   classes_few c =
       let once = few_most (few_map (Carries c) classes) in
       let not_empty = few_map (λ k. not_all (Kind c Empty ∷ Carries c k ∷ [])) classes in
@@ -189,31 +217,31 @@ module _ (r : LayoutRequest) (is : IsRequest r) where
       let between = few_map (λ j. Tunnel (steps j dir c) dir) (few_range {m = 16} 1 (k - 1) (omega (arith, le))) in
       few_map (λ fact. rule (Pair c dir k ∷ []) (fact ∷ [])) (few_first (holds c shape.Entrance dir) (few_first (holds (steps k dir c) shape.Exit dir) between))
 
-  pair_few : (c : Cell) (dir : Dir) (k : ℕ) → k ≤ 17 → HasFew (pair_rules r c dir k) 4626
+  pair_few : (c : Cell) (dir : Dir) (k : ℕ) → k ≤ 17 → HasFew (pair_rules r c dir k) 5650
   pair_few c dir k le =
       let same = few_flat (pair_class_rules c dir k) 2 classes (λ l h. as_they_are (pair_class_rules c dir k l)) in
       few_inside r.rect (steps k dir c) (few_both (way_few c dir k le) same)
 
-  piece_few : (c : Cell) (dir : Dir) → HasFew (piece_rules r c dir) 75000
+  piece_few : (c : Cell) (dir : Dir) → HasFew (piece_rules r c dir) 100000
   piece_few c dir =
-      let pairs = few_flat (pair_rules r c dir) 4626 distances
+      let pairs = few_flat (pair_rules r c dir) 5650 distances
       (λ k h. let at = (from_range 1 (most_distance r) k h).1 in let le = reaches r.tier in pair_few c dir k (omega (arith, at, le))) in
       few_more (few_both (few_both (tunnel_few c dir) (paired_few c dir)) pairs) (omega arith)
 
-  underground_few : (c : Cell) → HasFew (underground_rules r c) 300000
-  underground_few c = few_flat (piece_rules r c) 75000 (as_they_are dirs) (λ dir h. piece_few c dir)
+  underground_few : (c : Cell) → HasFew (underground_rules r c) 400000
+  underground_few c = few_flat (piece_rules r c) 100000 (as_they_are dirs) (λ dir h. piece_few c dir)
 
-  onward_few : (c : Cell) (dir : Dir) → HasFew (onward_rules r c dir) 7040
+  onward_few : (c : Cell) (dir : Dir) → HasFew (onward_rules r c dir) 8576
   onward_few c dir =
       let carried = few_flat (carried_rules r c dir) 3 classes (λ k h. as_they_are (carried_rules r c dir k)) in
       let taken = few_map (taken_rule r c dir) splitters in
       let kept = few_flat (kept_in_rules c dir) 2 (few_filter (λ k. not (ends_out r k)) classes) (λ k h. as_they_are (kept_in_rules c dir k)) in
-      few_cond (is_inside r.rect (step dir c)) (few_both carried taken) (few_more kept (let le : 2304 * 2 ≤ 7040 = omega arith in le))
+      few_cond (is_inside r.rect (step dir c)) (few_both carried taken) (few_more kept (let le : 2816 * 2 ≤ 8576 = omega arith in le))
 
-  carrying_few : (c : Cell) → HasFew (carrying_rules r c) 28160
-  carrying_few c = few_flat (onward_rules r c) 7040 (as_they_are dirs) (λ dir h. onward_few c dir)
+  carrying_few : (c : Cell) → HasFew (carrying_rules r c) 34304
+  carrying_few c = few_flat (onward_rules r c) 8576 (as_they_are dirs) (λ dir h. onward_few c dir)
 
-  cell_few : (c : Cell) → HasFew (cell_rules r c) 6000000
+  cell_few : (c : Cell) → HasFew (cell_rules r c) 9000000
   cell_few c =
       few_more
       (few_both (few_both (few_both (few_both (few_both (few_both (few_both (contents_few c) (shapes_few c)) (mates_few c)) (classes_few c)) (standing_few c)) (handing_few c)) (underground_few c))
@@ -263,6 +291,12 @@ module _ (r : LayoutRequest) (is : IsRequest r) where
       let each = few_flat (start_rules i) 3 border (λ c h. as_they_are (start_rules i c)) in
       few_cond (is_through r i) (few_both once each) (record { few = omega arith })
 
+  three_others : (dir : Dir) → HasFew (others_than dir) 3
+  three_others North = record { few = omega arith }
+  three_others East = record { few = omega arith }
+  three_others South = record { few = omega arith }
+  three_others West = record { few = omega arith }
+
   turned_few : (c : Cell) (end : End) (dir : Option Dir) → HasFew (turned_rules c end dir) 6
   turned_few c end None = record { few = omega arith }
   turned_few c end (Some dir) = few_flat (λ of. map (λ other. not_all (holds c of other ∷ [])) (others_than dir)) 3 (two_shapes end) (λ of h. few_map _ (three_others dir))
@@ -271,40 +305,81 @@ module _ (r : LayoutRequest) (is : IsRequest r) where
       two_shapes (Input k) = record { few = omega arith }
       two_shapes (Output k) = record { few = omega arith }
 
-      three_others : (dir : Dir) → HasFew (others_than dir) 3
-      three_others North = record { few = omega arith }
-      three_others East = record { few = omega arith }
-      three_others South = record { few = omega arith }
-      three_others West = record { few = omega arith }
-
   pin_few : (pin : Pin) → HasFew (pin_rules r pin) 135
   pin_few pin = few_both (few_map _ (few_filter (is_edge_of pin.end) edges)) (few_first _ (turned_few (pinned pin) pin.end pin.dir))
 
-  clashing : (others : List Pin) (n : ℕ) → length others ≤ n → length (clash_rules others) ≤ length others * n
+  end_classes_few : (e : End) → HasFew (end_classes r e) 128
+  end_classes_few e = few_map _ (few_filter (is_edge_of e) edges)
+
+  begun_few : (dir : Dir) (k : Class) → HasFew (begun_rules r.rect dir k) 1536
+  begun_few dir k = few_flat (λ c. flat_map (not_begun k c) (others_than (opposite dir))) 6 border
+      (λ c h. few_flat (not_begun k c) 2 (three_others (opposite dir)) (λ other l. as_they_are (not_begun k c other)))
+
+  stop_few : (dir : Dir) (o : ℕ) (c : Cell) → HasFew (stop_rules r dir o c) 129
+  stop_few dir o c = few_first _ (few_map _ (end_classes_few (Output o)))
+
+  unpinned_few : (o : ℕ) (d : Demand) → HasFew (unpinned_rules o d) 1
+  unpinned_few o (demand.Pin pin) = few_cond (pins_other o pin.end) (as_they_are (not_all (Stops (pinned pin) o ∷ []) ∷ [])) (record { few = omega arith })
+  unpinned_few o (demand.Side side) = record { few = omega arith }
+
+  side_end_few : (dir : Dir) (e : End) → HasEnd r.net e → HasFew (side_end_rules r dir e) 600000
+  side_end_few dir (Input k) has = few_more (few_flat (begun_rules r.rect dir) 1536 (end_classes_few (Input k)) (λ l h. begun_few dir l)) (omega arith)
+  side_end_few dir (Output o) has =
+      let stops = few_flat (stop_rules r dir o) 129 border (λ c h. stop_few dir o c) in
+      let apart = few_flat (apart_rules r.rect o) 256 (few_range {m = 2048} 0 o (let le = is.net.few_outputs in omega (arith, has, le))) (λ other h. few_map _ border) in
+      let unpinned = few_flat (unpinned_rules o) 1 demands (λ d h. unpinned_few o d) in
+      few_more (few_first _ (few_both (few_both stops apart) unpinned)) (omega arith)
+
+  -- the ends that a line names
+  ends_named_few : (ends : Ends) → HasFew (ends_named r ends) 2048
+  ends_named_few (One one) = record { few = omega arith }
+  ends_named_few Inputs = few_map Input (few_range 0 r.net.inputs is.net.few_inputs)
+  ends_named_few Outputs = few_map Output (few_range 0 r.net.outputs is.net.few_outputs)
+
+  named_has : (ends : Ends) → HasEnds r.net ends → (e : End) → In (ends_named r ends) e → HasEnd r.net e
+  named_has (One one) has e (inl same) = subst (HasEnd r.net) (sym same) has
+  named_has (One one) has e (inr none) = absurd none
+  named_has Inputs has e there =
+      let at = from_map Input (range_with_len 0 r.net.inputs) e there in
+      let below = (from_range 0 r.net.inputs at.0 at.1).1 in
+      let lt : HasEnd r.net (Input at.0) = omega (arith, below) in subst (HasEnd r.net) (sym at.2) lt
+  named_has Outputs has e there =
+      let at = from_map Output (range_with_len 0 r.net.outputs) e there in
+      let below = (from_range 0 r.net.outputs at.0 at.1).1 in
+      let lt : HasEnd r.net (Output at.0) = omega (arith, below) in subst (HasEnd r.net) (sym at.2) lt
+
+  demand_few : (d : Demand) → HasEnds r.net (ends_of d) → HasFew (demand_rules r d) 1228800000
+  demand_few (demand.Pin pin) has = few_more (pin_few pin) (omega arith)
+  demand_few (demand.Side side) has = few_flat (side_end_rules r side.dir) 600000 (ends_named_few side.ends) (λ e h. side_end_few side.dir e (named_has side.ends has e h))
+
+  all_at : (d : Demand) → In r.demands d → HasEnds r.net (ends_of d)
+  all_at d there = let place = place_of r.demands d there in subst (λ x. HasEnds r.net (ends_of x)) (place.2 d) (is.ends place.0 d place.1)
+
+  clashing : (others : List Demand) (n : ℕ) → length others ≤ n → length (clash_rules others) ≤ length others * n
   clashing [] n le = omega arith
-  clashing (pin ∷ others) n le =
+  clashing (d ∷ others) n le =
       let later = clashing others n (omega (arith, le)) in
-      let here = (few_map {n = n} (λ other. some_of []) (few_filter {xs = others} (clashes pin) (record { few = omega (arith, le) }))).few in
-      let all = length-append (map (λ other. some_of []) (filter (clashes pin) others)) (clash_rules others) in
+      let here = (few_map {n = n} (λ other. some_of []) (few_filter {xs = others} (clashes d) (record { few = omega (arith, le) }))).few in
+      let all = length-append (map (λ other. some_of []) (filter (clashes d) others)) (clash_rules others) in
       omega (arith, later, here, all)
 
-  clashes_few : HasFew (clash_rules r.pins) 16777216
+  clashes_few : HasFew (clash_rules r.demands) 16777216
   clashes_few =
-      let all = clashing r.pins 4096 pins.few in let le : length r.pins * 4096 ≤ 4096 * 4096 = mul-le-mul_right 4096 pins.few in record { few = omega (arith, all, le) }
+      let all = clashing r.demands 4096 demands.few in let le : length r.demands * 4096 ≤ 4096 * 4096 = mul-le-mul_right 4096 demands.few in record { few = omega (arith, all, le) }
 
-  ends_few : HasFew (end_rules r) 200000000
+  ends_few : HasFew (end_rules r) 6000000000000
   ends_few =
       let at_inputs = few_flat (input_rules r) 66305 inputs (λ i h. input_few i) in
-      let at_pins = few_flat (pin_rules r) 135 pins (λ pin h. pin_few pin) in
-      few_more (few_both (few_both (few_both at_inputs at_pins) clashes_few) (few_map block_rule blocks)) (omega arith)
+      let at_demands = few_flat (demand_rules r) 1228800000 demands (λ d h. demand_few d (all_at d h)) in
+      few_more (few_both (few_both (few_both at_inputs at_demands) clashes_few) (few_map block_rule blocks)) (omega arith)
 
-  rules_few : HasFew (rules_of r) 10000000000
+  rules_few : HasFew (rules_of r) 10000000000000
   rules_few =
-      let at_cells = few_flat (cell_rules r) 6000000 cells (λ c h. cell_few c) in
+      let at_cells = few_flat (cell_rules r) 9000000 cells (λ c h. cell_few c) in
       let at_splitters = few_flat (splitter_rules r) 13288 splitters (λ s h. few_both (places_few s) (ports_few s)) in
       few_more (few_both (few_both at_cells at_splitters) ends_few) (omega arith)
 
-  pub clauses_few : length (place_formula r).clauses ≤ 10000000000
+  pub clauses_few : length (place_formula r).clauses ≤ 10000000000000
   clauses_few = (few_map (clause_of (sizes_of r)) rules_few).few
 
   -- ---- the variables
@@ -315,10 +390,15 @@ module _ (r : LayoutRequest) (is : IsRequest r) where
       let h = r.rect.height in
       let area = mul-le w h 16 16 is.grid.few_across is.grid.few_down in
       let s = is.few_splitters in
-      let carried = mul-le (w * h) (length (classes_of r)) 256 2304 area classes.few in
+      let carried = mul-le (w * h) (length (classes_of r)) 256 2816 area classes.few in
       let starts = mul-le (w * h) r.net.inputs 256 2048 area is.net.few_inputs in
+      let stops = mul-le (w * h) (stopping r) 256 2048 area (few_stops (list_any sides_outputs r.demands)) in
       let turned = mul-le (w * h * 4) (most_distance r) 1024 16 (omega (arith, area)) (reaches r.tier) in
       let columns = mul-le r.net.splitters w 128 16 s is.grid.few_across in
       let rows = mul-le r.net.splitters h 128 16 s is.grid.few_down in
       let places = mul-le r.net.splitters (w * h) 128 256 s area in
-      omega (arith, area, s, carried, starts, turned, columns, rows, places)
+      omega (arith, area, s, carried, starts, stops, turned, columns, rows, places)
+    where
+      few_stops : (b : Bool) → cond b r.net.outputs 0 ≤ 2048
+      few_stops true = is.net.few_outputs
+      few_stops false = omega arith

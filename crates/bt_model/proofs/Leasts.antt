@@ -39,16 +39,16 @@ kept_least : (P Q : ℕ → Type 0) (a : Option ℕ) (line : ℕ) → (MayPreced
 kept_least P Q None line late above p = absurd (late tt)
 kept_least P Q (Some l) line late above p = (inl p.0, λ n h. ⊎_elim (p.1 n) (λ q. let le = above n q in omega (arith, late)) h)
 
-module _ {X N : Type 0} (IsBad : X → Type 0) (name_of : X → N) (line_of : X → ℕ) (xs : List X) where
+module _ {X : Type 0} (IsBad : X → Type 0) (Clash : X → X → Type 0) (line_of : X → ℕ) (xs : List X) where
   -- no line is later than itself or refused before the first place
-  pub none_later : (place : ℕ) → HasNone (IsLaterHere name_of line_of xs place 0)
+  pub none_later : (place : ℕ) → HasNone (IsLaterHere Clash line_of xs place 0)
   none_later place line later = let lt = later.apart in omega arith
 
-  pub none_refused : HasNone (IsRefusedBelow IsBad name_of line_of xs 0)
+  pub none_refused : HasNone (IsRefusedBelow IsBad Clash line_of xs 0)
   none_refused line refused = let lt = refused.1 in omega arith
 
   -- one that is bad refuses its own line
-  pub bad_least : (place : ℕ) (x : X) → slice_get xs place ≡ Some x → IsBad x → IsLeast (IsRefusedHere IsBad name_of line_of xs place) (line_of x)
+  pub bad_least : (place : ℕ) (x : X) → slice_get xs place ≡ Some x → IsBad x → IsLeast (IsRefusedHere IsBad Clash line_of xs place) (line_of x)
   bad_least place x is bad = (
     inl (x, is, bad, refl),
     λ line refused. ⊎_elim
@@ -56,69 +56,69 @@ module _ {X N : Type 0} (IsBad : X → Type 0) (name_of : X → N) (line_of : X 
         (λ later. omega (arith, later.line_is, ap line_of (same_Some x later.other (sym is ∙ later.is_other)))) refused,
   )
 
-  -- one that isn't bad refuses a line only for an earlier one of its name
-  pub good_least : (place : ℕ) (x : X) (o : Option ℕ) → slice_get xs place ≡ Some x → (IsBad x → ⊥) → IsLeastIfAny (IsLaterHere name_of line_of xs place place) o → IsLeastIfAny (IsRefusedHere IsBad name_of line_of xs place) o
+  -- one that isn't bad refuses a line only for an earlier one with which it clashes
+  pub good_least : (place : ℕ) (x : X) (o : Option ℕ) → slice_get xs place ≡ Some x → (IsBad x → ⊥) → IsLeastIfAny (IsLaterHere Clash line_of xs place place) o → IsLeastIfAny (IsRefusedHere IsBad Clash line_of xs place) o
   good_least place x o is good least = same_least _ _ o (λ line later. inr later)
       (λ line refused. ⊎_elim (λ here. absurd (good (subst IsBad (same_Some here.0 x (sym here.1 ∙ is)) here.2))) (λ later. later) refused) least
 
   module _ (place k : ℕ) (x y : X) (is_x : slice_get xs place ≡ Some x) (is_y : slice_get xs k ≡ Some y) where
-    later_cases : (line : ℕ) → IsLaterHere name_of line_of xs place (k + 1) line
-        → IsLaterHere name_of line_of xs place k line ⊎ ((name_of y ≡ name_of x) × (line ≡ max (line_of y) (line_of x)))
+    later_cases : (line : ℕ) → IsLaterHere Clash line_of xs place (k + 1) line
+        → IsLaterHere Clash line_of xs place k line ⊎ ((Clash y x) × (line ≡ max (line_of y) (line_of x)))
     later_cases line later = ⊎_elim
-        (λ lt. inl (record { first_place = later.first_place; apart = lt; one = later.one; is_one = later.is_one; other = later.other; is_other = later.is_other; same = later.same; line_is = later.line_is }))
+        (λ lt. inl (record { first_place = later.first_place; apart = lt; one = later.one; is_one = later.is_one; other = later.other; is_other = later.is_other; clash = later.clash; line_is = later.line_is }))
         (λ eq.
         let one = same_Some later.one y (sym later.is_one ∙ ap (slice_get xs) eq ∙ is_y) in
         let other = same_Some later.other x (sym later.is_other ∙ is_x) in
-        inr (ap name_of (sym one) ∙ later.same ∙ ap name_of other, later.line_is ∙ ap (λ a. max (line_of a) (line_of later.other)) one ∙ ap (λ b. max (line_of y) (line_of b)) other))
+        inr (subst (λ a. Clash a x) one (subst (Clash later.one) other later.clash), later.line_is ∙ ap (λ a. max (line_of a) (line_of later.other)) one ∙ ap (λ b. max (line_of y) (line_of b)) other))
         (below_or_at later.first_place k later.apart)
 
-    later_more : (line : ℕ) → IsLaterHere name_of line_of xs place k line → IsLaterHere name_of line_of xs place (k + 1) line
-    later_more line later = record { first_place = later.first_place; apart = omega (arith, later.apart); one = later.one; is_one = later.is_one; other = later.other; is_other = later.is_other; same = later.same; line_is = later.line_is }
+    later_more : (line : ℕ) → IsLaterHere Clash line_of xs place k line → IsLaterHere Clash line_of xs place (k + 1) line
+    later_more line later = record { first_place = later.first_place; apart = omega (arith, later.apart); one = later.one; is_one = later.is_one; other = later.other; is_other = later.is_other; clash = later.clash; line_is = later.line_is }
 
-    -- beside one more that names the same
-    pub later_same : (o : Option ℕ) → name_of y ≡ name_of x → IsLeastIfAny (IsLaterHere name_of line_of xs place k) o
-        → IsLeastIfAny (IsLaterHere name_of line_of xs place (k + 1)) (lesser o (Some (max (line_of y) (line_of x))))
+    -- beside one more that clashes
+    pub later_same : (o : Option ℕ) → Clash y x → IsLeastIfAny (IsLaterHere Clash line_of xs place k) o
+        → IsLeastIfAny (IsLaterHere Clash line_of xs place (k + 1)) (lesser o (Some (max (line_of y) (line_of x))))
     later_same o same least = same_least _ _ (lesser o (Some (max (line_of y) (line_of x))))
-        (λ line h. ⊎_elim (later_more line) (λ e. record { first_place = k; apart = omega arith; one = y; is_one = is_y; other = x; is_other = is_x; same = same; line_is = e }) h)
+        (λ line h. ⊎_elim (later_more line) (λ e. record { first_place = k; apart = omega arith; one = y; is_one = is_y; other = x; is_other = is_x; clash = same; line_is = e }) h)
         (λ line later. ⊎_elim inl (λ both. inr both.1) (later_cases line later))
         (lesser_least _ (λ line. line ≡ max (line_of y) (line_of x)) o (Some (max (line_of y) (line_of x))) least (refl, λ m e. omega (arith, e)))
 
-    -- beside one more that names something else
-    pub later_other : (o : Option ℕ) → (name_of y ≡ name_of x → ⊥) → IsLeastIfAny (IsLaterHere name_of line_of xs place k) o
-        → IsLeastIfAny (IsLaterHere name_of line_of xs place (k + 1)) o
+    -- beside one more that doesn't
+    pub later_other : (o : Option ℕ) → (Clash y x → ⊥) → IsLeastIfAny (IsLaterHere Clash line_of xs place k) o
+        → IsLeastIfAny (IsLaterHere Clash line_of xs place (k + 1)) o
     later_other o apart least = same_least _ _ o later_more (λ line later. ⊎_elim (λ l. l) (λ both. absurd (apart both.0)) (later_cases line later)) least
 
-  here_above : (k : ℕ) (x : X) → slice_get xs k ≡ Some x → (line : ℕ) → IsRefusedHere IsBad name_of line_of xs k line → line_of x ≤ line
+  here_above : (k : ℕ) (x : X) → slice_get xs k ≡ Some x → (line : ℕ) → IsRefusedHere IsBad Clash line_of xs k line → line_of x ≤ line
   here_above k x is line refused = ⊎_elim
       (λ here. omega (arith, here.3, ap line_of (same_Some x here.0 (sym is ∙ here.1))))
       (λ later. omega (arith, later.line_is, ap line_of (same_Some x later.other (sym is ∙ later.is_other)))) refused
 
-  below_cases : (k line : ℕ) → IsRefusedBelow IsBad name_of line_of xs (k + 1) line → IsRefusedBelow IsBad name_of line_of xs k line ⊎ IsRefusedHere IsBad name_of line_of xs k line
-  below_cases k line refused = ⊎_elim (λ lt. inl (refused.0, lt, refused.2)) (λ eq. inr (subst (λ n. IsRefusedHere IsBad name_of line_of xs n line) eq refused.2)) (below_or_at refused.0 k refused.1)
+  below_cases : (k line : ℕ) → IsRefusedBelow IsBad Clash line_of xs (k + 1) line → IsRefusedBelow IsBad Clash line_of xs k line ⊎ IsRefusedHere IsBad Clash line_of xs k line
+  below_cases k line refused = ⊎_elim (λ lt. inl (refused.0, lt, refused.2)) (λ eq. inr (subst (λ n. IsRefusedHere IsBad Clash line_of xs n line) eq refused.2)) (below_or_at refused.0 k refused.1)
 
-  below_both : (k line : ℕ) → IsRefusedBelow IsBad name_of line_of xs k line ⊎ IsRefusedHere IsBad name_of line_of xs k line → IsRefusedBelow IsBad name_of line_of xs (k + 1) line
+  below_both : (k line : ℕ) → IsRefusedBelow IsBad Clash line_of xs k line ⊎ IsRefusedHere IsBad Clash line_of xs k line → IsRefusedBelow IsBad Clash line_of xs (k + 1) line
   below_both k line refused = ⊎_elim (λ below. (below.0, omega (arith, below.1), below.2)) (λ here. (k, omega arith, here)) refused
 
   -- the one at the next place too
-  pub below_step : (k : ℕ) (a b : Option ℕ) → IsLeastIfAny (IsRefusedBelow IsBad name_of line_of xs k) a → IsLeastIfAny (IsRefusedHere IsBad name_of line_of xs k) b
-      → IsLeastIfAny (IsRefusedBelow IsBad name_of line_of xs (k + 1)) (lesser a b)
+  pub below_step : (k : ℕ) (a b : Option ℕ) → IsLeastIfAny (IsRefusedBelow IsBad Clash line_of xs k) a → IsLeastIfAny (IsRefusedHere IsBad Clash line_of xs k) b
+      → IsLeastIfAny (IsRefusedBelow IsBad Clash line_of xs (k + 1)) (lesser a b)
   below_step k a b p q = same_least _ _ (lesser a b) (below_both k) (below_cases k) (lesser_least _ _ a b p q)
 
   -- the one at the next place doesn't come before the least line so far
-  pub below_skip : (k : ℕ) (x : X) (a : Option ℕ) → slice_get xs k ≡ Some x → (MayPrecede (line_of x) a → ⊥) → IsLeastIfAny (IsRefusedBelow IsBad name_of line_of xs k) a
-      → IsLeastIfAny (IsRefusedBelow IsBad name_of line_of xs (k + 1)) a
+  pub below_skip : (k : ℕ) (x : X) (a : Option ℕ) → slice_get xs k ≡ Some x → (MayPrecede (line_of x) a → ⊥) → IsLeastIfAny (IsRefusedBelow IsBad Clash line_of xs k) a
+      → IsLeastIfAny (IsRefusedBelow IsBad Clash line_of xs (k + 1)) a
   below_skip k x a is late p = same_least _ _ a (below_both k) (below_cases k) (kept_least _ _ a (line_of x) late (here_above k x is) p)
 
   -- all of the list
-  pub below_all : (o : Option ℕ) → IsLeastIfAny (IsRefusedBelow IsBad name_of line_of xs (length xs)) o
-      → IsLeastIfAny (λ line. IsLineOfBad IsBad line_of xs line ⊎ IsLaterOfTwo name_of line_of xs line) o
+  pub below_all : (o : Option ℕ) → IsLeastIfAny (IsRefusedBelow IsBad Clash line_of xs (length xs)) o
+      → IsLeastIfAny (λ line. IsLineOfBad IsBad line_of xs line ⊎ IsLaterOfTwo Clash line_of xs line) o
   below_all o least = same_least _ _ o
       (λ line refused. ⊎_elim
       (λ here. inl (record { place = refused.0; one = here.0; is_one = here.1; bad = here.2; line_is = here.3 }))
-      (λ later. inr (record { first_place = later.first_place; second_place = refused.0; apart = later.apart; one = later.one; is_one = later.is_one; other = later.other; is_other = later.is_other; same = later.same; line_is = later.line_is }))
+      (λ later. inr (record { first_place = later.first_place; second_place = refused.0; apart = later.apart; one = later.one; is_one = later.is_one; other = later.other; is_other = later.is_other; clash = later.clash; line_is = later.line_is }))
       refused.2)
       (λ line h. ⊎_elim
       (λ bad. (bad.place, slice_get_within xs bad.place bad.one bad.is_one, inl (bad.one, bad.is_one, bad.bad, bad.line_is)))
-      (λ two. (two.second_place, slice_get_within xs two.second_place two.other two.is_other, inr (record { first_place = two.first_place; apart = two.apart; one = two.one; is_one = two.is_one; other = two.other; is_other = two.is_other; same = two.same; line_is = two.line_is })))
+      (λ two. (two.second_place, slice_get_within xs two.second_place two.other two.is_other, inr (record { first_place = two.first_place; apart = two.apart; one = two.one; is_one = two.is_one; other = two.other; is_other = two.is_other; clash = two.clash; line_is = two.line_is })))
       h)
       least

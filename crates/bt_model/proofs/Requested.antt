@@ -8,15 +8,19 @@ use Rattle.bt_answers.specs.Answers.{AnswersAlways, HasOneAnswer}
 use Rattle.bt_answers.proofs.OneAnswer.{answers_always_of}
 use Rattle.bt_parts.specs.declared.part.Rect.{Rect}
 use Rattle.bt_parts.specs.Cells.{IsInside}
+use Rattle.bt_net.specs.declared.network.Demand.{Demand}
+use Rattle.bt_net.specs.declared.network.Demand.TheVariants as demand
 use Rattle.bt_net.specs.declared.network.Edge.{Edge}
 use Rattle.bt_net.specs.declared.network.End.{End}
 use Rattle.bt_net.specs.declared.network.End.TheVariants as end
+use Rattle.bt_net.specs.declared.network.Ends.{Ends}
+use Rattle.bt_net.specs.declared.network.Ends.TheVariants.{One, Inputs, Outputs}
 use Rattle.bt_net.specs.Network.{Network, IsNetwork, HasEnd}
 use Rattle.bt_model.specs.declared.fault.RequestFault.{RequestFault}
 use Rattle.bt_model.specs.declared.fault.RequestFault.TheVariants as fault
 use Rattle.bt_model.specs.declared.request.TheConstants.{MOST_REQUESTED}
-use Rattle.bt_model.specs.Requests.{LayoutRequest, cell_at, IsGrid, IsRequest, pinned, blocked}
-use Rattle.bt_model.specs.RequestFaults.{HasNone, IsLeast, IsTooLarge, HasOtherCap, IsLineOfBad, IsLaterOfTwo, IsOutOfPlace, IsPinRefused, IsInTheWay, IsBlockRefused, IsMade}
+use Rattle.bt_model.specs.Requests.{LayoutRequest, HasEnds, cell_at, IsGrid, IsRequest, ends_of, line_of, ShareEnd, IsPinnedTo, IsPinnedInside, blocked}
+use Rattle.bt_model.specs.RequestFaults.{HasNone, IsLeast, IsTooLarge, HasOtherCap, IsLineOfBad, IsLaterOfTwo, IsOutOfPlace, NameOneEnd, IsPinRefused, IsInTheWay, BlockOneCell, IsBlockRefused, IsMade}
 
 -- an edge of another cap, as it is found
 pub other_cap_here : (net : Network) (edges : List Edge) (k : ℕ) (edge : Edge) → edges ≡ net.edges → slice_get edges k ≡ Some edge → edge.cap ≢ 1 → HasOtherCap net k
@@ -33,12 +37,12 @@ holds_between : {X : Type 0} (R : X → X → Type 0) (xs : List X) (i j : ℕ) 
 holds_between R xs i j x y is_x is_y lt all =
     subst (λ b. R x b) (get_or_from_slice_get xs j y x is_y) (subst (λ a. R a (get_or xs j x)) (get_or_from_slice_get xs i x x is_x) (all i j x lt (slice_get_within xs j y is_y)))
 
--- where no line is refused, none of the list is bad, and no two name the same
+-- where no line is refused, none of the list is bad, and no two clash
 all_good : {X : Type 0} (IsBad P : X → Type 0) (line_of : X → ℕ) (xs : List X) → ((x : X) → (IsBad x → ⊥) → P x) → HasNone (IsLineOfBad IsBad line_of xs) → All P xs
 all_good IsBad P line_of xs good none = λ k d lt. good (get_or xs k d) (λ bad. none (line_of (get_or xs k d)) (record { place = k; one = get_or xs k d; is_one = slice_get-get_or xs k d lt; bad = bad; line_is = refl }))
 
-all_apart : {X N : Type 0} (name_of : X → N) (line_of : X → ℕ) (xs : List X) → HasNone (IsLaterOfTwo name_of line_of xs) → AllPairs (λ one other. name_of one ≢ name_of other) xs
-all_apart name_of line_of xs none = λ i j d lt within same. none (max (line_of (get_or xs i d)) (line_of (get_or xs j d))) (record {
+all_apart : {X : Type 0} (Clash : X → X → Type 0) (line_of : X → ℕ) (xs : List X) → HasNone (IsLaterOfTwo Clash line_of xs) → AllPairs (λ one other. Clash one other → ⊥) xs
+all_apart Clash line_of xs none = λ i j d lt within clash. none (max (line_of (get_or xs i d)) (line_of (get_or xs j d))) (record {
   first_place = i;
   second_place = j;
   apart = lt;
@@ -46,7 +50,7 @@ all_apart name_of line_of xs none = λ i j d lt within same. none (max (line_of 
   is_one = slice_get-get_or xs i d (omega arith);
   other = get_or xs j d;
   is_other = slice_get-get_or xs j d within;
-  same = same;
+  clash = clash;
   line_is = refl;
 })
 
@@ -71,6 +75,15 @@ not_missing : (net : Network) (e : End) → ((HasEnd net e → ⊥) → ⊥) →
 not_missing net (end.Input k) h = ⊎_elim (λ lt. lt) (λ le. absurd (h (λ lt. omega arith))) (cases_lt k net.inputs)
 not_missing net (end.Output k) h = ⊎_elim (λ lt. lt) (λ le. absurd (h (λ lt. omega arith))) (cases_lt k net.outputs)
 
+not_missed : (net : Network) (e : Ends) → ((HasEnds net e → ⊥) → ⊥) → HasEnds net e
+not_missed net (One e) h = not_missing net e h
+not_missed net Inputs h = tt
+not_missed net Outputs h = tt
+
+not_pinned_outside : (rect : Rect) (d : Demand) → ((IsPinnedInside rect d → ⊥) → ⊥) → IsPinnedInside rect d
+not_pinned_outside rect (demand.Pin pin) h = not_outside rect pin.x pin.y h
+not_pinned_outside rect (demand.Side side) h = tt
+
 -- all caps are 1, where no edge has another
 caps_of_one : (net : Network) → HasNone (HasOtherCap net) → All (λ edge. edge.cap ≡ 1) net.edges
 caps_of_one net none = λ k d lt. ⊎_elim (λ eq. eq) (λ apart. absurd (none k (get_or net.edges k d, slice_get-get_or net.edges k d lt, λ eq. ⊎_elim (λ l. omega (arith, eq, l)) (λ g. omega (arith, eq, g)) apart)))
@@ -79,20 +92,20 @@ caps_of_one net none = λ k d lt. ⊎_elim (λ eq. eq) (λ apart. absurd (none k
 module _ (r : LayoutRequest) where
   -- a request, where nothing of it is refused
   pub request_where_none : IsNetwork r.net → IsGrid r.rect → (IsTooLarge r.net → ⊥) → HasNone (HasOtherCap r.net)
-      → HasNone (IsPinRefused r.net r.rect r.pins) → HasNone (IsBlockRefused r.rect r.pins r.blocks) → IsRequest r
-  request_where_none net grid small caps pins blocks = record {
+      → HasNone (IsPinRefused r.net r.rect r.demands) → HasNone (IsBlockRefused r.rect r.demands r.blocks) → IsRequest r
+  request_where_none net grid small caps demands blocks = record {
     net = net;
     grid = grid;
     few_edges = ⊎_elim (λ lt. absurd (small (inl lt))) (λ le. le) (cases_lt MOST_REQUESTED (length r.net.edges));
     few_splitters = ⊎_elim (λ lt. absurd (small (inr lt))) (λ le. le) (cases_lt MOST_REQUESTED r.net.splitters);
     caps = caps_of_one r.net caps;
-    ends = all_good (IsOutOfPlace r.net r.rect) (λ pin. HasEnd r.net pin.end) (λ pin. pin.line) r.pins (λ pin good. not_missing r.net pin.end (λ missing. good (inl missing))) (λ line bad. pins line (inl bad));
-    pins_inside = all_good (IsOutOfPlace r.net r.rect) (λ pin. IsInside r.rect (pinned pin)) (λ pin. pin.line) r.pins (λ pin good. not_outside r.rect pin.x pin.y (λ out. good (inr out))) (λ line bad. pins line (inl bad));
-    pins_apart = all_apart (λ pin. pin.end) (λ pin. pin.line) r.pins (λ line two. pins line (inr two));
-    blocks_inside = all_good (IsInTheWay r.rect r.pins) (λ block. IsInside r.rect (blocked block)) (λ block. block.line) r.blocks (λ block good. not_outside r.rect block.x block.y (λ out. good (inl out))) (λ line bad. blocks line (inl bad));
-    blocks_apart = all_apart blocked (λ block. block.line) r.blocks (λ line two. blocks line (inr two));
-    blocks_unpinned = all_good (IsInTheWay r.rect r.pins) (λ block. All (λ pin. blocked block ≢ pinned pin) r.pins) (λ block. block.line) r.blocks
-        (λ block good k d lt same. good (inr (record { place = k; pin = get_or r.pins k d; is_pin = slice_get-get_or r.pins k d lt; same = same }))) (λ line bad. blocks line (inl bad));
+    ends = all_good (IsOutOfPlace r.net r.rect) (λ d. HasEnds r.net (ends_of d)) line_of r.demands (λ d good. not_missed r.net (ends_of d) (λ missing. good (inl missing))) (λ line bad. demands line (inl bad));
+    pins_inside = all_good (IsOutOfPlace r.net r.rect) (IsPinnedInside r.rect) line_of r.demands (λ d good. not_pinned_outside r.rect d (λ out. good (inr out))) (λ line bad. demands line (inl bad));
+    demands_apart = all_apart NameOneEnd line_of r.demands (λ line two. demands line (inr two));
+    blocks_inside = all_good (IsInTheWay r.rect r.demands) (λ block. IsInside r.rect (blocked block)) (λ block. block.line) r.blocks (λ block good. not_outside r.rect block.x block.y (λ out. good (inl out))) (λ line bad. blocks line (inl bad));
+    blocks_apart = all_apart BlockOneCell (λ block. block.line) r.blocks (λ line two. blocks line (inr two));
+    blocks_unpinned = all_good (IsInTheWay r.rect r.demands) (λ block. All (λ d. IsPinnedTo (blocked block) d → ⊥) r.demands) (λ block. block.line) r.blocks
+        (λ block good k d lt same. good (inr (record { place = k; demand = get_or r.demands k d; is_demand = slice_get-get_or r.demands k d lt; same = same }))) (λ line bad. blocks line (inl bad));
   }
 
   module _ (request : IsRequest r) where
@@ -103,28 +116,28 @@ module _ (r : LayoutRequest) where
     request_caps : HasNone (HasOtherCap r.net)
     request_caps k other = other.2 (holds_at (λ edge. edge.cap ≡ 1) r.net.edges k other.0 other.1 request.caps)
 
-    request_pins : HasNone (IsPinRefused r.net r.rect r.pins)
-    request_pins line refused = ⊎_elim
+    request_demands : HasNone (IsPinRefused r.net r.rect r.demands)
+    request_demands line refused = ⊎_elim
         (λ bad. ⊎_elim
-        (λ missing. missing (holds_at (λ pin. HasEnd r.net pin.end) r.pins bad.place bad.one bad.is_one request.ends))
-        (λ outside. outside (holds_at (λ pin. IsInside r.rect (pinned pin)) r.pins bad.place bad.one bad.is_one request.pins_inside)) bad.bad)
-        (λ two. holds_between (λ one other. one.end ≢ other.end) r.pins two.first_place two.second_place two.one two.other two.is_one two.is_other two.apart request.pins_apart two.same)
+        (λ missing. missing (holds_at (λ d. HasEnds r.net (ends_of d)) r.demands bad.place bad.one bad.is_one request.ends))
+        (λ outside. outside (holds_at (IsPinnedInside r.rect) r.demands bad.place bad.one bad.is_one request.pins_inside)) bad.bad)
+        (λ two. holds_between (λ one other. ShareEnd (ends_of one) (ends_of other) → ⊥) r.demands two.first_place two.second_place two.one two.other two.is_one two.is_other two.apart request.demands_apart two.clash)
         refused
 
-    request_blocks : HasNone (IsBlockRefused r.rect r.pins r.blocks)
+    request_blocks : HasNone (IsBlockRefused r.rect r.demands r.blocks)
     request_blocks line refused = ⊎_elim
         (λ bad. ⊎_elim
         (λ outside. outside (holds_at (λ block. IsInside r.rect (blocked block)) r.blocks bad.place bad.one bad.is_one request.blocks_inside))
-        (λ on. holds_at (λ pin. blocked bad.one ≢ pinned pin) r.pins on.place on.pin on.is_pin
-        (holds_at (λ block. All (λ pin. blocked block ≢ pinned pin) r.pins) r.blocks bad.place bad.one bad.is_one request.blocks_unpinned) on.same) bad.bad)
-        (λ two. holds_between (λ one other. blocked one ≢ blocked other) r.blocks two.first_place two.second_place two.one two.other two.is_one two.is_other two.apart request.blocks_apart two.same)
+        (λ on. holds_at (λ d. IsPinnedTo (blocked bad.one) d → ⊥) r.demands on.place on.demand on.is_demand
+        (holds_at (λ block. All (λ d. IsPinnedTo (blocked block) d → ⊥) r.demands) r.blocks bad.place bad.one bad.is_one request.blocks_unpinned) on.same) bad.bad)
+        (λ two. holds_between (λ one other. blocked one ≢ blocked other) r.blocks two.first_place two.second_place two.one two.other two.is_one two.is_other two.apart request.blocks_apart two.clash)
         refused
 
   -- what comes in a place of a request that is made
   no_fault : (f : RequestFault) → IsRequest r → IsMade r (Err f) → ⊥
   no_fault fault.TooLarge request q = request_small request q
   no_fault (fault.Cap k) request q = request_caps request k q.1.0
-  no_fault (fault.Pin line) request q = request_pins request line q.2.0
+  no_fault (fault.Pin line) request q = request_demands request line q.2.0
   no_fault (fault.Block line) request q = request_blocks request line q.3.0
 
   -- one fault is right
@@ -139,12 +152,12 @@ module _ (r : LayoutRequest) where
   one_fault (fault.Cap j) (fault.Block k) p q = absurd (q.1 j p.1.0)
   one_fault (fault.Pin j) fault.TooLarge p q = absurd (p.0 q)
   one_fault (fault.Pin j) (fault.Cap k) p q = absurd (p.1 k q.1.0)
-  one_fault (fault.Pin j) (fault.Pin k) p q = ap fault.Pin (one_least (IsPinRefused r.net r.rect r.pins) j k p.2 q.2)
+  one_fault (fault.Pin j) (fault.Pin k) p q = ap fault.Pin (one_least (IsPinRefused r.net r.rect r.demands) j k p.2 q.2)
   one_fault (fault.Pin j) (fault.Block k) p q = absurd (q.2 j p.2.0)
   one_fault (fault.Block j) fault.TooLarge p q = absurd (p.0 q)
   one_fault (fault.Block j) (fault.Cap k) p q = absurd (p.1 k q.1.0)
   one_fault (fault.Block j) (fault.Pin k) p q = absurd (p.2 k q.2.0)
-  one_fault (fault.Block j) (fault.Block k) p q = ap fault.Block (one_least (IsBlockRefused r.rect r.pins r.blocks) j k p.3 q.3)
+  one_fault (fault.Block j) (fault.Block k) p q = ap fault.Block (one_least (IsBlockRefused r.rect r.demands r.blocks) j k p.3 q.3)
 
   -- one answer is right
   pub one_made : HasOneAnswer (IsMade r)

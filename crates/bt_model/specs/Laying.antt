@@ -1,15 +1,19 @@
 -- The layouts that a request is asking for.
 use Rattle.std.specs.Prelude.{◌≡◌, ℕ, List, slice_get, Some, All, Contains, IfSome}
 use Rattle.bt_parts.specs.declared.part.Cell.{Cell}
+use Rattle.bt_parts.specs.declared.part.Dir.{Dir}
 use Rattle.bt_parts.specs.declared.part.Part.{Part}
+use Rattle.bt_parts.specs.declared.part.Rect.{Rect}
 use Rattle.bt_parts.specs.Cells.{step, opposite, IsInside}
 use Rattle.bt_parts.specs.Layouts.{HasPart, IsAt}
 use Rattle.bt_net.specs.declared.network.Block.{Block}
 use Rattle.bt_net.specs.declared.network.End.{End}
 use Rattle.bt_net.specs.declared.network.End.TheVariants.{Input, Output}
+use Rattle.bt_net.specs.declared.network.Demand.{Demand}
+use Rattle.bt_net.specs.declared.network.Demand.TheVariants as demand
 use Rattle.bt_net.specs.declared.network.Pin.{Pin}
 use Rattle.bt_model.specs.Chains.{IsInput, IsOutput}
-use Rattle.bt_model.specs.Requests.{LayoutRequest, pinned, blocked}
+use Rattle.bt_model.specs.Requests.{LayoutRequest, HasEnd, Names, pinned, blocked}
 use Rattle.bt_model.specs.Shown.{Naming, Shows}
 
 -- the parts lie in the request's rectangle, on none of its blocked cells, and have its tier; behind the first part of an input, and in front of the last part of an output, the rectangle ends
@@ -36,9 +40,33 @@ pub record KeepsPin (parts : List Part) (naming : Naming) (pin : Pin) : Type 0 w
   pub stands : part.cell ≡ pinned pin
   pub points : IfSome pin.dir (λ dir. part.dir ≡ dir)
 
--- the layout fits the request, and shows its network under a naming by which every pin is kept
+-- the cell is of the row or the column of cells at the side of the rectangle that lies in this direction
+abbrev pub IsAtSide : Rect → Dir → Cell → Type 0
+IsAtSide rect dir cell = IsInside rect cell × (IsInside rect (step dir cell) → ⊥)
+
+-- the direction of the part with which an end stands at this side: an input comes in across it, and an output leaves across it
+abbrev pub way_across : End → Dir → Dir
+way_across (Input k) dir = opposite dir
+way_across (Output k) dir = dir
+
+-- the part that bears the name of this end stands at this side, and points in across it or out across it
+pub record StandsAtSide (parts : List Part) (rect : Rect) (naming : Naming) (dir : Dir) (end : End) : Type 0 where
+  pub index : ℕ
+  pub named : IsNamed naming end index
+  pub part : Part
+  pub is_part : HasPart parts index part
+  pub stands : IsAtSide rect dir part.cell
+  pub points : part.dir ≡ way_across end dir
+
+-- the pinned end stands on its cell, or each end of the network that is named stands at its side
+abbrev pub KeepsDemand : List Part → LayoutRequest → Naming → Demand → Type 0
+KeepsDemand parts request naming (demand.Pin pin) = KeepsPin parts naming pin
+KeepsDemand parts request naming (demand.Side side) =
+    (end : End) → HasEnd request.net end → Names side.ends end → StandsAtSide parts request.rect naming side.dir end
+
+-- the layout fits the request, and shows its network under a naming by which every pin and every side is kept
 pub record Lays (parts : List Part) (request : LayoutRequest) : Type 0 where
   pub fits : Fits parts request
   pub naming : Naming
   pub shows : Shows parts request.net naming
-  pub pins : All (KeepsPin parts naming) request.pins
+  pub demands : All (KeepsDemand parts request naming) request.demands

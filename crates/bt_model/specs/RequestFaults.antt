@@ -2,14 +2,14 @@
 use Rattle.std.specs.Prelude.{◌≡◌, ◌≢◌, ℕ, ◌<◌, ◌≤◌, ◌⊎◌, max, List, length, slice_get, Some, Result, Ok, Err}
 use Rattle.bt_net.specs.declared.network.Block.{Block}
 use Rattle.bt_net.specs.declared.network.Edge.{Edge}
-use Rattle.bt_net.specs.declared.network.Pin.{Pin}
-use Rattle.bt_net.specs.Network.{Network, HasEnd}
+use Rattle.bt_net.specs.declared.network.Demand.{Demand}
+use Rattle.bt_net.specs.Network.{Network}
 use Rattle.bt_parts.specs.declared.part.Rect.{Rect}
 use Rattle.bt_parts.specs.Cells.{IsInside}
 use Rattle.bt_model.specs.declared.fault.RequestFault.{RequestFault}
 use Rattle.bt_model.specs.declared.fault.RequestFault.TheVariants as fault
 use Rattle.bt_model.specs.declared.request.TheConstants.{MOST_REQUESTED}
-use Rattle.bt_model.specs.Requests.{LayoutRequest, IsRequest, pinned, blocked}
+use Rattle.bt_model.specs.Requests.{LayoutRequest, IsRequest, HasEnds, ends_of, line_of, ShareEnd, IsPinnedTo, IsPinnedInside, blocked}
 
 -- no number has P
 abbrev pub HasNone : (ℕ → Type 0) → Type 0
@@ -35,8 +35,8 @@ pub record IsLineOfBad {X : Type 0} (IsBad : X → Type 0) (line_of : X → ℕ)
   pub bad : IsBad one
   pub line_is : line ≡ line_of one
 
--- the later line of two of these that name the same
-pub record IsLaterOfTwo {X N : Type 0} (name_of : X → N) (line_of : X → ℕ) (xs : List X) (line : ℕ) : Type 0 where
+-- the later line of two of these that clash
+pub record IsLaterOfTwo {X : Type 0} (Clash : X → X → Type 0) (line_of : X → ℕ) (xs : List X) (line : ℕ) : Type 0 where
   pub first_place : ℕ
   pub second_place : ℕ
   pub apart : first_place < second_place
@@ -44,33 +44,40 @@ pub record IsLaterOfTwo {X N : Type 0} (name_of : X → N) (line_of : X → ℕ)
   pub is_one : slice_get xs first_place ≡ Some one
   pub other : X
   pub is_other : slice_get xs second_place ≡ Some other
-  pub same : name_of one ≡ name_of other
+  pub clash : Clash one other
   pub line_is : line ≡ max (line_of one) (line_of other)
 
--- the pin names an end that the network doesn't have, or a cell outside the rectangle
-abbrev pub IsOutOfPlace : Network → Rect → Pin → Type 0
-IsOutOfPlace net rect pin = (HasEnd net pin.end → ⊥) ⊎ (IsInside rect (pinned pin) → ⊥)
+-- it names an end that the network doesn't have, or a cell outside the rectangle
+abbrev pub IsOutOfPlace : Network → Rect → Demand → Type 0
+IsOutOfPlace net rect d = (HasEnds net (ends_of d) → ⊥) ⊎ (IsPinnedInside rect d → ⊥)
 
--- the line of a pin that no request has: one that is out of place, or the later one of two pins of one end
-abbrev pub IsPinRefused : Network → Rect → List Pin → ℕ → Type 0
-IsPinRefused net rect pins line = IsLineOfBad (IsOutOfPlace net rect) (λ pin. pin.line) pins line
-    ⊎ IsLaterOfTwo (λ pin. pin.end) (λ pin. pin.line) pins line
+-- both name some end
+abbrev pub NameOneEnd : Demand → Demand → Type 0
+NameOneEnd one other = ShareEnd (ends_of one) (ends_of other)
+
+-- the line of a pin or a side that no request has: one that is out of place, or the later one of two that name some end
+abbrev pub IsPinRefused : Network → Rect → List Demand → ℕ → Type 0
+IsPinRefused net rect demands line = IsLineOfBad (IsOutOfPlace net rect) line_of demands line ⊎ IsLaterOfTwo NameOneEnd line_of demands line
 
 -- one of the pins names the cell that the block names
-pub record IsPinned (pins : List Pin) (block : Block) : Type 0 where
+pub record IsPinned (demands : List Demand) (block : Block) : Type 0 where
   pub place : ℕ
-  pub pin : Pin
-  pub is_pin : slice_get pins place ≡ Some pin
-  pub same : blocked block ≡ pinned pin
+  pub demand : Demand
+  pub is_demand : slice_get demands place ≡ Some demand
+  pub same : IsPinnedTo (blocked block) demand
 
 -- the block names a cell outside the rectangle, or that of a pin
-abbrev pub IsInTheWay : Rect → List Pin → Block → Type 0
-IsInTheWay rect pins block = (IsInside rect (blocked block) → ⊥) ⊎ IsPinned pins block
+abbrev pub IsInTheWay : Rect → List Demand → Block → Type 0
+IsInTheWay rect demands block = (IsInside rect (blocked block) → ⊥) ⊎ IsPinned demands block
+
+-- both name one cell
+abbrev pub BlockOneCell : Block → Block → Type 0
+BlockOneCell one other = blocked one ≡ blocked other
 
 -- the line of a block that no request has: one that is in the way, or the later one of two blocks of one cell
-abbrev pub IsBlockRefused : Rect → List Pin → List Block → ℕ → Type 0
-IsBlockRefused rect pins blocks line = IsLineOfBad (IsInTheWay rect pins) (λ block. block.line) blocks line
-    ⊎ IsLaterOfTwo blocked (λ block. block.line) blocks line
+abbrev pub IsBlockRefused : Rect → List Demand → List Block → ℕ → Type 0
+IsBlockRefused rect demands blocks line = IsLineOfBad (IsInTheWay rect demands) (λ block. block.line) blocks line
+    ⊎ IsLaterOfTwo BlockOneCell (λ block. block.line) blocks line
 
 -- what comes of making a request for these: that request, or why there is none; the faults in their order
 abbrev pub IsMade : LayoutRequest → Result LayoutRequest RequestFault → Type 0
@@ -78,6 +85,6 @@ IsMade request (Ok made) = (made ≡ request) × IsRequest made
 IsMade request (Err fault.TooLarge) = IsTooLarge request.net
 IsMade request (Err (fault.Cap edge)) = (IsTooLarge request.net → ⊥) × IsLeast (HasOtherCap request.net) edge
 IsMade request (Err (fault.Pin line)) = (IsTooLarge request.net → ⊥) × HasNone (HasOtherCap request.net)
-    × IsLeast (IsPinRefused request.net request.rect request.pins) line
+    × IsLeast (IsPinRefused request.net request.rect request.demands) line
 IsMade request (Err (fault.Block line)) = (IsTooLarge request.net → ⊥) × HasNone (HasOtherCap request.net)
-    × HasNone (IsPinRefused request.net request.rect request.pins) × IsLeast (IsBlockRefused request.rect request.pins request.blocks) line
+    × HasNone (IsPinRefused request.net request.rect request.demands) × IsLeast (IsBlockRefused request.rect request.demands request.blocks) line

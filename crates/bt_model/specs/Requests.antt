@@ -1,26 +1,33 @@
--- What a layout is asked for: a network in a rectangle, with pinned ends and blocked cells.
+-- What a layout is asked for: a network in a rectangle, whose ends may have to stand on cells or at sides, and blocked cells.
 use Rattle.std.specs.Prelude.{◌≡◌, ◌≢◌, ℕ, ◌≤◌, pos, List, length, All, AllPairs}
 use Rattle.bt_parts.specs.declared.part.Cell.{Cell}
 use Rattle.bt_parts.specs.declared.part.Rect.{Rect}
 use Rattle.bt_parts.specs.declared.part.Tier.{Tier}
 use Rattle.bt_parts.specs.Cells.{IsInside}
 use Rattle.bt_net.specs.declared.network.Block.{Block}
+use Rattle.bt_net.specs.declared.network.Demand.{Demand}
+use Rattle.bt_net.specs.declared.network.Demand.TheVariants as demand
+use Rattle.bt_net.specs.declared.network.End.{End}
+use Rattle.bt_net.specs.declared.network.End.TheVariants.{Input, Output}
+use Rattle.bt_net.specs.declared.network.Ends.{Ends}
+use Rattle.bt_net.specs.declared.network.Ends.TheVariants.{One, Inputs, Outputs}
 use Rattle.bt_net.specs.declared.network.Pin.{Pin}
 use Rattle.bt_net.specs.Network.{Network, IsNetwork}
 pub use Rattle.bt_net.specs.Network.{HasEnd}
+pub use Rattle.bt_net.specs.PinText.{HasEnds}
 use Rattle.bt_model.specs.declared.request.TheConstants.{MOST_ACROSS, MOST_REQUESTED}
 
--- the network to be shown, the rectangle in which the parts are to lie, their tier, the cells on which ends are to stand, and those on which no part is to stand
+-- the network to be shown, the rectangle in which the parts are to lie, their tier, where ends are to stand, and the cells on which no part is to stand
 pub record LayoutRequest : Type 0 where
   pub net : Network
   pub rect : Rect
   pub tier : Tier
-  pub pins : List Pin
+  pub demands : List Demand
   pub blocks : List Block
 
 -- the request for these
-abbrev pub request_of : Network → Rect → Tier → List Pin → List Block → LayoutRequest
-request_of net rect tier pins blocks = record { net = net; rect = rect; tier = tier; pins = pins; blocks = blocks }
+abbrev pub request_of : Network → Rect → Tier → List Demand → List Block → LayoutRequest
+request_of net rect tier demands blocks = record { net = net; rect = rect; tier = tier; demands = demands; blocks = blocks }
 
 -- the cell so many tiles to the east and to the south of the rectangle's first one
 abbrev pub cell_at : ℕ → ℕ → Cell
@@ -34,6 +41,37 @@ pinned pin = cell_at pin.x pin.y
 abbrev pub blocked : Block → Cell
 blocked block = cell_at block.x block.y
 
+-- the ends of which a line says where they are to stand, and the number of that line
+abbrev pub ends_of : Demand → Ends
+ends_of (demand.Pin pin) = One pin.end
+ends_of (demand.Side side) = side.ends
+
+abbrev pub line_of : Demand → ℕ
+line_of (demand.Pin pin) = pin.line
+line_of (demand.Side side) = side.line
+
+-- the end is one of those that are named
+abbrev pub Names : Ends → End → Type 0
+Names (One one) end = end ≡ one
+Names Inputs (Input k) = Unit {0}
+Names Inputs (Output k) = ⊥
+Names Outputs (Input k) = ⊥
+Names Outputs (Output k) = Unit {0}
+
+-- some end is named by both
+abbrev pub ShareEnd : Ends → Ends → Type 0
+ShareEnd one other = (end : End) × Names one end × Names other end
+
+-- it names a cell, which is this one
+abbrev pub IsPinnedTo : Cell → Demand → Type 0
+IsPinnedTo cell (demand.Pin pin) = cell ≡ pinned pin
+IsPinnedTo cell (demand.Side side) = ⊥
+
+-- a cell that it names lies in the rectangle
+abbrev pub IsPinnedInside : Rect → Demand → Type 0
+IsPinnedInside rect (demand.Pin pin) = IsInside rect (pinned pin)
+IsPinnedInside rect (demand.Side side) = Unit {0}
+
 -- from 1 to `MOST_ACROSS` cells each way
 pub record IsGrid (rect : Rect) : Type 0 where
   pub some_width : 1 ≤ rect.width
@@ -41,16 +79,16 @@ pub record IsGrid (rect : Rect) : Type 0 where
   pub some_height : 1 ≤ rect.height
   pub few_down : rect.height ≤ MOST_ACROSS
 
--- a request: a network of at most `MOST_REQUESTED` edges and splitters and with caps of 1; pins of its ends, at most one of each, on cells of the rectangle; and blocks of cells of the rectangle, at most one of each and none of a pinned cell
+-- a request: a network of at most `MOST_REQUESTED` edges and splitters and with caps of 1; pins and sides of its ends, of each end at most one; pins on cells of the rectangle; and blocks of cells of the rectangle, at most one of each and none of a pinned cell
 pub record IsRequest (request : LayoutRequest) : Type 0 where
   pub net : IsNetwork request.net
   pub grid : IsGrid request.rect
   pub few_edges : length request.net.edges ≤ MOST_REQUESTED
   pub few_splitters : request.net.splitters ≤ MOST_REQUESTED
   pub caps : All (λ edge. edge.cap ≡ 1) request.net.edges
-  pub ends : All (λ pin. HasEnd request.net pin.end) request.pins
-  pub pins_inside : All (λ pin. IsInside request.rect (pinned pin)) request.pins
-  pub pins_apart : AllPairs (λ one other. one.end ≢ other.end) request.pins
+  pub ends : All (λ d. HasEnds request.net (ends_of d)) request.demands
+  pub pins_inside : All (IsPinnedInside request.rect) request.demands
+  pub demands_apart : AllPairs (λ one other. ShareEnd (ends_of one) (ends_of other) → ⊥) request.demands
   pub blocks_inside : All (λ block. IsInside request.rect (blocked block)) request.blocks
   pub blocks_apart : AllPairs (λ one other. blocked one ≢ blocked other) request.blocks
-  pub blocks_unpinned : All (λ block. All (λ pin. blocked block ≢ pinned pin) request.pins) request.blocks
+  pub blocks_unpinned : All (λ block. All (λ d. IsPinnedTo (blocked block) d → ⊥) request.demands) request.blocks

@@ -2,6 +2,7 @@
 //! that it meets.
 #![tactic(auto)]
 
+mod demanding;
 mod fault;
 mod giving;
 mod laws;
@@ -10,6 +11,7 @@ mod refusing;
 mod request;
 mod ringing;
 
+pub use demanding::{ends_of, names};
 pub use fault::RequestFault;
 pub use giving::{hands, pair};
 pub use laws::{limits_are, numbered_shows, one_network};

@@ -1,17 +1,19 @@
-//! Finding the edge, the pin and the block that a request can't have.
+//! Finding the edge, the pin or side and the block that a request can't have.
 //!
-//! A pin and a block are looked at beside those before them in the list, and only while their line may
+//! A pin, a side and a block are looked at beside those before them in the list, and only while their line may
 //! still be the least refused one. So where lines ascend, as those of a text do, the time is linear: among
-//! pins that are not refused there is at most one of each end, and among such blocks one of each cell.
+//! pins and sides that are not refused there is at most one of each end, and among such blocks one of each
+//! cell.
 ghost use Rattle.std.specs.Prelude.{◌≡◌, ◌↔◌, ℕ, ◌<◌, ◌≤◌, length, max, Some, IsTrue};
 ghost use Rattle.bt_parts.specs.Cells.{IsInside};
 ghost use Rattle.bt_net.specs.Network.{HasEnd};
-ghost use Rattle.bt_model.specs.Requests.{cell_at, blocked};
-ghost use Rattle.bt_model.specs.RequestFaults.{HasOtherCap, IsOutOfPlace, IsPinned, IsInTheWay};
-ghost use Rattle.bt_model.specs.RequestFaults.{IsPinRefused, IsBlockRefused};
+ghost use Rattle.bt_model.specs.Requests.{cell_at, HasEnds, IsPinnedInside, IsPinnedTo, blocked, line_of as line_is};
+ghost use Rattle.bt_model.specs.RequestFaults.{HasOtherCap, IsOutOfPlace, NameOneEnd, IsPinned, IsInTheWay};
+ghost use Rattle.bt_model.specs.RequestFaults.{BlockOneCell, IsPinRefused, IsBlockRefused};
 ghost use Rattle.bt_model.specs.inner.Least.{IsLeastIfAny, lesser, MayPrecede, IsRefusedHere};
 
-use bt_net::{Block, End, Net, Pin};
+use crate::demanding::{ends_of, line_of, share_end};
+use bt_net::{Block, Demand, End, Ends, Net};
 use bt_parts::Rect;
 
 /// The first edge with another cap than 1.
@@ -27,59 +29,72 @@ pub(crate) fn other_cap(net: &Net) -> Option<usize>
     None
 }
 
-/// The least line of a pin that is refused.
-pub(crate) fn refused_pin(net: &Net, rect: Rect, pins: &[Pin]) -> Option<usize>
-    ensures { IsLeastIfAny (IsPinRefused net.now rect pins.now) result }
+/// The least line of a pin or a side that is refused.
+pub(crate) fn refused_demand(net: &Net, rect: Rect, demands: &[Demand]) -> Option<usize>
+    ensures { IsLeastIfAny (IsPinRefused net.now rect demands.now) result }
 {
     let mut least = None;
-    for k in 0..pins.len() {
-        if may_precede(pins[k].line, least) {
-            least = earlier(least, line_refused_by_pin(net, rect, pins, k));
+    for k in 0..demands.len() {
+        if may_precede(line_of(demands[k]), least) {
+            least = earlier(least, line_refused_by_demand(net, rect, demands, k));
         }
     }
     least
 }
 
 /// The least line of a block that is refused, beside these pins.
-pub(crate) fn refused_block(rect: Rect, pins: &[Pin], blocks: &[Block]) -> Option<usize>
-    ensures { IsLeastIfAny (IsBlockRefused rect pins.now blocks.now) result }
+pub(crate) fn refused_block(rect: Rect, demands: &[Demand], blocks: &[Block]) -> Option<usize>
+    ensures { IsLeastIfAny (IsBlockRefused rect demands.now blocks.now) result }
 {
     let mut least = None;
     for k in 0..blocks.len() {
         if may_precede(blocks[k].line, least) {
-            least = earlier(least, line_refused_by_block(rect, pins, blocks, k));
+            least = earlier(least, line_refused_by_block(rect, demands, blocks, k));
         }
     }
     least
 }
 
-/// The line that is refused for the pin at this place, seen beside those before it.
-fn line_refused_by_pin(net: &Net, rect: Rect, pins: &[Pin], k: usize) -> Option<usize>
-    requires { k < length pins.now }
+/// The line that is refused for the pin or side at this place, seen beside those before it.
+fn line_refused_by_demand(net: &Net, rect: Rect, demands: &[Demand], k: usize) -> Option<usize>
+    requires { k < length demands.now }
     ensures { IsLeastIfAny
-        (IsRefusedHere (IsOutOfPlace net.now rect) (λ pin. pin.end) (λ pin. pin.line) pins.now k) result }
+        (IsRefusedHere (IsOutOfPlace net.now rect) NameOneEnd line_is demands.now k) result }
 {
-    let pin = pins[k];
-    if is_out_of_place(net, rect, pin) {
-        return Some(pin.line);
+    let demand = demands[k];
+    let line = line_of(demand);
+    if is_out_of_place(net, rect, demand) {
+        return Some(line);
     }
     let mut least = None;
     for j in 0..k {
-        if is_same_end(pins[j].end, pin.end) {
-            least = earlier(least, Some(later(pins[j].line, pin.line)));
+        if name_one_end(demands[j], demand) {
+            least = earlier(least, Some(later(line_of(demands[j]), line)));
         }
     }
     least
 }
 
+/// Whether both name some end.
+fn name_one_end(one: Demand, other: Demand) -> bool
+    ensures { IsTrue result ↔ NameOneEnd one other }
+{
+    share_end(ends_of(one), ends_of(other))
+}
+
 /// The line that is refused for the block at this place, seen beside the pins and the blocks before it.
-fn line_refused_by_block(rect: Rect, pins: &[Pin], blocks: &[Block], k: usize) -> Option<usize>
+fn line_refused_by_block(
+    rect: Rect,
+    demands: &[Demand],
+    blocks: &[Block],
+    k: usize,
+) -> Option<usize>
     requires { k < length blocks.now }
     ensures { IsLeastIfAny
-        (IsRefusedHere (IsInTheWay rect pins.now) blocked (λ block. block.line) blocks.now k) result }
+        (IsRefusedHere (IsInTheWay rect demands.now) BlockOneCell (λ block. block.line) blocks.now k) result }
 {
     let block = blocks[k];
-    if is_in_the_way(rect, pins, block) {
+    if is_in_the_way(rect, demands, block) {
         return Some(block.line);
     }
     let mut least = None;
@@ -91,11 +106,31 @@ fn line_refused_by_block(rect: Rect, pins: &[Pin], blocks: &[Block], k: usize) -
     least
 }
 
-/// Whether the pin names an end that the network doesn't have, or a cell outside the rectangle.
-fn is_out_of_place(net: &Net, rect: Rect, pin: Pin) -> bool
-    ensures { IsTrue result ↔ IsOutOfPlace net.now rect pin }
+/// Whether the line names an end that the network doesn't have, or a cell outside the rectangle.
+fn is_out_of_place(net: &Net, rect: Rect, demand: Demand) -> bool
+    ensures { IsTrue result ↔ IsOutOfPlace net.now rect demand }
 {
-    !has_end(net, pin.end) || !is_inside(rect, pin.x, pin.y)
+    !has_ends(net, ends_of(demand)) || !is_pinned_inside(rect, demand)
+}
+
+/// Whether a cell that is named lies in the rectangle.
+fn is_pinned_inside(rect: Rect, demand: Demand) -> bool
+    ensures { IsTrue result ↔ IsPinnedInside rect demand }
+{
+    match demand {
+        Demand::Pin(pin) => is_inside(rect, pin.x, pin.y),
+        Demand::Side(_) => true,
+    }
+}
+
+/// Whether the network has the ends that are named.
+fn has_ends(net: &Net, ends: Ends) -> bool
+    ensures { IsTrue result ↔ HasEnds net.now ends }
+{
+    match ends {
+        Ends::One(end) => has_end(net, end),
+        Ends::Inputs | Ends::Outputs => true,
+    }
 }
 
 /// Whether the network has this end.
@@ -116,34 +151,37 @@ fn is_inside(rect: Rect, x: u32, y: u32) -> bool
 }
 
 /// Whether the block names a cell outside the rectangle, or that of a pin.
-fn is_in_the_way(rect: Rect, pins: &[Pin], block: Block) -> bool
-    ensures { IsTrue result ↔ IsInTheWay rect pins.now block }
+fn is_in_the_way(rect: Rect, demands: &[Demand], block: Block) -> bool
+    ensures { IsTrue result ↔ IsInTheWay rect demands.now block }
 {
-    !is_inside(rect, block.x, block.y) || is_pinned(pins, block)
+    !is_inside(rect, block.x, block.y) || is_pinned(demands, block)
 }
 
 /// Whether the block names the cell of a pin.
-fn is_pinned(pins: &[Pin], block: Block) -> bool
-    ensures { IsTrue result ↔ IsPinned pins.now block }
+fn is_pinned(demands: &[Demand], block: Block) -> bool
+    ensures { IsTrue result ↔ IsPinned demands.now block }
 {
-    for pin in pins {
-        if pin.x == block.x && pin.y == block.y {
+    for demand in demands {
+        if is_pinned_to(*demand, block) {
             return true;
         }
     }
     false
 }
 
-/// Whether the two are the same end.
-fn is_same_end(one: End, other: End) -> bool
-    ensures { IsTrue result ↔ (one ≡ other) }
+/// Whether the line names the cell of the block.
+fn is_pinned_to(demand: Demand, block: Block) -> bool
+    ensures { IsTrue result ↔ IsPinnedTo (blocked block) demand }
 {
-    one == other
+    match demand {
+        Demand::Pin(pin) => pin.x == block.x && pin.y == block.y,
+        Demand::Side(_) => false,
+    }
 }
 
 /// Whether the two blocks name the same cell.
 fn is_same_cell(one: Block, other: Block) -> bool
-    ensures { IsTrue result ↔ (blocked one ≡ blocked other) }
+    ensures { IsTrue result ↔ BlockOneCell one other }
 {
     one.x == other.x && one.y == other.y
 }

@@ -3,8 +3,8 @@ ghost use Rattle.std.specs.Prelude.{◌≡◌};
 ghost use Rattle.bt_answers.specs.Answers.{AnswersAlways};
 
 use crate::fault::RequestFault;
-use crate::refusing::{other_cap, refused_block, refused_pin};
-use bt_net::{Block, Net, Pin};
+use crate::refusing::{other_cap, refused_block, refused_demand};
+use bt_net::{Block, Demand, Net};
 use bt_parts::{Rect, Tier};
 use std::marker::Model;
 
@@ -15,18 +15,18 @@ pub const MOST_ACROSS: u32 = 16;
 pub const MOST_REQUESTED: usize = 128;
 
 /// What a layout is asked for: a network, the rectangle with the corner (0, 0) in which its parts are to
-/// lie, their tier, the cells on which ends of the network are to stand, and the cells on which no part
-/// is to stand.
+/// lie, their tier, the cells on which ends of the network are to stand or the sides at which they are, and
+/// the cells on which no part is to stand.
 ///
 /// The network has at most `MOST_REQUESTED` edges and splitters, and every cap is 1. The rectangle has
-/// from 1 to `MOST_ACROSS` cells each way, and pins and blocks name cells of it. No two pins name one end,
-/// no two blocks one cell, and no block names a pinned cell.
+/// from 1 to `MOST_ACROSS` cells each way, and pins, sides and blocks name cells of it. No two pins or sides name
+/// one end, no two blocks one cell, and no block names a pinned cell.
 #[derive(Drop)]
 pub struct Request {
     net: Net,
     rect: Rect,
     tier: Tier,
-    pins: Vec<Pin>,
+    demands: Vec<Demand>,
     blocks: Vec<Block>,
 }
 
@@ -35,9 +35,9 @@ impl Model for Request {
 
     ghost Value = { LayoutRequest };
 
-    ghost view = { λ r. request_of r.net r.rect r.tier r.pins.items r.blocks.items };
+    ghost view = { λ r. request_of r.net r.rect r.tier r.demands.items r.blocks.items };
 
-    ghost invariant = { λ r. IsRequest (request_of r.net r.rect r.tier r.pins.items r.blocks.items) };
+    ghost invariant = { λ r. IsRequest (request_of r.net r.rect r.tier r.demands.items r.blocks.items) };
 }
 
 impl Request {
@@ -50,11 +50,11 @@ impl Request {
         net: Net,
         rect: Rect,
         tier: Tier,
-        pins: Vec<Pin>,
+        demands: Vec<Demand>,
         blocks: Vec<Block>,
     ) -> Result<Request, RequestFault>
         requires { IsGrid rect }
-        ensures { AnswersAlways (IsMade (request_of net rect tier pins.items blocks.items)) result }
+        ensures { AnswersAlways (IsMade (request_of net rect tier demands.items blocks.items)) result }
     {
         if net.edges().len() > MOST_REQUESTED || net.splitters() as usize > MOST_REQUESTED {
             return Err(RequestFault::TooLarge);
@@ -62,17 +62,17 @@ impl Request {
         if let Some(edge) = other_cap(&net) {
             return Err(RequestFault::Cap(edge));
         }
-        if let Some(line) = refused_pin(&net, rect, &pins) {
+        if let Some(line) = refused_demand(&net, rect, &demands) {
             return Err(RequestFault::Pin(line));
         }
-        if let Some(line) = refused_block(rect, &pins, &blocks) {
+        if let Some(line) = refused_block(rect, &demands, &blocks) {
             return Err(RequestFault::Block(line));
         }
         Ok(Request {
             net,
             rect,
             tier,
-            pins,
+            demands,
             blocks,
         })
     }
@@ -100,11 +100,11 @@ impl Request {
         self.tier
     }
 
-    /// The cells on which ends are to stand.
-    pub fn pins(&self) -> &[Pin]
-        ensures { result.now ≡ self.now.pins }
+    /// Where ends are to stand.
+    pub fn demands(&self) -> &[Demand]
+        ensures { result.now ≡ self.now.demands }
     {
-        &self.pins
+        &self.demands
     }
 
     /// The cells on which no part is to stand.

@@ -220,7 +220,7 @@ fn known_of(alloc: Global, request: &Request) -> Result<RequestTraits, AllocErro
             1
         },
         is_free,
-        is_unpinned: request.pins().is_empty(),
+        is_unpinned: request.demands().is_empty(),
     })
 }
 

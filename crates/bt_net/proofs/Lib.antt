@@ -5,6 +5,7 @@ pub mod Refusing
 pub mod Spelling
 pub mod Tallying
 pub mod PinSpelling
+pub mod SideSpelling
 pub mod ItemLines
 pub mod Bodies
 pub mod OneReading

@@ -8,18 +8,19 @@ use Rattle.bt_text.specs.Lines.{SplitsAt, line, line_feeds, IsFirstLine, BeginsW
 use Rattle.bt_text.proofs.Longer.{IsWhole, IsLineRead, rest_whole, line_read, split-longer, split_whole, lines_read, split_feeds, lines_feeds}
 use Rattle.bt_net.specs.declared.fault.NetFault.{NetFault}
 use Rattle.bt_net.specs.declared.fault.NetFault.TheVariants.{NetLine, TooLarge, NoEnds, Memory}
+use Rattle.bt_net.specs.declared.network.Admitted.{Admitted}
 use Rattle.bt_net.specs.declared.network.Block.{Block}
 use Rattle.bt_net.specs.declared.network.Edge.{Edge}
-use Rattle.bt_net.specs.declared.network.Pin.{Pin}
+use Rattle.bt_net.specs.declared.network.Demand.{Demand}
 use Rattle.bt_net.specs.Network.{Network}
 use Rattle.bt_net.specs.NetText.{header, IsEdgeLine}
-use Rattle.bt_net.specs.PinText.{IsPinLine, IsBlockLine}
+use Rattle.bt_net.specs.PinText.{IsDemandHere, IsBlockHere}
 use Rattle.bt_net.specs.Refusals.{BeginsWithEdges}
 use Rattle.bt_net.specs.PinRefusals.{LineRefusedAfter, BeginsWithItems, GoesOnAfter, BodyRefused}
 use Rattle.bt_net.specs.Wiring.{HasSmallSizes, IsPartlyWired}
 use Rattle.bt_net.specs.Readings.{Reading, StandsPlain, StandsAtFront, IsNetRead, IsPlainRead}
 use Rattle.bt_net.specs.Longer.{with_line_feed, Stays, StaysRefused}
-use Rattle.bt_net.proofs.Bodies.{pin-some, block-some}
+use Rattle.bt_net.proofs.SideSpelling.{demand_here-some, block_here-some}
 use Rattle.bt_net.proofs.NetLines.{edges_fit, edges-lack, edge-some}
 use Rattle.bt_net.proofs.EdgeLines.{edges-some}
 use Rattle.bt_net.proofs.PrioritySpelling.{priority-some}
@@ -51,10 +52,6 @@ module _ (bytes : List ℕ) (read : Reading) where
   abbrev plain_front : StandsPlain bytes read → List ℕ
   plain_front plain = flat_map line (header read.net ∷ plain.begins.edge_lines ++ (plain.begins.priority_lines ++ codes "end" ∷ []))
 
-  -- and the same with lines of pins and blocks
-  abbrev front : StandsAtFront bytes read → List ℕ
-  front stands = flat_map line (header read.net ∷ stands.begins.edge_lines ++ (stands.begins.pin_lines ++ (stands.begins.block_lines ++ codes "end" ∷ [])))
-
   -- the lines of a network stand at the front of longer bytes
   plain_stays_on : (plain : StandsPlain bytes read) → bytes ≡ plain_front plain ++ drop read.used bytes
       → (more : List ℕ) → StandsPlain (bytes ++ more) read
@@ -70,7 +67,7 @@ module _ (bytes : List ℕ) (read : Reading) where
       begins = inl (lines_stay bytes more (plain_front plain) read.used plain.used e);
     };
     used = omega (arith, plain.used, length-append bytes more);
-    pins = plain.pins;
+    demands = plain.demands;
     blocks = plain.blocks;
     lines = plain.lines;
   }
@@ -89,7 +86,7 @@ module _ (bytes : List ℕ) (read : Reading) where
       begins = inl (lines_fed bytes more (plain_front plain) read.used all e);
     };
     used = omega (arith, all, length-append bytes (10 ∷ more));
-    pins = plain.pins;
+    demands = plain.demands;
     blocks = plain.blocks;
     lines = plain.lines;
   }
@@ -99,17 +96,22 @@ module _ (bytes : List ℕ) (read : Reading) where
   plain_begins plain (inl e) = inl (plain_stays_on plain e)
   plain_begins plain (inr (e, none)) = let all = used_all bytes read.used plain.used none in inr (all, plain_is_fed plain all e)
 
-  stays_on : (stands : StandsAtFront bytes read)
+module _ (may : Admitted) (bytes : List ℕ) (read : Reading) where
+  -- and the same with lines of pins, sides and blocks
+  abbrev front : StandsAtFront may bytes read → List ℕ
+  front stands = flat_map line (header read.net ∷ stands.begins.edge_lines ++ (stands.begins.demand_lines ++ (stands.begins.block_lines ++ codes "end" ∷ [])))
+
+  stays_on : (stands : StandsAtFront may bytes read)
       → bytes ≡ front stands ++ drop read.used bytes
-      → (more : List ℕ) → StandsAtFront (bytes ++ more) read
+      → (more : List ℕ) → StandsAtFront may (bytes ++ more) read
   stays_on stands e more = record {
     network = stands.network;
     begins = record {
       plain = stands.begins.plain;
       edge_lines = stands.begins.edge_lines;
       are_edges = stands.begins.are_edges;
-      pin_lines = stands.begins.pin_lines;
-      are_pins = stands.begins.are_pins;
+      demand_lines = stands.begins.demand_lines;
+      are_demands = stands.begins.are_demands;
       block_lines = stands.begins.block_lines;
       are_blocks = stands.begins.are_blocks;
       begins = inl (lines_stay bytes more (front stands) read.used stands.used e);
@@ -118,17 +120,17 @@ module _ (bytes : List ℕ) (read : Reading) where
     lines = stands.lines;
   }
 
-  is_fed : (stands : StandsAtFront bytes read) → read.used ≡ length bytes
+  is_fed : (stands : StandsAtFront may bytes read) → read.used ≡ length bytes
       → line bytes ≡ front stands
-      → (more : List ℕ) → StandsAtFront (bytes ++ 10 ∷ more) (with_line_feed read)
+      → (more : List ℕ) → StandsAtFront may (bytes ++ 10 ∷ more) (with_line_feed read)
   is_fed stands all e more = record {
     network = stands.network;
     begins = record {
       plain = stands.begins.plain;
       edge_lines = stands.begins.edge_lines;
       are_edges = stands.begins.are_edges;
-      pin_lines = stands.begins.pin_lines;
-      are_pins = stands.begins.are_pins;
+      demand_lines = stands.begins.demand_lines;
+      are_demands = stands.begins.are_demands;
       block_lines = stands.begins.block_lines;
       are_blocks = stands.begins.are_blocks;
       begins = inl (lines_fed bytes more (front stands) read.used all e);
@@ -137,19 +139,19 @@ module _ (bytes : List ℕ) (read : Reading) where
     lines = stands.lines;
   }
 
-  all_begins : (stands : StandsAtFront bytes read)
-      → BeginsWithLines bytes (header read.net ∷ stands.begins.edge_lines ++ (stands.begins.pin_lines ++ (stands.begins.block_lines ++ codes "end" ∷ []))) (drop read.used bytes)
-      → ((more : List ℕ) → StandsAtFront (bytes ++ more) read) ⊎ ((read.used ≡ length bytes) × ((more : List ℕ) → StandsAtFront (bytes ++ 10 ∷ more) (with_line_feed read)))
+  all_begins : (stands : StandsAtFront may bytes read)
+      → BeginsWithLines bytes (header read.net ∷ stands.begins.edge_lines ++ (stands.begins.demand_lines ++ (stands.begins.block_lines ++ codes "end" ∷ []))) (drop read.used bytes)
+      → ((more : List ℕ) → StandsAtFront may (bytes ++ more) read) ⊎ ((read.used ≡ length bytes) × ((more : List ℕ) → StandsAtFront may (bytes ++ 10 ∷ more) (with_line_feed read)))
   all_begins stands (inl e) = inl (stays_on stands e)
   all_begins stands (inr (e, none)) = let all = used_all bytes read.used stands.used none in inr (all, is_fed stands all e)
 
--- what was read where pins and blocks may not stand
+-- what was read where pins, sides and blocks may not stand
 pub plain_stays : Stays IsPlainRead
 plain_stays bytes read plain = plain_begins bytes read plain plain.begins.begins
 
 -- and where they may
-pub reading_stays : Stays IsNetRead
-reading_stays bytes read stands = all_begins bytes read stands stands.begins.begins
+pub reading_stays : (may : Admitted) → Stays (IsNetRead may)
+reading_stays may bytes read stands = all_begins may bytes read stands stands.begins.begins
 
 -- ---- refusals
 
@@ -239,18 +241,18 @@ module _ (n : Network) (text more : List ℕ) (f : NetFault) (small : HasSmallSi
       let items = items_read (IsPriorityLine n) (priority-some n) (length n.edges + 2) on.after_edges on.after_priorities b.priorities edges.whole on.priority_lines in
       plain_refused_by b on edges items (line_read on.after_priorities b.bytes b.after items.whole on.next)
 
-next_refused_after : (n : Network) (pins : List Pin) (blocks : List Block) (number : ℕ) (f : NetFault) → LineRefusedAfter n pins blocks number [] f → f ≡ NetLine number
-next_refused_after n pins blocks number (NetLine k) refused = ap NetLine refused.1
-next_refused_after n pins blocks number TooLarge refused = absurd (omega (arith, edge-some [] refused.2.0 refused.2.1))
-next_refused_after n pins blocks number NoEnds refused = cc (refused.0)
-next_refused_after n pins blocks number Memory refused = absurd refused
+next_refused_after : (may : Admitted) (n : Network) (demands : List Demand) (blocks : List Block) (number : ℕ) (f : NetFault) → LineRefusedAfter may n demands blocks number [] f → f ≡ NetLine number
+next_refused_after may n demands blocks number (NetLine k) refused = ap NetLine refused.1
+next_refused_after may n demands blocks number TooLarge refused = absurd (omega (arith, edge-some [] refused.2.0 refused.2.1))
+next_refused_after may n demands blocks number NoEnds refused = cc (refused.0)
+next_refused_after may n demands blocks number Memory refused = absurd refused
 
-module _ (n : Network) (text more : List ℕ) (f : NetFault) (small : HasSmallSizes n) (whole : IsWhole text) (other : f ≢ NetLine (line_feeds text + 2)) where
-  body_refused_by : (b : BodyRefused n text f) (on : GoesOnAfter n b.pins b.blocks text b.bytes b.after) → EdgesRead n text on.after_edges
-      → ItemsRead (IsPinLine n) (length n.edges + 2) on.after_edges on.after_pins b.pins
-      → ItemsRead IsBlockLine (length n.edges + length b.pins + 2) on.after_pins on.after_blocks b.blocks → IsLineRead on.after_blocks b.bytes b.after → BodyRefused n (text ++ more) f
-  body_refused_by b on edges pins blocks (inl split) = record {
-    pins = b.pins;
+module _ (may : Admitted) (n : Network) (text more : List ℕ) (f : NetFault) (small : HasSmallSizes n) (whole : IsWhole text) (other : f ≢ NetLine (line_feeds text + 2)) where
+  body_refused_by : (b : BodyRefused may n text f) (on : GoesOnAfter may n b.demands b.blocks text b.bytes b.after) → EdgesRead n text on.after_edges
+      → ItemsRead (IsDemandHere may n) (length n.edges + 2) on.after_edges on.after_demands b.demands
+      → ItemsRead (IsBlockHere may) (length n.edges + length b.demands + 2) on.after_demands on.after_blocks b.blocks → IsLineRead on.after_blocks b.bytes b.after → BodyRefused may n (text ++ more) f
+  body_refused_by b on edges demands blocks (inl split) = record {
+    demands = b.demands;
     blocks = b.blocks;
     bytes = b.bytes;
     after = b.after ++ more;
@@ -259,26 +261,26 @@ module _ (n : Network) (text more : List ℕ) (f : NetFault) (small : HasSmallSi
       few = on.few;
       after_edges = on.after_edges ++ more;
       edges = edges.stay more;
-      after_pins = on.after_pins ++ more;
-      pin_lines = pins.stay more;
+      after_demands = on.after_demands ++ more;
+      demand_lines = demands.stay more;
       after_blocks = on.after_blocks ++ more;
       block_lines = blocks.stay more;
       next = inl (split-longer 10 on.after_blocks b.bytes b.after more split);
     };
     refused = b.refused;
   }
-  body_refused_by b on edges pins blocks (inr (empty, none)) =
-      let same = next_refused_after n b.pins b.blocks (length n.edges + length b.pins + length b.blocks + 2) f (subst (λ l. LineRefusedAfter n b.pins b.blocks (length n.edges + length b.pins + length b.blocks + 2) l f) none b.refused) in
-      absurd (other (same ∙ ap (λ k. NetLine k) (omega (arith, edges.feeds, pins.feeds, blocks.feeds, ap line_feeds empty))))
+  body_refused_by b on edges demands blocks (inr (empty, none)) =
+      let same = next_refused_after may n b.demands b.blocks (length n.edges + length b.demands + length b.blocks + 2) f (subst (λ l. LineRefusedAfter may n b.demands b.blocks (length n.edges + length b.demands + length b.blocks + 2) l f) none b.refused) in
+      absurd (other (same ∙ ap (λ k. NetLine k) (omega (arith, edges.feeds, demands.feeds, blocks.feeds, ap line_feeds empty))))
 
-  -- the same where pins and blocks may stand
-  body_refused : BodyRefused n text f → BodyRefused n (text ++ more) f
+  -- the same where pins, sides and blocks may stand
+  body_refused : BodyRefused may n text f → BodyRefused may n (text ++ more) f
   body_refused b =
       let on = b.goes_on in
       let edges = edges_read n text on.after_edges small on.wired whole on.edges in
-      let pins = items_read (IsPinLine n) (pin-some n) (length n.edges + 2) on.after_edges on.after_pins b.pins edges.whole on.pin_lines in
-      let blocks = items_read IsBlockLine block-some (length n.edges + length b.pins + 2) on.after_pins on.after_blocks b.blocks pins.whole on.block_lines in
-      body_refused_by b on edges pins blocks (line_read on.after_blocks b.bytes b.after blocks.whole on.next)
+      let demands = items_read (IsDemandHere may n) (demand_here-some may n) (length n.edges + 2) on.after_edges on.after_demands b.demands edges.whole on.demand_lines in
+      let blocks = items_read (IsBlockHere may) (block_here-some may) (length n.edges + length b.demands + 2) on.after_demands on.after_blocks b.blocks demands.whole on.block_lines in
+      body_refused_by b on edges demands blocks (line_read on.after_blocks b.bytes b.after blocks.whole on.next)
 
 -- a text with a line feed at its end is whole, and its first line has its line feed
 module _ (lines first rest : List ℕ) where
@@ -293,7 +295,7 @@ module _ (lines first rest : List ℕ) where
   other_behind : (f : NetFault) → f ≢ NetLine (line_feeds (line lines) + 1) → SplitsAt 10 (line lines) first rest → f ≢ NetLine (line_feeds rest + 2)
   other_behind f other split same = other (same ∙ ap NetLine (omega (arith, split_feeds (line lines) first rest split)))
 
--- a refusal where pins and blocks may not stand
+-- a refusal where pins, sides and blocks may not stand
 pub plain_stays_refused : StaysRefused IsPlainRead
 plain_stays_refused lines more f other (first, rest, is, inl why) = (first, rest ++ more, inl (split-longer 10 (line lines) first rest more (first_split lines first rest is)), inl why)
 plain_stays_refused lines more f other (first, rest, is, inr (n, e, small, edges)) =
@@ -305,12 +307,12 @@ plain_stays_refused lines more f other (first, rest, is, inr (n, e, small, edges
     )
 
 -- and where they may
-pub stays_refused : StaysRefused IsNetRead
-stays_refused lines more f other (first, rest, is, inl why) = (first, rest ++ more, inl (split-longer 10 (line lines) first rest more (first_split lines first rest is)), inl why)
-stays_refused lines more f other (first, rest, is, inr (n, e, small, body)) =
+pub stays_refused : (may : Admitted) → StaysRefused (IsNetRead may)
+stays_refused may lines more f other (first, rest, is, inl why) = (first, rest ++ more, inl (split-longer 10 (line lines) first rest more (first_split lines first rest is)), inl why)
+stays_refused may lines more f other (first, rest, is, inr (n, e, small, body)) =
     let split = first_split lines first rest is in (
       first,
       rest ++ more,
       inl (split-longer 10 (line lines) first rest more split),
-      inr (n, e, small, body_refused n rest more f small (split_whole (line lines) first rest (inr (lines, refl)) split) (other_behind lines first rest f other split) body),
+      inr (n, e, small, body_refused may n rest more f small (split_whole (line lines) first rest (inr (lines, refl)) split) (other_behind lines first rest f other split) body),
     )

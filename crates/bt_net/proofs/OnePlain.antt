@@ -166,12 +166,12 @@ same_reading : (bytes : List ℕ) (a b : Reading) → StandsPlain bytes a → St
 same_reading bytes a b p q =
     let one = one_network bytes a.net b.net (drop a.used bytes) (drop b.used bytes) p.network q.network p.begins q.begins in
     let net = one.0 in
-    let pins = p.pins ∙ sym q.pins in
+    let demands = p.demands ∙ sym q.demands in
     let blocks = p.blocks ∙ sym q.blocks in
     let used = same_used bytes a.used b.used p.used q.used one.1 in
     let more = one.2 in
     let lines : a.lines ≡ b.lines = p.lines ∙ (λ i. length (net i).edges + length (more i) + 2) ∙ sym q.lines in
-    λ i. record { net = net i; pins = pins i; blocks = blocks i; used = used i; lines = lines i }
+    λ i. record { net = net i; demands = demands i; blocks = blocks i; used = used i; lines = lines i }
 
 -- one answer is right to a text
 pub one_plain : (bytes : List ℕ) → HasOneAnswer (IsPlainRead bytes)
@@ -280,15 +280,15 @@ end_prioritised n text rest preferred count plain found =
 
 -- what stands at the front of the bytes
 pub stands_plain : (bytes rest : List ℕ) (read : Reading) (m : Network) (ps : List Priority) → read.net ≡ m → IsNetwork m → ((b : BeginsWithNet bytes m rest) × (b.priorities ≡ ps)) → drop read.used bytes ≡ rest → read.used ≤ length bytes
-    → read.pins ≡ [] → read.blocks ≡ [] → read.lines ≡ length m.edges + length ps + 2 → StandsPlain bytes read
-stands_plain bytes rest read m ps net is begins left within pins blocks lines =
+    → read.demands ≡ [] → read.blocks ≡ [] → read.lines ≡ length m.edges + length ps + 2 → StandsPlain bytes read
+stands_plain bytes rest read m ps net is begins left within demands blocks lines =
     let here = subst (λ r. (b : BeginsWithNet bytes m r) × (b.priorities ≡ ps)) (sym left) begins in
     let back = sym net in
-    subst (StandsPlain bytes) (λ i. record { net = back i; pins = read.pins; blocks = read.blocks; used = read.used; lines = read.lines }) (record {
+    subst (StandsPlain bytes) (λ i. record { net = back i; demands = read.demands; blocks = read.blocks; used = read.used; lines = read.lines }) (record {
       network = is;
       begins = here.0;
       used = within;
-      pins = pins;
+      demands = demands;
       blocks = blocks;
       lines = omega (arith, lines, ap length here.1);
     })

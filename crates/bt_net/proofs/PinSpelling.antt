@@ -1,4 +1,4 @@
--- What the words of the lines of pins and blocks spell.
+-- What the words of the lines of pins, sides and blocks spell.
 use Rattle.std.proofs.Common.{◌≡◌, ◌≢◌, ℕ, ◌^◌, ◌<◌, List, [], ◌∷◌, ◌++◌, Option, Some, None, length, get_or, drop, refl, sym, ◌∙◌, ap, subst, arith}
 use Rattle.std.specs.Prelude.{codes, decimal}
 use Rattle.std.specs.Int.{IsInRange}
@@ -30,18 +30,18 @@ end_fits n (end.Input i) small has = omega (arith, small.few_inputs, has)
 end_fits n (end.Output o) small has = omega (arith, small.few_outputs, has)
 
 -- no such byte in the word of an end
-end-lacks : (byte : ℕ) (e : End) → EndFits e → ¬ IsInRange 48 57 byte → byte ≢ 105 → byte ≢ 111 → Lacks byte (end_text e)
+pub end-lacks : (byte : ℕ) (e : End) → EndFits e → ¬ IsInRange 48 57 byte → byte ≢ 105 → byte ≢ 111 → Lacks byte (end_text e)
 end-lacks byte (end.Input i) fits digit apart_i apart_o = All-cons (λ b. b ≢ byte) 105 (decimal i) (λ e. apart_i (sym e)) (decimal-lacks i byte (omega arith) digit)
 end-lacks byte (end.Output o) fits digit apart_i apart_o = All-cons (λ b. b ≢ byte) 111 (decimal o) (λ e. apart_o (sym e)) (decimal-lacks o byte (omega arith) digit)
 
-end_lacks_space : (e : End) → EndFits e → Lacks 32 (end_text e)
+pub end_lacks_space : (e : End) → EndFits e → Lacks 32 (end_text e)
 end_lacks_space e fits = end-lacks 32 e fits (λ r. omega (arith, r.0)) (λ x. omega arith) (λ x. omega arith)
 
 number_lacks_space : (n : ℕ) → n < NO_COORDINATE → Lacks 32 (decimal n)
 number_lacks_space n short = decimal-lacks n 32 (omega arith) (λ r. omega (arith, r.0))
 
 -- no line feed in the word of a direction
-dir-lacks : (dir : Dir) → Lacks 10 (dir_text dir)
+pub dir-lacks : (dir : Dir) → Lacks 10 (dir_text dir)
 dir-lacks North = lacks 10 (codes "north") refl
 dir-lacks East = lacks 10 (codes "east") refl
 dir-lacks South = lacks 10 (codes "south") refl
@@ -58,7 +58,7 @@ end_apart (end.Input i) (end.Output j) p q e = absurd (omega (arith, ap (λ l. g
 end_apart (end.Output i) (end.Input j) p q e = absurd (omega (arith, ap (λ l. get_or l 0 0) e))
 end_apart (end.Output i) (end.Output j) p q e = ap end.Output (decimal_apart i j (omega arith) (omega arith) (ap (drop 1) e))
 
-dir_apart : (d e : Dir) → dir_text d ≡ dir_text e → d ≡ e
+pub dir_apart : (d e : Dir) → dir_text d ≡ dir_text e → d ≡ e
 dir_apart North North e = refl
 dir_apart North East e = absurd (omega (arith, ap (λ l. get_or l 0 0) e))
 dir_apart North South e = absurd (omega (arith, ap (λ l. get_or l 0 0) e))

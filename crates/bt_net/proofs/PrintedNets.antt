@@ -51,11 +51,11 @@ printed_plain n net = record {
     begins = inl (all_of n);
   };
   used = omega arith;
-  pins = refl;
+  demands = refl;
   blocks = refl;
   lines = refl;
 }
 
 -- and by both calls where no splitter prefers an edge
 pub printed_reading : PrintedIsRead
-printed_reading n net plain = ((read_alike (net_text n) (whole_reading n)).0 (printed_plain n net, plain)).0
+printed_reading may n net plain = ((read_alike may (net_text n) (whole_reading n)).0 (printed_plain n net, plain)).0

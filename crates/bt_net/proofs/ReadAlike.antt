@@ -3,11 +3,12 @@ use Rattle.std.proofs.Common.{◌≡◌, ◌≢◌, ℕ, ◌+◌, List, [], ◌�
 use Rattle.std.specs.Prelude.{codes}
 use Rattle.std.proofs.lemmas.List.{get_or-set_same, get_or-set_other}
 use Rattle.bt_text.specs.Lines.{BeginsWithLines}
+use Rattle.bt_net.specs.declared.network.Admitted.{Admitted}
 use Rattle.bt_net.specs.declared.network.Priority.{Priority}
 use Rattle.bt_net.specs.declared.network.Priority.TheVariants.{Give, Take}
 use Rattle.bt_net.specs.Network.{Network, HasNoPriorities, none_each, give_of, take_of}
 use Rattle.bt_net.specs.NetText.{header, alone}
-use Rattle.bt_net.specs.PinText.{AreLinesFrom, IsPinLine, IsBlockLine}
+use Rattle.bt_net.specs.PinText.{AreLinesFrom, IsDemandHere, IsBlockHere}
 use Rattle.bt_net.specs.Priorities.{IsPriorityLine, Owns, with_priority, Becomes}
 use Rattle.bt_net.specs.Readings.{Reading, IsNetRead, IsPlainRead, ReadAlike}
 use Rattle.bt_net.proofs.Preference.{none_long, plain_gives, plain_takes}
@@ -58,12 +59,12 @@ module _ (n : Network) (plain : HasNoPriorities n) where
   alone_plain : alone n ≡ n
   alone_plain = let gives = sym plain.gives in let takes = sym plain.takes in λ i. record { inputs = n.inputs; outputs = n.outputs; splitters = n.splitters; edges = n.edges; gives = gives i; takes = takes i }
 
-module _ (bytes : List ℕ) (read : Reading) where
+module _ (may : Admitted) (bytes : List ℕ) (read : Reading) where
   -- the lines behind the header
   abbrev Begins : List (List ℕ) → List (List ℕ) → Type 0
   Begins edges others = BeginsWithLines bytes (header read.net ∷ edges ++ (others ++ codes "end" ∷ [])) (drop read.used bytes)
 
-  from_plain : IsPlainRead bytes (Ok read) → HasNoPriorities read.net → IsNetRead bytes (Ok read) × (read.pins ≡ []) × (read.blocks ≡ [])
+  from_plain : IsPlainRead bytes (Ok read) → HasNoPriorities read.net → IsNetRead may bytes (Ok read) × (read.demands ≡ []) × (read.blocks ≡ [])
   from_plain h plain =
       let b = h.begins in
       let none = none_read read.net plain (length read.net.edges + 2) b.priority_lines b.priorities b.are_priorities b.becomes in
@@ -74,24 +75,24 @@ module _ (bytes : List ℕ) (read : Reading) where
             plain = plain;
             edge_lines = b.edge_lines;
             are_edges = b.are_edges;
-            pin_lines = [];
-            are_pins = are_none (IsPinLine read.net) (length read.net.edges + 2) read.pins h.pins;
+            demand_lines = [];
+            are_demands = are_none (IsDemandHere may read.net) (length read.net.edges + 2) read.demands h.demands;
             block_lines = [];
-            are_blocks = are_none IsBlockLine (length read.net.edges + length read.pins + 2) read.blocks h.blocks;
+            are_blocks = are_none (IsBlockHere may) (length read.net.edges + length read.demands + 2) read.blocks h.blocks;
             begins = subst (Begins b.edge_lines) lines b.begins;
           };
           used = h.used;
-          lines = omega (arith, h.lines, ap length none, ap length h.pins, ap length h.blocks);
+          lines = omega (arith, h.lines, ap length none, ap length h.demands, ap length h.blocks);
         },
-        h.pins,
+        h.demands,
         h.blocks,
       )
 
-  to_plain : IsNetRead bytes (Ok read) → read.pins ≡ [] → read.blocks ≡ [] → IsPlainRead bytes (Ok read) × HasNoPriorities read.net
-  to_plain h pins blocks =
+  to_plain : IsNetRead may bytes (Ok read) → read.demands ≡ [] → read.blocks ≡ [] → IsPlainRead bytes (Ok read) × HasNoPriorities read.net
+  to_plain h demands blocks =
       let b = h.begins in
-      let pin_lines = no_lines (IsPinLine read.net) (length read.net.edges + 2) b.pin_lines read.pins b.are_pins pins in
-      let block_lines = no_lines IsBlockLine (length read.net.edges + length read.pins + 2) b.block_lines read.blocks b.are_blocks blocks in
+      let demand_lines = no_lines (IsDemandHere may read.net) (length read.net.edges + 2) b.demand_lines read.demands b.are_demands demands in
+      let block_lines = no_lines (IsBlockHere may) (length read.net.edges + length read.demands + 2) b.block_lines read.blocks b.are_blocks blocks in
       let Whole : List (List ℕ) → List (List ℕ) → Type 0 = λ ps bs. BeginsWithLines bytes (header read.net ∷ b.edge_lines ++ (ps ++ (bs ++ codes "end" ∷ []))) (drop read.used bytes) in (
         record {
           network = h.network;
@@ -102,15 +103,15 @@ module _ (bytes : List ℕ) (read : Reading) where
             priority_lines = [];
             are_priorities = tt;
             becomes = alone_plain read.net b.plain;
-            begins = subst (λ bs. Whole [] bs) block_lines (subst (λ ps. Whole ps b.block_lines) pin_lines b.begins);
+            begins = subst (λ bs. Whole [] bs) block_lines (subst (λ ps. Whole ps b.block_lines) demand_lines b.begins);
           };
           used = h.used;
-          pins = pins;
+          demands = demands;
           blocks = blocks;
-          lines = omega (arith, h.lines, ap length pins, ap length blocks);
+          lines = omega (arith, h.lines, ap length demands, ap length blocks);
         },
         b.plain,
       )
 
 pub read_alike : ReadAlike
-read_alike bytes read = (λ h. from_plain bytes read h.0 h.1, λ h. to_plain bytes read h.0 h.1 h.2)
+read_alike may bytes read = (λ h. from_plain may bytes read h.0 h.1, λ h. to_plain may bytes read h.0 h.1 h.2)

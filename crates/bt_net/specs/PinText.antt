@@ -1,11 +1,18 @@
--- The lines of a network's text that say where its ends stand, and where no part does.
+-- The lines of a network's text that say where its ends are to stand, and where no part is.
 use Rattle.std.specs.Prelude.{◌≡◌, ℕ, ◌+◌, ◌<◌, List, [], ◌∷◌, ◌++◌, Option, Some, None, ⊤, codes, decimal}
 use Rattle.bt_parts.specs.declared.part.Dir.{Dir}
 use Rattle.bt_parts.specs.declared.part.Dir.TheVariants.{North, East, South, West}
+use Rattle.bt_net.specs.declared.network.Admitted.{Admitted}
+use Rattle.bt_net.specs.declared.network.Admitted.TheVariants.{Nothing, Sides, All}
 use Rattle.bt_net.specs.declared.network.Block.{Block}
+use Rattle.bt_net.specs.declared.network.Demand.{Demand}
+use Rattle.bt_net.specs.declared.network.Demand.TheVariants as demand
 use Rattle.bt_net.specs.declared.network.End.{End}
 use Rattle.bt_net.specs.declared.network.End.TheVariants as end
+use Rattle.bt_net.specs.declared.network.Ends.{Ends}
+use Rattle.bt_net.specs.declared.network.Ends.TheVariants.{One, Inputs, Outputs}
 use Rattle.bt_net.specs.declared.network.Pin.{Pin}
+use Rattle.bt_net.specs.declared.network.Side.{Side}
 use Rattle.bt_net.specs.declared.network.TheConstants.{NO_COORDINATE}
 use Rattle.bt_net.specs.Network.{Network, HasEnd}
 
@@ -30,6 +37,16 @@ way_text (Some dir) = codes " " ++ dir_text dir
 abbrev pub pin_text : Pin → List ℕ
 pin_text pin = codes "pin " ++ end_text pin.end ++ codes " " ++ decimal pin.x ++ codes " " ++ decimal pin.y ++ way_text pin.dir
 
+-- an end, or the word for each of a kind
+abbrev pub ends_text : Ends → List ℕ
+ends_text (One end) = end_text end
+ends_text Inputs = codes "inputs"
+ends_text Outputs = codes "outputs"
+
+-- `side`, the ends, and the direction in which the side lies
+abbrev pub side_text : Side → List ℕ
+side_text side = codes "side " ++ ends_text side.ends ++ codes " " ++ dir_text side.dir
+
 -- `block` and the two numbers of the cell
 abbrev pub block_text : Block → List ℕ
 block_text block = codes "block " ++ decimal block.x ++ codes " " ++ decimal block.y
@@ -48,6 +65,38 @@ pub record IsBlockLine (number : ℕ) (bytes : List ℕ) (block : Block) : Type 
   pub short_x : block.x < NO_COORDINATE
   pub short_y : block.y < NO_COORDINATE
   pub line : block.line ≡ number
+
+-- the network has the ends that are named
+abbrev pub HasEnds : Network → Ends → Type 0
+HasEnds n (One end) = HasEnd n end
+HasEnds n Inputs = Unit {0}
+HasEnds n Outputs = Unit {0}
+
+-- the line with this number is that of a side, which names ends of the network
+pub record IsSideLine (n : Network) (number : ℕ) (bytes : List ℕ) (side : Side) : Type 0 where
+  pub text : bytes ≡ side_text side
+  pub has_ends : HasEnds n side.ends
+  pub line : side.line ≡ number
+
+-- the line with this number is that of a pin or of a side
+abbrev pub IsDemandLine : Network → ℕ → List ℕ → Demand → Type 0
+IsDemandLine n number bytes (demand.Pin pin) = IsPinLine n number bytes pin
+IsDemandLine n number bytes (demand.Side side) = IsSideLine n number bytes side
+
+-- such a line may stand
+abbrev pub Admits : Admitted → Demand → Type 0
+Admits Nothing d = ⊥
+Admits Sides (demand.Pin pin) = ⊥
+Admits Sides (demand.Side side) = Unit {0}
+Admits All d = Unit {0}
+
+-- the line with this number is that of a pin or of a side, and may stand
+abbrev pub IsDemandHere : Admitted → Network → ℕ → List ℕ → Demand → Type 0
+IsDemandHere may n number bytes d = Admits may d × IsDemandLine n number bytes d
+
+-- the line with this number is that of a block, and may stand
+abbrev pub IsBlockHere : Admitted → ℕ → List ℕ → Block → Type 0
+IsBlockHere may number bytes block = (may ≡ All) × IsBlockLine number bytes block
 
 -- the lines, of which the first has this number, are those of these, one by one
 abbrev pub AreLinesFrom : {X : Type 0} → (ℕ → List ℕ → X → Type 0) → ℕ → List (List ℕ) → List X → Type 0

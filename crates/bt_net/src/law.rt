@@ -1,5 +1,6 @@
 //! Laws of networks and their texts.
 ghost use Rattle.std.specs.Prelude.{◌≡◌, ℕ, List};
+ghost use Rattle.bt_net.specs.declared.network.Admitted.{Admitted};
 ghost use Rattle.bt_net.specs.Network.{Network, IsNetwork};
 ghost use Rattle.bt_net.specs.NetText.{BeginsWithNet};
 ghost use Rattle.bt_net.specs.Readings.{IsNetRead, IsPlainRead, PrintedIsRead, PrintedIsPlain, ReadAlike};
@@ -28,9 +29,9 @@ pub fn read_alike()
 /// What is read of bytes is read of longer ones that begin with them, but where the last line lacks its
 /// line feed; and so is a refusal, but where it is that of a line which the bytes don't have yet.
 pub fn longer_is_read()
-    ensures read { Stays IsNetRead }
+    ensures read { (admitted : Admitted) → Stays (IsNetRead admitted) }
     ensures plain { Stays IsPlainRead }
-    ensures refused { StaysRefused IsNetRead }
+    ensures refused { (admitted : Admitted) → StaysRefused (IsNetRead admitted) }
     ensures plainly_refused { StaysRefused IsPlainRead }
 {}
 

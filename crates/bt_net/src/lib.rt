@@ -1,6 +1,7 @@
-//! Networks of splitters and their text, which may also say where ends and no parts stand.
+//! Networks of splitters and their text, which may also say where ends are to stand, and where no parts.
 #![tactic(auto)]
 
+mod demands;
 mod fault;
 mod header;
 mod law;
@@ -11,6 +12,7 @@ mod pins;
 mod printing;
 mod priority;
 mod reading;
+mod sides;
 mod wiring;
 mod words;
 
@@ -18,7 +20,8 @@ pub use fault::NetFault;
 pub use law::{limits_are, longer_is_read, one_net, printed_is_read, read_alike};
 pub use net::Net;
 pub use network::{
-    Block, Edge, End, MOST_CAP, MOST_OF_EACH, NO_COORDINATE, Pin, Priority, Start, Target,
+    Admitted, Block, Demand, Edge, End, Ends, MOST_CAP, MOST_OF_EACH, NO_COORDINATE, Pin, Priority,
+    Side, Start, Target,
 };
 pub use printing::print;
 pub use reading::{NetRead, read, read_plain};

@@ -1,5 +1,4 @@
-//! What a network of splitters is made of: ends, edges between them, and the cells where its ends
-//! stand.
+//! What a network of splitters is made of: ends and edges between them; and where its ends are to stand.
 
 use bt_parts::Dir;
 
@@ -63,10 +62,46 @@ pub struct Pin {
     pub line: usize,
 }
 
+/// The ends that a line of a side names: one, or each of a kind.
+#[derive(Clone, Copy, PartialEq, Eq)]
+pub enum Ends {
+    One(End),
+    Inputs,
+    Outputs,
+}
+
+/// A side of the rectangle, which lies in the direction: the first parts of inputs stand there and come in
+/// across it, and the last parts of outputs stand there and leave across it; and the line of the text, from 1,
+/// that says so.
+#[derive(Clone, Copy, PartialEq, Eq)]
+pub struct Side {
+    pub ends: Ends,
+    pub dir: Dir,
+    pub line: usize,
+}
+
+/// Where ends are to stand, as a line of the text says it: one on a cell, or some at a side.
+#[derive(Clone, Copy, PartialEq, Eq)]
+pub enum Demand {
+    Pin(Pin),
+    Side(Side),
+}
+
 /// A cell on which no part stands, and the line of the text, from 1, that says so.
 #[derive(Clone, Copy, PartialEq, Eq)]
 pub struct Block {
     pub x: u32,
     pub y: u32,
     pub line: usize,
+}
+
+/// Which lines may stand behind those of the edges in the text of a network.
+#[derive(Clone, Copy, PartialEq, Eq)]
+pub enum Admitted {
+    /// None.
+    Nothing,
+    /// Those of sides.
+    Sides,
+    /// Those of pins, of sides and of blocks.
+    All,
 }

@@ -50,7 +50,7 @@ pub fn read_block(number: usize, line: &[u8]) -> Option<Block>
 }
 
 /// An end: `i` and the number of an input, or `o` and that of an output.
-fn read_end(word: &[u8]) -> Option<End>
+pub fn read_end(word: &[u8]) -> Option<End>
     ensures some { IfSome result (λ e. word.now ≡ end_text e) }
     ensures fits { IfSome result EndFits }
     ensures none { IfNone result ((e : End) → EndFits e → word.now ≡ end_text e → ⊥) }
@@ -87,7 +87,7 @@ fn read_row_and_way(words: &[u8]) -> Option<(u32, Option<Dir>)>
 }
 
 /// A direction by its word.
-fn read_dir(word: &[u8]) -> Option<Dir>
+pub fn read_dir(word: &[u8]) -> Option<Dir>
     ensures some { IfSome result (λ dir. word.now ≡ dir_text dir) }
     ensures none { IfNone result ((dir : Dir) → word.now ≡ dir_text dir → ⊥) }
 {
@@ -105,7 +105,7 @@ fn read_dir(word: &[u8]) -> Option<Dir>
 }
 
 /// Whether the word is this one.
-fn is_word(word: &[u8], other: &[u8]) -> bool
+pub fn is_word(word: &[u8], other: &[u8]) -> bool
     ensures { IsTrue result ↔ (word.now ≡ other.now) }
 {
     word == other

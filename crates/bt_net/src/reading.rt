@@ -3,61 +3,62 @@
 //! Each line is read once, and the first one that may not stand is told by its number.
 ghost use Rattle.std.specs.Prelude.{◌≡◌, ◌+◌, ◌≤◌, ◌<◌, ◌^◌, [], length, IfOk};
 ghost use Rattle.bt_answers.specs.Answers.{Answers, UnlessMemory, seen};
-ghost use Rattle.bt_net.specs.PinText.{IsPinLine, IsBlockLine};
+ghost use Rattle.bt_net.specs.PinText.{IsDemandHere, IsBlockHere};
 ghost use Rattle.bt_net.specs.Readings.{IsNetRead, IsPlainRead, what_is_read};
 ghost use Rattle.bt_net.specs.Wiring.{HasSmallSizes};
 ghost use Rattle.bt_net.specs.inner.Preferred.{PrioritiesEnd, IsNextPriority};
 ghost use Rattle.bt_net.specs.inner.Lines.{SameSizes, IsNextEdge, AreEdgesRead, ItemsEnd, IsEndRead};
 
+use crate::demands::{block_here, demand_here};
 use crate::fault::NetFault;
 use crate::header::read_header;
 use crate::net::Net;
-use crate::network::{Block, Edge, MOST_OF_EACH, Pin, Priority};
-use crate::pins::{read_block, read_pin};
+use crate::network::{Admitted, Block, Demand, Edge, MOST_OF_EACH, Priority};
 use crate::priority::{Preferred, is_free, none_each, prefer, read_priority};
 use crate::wiring::Wiring;
 use crate::words::read_edge;
 use bt_text::first_line;
 use std::alloc::{AllocError, Global};
 
-/// What the text of a network says: the network, its pins and its blocks in the order of their lines, how
-/// many bytes the text has and how many lines.
+/// What the text of a network says: the network, its pins and sides in the order of their lines, its blocks in
+/// that of theirs, how many bytes the text has and how many lines.
 #[derive(Drop)]
 pub struct NetRead {
     pub net: Net,
-    pub pins: Vec<Pin>,
+    pub demands: Vec<Demand>,
     pub blocks: Vec<Block>,
     pub used: usize,
     pub lines: usize,
 }
 
-/// The network at the front of these bytes, with its pins and its blocks. The bytes begin with a line
-/// `net I O S` of the numbers of inputs, outputs and splitters, and have a line for each edge, then lines
-/// `pin E X Y` or `pin E X Y D` for cells on which ends stand, then lines `block X Y` for cells on which
-/// no part stands, and a line `end`. What follows that line is not read.
-pub fn read(alloc: Global, bytes: &[u8]) -> Result<NetRead, NetFault>
-    ensures { Answers NetFault.Memory (IsNetRead bytes.now) (seen what_is_read result) }
+/// The network at the front of these bytes, with its pins, its sides and its blocks. The bytes begin with a line
+/// `net I O S` of the numbers of inputs, outputs and splitters, and have a line for each edge, then in any order
+/// lines `pin E X Y` or `pin E X Y D` for cells on which ends stand and `side E D` for sides at which they do,
+/// where E may also be `inputs` or `outputs`, then lines `block X Y` for cells on which no part stands, where
+/// such lines are admitted, and a line `end`. What follows that line is not read.
+pub fn read(alloc: Global, admitted: Admitted, bytes: &[u8]) -> Result<NetRead, NetFault>
+    ensures { Answers NetFault.Memory (IsNetRead admitted bytes.now) (seen what_is_read result) }
 {
     let (line, text) = first_line(bytes);
     let mut wiring = read_header(alloc, line)?;
     let behind_edges = read_edges(&mut wiring, text)?;
-    let (pins, behind_pins) = read_pins(alloc, &wiring, behind_edges)?;
-    let before_blocks = wiring.len() + pins.len() + 2;
-    let (blocks, behind_blocks) = read_blocks(alloc, before_blocks, behind_pins)?;
+    let (demands, behind_demands) = read_demands(alloc, admitted, &wiring, behind_edges)?;
+    let before_blocks = wiring.len() + demands.len() + 2;
+    let (blocks, behind_blocks) = read_blocks(alloc, admitted, before_blocks, behind_demands)?;
     let lines = before_blocks + blocks.len();
     let rest = read_end(&wiring, lines, behind_blocks)?;
     let net = wiring.into_net()?;
     Ok(NetRead {
         net,
-        pins,
+        demands,
         blocks,
         used: bytes.len() - rest.len(),
         lines,
     })
 }
 
-/// The network at the front of these bytes, as `read` reads it, but that in the place of lines of pins and
-/// blocks, which may not stand, lines `give sN E` and `take sN E` may stand in any order: splitter N prefers
+/// The network at the front of these bytes, as `read` reads it, but that in the place of lines of pins,
+/// sides and blocks, which may not stand, lines `give sN E` and `take sN E` may stand in any order: splitter N prefers
 /// its out edge, or its in edge, with the number E. A second line of a kind for a splitter may not stand.
 pub fn read_plain(alloc: Global, bytes: &[u8]) -> Result<NetRead, NetFault>
     ensures { Answers NetFault.Memory (IsPlainRead bytes.now) (seen what_is_read result) }
@@ -71,7 +72,7 @@ pub fn read_plain(alloc: Global, bytes: &[u8]) -> Result<NetRead, NetFault>
     let net = wiring.into_net()?;
     Ok(NetRead {
         net: net.preferring(found.preferred.gives, found.preferred.takes),
-        pins: Vec::new(alloc),
+        demands: Vec::new(alloc),
         blocks: Vec::new(alloc),
         used: bytes.len() - rest.len(),
         lines,
@@ -169,26 +170,28 @@ fn next_edge(wiring: &Wiring, line: &[u8]) -> Option<Edge>
     }
 }
 
-/// The pins of the pin lines at the front of a text, behind the edges, and what follows them.
-fn read_pins<'a>(
+/// The pins and sides of the lines at the front of a text, behind the edges, and what follows them.
+fn read_demands<'a>(
     alloc: Global,
+    admitted: Admitted,
     wiring: &Wiring,
     text: &'a [u8],
-) -> Result<(Vec<Pin>, &'a [u8]), AllocError>
+) -> Result<(Vec<Demand>, &'a [u8]), AllocError>
     requires small { HasSmallSizes wiring.now }
     requires few { length wiring.now.edges ≤ MOST_OF_EACH }
-    ensures read { IfOk result (λ found.
-        ItemsEnd (IsPinLine wiring.now) (length wiring.now.edges + 2) text.now found.0.items found.1.now) }
+    ensures read { IfOk result (λ found. ItemsEnd (IsDemandHere admitted wiring.now)
+        (length wiring.now.edges + 2) text.now found.0.items found.1.now) }
     ensures short { IfOk result (λ found. length found.0.items + length found.1.now ≤ length text.now) }
 {
-    let mut pins = Vec::new(alloc);
+    let mut demands = Vec::new(alloc);
     let mut rest = text;
     loop {
         let (line, after) = first_line(rest);
-        let Some(pin) = read_pin(wiring, wiring.len() + 2 + pins.len(), line) else {
-            return Ok((pins, rest));
+        let Some(demand) = demand_here(admitted, wiring, wiring.len() + 2 + demands.len(), line)
+        else {
+            return Ok((demands, rest));
         };
-        pins.push(pin)?;
+        demands.push(demand)?;
         rest = after;
     }
 }
@@ -197,18 +200,20 @@ fn read_pins<'a>(
 /// follows them.
 fn read_blocks<'a>(
     alloc: Global,
+    admitted: Admitted,
     first: usize,
     text: &'a [u8],
 ) -> Result<(Vec<Block>, &'a [u8]), AllocError>
     requires { first + length text.now < 2 ^ 63 + 4096 }
-    ensures read { IfOk result (λ found. ItemsEnd IsBlockLine first text.now found.0.items found.1.now) }
+    ensures read { IfOk result (λ found.
+        ItemsEnd (IsBlockHere admitted) first text.now found.0.items found.1.now) }
     ensures short { IfOk result (λ found. length found.0.items + length found.1.now ≤ length text.now) }
 {
     let mut blocks = Vec::new(alloc);
     let mut rest = text;
     loop {
         let (line, after) = first_line(rest);
-        let Some(block) = read_block(first + blocks.len(), line) else {
+        let Some(block) = block_here(admitted, first + blocks.len(), line) else {
             return Ok((blocks, rest));
         };
         blocks.push(block)?;

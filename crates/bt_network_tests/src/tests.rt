@@ -19,7 +19,7 @@ mod states;
 use bt_flow::Property;
 use bt_io::MemSink;
 use bt_model::Request;
-use bt_net::{Net, print, read, read_plain};
+use bt_net::{Admitted, Net, print, read, read_plain};
 use bt_parts::{Dir, Rect, Tier};
 use std::alloc::{AllocError, Global};
 
@@ -93,8 +93,8 @@ fn request_of(alloc: Global, text: &str, size: &str, tier: Tier) -> Option<Reque
         width: width.parse::<u32>().unwrap_or(0).clamp(1, 16),
         height: height.parse::<u32>().unwrap_or(0).clamp(1, 16),
     };
-    match read(alloc, text.as_bytes()) {
-        Ok(found) => Request::new(found.net, rect, tier, found.pins, found.blocks).ok(),
+    match read(alloc, Admitted::All, text.as_bytes()) {
+        Ok(found) => Request::new(found.net, rect, tier, found.demands, found.blocks).ok(),
         Err(_) => None,
     }
 }

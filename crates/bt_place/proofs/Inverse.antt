@@ -207,6 +207,7 @@ module _ (z : Sizes) where
       ∷ map fact.BeltOn (cells_of rect)
       ∷ map fact.Begins (cells_of rect)
       ∷ by_cell (λ c. map (fact.Starts c) (range_with_len 0 z.inputs))
+      ∷ by_cell (λ c. map (fact.Stops c) (range_with_len 0 z.stops))
       ∷ by_cell pairs_on
       ∷ by_cell (λ c. map (fact.Tunnel c) dirs)
       ∷ by_cell (λ c. map (fact.Goes c) dirs)
@@ -264,16 +265,17 @@ module _ (z : Sizes) where
       pub belts_on : length (list_at (blocks order) 2) ≡ spots z
       pub begun : length (list_at (blocks order) 3) ≡ spots z
       pub started : length (list_at (blocks order) 4) ≡ spots z * z.inputs
-      pub paired : length (list_at (blocks order) 5) ≡ spots z * (4 * z.distances)
-      pub tunnels : length (list_at (blocks order) 6) ≡ spots z * 4
-      pub goings : length (list_at (blocks order) 7) ≡ spots z * 4
-      pub columns : length (list_at (blocks order) 8) ≡ z.splitters * z.width
-      pub rows : length (list_at (blocks order) 9) ≡ z.splitters * z.height
-      pub points : length (list_at (blocks order) 10) ≡ z.splitters * 4
-      pub entering : length (list_at (blocks order) 11) ≡ z.splitters
-      pub leaving : length (list_at (blocks order) 12) ≡ z.splitters
-      pub kinds : length (list_at (blocks order) 13) ≡ spots z * 21
-      pub places : length (list_at (blocks order) 14) ≡ z.splitters * (spots z * 4)
+      pub stopped : length (list_at (blocks order) 5) ≡ spots z * z.stops
+      pub paired : length (list_at (blocks order) 6) ≡ spots z * (4 * z.distances)
+      pub tunnels : length (list_at (blocks order) 7) ≡ spots z * 4
+      pub goings : length (list_at (blocks order) 8) ≡ spots z * 4
+      pub columns : length (list_at (blocks order) 9) ≡ z.splitters * z.width
+      pub rows : length (list_at (blocks order) 10) ≡ z.splitters * z.height
+      pub points : length (list_at (blocks order) 11) ≡ z.splitters * 4
+      pub entering : length (list_at (blocks order) 12) ≡ z.splitters
+      pub leaving : length (list_at (blocks order) 13) ≡ z.splitters
+      pub kinds : length (list_at (blocks order) 14) ≡ spots z * 21
+      pub places : length (list_at (blocks order) 15) ≡ z.splitters * (spots z * 4)
 
     lengths : Lengths
     lengths = record {
@@ -282,6 +284,7 @@ module _ (z : Sizes) where
       belts_on = length_map fact.BeltOn (cells_of rect) ∙ length_cells;
       begun = length_map fact.Begins (cells_of rect) ∙ length_cells;
       started = cell_length (λ c. map (fact.Starts c) (range_with_len 0 z.inputs)) z.inputs (λ c. ranged (fact.Starts c) 0 z.inputs);
+      stopped = cell_length (λ c. map (fact.Stops c) (range_with_len 0 z.stops)) z.stops (λ c. ranged (fact.Stops c) 0 z.stops);
       paired = cell_length pairs_on (4 * z.distances) pairs_length;
       tunnels = cell_length (λ c. map (fact.Tunnel c) dirs) 4 (λ c. refl);
       goings = cell_length (λ c. map (fact.Goes c) dirs) 4 (λ c. refl);
@@ -300,8 +303,8 @@ module _ (z : Sizes) where
     pub blocks_long : length (joined (blocks order)) ≡ variables z
     blocks_long =
         let l = lengths in
-        let e : before_list (blocks order) 15 ≡ variables z =
-        omega (arith, l.carried, l.halves_on, l.belts_on, l.begun, l.started, l.paired, l.tunnels, l.goings, l.columns, l.rows, l.points, l.entering, l.leaving, l.kinds, l.places) in
+        let e : before_list (blocks order) 16 ≡ variables z =
+        omega (arith, l.carried, l.halves_on, l.belts_on, l.begun, l.started, l.stopped, l.paired, l.tunnels, l.goings, l.columns, l.rows, l.points, l.entering, l.leaving, l.kinds, l.places) in
         length_joined (blocks order) ∙ e
 
     stands : (x : Fact) → IsNumbered z x → IsIn order x
@@ -335,58 +338,64 @@ module _ (z : Sizes) where
       number = let l = lengths in omega (arith, l.carried, l.halves_on, l.belts_on, l.begun);
       there = in_cell (λ c. map (fact.Starts c) (range_with_len 0 z.inputs)) z.inputs i c (fact.Starts c i) (λ c. ranged (fact.Starts c) 0 z.inputs) h.0 (found_ranged (fact.Starts c) 0 z.inputs i i h.1 (omega arith));
     }
-    stands (fact.Pair c dir k) h = record {
+    stands (fact.Stops c o) h = record {
       block = 5;
-      place = (spot_of z c * 4 + dir_number dir) * z.distances + (k - 1);
+      place = spot_of z c * z.stops + o;
       number = let l = lengths in omega (arith, l.carried, l.halves_on, l.belts_on, l.begun, l.started);
+      there = in_cell (λ c. map (fact.Stops c) (range_with_len 0 z.stops)) z.stops o c (fact.Stops c o) (λ c. ranged (fact.Stops c) 0 z.stops) h.0 (found_ranged (fact.Stops c) 0 z.stops o o h.1 (omega arith));
+    }
+    stands (fact.Pair c dir k) h = record {
+      block = 6;
+      place = (spot_of z c * 4 + dir_number dir) * z.distances + (k - 1);
+      number = let l = lengths in omega (arith, l.carried, l.halves_on, l.belts_on, l.begun, l.started, l.stopped);
       there = let le = h.1.0 in let most = h.1.1 in in_pairs c dir (k - 1) k h.0 (omega (arith, le, most)) (omega (arith, le));
     }
     stands (fact.Tunnel c dir) h = record {
-      block = 6;
+      block = 7;
       place = spot_of z c * 4 + dir_number dir;
-      number = let l = lengths in omega (arith, l.carried, l.halves_on, l.belts_on, l.begun, l.started, l.paired);
+      number = let l = lengths in omega (arith, l.carried, l.halves_on, l.belts_on, l.begun, l.started, l.stopped, l.paired);
       there = in_cell (λ c. map (fact.Tunnel c) dirs) 4 (dir_number dir) c (fact.Tunnel c dir) (λ c. refl) h (found_map (fact.Tunnel c) dirs (dir_number dir) dir (found_dir dir));
     }
     stands (fact.Goes c dir) h = record {
-      block = 7;
+      block = 8;
       place = spot_of z c * 4 + dir_number dir;
-      number = let l = lengths in omega (arith, l.carried, l.halves_on, l.belts_on, l.begun, l.started, l.paired, l.tunnels);
+      number = let l = lengths in omega (arith, l.carried, l.halves_on, l.belts_on, l.begun, l.started, l.stopped, l.paired, l.tunnels);
       there = in_cell (λ c. map (fact.Goes c) dirs) 4 (dir_number dir) c (fact.Goes c dir) (λ c. refl) h (found_map (fact.Goes c) dirs (dir_number dir) dir (found_dir dir));
     }
     stands (fact.Column s x) h = record {
-      block = 8;
+      block = 9;
       place = s * z.width + x;
-      number = let l = lengths in omega (arith, l.carried, l.halves_on, l.belts_on, l.begun, l.started, l.paired, l.tunnels, l.goings);
+      number = let l = lengths in omega (arith, l.carried, l.halves_on, l.belts_on, l.begun, l.started, l.stopped, l.paired, l.tunnels, l.goings);
       there = in_splitter (λ s. map (fact.Column s) (range_with_len 0 z.width)) z.width s x (fact.Column s x) (λ s. ranged (fact.Column s) 0 z.width) h.0 (found_ranged (fact.Column s) 0 z.width x x h.1 (omega arith));
     }
     stands (fact.Row s y) h = record {
-      block = 9;
+      block = 10;
       place = s * z.height + y;
-      number = let l = lengths in omega (arith, l.carried, l.halves_on, l.belts_on, l.begun, l.started, l.paired, l.tunnels, l.goings, l.columns);
+      number = let l = lengths in omega (arith, l.carried, l.halves_on, l.belts_on, l.begun, l.started, l.stopped, l.paired, l.tunnels, l.goings, l.columns);
       there = in_splitter (λ s. map (fact.Row s) (range_with_len 0 z.height)) z.height s y (fact.Row s y) (λ s. ranged (fact.Row s) 0 z.height) h.0 (found_ranged (fact.Row s) 0 z.height y y h.1 (omega arith));
     }
     stands (fact.Points s dir) h = record {
-      block = 10;
+      block = 11;
       place = s * 4 + dir_number dir;
-      number = let l = lengths in omega (arith, l.carried, l.halves_on, l.belts_on, l.begun, l.started, l.paired, l.tunnels, l.goings, l.columns, l.rows);
+      number = let l = lengths in omega (arith, l.carried, l.halves_on, l.belts_on, l.begun, l.started, l.stopped, l.paired, l.tunnels, l.goings, l.columns, l.rows);
       there = in_splitter (λ s. map (fact.Points s) dirs) 4 s (dir_number dir) (fact.Points s dir) (λ s. refl) h (found_map (fact.Points s) dirs (dir_number dir) dir (found_dir dir));
     }
     stands (fact.EntersLesser s) h = record {
-      block = 11;
+      block = 12;
       place = s;
-      number = let l = lengths in omega (arith, l.carried, l.halves_on, l.belts_on, l.begun, l.started, l.paired, l.tunnels, l.goings, l.columns, l.rows, l.points);
+      number = let l = lengths in omega (arith, l.carried, l.halves_on, l.belts_on, l.begun, l.started, l.stopped, l.paired, l.tunnels, l.goings, l.columns, l.rows, l.points);
       there = found_ranged fact.EntersLesser 0 z.splitters s s h (omega arith);
     }
     stands (fact.LeavesLesser s) h = record {
-      block = 12;
+      block = 13;
       place = s;
-      number = let l = lengths in omega (arith, l.carried, l.halves_on, l.belts_on, l.begun, l.started, l.paired, l.tunnels, l.goings, l.columns, l.rows, l.points, l.entering);
+      number = let l = lengths in omega (arith, l.carried, l.halves_on, l.belts_on, l.begun, l.started, l.stopped, l.paired, l.tunnels, l.goings, l.columns, l.rows, l.points, l.entering);
       there = found_ranged fact.LeavesLesser 0 z.splitters s s h (omega arith);
     }
     stands (fact.Kind c content) h = record {
-      block = 13;
+      block = 14;
       place = (spots z - 1 - along z c) * 21 + (20 - content_number content);
-      number = let l = lengths in omega (arith, l.carried, l.halves_on, l.belts_on, l.begun, l.started, l.paired, l.tunnels, l.goings, l.columns, l.rows, l.points, l.entering, l.leaving);
+      number = let l = lengths in omega (arith, l.carried, l.halves_on, l.belts_on, l.begun, l.started, l.stopped, l.paired, l.tunnels, l.goings, l.columns, l.rows, l.points, l.entering, l.leaving);
       there = found_flat (λ c. map (fact.Kind c) (reverse contents)) (reverse along_cells) 21 (spots z - 1 - along z c) (20 - content_number content) c (fact.Kind c content) (λ c. refl)
           (found_reverse along_cells (spots z) (along z c) c length_along (found_along c h))
           (found_map (fact.Kind c) (reverse contents) (20 - content_number content) content (found_reverse contents 21 (content_number content) content refl (found_content content)));
@@ -397,9 +406,9 @@ module _ (z : Sizes) where
         let long = ranks.long in
         let here : Found order rank s = record { within = omega (arith, lt, long); is = get_or_default order rank s 0 (omega (arith, lt, long)) ∙ ranks.there s h.0 } in
         record {
-          block = 14;
+          block = 15;
           place = (z.splitters - 1 - rank) * (spots z * 4) + ((spots z - 1 - along z c) * 4 + dir_number dir);
-          number = let l = lengths in omega (arith, l.carried, l.halves_on, l.belts_on, l.begun, l.started, l.paired, l.tunnels, l.goings, l.columns, l.rows, l.points, l.entering, l.leaving, l.kinds);
+          number = let l = lengths in omega (arith, l.carried, l.halves_on, l.belts_on, l.begun, l.started, l.stopped, l.paired, l.tunnels, l.goings, l.columns, l.rows, l.points, l.entering, l.leaving, l.kinds);
           there = found_flat (λ s. flat_map (λ c. map (fact.At s c) dirs) (reverse along_cells)) (reverse order) (spots z * 4) (z.splitters - 1 - rank) ((spots z - 1 - along z c) * 4 + dir_number dir) s (fact.At s c dir)
               (λ s. length_flat (λ c. map (fact.At s c) dirs) (reverse along_cells) 4 (λ c. refl) ∙ ap (λ n. n * 4) (length-reverse along_cells ∙ length_along))
               (found_reverse order z.splitters rank s long here)

@@ -24,6 +24,7 @@ numbered_of r (fact.HalfOn c) h = h
 numbered_of r (fact.BeltOn c) h = h
 numbered_of r (fact.Begins c) h = h
 numbered_of r (fact.Starts c i) h = h
+numbered_of r (fact.Stops c o) h = h
 numbered_of r (fact.Pair c dir k) h = h
 numbered_of r (fact.Tunnel c dir) h = h
 numbered_of r (fact.Goes c dir) h = h

@@ -1,7 +1,7 @@
 -- The numbers of the variables of a request are small, and those of its facts are among them.
-use Rattle.std.proofs.Common.{◌≡◌, ℕ, ◌<◌, ◌≤◌, ◌+◌, ◌-◌, ◌*◌, ◌^◌, Bool, true, false, cond, List, [], ◌∷◌, ◌++◌, length, map, get_or, sym, ◌∙◌, ap, subst, arith, length-append}
+use Rattle.std.proofs.Common.{◌≡◌, ℕ, ◌<◌, ◌≤◌, ◌+◌, ◌-◌, ◌*◌, ◌^◌, Bool, true, false, cond, List, [], ◌∷◌, ◌++◌, length, map, get_or, refl, sym, ◌∙◌, ap, subst, arith, length-append}
 use Rattle.std.proofs.Math.Nat.{mul-le-mul_right, mul-le-mul_left}
-use Rattle.std.specs.List.{range_with_len, filter}
+use Rattle.std.specs.List.{range_with_len, flat_map, filter, list_any}
 use Rattle.std.proofs.lemmas.List.{get_or_default}
 use Rattle.std.specs.Prelude.{slice_index}
 use Rattle.bt_parts.specs.declared.part.Cell.{Cell}
@@ -11,15 +11,16 @@ use Rattle.bt_parts.specs.Tiers.{reach_of}
 use Rattle.bt_net.specs.Network.{Network}
 use Rattle.bt_model.specs.Requests.{LayoutRequest, IsRequest}
 use Rattle.bt_rules.specs.declared.fact.Class.{Class}
-use Rattle.bt_rules.specs.declared.fact.Class.TheVariants.{Split, Shared, Input}
+use Rattle.bt_rules.specs.declared.fact.Class.TheVariants.{Split, Input}
 use Rattle.bt_rules.specs.declared.fact.Fact.{Fact}
-use Rattle.bt_rules.specs.Classes.{occurs, splitters_of, input_classes, classes_of}
+use Rattle.bt_rules.specs.Classes.{occurs, splitters_of, shared_into, input_classes, classes_of}
+use Rattle.bt_rules.specs.Within.{sides_outputs}
 use Rattle.bt_place.specs.declared.blocks.Starts.{Starts}
 use Rattle.bt_place.specs.Numbering.{Sizes, spots, spot_of, along, variables, variable_of}
 use Rattle.bt_place.specs.PlaceFormula.{splitter_order, ranks_of, sizes_of}
 use Rattle.bt_place.specs.Within.{IsSpot, IsNumbered}
 use Rattle.bt_place.specs.inner.Blocks.{AreNumbers, place_number}
-use Rattle.bt_place.proofs.Counting.{group_within, length_map, length_range}
+use Rattle.bt_place.proofs.Counting.{group_within, length_map, length_range, length_flat}
 use Rattle.bt_place.proofs.Inverse.{AreRanks, fact_at, found_cell, found_along, length_cells, length_along}
 use Rattle.bt_place.proofs.Ranking.{ranked}
 
@@ -45,17 +46,17 @@ filter_few p (x ∷ xs) = by (p x) (filter_few p xs)
     by true le = omega (arith, le)
     by false le = omega (arith, le)
 
--- a request has at most two classes for each splitter and one for each input
-few_classes : (r : LayoutRequest) → length (classes_of r) ≤ r.net.splitters + (r.net.splitters + r.net.inputs)
+-- a request has at most six classes for each splitter and one for each input
+few_classes : (r : LayoutRequest) → length (classes_of r) ≤ r.net.splitters + (r.net.splitters * 5 + r.net.inputs)
 few_classes r =
     let s = splitters_of r in
     let i = range_with_len 0 r.net.inputs in
     let all = length-append (map Split s) (input_classes r) in
     let splits : length (map Split s) ≡ r.net.splitters = length_map Split s ∙ length_range 0 r.net.splitters in
-    let shared : length (map Shared s) ≡ r.net.splitters = length_map Shared s ∙ length_range 0 r.net.splitters in
+    let shared : length (flat_map shared_into s) ≡ r.net.splitters * 5 = length_flat shared_into s 5 (λ t. refl) ∙ ap (λ n. n * 5) (length_range 0 r.net.splitters) in
     let single : length (map Input i) ≡ r.net.inputs = length_map Input i ∙ length_range 0 r.net.inputs in
-    let both = length-append (map Shared s) (map Input i) in
-    let few = filter_few (occurs r) (map Shared s ++ map Input i) in
+    let both = length-append (flat_map shared_into s) (map Input i) in
+    let few = filter_few (occurs r) (flat_map shared_into s ++ map Input i) in
     omega (arith, all, splits, shared, single, both, few)
 
 -- a request has few variables
@@ -66,17 +67,23 @@ few_of_request r is =
     let high : z.height ≤ 16 = is.grid.few_down in
     let s : z.splitters ≤ 128 = is.few_splitters in
     let i : z.inputs ≤ 2048 = is.net.few_inputs in
-    let k : length z.classes ≤ 2304 = (let few = few_classes r in omega (arith, few, s, i)) in
+    let o : z.stops ≤ 2048 = few_stops (list_any sides_outputs r.demands) in
+    let k : length z.classes ≤ 2816 = (let few = few_classes r in omega (arith, few, s, i)) in
     let d : z.distances ≤ 11 = (let h = reaches r.tier in omega (arith, h)) in
     let n : spots z ≤ 16 * 16 = product z.width z.height 16 16 wide high in
     let n : spots z ≤ 256 = omega (arith, n) in
-    let carried = product (spots z) (length z.classes) 256 2304 n k in
+    let carried = product (spots z) (length z.classes) 256 2816 n k in
     let started = product (spots z) z.inputs 256 2048 n i in
+    let stopped = product (spots z) z.stops 256 2048 n o in
     let distances = product (spots z) z.distances 256 11 n d in
     let columns = product z.splitters z.width 128 16 s wide in
     let rows = product z.splitters z.height 128 16 s high in
     let places = product z.splitters (spots z) 128 256 s n in
-    omega (arith, n, s, carried, started, distances, columns, rows, places)
+    omega (arith, n, s, carried, started, stopped, distances, columns, rows, places)
+  where
+    few_stops : (b : Bool) → cond b r.net.outputs 0 ≤ 2048
+    few_stops true = is.net.few_outputs
+    few_stops false = omega arith
 
 -- the sizes of a request have its classes and its ranks
 pub sizes_are : (r : LayoutRequest) (classes : List Class) (ranks : List ℕ) (net : Network) (z : Sizes)

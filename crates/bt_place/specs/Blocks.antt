@@ -10,6 +10,7 @@ starts_of z = record {
   belts = numbering.belts_from z;
   begins = numbering.begins_from z;
   starts = numbering.starts_from z;
+  stops = numbering.stops_from z;
   pairs = numbering.pairs_from z;
   tunnels = numbering.tunnels_from z;
   goings = numbering.goings_from z;

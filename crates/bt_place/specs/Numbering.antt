@@ -17,13 +17,14 @@ use Rattle.bt_rules.specs.declared.fact.Shape.{Shape}
 use Rattle.bt_rules.specs.declared.fact.Shape.TheVariants as shape
 use Rattle.bt_rules.specs.Classes.{same_class}
 
--- the sizes on which the numbers of variables depend: the greatest distance of an underground pair, the classes, and for each
+-- the sizes on which the numbers of variables depend: the outputs that may stop on cells, the greatest distance of an underground pair, the classes, and for each
 -- splitter its rank in the order in which the search places them
 pub record Sizes : Type 0 where
   pub width : ℕ
   pub height : ℕ
   pub splitters : ℕ
   pub inputs : ℕ
+  pub stops : ℕ
   pub distances : ℕ
   pub classes : List Class
   pub ranks : List ℕ
@@ -116,8 +117,11 @@ begins_from z = belts_from z + spots z
 abbrev pub starts_from : Sizes → ℕ
 starts_from z = begins_from z + spots z
 
+abbrev pub stops_from : Sizes → ℕ
+stops_from z = starts_from z + spots z * z.inputs
+
 abbrev pub pairs_from : Sizes → ℕ
-pairs_from z = starts_from z + spots z * z.inputs
+pairs_from z = stops_from z + spots z * z.stops
 
 abbrev pub tunnels_from : Sizes → ℕ
 tunnels_from z = pairs_from z + spots z * 4 * z.distances
@@ -159,6 +163,7 @@ variable_of z (fact.HalfOn c) = halves_from z + spot_of z c
 variable_of z (fact.BeltOn c) = belts_from z + spot_of z c
 variable_of z (fact.Begins c) = begins_from z + spot_of z c
 variable_of z (fact.Starts c i) = starts_from z + (spot_of z c * z.inputs + i)
+variable_of z (fact.Stops c o) = stops_from z + (spot_of z c * z.stops + o)
 variable_of z (fact.Pair c dir k) = pairs_from z + ((spot_of z c * 4 + dir_number dir) * z.distances + (k - 1))
 variable_of z (fact.Tunnel c dir) = tunnels_from z + (spot_of z c * 4 + dir_number dir)
 variable_of z (fact.Goes c dir) = goings_from z + (spot_of z c * 4 + dir_number dir)

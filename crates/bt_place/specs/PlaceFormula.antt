@@ -10,6 +10,7 @@ use Rattle.bt_rules.specs.Classes.{classes_of}
 use Rattle.bt_rules.specs.PlaceRules.{rules_of}
 use Rattle.bt_rules.specs.Rules.{Rule}
 use Rattle.bt_rules.specs.Underground.{most_distance}
+use Rattle.bt_rules.specs.Within.{stopping}
 use Rattle.bt_place.specs.Numbering.{Sizes, ordered, variable_of, variables}
 
 -- the splitters of a network in the order in which the search places them
@@ -27,6 +28,7 @@ sizes_of r = record {
   height = r.rect.height;
   splitters = r.net.splitters;
   inputs = r.net.inputs;
+  stops = stopping r;
   distances = most_distance r;
   classes = classes_of r;
   ranks = ranks_of r.net;

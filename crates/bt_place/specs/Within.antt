@@ -20,6 +20,7 @@ IsNumbered z (fact.HalfOn c) = IsSpot z c
 IsNumbered z (fact.BeltOn c) = IsSpot z c
 IsNumbered z (fact.Begins c) = IsSpot z c
 IsNumbered z (fact.Starts c i) = IsSpot z c × (i < z.inputs)
+IsNumbered z (fact.Stops c o) = IsSpot z c × (o < z.stops)
 IsNumbered z (fact.Pair c dir k) = IsSpot z c × ((1 ≤ k) × (k ≤ z.distances))
 IsNumbered z (fact.Tunnel c dir) = IsSpot z c
 IsNumbered z (fact.Goes c dir) = IsSpot z c

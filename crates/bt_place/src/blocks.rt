@@ -13,6 +13,8 @@ pub struct Extent {
     pub height: usize,
     pub splitters: usize,
     pub inputs: usize,
+    /// The outputs that may stop on cells: all, where some are to stand at a side.
+    pub stops: usize,
     /// The greatest distance between the two ends of an underground pair.
     pub distances: usize,
 }
@@ -24,6 +26,7 @@ pub struct Starts {
     pub belts: usize,
     pub begins: usize,
     pub starts: usize,
+    pub stops: usize,
     pub pairs: usize,
     pub tunnels: usize,
     pub goings: usize,
@@ -56,7 +59,8 @@ pub fn starts_of(extent: Extent, classes: &[Class]) -> Starts
     let belts = after(halves, spots, 1);
     let begins = after(belts, spots, 1);
     let starts = after(begins, spots, 1);
-    let pairs = after(starts, spots, extent.inputs);
+    let stops = after(starts, spots, extent.inputs);
+    let pairs = after(stops, spots, extent.stops);
     let tunnels = after(pairs, dirs, extent.distances);
     let goings = after(tunnels, dirs, 1);
     let columns = after(goings, dirs, 1);
@@ -72,6 +76,7 @@ pub fn starts_of(extent: Extent, classes: &[Class]) -> Starts
         belts,
         begins,
         starts,
+        stops,
         pairs,
         tunnels,
         goings,

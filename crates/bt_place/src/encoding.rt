@@ -134,7 +134,7 @@ fn write_splitters(
     Ok(())
 }
 
-/// The rules of inputs, pins and blocks.
+/// The rules of inputs, pins, sides and blocks.
 fn end_draft(alloc: Global, request: &Request, cells: &[Cell]) -> Result<Draft, AllocError>
     requires { cells.now ≡ spots.cells_of request.now.rect }
     ensures { IfOk result (λ draft. draft ≡ end_rules request.now) }
@@ -144,7 +144,7 @@ fn end_draft(alloc: Global, request: &Request, cells: &[Cell]) -> Result<Draft, 
     Ok(draft)
 }
 
-/// Adds the clauses of the rules of inputs, pins and blocks.
+/// Adds the clauses of the rules of inputs, pins, sides and blocks.
 fn write_ends(
     alloc: Global,
     formula: &mut Formula,

@@ -14,7 +14,7 @@ use crate::blocks::{Extent, Starts, starts_of};
 use crate::order::ranks_of;
 use bt_model::Request;
 use bt_parts::{Cell, Dir};
-use bt_rules::{Class, Content, Fact, Half, Plan, Shape, same_class};
+use bt_rules::{Class, Content, Fact, Half, Plan, Shape, same_class, stopping};
 use std::alloc::{AllocError, Global};
 use std::marker::Model;
 
@@ -140,6 +140,7 @@ fn extent_of(request: &Request) -> Extent
         height: rect.height as usize,
         splitters: net.splitters() as usize,
         inputs: net.inputs() as usize,
+        stops: stopping(request),
         distances: request.tier().reach() as usize + 1,
     }
 }
@@ -263,6 +264,7 @@ impl Numbers {
             Fact::BeltOn(cell) => self.on_cell(starts.belts, cell, 1, 0),
             Fact::Begins(cell) => self.on_cell(starts.begins, cell, 1, 0),
             Fact::Starts(cell, i) => self.on_cell(starts.starts, cell, extent.inputs, i),
+            Fact::Stops(cell, o) => self.on_cell(starts.stops, cell, extent.stops, o),
             Fact::Pair(cell, dir, k) => {
                 let row = self.turned(0, cell, dir);
                 numbered(starts.pairs, row, extent.distances, k - 1)
@@ -328,6 +330,7 @@ impl Numbers {
             Fact::BeltOn(cell) => self.has_spot(cell),
             Fact::Begins(cell) => self.has_spot(cell),
             Fact::Starts(cell, i) => self.has_spot(cell) && i < extent.inputs,
+            Fact::Stops(cell, o) => self.has_spot(cell) && o < extent.stops,
             Fact::Pair(cell, _, k) => self.has_spot(cell) && 1 <= k && k <= extent.distances,
             Fact::Tunnel(cell, _) => self.has_spot(cell),
             Fact::Goes(cell, _) => self.has_spot(cell),

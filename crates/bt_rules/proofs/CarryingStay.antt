@@ -22,7 +22,7 @@ use Rattle.bt_rules.specs.declared.fact.Content.TheVariants.{Empty}
 use Rattle.bt_rules.specs.declared.fact.Fact.{Fact}
 use Rattle.bt_rules.specs.declared.fact.Fact.TheVariants.{Kind, Carries, HalfOn}
 use Rattle.bt_rules.specs.Carrying.{carried_rules, taken_rule, kept_in_rules, onward_rules, carrying_rules}
-use Rattle.bt_rules.specs.Classes.{occurs, goes_to, ends_out, splitters_of, input_classes, classes_of, goals, sources}
+use Rattle.bt_rules.specs.Classes.{occurs, goes_to, ends_out, splitters_of, input_classes, classes_of, goals, sources, shared_into, from_inputs}
 use Rattle.bt_rules.specs.Contents.{holds, class_rules}
 use Rattle.bt_rules.specs.Going.{runners}
 use Rattle.bt_rules.specs.Rules.{Rule, not_all, at_most_one}
@@ -35,6 +35,7 @@ use Rattle.bt_rules.proofs.GoingStay.{taker_there, runner_cases, runner_link, ru
 use Rattle.bt_rules.proofs.Keeping.{In, in_both, from_map, in_filter, from_filter, Distinct, distinct_both, distinct_map, distinct_filter, distinct_range, each_both, each_three, each_flat, each_map, one_of_map, at_most_stays, AllStay, Stays}
 use Rattle.bt_rules.proofs.Laid.{Said, is_orderly, placed_of, inside_at}
 use Rattle.bt_rules.proofs.Reading.{GoesOn, Bears, ComesFromCell}
+use Rattle.bt_rules.proofs.Sharing.{from_shared, distinct_shared}
 use Rattle.bt_rules.proofs.StandingStay.{HasSaid, splitter_number, split_on}
 
 -- ---- the lists of classes
@@ -43,22 +44,22 @@ use Rattle.bt_rules.proofs.StandingStay.{HasSaid, splitter_number, split_on}
 pub no_split : (r : LayoutRequest) (s : ℕ) → In (input_classes r) (Split s) → ⊥
 no_split r s h =
     ⊎_elim
-    (λ shared. let found = from_map Shared (splitters_of r) (Split s) shared in let e = found.2 in cc)
+    (λ shared. let found = from_shared (splitters_of r) (Split s) shared in let e = found.2 in cc)
     (λ own. let found = from_map Input (range_with_len 0 r.net.inputs) (Split s) own in let e = found.2 in cc)
-    (in_both (map Shared (splitters_of r)) (map Input (range_with_len 0 r.net.inputs)) (Split s)
-    (from_filter (occurs r) (map Shared (splitters_of r) ++ map Input (range_with_len 0 r.net.inputs)) (Split s) h).0)
+    (in_both (flat_map shared_into (splitters_of r)) (map Input (range_with_len 0 r.net.inputs)) (Split s)
+    (from_filter (occurs r) (from_inputs r) (Split s) h).0)
 
 distinct_classes : (r : LayoutRequest) → Distinct (classes_of r)
 distinct_classes r = distinct_both (map Split (splitters_of r)) (input_classes r)
     (distinct_map Split (λ x y e. cc) (splitters_of r) (distinct_range 0 r.net.splitters))
-    (distinct_filter (occurs r) (map Shared (splitters_of r) ++ map Input (range_with_len 0 r.net.inputs))
-    (distinct_both (map Shared (splitters_of r)) (map Input (range_with_len 0 r.net.inputs))
-    (distinct_map Shared (λ x y e. cc) (splitters_of r) (distinct_range 0 r.net.splitters))
+    (distinct_filter (occurs r) (from_inputs r)
+    (distinct_both (flat_map shared_into (splitters_of r)) (map Input (range_with_len 0 r.net.inputs))
+    (distinct_shared (splitters_of r) (distinct_range 0 r.net.splitters))
     (distinct_map Input (λ x y e. cc) (range_with_len 0 r.net.inputs) (distinct_range 0 r.net.inputs))
     (λ k a b.
-    let x = from_map Shared (splitters_of r) k a in
+    let x = from_shared (splitters_of r) k a in
     let y = from_map Input (range_with_len 0 r.net.inputs) k b in
-    let e : Shared x.0 ≡ Input y.0 = sym x.2 ∙ y.2 in cc)))
+    let e : Shared x.0 x.1 ≡ Input y.0 = sym x.2 ∙ y.2 in cc)))
     (λ k a b. let x = from_map Split (splitters_of r) k a in no_split r x.0 (subst (In (input_classes r)) x.2 b))
 
 module _ (r : LayoutRequest) (parts : List Part) (lays : Lays parts r) where

@@ -1,11 +1,12 @@
 -- The class of each part of a layout, and where the lists of classes of the request have it.
-use Rattle.std.proofs.Common.{◌≡◌, ◌⊎◌, inl, inr, ℕ, ◌<◌, Bool, true, false, ◌&&◌, cond, List, ◌++◌, map, length, Some, eqb-true, eq-eqb, refl, sym, ◌∙◌, ap, subst, ⊎_elim, arith}
-use Rattle.std.specs.List.{Contains, range_with_len}
+use Rattle.std.proofs.Common.{◌≡◌, ◌⊎◌, inl, inr, ℕ, ◌<◌, ◌==◌, Bool, true, false, ◌&&◌, cond, List, map, length, Some, eqb-true, eq-eqb, refl, sym, ◌∙◌, ap, subst, ⊎_elim, arith}
+use Rattle.std.specs.List.{Contains, flat_map, range_with_len}
 use Rattle.std.proofs.lemmas.Bool.{false≢true}
 use Rattle.bt_parts.specs.declared.part.Cell.{Cell}
 use Rattle.bt_parts.specs.declared.part.Part.{Part}
 use Rattle.bt_parts.specs.Layouts.{IsAt}
 use Rattle.bt_net.specs.declared.network.Edge.{Edge}
+use Rattle.bt_net.specs.declared.network.End.TheVariants as end
 use Rattle.bt_net.specs.declared.network.Start.{Start}
 use Rattle.bt_net.specs.declared.network.Start.TheVariants as from
 use Rattle.bt_net.specs.declared.network.Target.{Target}
@@ -21,12 +22,13 @@ use Rattle.bt_model.proofs.ExistLemmas.{part_cases, from_input}
 use Rattle.bt_model.proofs.Sorted.{one_place}
 use Rattle.bt_rules.specs.declared.fact.Class.{Class}
 use Rattle.bt_rules.specs.declared.fact.Class.TheVariants.{Split, Shared, Input}
-use Rattle.bt_rules.specs.Classes.{is_pinned, class_between, class_of, same_class, is_of, leads_out, occurs, goes_to, ends_out, is_through, splitters_of, input_classes, classes_of}
+use Rattle.bt_rules.specs.Classes.{is_pinned, side_of, class_between, class_of, same_way, same_class, is_of, leads_out, occurs, goes_to, ends_out, is_through, splitters_of, shared_into, from_inputs, input_classes, classes_of}
 use Rattle.bt_rules.proofs.Chaining.{chain_through, one_chain, contained_link, has_input, has_output}
 use Rattle.bt_rules.proofs.Keeping.{In, place_of, from_any, both_true, in_left, in_right, in_map, in_at, in_range, in_filter, any_in}
 use Rattle.bt_rules.proofs.Laid.{match_of, is_orderly}
 use Rattle.bt_rules.proofs.Matching.{Matched}
 use Rattle.bt_rules.proofs.Reading.{Bears, LiesOn, edge_at, no_edge}
+use Rattle.bt_rules.proofs.Sharing.{way_same, way_itself, in_shared}
 use Rattle.bt_rules.proofs.StandingStay.{HasSaid, splitter_number}
 
 -- ---- classes of edges
@@ -34,13 +36,13 @@ use Rattle.bt_rules.proofs.StandingStay.{HasSaid, splitter_number}
 -- classes that are found the same are the same
 pub class_same : (k l : Class) → same_class k l ≡ true → k ≡ l
 class_same (Split s) (Split t) e = ap Split (eqb-true s t e)
-class_same (Shared s) (Shared t) e = ap Shared (eqb-true s t e)
+class_same (Shared s v) (Shared t w) e = let tests = both_true (s == t) (same_way v w) e in let number = eqb-true s t tests.0 in let way = way_same v w tests.1 in λ i. Shared (number i) (way i)
 class_same (Input s) (Input t) e = ap Input (eqb-true s t e)
 class_same k l e = absurd (false≢true e)
 
 pub same_itself : (k : Class) → same_class k k ≡ true
 same_itself (Split s) = eq-eqb s s refl
-same_itself (Shared s) = eq-eqb s s refl
+same_itself (Shared s w) = ap (λ b. b && same_way w w) (eq-eqb s s refl) ∙ way_itself w
 same_itself (Input s) = eq-eqb s s refl
 
 pub same_found : (k l : Class) → k ≡ l → same_class k l ≡ true
@@ -126,35 +128,35 @@ module _ (r : LayoutRequest) (is : IsRequest r) where
   pub split_listed : (s : ℕ) → s < r.net.splitters → In (classes_of r) (Split s)
   split_listed s lt = in_left (map Split (splitters_of r)) (input_classes r) (Split s) (in_map Split (splitters_of r) s (in_splitters s lt))
 
-  edge_occurs : (edge : Edge) → In r.net.edges edge → occurs r (class_of r.pins edge) ≡ true
-  edge_occurs edge h = any_in (is_of r.pins (class_of r.pins edge)) r.net.edges edge h (same_itself (class_of r.pins edge))
+  edge_occurs : (edge : Edge) → In r.net.edges edge → occurs r (class_of r.demands edge) ≡ true
+  edge_occurs edge h = any_in (is_of r.demands (class_of r.demands edge)) r.net.edges edge h (same_itself (class_of r.demands edge))
 
   -- the class of an edge from an input
-  pub input_edge_listed : (edge : Edge) (k : ℕ) → In r.net.edges edge → edge.start ≡ from.Input k → In (input_classes r) (class_of r.pins edge)
+  pub input_edge_listed : (edge : Edge) (k : ℕ) → In r.net.edges edge → edge.start ≡ from.Input k → In (input_classes r) (class_of r.demands edge)
   input_edge_listed edge k h at =
-      in_filter (occurs r) (map Shared (splitters_of r) ++ map Input (range_with_len 0 r.net.inputs)) (class_of r.pins edge)
-      (subst (In (map Shared (splitters_of r) ++ map Input (range_with_len 0 r.net.inputs))) (sym (ap (λ start. class_between r.pins start edge.target) at))
-      (by edge.target (edge_ends edge h) (is_pinned r.pins k)))
+      in_filter (occurs r) (from_inputs r) (class_of r.demands edge)
+      (subst (In (from_inputs r)) (sym (ap (λ start. class_between r.demands start edge.target) at))
+      (by edge.target (edge_ends edge h) (is_pinned r.demands k)))
       (edge_occurs edge h)
     where
-      own : In (map Shared (splitters_of r) ++ map Input (range_with_len 0 r.net.inputs)) (Input k)
-      own = in_right (map Shared (splitters_of r)) (map Input (range_with_len 0 r.net.inputs)) (Input k)
+      own : In (from_inputs r) (Input k)
+      own = in_right (flat_map shared_into (splitters_of r)) (map Input (range_with_len 0 r.net.inputs)) (Input k)
           (in_map Input (range_with_len 0 r.net.inputs) k (let below = subst (StartsIn r.net) at (edge_starts edge h) in in_range 0 r.net.inputs k (omega arith) (omega (arith, below))))
 
-      by : (target : Target) → EndsIn r.net target → Bool → In (map Shared (splitters_of r) ++ map Input (range_with_len 0 r.net.inputs)) (class_between r.pins (from.Input k) target)
+      by : (target : Target) → EndsIn r.net target → Bool → In (from_inputs r) (class_between r.demands (from.Input k) target)
       by (to.Output o) below b = own
-      by (to.Split t) below b = or (is_pinned r.pins k)
+      by (to.Split t) below b = or (is_pinned r.demands k)
         where
-          or : (b : Bool) → In (map Shared (splitters_of r) ++ map Input (range_with_len 0 r.net.inputs)) (cond b (Input k) (Shared t))
+          or : (b : Bool) → In (from_inputs r) (cond b (Input k) (Shared t (side_of r.demands (end.Input k))))
           or true = own
-          or false = in_left (map Shared (splitters_of r)) (map Input (range_with_len 0 r.net.inputs)) (Shared t) (in_map Shared (splitters_of r) t (in_splitters t below))
+          or false = in_left (flat_map shared_into (splitters_of r)) (map Input (range_with_len 0 r.net.inputs)) (Shared t (side_of r.demands (end.Input k))) (in_shared (splitters_of r) t (side_of r.demands (end.Input k)) (in_splitters t below))
 
-  pub edge_class_listed : (edge : Edge) → In r.net.edges edge → In (classes_of r) (class_of r.pins edge)
+  pub edge_class_listed : (edge : Edge) → In r.net.edges edge → In (classes_of r) (class_of r.demands edge)
   edge_class_listed edge h = by edge.start refl (edge_starts edge h)
     where
-      by : (start : Start) → edge.start ≡ start → StartsIn r.net start → In (classes_of r) (class_of r.pins edge)
-      by (from.Split s) at below = subst (In (classes_of r)) (sym (ap (λ start. class_between r.pins start edge.target) at)) (split_listed s below)
-      by (from.Input k) at below = in_right (map Split (splitters_of r)) (input_classes r) (class_of r.pins edge) (input_edge_listed edge k h at)
+      by : (start : Start) → edge.start ≡ start → StartsIn r.net start → In (classes_of r) (class_of r.demands edge)
+      by (from.Split s) at below = subst (In (classes_of r)) (sym (ap (λ start. class_between r.demands start edge.target) at)) (split_listed s below)
+      by (from.Input k) at below = in_right (map Split (splitters_of r)) (input_classes r) (class_of r.demands edge) (input_edge_listed edge k h at)
 
   -- the class of an input that leads to an output
   pub through_listed : (i : ℕ) → is_through r i ≡ true → In (classes_of r) (Input i)
@@ -163,7 +165,7 @@ module _ (r : LayoutRequest) (is : IsRequest r) where
       let tests = both_true (is_input i found.0) (leads_out found.0) found.2 in
       let start = input_start i found.0 tests.0 in
       let out = out_target found.0 tests.1 in
-      subst (In (classes_of r)) (ap (λ x. class_between r.pins x found.0.target) start ∙ ap (class_between r.pins (from.Input i)) out.1) (edge_class_listed found.0 found.1)
+      subst (In (classes_of r)) (ap (λ x. class_between r.demands x found.0.target) start ∙ ap (class_between r.demands (from.Input i)) out.1) (edge_class_listed found.0 found.1)
 
 module _ (r : LayoutRequest) (parts : List Part) (lays : Lays parts r) where
   abbrev pub m : Matched parts lays.naming r.net.edges
@@ -174,7 +176,7 @@ module _ (r : LayoutRequest) (parts : List Part) (lays : Lays parts r) where
   the_edge e = edge_at r.net.edges e
 
   abbrev pub class_at : ℕ → Class
-  class_at e = class_of r.pins (the_edge e)
+  class_at e = class_of r.demands (the_edge e)
 
   pub is_edge : (e : ℕ) → e < length r.net.edges → IsEdgeOf parts lays.naming (m.chain_of e) (the_edge e)
   is_edge e lt = m.is_edge e no_edge lt
@@ -184,7 +186,7 @@ module _ (r : LayoutRequest) (parts : List Part) (lays : Lays parts r) where
 
   -- the part lies on the chain of this edge
   abbrev pub Lies : ℕ → ℕ → Type 0
-  Lies i e = LiesOn parts lays.naming r.net.edges r.pins m i e
+  Lies i e = LiesOn parts lays.naming r.net.edges r.demands m i e
 
   -- ---- the class of a part
 
@@ -237,7 +239,7 @@ module _ (r : LayoutRequest) (parts : List Part) (lays : Lays parts r) where
 
   -- the class of an edge that starts at a splitter
   pub split_class_at : (e s : ℕ) → (the_edge e).start ≡ from.Split s → class_at e ≡ Split s
-  split_class_at e s is = ap (λ start. class_between r.pins start (the_edge e).target) is
+  split_class_at e s is = ap (λ start. class_between r.demands start (the_edge e).target) is
 
   -- an edge whose chain ends as an output leads out
   pub leads_there : (e i : ℕ) → e < length r.net.edges → (m.chain_of e).sink ≡ chains.ends i → leads_out (the_edge e) ≡ true
@@ -286,16 +288,16 @@ module _ (r : LayoutRequest) (parts : List Part) (lays : Lays parts r) where
 
   -- ---- the lists of classes
 
-  pub is_of_class : (e : ℕ) → is_of r.pins (class_at e) (the_edge e) ≡ true
+  pub is_of_class : (e : ℕ) → is_of r.demands (class_at e) (the_edge e) ≡ true
   is_of_class e = same_itself (class_at e)
 
   -- the class of the edge goes to the splitter at which the edge ends
   pub class_goes : (e t : ℕ) → e < length r.net.edges → (the_edge e).target ≡ to.Split t → goes_to r (class_at e) t ≡ true
-  class_goes e t lt at = any_in (λ edge. is_of r.pins (class_at e) edge && enters t edge) r.net.edges (the_edge e) (edge_in e lt)
+  class_goes e t lt at = any_in (λ edge. is_of r.demands (class_at e) edge && enters t edge) r.net.edges (the_edge e) (edge_in e lt)
       (ap (λ b. b && enters t (the_edge e)) (is_of_class e) ∙ target_enters t (the_edge e) at)
 
   pub class_ends : (e : ℕ) → e < length r.net.edges → leads_out (the_edge e) ≡ true → ends_out r (class_at e) ≡ true
-  class_ends e lt out = any_in (λ edge. is_of r.pins (class_at e) edge && leads_out edge) r.net.edges (the_edge e) (edge_in e lt)
+  class_ends e lt out = any_in (λ edge. is_of r.demands (class_at e) edge && leads_out edge) r.net.edges (the_edge e) (edge_in e lt)
       (ap (λ b. b && leads_out (the_edge e)) (is_of_class e) ∙ out)
 
   module _ (is : IsRequest r) where

@@ -1,8 +1,9 @@
 -- What loops over lists have found so far.
-use Rattle.std.proofs.Common.{◌≡◌, ℕ, zero, suc, ◌<◌, ◌≤◌, ◌+◌, Bool, true, false, cond, ◌||◌, List, [], ◌∷◌, ◌++◌, length, map, take, get_or, refl, ap, sym, ◌∙◌, subst, arith, append_assoc}
+use Rattle.std.proofs.Common.{◌≡◌, ℕ, zero, suc, ◌<◌, ◌≤◌, ◌+◌, Bool, true, false, cond, ◌||◌, List, [], ◌∷◌, ◌++◌, length, map, take, get_or, refl, ap, sym, ◌∙◌, subst, arith, append_assoc, append-nil}
 use Rattle.std.specs.List.{AllByRecursion, flat_map, filter, list_any, range_with_len}
 use Rattle.std.proofs.lemmas.List.{take_all, take_more, map-append}
 use Rattle.std.proofs.lemmas.List.Elements.{filter-append}
+use Rattle.std.proofs.lemmas.Grind.{flat_map-append}
 use Rattle.std.proofs.lemmas.List.Folds.{list_any_more, list_any_at}
 use Rattle.bt_arena.proofs.Loops.{range_more}
 
@@ -38,6 +39,26 @@ named_kept p f old now new n e h =
     let same : n ≡ 0 + n = omega arith in
     h ∙ ap (λ l. l ++ one) e ∙ append_assoc old xs one
     ∙ ap (λ l. old ++ l) (sym (filter-append p (map f (range_with_len 0 n)) (f n ∷ [])) ∙ ap (filter p) (sym (map-append f (range_with_len 0 n) (n ∷ []))) ∙ ap (λ m. filter p (map f (range_with_len 0 n ++ m ∷ []))) same ∙ ap (λ l. filter p (map f l)) (sym (range_more 0 n)))
+
+-- and those that numbers give several of
+pub flat_named_kept : {X : Type 0} (p : X → Bool) (f : ℕ → List X) (old now new : List X) (n : ℕ) → now ≡ old ++ filter p (flat_map f (range_with_len 0 n))
+    → new ≡ now ++ filter p (f n) → new ≡ old ++ filter p (flat_map f (range_with_len 0 (n + 1)))
+flat_named_kept p f old now new n e h =
+    let xs = filter p (flat_map f (range_with_len 0 n)) in
+    let same : n ≡ 0 + n = omega arith in
+    let last : flat_map f (n ∷ []) ≡ f n = append-nil (f n) in
+    h ∙ ap (λ l. l ++ filter p (f n)) e ∙ append_assoc old xs (filter p (f n))
+    ∙ ap (λ l. old ++ l) (sym (filter-append p (flat_map f (range_with_len 0 n)) (f n)) ∙ ap (λ l. filter p (flat_map f (range_with_len 0 n) ++ l)) (sym last)
+    ∙ ap (filter p) (sym (flat_map-append f (range_with_len 0 n) (n ∷ []))) ∙ ap (λ m. filter p (flat_map f (range_with_len 0 n ++ m ∷ []))) same ∙ ap (λ l. filter p (flat_map f l)) (sym (range_more 0 n)))
+
+-- of things that are named, those that pass a test, one after another
+flat_one : {X Y : Type 0} (f : X → Y) (x : X) (ys zs : List Y) (b : Bool) → ys ≡ zs → cond b (f x ∷ []) [] ++ ys ≡ cond b (f x ∷ zs) zs
+flat_one f x ys zs true e = ap (λ l. f x ∷ l) e
+flat_one f x ys zs false e = e
+
+pub flat_kept : {X Y : Type 0} (p : Y → Bool) (f : X → Y) (xs : List X) → flat_map (λ x. cond (p (f x)) (f x ∷ []) []) xs ≡ filter p (map f xs)
+flat_kept p f [] = refl
+flat_kept p f (x ∷ xs) = flat_one f x (flat_map (λ y. cond (p (f y)) (f y ∷ []) []) xs) (filter p (map f xs)) (p (f x)) (flat_kept p f xs)
 
 -- ---- what is made of the items that pass a test
 
@@ -99,3 +120,7 @@ four_added d d1 d2 s h u k e1 e2 = two_added d d1 d2 s (h ++ u ++ k) e1 e2 ∙ a
 -- three lists, taken together from the left
 pub three_together : {X : Type 0} (d d1 d2 d3 x y z : List X) → d1 ≡ d ++ x → d2 ≡ d1 ++ y → d3 ≡ d2 ++ z → d3 ≡ d ++ (x ++ y ++ z)
 three_together d d1 d2 d3 x y z e1 e2 e3 = two_added d d2 d3 (x ++ y) z (two_added d d1 d2 x y e1 e2) e3
+
+-- one list, and then three
+pub four_in_turn : {X : Type 0} (d d1 d2 d3 d4 x a b c : List X) → d1 ≡ d ++ x → d2 ≡ d1 ++ a → d3 ≡ d2 ++ b → d4 ≡ d3 ++ c → d4 ≡ d ++ (x ++ (a ++ b ++ c))
+four_in_turn d d1 d2 d3 d4 x a b c e1 e2 e3 e4 = two_added d d1 d4 x (a ++ b ++ c) e1 (three_together d1 d2 d3 d4 a b c e2 e3 e4)

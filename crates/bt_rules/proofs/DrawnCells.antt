@@ -5,11 +5,13 @@ use Rattle.std.specs.Prelude.{unsigned_abs, ◌<ℤ◌, ◌≤ℤ◌}
 use Rattle.std.proofs.lemmas.Int.{ints}
 use Rattle.bt_parts.specs.declared.part.Cell.{Cell}
 use Rattle.bt_parts.specs.Cells.{IsInside, IsInRange}
-use Rattle.bt_model.specs.Requests.{LayoutRequest, IsRequest, pinned, blocked}
-use Rattle.bt_rules.specs.Spots.{cells_of}
-use Rattle.bt_rules.specs.inner.Near.{IsNear, IsPinnedNear, IsBlockedNear}
+use Rattle.bt_net.specs.declared.network.Demand.{Demand}
+use Rattle.bt_net.specs.declared.network.Demand.TheVariants as demand
+use Rattle.bt_model.specs.Requests.{LayoutRequest, IsRequest, IsPinnedInside, pinned, blocked}
+use Rattle.bt_rules.specs.Spots.{cells_of, is_border, border_of}
+use Rattle.bt_rules.specs.inner.Near.{IsNear, IsDemandedNear, IsBlockedNear}
 use Rattle.bt_rules.proofs.Geometry.{from_cells}
-use Rattle.bt_rules.proofs.Keeping.{In, in_at}
+use Rattle.bt_rules.proofs.Keeping.{In, in_at, from_filter}
 
 module _ (r : LayoutRequest) (is : IsRequest r) where
   small : (a : ℤ) (n : ℕ) → n ≤ 16 → pos 0 ≤ℤ a → a <ℤ pos n → unsigned_abs a ≤ 16
@@ -37,13 +39,20 @@ module _ (r : LayoutRequest) (is : IsRequest r) where
   pub cells_near : (cells : List Cell) → cells ≡ cells_of r.rect → All IsNear cells
   cells_near cells same i d lt = inside_near (get_or cells i d) (cell_inside cells i d same lt)
 
+  pub border_near : (cells : List Cell) → cells ≡ border_of r.rect → All IsNear cells
+  border_near cells same i d lt =
+      inside_near (get_or cells i d) (from_cells r.rect (get_or cells i d) (from_filter (is_border r.rect) (cells_of r.rect) (get_or cells i d) (subst (λ l. In l (get_or cells i d)) same (in_at cells i d lt))).0)
+
   each_of_all : {X : Type 0} (P Q : X → Type 0) (xs : List X) → ((x : X) → P x → Q x) → All P xs → AllByRecursion Q xs
   each_of_all P Q [] f h = tt
   each_of_all P Q (x ∷ xs) f h = (f x (h 0 x (omega arith)), each_of_all P Q xs f (λ k d lt. h (suc k) d (omega arith)))
 
-  pub pins_near : AllByRecursion IsPinnedNear r.pins
-  pins_near = each_of_all (λ pin. IsInside r.rect (pinned pin)) IsPinnedNear r.pins
-      (λ pin h. let x = small_x (pinned pin) h in let y = small_y (pinned pin) h in (omega (arith, x), omega (arith, y))) is.pins_inside
+  demand_near : (d : Demand) → IsPinnedInside r.rect d → IsDemandedNear d
+  demand_near (demand.Pin pin) h = let x = small_x (pinned pin) h in let y = small_y (pinned pin) h in (omega (arith, x), omega (arith, y))
+  demand_near (demand.Side side) h = tt
+
+  pub demands_near : AllByRecursion IsDemandedNear r.demands
+  demands_near = each_of_all (IsPinnedInside r.rect) IsDemandedNear r.demands demand_near is.pins_inside
 
   pub blocks_near : AllByRecursion IsBlockedNear r.blocks
   blocks_near = each_of_all (λ block. IsInside r.rect (blocked block)) IsBlockedNear r.blocks

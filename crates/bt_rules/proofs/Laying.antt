@@ -1,9 +1,9 @@
 -- Each layout that lays a request gives a reading of the facts that keeps the request's rules.
-use Rattle.std.proofs.Common.{◌≡◌, inl, inr, ℕ, suc, ◌<◌, Bool, true, false, List, [], ◌∷◌, ◌++◌, map, refl, arith}
-use Rattle.std.specs.List.{All, AllByRecursion, flat_map, range_with_len}
+use Rattle.std.proofs.Common.{◌≡◌, inl, inr, ℕ, ◌<◌, Bool, true, false, List, [], ◌∷◌, ◌++◌, map, refl, arith}
+use Rattle.std.specs.List.{AllByRecursion, flat_map, range_with_len}
 use Rattle.std.proofs.lemmas.Bool.{false≢true}
 use Rattle.bt_parts.specs.declared.part.Part.{Part}
-use Rattle.bt_model.specs.Laying.{Lays, KeepsPin}
+use Rattle.bt_model.specs.Laying.{Lays, KeepsDemand}
 use Rattle.bt_model.specs.Requests.{LayoutRequest, IsRequest}
 use Rattle.bt_rules.specs.declared.fact.Fact.{Fact}
 use Rattle.bt_rules.specs.Carrying.{carrying_rules}
@@ -11,7 +11,7 @@ use Rattle.bt_rules.specs.Classes.{splitters_of}
 use Rattle.bt_rules.specs.Contents.{content_rules, shape_rules, mate_rules, class_rules}
 use Rattle.bt_rules.specs.Going.{handing_rules}
 use Rattle.bt_rules.specs.Laws.{LayingKeeps}
-use Rattle.bt_rules.specs.Pinning.{pin_rules, clash_rules, block_rule}
+use Rattle.bt_rules.specs.Pinning.{demand_rules, clash_rules, block_rule}
 use Rattle.bt_rules.specs.PlaceRules.{cell_rules, splitter_rules, end_rules, rules_of}
 use Rattle.bt_rules.specs.Ports.{port_rules}
 use Rattle.bt_rules.specs.Rules.{Rule, AllHold, OneHolds, Keeps}
@@ -25,17 +25,13 @@ use Rattle.bt_rules.proofs.Deciding.{Decided}
 use Rattle.bt_rules.proofs.GoingStay.{handing_stay}
 use Rattle.bt_rules.proofs.Keeping.{In, in_contains, from_range, all_there, each_both, each_three, each_four, each_flat, each_map, OneSaid, Stays, AllStay}
 use Rattle.bt_rules.proofs.Laid.{Said}
-use Rattle.bt_rules.proofs.PinningStay.{pin_stays, clashes_stay, block_stays}
+use Rattle.bt_rules.proofs.PinningStay.{clashes_stay, block_stays}
+use Rattle.bt_rules.proofs.SidesStay.{each_of, demand_stays}
 use Rattle.bt_rules.proofs.PortsStay.{ports_stay}
 use Rattle.bt_rules.proofs.StandingStay.{standing_stay, places_stay}
 use Rattle.bt_rules.proofs.StartsStay.{inputs_stay}
 use Rattle.bt_rules.proofs.Told.{said}
 use Rattle.bt_rules.proofs.UndergroundStay.{underground_stay}
-
--- what holds of each item, by its place
-from_all : {X : Type 0} (P : X → Type 0) (xs : List X) → All P xs → AllByRecursion P xs
-from_all P [] h = tt
-from_all P (x ∷ xs) h = (h 0 x (omega arith), from_all P xs (λ k d lt. h (suc k) d (omega arith)))
 
 -- whether it is told to hold
 told : {P : Type 0} → Decided P → Bool
@@ -72,11 +68,14 @@ module _ (r : LayoutRequest) (is : IsRequest r) (parts : List Part) (lays : Lays
   splitter_stays : (s : ℕ) → s < r.net.splitters → AllStay S (splitter_rules r s)
   splitter_stays s lt = each_both (Stays S) (place_rules r.rect s) (port_rules r s) (places_stay r parts lays s lt) (ports_stay r parts lays is s lt)
 
+  kept : AllByRecursion (KeepsDemand parts r lays.naming) r.demands
+  kept = each_of (KeepsDemand parts r lays.naming) r.demands lays.demands
+
   ends_stay : AllStay S (end_rules r)
-  ends_stay = each_four (Stays S) (flat_map (input_rules r) (range_with_len 0 r.net.inputs)) (flat_map (pin_rules r) r.pins) (clash_rules r.pins) (map block_rule r.blocks)
+  ends_stay = each_four (Stays S) (flat_map (input_rules r) (range_with_len 0 r.net.inputs)) (flat_map (demand_rules r) r.demands) (clash_rules r.demands) (map block_rule r.blocks)
       (each_flat (Stays S) (input_rules r) (range_with_len 0 r.net.inputs) (λ k h. inputs_stay r parts lays k (below r.net.inputs k h)))
-      (each_flat (Stays S) (pin_rules r) r.pins (λ pin h. pin_stays r parts lays pin (all_there (KeepsPin parts lays.naming) r.pins pin (from_all (KeepsPin parts lays.naming) r.pins lays.pins) h)))
-      (clashes_stay r parts lays r.pins (from_all (KeepsPin parts lays.naming) r.pins lays.pins) is.pins_apart)
+      (each_flat (Stays S) (demand_rules r) r.demands (λ d h. demand_stays r is parts lays d h (all_there (KeepsDemand parts r lays.naming) r.demands d kept h)))
+      (clashes_stay r parts lays r.demands kept is.demands_apart)
       (each_map (Stays S) block_rule r.blocks (λ block h. block_stays r parts lays block (in_contains r.blocks block h)))
 
   rules_stay : AllStay S (rules_of r)

@@ -5,6 +5,7 @@ pub mod Deciding
 pub mod Keeping
 pub mod Geometry
 pub mod Chaining
+pub mod Sharing
 pub mod Laid
 pub mod ContentsStay
 pub mod StandingStay
@@ -16,6 +17,7 @@ pub mod Numbered
 pub mod PortsStay
 pub mod StartsStay
 pub mod PinningStay
+pub mod SidesStay
 pub mod Told
 pub mod Laying
 pub mod RulesWithin

@@ -1,5 +1,5 @@
--- Layouts keep the rules of pins and blocks.
-use Rattle.std.proofs.Common.{◌≡◌, ◌≢◌, inl, inr, ℕ, suc, ◌<◌, ◌==◌, true, ◌&&◌, List, [], ◌∷◌, length, map, Option, Some, None, eqb-true, refl, sym, ◌∙◌, ap, subst, ⊎_elim, arith}
+-- Layouts keep the rules of pins, sides and blocks.
+use Rattle.std.proofs.Common.{◌≡◌, inl, inr, ℕ, ◌<◌, ◌==◌, true, ◌&&◌, List, [], ◌∷◌, length, map, Option, Some, None, eqb-true, refl, sym, ◌∙◌, ap, subst, ⊎_elim}
 use Rattle.std.proofs.lemmas.Bool.{false≢true}
 use Rattle.std.specs.List.{Contains, AllByRecursion, AllPairs, filter}
 use Rattle.std.specs.Option.{IfSome}
@@ -8,22 +8,26 @@ use Rattle.bt_parts.specs.declared.part.Dir.{Dir}
 use Rattle.bt_parts.specs.declared.part.Part.{Part}
 use Rattle.bt_parts.specs.Layouts.{HasPart, IsAt}
 use Rattle.bt_net.specs.declared.network.Block.{Block}
+use Rattle.bt_net.specs.declared.network.Demand.{Demand}
+use Rattle.bt_net.specs.declared.network.Demand.TheVariants as demand
 use Rattle.bt_net.specs.declared.network.End.{End}
 use Rattle.bt_net.specs.declared.network.End.TheVariants.{Input, Output}
 use Rattle.bt_net.specs.declared.network.Pin.{Pin}
-use Rattle.bt_model.specs.Laying.{Lays, IsNamed, KeepsPin}
-use Rattle.bt_model.specs.Requests.{LayoutRequest, cell_at, pinned}
+use Rattle.bt_model.specs.Laying.{Lays, IsNamed, KeepsPin, KeepsDemand}
+use Rattle.bt_model.specs.Requests.{LayoutRequest, ShareEnd, ends_of, cell_at, pinned}
 use Rattle.bt_rules.specs.declared.fact.Fact.{Fact}
 use Rattle.bt_rules.specs.declared.fact.Fact.TheVariants.{Carries}
 use Rattle.bt_rules.specs.declared.fact.Shape.TheVariants as shape
 use Rattle.bt_rules.specs.Rules.{some_of, not_all}
 use Rattle.bt_rules.specs.Spots.{dirs, others_than, where_outside}
 use Rattle.bt_rules.specs.Contents.{holds}
-use Rattle.bt_rules.specs.Pinning.{is_edge_of, pin_class_rules, enders, end_facts, end_shapes, turned_rules, pin_rules, same_kind, clashes, clash_rules, block_rule}
+use Rattle.bt_rules.specs.Pinning.{is_edge_of, pin_class_rules, enders, end_facts, end_shapes, turned_rules, pin_rules, same_kind, pins_clash, clashes, clash_rules, block_rule}
 use Rattle.bt_rules.proofs.Geometry.{in_dirs, others_apart}
 use Rattle.bt_rules.proofs.Keeping.{place_of, from_filter, both_true, all_there, each_both, each_flat, each_map, said_flat, AllStay, Stays, OneSaid}
 use Rattle.bt_rules.proofs.Laid.{Said, placed_of, stands_as, one_outside}
 use Rattle.bt_rules.proofs.Classed.{the_edge, Lies, from_start, from_target, input_start, output_target}
+use Rattle.bt_rules.proofs.Sharing.{NameApart, head_apart}
+use Rattle.bt_model.proofs.Sorted.{pairs_tail}
 use Rattle.bt_rules.proofs.StartsStay.{named_input}
 use Rattle.bt_rules.proofs.Deciding.{contains_at}
 use Rattle.bt_rules.proofs.Reading.{no_edge}
@@ -46,15 +50,15 @@ module _ (r : LayoutRequest) (parts : List Part) (lays : Lays parts r) where
   pin_lies e (Output o) i lt t named = from_target r parts lays e o i lt (output_target o (the_edge r parts lays e) t) named
 
   class_stays : (pin : Pin) → KeepsPin parts lays.naming pin → AllStay S (pin_class_rules r pin)
-  class_stays pin kept = each_map (Stays S) (λ edge. some_of (Carries (pinned pin) (class_of r.pins edge) ∷ [])) (filter (is_edge_of pin.end) r.net.edges)
+  class_stays pin kept = each_map (Stays S) (λ edge. some_of (Carries (pinned pin) (class_of r.demands edge) ∷ [])) (filter (is_edge_of pin.end) r.net.edges)
       (λ edge h none.
       let found = from_filter (is_edge_of pin.end) r.net.edges edge h in
       let place = place_of r.net.edges edge found.0 in
       let same = place.2 no_edge in
       let lies = pin_lies place.0 pin.end kept.index place.1 (ap (is_edge_of pin.end) same ∙ found.1) kept.named in
-      inl (kept.index, pin_at pin kept, inr (place.0, lies, ap (class_of r.pins) (sym same))))
+      inl (kept.index, pin_at pin kept, inr (place.0, lies, ap (class_of r.demands) (sym same))))
 
-  output_cell : (i : ℕ) (c : Cell) (output : IsOutput parts i) → IsAt parts i c → c ≡ output.part.cell
+  pub output_cell : (i : ℕ) (c : Cell) (output : IsOutput parts i) → IsAt parts i c → c ≡ output.part.cell
   output_cell i c output at = own_cell output.part c (λ e. ⊎_elim (λ k. let a = k in cc) (λ k. let a = k in cc) output.kind) (covers_at parts i output.part c output.is_i at)
 
   ends_said : (i : ℕ) (c : Cell) (output : IsOutput parts i) → IsAt parts i c → OneSaid S (enders r.rect c)
@@ -98,25 +102,30 @@ module _ (r : LayoutRequest) (parts : List Part) (lays : Lays parts r) where
   one_end (Output j) (Input k) i t p q = absurd (false≢true t)
 
   -- two pins that are kept don't clash
-  pins_clash : (one other : Pin) → KeepsPin parts lays.naming one → KeepsPin parts lays.naming other → clashes one other ≡ true → one.end ≡ other.end
-  pins_clash one other p q t =
+  kept_apart : (one other : Pin) → KeepsPin parts lays.naming one → KeepsPin parts lays.naming other → pins_clash one other ≡ true → one.end ≡ other.end
+  kept_apart one other p q t =
       let tests = both_true (same_kind one.end other.end && (one.x == other.x)) (one.y == other.y) t in
       let kinds = both_true (same_kind one.end other.end) (one.x == other.x) tests.0 in
       let cells : pinned one ≡ pinned other = ap (λ x. cell_at x one.y) (eqb-true one.x other.x kinds.1) ∙ ap (cell_at other.x) (eqb-true one.y other.y tests.1) in
       let index : p.index ≡ q.index = one_there parts (placed_of r parts lays) p.index q.index (pinned other) (subst (IsAt parts p.index) cells (pin_at one p)) (pin_at other q) in
       one_end one.end other.end q.index kinds.0 (subst (IsNamed lays.naming one.end) index p.named) q.named
 
-  pub clashes_stay : (pins : List Pin) → AllByRecursion (KeepsPin parts lays.naming) pins → AllPairs (λ one other. one.end ≢ other.end) pins → AllStay S (clash_rules pins)
+  -- so two lines that clash name one end
+  share_end : (one other : Demand) → KeepsDemand parts r lays.naming one → KeepsDemand parts r lays.naming other → clashes one other ≡ true → ShareEnd (ends_of one) (ends_of other)
+  share_end (demand.Pin one) (demand.Pin other) p q t = (one.end, refl, kept_apart one other p q t)
+  share_end (demand.Pin one) (demand.Side other) p q t = absurd (false≢true t)
+  share_end (demand.Side one) (demand.Pin other) p q t = absurd (false≢true t)
+  share_end (demand.Side one) (demand.Side other) p q t = absurd (false≢true t)
+
+  pub clashes_stay : (demands : List Demand) → AllByRecursion (KeepsDemand parts r lays.naming) demands → AllPairs NameApart demands
+      → AllStay S (clash_rules demands)
   clashes_stay [] kept apart = tt
-  clashes_stay (pin ∷ pins) kept apart = each_both (Stays S) (map (λ other. some_of []) (filter (clashes pin) pins)) (clash_rules pins)
-      (each_map (Stays S) (λ other. some_of []) (filter (clashes pin) pins)
+  clashes_stay (d ∷ demands) kept apart = each_both (Stays S) (map (λ other. some_of []) (filter (clashes d) demands)) (clash_rules demands)
+      (each_map (Stays S) (λ other. some_of []) (filter (clashes d) demands)
       (λ other h none.
-      let found = from_filter (clashes pin) pins other h in
-      let place = place_of pins other found.0 in
-      let lt = place.1 in
-      let same = pins_clash pin other kept.0 (all_there (KeepsPin parts lays.naming) pins other kept.1 found.0) found.1 in
-      absurd (apart 0 (suc place.0) other (omega arith) (omega (arith, lt)) (same ∙ ap (λ p. p.end) (sym (place.2 other))))))
-      (clashes_stay pins kept.1 (λ i j d lt below. apart (suc i) (suc j) d (omega arith) (omega arith)))
+      let found = from_filter (clashes d) demands other h in
+      absurd (head_apart d demands apart other found.0 (share_end d other kept.0 (all_there (KeepsDemand parts r lays.naming) demands other kept.1 found.0) found.1))))
+      (clashes_stay demands kept.1 (pairs_tail NameApart d demands apart))
 
   pub block_stays : (block : Block) → Contains r.blocks block → Stays S (block_rule block)
   block_stays block there none = inl (λ i at. lays.fits.unblocked i block there at)

@@ -62,10 +62,10 @@ module _ (r : LayoutRequest) (parts : List Part) (lays : Lays parts r) where
 
   -- the edge leaves the splitter, or comes into it, by this half
   abbrev pub Leaving : ℕ → ℕ → Half → Type 0
-  Leaving = LeavesBy parts lays.naming r.net.edges r.pins m
+  Leaving = LeavesBy parts lays.naming r.net.edges r.demands m
 
   abbrev pub Entering : ℕ → ℕ → Half → Type 0
-  Entering = EntersBy parts lays.naming r.net.edges r.pins m
+  Entering = EntersBy parts lays.naming r.net.edges r.demands m
 
   in_numbered : (e : ℕ) → e < length r.net.edges → In (enumerate_from 0 r.net.edges) (e, the_edge r parts lays e)
   in_numbered e lt = subst (λ n. In (enumerate_from 0 r.net.edges) (n, the_edge r parts lays e)) (let z : 0 + e ≡ e = omega arith in z) (in_enumerate 0 r.net.edges e no_edge lt)
@@ -293,8 +293,8 @@ module _ (r : LayoutRequest) (parts : List Part) (lays : Lays parts r) where
       let source = source_of p.0 s (m.chain_of p.0).source edge.0 refl (subst (IsStartOf lays.naming (m.chain_of p.0).source) start (is_edge r parts lays p.0 edge.0).start) in
       (source.1, (edge.0, (source.0, source.2)))
 
-  pub class_numbered : (t : ℕ) (p : ℕ × Edge) → In (edges_into r.net.edges t) p → class_at r parts lays p.0 ≡ class_of r.pins p.1
-  class_numbered t p h = ap (class_of r.pins) (numbered_edge p (from_filter (λ numbered. enters t numbered.1) (enumerate_from 0 r.net.edges) p h).0).1
+  pub class_numbered : (t : ℕ) (p : ℕ × Edge) → In (edges_into r.net.edges t) p → class_at r parts lays p.0 ≡ class_of r.demands p.1
+  class_numbered t p h = ap (class_of r.demands) (numbered_edge p (from_filter (λ numbered. enters t numbered.1) (enumerate_from 0 r.net.edges) p h).0).1
 
   -- ---- the halves of the first edge, and of two
 
@@ -357,7 +357,7 @@ module _ (r : LayoutRequest) (parts : List Part) (lays : Lays parts r) where
   into t = edges_into r.net.edges t
 
   abbrev k_of : ℕ × Edge → Class
-  k_of p = class_of r.pins p.1
+  k_of p = class_of r.demands p.1
 
   module _ (t : ℕ) (c : Cell) (dir : Dir) where
     abbrev enters_first : (p : ℕ × Edge) (rest : List (ℕ × Edge)) → into t ≡ p ∷ rest → (half : Half) → TellsOf S half (EntersLesser t) → Entering t p.0 half
@@ -507,7 +507,7 @@ module _ (r : LayoutRequest) (parts : List Part) (lays : Lays parts r) where
         (λ here. each_both (Stays S) (flat_map (in_rules r.rect s (At s c dir) c dir (classes_into r s)) halves) (flat_map (out_rules r s (At s c dir) c dir (filter (leaves s) r.net.edges)) halves)
         (each_flat (Stays S) (in_rules r.rect s (At s c dir) c dir (classes_into r s)) halves
         (λ half h. subst (λ l. AllStay S (in_rules r.rect s (At s c dir) c dir l half))
-        (sym (ap (map (class_of r.pins)) (numbered (enters s) 0 r.net.edges) ∙ numbered_map (class_of r.pins) (into s))) (in_stay s c dir (into s) refl half)))
+        (sym (ap (map (class_of r.demands)) (numbered (enters s) 0 r.net.edges) ∙ numbered_map (class_of r.demands) (into s))) (in_stay s c dir (into s) refl half)))
         (each_flat (Stays S) (out_rules r s (At s c dir) c dir (filter (leaves s) r.net.edges)) halves
         (λ half h. subst (λ l. AllStay S (out_rules r s (At s c dir) c dir l half)) (sym (numbered (leaves s) 0 r.net.edges)) (out_stay (out_of s) refl half))))
 

@@ -9,7 +9,7 @@ use Rattle.bt_parts.specs.declared.part.Part.{Part}
 use Rattle.bt_parts.specs.Cells.{steps}
 use Rattle.bt_parts.specs.Layouts.{HasPart, IsAt, Pairs}
 use Rattle.bt_net.specs.declared.network.Edge.{Edge}
-use Rattle.bt_net.specs.declared.network.Pin.{Pin}
+use Rattle.bt_net.specs.declared.network.Demand.{Demand}
 use Rattle.bt_net.specs.declared.network.Start.TheVariants as from
 use Rattle.bt_net.specs.declared.network.Target.TheVariants as to
 use Rattle.bt_net.specs.Network.{leaves, enters}
@@ -121,7 +121,7 @@ abbrev pub FirstHas : List (ℕ × Edge) → (ℕ → Type 0) → Type 0
 FirstHas [] P = ⊥
 FirstHas (first ∷ rest) P = P first.0
 
-module _ (parts : List Part) (naming : Naming) (edges : List Edge) (pins : List Pin) (m : Matched parts naming edges) where
+module _ (parts : List Part) (naming : Naming) (edges : List Edge) (demands : List Demand) (m : Matched parts naming edges) where
   -- the edge leaves the splitter by this half
   abbrev pub LeavesBy : ℕ → ℕ → Half → Type 0
   LeavesBy s e half = (e < length edges) × ((split : Splits parts naming s)
@@ -140,7 +140,7 @@ module _ (parts : List Part) (naming : Naming) (edges : List Edge) (pins : List 
   -- the class of what leaves the part: that of a splitter's edges, or that of the edge on whose chain it lies
   abbrev pub HasClass : ℕ → Class → Type 0
   HasClass i k = (IsSplitter parts i × ((s : ℕ) × Bears naming.splitters s i × (k ≡ Split s)))
-      ⊎ ((e : ℕ) × LiesOn i e × (k ≡ class_of pins (edge_at edges e)))
+      ⊎ ((e : ℕ) × LiesOn i e × (k ≡ class_of demands (edge_at edges e)))
 
   -- what the layout says of a fact
   abbrev pub Says : Fact → Type 0
@@ -151,6 +151,7 @@ module _ (parts : List Part) (naming : Naming) (edges : List Edge) (pins : List 
   Says (fact.BeltOn c) = (dir : Dir) × Stands parts c shape.Belt dir
   Says (fact.Begins c) = (i : ℕ) × IsInput parts i × IsAt parts i c
   Says (fact.Starts c i) = NamedAt parts naming.inputs i c
+  Says (fact.Stops c o) = NamedAt parts naming.outputs o c
   Says (fact.Pair c dir k) = Stands parts c shape.Entrance dir × Reaches parts c k
   Says (fact.Tunnel c dir) = Runs parts c dir
   Says (fact.Goes c dir) = GoesOn parts c dir

@@ -1,22 +1,29 @@
 -- The rules of a request speak of cells, splitters, inputs and classes that it has.
-use Rattle.std.proofs.Common.{◌≡◌, inl, inr, ℕ, suc, ◌<◌, ◌≤◌, ◌-◌, ℤ, pos, negsuc, Bool, true, false, not, cond, List, [], ◌∷◌, ◌++◌, map, Option, Some, None, refl, sym, subst, ⊎_elim, arith}
+use Rattle.std.proofs.Common.{◌≡◌, inl, inr, ℕ, suc, ◌<◌, ◌≤◌, ◌-◌, ℤ, pos, negsuc, Bool, true, false, not, cond, List, [], ◌∷◌, ◌++◌, map, Option, Some, None, refl, sym, ap, subst, ⊎_elim, arith}
 use Rattle.std.specs.List.{AllByRecursion, All, Contains, flat_map, filter, range_with_len}
 use Rattle.std.specs.Prelude.{unsigned_abs, ◌<ℤ◌, ◌≤ℤ◌}
 use Rattle.std.proofs.lemmas.Int.{ints}
 use Rattle.bt_parts.specs.declared.part.Cell.{Cell}
 use Rattle.bt_parts.specs.declared.part.Dir.{Dir}
 use Rattle.bt_parts.specs.Cells.{step, steps, opposite, IsInside}
+use Rattle.bt_net.specs.declared.network.Demand.{Demand}
+use Rattle.bt_net.specs.declared.network.Demand.TheVariants as demand
 use Rattle.bt_net.specs.declared.network.Edge.{Edge}
 use Rattle.bt_net.specs.declared.network.End.{End}
 use Rattle.bt_net.specs.declared.network.End.TheVariants.{Input, Output}
+use Rattle.bt_net.specs.declared.network.Ends.{Ends}
+use Rattle.bt_net.specs.declared.network.Ends.TheVariants.{One, Inputs, Outputs}
 use Rattle.bt_net.specs.declared.network.Pin.{Pin}
+use Rattle.bt_net.specs.declared.network.Side.{Side}
 use Rattle.bt_net.specs.Network.{leaves, enters}
-use Rattle.bt_model.specs.Requests.{LayoutRequest, IsRequest, pinned, blocked}
+use Rattle.bt_net.specs.PinText.{HasEnds}
+use Rattle.bt_model.specs.Requests.{LayoutRequest, IsRequest, IsPinnedInside, ends_of, pinned, blocked}
 use Rattle.bt_rules.specs.declared.fact.Class.{Class}
 use Rattle.bt_rules.specs.declared.fact.Class.TheVariants as class
 use Rattle.bt_rules.specs.declared.fact.Content.TheVariants.{Empty}
 use Rattle.bt_rules.specs.declared.fact.Fact.{Fact}
 use Rattle.bt_rules.specs.declared.fact.Fact.TheVariants as fact
+use Rattle.bt_rules.specs.declared.fact.Fact.TheVariants.{Stops}
 use Rattle.bt_rules.specs.declared.fact.Half.{Half}
 use Rattle.bt_rules.specs.declared.fact.Half.TheVariants.{Lesser, Greater}
 use Rattle.bt_rules.specs.declared.fact.Shape.TheVariants as shape
@@ -25,7 +32,7 @@ use Rattle.bt_rules.specs.Classes.{same_class, class_of, goes_to, ends_out, is_t
 use Rattle.bt_rules.specs.Contents.{holds, contents, content_rules, equals_one, half_kinds, belt_kinds, shape_rules, mate_rule, mate_rules, class_rules}
 use Rattle.bt_rules.specs.Going.{runners, givers, inner_rules, going_rules, goes_into, begins_there, fed_belt, fed_entrance, begin_rules, once_rules, handing_rules}
 use Rattle.bt_rules.specs.Laws.{RulesAreWithin}
-use Rattle.bt_rules.specs.Pinning.{is_edge_of, pin_class_rules, end_facts, end_shapes, turned_rules, pin_rules, clashes, clash_rules, block_rule}
+use Rattle.bt_rules.specs.Pinning.{is_edge_of, pin_class_rules, end_facts, end_shapes, turned_rules, pin_rules, clashes, clash_rules, end_classes, not_begun, begun_rules, stop_rules, apart_rules, pins_other, unpinned_rules, side_end_rules, ends_named, side_rules, demand_rules, block_rule}
 use Rattle.bt_rules.specs.PlaceRules.{cell_rules, splitter_rules, end_rules, rules_of}
 use Rattle.bt_rules.specs.Ports.{carries_into, two_in_rules, in_rules, in_front, out_rules, standing_port_rules, port_rules}
 use Rattle.bt_rules.specs.Rules.{Rule, rule, some_of, not_all, at_most_one, exactly_one, rule_by}
@@ -33,10 +40,10 @@ use Rattle.bt_rules.specs.Spots.{dirs, halves, sides_of, others_than, other_half
 use Rattle.bt_rules.specs.Standing.{owner_rule, at_rules, stands_on, name_rule, standing_rules, place_rules}
 use Rattle.bt_rules.specs.Starts.{start_rules, input_rules}
 use Rattle.bt_rules.specs.Underground.{most_distance, tunnel_into, tunnel_rules, pairs_from, back, pairs_into, paired_rules, way_rules, pair_class_rules, pair_rules, piece_rules, underground_rules}
-use Rattle.bt_rules.specs.Within.{IsWithin, HasWithin}
+use Rattle.bt_rules.specs.Within.{IsWithin, HasWithin, has_outputs, sides_outputs, stopping}
 use Rattle.bt_rules.proofs.Classed.{edge_class_listed, through_listed}
 use Rattle.bt_rules.proofs.Geometry.{inside_cases, inside_between, from_cells}
-use Rattle.bt_rules.proofs.Keeping.{In, in_left, in_right, in_map, from_map, in_range, in_contains, from_filter, from_range, each_both, each_three, each_four, each_flat, each_map}
+use Rattle.bt_rules.proofs.Keeping.{In, in_left, in_right, in_map, from_map, in_range, in_contains, from_filter, from_range, any_in, each_both, each_three, each_four, each_flat, each_map}
 
 -- of lists of what is inside, or outside
 all_inside : {X : Type 0} (r : LayoutRequest) (c : Cell) (P : X → Type 0) (xs : List X) → (IsInside r.rect c → AllByRecursion P xs) → AllByRecursion P (where_inside r.rect c xs)
@@ -420,7 +427,7 @@ module _ (r : LayoutRequest) (is : IsRequest r) where
 
     into_listed : (k : Class) → In (classes_into r s) k → Contains (classes_of r) k
     into_listed k g =
-        let found = from_map (class_of r.pins) (filter (enters s) r.net.edges) k g in
+        let found = from_map (class_of r.demands) (filter (enters s) r.net.edges) k g in
         listed k (subst (In (classes_of r)) (sym found.2) (edge_class_listed r is found.0 (from_filter (enters s) r.net.edges found.0 found.1).0))
 
     standing_ports_within : R (standing_port_rules r s c d)
@@ -469,14 +476,80 @@ module _ (r : LayoutRequest) (is : IsRequest r) where
 
   pins_within : (pin : Pin) → I (pinned pin) → R (pin_rules r pin)
   pins_within pin h = each_both H (pin_class_rules r pin) (some_of (end_facts r.rect (pinned pin) pin.end) ∷ turned_rules (pinned pin) pin.end pin.dir)
-      (each_map H (λ edge. some_of (fact.Carries (pinned pin) (class_of r.pins edge) ∷ [])) (filter (is_edge_of pin.end) r.net.edges)
-      (λ edge g. record { given = tt; one_of = ((h, listed (class_of r.pins edge) (edge_class_listed r is edge (from_filter (is_edge_of pin.end) r.net.edges edge g).0)), tt) }))
+      (each_map H (λ edge. some_of (fact.Carries (pinned pin) (class_of r.demands edge) ∷ [])) (filter (is_edge_of pin.end) r.net.edges)
+      (λ edge g. record { given = tt; one_of = ((h, listed (class_of r.demands edge) (edge_class_listed r is edge (from_filter (is_edge_of pin.end) r.net.edges edge g).0)), tt) }))
       (record { given = tt; one_of = end_within (pinned pin) pin.end h }, turned_within (pinned pin) pin.end pin.dir h)
 
-  clashes_within : (pins : List Pin) → R (clash_rules pins)
+  clashes_within : (demands : List Demand) → R (clash_rules demands)
   clashes_within [] = tt
-  clashes_within (pin ∷ pins) = each_both H (map (λ other. some_of []) (filter (clashes pin) pins)) (clash_rules pins)
-      (each_map H (λ other. some_of []) (filter (clashes pin) pins) (λ other g. record { given = tt; one_of = tt })) (clashes_within pins)
+  clashes_within (d ∷ demands) = each_both H (map (λ other. some_of []) (filter (clashes d) demands)) (clash_rules demands)
+      (each_map H (λ other. some_of []) (filter (clashes d) demands) (λ other g. record { given = tt; one_of = tt })) (clashes_within demands)
+
+  -- the class of an end's edge is one of the classes
+  end_listed : (e : End) (k : Class) → In (end_classes r e) k → Contains (classes_of r) k
+  end_listed e k there =
+      let made = from_map (class_of r.demands) (filter (is_edge_of e) r.net.edges) k there in
+      listed k (subst (In (classes_of r)) (sym made.2) (edge_class_listed r is made.0 (from_filter (is_edge_of e) r.net.edges made.0 made.1).0))
+
+  input_side_within : (dir : Dir) (i : ℕ) → R (side_end_rules r dir (Input i))
+  input_side_within dir i = each_flat H (begun_rules r.rect dir) (end_classes r (Input i)) (λ k there.
+      let has = end_listed (Input i) k there in
+      each_flat H (λ c. flat_map (not_begun k c) (others_than (opposite dir))) (border_of r.rect) (λ c at.
+      let h = border_inside c at in
+      each_flat H (not_begun k c) (others_than (opposite dir)) (λ other l. (
+        record { given = (h, ((h, has), (h, tt))); one_of = tt },
+        (record { given = (h, ((h, has), (h, tt))); one_of = tt }, tt),
+      ))))
+
+  module _ (o : ℕ) (lt : o < stopping r) where
+    stops_within : (dir : Dir) (c : Cell) → I c → R (stop_rules r dir o c)
+    stops_within dir c h = (
+      record { given = ((h, lt), tt); one_of = all_outside r (step dir c) W (holds c shape.Belt dir ∷ holds c shape.Exit dir ∷ []) (h, (h, tt)) },
+      each_map H (λ k. rule (Stops c o ∷ []) (fact.Carries c k ∷ [])) (end_classes r (Output o))
+          (λ k there. record { given = ((h, lt), tt); one_of = ((h, end_listed (Output o) k there), tt) }),
+    )
+
+    apart_within : (other : ℕ) → other < o → R (apart_rules r.rect o other)
+    apart_within other below = each_map H (λ c. not_all (Stops c o ∷ Stops c other ∷ [])) (border_of r.rect)
+        (λ c at. let h = border_inside c at in record { given = ((h, lt), ((h, omega (arith, lt, below)), tt)); one_of = tt })
+
+    unpinned_within : (d : Demand) → IsPinnedInside r.rect d → R (unpinned_rules o d)
+    unpinned_within (demand.Pin pin) h = by (pins_other o pin.end) where
+      by : (b : Bool) → R (cond b (not_all (Stops (pinned pin) o ∷ []) ∷ []) [])
+      by true = (record { given = ((h, lt), tt); one_of = tt }, tt)
+      by false = tt
+    unpinned_within (demand.Side side) h = tt
+
+    output_side_within : (dir : Dir) → R (side_end_rules r dir (Output o))
+    output_side_within dir = (
+      record { given = tt; one_of = each_map W (λ c. Stops c o) (border_of r.rect) (λ c at. (border_inside c at, lt)) },
+      each_three H (flat_map (stop_rules r dir o) (border_of r.rect)) (flat_map (apart_rules r.rect o) (range_with_len 0 o)) (flat_map (unpinned_rules o) r.demands)
+          (each_flat H (stop_rules r dir o) (border_of r.rect) (λ c at. stops_within dir c (border_inside c at)))
+          (each_flat H (apart_rules r.rect o) (range_with_len 0 o) (λ other at. apart_within other (below o other at)))
+          (each_flat H (unpinned_rules o) r.demands (λ d at. unpinned_within d (all_of (IsPinnedInside r.rect) r.demands d is.pins_inside at))),
+    )
+
+  -- outputs of which a side is said are counted
+  counted : (side : Side) → In r.demands (demand.Side side) → has_outputs side.ends ≡ true → stopping r ≡ r.net.outputs
+  counted side there t = ap (λ b. cond b r.net.outputs 0) (any_in sides_outputs r.demands (demand.Side side) there t)
+
+  side_within : (side : Side) → In r.demands (demand.Side side) → HasEnds r.net side.ends → R (side_rules r side)
+  side_within side there has = by side.ends refl has where
+    by : (ends : Ends) → side.ends ≡ ends → HasEnds r.net ends → R (flat_map (side_end_rules r side.dir) (ends_named r ends))
+    by (One (Input i)) own has = each_both H (side_end_rules r side.dir (Input i)) [] (input_side_within side.dir i) tt
+    by (One (Output o)) own has = each_both H (side_end_rules r side.dir (Output o)) []
+        (output_side_within o (subst (λ n. o < n) (sym (counted side there (ap has_outputs own))) has) side.dir) tt
+    by Inputs own has = each_flat H (side_end_rules r side.dir) (map Input (range_with_len 0 r.net.inputs))
+        (λ e at. let found = from_map Input (range_with_len 0 r.net.inputs) e at in subst (λ x. R (side_end_rules r side.dir x)) (sym found.2) (input_side_within side.dir found.0))
+    by Outputs own has = each_flat H (side_end_rules r side.dir) (map Output (range_with_len 0 r.net.outputs))
+        (λ e at.
+        let found = from_map Output (range_with_len 0 r.net.outputs) e at in
+        let lt : found.0 < stopping r = subst (λ n. found.0 < n) (sym (counted side there (ap has_outputs own))) (below r.net.outputs found.0 found.1) in
+        subst (λ x. R (side_end_rules r side.dir x)) (sym found.2) (output_side_within found.0 lt side.dir))
+
+  demand_within : (d : Demand) → In r.demands d → IsPinnedInside r.rect d → HasEnds r.net (ends_of d) → R (demand_rules r d)
+  demand_within (demand.Pin pin) there h has = pins_within pin h
+  demand_within (demand.Side side) there h has = side_within side there has
 
   -- ---- all rules
 
@@ -494,10 +567,10 @@ module _ (r : LayoutRequest) (is : IsRequest r) where
   all_within = each_three H (flat_map (cell_rules r) (cells_of r.rect)) (flat_map (splitter_rules r) (splitters_of r)) (end_rules r)
       (each_flat H (cell_rules r) (cells_of r.rect) (λ c at. cell_within c (from_cells r.rect c at)))
       (each_flat H (splitter_rules r) (splitters_of r) (λ s at. let lt = below r.net.splitters s at in each_both H (place_rules r.rect s) (port_rules r s) (places_within s lt) (ports_within s lt)))
-      (each_four H (flat_map (input_rules r) (range_with_len 0 r.net.inputs)) (flat_map (pin_rules r) r.pins) (clash_rules r.pins) (map block_rule r.blocks)
+      (each_four H (flat_map (input_rules r) (range_with_len 0 r.net.inputs)) (flat_map (demand_rules r) r.demands) (clash_rules r.demands) (map block_rule r.blocks)
       (each_flat H (input_rules r) (range_with_len 0 r.net.inputs) (λ i at. inputs_within i (below r.net.inputs i at)))
-      (each_flat H (pin_rules r) r.pins (λ pin at. pins_within pin (all_of (λ p. I (pinned p)) r.pins pin is.pins_inside at)))
-      (clashes_within r.pins)
+      (each_flat H (demand_rules r) r.demands (λ d at. demand_within d at (all_of (IsPinnedInside r.rect) r.demands d is.pins_inside at) (all_of (λ x. HasEnds r.net (ends_of x)) r.demands d is.ends at)))
+      (clashes_within r.demands)
       (each_map H block_rule r.blocks (λ block at. record { given = tt; one_of = (all_of (λ b. I (blocked b)) r.blocks block is.blocks_inside at, tt) })))
 
 pub rules_within : RulesAreWithin

@@ -40,7 +40,7 @@ module _ (r : LayoutRequest) (parts : List Part) (lays : Lays parts r) where
 
   -- the layout says this class of a part
   abbrev pub HasSaid : ℕ → Class → Type 0
-  HasSaid i k = HasClass parts lays.naming r.net.edges r.pins (match_of r parts lays) i k
+  HasSaid i k = HasClass parts lays.naming r.net.edges r.demands (match_of r parts lays) i k
 
   -- each splitter bears a number of the network
   pub splitter_number : (i : ℕ) → IsSplitter parts i → (s : ℕ) × (s < r.net.splitters) × Bears lays.naming.splitters s i

@@ -6,6 +6,7 @@ use Rattle.bt_parts.specs.declared.part.Cell.{Cell}
 use Rattle.bt_parts.specs.declared.part.Part.{Part}
 use Rattle.bt_parts.specs.Cells.{opposite}
 use Rattle.bt_parts.specs.Layouts.{IsAt}
+use Rattle.bt_net.specs.declared.network.End.TheVariants as end
 use Rattle.bt_net.specs.declared.network.Start.{Start}
 use Rattle.bt_net.specs.declared.network.Start.TheVariants as from
 use Rattle.bt_net.specs.declared.network.Target.{Target}
@@ -17,7 +18,7 @@ use Rattle.bt_model.specs.Requests.{LayoutRequest}
 use Rattle.bt_rules.specs.declared.fact.Class.TheVariants.{Shared, Input}
 use Rattle.bt_rules.specs.declared.fact.Fact.{Fact}
 use Rattle.bt_rules.specs.declared.fact.Fact.TheVariants.{Starts}
-use Rattle.bt_rules.specs.Classes.{is_pinned, class_between, leads_out, is_through}
+use Rattle.bt_rules.specs.Classes.{is_pinned, side_of, class_between, leads_out, is_through}
 use Rattle.bt_rules.specs.Rules.{exactly_one}
 use Rattle.bt_rules.specs.Spots.{border_of}
 use Rattle.bt_rules.specs.Starts.{start_rules, input_rules}
@@ -54,15 +55,15 @@ module _ (r : LayoutRequest) (parts : List Part) (lays : Lays parts r) where
       )
 
   -- the class of an edge between these
-  class_at_is : (e : ℕ) (start : Start) (target : Target) → (the_edge r parts lays e).start ≡ start → (the_edge r parts lays e).target ≡ target → class_at r parts lays e ≡ class_between r.pins start target
-  class_at_is e start target s t = ap (λ x. class_between r.pins x (the_edge r parts lays e).target) s ∙ ap (class_between r.pins start) t
+  class_at_is : (e : ℕ) (start : Start) (target : Target) → (the_edge r parts lays e).start ≡ start → (the_edge r parts lays e).target ≡ target → class_at r parts lays e ≡ class_between r.demands start target
+  class_at_is e start target s t = ap (λ x. class_between r.demands x (the_edge r parts lays e).target) s ∙ ap (class_between r.demands start) t
 
   -- a class that is an input's is that of its edge
-  own_class : (k i : ℕ) (target : Target) → class_between r.pins (from.Input k) target ≡ Input i → k ≡ i
+  own_class : (k i : ℕ) (target : Target) → class_between r.demands (from.Input k) target ≡ Input i → k ≡ i
   own_class k i (to.Output o) e = cc
-  own_class k i (to.Split t) e = by (is_pinned r.pins k) e
+  own_class k i (to.Split t) e = by (is_pinned r.demands k) e
     where
-      by : (b : Bool) → cond b (Input k) (Shared t) ≡ Input i → k ≡ i
+      by : (b : Bool) → cond b (Input k) (Shared t (side_of r.demands (end.Input k))) ≡ Input i → k ≡ i
       by true e = cc
       by false e = absurd (cc)
 
@@ -86,7 +87,7 @@ module _ (r : LayoutRequest) (parts : List Part) (lays : Lays parts r) where
             let same : class_at r parts lays lies.0 ≡ Input i = one_class r parts lays begins.0 (class_at r parts lays lies.0) (Input i)
             (lies_class r parts lays begins.0 lies.0 lies.1) (there_has r parts lays c begins.0 (Input i) begins.2 given.1.0) in
             let number : lies.2.0 ≡ i = own_class lies.2.0 i (the_edge r parts lays lies.0).target
-            (sym (ap (λ x. class_between r.pins x (the_edge r parts lays lies.0).target) lies.2.1) ∙ same) in
+            (sym (ap (λ x. class_between r.demands x (the_edge r parts lays lies.0).target) lies.2.1) ∙ same) in
             inl (record { index = begins.0; named = subst (λ k. Bears lays.naming.inputs k begins.0) number lies.2.2; at = begins.2 })),
         tt,
       ),

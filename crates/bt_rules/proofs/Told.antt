@@ -84,6 +84,7 @@ module _ (r : LayoutRequest) (parts : List Part) (lays : Lays parts r) where
   said (fact.BeltOn c) = some_dir _ (stands_decided parts (is_orderly r parts lays) c shape.Belt)
   said (fact.Begins c) = begins_decided parts (is_orderly r parts lays) c
   said (fact.Starts c i) = named_decided parts (is_orderly r parts lays) lays.naming.inputs i c
+  said (fact.Stops c o) = named_decided parts (is_orderly r parts lays) lays.naming.outputs o c
   said (fact.Pair c dir k) = both (stands_decided parts (is_orderly r parts lays) c shape.Entrance dir) (reaches_decided parts (is_orderly r parts lays) c k)
   said (fact.Tunnel c dir) = runs_decided parts (is_orderly r parts lays) c dir
   said (fact.Goes c dir) = goes_decided parts (is_orderly r parts lays) c dir

@@ -21,6 +21,7 @@ pub mod PortFacts
 pub mod BackFacts
 pub mod MeetFacts
 pub mod PinFacts
+pub mod SideFacts
 pub mod IntoFacts
 pub mod WishFacts
 pub mod ChoiceFacts

@@ -7,7 +7,7 @@ use Rattle.bt_rules.specs.Carrying.{carrying_rules}
 use Rattle.bt_rules.specs.Classes.{splitters_of}
 use Rattle.bt_rules.specs.Contents.{content_rules, shape_rules, mate_rules, class_rules}
 use Rattle.bt_rules.specs.Going.{handing_rules}
-use Rattle.bt_rules.specs.Pinning.{pin_rules, clash_rules, block_rule}
+use Rattle.bt_rules.specs.Pinning.{demand_rules, clash_rules, block_rule}
 use Rattle.bt_rules.specs.Ports.{port_rules}
 use Rattle.bt_rules.specs.Rules.{Rule}
 use Rattle.bt_rules.specs.Spots.{cells_of}
@@ -24,10 +24,10 @@ cell_rules r c = content_rules c ++ shape_rules c ++ mate_rules r.rect c ++ clas
 abbrev pub splitter_rules : LayoutRequest → ℕ → List Rule
 splitter_rules r s = place_rules r.rect s ++ port_rules r s
 
--- the rules of inputs, pins and blocks
+-- the rules of inputs, pins, sides and blocks
 abbrev pub end_rules : LayoutRequest → List Rule
 end_rules r = flat_map (input_rules r) (range_with_len 0 r.net.inputs)
-    ++ flat_map (pin_rules r) r.pins ++ clash_rules r.pins ++ map block_rule r.blocks
+    ++ flat_map (demand_rules r) r.demands ++ clash_rules r.demands ++ map block_rule r.blocks
 
 -- all rules of a request
 abbrev pub rules_of : LayoutRequest → List Rule

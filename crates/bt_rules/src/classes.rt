@@ -6,8 +6,9 @@ ghost use Rattle.bt_rules.specs.Classes as classes;
 ghost use Rattle.bt_rules.specs.inner.Tables as tables;
 
 use crate::fact::Class;
-use bt_model::Request;
-use bt_net::{Edge, End, Pin, Start, Target};
+use bt_model::{Request, names};
+use bt_net::{Demand, Edge, End, Ends, Start, Target};
+use bt_parts::Dir;
 
 /// Whether the end is this input.
 fn is_end_input(input: u32, end: End) -> bool
@@ -19,32 +20,103 @@ fn is_end_input(input: u32, end: End) -> bool
     }
 }
 
-/// Whether this input is pinned.
-fn is_pinned(pins: &[Pin], input: u32) -> bool
-    ensures { result ≡ classes.is_pinned pins.now input }
+/// Whether this input is pinned by the line.
+fn pins_input(input: u32, demand: Demand) -> bool
+    ensures { result ≡ classes.pins_input input demand }
 {
-    for pin in pins {
-        if is_end_input(input, pin.end) {
+    match demand {
+        Demand::Pin(pin) => is_end_input(input, pin.end),
+        Demand::Side(_) => false,
+    }
+}
+
+/// Whether this input is pinned.
+fn is_pinned(demands: &[Demand], input: u32) -> bool
+    ensures { result ≡ classes.is_pinned demands.now input }
+{
+    for demand in demands {
+        if pins_input(input, *demand) {
             return true;
         }
     }
     false
 }
 
+/// Whether the end is one of those that are named.
+fn is_named(ends: Ends, end: End) -> bool
+    ensures { result ≡ classes.names ends end }
+{
+    names(ends, end)
+}
+
+/// The side at which the end is to stand by this line.
+fn side_by(demand: Demand, end: End) -> Option<Dir>
+    ensures { result ≡ classes.side_by demand end None }
+{
+    match demand {
+        Demand::Pin(_) => None,
+        Demand::Side(side) => {
+            if is_named(side.ends, end) {
+                Some(side.dir)
+            } else {
+                None
+            }
+        }
+    }
+}
+
+/// The side at which the end is to stand.
+fn side_of(demands: &[Demand], end: End) -> Option<Dir>
+    ensures { result ≡ classes.side_of demands.now end }
+{
+    let mut rest = demands;
+    while let Some((demand, others)) = rest.split_first() {
+        if let Some(dir) = side_by(*demand, end) {
+            return Some(dir);
+        }
+        rest = others;
+    }
+    None
+}
+
 /// The class of an edge.
-pub fn class_of(pins: &[Pin], edge: Edge) -> Class
-    ensures { result ≡ classes.class_of pins.now edge }
+pub fn class_of(demands: &[Demand], edge: Edge) -> Class
+    ensures { result ≡ classes.class_of demands.now edge }
 {
     match (edge.start, edge.target) {
         (Start::Split(splitter), _) => Class::Split(splitter as usize),
         (Start::Input(input), Target::Output(_)) => Class::Input(input as usize),
         (Start::Input(input), Target::Split(splitter)) => {
-            if is_pinned(pins, input) {
+            if is_pinned(demands, input) {
                 Class::Input(input as usize)
             } else {
-                Class::Shared(splitter as usize)
+                Class::Shared(splitter as usize, side_of(demands, End::Input(input)))
             }
         }
+    }
+}
+
+/// Whether the two directions are one.
+fn same_dir(one: Dir, other: Dir) -> bool
+    ensures { result ≡ classes.same_dir one other }
+{
+    match (one, other) {
+        (Dir::North, Dir::North)
+        | (Dir::East, Dir::East)
+        | (Dir::South, Dir::South)
+        | (Dir::West, Dir::West) => true,
+        _ => false,
+    }
+}
+
+/// Whether both are the same side, or none.
+fn same_way(one: Option<Dir>, other: Option<Dir>) -> bool
+    ensures { result ≡ classes.same_way one other }
+{
+    match (one, other) {
+        (None, None) => true,
+        (Some(one), Some(other)) => same_dir(one, other),
+        _ => false,
     }
 }
 
@@ -54,17 +126,17 @@ pub fn same_class(one: Class, other: Class) -> bool
 {
     match (one, other) {
         (Class::Split(s), Class::Split(t)) => s == t,
-        (Class::Shared(s), Class::Shared(t)) => s == t,
+        (Class::Shared(s, v), Class::Shared(t, w)) => s == t && same_way(v, w),
         (Class::Input(i), Class::Input(j)) => i == j,
         _ => false,
     }
 }
 
 /// Whether the edge is of this class.
-fn is_of(pins: &[Pin], class: Class, edge: Edge) -> bool
-    ensures { result ≡ classes.is_of pins.now class edge }
+fn is_of(demands: &[Demand], class: Class, edge: Edge) -> bool
+    ensures { result ≡ classes.is_of demands.now class edge }
 {
-    same_class(class, class_of(pins, edge))
+    same_class(class, class_of(demands, edge))
 }
 
 /// Whether the edge ends at an output.
@@ -118,11 +190,11 @@ pub fn is_output(output: usize, edge: Edge) -> bool
 }
 
 /// Whether some edge is of this class.
-pub fn occurs(edges: &[Edge], pins: &[Pin], class: Class) -> bool
-    ensures { result ≡ list_any (classes.is_of pins.now class) edges.now }
+pub fn occurs(edges: &[Edge], demands: &[Demand], class: Class) -> bool
+    ensures { result ≡ list_any (classes.is_of demands.now class) edges.now }
 {
     for edge in edges {
-        if is_of(pins, class, *edge) {
+        if is_of(demands, class, *edge) {
             return true;
         }
     }
@@ -130,18 +202,18 @@ pub fn occurs(edges: &[Edge], pins: &[Pin], class: Class) -> bool
 }
 
 /// Whether the edge is of this class and goes to the splitter.
-fn goes_along(pins: &[Pin], class: Class, splitter: usize, edge: Edge) -> bool
-    ensures { result ≡ tables.goes_along pins.now class splitter edge }
+fn goes_along(demands: &[Demand], class: Class, splitter: usize, edge: Edge) -> bool
+    ensures { result ≡ tables.goes_along demands.now class splitter edge }
 {
-    is_of(pins, class, edge) && enters(splitter, edge)
+    is_of(demands, class, edge) && enters(splitter, edge)
 }
 
 /// Whether some of the edges is of this class and goes to the splitter.
-fn some_goes_along(edges: &[Edge], pins: &[Pin], class: Class, splitter: usize) -> bool
-    ensures { result ≡ list_any (tables.goes_along pins.now class splitter) edges.now }
+fn some_goes_along(edges: &[Edge], demands: &[Demand], class: Class, splitter: usize) -> bool
+    ensures { result ≡ list_any (tables.goes_along demands.now class splitter) edges.now }
 {
     for edge in edges {
-        if goes_along(pins, class, splitter, *edge) {
+        if goes_along(demands, class, splitter, *edge) {
             return true;
         }
     }
@@ -152,7 +224,7 @@ fn some_goes_along(edges: &[Edge], pins: &[Pin], class: Class, splitter: usize) 
 pub fn goes_to(request: &Request, class: Class, splitter: usize) -> bool
     ensures { result ≡ classes.goes_to request.now class splitter }
 {
-    some_goes_along(request.net().edges(), request.pins(), class, splitter)
+    some_goes_along(request.net().edges(), request.demands(), class, splitter)
 }
 
 /// Whether the splitter is the other one or some edge goes from the other one into it.
@@ -163,18 +235,18 @@ pub fn goes_on(request: &Request, from: usize, splitter: usize) -> bool
 }
 
 /// Whether the edge is of this class and ends at an output.
-fn goes_out(pins: &[Pin], class: Class, edge: Edge) -> bool
-    ensures { result ≡ tables.goes_out pins.now class edge }
+fn goes_out(demands: &[Demand], class: Class, edge: Edge) -> bool
+    ensures { result ≡ tables.goes_out demands.now class edge }
 {
-    is_of(pins, class, edge) && leads_out(edge)
+    is_of(demands, class, edge) && leads_out(edge)
 }
 
 /// Whether some edge of this class ends at an output.
-pub fn ends_out(edges: &[Edge], pins: &[Pin], class: Class) -> bool
-    ensures { result ≡ list_any (tables.goes_out pins.now class) edges.now }
+pub fn ends_out(edges: &[Edge], demands: &[Demand], class: Class) -> bool
+    ensures { result ≡ list_any (tables.goes_out demands.now class) edges.now }
 {
     for edge in edges {
-        if goes_out(pins, class, *edge) {
+        if goes_out(demands, class, *edge) {
             return true;
         }
     }

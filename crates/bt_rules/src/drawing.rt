@@ -13,9 +13,10 @@ use crate::cells::{border_of, cells_of};
 use crate::contents::add_cell_contents;
 use crate::draft::Draft;
 use crate::going::add_handing;
-use crate::pinning::{add_blocks, add_clashes, add_pins};
+use crate::pinning::{add_blocks, add_clashes};
 use crate::plan::{Gate, Plan};
 use crate::ports::add_ports;
+use crate::siding::add_demands;
 use crate::standing::{add_place, add_standing};
 use crate::starts::add_inputs;
 use crate::underground::add_underground;
@@ -90,7 +91,7 @@ pub fn add_splitter(
     add_ports(alloc, draft, request, gate, cells)
 }
 
-/// Adds the rules of inputs, pins and blocks.
+/// Adds the rules of inputs, pins, sides and blocks.
 pub fn add_ends(
     alloc: Global,
     draft: &mut Draft,
@@ -101,10 +102,10 @@ pub fn add_ends(
     ensures { OnOk result (draft.new ≡ draft.old ++ place.end_rules request.now) }
 {
     let border = border_of(alloc, request.rect(), cells)?;
-    let pins = request.pins();
+    let demands = request.demands();
     add_inputs(alloc, draft, request, &border)?;
-    add_pins(alloc, draft, request, pins)?;
-    add_clashes(draft, pins)?;
+    add_demands(alloc, draft, request, &border, demands)?;
+    add_clashes(draft, demands)?;
     add_blocks(draft, request.blocks())
 }
 

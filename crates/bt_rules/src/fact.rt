@@ -35,8 +35,9 @@ pub enum Content {
 pub enum Class {
     /// The edges that leave this splitter.
     Split(usize),
-    /// The edges that go into this splitter from inputs that aren't pinned.
-    Shared(usize),
+    /// The edges that go into this splitter from inputs that aren't pinned and are to stand at this side, or
+    /// of which nothing is said.
+    Shared(usize, Option<Dir>),
     /// The edge of this input, which is pinned or leads to an output.
     Input(usize),
 }
@@ -57,6 +58,8 @@ pub enum Fact {
     Begins(Cell),
     /// The first part of this input, which leads to an output, stands on the cell.
     Starts(Cell, usize),
+    /// The last part of this output, which is to stand at a side, stands on the cell.
+    Stops(Cell, usize),
     /// The entrance on the cell, turned this way, pairs with the exit so far ahead, from 1.
     Pair(Cell, Dir, usize),
     /// An underground pair of this direction runs from the cell to the next one.

@@ -97,6 +97,16 @@ pub fn starts_on(alloc: Global, border: &[Cell], input: usize) -> Result<Vec<Fac
         .collect(alloc)
 }
 
+/// The output stops on any of these cells.
+pub fn stops_on(alloc: Global, border: &[Cell], output: usize) -> Result<Vec<Fact>, AllocError>
+    ensures { IfOk result (λ facts. facts.items ≡ map (λ c. fact.Stops c output) border.now) }
+{
+    border
+        .iter()
+        .map(|cell| Fact::Stops(*cell, output))
+        .collect(alloc)
+}
+
 /// Adds that something comes to the cell from behind in this direction, where that is inside.
 pub fn push_goes_into(
     facts: &mut Vec<Fact>,

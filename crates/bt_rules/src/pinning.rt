@@ -1,4 +1,4 @@
-//! Rules of pins and blocks.
+//! Rules of pins, and of blocks.
 ghost use Rattle.std.specs.Prelude.{◌≡◌, ◌<◌, ◌^◌, ◌++◌, ◌∷◌, [], map, flat_map, filter, IfOk, OnOk, if◌then◌else◌};
 ghost use Rattle.std.specs.List.{AllByRecursion};
 ghost use Rattle.bt_rules.specs.Classes.{class_of as class_of_edge};
@@ -16,12 +16,12 @@ use crate::fact::{Content, Fact, Shape};
 use crate::facts::holds;
 use crate::spots::{DIRS, ahead, cell_at, others_than, push_outside};
 use bt_model::Request;
-use bt_net::{Block, Edge, End, Pin};
+use bt_net::{Block, Demand, Edge, End, Pin};
 use bt_parts::{Cell, Dir, Rect};
 use std::alloc::{AllocError, Global};
 
 /// Whether the edge is that of this end.
-fn is_edge_of(end: End, edge: Edge) -> bool
+pub fn is_edge_of(end: End, edge: Edge) -> bool
     ensures { result ≡ pinning.is_edge_of end edge }
 {
     match end {
@@ -33,16 +33,16 @@ fn is_edge_of(end: End, edge: Edge) -> bool
 /// Adds that the cell has the class of the edge, where it is that of this end.
 fn add_pin_class(
     draft: &mut Draft,
-    pins: &[Pin],
+    demands: &[Demand],
     cell: Cell,
     end: End,
     edge: Edge,
 ) -> Result<(), AllocError>
     ensures { OnOk result (draft.new ≡ draft.old ++ (if pinning.is_edge_of end edge
-        then some_of (fact.Carries cell (class_of_edge pins.now edge) ∷ []) ∷ [] else [])) }
+        then some_of (fact.Carries cell (class_of_edge demands.now edge) ∷ []) ∷ [] else [])) }
 {
     if is_edge_of(end, edge) {
-        draft.add(&[], &[Fact::Carries(cell, class_of(pins, edge))])?;
+        draft.add(&[], &[Fact::Carries(cell, class_of(demands, edge))])?;
     }
     Ok(())
 }
@@ -51,22 +51,27 @@ fn add_pin_class(
 fn add_pin_classes(
     draft: &mut Draft,
     edges: &[Edge],
-    pins: &[Pin],
+    demands: &[Demand],
     cell: Cell,
     end: End,
 ) -> Result<(), AllocError>
     ensures { OnOk result (draft.new ≡ draft.old
-        ++ map (λ edge. some_of (fact.Carries cell (class_of_edge pins.now edge) ∷ []))
+        ++ map (λ edge. some_of (fact.Carries cell (class_of_edge demands.now edge) ∷ []))
         (filter (pinning.is_edge_of end) edges.now)) }
 {
     for edge in edges {
-        add_pin_class(draft, pins, cell, end, *edge)?;
+        add_pin_class(draft, demands, cell, end, *edge)?;
     }
     Ok(())
 }
 
 /// Adds a belt and an exit on the cell so turned, where what is in front of them is outside.
-fn push_enders(facts: &mut Vec<Fact>, rect: Rect, cell: Cell, dir: Dir) -> Result<(), AllocError>
+pub fn push_enders(
+    facts: &mut Vec<Fact>,
+    rect: Rect,
+    cell: Cell,
+    dir: Dir,
+) -> Result<(), AllocError>
     requires { IsNear cell }
     ensures { OnOk result (facts.new.items ≡ facts.old.items ++ parts.enders_towards rect cell dir) }
 {
@@ -153,31 +158,20 @@ fn add_direction(
 }
 
 /// Adds that a pinned end stands on its cell, turned as the pin says.
-fn add_pin(alloc: Global, draft: &mut Draft, request: &Request, pin: &Pin) -> Result<(), AllocError>
+pub fn add_pin(
+    alloc: Global,
+    draft: &mut Draft,
+    request: &Request,
+    pin: &Pin,
+) -> Result<(), AllocError>
     requires { IsPinnedNear pin.now }
     ensures { OnOk result (draft.new ≡ draft.old ++ pinning.pin_rules request.now pin.now) }
 {
     let cell = cell_at(pin.x, pin.y);
     let edges = request.net().edges();
-    add_pin_classes(draft, edges, request.pins(), cell, pin.end)?;
+    add_pin_classes(draft, edges, request.demands(), cell, pin.end)?;
     add_end(alloc, draft, request.rect(), cell, pin.end)?;
     add_direction(draft, cell, pin.end, pin.dir)
-}
-
-/// Adds that the pinned ends stand on their cells.
-pub fn add_pins(
-    alloc: Global,
-    draft: &mut Draft,
-    request: &Request,
-    pins: &[Pin],
-) -> Result<(), AllocError>
-    requires { AllByRecursion IsPinnedNear pins.now }
-    ensures { OnOk result (draft.new ≡ draft.old ++ flat_map (pinning.pin_rules request.now) pins.now) }
-{
-    for pin in pins {
-        add_pin(alloc, draft, request, pin)?;
-    }
-    Ok(())
 }
 
 /// Whether both are inputs, or both are outputs.
@@ -191,16 +185,26 @@ fn same_kind(one: End, other: End) -> bool
 }
 
 /// Whether the two pins put two inputs, or two outputs, on one cell.
-fn clashes(one: &Pin, other: &Pin) -> bool
-    ensures { result ≡ pinning.clashes one.now other.now }
+fn pins_clash(one: Pin, other: Pin) -> bool
+    ensures { result ≡ pinning.pins_clash one other }
 {
     same_kind(one.end, other.end) && one.x == other.x && one.y == other.y
 }
 
-/// Adds a rule that nothing keeps, where the two pins clash.
-fn add_clash(draft: &mut Draft, one: &Pin, other: &Pin) -> Result<(), AllocError>
+/// Whether the two lines do.
+fn clashes(one: Demand, other: Demand) -> bool
+    ensures { result ≡ pinning.clashes one other }
+{
+    match (one, other) {
+        (Demand::Pin(one), Demand::Pin(other)) => pins_clash(one, other),
+        _ => false,
+    }
+}
+
+/// Adds a rule that nothing keeps, where the two lines clash.
+fn add_clash(draft: &mut Draft, one: Demand, other: Demand) -> Result<(), AllocError>
     ensures { OnOk result (draft.new ≡ draft.old
-        ++ (if pinning.clashes one.now other.now then some_of [] ∷ [] else [])) }
+        ++ (if pinning.clashes one other then some_of [] ∷ [] else [])) }
 {
     if clashes(one, other) {
         draft.add(&[], &[])?;
@@ -208,24 +212,24 @@ fn add_clash(draft: &mut Draft, one: &Pin, other: &Pin) -> Result<(), AllocError
     Ok(())
 }
 
-/// Adds a rule that nothing keeps for each of the other pins with which the pin clashes.
-fn add_clashes_with(draft: &mut Draft, pin: &Pin, others: &[Pin]) -> Result<(), AllocError>
+/// Adds a rule that nothing keeps for each of the other lines with which the line clashes.
+fn add_clashes_with(draft: &mut Draft, demand: Demand, others: &[Demand]) -> Result<(), AllocError>
     ensures { OnOk result (draft.new ≡ draft.old
-        ++ map (λ other. some_of []) (filter (pinning.clashes pin.now) others.now)) }
+        ++ map (λ other. some_of []) (filter (pinning.clashes demand) others.now)) }
 {
     for other in others {
-        add_clash(draft, pin, other)?;
+        add_clash(draft, demand, *other)?;
     }
     Ok(())
 }
 
-/// Adds that no two pins clash.
-pub fn add_clashes(draft: &mut Draft, pins: &[Pin]) -> Result<(), AllocError>
-    ensures { OnOk result (draft.new ≡ draft.old ++ pinning.clash_rules pins.now) }
+/// Adds that no two lines clash.
+pub fn add_clashes(draft: &mut Draft, demands: &[Demand]) -> Result<(), AllocError>
+    ensures { OnOk result (draft.new ≡ draft.old ++ pinning.clash_rules demands.now) }
 {
-    let mut rest = pins;
-    while let Some((pin, others)) = rest.split_first() {
-        add_clashes_with(draft, pin, others)?;
+    let mut rest = demands;
+    while let Some((demand, others)) = rest.split_first() {
+        add_clashes_with(draft, *demand, others)?;
         rest = others;
     }
     Ok(())

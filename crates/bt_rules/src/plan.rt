@@ -1,5 +1,5 @@
 //! What the rules of a request need to know of its network, worked out once.
-ghost use Rattle.std.specs.Prelude.{◌≡◌, ◌++◌, ◌∷◌, [], map, not, filter, IfOk, OnOk, if◌then◌else◌};
+ghost use Rattle.std.specs.Prelude.{◌≡◌, ◌++◌, ◌∷◌, [], map, flat_map, not, filter, IfOk, OnOk, if◌then◌else◌};
 ghost use Rattle.std.specs.List.{AllByRecursion, range_with_len};
 ghost use Rattle.bt_net.specs.Network as network;
 ghost use Rattle.bt_model.specs.Requests.{IsRequest};
@@ -10,8 +10,9 @@ ghost use Rattle.bt_rules.specs.inner.Tables as tables;
 
 use crate::classes::{class_of, ends_out, enters, goes_on, goes_to, leaves, occurs};
 use crate::fact::Class;
+use crate::spots::WAYS;
 use bt_model::Request;
-use bt_net::{Edge, Pin};
+use bt_net::{Demand, Edge};
 use std::alloc::{AllocError, Global};
 
 /// A class, and the splitters into which edges of it go.
@@ -54,20 +55,35 @@ fn push_occurring(found: &mut Vec<Class>, request: &Request, class: Class) -> Re
     ensures { OnOk result (found.new.items ≡ found.old.items
         ++ (if classing.occurs request.now class then class ∷ [] else [])) }
 {
-    if occurs(request.net().edges(), request.pins(), class) {
+    if occurs(request.net().edges(), request.demands(), class) {
         found.push(class)?;
     }
     Ok(())
 }
 
-/// Adds the classes that occur of the edges from inputs into each splitter.
-fn push_shared(found: &mut Vec<Class>, request: &Request) -> Result<(), AllocError>
+/// Adds the classes that occur of the edges from inputs into this splitter, but for those of single inputs.
+fn push_shared_into(
+    found: &mut Vec<Class>,
+    request: &Request,
+    splitter: usize,
+) -> Result<(), AllocError>
     ensures { OnOk result (found.new.items ≡ found.old.items
-        ++ filter (classing.occurs request.now) (map class.Shared (classing.splitters_of request.now))) }
+        ++ filter (classing.occurs request.now) (classing.shared_into splitter)) }
+{
+    for way in WAYS {
+        push_occurring(found, request, Class::Shared(splitter, way))?;
+    }
+    Ok(())
+}
+
+/// Adds the classes that occur of the edges from inputs into each splitter, but for those of single inputs.
+fn push_shared(found: &mut Vec<Class>, request: &Request) -> Result<(), AllocError>
+    ensures { OnOk result (found.new.items ≡ found.old.items ++ filter (classing.occurs request.now)
+        (flat_map classing.shared_into (classing.splitters_of request.now))) }
 {
     let splitters = request.net().splitters() as usize;
     for splitter in 0..splitters {
-        push_occurring(found, request, Class::Shared(splitter))?;
+        push_shared_into(found, request, splitter)?;
     }
     Ok(())
 }
@@ -118,7 +134,7 @@ fn push_kept(found: &mut Vec<Class>, request: &Request, class: Class) -> Result<
     ensures { OnOk result (found.new.items ≡ found.old.items
         ++ (if not (classing.ends_out request.now class) then class ∷ [] else [])) }
 {
-    if !ends_out(request.net().edges(), request.pins(), class) {
+    if !ends_out(request.net().edges(), request.demands(), class) {
         found.push(class)?;
     }
     Ok(())
@@ -228,15 +244,15 @@ fn onward(alloc: Global, request: &Request, from: usize) -> Result<Vec<usize>, A
 /// Adds the class of the edge, where it goes into the splitter.
 fn push_into(
     found: &mut Vec<Class>,
-    pins: &[Pin],
+    demands: &[Demand],
     splitter: usize,
     edge: Edge,
 ) -> Result<(), AllocError>
     ensures { OnOk result (found.new.items ≡ found.old.items
-        ++ (if network.enters splitter edge then classing.class_of pins.now edge ∷ [] else [])) }
+        ++ (if network.enters splitter edge then classing.class_of demands.now edge ∷ [] else [])) }
 {
     if enters(splitter, edge) {
-        found.push(class_of(pins, edge))?;
+        found.push(class_of(demands, edge))?;
     }
     Ok(())
 }
@@ -245,15 +261,15 @@ fn push_into(
 fn classes_into(
     alloc: Global,
     edges: &[Edge],
-    pins: &[Pin],
+    demands: &[Demand],
     splitter: usize,
 ) -> Result<Vec<Class>, AllocError>
     ensures { IfOk result (λ found. found.items
-        ≡ map (classing.class_of pins.now) (filter (network.enters splitter) edges.now)) }
+        ≡ map (classing.class_of demands.now) (filter (network.enters splitter) edges.now)) }
 {
     let mut found = Vec::new(alloc);
     for edge in edges {
-        push_into(&mut found, pins, splitter, *edge)?;
+        push_into(&mut found, demands, splitter, *edge)?;
     }
     Ok(found)
 }
@@ -316,7 +332,7 @@ fn gate_of(
     let sources = sources(alloc, request, classes, splitter)?;
     let onward = onward(alloc, request, splitter)?;
     let edges = request.net().edges();
-    let into = classes_into(alloc, edges, request.pins(), splitter)?;
+    let into = classes_into(alloc, edges, request.demands(), splitter)?;
     let leaving = edges_from(alloc, edges, splitter)?;
     Ok(Gate {
         splitter,

@@ -12,6 +12,15 @@ use std::alloc::AllocError;
 /// The four directions.
 pub const DIRS: [Dir; 4] = [Dir::North, Dir::East, Dir::South, Dir::West];
 
+/// No side, and each of the four.
+pub const WAYS: [Option<Dir>; 5] = [
+    None,
+    Some(Dir::North),
+    Some(Dir::East),
+    Some(Dir::South),
+    Some(Dir::West),
+];
+
 /// The cell so many tiles to the east and to the south.
 pub fn cell_at(x: u32, y: u32) -> Cell
     requires x { x < 2 ^ 31 }

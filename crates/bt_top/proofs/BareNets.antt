@@ -6,7 +6,7 @@ use Rattle.bt_parts.specs.declared.part.Part.{Part}
 use Rattle.bt_same.specs.Sameness.{HaveEqualEnds}
 use Rattle.bt_top.specs.declared.fault.DesignFault.{DesignFault}
 use Rattle.bt_top.specs.Designs.{IsPlacedNet, IsLayoutNet, IsBlueprintNet, IsJsonLayout, IsBareText, IsBareDesign}
-use Rattle.bt_top.specs.Refusals.{json_told, entity_told, grid_told, layout_told}
+use Rattle.bt_top.specs.Refusals.{json_told, entity_told, grid_told, layout_told, net_told}
 use Rattle.bt_top.specs.Steps.{stopped, went_on}
 use Rattle.bt_top.specs.TwoDesigns.{IsPaired, IsFrontNets}
 use Rattle.bt_top.proofs.InTurns.{same_value, not_both}
@@ -31,10 +31,9 @@ json_network bytes answer found is (went_on read h k) =
     subst IsNetwork (ap (λ (pair : Network × ℕ). pair.0) (sym net.2)) (blueprint_network read.0 k.0 net.0 net.1 k.1)
 
 text_network : (bytes : List ℕ) (found : Network × ℕ) → IsBareText bytes (Ok found) → IsNetwork found.0
-text_network bytes found (inl (read, h, inl (pins, blocks, e))) =
+text_network bytes found (stopped fault h e) = absurd (not_both found (net_told fault) e)
+text_network bytes found (went_on read h e) =
     subst IsNetwork (ap (λ (pair : Network × ℕ). pair.0) (sym (same_value found (read.net, read.used) e))) h.network
-text_network bytes found (inl (read, h, inr (some, e))) = absurd (not_both found _ e)
-text_network bytes found (inr (fault, h, (other, k, e))) = absurd (not_both found _ e)
 
 -- a bare design has a network
 pub bare_network : (bytes : List ℕ) (found : Network × ℕ) → IsBareDesign bytes (Ok found) → IsNetwork found.0

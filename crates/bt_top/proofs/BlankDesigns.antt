@@ -23,6 +23,8 @@ use Rattle.bt_recover.specs.declared.fault.RecoverFault.{RecoverFault}
 use Rattle.bt_recover.specs.declared.fault.RecoverFault.TheVariants as layout
 use Rattle.bt_net.specs.declared.fault.NetFault.{NetFault}
 use Rattle.bt_net.specs.declared.fault.NetFault.TheVariants as net
+use Rattle.bt_net.specs.declared.network.Admitted.{Admitted}
+use Rattle.bt_net.specs.declared.network.Admitted.TheVariants as admitted
 use Rattle.bt_net.specs.Network.{Network}
 use Rattle.bt_net.specs.Refusals.{IsHeader}
 use Rattle.bt_net.specs.PinRefusals.{RefusesAll}
@@ -31,7 +33,7 @@ use Rattle.bt_top.specs.declared.fault.DesignFault.{DesignFault}
 use Rattle.bt_top.specs.declared.fault.DesignFault.TheVariants as design
 use Rattle.bt_top.specs.declared.refusal.Refusal.{Refusal}
 use Rattle.bt_top.specs.declared.refusal.Refusal.TheVariants as refusal
-use Rattle.bt_top.specs.Designs.{IsJsonText, IsPlacedNet, IsLayoutNet, IsBlueprintNet, IsPlacedWith, IsLayoutWith, IsPreferringNet, IsJsonNet, IsDesign, IsBareText, IsBareDesign, first_fault}
+use Rattle.bt_top.specs.Designs.{IsJsonText, IsPlacedNet, IsLayoutNet, IsBlueprintNet, IsPlacedWith, IsLayoutWith, IsPreferringNet, IsJsonNet, IsDesign, IsBareText, IsBareDesign}
 use Rattle.bt_top.specs.Refusals.{json_told, entity_told, grid_told, layout_told, net_told}
 use Rattle.bt_top.specs.Requested.{PinnedNet, pinned_net, IsPinnedText, IsPinnedJson, IsPinned}
 use Rattle.bt_top.specs.Steps.{stopped, went_on}
@@ -227,9 +229,9 @@ no_header b text first rest blank is i o s h = not_blank_n (subst IsBlank (first
     first_byte (inr last) = omega (arith, ap (λ x. get_or x 0 0) (last.1 ∙ h.bytes_are))
 
 -- network text behind blanks is refused at its first line
-all_refused : (blanks bytes : List ℕ) → All IsBlank blanks → 0 < length blanks → RefusesAll (blanks ++ bytes) (net.NetLine 1)
-all_refused [] bytes are some = absurd (omega (arith, some))
-all_refused (b ∷ blanks) bytes are some =
+all_refused : (may : Admitted) (blanks bytes : List ℕ) → All IsBlank blanks → 0 < length blanks → RefusesAll may (blanks ++ bytes) (net.NetLine 1)
+all_refused may [] bytes are some = absurd (omega (arith, some))
+all_refused may (b ∷ blanks) bytes are some =
     let first = first_line_of (b ∷ (blanks ++ bytes)) in
     (first.0, first.1, first.2, inl (refl, no_header b (blanks ++ bytes) first.0 first.1 (All-head IsBlank b blanks are) first.2))
 
@@ -268,10 +270,10 @@ module _ (blanks bytes : List ℕ) (are : All IsBlank blanks) where
     design_indented = inr (not_json, stopped (net.NetLine 1) (plain_refused blanks bytes are some) refl)
 
     pub bare_indented : IsBareDesign (blanks ++ bytes) (Err (design.Refused (refusal.NetLine 1)))
-    bare_indented = inr (not_json, inr (net.NetLine 1, all_refused blanks bytes are some, (Err (net.NetLine 1), plain_refused blanks bytes are some, refl)))
+    bare_indented = inr (not_json, stopped (net.NetLine 1) (all_refused admitted.Nothing blanks bytes are some) refl)
 
     pub pinned_indented : IsPinned (blanks ++ bytes) (Err (design.Refused (refusal.NetLine 1)))
-    pinned_indented = inr (not_json, stopped (net.NetLine 1) (all_refused blanks bytes are some) refl)
+    pinned_indented = inr (not_json, stopped (net.NetLine 1) (all_refused admitted.All blanks bytes are some) refl)
 
 module _ (bytes : List ℕ) (fault : DesignFault) where
   net_within : {A : Type 0} (f : NetFault) → ◌≡◌ {A = Result A DesignFault} (Err fault) (Err (net_told f)) → IsFaultWithin (length bytes) fault
@@ -285,12 +287,11 @@ module _ (bytes : List ℕ) (fault : DesignFault) where
 
   pub bare_fault_within : IsBareDesign bytes (Err fault) → IsFaultWithin (length bytes) fault
   bare_fault_within (inl h) = json_fault_within IsBlueprintNet blueprint_none bytes fault h.1
-  bare_fault_within (inr (none, inl (read, h, inl (pins, blocks, e)))) = absurd (not_both (read.net, read.used) fault (sym e))
-  bare_fault_within (inr (none, inl (read, h, inr (some, e)))) = none_within (length bytes) fault (told_none fault _ tt e)
-  bare_fault_within (inr (none, inr (f, h, (other, k, e)))) = net_within (first_fault f other) e
+  bare_fault_within (inr (none, stopped f h e)) = net_within f e
+  bare_fault_within (inr (none, went_on read h e)) = absurd (not_both (read.net, read.used) fault (sym e))
 
   pub pinned_fault_within : IsPinned bytes (Err fault) → IsFaultWithin (length bytes) fault
   pinned_fault_within (inl (is, stopped g h e)) = subst (IsFaultWithin (length bytes)) (sym (same_fault_of fault g e)) (json_fault_within IsBlueprintNet blueprint_none bytes g h)
   pinned_fault_within (inl (is, went_on found h e)) = absurd (not_both (pinned_net found.0 [] [], found.1) fault (sym e))
   pinned_fault_within (inr (none, stopped f h e)) = net_within f e
-  pinned_fault_within (inr (none, went_on read h e)) = absurd (not_both (pinned_net read.net read.pins read.blocks, read.used) fault (sym e))
+  pinned_fault_within (inr (none, went_on read h e)) = absurd (not_both (pinned_net read.net read.demands read.blocks, read.used) fault (sym e))

@@ -1,5 +1,6 @@
 pub mod InTurns
 pub mod Blanks
+pub mod BareReadings
 pub mod OneDesign
 pub mod OneAnswer
 pub mod InputsTold
@@ -14,7 +15,6 @@ pub mod RecheckedLeast
 pub mod StandingAlone
 pub mod OneRequest
 pub mod OnePair
-pub mod BareTexts
 pub mod SameCertified
 pub mod SameFronts
 pub mod BareNets
@@ -26,7 +26,6 @@ pub mod LaidOut
 pub mod LeastFound
 pub mod SmallFound
 pub mod Spanning
-pub mod Preferring
 pub mod Formed
 pub mod JsonBehindBlanks
 pub mod BlankDesigns

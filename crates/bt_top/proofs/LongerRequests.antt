@@ -1,6 +1,7 @@
--- A network with pins and blocks at the front of longer bytes.
+-- A network with pins, sides and blocks at the front of longer bytes.
 use Rattle.std.proofs.Common.{◌≡◌, ◌≢◌, ◌⊎◌, ℕ, ◌+◌, ◌<◌, ◌≤◌, List, [], ◌∷◌, ◌++◌, length, drop, Result, Ok, Err, ◌∙◌, ap, sym, subst, inl, inr, arith}
 use Rattle.std.specs.Prelude.{codes}
+use Rattle.bt_net.specs.declared.network.Admitted.TheVariants.{All}
 use Rattle.bt_net.specs.Readings.{IsNetRead}
 use Rattle.bt_net.specs.Longer.{with_line_feed}
 use Rattle.bt_net.proofs.Longer.{reading_stays, stays_refused}
@@ -24,17 +25,17 @@ module _ (bytes : List ℕ) (n : PinnedNet) (used : ℕ) where
 
   pinned_text_stays : IsPinnedText bytes (Ok (n, used)) → PinnedStays
   pinned_text_stays (stopped fault h e) = absurd (not_both (n, used) (net_told fault) e)
-  pinned_text_stays (went_on read h e) = by (reading_stays bytes read h)
+  pinned_text_stays (went_on read h e) = by (reading_stays All bytes read h)
     where
-      by : ((more : List ℕ) → IsNetRead (bytes ++ more) (Ok read)) ⊎ ((read.used ≡ length bytes) × ((more : List ℕ) → IsNetRead (bytes ++ 10 ∷ more) (Ok (with_line_feed read)))) → PinnedStays
+      by : ((more : List ℕ) → IsNetRead All (bytes ++ more) (Ok read)) ⊎ ((read.used ≡ length bytes) × ((more : List ℕ) → IsNetRead All (bytes ++ 10 ∷ more) (Ok (with_line_feed read)))) → PinnedStays
       by (inl stays) =
-          let other = net_first bytes (drop read.used bytes) read.net (h.begins.edge_lines ++ (h.begins.pin_lines ++ (h.begins.block_lines ++ codes "end" ∷ []))) h.begins.begins in
+          let other = net_first bytes (drop read.used bytes) read.net (h.begins.edge_lines ++ (h.begins.demand_lines ++ (h.begins.block_lines ++ codes "end" ∷ []))) h.begins.begins in
           inl (λ more. inr (other_text_stays bytes more other, went_on read (stays more) e))
       by (inr (all, fed)) =
-          let other = net_first bytes (drop read.used bytes) read.net (h.begins.edge_lines ++ (h.begins.pin_lines ++ (h.begins.block_lines ++ codes "end" ∷ []))) h.begins.begins in
-          let same = same_value (n, used) (pinned_net read.net read.pins read.blocks, read.used) e in
+          let other = net_first bytes (drop read.used bytes) read.net (h.begins.edge_lines ++ (h.begins.demand_lines ++ (h.begins.block_lines ++ codes "end" ∷ []))) h.begins.begins in
+          let same = same_value (n, used) (pinned_net read.net read.demands read.blocks, read.used) e in
           inr (
-            place_of n (pinned_net read.net read.pins read.blocks) used read.used e ∙ all,
+            place_of n (pinned_net read.net read.demands read.blocks) used read.used e ∙ all,
             λ more. inr (other_text_stays bytes (10 ∷ more) other, went_on (with_line_feed read) (fed more) (ap (λ (x : PinnedNet × ℕ). Ok (x.0, x.1 + 1)) same)),
           )
 
@@ -56,14 +57,14 @@ module _ (bytes : List ℕ) (n : PinnedNet) (used : ℕ) where
   pinned_text_within : IsPinnedText bytes (Ok (n, used)) → used ≤ length bytes
   pinned_text_within (stopped fault h e) = absurd (not_both (n, used) (net_told fault) e)
   pinned_text_within (went_on read h e) =
-      let same = place_of n (pinned_net read.net read.pins read.blocks) used read.used e in omega (arith, same, h.used)
+      let same = place_of n (pinned_net read.net read.demands read.blocks) used read.used e in omega (arith, same, h.used)
 
   -- it ends within the bytes
   pub pinned_within : IsPinned bytes (Ok (n, used)) → used ≤ length bytes
   pinned_within (inl h) = pinned_json_within h.1
   pinned_within (inr h) = pinned_text_within h.1
 
--- a network with pins and blocks that ends before the bytes do is that of the bytes and whatever follows
+-- a network with pins, sides and blocks that ends before the bytes do is that of the bytes and whatever follows
 pub pinned_goes_on : (bytes more : List ℕ) (found : PinnedNet × ℕ) → IsPinned bytes (Ok found) → found.1 < length bytes → IsPinned (bytes ++ more) (Ok found)
 pinned_goes_on bytes more found h few = by (pinned_stays bytes found.0 found.1 h)
   where
@@ -84,4 +85,4 @@ module _ (bytes more : List ℕ) (fault : DesignFault) where
   pinned_refusal_stays (inl (is, other)) (inr (none, h)) = absurd (none is)
   pinned_refusal_stays (inr (text, (lines, e), other)) (inl (is, h)) = absurd (not_json bytes text is)
   pinned_refusal_stays (inr (text, (lines, e), other)) (inr (none, h)) =
-      inr (other_text_stays bytes more text, read_refused IsNetRead stays_refused (λ read. (pinned_net read.net read.pins read.blocks, read.used)) bytes more lines fault e other h)
+      inr (other_text_stays bytes more text, read_refused (IsNetRead All) (stays_refused All) (λ read. (pinned_net read.net read.demands read.blocks, read.used)) bytes more lines fault e other h)

@@ -7,8 +7,8 @@ use Rattle.bt_json.proofs.OneRead.{one_read}
 use Rattle.bt_entities.specs.Answers.{IsPartsOf, IsPrioritisedOf}
 use Rattle.bt_entities.proofs.OneAnswer.{one_parts, one_reading}
 use Rattle.bt_net.specs.Network.{Network, HasNoPriorities, IsNetwork}
-use Rattle.bt_net.specs.declared.fault.NetFault.{NetFault}
-use Rattle.bt_net.specs.Readings.{Reading, IsPlainRead}
+use Rattle.bt_net.specs.declared.network.Admitted.TheVariants.{Nothing}
+use Rattle.bt_net.specs.Readings.{IsNetRead, IsPlainRead}
 use Rattle.bt_net.proofs.OnePlain.{one_plain}
 use Rattle.bt_net.proofs.OneReading.{one_read as one_net_read}
 use Rattle.bt_hands.specs.declared.hand.Priority.{Priority}
@@ -19,11 +19,11 @@ use Rattle.bt_recover.specs.Recovered.{IsRecovered}
 use Rattle.bt_recover.specs.Preferred.{IsRecoveredWith}
 use Rattle.bt_recover.proofs.OneRecovery.{one_recovery}
 use Rattle.bt_recover.proofs.PreferLemmas.{one_recovery_with}
-use Rattle.bt_top.specs.Designs.{IsPlacedNet, IsLayoutNet, IsBlueprintNet, IsPlacedWith, IsLayoutWith, IsPreferringNet, IsJsonNet, IsJsonDesign, IsJsonLayout, IsTextDesign, IsDesign, first_fault, IsUnpinned, IsRefusedBare, IsBareText, IsBareDesign}
+use Rattle.bt_top.specs.Designs.{IsPlacedNet, IsLayoutNet, IsBlueprintNet, IsPlacedWith, IsLayoutWith, IsPreferringNet, IsJsonNet, IsJsonDesign, IsJsonLayout, IsTextDesign, IsDesign, IsBareText, IsBareDesign}
 use Rattle.bt_top.specs.declared.fault.DesignFault.{DesignFault}
 use Rattle.bt_top.specs.Refusals.{json_told, entity_told, grid_told, layout_told, net_told}
 use Rattle.bt_top.specs.Steps.{stopped, went_on}
-use Rattle.bt_top.proofs.InTurns.{one_in_turn, same_value, same_fault, not_both}
+use Rattle.bt_top.proofs.InTurns.{one_in_turn, same_value, not_both}
 
 one_placed_net : (parts : List Part) → HasOneAnswer (IsPlacedNet parts)
 one_placed_net parts = one_in_turn (IsRecovered parts) _ _ (one_recovery parts) (λ found a b h k. h ∙ sym k)
@@ -66,22 +66,8 @@ one_design bytes a b (inr h) (inl k) = absurd (h.0 k.0)
 one_design bytes a b (inr h) (inr k) = one_text_design bytes a b h.1 k.1
 
 -- two right answers to the text of a bare design are equal
-one_unpinned : (read : Reading) → HasOneAnswer (IsUnpinned read)
-one_unpinned read a b (inl h) (inl k) = h.2 ∙ sym k.2
-one_unpinned read a b (inl h) (inr k) = absurd (k.0 (h.0, h.1))
-one_unpinned read a b (inr h) (inl k) = absurd (h.0 (k.0, k.1))
-one_unpinned read a b (inr h) (inr k) = h.1 ∙ sym k.1
-
-one_refused_bare : (bytes : List ℕ) (fault : NetFault) → HasOneAnswer (IsRefusedBare bytes fault)
-one_refused_bare bytes fault a b h k = h.2 ∙ ap (λ other. Err (net_told (first_fault fault other))) (one_plain bytes h.0 k.0 h.1 k.1) ∙ sym k.2
-
-one_bare_text : (bytes : List ℕ) → HasOneAnswer (IsBareText bytes)
-one_bare_text bytes a b (inl (r, h, u)) (inl (s, i, v)) =
-    one_unpinned s a b (subst (λ x. IsUnpinned x a) (same_value r s (one_net_read bytes (Ok r) (Ok s) h i)) u) v
-one_bare_text bytes a b (inl (r, h, u)) (inr (f, i, v)) = absurd (not_both r f (one_net_read bytes (Ok r) (Err f) h i))
-one_bare_text bytes a b (inr (f, h, u)) (inl (r, i, v)) = absurd (not_both r f (one_net_read bytes (Ok r) (Err f) i h))
-one_bare_text bytes a b (inr (f, h, u)) (inr (g, i, v)) =
-    one_refused_bare bytes g a b (subst (λ x. IsRefusedBare bytes x a) (same_fault f g (one_net_read bytes (Err f) (Err g) h i)) u) v
+pub one_bare_text : (bytes : List ℕ) → HasOneAnswer (IsBareText bytes)
+one_bare_text bytes = one_in_turn (IsNetRead Nothing bytes) _ _ (one_net_read Nothing bytes) (λ read a b h k. h ∙ sym k)
 
 -- and to the bytes of one
 pub one_bare_design : (bytes : List ℕ) → HasOneAnswer (IsBareDesign bytes)

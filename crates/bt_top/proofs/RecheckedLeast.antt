@@ -4,8 +4,8 @@ use Rattle.std.specs.Prelude.{codes}
 use Rattle.std.specs.List.{All}
 use Rattle.std.proofs.lemmas.List.{append_assoc, append-nil}
 use Rattle.std.proofs.lemmas.List.Elements.{All-nil, All-cons, All-head, All-tail}
-use Rattle.bt_net.specs.Network.{Network, HasNoPriorities}
-use Rattle.bt_net.proofs.ReadAlike.{read_alike}
+use Rattle.bt_net.specs.Network.{Network}
+use Rattle.bt_top.proofs.BareReadings.{nothing_read, bare_is_read}
 use Rattle.bt_parts.specs.declared.part.Rect.{Rect}
 use Rattle.bt_parts.specs.declared.part.Tier.{Tier}
 use Rattle.bt_model.specs.Requests.{LayoutRequest, IsRequest}
@@ -20,7 +20,7 @@ use Rattle.bt_write.specs.Written.{blueprint_text}
 use Rattle.bt_top.specs.declared.answer.Answer.TheVariants as answer
 use Rattle.bt_top.specs.Alone.{IsAlone}
 use Rattle.bt_top.specs.Answers.{text_of}
-use Rattle.bt_top.specs.Designs.{IsJsonText, IsTextDesign}
+use Rattle.bt_top.specs.Designs.{IsJsonText, IsBareText}
 use Rattle.bt_top.specs.RecheckingLeast.{certified_in, IsAccepted, BeginsWithGrids, LeastIsChecked}
 use Rattle.bt_top.specs.Refusals.{net_told, request_told}
 use Rattle.bt_top.specs.Requested.{pinned_net, IsPinned, IsRequestFor}
@@ -31,30 +31,30 @@ use Rattle.bt_top.proofs.InTurns.{same_value, not_both}
 use Rattle.bt_top.proofs.LongerDesigns.{other_text_stays, net_first}
 use Rattle.bt_top.proofs.RecheckedLayouts.{pinned_within, pinned_stays, certificate_follows}
 
--- a network text of which no splitter prefers an edge is read alike where pins and blocks may stand
-text_pinned : (bytes : List ℕ) (n : Network) (used : ℕ) → HasNoPriorities n → IsTextDesign bytes (Ok (n, used)) → IsPinned bytes (Ok (pinned_net n [] [], used))
-text_pinned bytes n used plain (stopped fault h e) = absurd (not_both (n, used) (net_told fault) e)
-text_pinned bytes n used plain (went_on read h e) =
+-- a network text in which nothing stands behind the edges is read alike where pins, sides and blocks may stand
+text_pinned : (bytes : List ℕ) (n : Network) (used : ℕ) → IsBareText bytes (Ok (n, used)) → IsPinned bytes (Ok (pinned_net n [] [], used))
+text_pinned bytes n used (stopped fault h e) = absurd (not_both (n, used) (net_told fault) e)
+text_pinned bytes n used (went_on read h e) =
     let same = same_value (n, used) (read.net, read.used) e in
-    let alike = (read_alike bytes read).0 (h, subst (λ (x : Network × ℕ). HasNoPriorities x.0) same plain) in
-    let pins = sym alike.1 in
-    let blocks = sym alike.2 in
-    let other = net_first bytes (drop read.used bytes) read.net (h.begins.edge_lines ++ (h.begins.priority_lines ++ codes "end" ∷ [])) h.begins.begins in
+    let bare = nothing_read bytes read h in
+    let demands = sym bare.0 in
+    let blocks = sym bare.1 in
+    let other = net_first bytes (drop read.used bytes) read.net (h.begins.edge_lines ++ (h.begins.demand_lines ++ (h.begins.block_lines ++ codes "end" ∷ []))) h.begins.begins in
     inr (
       subst (λ b. IsJsonText b → ⊥) (append-nil bytes) (other_text_stays bytes [] other),
-      went_on read alike.0 (λ i. Ok (pinned_net (same i).0 (pins i) (blocks i), (same i).1)),
+      went_on read (bare_is_read bytes read h) (λ i. Ok (pinned_net (same i).0 (demands i) (blocks i), (same i).1)),
     )
 
 same_found : (found other : Smallest) → answer.Least found ≡ answer.Least other → found ≡ other
 same_found found other e = cc
 
-module _ (most : Rect) (tier : Tier) (learnt : ℕ) (bytes : List ℕ) (n : Network) (plain : HasNoPriorities n) (alone : IsAlone IsTextDesign bytes (Ok n)) (asked : IsRequest (request_on n tier most)) where
+module _ (most : Rect) (tier : Tier) (learnt : ℕ) (bytes : List ℕ) (n : Network) (alone : IsAlone IsBareText bytes (Ok n)) (asked : IsRequest (request_on n tier most)) where
   -- the certificate of a grid follows the network text
   one_accepted : (one : RuledOut) → IsRuledOut n tier learnt one → IsWithin most one.grid → IsAccepted tier bytes one
   one_accepted one ruled within short =
       let pinned = pinned_net n [] [] in
-      let stands = stands_alone IsTextDesign bytes n alone in
-      let front = text_pinned bytes n stands.used plain stands.front in
+      let stands = stands_alone IsBareText bytes n alone in
+      let front = text_pinned bytes n stands.used stands.front in
       let on = is_followed IsPinned bytes (nowhere_text one.log.steps) pinned (λ some. other_than 110 (λ x. omega (arith, x)) (λ x. omega (arith, x)) (λ x. omega (arith, x)) (λ x. omega (arith, x)))
       stands.used front (pinned_within bytes pinned stands.used front) stands.blanks (pinned_stays bytes pinned stands.used front) in
       let made : IsRequestFor one.grid tier pinned (Ok (request_on n tier one.grid)) = went_on (request_on n tier one.grid) (refl, asked_on n tier most one.grid asked within) refl in
@@ -82,13 +82,10 @@ begins_with (Spent earlier grid log) = (text_of (answer.Least (Spent earlier gri
 searched : (most : Rect) (tier : Tier) (learnt : ℕ) (bytes : List ℕ) (found : Smallest) (r : LayoutRequest) → IsPlainRequest most tier bytes (Ok r) → IsSmallest r.net r.tier r.rect learnt found
     → All (IsAccepted tier bytes) (certified_in found)
 searched most tier learnt bytes found r (stopped fault h e) is = absurd (not_both r fault e)
-searched most tier learnt bytes found r (went_on n (stopped fault h i) made) is = absurd (not_both n fault i)
-searched most tier learnt bytes found r (went_on n (went_on m alone (inr preferring)) made) is = absurd (not_both n _ preferring.1)
-searched most tier learnt bytes found r (went_on n (went_on m alone (inl plain)) (stopped fault h e)) is = absurd (not_both r (request_told fault) e)
-searched most tier learnt bytes found r (went_on n (went_on m alone (inl plain)) (went_on made h e)) is =
-    let net : m ≡ n = sym (same_value n m plain.1) in
+searched most tier learnt bytes found r (went_on n alone (stopped fault h e)) is = absurd (not_both r (request_told fault) e)
+searched most tier learnt bytes found r (went_on n alone (went_on made h e)) is =
     let same : r ≡ request_on n tier most = same_value r made e ∙ h.0 in
-    found_accepted most tier learnt bytes n (subst HasNoPriorities net plain.0) (subst (λ x. IsAlone IsTextDesign bytes (Ok x)) net alone) (subst IsRequest h.0 h.1) found
+    found_accepted most tier learnt bytes n alone (subst IsRequest h.0 h.1) found
     (subst (λ (x : LayoutRequest). IsSmallest x.net x.tier x.rect learnt found) same is)
 
 -- a network text and what is written of its least grid

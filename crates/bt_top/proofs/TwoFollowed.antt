@@ -4,9 +4,11 @@ use Rattle.std.specs.Prelude.{codes, slice_index}
 use Rattle.std.proofs.lemmas.List.{append_assoc, length-drop, take-append-drop, drop-append-le}
 use Rattle.bt_text.specs.Blanks.{IsBlank, SkipsBlanks}
 use Rattle.bt_net.specs.Network.{Network, IsNetwork}
+use Rattle.bt_top.proofs.BareReadings.{nothing_read, bare_is_read, read_is_bare}
 use Rattle.bt_same.specs.Sameness.{HaveEqualEnds}
 use Rattle.bt_top.specs.Alone.{IsAlone}
 use Rattle.bt_top.specs.Designs.{IsJsonLayout, IsBareDesign}
+use Rattle.bt_top.specs.Refusals.{net_told}
 use Rattle.bt_top.specs.Requested.{PinnedNet, pinned_net, IsPinned}
 use Rattle.bt_top.specs.Steps.{stopped, went_on}
 use Rattle.bt_top.specs.TwoDesigns.{IsTwoNets, IsFrontNets}
@@ -21,11 +23,13 @@ use Rattle.bt_top.proofs.LongerRequests.{PinnedStays, pinned_stays, pinned_withi
 module _ (bytes : List ℕ) (n : Network) (used : ℕ) where
   to_pinned : IsBareDesign bytes (Ok (n, used)) → IsPinned bytes (Ok (pinned_net n [] [], used))
   to_pinned (inl (is, h)) = inl (is, went_on (n, used) h refl)
-  to_pinned (inr (none, inl (read, h, inl (pins, blocks, e)))) =
+  to_pinned (inr (none, stopped fault h e)) = absurd (not_both (n, used) (net_told fault) e)
+  to_pinned (inr (none, went_on read h e)) =
       let same = same_value (n, used) (read.net, read.used) e in
-      inr (none, went_on read h (λ i. Ok (pinned_net (same i).0 (sym pins i) (sym blocks i), (same i).1)))
-  to_pinned (inr (none, inl (read, h, inr (some, e)))) = absurd (not_both (n, used) _ e)
-  to_pinned (inr (none, inr (fault, h, (other, k, e)))) = absurd (not_both (n, used) _ e)
+      let bare = nothing_read bytes read h in
+      let demands = sym bare.0 in
+      let blocks = sym bare.1 in
+      inr (none, went_on read (bare_is_read bytes read h) (λ i. Ok (pinned_net (same i).0 (demands i) (blocks i), (same i).1)))
 
   from_pinned : IsPinned bytes (Ok (pinned_net n [] [], used)) → IsBareDesign bytes (Ok (n, used))
   from_pinned (inl (is, stopped fault h e)) = absurd (not_both (pinned_net n [] [], used) fault e)
@@ -34,18 +38,12 @@ module _ (bytes : List ℕ) (n : Network) (used : ℕ) where
       inl (is, subst (λ (x : Network × ℕ). IsJsonLayout bytes (Ok x)) (ap (λ (x : PinnedNet × ℕ). (x.0.net, x.1)) (sym same)) h)
   from_pinned (inr (none, stopped fault h e)) = absurd (not_both (pinned_net n [] [], used) _ e)
   from_pinned (inr (none, went_on read h e)) =
-      let same = same_value (pinned_net n [] [], used) (pinned_net read.net read.pins read.blocks, read.used) e in
+      let same = same_value (pinned_net n [] [], used) (pinned_net read.net read.demands read.blocks, read.used) e in
       inr (
         none,
-        inl (
-          read,
-          h,
-          inl (
-            ap (λ (x : PinnedNet × ℕ). x.0.pins) (sym same),
-            ap (λ (x : PinnedNet × ℕ). x.0.blocks) (sym same),
-            ap (λ (x : PinnedNet × ℕ). Ok (x.0.net, x.1)) same,
-          ),
-        ),
+        went_on read
+            (read_is_bare bytes read h (ap (λ (x : PinnedNet × ℕ). x.0.demands) (sym same)) (ap (λ (x : PinnedNet × ℕ). x.0.blocks) (sym same)))
+            (ap (λ (x : PinnedNet × ℕ). Ok (x.0.net, x.1)) same),
       )
 
 module _ (bytes : List ℕ) (n : Network) (used : ℕ) (h : IsBareDesign bytes (Ok (n, used))) where
@@ -68,10 +66,10 @@ module _ (bytes : List ℕ) (n : Network) (used : ℕ) (h : IsBareDesign bytes (
 -- no design is empty
 never_empty : (n : Network) (used : ℕ) → IsBareDesign [] (Ok (n, used)) → ⊥
 never_empty n used (inl ((rest, s), h)) = omega (arith, ap length s.text_is, length-append s.blanks (123 ∷ rest))
-never_empty n used (inr (none, inl (read, h, u))) =
-    let other = net_first [] (drop read.used []) read.net (h.begins.edge_lines ++ (h.begins.pin_lines ++ (h.begins.block_lines ++ codes "end" ∷ []))) h.begins.begins in
+never_empty n used (inr (none, stopped fault h e)) = not_both (n, used) (net_told fault) e
+never_empty n used (inr (none, went_on read h e)) =
+    let other = net_first [] (drop read.used []) read.net (h.begins.edge_lines ++ (h.begins.demand_lines ++ (h.begins.block_lines ++ codes "end" ∷ []))) h.begins.begins in
     omega (arith, ap length other.2.text_is, length-append other.2.blanks (other.0 ∷ other.1))
-never_empty n used (inr (none, inr (fault, h, (other, k, e)))) = not_both (n, used) _ e
 
 -- what stands behind a front
 pub drop_past : (front back : List ℕ) (k m : ℕ) → m ≡ length front + k → drop m (front ++ back) ≡ drop k back

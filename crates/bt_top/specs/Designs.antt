@@ -1,5 +1,5 @@
 -- What a design is: network text, or blueprint JSON of a layout. And of what isn't one, the first refusal.
-use Rattle.std.specs.Prelude.{◌≡◌, ℕ, ◌+◌, min, List, [], ◌∷◌, length, ◌⊎◌, Result, Ok, Err}
+use Rattle.std.specs.Prelude.{◌≡◌, ℕ, List, ◌∷◌, ◌⊎◌, Result, Ok, Err}
 use Rattle.bt_answers.specs.Answers.{seen}
 use Rattle.bt_text.specs.Blanks.{SkipsBlanks}
 use Rattle.bt_json.specs.Json.{Json}
@@ -11,12 +11,9 @@ use Rattle.bt_grid.specs.Placing.{IsPlaced}
 use Rattle.bt_recover.specs.Recovered.{IsRecovered}
 use Rattle.bt_recover.specs.Preferred.{IsRecoveredWith}
 use Rattle.bt_net.specs.Network.{Network}
-use Rattle.bt_net.specs.declared.fault.NetFault.{NetFault}
-use Rattle.bt_net.specs.declared.fault.NetFault.TheVariants as net_fault
-use Rattle.bt_net.specs.Readings.{Reading, IsNetRead, IsPlainRead}
+use Rattle.bt_net.specs.declared.network.Admitted.TheVariants.{Nothing}
+use Rattle.bt_net.specs.Readings.{IsNetRead, IsPlainRead}
 use Rattle.bt_top.specs.declared.fault.DesignFault.{DesignFault}
-use Rattle.bt_top.specs.declared.fault.DesignFault.TheVariants.{Refused}
-use Rattle.bt_top.specs.declared.refusal.Refusal.TheVariants.{NetLine}
 use Rattle.bt_top.specs.Refusals.{json_told, entity_told, grid_told, layout_told, net_told}
 use Rattle.bt_top.specs.Steps.{InTurn}
 
@@ -69,33 +66,10 @@ IsTextDesign bytes = InTurn (IsPlainRead bytes) (λ fault. Err (net_told fault))
 abbrev pub IsDesign : List ℕ → Result (Network × ℕ) DesignFault → Type 0
 IsDesign bytes answer = (IsJsonText bytes × IsJsonDesign bytes answer) ⊎ ((IsJsonText bytes → ⊥) × IsTextDesign bytes answer)
 
--- of two faults of one text the one that comes first: that of the earlier line, and any line before another fault
-abbrev pub earlier_fault : NetFault → NetFault → NetFault
-earlier_fault net_fault.Memory other = net_fault.Memory
-earlier_fault fault net_fault.Memory = net_fault.Memory
-earlier_fault (net_fault.NetLine k) (net_fault.NetLine l) = net_fault.NetLine (min k l)
-earlier_fault (net_fault.NetLine k) other = net_fault.NetLine k
-earlier_fault fault other = other
-
--- what comes of a network that was read, where it may have neither pins nor blocks: the network and the place after it, or the refusal of the first line of a pin or a block, which comes behind the header and those of the edges
-abbrev pub IsUnpinned : Reading → Result (Network × ℕ) DesignFault → Type 0
-IsUnpinned read answer = ((read.pins ≡ []) × (read.blocks ≡ []) × (answer ≡ Ok (read.net, read.used)))
-    ⊎ (((read.pins ≡ []) × (read.blocks ≡ []) → ⊥) × (answer ≡ Err (Refused (NetLine (length read.net.edges + 2)))))
-
--- of the fault of one reading and what another reading tells, the fault that comes first
-abbrev pub first_fault : NetFault → Result Reading NetFault → NetFault
-first_fault fault (Ok read) = fault
-first_fault fault (Err other) = earlier_fault fault other
-
--- what comes of a text that has this fault where pins and blocks may stand: the refusal of that, or of an earlier line that may not stand where priorities may in their place
-abbrev pub IsRefusedBare : List ℕ → NetFault → Result (Network × ℕ) DesignFault → Type 0
-IsRefusedBare bytes fault answer = (other : Result Reading NetFault) × IsPlainRead bytes other × (answer ≡ Err (net_told (first_fault fault other)))
-
--- what comes of network text in which neither pins and blocks nor priorities may stand: the network at its front and the place after it, or the refusal of the first line that may not stand
+-- what comes of network text in which nothing may stand behind the edges: the network at its front and the place after it, or the first refusal
 abbrev pub IsBareText : List ℕ → Result (Network × ℕ) DesignFault → Type 0
-IsBareText bytes answer = ((read : Reading) × IsNetRead bytes (Ok read) × IsUnpinned read answer)
-    ⊎ ((fault : NetFault) × IsNetRead bytes (Err fault) × IsRefusedBare bytes fault answer)
+IsBareText bytes = InTurn (IsNetRead Nothing bytes) (λ fault. Err (net_told fault)) (λ read answer. answer ≡ Ok (read.net, read.used))
 
--- what comes of bytes at whose front a design without priorities is to stand, whose text names neither pins nor blocks
+-- what comes of bytes at whose front a design without priorities is to stand, whose text names neither pins, sides nor blocks
 abbrev pub IsBareDesign : List ℕ → Result (Network × ℕ) DesignFault → Type 0
 IsBareDesign bytes answer = (IsJsonText bytes × IsJsonLayout bytes answer) ⊎ ((IsJsonText bytes → ⊥) × IsBareText bytes answer)

@@ -1,8 +1,8 @@
 -- What `smallest` answers.
-use Rattle.std.specs.Prelude.{◌≡◌, ℕ, ◌+◌, List, [], length, ◌⊎◌, Result, Ok, Err}
+use Rattle.std.specs.Prelude.{◌≡◌, ℕ, List, [], Result, Ok, Err}
 use Rattle.bt_parts.specs.declared.part.Rect.{Rect}
 use Rattle.bt_parts.specs.declared.part.Tier.{Tier}
-use Rattle.bt_net.specs.Network.{Network, HasNoPriorities}
+use Rattle.bt_net.specs.Network.{Network}
 use Rattle.bt_model.specs.Requests.{LayoutRequest}
 use Rattle.bt_write.specs.ReadBack.{IsReadBack}
 use Rattle.bt_layout.specs.declared.outcome.Smallest.{Smallest}
@@ -10,25 +10,15 @@ use Rattle.bt_layout.specs.declared.outcome.Smallest.TheVariants.{Found, Nowhere
 use Rattle.bt_layout.specs.Smallest.{IsSmallest}
 use Rattle.bt_top.specs.declared.answer.Answer.TheVariants as answer
 use Rattle.bt_top.specs.declared.fault.DesignFault.{DesignFault}
-use Rattle.bt_top.specs.declared.fault.DesignFault.TheVariants.{Refused}
-use Rattle.bt_top.specs.declared.refusal.Refusal.TheVariants.{NetLine}
 use Rattle.bt_top.specs.Alone.{IsAlone}
-use Rattle.bt_top.specs.Designs.{IsTextDesign}
+use Rattle.bt_top.specs.Designs.{IsBareText}
 use Rattle.bt_top.specs.Replies.{Reply, design_told}
 use Rattle.bt_top.specs.Requested.{pinned_net, IsRequestFor}
 use Rattle.bt_top.specs.Steps.{InTurn}
 
--- what comes of a network that is to be laid: itself where no splitter prefers an edge, else the refusal of its first line of a priority, which comes behind the header and those of the edges
-abbrev pub IsUnpreferring : Network → Result Network DesignFault → Type 0
-IsUnpreferring n answer = (HasNoPriorities n × (answer ≡ Ok n)) ⊎ ((HasNoPriorities n → ⊥) × (answer ≡ Err (Refused (NetLine (length n.edges + 2)))))
-
--- what comes of bytes that are to be the text of such a network alone: the first refusal, of the text at their front, then of what follows it, then of its priorities; or the network
-abbrev pub IsPlainText : List ℕ → Result Network DesignFault → Type 0
-IsPlainText bytes = InTurn (IsAlone IsTextDesign bytes) Err IsUnpreferring
-
--- what comes of bytes that are to be a network text alone, for parts of a tier on the greatest grid: the first refusal, of the text, then of the request; or the request
+-- what comes of bytes that are to be a network text alone, in which nothing stands behind the edges, for parts of a tier on the greatest grid: the first refusal, of the text at their front, then of what follows it, then of the request; or the request
 abbrev pub IsPlainRequest : Rect → Tier → List ℕ → Result LayoutRequest DesignFault → Type 0
-IsPlainRequest most tier bytes = InTurn (IsPlainText bytes) Err (λ n. IsRequestFor most tier (pinned_net n [] []))
+IsPlainRequest most tier bytes = InTurn (IsAlone IsBareText bytes) Err (λ n. IsRequestFor most tier (pinned_net n [] []))
 
 -- the blueprint that is written of parts that are found is read as these parts
 abbrev pub IsFoundAgain : Smallest → Type 0

@@ -2,7 +2,7 @@
 //!
 //! JSON goes through four layers (its text, the blueprint, the places of parts, the layout), network
 //! text through one. Each step stands in a function of its own, whose fault is told as a refusal.
-ghost use Rattle.std.specs.Prelude.{◌≡◌, ◌↔◌, ◌≤◌, ◌∷◌, ℕ, IsTrue, List, IfOk, Err, length};
+ghost use Rattle.std.specs.Prelude.{◌≡◌, ◌↔◌, ◌≤◌, ◌∷◌, ℕ, IsTrue, List, IfOk, length};
 ghost use Rattle.bt_answers.specs.Answers.{UnlessMemory, seen};
 ghost use Rattle.bt_parts.specs.Layouts.{AreInRange};
 ghost use Rattle.bt_json.specs.Stands.{json_of};
@@ -10,16 +10,14 @@ ghost use Rattle.bt_entities.specs.Answers.{parts_and_priorities_in};
 ghost use Rattle.bt_top.specs.inner.Found.{net_and_used, net_by};
 ghost use Rattle.bt_top.specs.Designs.{IsJsonText, IsPlacedNet, IsLayoutNet, IsBlueprintNet};
 ghost use Rattle.bt_top.specs.Designs.{IsPlacedWith, IsLayoutWith, IsPreferringNet, IsJsonNet, IsTextDesign, IsDesign};
-ghost use Rattle.bt_net.specs.Readings.{what_is_read};
-ghost use Rattle.bt_top.specs.Designs.{IsBareText, IsBareDesign, IsUnpinned, IsRefusedBare, earlier_fault, first_fault};
+ghost use Rattle.bt_top.specs.Designs.{IsBareText, IsBareDesign};
 
 use crate::fault::DesignFault;
-use crate::refusal::Refusal;
 use bt_entities::{Prioritised, parts_and_priorities, parts_of};
 use bt_grid::Grid;
 use bt_hands::Priority;
 use bt_json::Tree;
-use bt_net::{Net, NetFault, NetRead};
+use bt_net::{Admitted, Net};
 use bt_parts::Part;
 use bt_recover::{Traced, recover, recover_with};
 use bt_text::skip_blanks;
@@ -75,7 +73,7 @@ pub fn read_text(alloc: Global, bytes: &[u8]) -> Result<Design, DesignFault>
 }
 
 /// The bare design at the front of the bytes: no splitter of it prefers a side or an edge, and its text names neither
-/// pins nor blocks.
+/// pins, sides nor blocks.
 pub fn read_bare(alloc: Global, bytes: &[u8]) -> Result<Design, DesignFault>
     ensures design { UnlessMemory DesignFault.Memory (IsBareDesign bytes.now) (seen net_and_used result) }
     ensures within { IfOk result (λ design. design.used ≤ length bytes.now) }
@@ -88,63 +86,16 @@ pub fn read_bare(alloc: Global, bytes: &[u8]) -> Result<Design, DesignFault>
 }
 
 /// The bare design whose network text stands at the front of the bytes.
-fn read_bare_text(alloc: Global, bytes: &[u8]) -> Result<Design, DesignFault>
+pub fn read_bare_text(alloc: Global, bytes: &[u8]) -> Result<Design, DesignFault>
     ensures design { UnlessMemory DesignFault.Memory (IsBareText bytes.now) (seen net_and_used result) }
     ensures within { IfOk result (λ design. design.used ≤ length bytes.now) }
 {
-    match bt_net::read(alloc, bytes) {
-        Ok(read) => unpinned(read),
-        Err(fault) => Err(refused_bare(alloc, bytes, fault)),
-    }
-}
-
-/// The network that was read, where it has neither pins nor blocks.
-fn unpinned(read: NetRead) -> Result<Design, DesignFault>
-    ensures design { IsUnpinned (what_is_read read) (seen net_and_used result) }
-    ensures used { IfOk result (λ design. design.used ≡ read.used) }
-{
-    let NetRead {
-        net,
-        pins,
-        blocks,
-        used,
-        ..
-    } = read;
-    if pins.is_empty() && blocks.is_empty() {
-        return Ok(Design { net, used });
-    }
-    let line = net.edges().len() + 2;
-    Err(DesignFault::Refused(Refusal::NetLine(line)))
-}
-
-/// Why a text is refused that has this fault where pins and blocks are read.
-fn refused_bare(alloc: Global, bytes: &[u8], fault: NetFault) -> DesignFault
-    ensures refused { UnlessMemory DesignFault.Memory (IsRefusedBare bytes.now fault) (Err result) }
-    ensures memory { fault ≡ NetFault.Memory → result ≡ DesignFault.Memory }
-{
-    let other = bt_net::read_plain(alloc, bytes);
-    first_fault(fault, other).into()
-}
-
-/// Of the fault of one reading and what another reading tells, the fault that comes first.
-fn first_fault(fault: NetFault, other: Result<NetRead, NetFault>) -> NetFault
-    ensures { result ≡ first_fault fault (seen what_is_read other) }
-{
-    match other {
-        Ok(_) => fault,
-        Err(other) => earlier(fault, other),
-    }
-}
-
-/// The fault that comes first in a text of which both are faults.
-fn earlier(fault: NetFault, other: NetFault) -> NetFault
-    ensures { result ≡ earlier_fault fault other }
-{
-    match (fault, other) {
-        (NetFault::Memory, _) | (_, NetFault::Memory) => NetFault::Memory,
-        (NetFault::NetLine(line), NetFault::NetLine(next)) => NetFault::NetLine(line.min(next)),
-        (NetFault::NetLine(line), _) => NetFault::NetLine(line),
-        (_, other) => other,
+    match bt_net::read(alloc, Admitted::Nothing, bytes) {
+        Ok(read) => Ok(Design {
+            net: read.net,
+            used: read.used,
+        }),
+        Err(fault) => Err(fault.into()),
     }
 }
 

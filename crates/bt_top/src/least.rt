@@ -4,7 +4,7 @@ ghost use Rattle.bt_answers.specs.Answers.{UnlessMemory};
 ghost use Rattle.bt_net.specs.Network.{HasNoPriorities};
 ghost use Rattle.bt_model.specs.Requests.{IsGrid, IsRequest};
 ghost use Rattle.bt_layout.specs.Smallest.{request_on};
-ghost use Rattle.bt_top.specs.Searching.{IsPlainRequest, IsPlainText, IsSearched, IsSearchedFrom, IsUnpreferring};
+ghost use Rattle.bt_top.specs.Searching.{IsPlainRequest, IsSearched, IsSearchedFrom};
 
 use crate::alone::read_lone_text;
 use crate::answer::{Answer, refused};
@@ -44,14 +44,14 @@ pub fn read_plain_request(
     requires { IsGrid most }
     ensures { UnlessMemory DesignFault.Memory (IsPlainRequest most tier bytes.now) result }
 {
-    match read_plain_text(alloc, bytes) {
+    match read_lone_text(alloc, bytes) {
         Ok(net) => {
-            let pins = Vec::new(alloc);
+            let demands = Vec::new(alloc);
             let blocks = Vec::new(alloc);
             let used = bytes.len();
             let design = PinnedDesign {
                 net,
-                pins,
+                demands,
                 blocks,
                 used,
             };
@@ -59,40 +59,6 @@ pub fn read_plain_request(
         }
         Err(fault) => Err(fault),
     }
-}
-
-/// The network whose text the bytes are, where no splitter of it prefers an edge.
-fn read_plain_text(alloc: Global, bytes: &[u8]) -> Result<Net, DesignFault>
-    ensures { UnlessMemory DesignFault.Memory (IsPlainText bytes.now) result }
-{
-    match read_lone_text(alloc, bytes) {
-        Ok(net) => unpreferring(net),
-        Err(fault) => Err(fault),
-    }
-}
-
-/// The network, where no splitter of it prefers an edge.
-fn unpreferring(net: Net) -> Result<Net, DesignFault>
-    ensures { UnlessMemory DesignFault.Memory (IsUnpreferring net) result }
-{
-    if prefers_none(&net) {
-        return Ok(net);
-    }
-    let line = net.edges().len() + 2;
-    Err(DesignFault::Refused(Refusal::NetLine(line)))
-}
-
-/// Whether no splitter prefers an edge.
-fn prefers_none(net: &Net) -> bool
-    ensures { IsTrue result ↔ HasNoPriorities net.now }
-{
-    let _ = net.edges();
-    for splitter in 0..net.splitters() as usize {
-        if net.give(splitter).is_some() || net.take(splitter).is_some() {
-            return false;
-        }
-    }
-    true
 }
 
 /// The answer to a request on the greatest grid.

@@ -1,4 +1,4 @@
-//! The request at the front of an input: a design, whose network text may also name pins and blocks, with
+//! The request at the front of an input: a design, whose network text may also name pins, sides and blocks, with
 //! the rectangle and the tier of the command.
 ghost use Rattle.std.specs.Prelude.{◌≡◌, ◌≤◌, IfOk, length};
 ghost use Rattle.bt_answers.specs.Answers.{UnlessMemory, seen};
@@ -12,15 +12,15 @@ use crate::alone::refused_behind;
 use crate::design::{Design, Reading, is_json, read_json};
 use crate::fault::DesignFault;
 use bt_model::Request;
-use bt_net::{Block, Net, Pin};
+use bt_net::{Admitted, Block, Demand, Net};
 use bt_parts::{Rect, Tier};
 use std::alloc::Global;
 
-/// A design's network with its pins and its blocks, and how many bytes the design has.
+/// A design's network with its pins, its sides and its blocks, and how many bytes the design has.
 #[derive(Drop)]
 pub struct PinnedDesign {
     pub net: Net,
-    pub pins: Vec<Pin>,
+    pub demands: Vec<Demand>,
     pub blocks: Vec<Block>,
     pub used: usize,
 }
@@ -71,17 +71,17 @@ pub fn request_for(rect: Rect, tier: Tier, design: PinnedDesign) -> Result<Reque
 {
     let PinnedDesign {
         net,
-        pins,
+        demands,
         blocks,
         ..
     } = design;
-    match Request::new(net, rect, tier, pins, blocks) {
+    match Request::new(net, rect, tier, demands, blocks) {
         Ok(request) => Ok(request),
         Err(fault) => Err(fault.into()),
     }
 }
 
-/// The design that the bytes are, with its pins and its blocks, and blanks behind it.
+/// The design that the bytes are, with its pins, its sides and its blocks, and blanks behind it.
 fn read_lone_pinned(alloc: Global, bytes: &[u8]) -> Result<PinnedDesign, DesignFault>
     ensures { UnlessMemory DesignFault.Memory (IsAlone IsPinned bytes.now) (seen pinned_of result) }
 {
@@ -94,7 +94,7 @@ fn read_lone_pinned(alloc: Global, bytes: &[u8]) -> Result<PinnedDesign, DesignF
     }
 }
 
-/// The design at the front of the bytes, with its pins and its blocks.
+/// The design at the front of the bytes, with its pins, its sides and its blocks.
 pub fn read_pinned(alloc: Global, bytes: &[u8]) -> Result<PinnedDesign, DesignFault>
     ensures design { UnlessMemory DesignFault.Memory (IsPinned bytes.now) (seen pinned_and_used result) }
     ensures within { IfOk result (λ design. design.used ≤ length bytes.now) }
@@ -106,15 +106,15 @@ pub fn read_pinned(alloc: Global, bytes: &[u8]) -> Result<PinnedDesign, DesignFa
     }
 }
 
-/// The design whose network text stands at the front of the bytes, with its pins and its blocks.
+/// The design whose network text stands at the front of the bytes, with its pins, its sides and its blocks.
 fn read_pinned_text(alloc: Global, bytes: &[u8]) -> Result<PinnedDesign, DesignFault>
     ensures design { UnlessMemory DesignFault.Memory (IsPinnedText bytes.now) (seen pinned_and_used result) }
     ensures within { IfOk result (λ design. design.used ≤ length bytes.now) }
 {
-    match bt_net::read(alloc, bytes) {
+    match bt_net::read(alloc, Admitted::All, bytes) {
         Ok(read) => Ok(PinnedDesign {
             net: read.net,
-            pins: read.pins,
+            demands: read.demands,
             blocks: read.blocks,
             used: read.used,
         }),
@@ -122,18 +122,18 @@ fn read_pinned_text(alloc: Global, bytes: &[u8]) -> Result<PinnedDesign, DesignF
     }
 }
 
-/// The design whose JSON text stands at the front of the bytes, which names no pins and no blocks.
+/// The design whose JSON text stands at the front of the bytes, which names no pins, no sides and no blocks.
 fn read_pinned_json(alloc: Global, bytes: &[u8]) -> Result<PinnedDesign, DesignFault>
     ensures design { UnlessMemory DesignFault.Memory (IsPinnedJson bytes.now) (seen pinned_and_used result) }
     ensures within { IfOk result (λ design. design.used ≤ length bytes.now) }
 {
     match read_json(alloc, Reading::Layout, bytes) {
         Ok(Design { net, used }) => {
-            let pins = Vec::new(alloc);
+            let demands = Vec::new(alloc);
             let blocks = Vec::new(alloc);
             Ok(PinnedDesign {
                 net,
-                pins,
+                demands,
                 blocks,
                 used,
             })

@@ -182,7 +182,7 @@ fn told_fault(held: Held<'_>, part: &[u8], fault: DesignFault) -> Option<DesignF
     }
 }
 
-/// The same of a bare design. A network text is refused at its end alone, as its first wrong line is known by two readings.
+/// The same of a bare design. A network text is refused at its end alone.
 fn told_bare_fault(held: Held<'_>, part: &[u8], fault: DesignFault) -> Option<DesignFault>
     requires few { held.skipped ≤ MOST_CHECKED }
     requires within { IsFaultWithin (MOST_CHECKED - held.skipped) fault }

@@ -7,6 +7,8 @@ use Rattle.bt_net.specs.declared.fault.NetFault.TheVariants.{NetLine, TooLarge, 
 use Rattle.bt_net.specs.declared.network.Edge.{Edge}
 use Rattle.bt_net.specs.declared.network.End.{End}
 use Rattle.bt_net.specs.declared.network.End.TheVariants as end
+use Rattle.bt_net.specs.declared.network.Ends.{Ends}
+use Rattle.bt_net.specs.declared.network.Ends.TheVariants.{One, Inputs, Outputs}
 use Rattle.bt_net.specs.declared.network.Start.{Start}
 use Rattle.bt_net.specs.declared.network.Start.TheVariants as from
 use Rattle.bt_net.specs.declared.network.Target.{Target}
@@ -46,6 +48,12 @@ TargetFits (to.Output o) = o < 2 ^ 32
 abbrev pub EndFits : End → Type 0
 EndFits (end.Input i) = i < 2 ^ 32
 EndFits (end.Output o) = o < 2 ^ 32
+
+-- the number of an end that is named has at most 32 bits
+abbrev pub EndsFit : Ends → Type 0
+EndsFit (One end) = EndFits end
+EndsFit Inputs = Unit {0}
+EndsFit Outputs = Unit {0}
 
 -- the numbers of an edge's two ends have at most 32 bits, and its cap is one that an edge may have
 abbrev pub EdgeFits : Edge → Type 0
@@ -95,7 +103,7 @@ pub record ItemsEnd {X : Type 0} (IsLine : ℕ → List ℕ → X → Type 0) (n
   pub next : IsFirstLine rest bytes after
   pub no_more : (x : X) → IsLine (number + length items) bytes x → ⊥
 
--- what the line says that follows the edges, pins and blocks of a network: that it ends there, behind which this follows, or that the line, with this number, may not stand
+-- what the line says that follows the edges, pins, sides and blocks of a network: that it ends there, behind which this follows, or that the line, with this number, may not stand
 abbrev pub IsEndRead : Network → ℕ → List ℕ → Result (List ℕ) NetFault → Type 0
 IsEndRead n number text (Ok rest) = IsFirstLine text (codes "end") rest × IsWired n
 IsEndRead n number text (Err (NetLine k)) = (bytes after : List ℕ) × IsFirstLine text bytes after × (bytes ≡ codes "end" → IsWired n → ⊥) × (k ≡ number)

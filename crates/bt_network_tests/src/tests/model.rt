@@ -1,11 +1,11 @@
 //! Which requests are refused, and by which cause.
 use super::{fields, number_of};
 use bt_model::{Request, RequestFault};
-use bt_net::read;
+use bt_net::{Admitted, read};
 use bt_parts::{Rect, Tier};
 use std::alloc::Global;
 
-/// A network with pins and blocks for one cell, and what is refused of it.
+/// A network with pins, sides and blocks for one cell, and what is refused of it.
 const REQUESTS: &[&str] = &[
     "net 1 1 0\nedge i0 o0\nend\n|none|0",
     "net 1 1 0\nedge i0 o0\npin i0 0 0\npin o0 0 0 east\nend\n|none|0",
@@ -13,6 +13,13 @@ const REQUESTS: &[&str] = &[
     "net 1 1 0\nedge i0 o0\nblock 0 0\nblock 0 0\nend\n|block|4",
     "net 1 1 0\nedge i0 o0\nblock 0 0\nblock 1 0\nend\n|block|4",
     "net 1 1 0\nedge i0 o0\npin i0 0 0\npin i0 0 0\nend\n|pin|4",
+    "net 1 1 0\nedge i0 o0\nside inputs south\nside outputs north\nend\n|none|0",
+    "net 1 1 0\nedge i0 o0\nside i0 south\nside o0 north\nside o0 north\nend\n|pin|5",
+    // A pin and a side of one end are two.
+    "net 1 1 0\nedge i0 o0\npin i0 0 0\nside i0 south\nend\n|pin|4",
+    "net 1 1 0\nedge i0 o0\nside outputs south\npin o0 0 0\nend\n|pin|4",
+    "net 1 2 1\nedge i0 s0\nedge s0 o0\nedge s0 o1\nside o1 south\nside o0 south\nside outputs south\nend\n|pin|7",
+    "net 1 1 0\nedge i0 o0\nside inputs south\nblock 0 0\nend\n|none|0",
     "net 1 1 0\nedge i0 o0\npin i0 0 1\nblock 1 0\nend\n|pin|3",
     "net 1 1 0\nedge i0 o0 2\npin i0 0 1\nend\n|cap|0",
     "net 1 1 129\nedge i0 o0 3\nend\n|too large|0",
@@ -35,8 +42,8 @@ fn is_so(alloc: Global, row: &str) -> bool {
         width: 1,
         height: 1,
     };
-    let told = match read(alloc, text.as_bytes()) {
-        Ok(found) => match Request::new(found.net, rect, Tier::Basic, found.pins, found.blocks) {
+    let told = match read(alloc, Admitted::All, text.as_bytes()) {
+        Ok(found) => match Request::new(found.net, rect, Tier::Basic, found.demands, found.blocks) {
             Ok(_) => ("none", 0),
             Err(fault) => told_of(&fault),
         },

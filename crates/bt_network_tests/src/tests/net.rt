@@ -1,6 +1,6 @@
 //! Texts of networks that are read, printed or refused.
 use super::{fields, is_printed, number_of};
-use bt_net::{Block, End, NetFault, NetRead, Pin, read, read_plain};
+use bt_net::{Admitted, Block, Demand, End, Ends, NetFault, NetRead, Pin, Side, read, read_plain};
 use bt_parts::Dir;
 use std::alloc::{AllocError, Global};
 use std::test::Fail;
@@ -39,16 +39,43 @@ const READ: &[&str] = &[
     "net 1 1 0\nedge i0 o0\nblock 0 0\npin i0 0 0\nend\n|line|4",
     "net 1 1 0\nedge i0 o0\npin i0 0 0\nedge i0 o0\nend\n|line|4",
     "net 1 1 0\nedge i0 o0\npin i0 0 0\npin i0 0 0\nblock 0 0\nblock 0 0\n\nend\n|line|7",
+    "net 1 1 0\nedge i0 o0\nside i0 south\npin o0 0 0\nside outputs north\nend\n|cap|1",
+    "net 1 1 0\nedge i0 o0\nside i1 south\nend\n|line|3",
+    "net 1 1 0\nedge i0 o0\nside s0 south\nend\n|line|3",
+    "net 1 1 0\nedge i0 o0\nside i0 up\nend\n|line|3",
+    "net 1 1 0\nedge i0 o0\nside i0\nend\n|line|3",
+    "net 1 1 0\nedge i0 o0\nside input south\nend\n|line|3",
+    "net 1 1 0\nedge i0 o0\nside inputs south \nend\n|line|3",
+    "net 1 1 0\nedge i0 o0\nside i00 south\nend\n|line|3",
+    "net 1 1 0\nedge i0 o0\nblock 0 0\nside i0 south\nend\n|line|4",
+    "net 1 1 0\nside i0 south\nedge i0 o0\nend\n|line|3",
     // A request has no priorities.
     "net 1 2 1\nedge i0 s0\nedge s0 o0\nedge s0 o1\ngive s0 1\nend\n|line|5",
     "net 1 2 1\nedge i0 s0\nedge s0 o0\nedge s0 o1\ntake s0 0\npin i0 0 0\nend\n|line|5",
     "net 1 2 1\nedge i0 s0\nedge s0 o0\nedge s0 o1\npin i0 0 0\ngive s0 1\nend\n|line|6",
 ];
 
-/// A text for a reader that takes no pins and blocks.
+/// A text in which nothing may stand behind the edges.
+const READ_BARE: &[&str] = &[
+    "net 1 1 0\nedge i0 o0\nend\n|cap|1",
+    "net 1 1 0\nedge i0 o0\npin i0 0 0\nx\nend\n|line|3",
+    "net 1 1 0\nedge i0 o0\nside i0 south\nend\n|line|3",
+    "net 1 1 0\nedge i0 o0\nblock 0 0\nend\n|line|3",
+    "net 1 2 1\nedge i0 s0\nedge s0 o0\nedge s0 o1\ngive s0 1\nend\n|line|5",
+];
+
+/// A text in which side lines may stand behind the edges.
+const READ_SIDED: &[&str] = &[
+    "net 1 1 0\nedge i0 o0\nside i0 south\nside o0 north\nend\n|cap|1",
+    "net 1 1 0\nedge i0 o0\nside i0 south\npin o0 0 0\nend\n|line|4",
+    "net 1 1 0\nedge i0 o0\nside i0 south\nblock 0 0\nend\n|line|4",
+];
+
+/// A text for a reader that takes no pins, sides and blocks.
 const READ_PLAINLY: &[&str] = &[
     "net 1 1 0\nedge i0 o0\npin i0 0 0\nx\nend\n|line|3",
     "net 1 1 0\nedge i0 o0\nblock 0 0\nend\n|line|3",
+    "net 1 1 0\nedge i0 o0\nside i0 south\nend\n|line|3",
     "net 1 1 0\nedge i0 o0\nend\n|cap|1",
     "net 1 2 1\nedge i0 s0\nedge s0 o0\nedge s0 o1\ngive s0 1\nend\n|cap|1",
     "net 1 2 1\nedge i0 s0\nedge s0 o0\nedge s0 o1\ngive s0 2\ntake s0 0\nend|cap|1",
@@ -131,7 +158,16 @@ fn text_in(row: &str) -> &[u8] {
 #[test]
 fn texts(rt: HostRuntime) -> Result<(), Fail> {
     for row in READ {
-        assert!(rt; is_told(read(rt.alloc(), text_in(row)), row), "{row}");
+        let told = read(rt.alloc(), Admitted::All, text_in(row));
+        assert!(rt; is_told(told, row), "{row}");
+    }
+    for row in READ_BARE {
+        let told = read(rt.alloc(), Admitted::Nothing, text_in(row));
+        assert!(rt; is_told(told, row), "{row}");
+    }
+    for row in READ_SIDED {
+        let told = read(rt.alloc(), Admitted::Sides, text_in(row));
+        assert!(rt; is_told(told, row), "{row}");
     }
     for row in READ_PLAINLY {
         assert!(rt; is_told(read_plain(rt.alloc(), text_in(row)), row), "{row}");
@@ -143,9 +179,9 @@ fn texts(rt: HostRuntime) -> Result<(), Fail> {
 }
 
 const PINNED: &str =
-    "net 1 1 0\nedge i0 o0\npin i0 0 7 east\npin o0 999999999 0\nblock 3 4\nend\n\n";
+    "net 1 1 0\nedge i0 o0\npin i0 0 7 east\nside outputs west\npin o0 999999999 0\nblock 3 4\nend\n\n";
 
-/// Whether pins and blocks are those of the text, whose last line is empty.
+/// Whether pins, sides and blocks are those of the text, whose last line is empty.
 fn is_pinned(found: &NetRead) -> bool {
     let first = Pin {
         end: End::Input(0),
@@ -159,33 +195,39 @@ fn is_pinned(found: &NetRead) -> bool {
         x: 999999999,
         y: 0,
         dir: None,
-        line: 4,
+        line: 5,
     };
     let block = Block {
         x: 3,
         y: 4,
-        line: 5,
+        line: 6,
     };
-    found.pins.as_slice() == [first, second].as_slice()
+    let side = Side {
+        ends: Ends::Outputs,
+        dir: Dir::West,
+        line: 4,
+    };
+    let wanted = [Demand::Pin(first), Demand::Side(side), Demand::Pin(second)];
+    found.demands.as_slice() == wanted.as_slice()
         && found.blocks.as_slice() == [block].as_slice()
-        && found.lines == 6
+        && found.lines == 7
         && found.used.checked_add(1) == Some(PINNED.len())
 }
 
 /// Whether nothing but a network is read, to the text's end.
 fn is_plain(found: &NetRead, text: &str, lines: usize) -> bool {
-    found.pins.is_empty()
+    found.demands.is_empty()
         && found.blocks.is_empty()
         && found.used == text.len()
         && found.lines == lines
 }
 
 #[test]
-fn pins_and_blocks(rt: HostRuntime) -> Result<(), Fail> {
-    let found = read(rt.alloc(), PINNED.as_bytes())?;
+fn pins_sides_and_blocks(rt: HostRuntime) -> Result<(), Fail> {
+    let found = read(rt.alloc(), Admitted::All, PINNED.as_bytes())?;
     assert!(rt; is_pinned(&found));
     let text = "net 1 2 1\nedge s0 o1 3\nedge i0 s0\nedge s0 o0 2\nend\n";
-    let found = read(rt.alloc(), text.as_bytes())?;
+    let found = read(rt.alloc(), Admitted::All, text.as_bytes())?;
     assert!(rt; is_plain(&found, text, 5));
     Ok(())
 }

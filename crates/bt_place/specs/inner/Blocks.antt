@@ -16,6 +16,7 @@ sizes_with e classes ranks = record {
   height = e.height;
   splitters = e.splitters;
   inputs = e.inputs;
+  stops = e.stops;
   distances = e.distances;
   classes = classes;
   ranks = ranks;

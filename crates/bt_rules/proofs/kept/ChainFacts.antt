@@ -64,20 +64,20 @@ module _ (w : Solved) (parts : List Part) (lists : ListsEach (IsKeptPart w.r w.r
 
   -- a chain that begins with the class of an edge has it
   begun_class_is : (e : ℕ) (edge : Edge) (i o : ℕ) (c : Chain) (j : ℕ) (x : Cell) → IsEdge w e edge → edge.start ≡ from.Input i → edge.target ≡ to.Output o
-      → (cl : Classed w parts lists c) → c.source ≡ begins j x → Says w (Carries x (Input i)) → cl.class ≡ class_of w.r.pins edge
+      → (cl : Classed w parts lists c) → c.source ≡ begins j x → Says w (Carries x (Input i)) → cl.class ≡ class_of w.r.demands edge
   begun_class_is e edge i o c j x is starts targets cl source carries =
       let has = begun_has c j x cl source in
-      let own = class_through w.r.pins edge i o starts targets in
+      let own = class_through w.r.demands edge i o starts targets in
       one_class w x (begun_inside j x has.1) cl.class (Input i) cl.listed (class_in w e edge is (Input i) own) has.3 carries ∙ sym own
 
   -- the class of the chain of an edge is the edge's
-  pub chain_class : (e : ℕ) (edge : Edge) (c : Chain) → IsEdge w e edge → IsChainOf e c → (cl : Classed w parts lists c) → cl.class ≡ class_of w.r.pins edge
+  pub chain_class : (e : ℕ) (edge : Edge) (c : Chain) → IsEdge w e edge → IsChainOf e c → (cl : Classed w parts lists c) → cl.class ≡ class_of w.r.demands edge
   chain_class e edge c at (into own t is targets chain comes) cl =
-      into_class w parts lists e own t c is targets comes cl ∙ ap (class_of w.r.pins) (same_edge w e e own edge refl is at)
+      into_class w parts lists e own t c is targets comes cl ∙ ap (class_of w.r.demands) (same_edge w e e own edge refl is at)
   chain_class e edge c at (through own i o k is starts targets chain sink j x source carries) cl =
-      begun_class_is e own i o c j x is starts targets cl source carries ∙ ap (class_of w.r.pins) (same_edge w e e own edge refl is at)
+      begun_class_is e own i o c j x is starts targets cl source carries ∙ ap (class_of w.r.demands) (same_edge w e e own edge refl is at)
   chain_class e edge c at (out own s o k is starts targets chain sink leaving) cl =
-      leaves_class w parts lists c s (out_half w parts lists s e) leaving cl ∙ sym (class_of_split w.r.pins own s starts) ∙ ap (class_of w.r.pins) (same_edge w e e own edge refl is at)
+      leaves_class w parts lists c s (out_half w parts lists s e) leaving cl ∙ sym (class_of_split w.r.demands own s starts) ∙ ap (class_of w.r.demands) (same_edge w e e own edge refl is at)
 
   -- ---- each edge has its chain
 
@@ -86,7 +86,7 @@ module _ (w : Solved) (parts : List Part) (lists : ListsEach (IsKeptPart w.r w.r
       → (cl : Classed w parts lists c) → cl.class ≡ Input i → c.sink ≡ enters k → ⊥
   no_entering e edge i o k c is starts targets chain cl class sink =
       let found = enters_edge w parts lists c k chain sink cl in
-      let suits : found.1.start ≡ from.Input i = class_suits w.r.pins found.1 (Input i) (sym found.6 ∙ class) in
+      let suits : found.1.start ≡ from.Input i = class_suits w.r.demands found.1 (Input i) (sym found.6 ∙ class) in
       let same = one_input w found.0 e found.1 edge i found.3 is suits starts in
       let edges : found.1 ≡ edge = same_edge w found.0 e found.1 edge same found.3 is in
       let clash : to.Split found.2 ≡ to.Output o = sym found.4 ∙ ap (λ z. z.target) edges ∙ targets in
@@ -98,7 +98,7 @@ module _ (w : Solved) (parts : List Part) (lists : ListsEach (IsKeptPart w.r w.r
       let there = through_there w i lt (through_here w e edge is i o starts targets) in
       let chain = begun_chain w parts lists there.0 there.1 there.2 in
       let cl = classed w parts lists chain.0 chain.1 in
-      let class : cl.class ≡ Input i = begun_class_is e edge i o chain.0 chain.2.0 there.0 is starts targets cl chain.2.1 there.3 ∙ class_through w.r.pins edge i o starts targets in
+      let class : cl.class ≡ Input i = begun_class_is e edge i o chain.0 chain.2.0 there.0 is starts targets cl chain.2.1 there.3 ∙ class_through w.r.demands edge i o starts targets in
       by chain.0 chain.1 cl class chain.2.0 there.0 chain.2.1 there.3 chain.0.sink refl
     where
       by : (c : Chain) → IsChain parts c → (cl : Classed w parts lists c) → cl.class ≡ Input i → (j : ℕ) (x : Cell) → c.source ≡ begins j x → Says w (Carries x (Input i))
@@ -116,7 +116,7 @@ module _ (w : Solved) (parts : List Part) (lists : ListsEach (IsKeptPart w.r w.r
       by c chain leaving (enters k) sink =
           let cl = classed w parts lists c chain in
           let found = enters_edge w parts lists c k chain sink cl in
-          let suits : found.1.start ≡ from.Split s = class_suits w.r.pins found.1 (Split s) (sym found.6 ∙ leaves_class w parts lists c s (out_half w parts lists s e) leaving cl) in
+          let suits : found.1.start ≡ from.Split s = class_suits w.r.demands found.1 (Split s) (sym found.6 ∙ leaves_class w parts lists c s (out_half w parts lists s e) leaving cl) in
           let other = out_wish w parts lists found.0 found.1 s c found.3 suits chain (comes_in found.2 found.4 found.5) in
           let same = out_once w parts lists found.0 e found.1 edge s s c found.3 is suits starts other leaving in
           let edges : found.1 ≡ edge = same_edge w found.0 e found.1 edge same found.3 is in
@@ -135,7 +135,7 @@ module _ (w : Solved) (parts : List Part) (lists : ListsEach (IsKeptPart w.r w.r
 
   -- what ends has a class of which an edge ends at an output
   ends_edge : (c : Chain) (k : ℕ) → IsChain parts c → c.sink ≡ ends k → (cl : Classed w parts lists c)
-      → (e : ℕ) × (edge : Edge) × IsEdge w e edge × (class_of w.r.pins edge ≡ cl.class) × ((o : ℕ) × (edge.target ≡ to.Output o))
+      → (e : ℕ) × (edge : Edge) × IsEdge w e edge × (class_of w.r.demands edge ≡ cl.class) × ((o : ℕ) × (edge.target ≡ to.Output o))
   ends_edge c k chain sink cl =
       let output = by chain in
       let part = output.part in
@@ -150,14 +150,14 @@ module _ (w : Solved) (parts : List Part) (lists : ListsEach (IsKeptPart w.r w.r
       by (inr h) = absurd (let clash = sym h.sink ∙ sink in cc)
 
   begun_edge : (c : Chain) (k j : ℕ) (x : Cell) → IsChain parts c → c.sink ≡ ends k → c.source ≡ begins j x → (cl : Classed w parts lists c)
-      → (e : ℕ) (edge : Edge) → IsEdge w e edge → (class : Class) → cl.class ≡ class → class_of w.r.pins edge ≡ class → (o : ℕ) → edge.target ≡ to.Output o → IsChainOf e c
+      → (e : ℕ) (edge : Edge) → IsEdge w e edge → (class : Class) → cl.class ≡ class → class_of w.r.demands edge ≡ class → (o : ℕ) → edge.target ≡ to.Output o → IsChainOf e c
   begun_edge c k j x chain sink source cl e edge is (Split s) own same o targets =
       absurd (input_no_split w s (subst (λ z. In (input_classes w.r) z) own (begun_has c j x cl source).2))
-  begun_edge c k j x chain sink source cl e edge is (Shared t) own same o targets =
-      let suits = class_suits w.r.pins edge (Shared t) same in
+  begun_edge c k j x chain sink source cl e edge is (Shared t way) own same o targets =
+      let suits = class_suits w.r.demands edge (Shared t way) same in
       absurd (let clash = sym suits.1 ∙ targets in cc)
   begun_edge c k j x chain sink source cl e edge is (Input i) own same o targets =
-      through edge i o k is (class_suits w.r.pins edge (Input i) same) targets chain sink j x source
+      through edge i o k is (class_suits w.r.demands edge (Input i) same) targets chain sink j x source
       (subst (λ z. Says w (Carries x z)) own (begun_has c j x cl source).3)
 
   left_edge : (c : Chain) (k s : ℕ) → IsChain parts c → c.sink ≡ ends k → (cl : Classed w parts lists c) → cl.class ≡ Split s → (e : ℕ) × IsChainOf e c
@@ -238,8 +238,8 @@ module _ (w : Solved) (parts : List Part) (lists : ListsEach (IsKeptPart w.r w.r
   one_edge d e c (through b i o k is_b from_i to_o at_c sink j y source carries) (into a t is_a to_t at_d x) = absurd (let clash = sym x.sink ∙ sink in cc)
   one_edge d e c (through a i o k is_a from_i to_o at_c c_sink j x c_source c_carries) (through b m p l is_b from_m to_p at_d d_sink n y d_source d_carries) =
       let cl = classed w parts lists c at_c in
-      let classes : Input i ≡ Input m = sym (class_through w.r.pins a i o from_i to_o) ∙ sym (begun_class_is d a i o c j x is_a from_i to_o cl c_source c_carries)
-      ∙ begun_class_is e b m p c n y is_b from_m to_p cl d_source d_carries ∙ class_through w.r.pins b m p from_m to_p in
+      let classes : Input i ≡ Input m = sym (class_through w.r.demands a i o from_i to_o) ∙ sym (begun_class_is d a i o c j x is_a from_i to_o cl c_source c_carries)
+      ∙ begun_class_is e b m p c n y is_b from_m to_p cl d_source d_carries ∙ class_through w.r.demands b m p from_m to_p in
       let inputs : m ≡ i = cc in
       one_input w d e a b i is_a is_b from_i (from_m ∙ ap (λ z. from.Input z) inputs)
   one_edge d e c (through a i o k is_a from_i to_o at_c c_sink j x source carries) (out b s p l is_b from_s to_p at_d d_sink y) = absurd (let clash = sym source ∙ y.source in cc)

@@ -47,7 +47,7 @@ module _ (w : Solved) (parts : List Part) (lists : ListsEach (IsKeptPart w.r w.r
       → (h : Half) × LeavesBy w parts lists c s h
   settled s e edge c is own chain wish =
       let cl = classed w parts lists c chain in
-      class_leaves w parts lists c s chain cl (wish_class w parts lists e edge c is chain wish cl ∙ class_of_split w.r.pins edge s (leaves_start s edge own))
+      class_leaves w parts lists c s chain cl (wish_class w parts lists e edge c is chain wish cl ∙ class_of_split w.r.demands edge s (leaves_start s edge own))
 
   module _ (s i : ℕ) (n : IsSplitterOf w parts lists s i) where
     module _ (es : List Edge) (all : filter (leaves_splitter s) w.r.net.edges ≡ es) where

@@ -51,21 +51,21 @@ module _ (w : Solved) (parts : List Part) (lists : ListsEach (IsKeptPart w.r w.r
   in_rank t e = rank (enters_splitter t) w.r.net.edges e
 
   edge_taken : (e : ℕ) (edge : Edge) (t i : ℕ) → IsEdge w e edge → edge.target ≡ to.Split t → (n : IsSplitterOf w parts lists t i)
-      → TakesIn w parts lists t i n (in_half t (in_rank t e)) × Says w (Carries (behind n.dir (half_at (in_half t (in_rank t e)) n.dir n.cell)) (class_of w.r.pins edge))
+      → TakesIn w parts lists t i n (in_half t (in_rank t e)) × Says w (Carries (behind n.dir (half_at (in_half t (in_rank t e)) n.dir n.cell)) (class_of w.r.demands edge))
   edge_taken e edge t i is targets n =
       let own = target_enters t edge targets in
       let near = (half_spot w parts lists t i n Greater).inside in
       let few = rank_few (enters_splitter t) w.r.net.edges e edge is own (w.is_request.net.wired.few_in t n.below) in
-      let at = map_at (class_of w.r.pins) (filter (enters_splitter t) w.r.net.edges) (in_rank t e) edge (rank_at (enters_splitter t) w.r.net.edges e edge is own) in
-      in_taken w t n.below n.cell n.dir n.inside near n.at (in_rank t e) (class_of w.r.pins edge) few at
+      let at = map_at (class_of w.r.demands) (filter (enters_splitter t) w.r.net.edges) (in_rank t e) edge (rank_at (enters_splitter t) w.r.net.edges e edge is own) in
+      in_taken w t n.below n.cell n.dir n.inside near n.at (in_rank t e) (class_of w.r.demands edge) few at
 
   -- a chain that comes in where the edge is taken has the edge's class
   pub into_class : (e : ℕ) (edge : Edge) (t : ℕ) (c : Chain) → IsEdge w e edge → edge.target ≡ to.Split t → ComesInto w parts lists c t (in_half t (in_rank t e))
-      → (cl : Classed w parts lists c) → cl.class ≡ class_of w.r.pins edge
+      → (cl : Classed w parts lists c) → cl.class ≡ class_of w.r.demands edge
   into_class e edge t c is targets a cl =
       let taken = edge_taken e edge t a.index is targets a.is in
-      one_class w (behind a.is.dir (half_at (in_half t (in_rank t e)) a.is.dir a.is.cell)) taken.0.0 cl.class (class_of w.r.pins edge)
-      cl.listed (class_in w e edge is (class_of w.r.pins edge) refl) (comes_class w parts lists c t (in_half t (in_rank t e)) a cl) taken.1
+      one_class w (behind a.is.dir (half_at (in_half t (in_rank t e)) a.is.dir a.is.cell)) taken.0.0 cl.class (class_of w.r.demands edge)
+      cl.listed (class_in w e edge is (class_of w.r.demands edge) refl) (comes_class w parts lists c t (in_half t (in_rank t e)) a cl) taken.1
 
   -- there is one
   pub into_chain : (e : ℕ) (edge : Edge) (t : ℕ) → IsEdge w e edge → edge.target ≡ to.Split t
@@ -87,7 +87,7 @@ module _ (w : Solved) (parts : List Part) (lists : ListsEach (IsKeptPart w.r w.r
       edge_at : (t : ℕ) (h : Half) (j : ℕ) → j < length (classes_into w.r t) → placed (half_by (w.reading (EntersLesser t))) j ≡ h
           → (e : ℕ) × (edge : Edge) × IsEdge w e edge × (edge.target ≡ to.Split t) × (in_half t (in_rank t e) ≡ h)
       edge_at t h j below side =
-          let long = map_long (class_of w.r.pins) (filter (enters_splitter t) w.r.net.edges) in
+          let long = map_long (class_of w.r.demands) (filter (enters_splitter t) w.r.net.edges) in
           let edge = element_at (filter (enters_splitter t) w.r.net.edges) j (omega arith) in
           let place = at_rank (enters_splitter t) w.r.net.edges j edge.0 edge.1 in
           (place.0, edge.0, place.1, enters_target t edge.0 place.2, ap (in_half t) place.3 ∙ side)

@@ -3,29 +3,35 @@ use Rattle.std.proofs.Common.{◌≡◌, ◌⊎◌, ℕ, ◌<◌, List, length, 
 use Rattle.std.proofs.lemmas.List.Sorted.{IsPermutation-refl}
 use Rattle.std.specs.List.{slice_get}
 use Rattle.bt_parts.specs.declared.part.Cell.{Cell}
+use Rattle.bt_parts.specs.declared.part.Dir.{Dir}
+use Rattle.bt_parts.specs.declared.part.Dir.TheVariants.{North, East, South, West}
 use Rattle.bt_parts.specs.declared.part.Kind.TheVariants as kind
 use Rattle.bt_parts.specs.declared.part.Part.{Part}
-use Rattle.bt_parts.specs.Cells.{IsInside}
+use Rattle.bt_parts.specs.Cells.{step, opposite, IsInside}
 use Rattle.bt_parts.specs.Layouts.{IsAt}
+use Rattle.bt_net.specs.declared.network.Demand.{Demand}
+use Rattle.bt_net.specs.declared.network.Demand.TheVariants as demand
 use Rattle.bt_net.specs.declared.network.Edge.{Edge}
 use Rattle.bt_net.specs.declared.network.End.{End}
 use Rattle.bt_net.specs.declared.network.End.TheVariants.{Input, Output}
 use Rattle.bt_net.specs.declared.network.Pin.{Pin}
+use Rattle.bt_net.specs.declared.network.Side.{Side}
 use Rattle.bt_net.specs.declared.network.Start.{Start}
 use Rattle.bt_net.specs.declared.network.Start.TheVariants as from
 use Rattle.bt_net.specs.declared.network.Target.{Target}
 use Rattle.bt_net.specs.declared.network.Target.TheVariants as to
 use Rattle.bt_net.specs.Network.{is_output, HasEnd, StartsIn, EndsIn}
+use Rattle.bt_net.specs.PinText.{HasEnds}
 use Rattle.bt_model.specs.Chains.{IsSplitter, IsInput, IsOutput, Source, begins, leaves, Sink, ends, enters, Chain, EndsAs, IsChain}
-use Rattle.bt_model.specs.Laying.{IsNamed, KeepsPin, Lays}
-use Rattle.bt_model.specs.Requests.{pinned}
+use Rattle.bt_model.specs.Laying.{IsNamed, KeepsPin, IsAtSide, StandsAtSide, KeepsDemand, Lays}
+use Rattle.bt_model.specs.Requests.{Names, ends_of, pinned}
 use Rattle.bt_model.specs.Shown.{Naming, ListsEach, IsNaming, IsStartOf, IsTargetOf, IsEdgeOf, Shows}
 use Rattle.bt_model.proofs.ExistLemmas.{from_input, to_output, input_link, output_link}
 use Rattle.bt_model.proofs.SameChain.{same_begins, same_ends}
 use Rattle.bt_rules.specs.declared.fact.Class.{Class}
 use Rattle.bt_rules.specs.declared.fact.Class.TheVariants.{Split}
 use Rattle.bt_rules.specs.declared.fact.Class.TheVariants as class
-use Rattle.bt_rules.specs.declared.fact.Fact.TheVariants.{Carries}
+use Rattle.bt_rules.specs.declared.fact.Fact.TheVariants.{Carries, Begins}
 use Rattle.bt_rules.specs.declared.fact.Shape.{Shape}
 use Rattle.bt_rules.specs.declared.fact.Shape.TheVariants as shape
 use Rattle.bt_rules.specs.Classes.{class_of, input_classes}
@@ -33,18 +39,21 @@ use Rattle.bt_rules.specs.Contents.{holds}
 use Rattle.bt_rules.specs.Kept.{kind_of, IsKeptPart}
 use Rattle.bt_rules.specs.Pinning.{end_shapes}
 use Rattle.bt_rules.proofs.Deciding.{contains_at}
+use Rattle.bt_rules.proofs.Geometry.{in_border}
 use Rattle.bt_rules.proofs.Keeping.{In}
 use Rattle.bt_rules.proofs.kept.ListFacts.{Listed, listed, lists_each, element_at, zipped, all_at, all_from, contains_in}
 use Rattle.bt_rules.proofs.kept.NetFacts.{IsEdge, edge_below, same_edge, input_edge, output_edge, edge_starts, edge_ends, output_by, class_suits, class_of_split, class_pinned, class_through, input_no_split, class_in}
 use Rattle.bt_rules.proofs.kept.Solved.{Solved, Says}
-use Rattle.bt_rules.proofs.kept.CellFacts.{one_class}
+use Rattle.bt_rules.proofs.kept.CellFacts.{one_class, one_dir}
+use Rattle.bt_rules.proofs.kept.Arrivals.{reached_inside}
 use Rattle.bt_rules.proofs.kept.PartFacts.{kept_part, own_at}
 use Rattle.bt_rules.proofs.kept.RingFacts.{link_cell, none_ringed, clean}
 use Rattle.bt_rules.proofs.kept.EndFacts.{fits, output_faces}
 use Rattle.bt_rules.proofs.kept.SplitFacts.{IsSplitterOf, splitter_is, splitter_there, one_splitter, splitter_named, same_stand}
 use Rattle.bt_rules.proofs.kept.ClassFacts.{orderly, SourceHas, classed}
-use Rattle.bt_rules.proofs.kept.PinFacts.{pin_class_input, pin_begins, pin_turned, pinned_input}
-use Rattle.bt_rules.proofs.kept.WishFacts.{counted_one, pin_inside, ends_there, pin_output, wish_class, Wish}
+use Rattle.bt_rules.proofs.kept.PinFacts.{HasPin, pin_class_input, pin_begins, pin_turned, pinned_input}
+use Rattle.bt_rules.proofs.kept.SideFacts.{pin_inside, side_turned, stop_cell, stop_ends, Settled, by_pin, by_side, settled_inside}
+use Rattle.bt_rules.proofs.kept.WishFacts.{counted_one, ends_there, settled_output, wish_class, Wish}
 use Rattle.bt_rules.proofs.kept.OutFacts.{out_wish}
 use Rattle.bt_rules.proofs.kept.ThroughFacts.{begun_chain}
 use Rattle.bt_rules.proofs.kept.ChainFacts.{one_input, IsChainOf, into, through, out, chain_is, chain_class, chain_there, edge_there, one_chain, one_edge}
@@ -75,16 +84,16 @@ module _ (w : Solved) (parts : List Part) (lists : ListsEach (IsKeptPart w.r w.r
       let cl = classed w parts lists c (chain_is w parts lists e c of) in
       by edge.start c.source refl cl.source (chain_class w parts lists e edge c is of cl)
     where
-      by : {k : Class} (start : Start) (source : Source) → edge.start ≡ start → SourceHas w parts lists k source → k ≡ class_of w.r.pins edge → StartKind start source
+      by : {k : Class} (start : Start) (source : Source) → edge.start ≡ start → SourceHas w parts lists k source → k ≡ class_of w.r.demands edge → StartKind start source
       by (from.Input k) (begins i x) starts has same = (has.0, has.1)
       by (from.Input k) (leaves i x) starts (m, n, own) same =
-          let suits : edge.start ≡ from.Split m = class_suits w.r.pins edge (Split m) (sym same ∙ own) in
+          let suits : edge.start ≡ from.Split m = class_suits w.r.demands edge (Split m) (sym same ∙ own) in
           let clash : from.Input k ≡ from.Split m = sym starts ∙ suits in
           absurd (cc)
       by (from.Split s) (begins i x) starts has same =
-          absurd (input_no_split w s (subst (λ z. In (input_classes w.r) z) (same ∙ class_of_split w.r.pins edge s starts) has.2))
+          absurd (input_no_split w s (subst (λ z. In (input_classes w.r) z) (same ∙ class_of_split w.r.demands edge s starts) has.2))
       by (from.Split s) (leaves i x) starts (m, n, own) same =
-          let classes : Split m ≡ Split s = sym own ∙ same ∙ class_of_split w.r.pins edge s starts in
+          let classes : Split m ≡ Split s = sym own ∙ same ∙ class_of_split w.r.demands edge s starts in
           let numbers : m ≡ s = cc in
           subst (λ z. Splitters z i) numbers n
 
@@ -345,14 +354,38 @@ module _ (w : Solved) (parts : List Part) (lists : ListsEach (IsKeptPart w.r w.r
   input_shape (shape.Half half) part same (inl e) k = absurd (cc)
   input_shape (shape.Half half) part same (inr e) k = absurd (cc)
 
-  module _ (pin : Pin) (there : In w.r.pins pin) where
+  -- the last part of a settled output stands where that is settled
+  output_settled : (o i : ℕ) (x : Cell) → Settled w o x → LastOf o i → IsAt parts i x
+  output_settled o i x s l =
+      let output = settled_output w parts lists o x s in
+      let chain = to_output parts (orderly w parts lists) (none_ringed w parts lists) output.0 output.1 in
+      by output.0 output.1 output.2 chain.0 chain.1 chain.2
+    where
+      by : (j : ℕ) → IsOutput parts j → IsAt parts j x → (c : Chain) → IsChain parts c → c.sink ≡ ends j → IsAt parts i x
+      by j output at c chain sink =
+          let wish : Wish w parts lists l.place l.edge c = ends_there o l.targets x s j output sink at in
+          let same : i ≡ j = one_last o j i l.place l.edge c l l.is l.targets (of_wish wish l.edge.start refl) sink in
+          subst (λ z. IsAt parts z x) (sym same) at
+        where
+          of_wish : Wish w parts lists l.place l.edge c → (start : Start) → l.edge.start ≡ start → Chains l.place c
+          of_wish wish (from.Split s) starts = out l.edge s o j l.is starts l.targets chain sink (out_wish w parts lists l.place l.edge s c l.is starts chain wish)
+          of_wish wish (from.Input k) starts =
+              let cl = classed w parts lists c chain in
+              let class_is = wish_class w parts lists l.place l.edge c l.is chain wish cl in
+              let place = edge_there w parts lists c chain in
+              let edge = edge_of place.0 c place.1 in
+              let through_class : class_of w.r.demands l.edge ≡ class.Input k = class_through w.r.demands l.edge k o starts l.targets in
+              let from_k : edge.0.start ≡ from.Input k = class_suits w.r.demands edge.0 (class.Input k) (sym (chain_class w parts lists place.0 edge.0 c edge.1 place.1 cl) ∙ class_is ∙ through_class) in
+              subst (λ z. Chains z c) (one_input w place.0 l.place edge.0 l.edge k edge.1 l.is from_k starts) place.1
+
+  module _ (pin : Pin) (there : HasPin w pin) where
     inside : IsInside w.r.rect (pinned pin)
     inside = pin_inside w pin there
 
     -- the first part of a pinned input stands there
     input_pinned : (k i : ℕ) → pin.end ≡ Input k → FirstOf k i → IsAt parts i (pinned pin)
     input_pinned k i own_end f =
-        let own = class_pinned w.r.pins f.edge k f.starts (pinned_input w pin there k own_end) in
+        let own = class_pinned w.r.demands f.edge k f.starts (pinned_input w pin there k own_end) in
         let carries : Says w (Carries (pinned pin) (class.Input k)) = subst (λ z. Says w (Carries (pinned pin) z)) own (pin_class_input w pin there k f.place f.edge own_end f.is f.starts) in
         let chain = begun_chain w parts lists (pinned pin) inside (pin_begins w pin there k own_end) in
         let cl = classed w parts lists chain.0 chain.1 in
@@ -360,33 +393,9 @@ module _ (w : Solved) (parts : List Part) (lists : ListsEach (IsKeptPart w.r w.r
         let class_is : cl.class ≡ class.Input k = one_class w (pinned pin) inside cl.class (class.Input k) cl.listed (class_in w f.place f.edge f.is (class.Input k) own) has.3 carries in
         let place = edge_there w parts lists chain.0 chain.1 in
         let edge = edge_of place.0 chain.0 place.1 in
-        let starts : edge.0.start ≡ from.Input k = class_suits w.r.pins edge.0 (class.Input k) (sym (chain_class w parts lists place.0 edge.0 chain.0 edge.1 place.1 cl) ∙ class_is) in
+        let starts : edge.0.start ≡ from.Input k = class_suits w.r.demands edge.0 (class.Input k) (sym (chain_class w parts lists place.0 edge.0 chain.0 edge.1 place.1 cl) ∙ class_is) in
         let same : i ≡ chain.2.0 = one_first k chain.2.0 i place.0 edge.0 chain.0 (pinned pin) f edge.1 starts place.1 chain.2.1 in
         subst (λ z. IsAt parts z (pinned pin)) (sym same) has.1
-
-    -- and the last part of a pinned output
-    output_pinned : (o i : ℕ) → pin.end ≡ Output o → LastOf o i → IsAt parts i (pinned pin)
-    output_pinned o i own l =
-        let output = pin_output w parts lists pin o there own in
-        let chain = to_output parts (orderly w parts lists) (none_ringed w parts lists) output.0 output.1 in
-        by output.0 output.1 output.2 chain.0 chain.1 chain.2
-      where
-        by : (j : ℕ) → IsOutput parts j → IsAt parts j (pinned pin) → (c : Chain) → IsChain parts c → c.sink ≡ ends j → IsAt parts i (pinned pin)
-        by j output at c chain sink =
-            let wish : Wish w parts lists l.place l.edge c = ends_there o l.targets pin there own j output sink at in
-            let same : i ≡ j = one_last o j i l.place l.edge c l l.is l.targets (of_wish wish l.edge.start refl) sink in
-            subst (λ z. IsAt parts z (pinned pin)) (sym same) at
-          where
-            of_wish : Wish w parts lists l.place l.edge c → (start : Start) → l.edge.start ≡ start → Chains l.place c
-            of_wish wish (from.Split s) starts = out l.edge s o j l.is starts l.targets chain sink (out_wish w parts lists l.place l.edge s c l.is starts chain wish)
-            of_wish wish (from.Input k) starts =
-                let cl = classed w parts lists c chain in
-                let class_is = wish_class w parts lists l.place l.edge c l.is chain wish cl in
-                let place = edge_there w parts lists c chain in
-                let edge = edge_of place.0 c place.1 in
-                let through_class : class_of w.r.pins l.edge ≡ class.Input k = class_through w.r.pins l.edge k o starts l.targets in
-                let from_k : edge.0.start ≡ from.Input k = class_suits w.r.pins edge.0 (class.Input k) (sym (chain_class w parts lists place.0 edge.0 c edge.1 place.1 cl) ∙ class_is ∙ through_class) in
-                subst (λ z. Chains z c) (one_input w place.0 l.place edge.0 l.edge k edge.1 l.is from_k starts) place.1
 
     keeps_input : (k : ℕ) → k < w.r.net.inputs → pin.end ≡ Input k → KeepsPin parts naming pin
     unfolding naming
@@ -414,7 +423,7 @@ module _ (w : Solved) (parts : List Part) (lists : ListsEach (IsKeptPart w.r w.r
         let l = outputs.each o named.0 named.1 in
         let output = last_output o named.0 l in
         let part = output.part in
-        let cell : part.cell ≡ pinned pin = link_cell parts named.0 part.cell (pinned pin) (output_link parts named.0 output) (own_at w parts lists named.0 part output.is_i) (output_pinned o named.0 is l) in
+        let cell : part.cell ≡ pinned pin = link_cell parts named.0 part.cell (pinned pin) (output_link parts named.0 output) (own_at w parts lists named.0 part output.is_i) (output_settled o named.0 (pinned pin) (by_pin pin there is refl) l) in
         let faces = output_faces w parts lists named.0 part output.is_i output in
         record {
           index = named.0;
@@ -430,12 +439,78 @@ module _ (w : Solved) (parts : List Part) (lists : ListsEach (IsKeptPart w.r w.r
     keeps_end (Input k) has is = keeps_input k has is
     keeps_end (Output o) has is = keeps_output o has is
 
+  -- ---- sides
+
+  opposite_twice : (dir : Dir) → opposite (opposite dir) ≡ dir
+  opposite_twice North = refl
+  opposite_twice East = refl
+  opposite_twice South = refl
+  opposite_twice West = refl
+
+  module _ (side : Side) (there : In w.r.demands (demand.Side side)) where
+    side_input : (k : ℕ) → k < w.r.net.inputs → Names side.ends (Input k) → StandsAtSide parts w.r.rect naming side.dir (Input k)
+    unfolding naming
+    side_input k lt called =
+        let named = element_at inputs.list k (let n = inputs.count in omega arith) in
+        let f = inputs.each k named.0 named.1 in
+        let input = first_input k named.0 f in
+        let part = input.part in
+        let kept = kept_part w parts lists named.0 part input.is_i in
+        let cl = classed w parts lists f.chain (chain_is w parts lists f.place f.chain f.of) in
+        let has : SourceHas w parts lists cl.class (begins named.0 f.cell) = subst (SourceHas w parts lists cl.class) f.source cl.source in
+        let class : cl.class ≡ class_of w.r.demands f.edge = chain_class w parts lists f.place f.edge f.chain f.is f.of cl in
+        let cell : f.cell ≡ part.cell = sym (link_cell parts named.0 part.cell f.cell (input_link parts named.0 input) (own_at w parts lists named.0 part input.is_i) (first_at k named.0 f)) in
+        let here : IsInside w.r.rect part.cell = reached_inside w part.cell kept.reached in
+        let out : IsInside w.r.rect (step (opposite part.dir) part.cell) → ⊥ = (fits w parts lists).inputs named.0 part input input.is_i in
+        let turned : part.dir ≡ opposite side.dir = side_turned w side there k lt called f.place f.edge f.is f.starts part.cell (in_border w.r.rect (opposite part.dir) part.cell here out)
+        (subst (λ x. Says w (Begins x)) cell has.4) (subst (λ z. Says w (Carries part.cell z)) class (subst (λ x. Says w (Carries x cl.class)) cell has.3))
+        kept.of part.dir (input_shape kept.of part kept.is_kind input.kind k) kept.stands in
+        record {
+          index = named.0;
+          named = named.1;
+          part = part;
+          is_part = input.is_i;
+          stands = (here, subst (λ d. IsInside w.r.rect (step d part.cell) → ⊥) (ap opposite turned ∙ opposite_twice side.dir) out);
+          points = turned;
+        }
+
+    side_output : (o : ℕ) → o < w.r.net.outputs → Names side.ends (Output o) → StandsAtSide parts w.r.rect naming side.dir (Output o)
+    unfolding naming
+    side_output o lt called =
+        let named = element_at outputs.list o (let n = outputs.count in omega arith) in
+        let l = outputs.each o named.0 named.1 in
+        let output = last_output o named.0 l in
+        let part = output.part in
+        let settled : Settled w o (stop_cell w o) = by_side side there lt called refl in
+        let cell : part.cell ≡ stop_cell w o = link_cell parts named.0 part.cell (stop_cell w o) (output_link parts named.0 output) (own_at w parts lists named.0 part output.is_i)
+        (output_settled o named.0 (stop_cell w o) settled l) in
+        let here : IsInside w.r.rect (stop_cell w o) = settled_inside w o (stop_cell w o) settled in
+        let faces = output_faces w parts lists named.0 part output.is_i output in
+        let found = stop_ends w side there o lt called in
+        let turned : part.dir ≡ side.dir = one_dir w (stop_cell w o) here faces.0 found.0 part.dir side.dir (subst (λ x. Says w (holds x faces.0 part.dir)) cell faces.2) found.3 in
+        record {
+          index = named.0;
+          named = named.1;
+          part = part;
+          is_part = output.is_i;
+          stands = subst (IsAtSide w.r.rect side.dir) (sym cell) (here, found.2);
+          points = turned;
+        }
+
+    keeps_side : (e : End) → HasEnd w.r.net e → Names side.ends e → StandsAtSide parts w.r.rect naming side.dir e
+    keeps_side (Input k) has called = side_input k has called
+    keeps_side (Output o) has called = side_output o has called
+
+  keeps_demand : (d : Demand) → In w.r.demands d → HasEnds w.r.net (ends_of d) → KeepsDemand parts w.r naming d
+  keeps_demand (demand.Pin pin) there has = keeps_end pin there pin.end has refl
+  keeps_demand (demand.Side side) there has = keeps_side side there
+
   pub lays : Lays parts w.r
   lays = record {
     fits = fits w parts lists;
     naming = naming;
     shows = shows;
-    pins = all_from (KeepsPin parts naming) w.r.pins (λ k pin at.
-        keeps_end pin (contains_in w.r.pins pin (contains_at w.r.pins k pin at)) pin.end
-        (all_at (λ x. HasEnd w.r.net x.end) w.r.pins k pin w.is_request.ends at) refl);
+    demands = all_from (KeepsDemand parts w.r naming) w.r.demands (λ k d at.
+        keeps_demand d (contains_in w.r.demands d (contains_at w.r.demands k d at))
+        (all_at (λ x. HasEnds w.r.net (ends_of x)) w.r.demands k d w.is_request.ends at));
   }

@@ -7,31 +7,35 @@ use Rattle.std.proofs.lemmas.Bool.{cases_eq, cases_order, eq-eqb, false≢true}
 use Rattle.std.proofs.lemmas.Option.{slice_get_within, get_or_from_slice_get}
 use Rattle.bt_parts.specs.declared.part.Dir.{Dir}
 use Rattle.bt_parts.specs.Cells.{step, IsInside}
+use Rattle.bt_net.specs.declared.network.Demand.{Demand}
+use Rattle.bt_net.specs.declared.network.Demand.TheVariants as demand
 use Rattle.bt_net.specs.declared.network.Edge.{Edge}
 use Rattle.bt_net.specs.declared.network.End.{End}
 use Rattle.bt_net.specs.declared.network.End.TheVariants.{Input, Output}
 use Rattle.bt_net.specs.declared.network.Pin.{Pin}
+use Rattle.bt_net.specs.declared.network.Side.{Side}
 use Rattle.bt_net.specs.declared.network.Start.TheVariants as from
 use Rattle.bt_net.specs.declared.network.Target.TheVariants as to
-use Rattle.bt_model.specs.Requests.{pinned}
+use Rattle.bt_model.specs.Requests.{Names, ShareEnd, ends_of, pinned}
 use Rattle.bt_rules.specs.declared.fact.Fact.{Fact}
 use Rattle.bt_rules.specs.declared.fact.Fact.TheVariants.{Carries, Begins}
 use Rattle.bt_rules.specs.declared.fact.Shape.{Shape}
 use Rattle.bt_rules.specs.declared.fact.Shape.TheVariants as shape
-use Rattle.bt_rules.specs.Classes.{class_of, is_end_input, is_pinned}
+use Rattle.bt_rules.specs.Classes.{class_of, is_end_input, pins_input, is_pinned, names}
 use Rattle.bt_rules.specs.Contents.{holds}
 use Rattle.bt_rules.specs.Going.{runners}
-use Rattle.bt_rules.specs.Pinning.{is_edge_of, pin_class_rules, enders, end_facts, end_shapes, turned_rules, same_kind, clashes, clash_rules}
+use Rattle.bt_rules.specs.Pinning.{is_edge_of, pin_class_rules, enders, end_facts, end_shapes, turned_rules, same_kind, pins_clash, clashes, clash_rules}
 use Rattle.bt_rules.specs.Rules.{some_of, not_all, OneHolds, Keeps}
 use Rattle.bt_rules.specs.Spots.{dirs, others_than, where_outside}
 use Rattle.bt_rules.proofs.Deciding.{contains_at, same_dir}
 use Rattle.bt_rules.proofs.Geometry.{in_others}
 use Rattle.bt_rules.proofs.Keeping.{In, from_flat, in_filter}
+use Rattle.bt_rules.proofs.Sharing.{names_true, true_names}
 use Rattle.bt_rules.proofs.kept.Readings.{all_left, all_right, all_mapped, all_flat, one_in, one_from}
 use Rattle.bt_rules.proofs.kept.ListFacts.{contains_in}
 use Rattle.bt_rules.proofs.kept.RankFacts.{has_any}
 use Rattle.bt_rules.proofs.kept.NetFacts.{IsEdge, input_by, output_by}
-use Rattle.bt_rules.proofs.kept.Solved.{Solved, Says, Kept, one_outside, pin_kept, clashes_kept}
+use Rattle.bt_rules.proofs.kept.Solved.{Solved, Says, Kept, one_outside, demand_kept, clashes_kept}
 
 pub in_at : {X : Type 0} (xs : List X) (k : ℕ) (x : X) → slice_get xs k ≡ Some x → In xs x
 in_at xs k x at = contains_in xs x (contains_at xs k x at)
@@ -48,16 +52,35 @@ end_cases (Output i) (Input j) = inr (λ e. cc)
 end_cases (Output i) (Output j) = ⊎_elim (λ e. inl (ap Output e)) (λ apart. inr (λ e. apart (cc))) (cases_eq i j)
 
 -- the end is pinned, or it isn't
-pub pin_cases : (pins : List Pin) (end : End) → ((pin : Pin) × In pins pin × (pin.end ≡ end)) ⊎ ((pin : Pin) → In pins pin → pin.end ≡ end → ⊥)
+pub pin_cases : (demands : List Demand) (end : End) → ((pin : Pin) × In demands (demand.Pin pin) × (pin.end ≡ end)) ⊎ ((pin : Pin) → In demands (demand.Pin pin) → pin.end ≡ end → ⊥)
 pin_cases [] end = inr (λ pin there e. there)
-pin_cases (p ∷ pins) end =
+pin_cases (demand.Side s ∷ demands) end =
+    ⊎_elim (λ found. inl (found.0, inr found.1, found.2)) (λ none. inr (λ pin there e. ⊎_elim (λ same. cc) (λ h. none pin h e) there)) (pin_cases demands end)
+pin_cases (demand.Pin p ∷ demands) end =
     ⊎_elim (λ e. inl (p, inl refl, e))
-    (λ apart. ⊎_elim (λ found. inl (found.0, inr found.1, found.2)) (λ none. inr (λ pin there e. later pin apart none there e)) (pin_cases pins end))
+    (λ apart. ⊎_elim (λ found. inl (found.0, inr found.1, found.2)) (λ none. inr (λ pin there e. later pin apart none there e)) (pin_cases demands end))
     (end_cases p.end end)
   where
-    later : (pin : Pin) → p.end ≢ end → ((q : Pin) → In pins q → q.end ≡ end → ⊥) → In (p ∷ pins) pin → pin.end ≡ end → ⊥
-    later pin apart none (inl same) e = apart (ap (λ z. z.end) (sym same) ∙ e)
+    later : (pin : Pin) → p.end ≢ end → ((q : Pin) → In demands (demand.Pin q) → q.end ≡ end → ⊥) → In (demand.Pin p ∷ demands) (demand.Pin pin) → pin.end ≡ end → ⊥
+    later pin apart none (inl same) e = let pins : pin ≡ p = cc in apart (ap (λ z. z.end) (sym pins) ∙ e)
     later pin apart none (inr there) e = none pin there e
+
+-- a side is said of the end, or none is
+pub side_cases : (demands : List Demand) (e : End) → ((side : Side) × In demands (demand.Side side) × Names side.ends e) ⊎ ((side : Side) → In demands (demand.Side side) → Names side.ends e → ⊥)
+side_cases [] e = inr (λ side there named. there)
+side_cases (demand.Pin p ∷ demands) e =
+    ⊎_elim (λ found. inl (found.0, inr found.1, found.2)) (λ none. inr (λ side there named. ⊎_elim (λ same. cc) (λ h. none side h named) there)) (side_cases demands e)
+side_cases (demand.Side s ∷ demands) e = by (names s.ends e) refl (side_cases demands e) where
+  later : (side : Side) → (names s.ends e ≡ false) → ((q : Side) → In demands (demand.Side q) → Names q.ends e → ⊥) → In (demand.Side s ∷ demands) (demand.Side side) → Names side.ends e → ⊥
+  later side f none (inl same) named = let sides : side ≡ s = cc in false≢true (sym f ∙ names_true s.ends e (subst (λ z. Names z.ends e) sides named))
+  later side f none (inr there) named = none side there named
+
+  by : (b : Bool) → names s.ends e ≡ b
+      → ((side : Side) × In demands (demand.Side side) × Names side.ends e) ⊎ ((side : Side) → In demands (demand.Side side) → Names side.ends e → ⊥)
+      → ((side : Side) × In (demand.Side s ∷ demands) (demand.Side side) × Names side.ends e)
+      ⊎ ((side : Side) → In (demand.Side s ∷ demands) (demand.Side side) → Names side.ends e → ⊥)
+  by true t rest = inl (s, inl refl, true_names s.ends e t)
+  by false f rest = ⊎_elim (λ found. inl (found.0, inr found.1, found.2)) (λ none. inr (λ side there named. later side f none there named)) rest
 
 three_true : (a b c : Bool) → a ≡ true → b ≡ true → c ≡ true → (a && b && c) ≡ true
 three_true true true c e f g = g
@@ -65,14 +88,14 @@ three_true true false c e f g = absurd (false≢true f)
 three_true false b c e f g = absurd (false≢true e)
 
 -- two outputs on one cell clash
-outputs_clash : (p q : Pin) (o u : ℕ) → p.end ≡ Output o → q.end ≡ Output u → pinned p ≡ pinned q → clashes p q ≡ true
+outputs_clash : (p q : Pin) (o u : ℕ) → p.end ≡ Output o → q.end ≡ Output u → pinned p ≡ pinned q → pins_clash p q ≡ true
 outputs_clash p q o u e f same =
     let x : p.x ≡ q.x = let h = ap (λ c. c.x) same in cc in
     let y : p.y ≡ q.y = let h = ap (λ c. c.y) same in cc in
     three_true (same_kind p.end q.end) (p.x == q.x) (p.y == q.y)
     (ap (λ z. same_kind z q.end) e ∙ ap (λ z. same_kind (Output o) z) f) (eq-eqb p.x q.x x) (eq-eqb p.y q.y y)
 
-no_clash : (reading : Fact → Bool) (pins : List Pin) (p q : Pin) → AllByRecursion (Keeps reading) (clash_rules pins) → In pins p → In pins q
+no_clash : (reading : Fact → Bool) (demands : List Demand) (p q : Demand) → AllByRecursion (Keeps reading) (clash_rules demands) → In demands p → In demands q
     → clashes p q ≡ true → clashes q p ≡ true → p ≡ q
 no_clash reading [] p q kept a b one other = absurd a
 no_clash reading (x ∷ xs) p q kept (inl e) (inl f) one other = e ∙ sym f
@@ -87,44 +110,54 @@ no_clash reading (x ∷ xs) p q kept (inr a) (inl f) one other =
 no_clash reading (x ∷ xs) p q kept (inr a) (inr b) one other =
     no_clash reading xs p q (all_right (Keeps reading) (map (λ z. some_of []) (filter (clashes x) xs)) (clash_rules xs) kept) a b one other
 
+-- the pin is one of the request
+abbrev pub HasPin : Solved → Pin → Type 0
+HasPin w pin = In w.r.demands (demand.Pin pin)
+
 module _ (w : Solved) where
-  -- an end has one pin
-  pub one_pin : (p q : Pin) → In w.r.pins p → In w.r.pins q → p.end ≡ q.end → p ≡ q
-  one_pin p q a b e =
-      let i = in_place w.r.pins p a in
-      let j = in_place w.r.pins q b in
-      let at_i = get_or_from_slice_get w.r.pins i.0 p p i.1 in
-      let at_j = get_or_from_slice_get w.r.pins j.0 q p j.1 in
-      ⊎_elim (λ same. sym at_i ∙ ap (λ k. get_or w.r.pins k p) same ∙ at_j)
+  -- an end is named by one line
+  pub one_demand : (p q : Demand) → In w.r.demands p → In w.r.demands q → ShareEnd (ends_of p) (ends_of q) → p ≡ q
+  one_demand p q a b share =
+      let i = in_place w.r.demands p a in
+      let j = in_place w.r.demands q b in
+      let at_i = get_or_from_slice_get w.r.demands i.0 p p i.1 in
+      let at_j = get_or_from_slice_get w.r.demands j.0 q p j.1 in
+      ⊎_elim (λ same. sym at_i ∙ ap (λ k. get_or w.r.demands k p) same ∙ at_j)
       (λ apart. ⊎_elim
-      (λ lt. absurd (w.is_request.pins_apart i.0 j.0 p lt (slice_get_within w.r.pins j.0 q j.1) (ap (λ z. z.end) at_i ∙ e ∙ ap (λ z. z.end) (sym at_j))))
-      (λ gt. absurd (w.is_request.pins_apart j.0 i.0 p gt (slice_get_within w.r.pins i.0 p i.1) (ap (λ z. z.end) at_j ∙ sym e ∙ ap (λ z. z.end) (sym at_i)))) apart)
+      (λ lt. absurd (w.is_request.demands_apart i.0 j.0 p lt (slice_get_within w.r.demands j.0 q j.1)
+      (subst (λ z. ShareEnd (ends_of z) (ends_of (get_or w.r.demands j.0 p))) (sym at_i) (subst (λ z. ShareEnd (ends_of p) (ends_of z)) (sym at_j) share))))
+      (λ gt. absurd (w.is_request.demands_apart j.0 i.0 p gt (slice_get_within w.r.demands i.0 p i.1)
+      (subst (λ z. ShareEnd (ends_of z) (ends_of (get_or w.r.demands i.0 p))) (sym at_j) (subst (λ z. ShareEnd (ends_of q) (ends_of z)) (sym at_i) (share.0, share.2, share.1))))) apart)
       (cases_order i.0 j.0)
 
-  -- and two outputs don't stand on one cell
-  pub one_output : (p q : Pin) (o u : ℕ) → In w.r.pins p → In w.r.pins q → p.end ≡ Output o → q.end ≡ Output u → pinned p ≡ pinned q → p ≡ q
-  one_output p q o u a b e f same =
-      no_clash w.reading w.r.pins p q (clashes_kept w) a b (outputs_clash p q o u e f same) (outputs_clash q p u o f e (sym same))
+  -- an end has one pin
+  pub one_pin : (p q : Pin) → HasPin w p → HasPin w q → p.end ≡ q.end → p ≡ q
+  one_pin p q a b e = let same = one_demand (demand.Pin p) (demand.Pin q) a b (p.end, refl, e) in cc
 
-  module _ (pin : Pin) (there : In w.r.pins pin) where
+  -- and two outputs don't stand on one cell
+  pub one_output : (p q : Pin) (o u : ℕ) → HasPin w p → HasPin w q → p.end ≡ Output o → q.end ≡ Output u → pinned p ≡ pinned q → p ≡ q
+  one_output p q o u a b e f same =
+      let demands = no_clash w.reading w.r.demands (demand.Pin p) (demand.Pin q) (clashes_kept w) a b (outputs_clash p q o u e f same) (outputs_clash q p u o f e (sym same)) in cc
+
+  module _ (pin : Pin) (there : HasPin w pin) where
     kept : Kept w (pin_class_rules w.r pin ++ (some_of (end_facts w.r.rect (pinned pin) pin.end) ∷ turned_rules (pinned pin) pin.end pin.dir))
-    kept = pin_kept w pin there
+    kept = demand_kept w (demand.Pin pin) there
 
     -- the class of its end's edge
-    pub pin_class : (e : ℕ) (edge : Edge) → IsEdge w e edge → is_edge_of pin.end edge ≡ true → Says w (Carries (pinned pin) (class_of w.r.pins edge))
+    pub pin_class : (e : ℕ) (edge : Edge) → IsEdge w e edge → is_edge_of pin.end edge ≡ true → Says w (Carries (pinned pin) (class_of w.r.demands edge))
     pin_class e edge is own =
         ⊎_elim (λ s. s) (λ none. absurd none)
-        (all_mapped (Keeps w.reading) (λ x. some_of (Carries (pinned pin) (class_of w.r.pins x) ∷ [])) edge (filter (is_edge_of pin.end) w.r.net.edges)
+        (all_mapped (Keeps w.reading) (λ x. some_of (Carries (pinned pin) (class_of w.r.demands x) ∷ [])) edge (filter (is_edge_of pin.end) w.r.net.edges)
         (all_left (Keeps w.reading) (pin_class_rules w.r pin) (some_of (end_facts w.r.rect (pinned pin) pin.end) ∷ turned_rules (pinned pin) pin.end pin.dir) kept)
         (in_filter (is_edge_of pin.end) w.r.net.edges edge (in_at w.r.net.edges e edge is) own) tt)
 
     rest : Kept w (some_of (end_facts w.r.rect (pinned pin) pin.end) ∷ turned_rules (pinned pin) pin.end pin.dir)
     rest = all_right (Keeps w.reading) (pin_class_rules w.r pin) (some_of (end_facts w.r.rect (pinned pin) pin.end) ∷ turned_rules (pinned pin) pin.end pin.dir) kept
 
-    pub pin_class_input : (i e : ℕ) (edge : Edge) → pin.end ≡ Input i → IsEdge w e edge → edge.start ≡ from.Input i → Says w (Carries (pinned pin) (class_of w.r.pins edge))
+    pub pin_class_input : (i e : ℕ) (edge : Edge) → pin.end ≡ Input i → IsEdge w e edge → edge.start ≡ from.Input i → Says w (Carries (pinned pin) (class_of w.r.demands edge))
     pin_class_input i e edge ends is starts = pin_class e edge is (ap (λ z. is_edge_of z edge) ends ∙ input_by i edge starts)
 
-    pub pin_class_output : (o e : ℕ) (edge : Edge) → pin.end ≡ Output o → IsEdge w e edge → edge.target ≡ to.Output o → Says w (Carries (pinned pin) (class_of w.r.pins edge))
+    pub pin_class_output : (o e : ℕ) (edge : Edge) → pin.end ≡ Output o → IsEdge w e edge → edge.target ≡ to.Output o → Says w (Carries (pinned pin) (class_of w.r.demands edge))
     pin_class_output o e edge ends is targets = pin_class e edge is (ap (λ z. is_edge_of z edge) ends ∙ output_by o edge targets)
 
     -- an input begins there
@@ -154,7 +187,7 @@ module _ (w : Solved) where
           (same_dir d dir)
 
     -- an input that is pinned is known to be
-    pub pinned_input : (i : ℕ) → pin.end ≡ Input i → is_pinned w.r.pins i ≡ true
+    pub pinned_input : (i : ℕ) → pin.end ≡ Input i → is_pinned w.r.demands i ≡ true
     pinned_input i ends =
-        let place = in_place w.r.pins pin there in
-        has_any (λ p. is_end_input i p.end) w.r.pins place.0 pin place.1 (ap (λ z. is_end_input i z) ends ∙ eq-eqb i i refl)
+        let place = in_place w.r.demands (demand.Pin pin) there in
+        has_any (pins_input i) w.r.demands place.0 (demand.Pin pin) place.1 (ap (λ z. is_end_input i z) ends ∙ eq-eqb i i refl)

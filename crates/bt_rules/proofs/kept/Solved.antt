@@ -5,14 +5,14 @@ use Rattle.std.proofs.lemmas.Bool.{both_ways, cases_Bool}
 use Rattle.bt_parts.specs.declared.part.Cell.{Cell}
 use Rattle.bt_parts.specs.Cells.{IsInside}
 use Rattle.bt_net.specs.declared.network.Block.{Block}
-use Rattle.bt_net.specs.declared.network.Pin.{Pin}
+use Rattle.bt_net.specs.declared.network.Demand.{Demand}
 use Rattle.bt_model.specs.Requests.{LayoutRequest, IsRequest}
 use Rattle.bt_rules.specs.declared.fact.Fact.{Fact}
 use Rattle.bt_rules.specs.Carrying.{carrying_rules}
 use Rattle.bt_rules.specs.Classes.{splitters_of}
 use Rattle.bt_rules.specs.Contents.{content_rules, shape_rules, mate_rules, class_rules}
 use Rattle.bt_rules.specs.Going.{handing_rules}
-use Rattle.bt_rules.specs.Pinning.{pin_rules, clash_rules, block_rule}
+use Rattle.bt_rules.specs.Pinning.{demand_rules, clash_rules, block_rule}
 use Rattle.bt_rules.specs.PlaceRules.{cell_rules, splitter_rules, rules_of}
 use Rattle.bt_rules.specs.Ports.{port_rules}
 use Rattle.bt_rules.specs.Rules.{Rule, Keeps, OneHolds}
@@ -82,50 +82,50 @@ module _ (r : LayoutRequest) where
   of_inputs : List Rule
   of_inputs = flat_map (input_rules r) (range_with_len 0 r.net.inputs)
 
-  of_pins : List Rule
-  of_pins = flat_map (pin_rules r) r.pins
+  of_demands : List Rule
+  of_demands = flat_map (demand_rules r) r.demands
 
   of_clashes : List Rule
-  of_clashes = clash_rules r.pins
+  of_clashes = clash_rules r.demands
 
   of_blocks : List Rule
   of_blocks = map block_rule r.blocks
 
 module _ (w : Solved) where
-  all_kept : Kept w (of_cells w.r ++ of_splitters w.r ++ (of_inputs w.r ++ of_pins w.r ++ of_clashes w.r ++ of_blocks w.r))
-  unfolding KeepsAll of_cells of_splitters of_inputs of_pins of_clashes of_blocks
+  all_kept : Kept w (of_cells w.r ++ of_splitters w.r ++ (of_inputs w.r ++ of_demands w.r ++ of_clashes w.r ++ of_blocks w.r))
+  unfolding KeepsAll of_cells of_splitters of_inputs of_demands of_clashes of_blocks
   all_kept = w.keeps
 
   fronts : Kept w (of_cells w.r ++ of_splitters w.r)
-  fronts = all_left (Keeps w.reading) (of_cells w.r ++ of_splitters w.r) (of_inputs w.r ++ of_pins w.r ++ of_clashes w.r ++ of_blocks w.r) all_kept
+  fronts = all_left (Keeps w.reading) (of_cells w.r ++ of_splitters w.r) (of_inputs w.r ++ of_demands w.r ++ of_clashes w.r ++ of_blocks w.r) all_kept
 
-  ends : Kept w (of_inputs w.r ++ of_pins w.r ++ of_clashes w.r ++ of_blocks w.r)
-  ends = all_right (Keeps w.reading) (of_cells w.r ++ of_splitters w.r) (of_inputs w.r ++ of_pins w.r ++ of_clashes w.r ++ of_blocks w.r) all_kept
+  ends : Kept w (of_inputs w.r ++ of_demands w.r ++ of_clashes w.r ++ of_blocks w.r)
+  ends = all_right (Keeps w.reading) (of_cells w.r ++ of_splitters w.r) (of_inputs w.r ++ of_demands w.r ++ of_clashes w.r ++ of_blocks w.r) all_kept
 
   pub block_kept : (block : Block) → In w.r.blocks block → Keeps w.reading (block_rule block)
   unfolding of_blocks
   block_kept block there = all_mapped (Keeps w.reading) block_rule block w.r.blocks
-      (all_right (Keeps w.reading) (of_inputs w.r ++ of_pins w.r ++ of_clashes w.r) (of_blocks w.r) ends) there
+      (all_right (Keeps w.reading) (of_inputs w.r ++ of_demands w.r ++ of_clashes w.r) (of_blocks w.r) ends) there
 
-  to_clashes : Kept w (of_inputs w.r ++ of_pins w.r ++ of_clashes w.r)
-  to_clashes = all_left (Keeps w.reading) (of_inputs w.r ++ of_pins w.r ++ of_clashes w.r) (of_blocks w.r) ends
+  to_clashes : Kept w (of_inputs w.r ++ of_demands w.r ++ of_clashes w.r)
+  to_clashes = all_left (Keeps w.reading) (of_inputs w.r ++ of_demands w.r ++ of_clashes w.r) (of_blocks w.r) ends
 
-  pub clashes_kept : Kept w (clash_rules w.r.pins)
+  pub clashes_kept : Kept w (clash_rules w.r.demands)
   unfolding of_clashes
-  clashes_kept = all_right (Keeps w.reading) (of_inputs w.r ++ of_pins w.r) (of_clashes w.r) to_clashes
+  clashes_kept = all_right (Keeps w.reading) (of_inputs w.r ++ of_demands w.r) (of_clashes w.r) to_clashes
 
-  to_pins : Kept w (of_inputs w.r ++ of_pins w.r)
-  to_pins = all_left (Keeps w.reading) (of_inputs w.r ++ of_pins w.r) (of_clashes w.r) to_clashes
+  to_demands : Kept w (of_inputs w.r ++ of_demands w.r)
+  to_demands = all_left (Keeps w.reading) (of_inputs w.r ++ of_demands w.r) (of_clashes w.r) to_clashes
 
-  pub pin_kept : (pin : Pin) → In w.r.pins pin → Kept w (pin_rules w.r pin)
-  unfolding of_pins
-  pin_kept pin there = all_flat (Keeps w.reading) (pin_rules w.r) pin w.r.pins
-      (all_right (Keeps w.reading) (of_inputs w.r) (of_pins w.r) to_pins) there
+  pub demand_kept : (d : Demand) → In w.r.demands d → Kept w (demand_rules w.r d)
+  unfolding of_demands
+  demand_kept d there = all_flat (Keeps w.reading) (demand_rules w.r) d w.r.demands
+      (all_right (Keeps w.reading) (of_inputs w.r) (of_demands w.r) to_demands) there
 
   pub input_kept : (i : ℕ) → i < w.r.net.inputs → Kept w (input_rules w.r i)
   unfolding of_inputs
   input_kept i lt = all_flat (Keeps w.reading) (input_rules w.r) i (range_with_len 0 w.r.net.inputs)
-      (all_left (Keeps w.reading) (of_inputs w.r) (of_pins w.r) to_pins)
+      (all_left (Keeps w.reading) (of_inputs w.r) (of_demands w.r) to_demands)
       (in_range 0 w.r.net.inputs i (omega arith) (omega arith))
 
   splitter_kept : (s : ℕ) → s < w.r.net.splitters → Kept w (splitter_rules w.r s)

@@ -105,7 +105,7 @@ module _ (w : Solved) (parts : List Part) (lists : ListsEach (IsKeptPart w.r w.r
   -- a chain that enters a splitter is that of an edge, and has its class
   pub enters_edge : (c : Chain) (k : ℕ) → IsChain parts c → c.sink ≡ enters k → (cl : Classed w parts lists c)
       → (e : ℕ) × (edge : Edge) × (t : ℕ) × IsEdge w e edge × (edge.target ≡ to.Split t) × ComesInto w parts lists c t (in_half w parts lists t (in_rank w parts lists t e))
-      × (cl.class ≡ class_of w.r.pins edge)
+      × (cl.class ≡ class_of w.r.demands edge)
   enters_edge c k is sink cl =
       let into = comes_half w parts lists c k is sink in
       let found = into_edge w parts lists c into.0 into.1 into.2 in

@@ -2,6 +2,8 @@
 use Rattle.std.specs.Prelude.{◌+◌, ◌≤◌, unsigned_abs}
 use Rattle.bt_parts.specs.declared.part.Cell.{Cell}
 use Rattle.bt_net.specs.declared.network.Block.{Block}
+use Rattle.bt_net.specs.declared.network.Demand.{Demand}
+use Rattle.bt_net.specs.declared.network.Demand.TheVariants as demand
 use Rattle.bt_net.specs.declared.network.Pin.{Pin}
 use Rattle.bt_parts.specs.declared.part.TheConstants.{MOST_COORDINATE}
 
@@ -12,6 +14,11 @@ IsNear c = (unsigned_abs c.x ≤ MOST_COORDINATE + 1) × (unsigned_abs c.y ≤ M
 -- the pin's coordinates are small
 abbrev pub IsPinnedNear : Pin → Type 0
 IsPinnedNear pin = (pin.x ≤ MOST_COORDINATE) × (pin.y ≤ MOST_COORDINATE)
+
+-- so are those that a line names
+abbrev pub IsDemandedNear : Demand → Type 0
+IsDemandedNear (demand.Pin pin) = IsPinnedNear pin
+IsDemandedNear (demand.Side side) = Unit {0}
 
 -- the block's coordinates are small
 abbrev pub IsBlockedNear : Block → Type 0

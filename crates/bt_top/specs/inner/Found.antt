@@ -14,9 +14,9 @@ use Rattle.bt_top.specs.Requested.{PinnedNet, pinned_net}
 abbrev pub net_and_used : read.Design → Network × ℕ
 net_and_used design = (design.net, design.used)
 
--- a design's network, with its pins and its blocks
+-- a design's network, with its pins, its sides and its blocks
 abbrev pub pinned_of : PinnedDesign → PinnedNet
-pinned_of design = pinned_net design.net design.pins.items design.blocks.items
+pinned_of design = pinned_net design.net design.demands.items design.blocks.items
 
 -- the same, and how many bytes the design has
 abbrev pub pinned_and_used : PinnedDesign → PinnedNet × ℕ

@@ -7,6 +7,6 @@ use Rattle.bt_top.specs.Replies.{Reply, design_told}
 use Rattle.bt_top.specs.Requested.{PinnedNet, IsRequestFor}
 use Rattle.bt_top.specs.Steps.{InTurn}
 
--- what is answered to what follows a network with its pins and blocks: the refusal of the request for it, or what is answered to the certificate
+-- what is answered to what follows a network with its pins, sides and blocks: the refusal of the request for it, or what is answered to the certificate
 abbrev pub IsRequestChecked : Rect → Tier → PinnedNet → List ℕ → Reply → Type 0
 IsRequestChecked rect tier n rest = InTurn (IsRequestFor rect tier n) design_told (λ request. IsNoneCertificateChecked request rest)

@@ -3,5 +3,5 @@ use Rattle.std.specs.List.{list_any}
 use Rattle.bt_rules.specs.Classes as classing
 use Rattle.bt_rules.proofs.classes.is_pinned.Given as goal
 
-abbrev pub invariant-loop-pin : goal.invariant-loop-pin
-invariant-loop-pin l = list_any (λ pin. classing.is_end_input l.input pin.end) (take l.pin-index l.pins) ≡ false
+abbrev pub invariant-loop-demand : goal.invariant-loop-demand
+invariant-loop-demand l = list_any (classing.pins_input l.input) (take l.demand-index l.demands) ≡ false

@@ -4,4 +4,4 @@ use Rattle.bt_rules.specs.Classes as classing
 use Rattle.bt_rules.proofs.classes.occurs.Given as goal
 
 abbrev pub invariant-loop-edge : goal.invariant-loop-edge
-invariant-loop-edge l = list_any (classing.is_of l.pins l.class) (take l.edge-index l.edges) ≡ false
+invariant-loop-edge l = list_any (classing.is_of l.demands l.class) (take l.edge-index l.edges) ≡ false

@@ -11,7 +11,7 @@ pub loop-edge-init : goal.loop-edge-init
 loop-edge-init c = sym (append-nil c.args.draft.now)
 
 pub loop-edge-preserved : goal.loop-edge-preserved
-loop-edge-preserved c = taken_more (λ e. cond (pinning.is_edge_of c.args.end e) (some_of (fact.Carries c.args.cell (class_of c.args.pins.now e) ∷ []) ∷ []) []) c.args.edges.now c.args.draft.now c.loop-edge.draft c.add_pin_class.new.draft c.loop-edge.edge-index _ c.loop-edge-test.true c.loop-edge.invariant (c.in_ok-add_pin_class.ensures)
+loop-edge-preserved c = taken_more (λ e. cond (pinning.is_edge_of c.args.end e) (some_of (fact.Carries c.args.cell (class_of c.args.demands.now e) ∷ []) ∷ []) []) c.args.edges.now c.args.draft.now c.loop-edge.draft c.add_pin_class.new.draft c.loop-edge.edge-index _ c.loop-edge-test.true c.loop-edge.invariant (c.in_ok-add_pin_class.ensures)
 
 pub returns : goal.returns
-returns c = taken_all (λ e. cond (pinning.is_edge_of c.args.end e) (some_of (fact.Carries c.args.cell (class_of c.args.pins.now e) ∷ []) ∷ []) []) c.args.edges.now c.args.draft.now c.loop-edge.draft c.loop-edge.edge-index c.loop-edge-test.false c.loop-edge.invariant ∙ ap (λ l. c.args.draft.now ++ l) (sym (made_flat (λ e. some_of (fact.Carries c.args.cell (class_of c.args.pins.now e) ∷ [])) (pinning.is_edge_of c.args.end) c.args.edges.now))
+returns c = taken_all (λ e. cond (pinning.is_edge_of c.args.end e) (some_of (fact.Carries c.args.cell (class_of c.args.demands.now e) ∷ []) ∷ []) []) c.args.edges.now c.args.draft.now c.loop-edge.draft c.loop-edge.edge-index c.loop-edge-test.false c.loop-edge.invariant ∙ ap (λ l. c.args.draft.now ++ l) (sym (made_flat (λ e. some_of (fact.Carries c.args.cell (class_of c.args.demands.now e) ∷ [])) (pinning.is_edge_of c.args.end) c.args.edges.now))

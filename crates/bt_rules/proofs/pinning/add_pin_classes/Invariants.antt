@@ -7,4 +7,4 @@ use Rattle.bt_rules.specs.Rules.{some_of}
 use Rattle.bt_rules.proofs.pinning.add_pin_classes.Given as goal
 
 abbrev pub invariant-loop-edge : goal.invariant-loop-edge
-invariant-loop-edge l = l.draft ≡ l.initial.draft ++ flat_map (λ e. cond (pinning.is_edge_of l.end e) (some_of (fact.Carries l.cell (class_of l.pins e) ∷ []) ∷ []) []) (take l.edge-index l.edges)
+invariant-loop-edge l = l.draft ≡ l.initial.draft ++ flat_map (λ e. cond (pinning.is_edge_of l.end e) (some_of (fact.Carries l.cell (class_of l.demands e) ∷ []) ∷ []) []) (take l.edge-index l.edges)

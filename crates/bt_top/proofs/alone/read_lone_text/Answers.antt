@@ -1,12 +1,12 @@
-use Rattle.bt_top.specs.Designs.{IsTextDesign}
+use Rattle.bt_top.specs.Designs.{IsBareText}
 use Rattle.bt_top.proofs.StandingAlone.{stands_alone, refused_alone, faulty_alone}
 use Rattle.bt_top.proofs.alone.read_lone_text.Goals as goal
 
 pub returns-in-None : goal.returns-in-None
-returns-in-None c = stands_alone IsTextDesign c.args.bytes.now _ c.in-Ok.ensures.design c.in-None.ensures
+returns-in-None c = stands_alone IsBareText c.args.bytes.now _ c.in-Ok.ensures.design c.in-None.ensures
 
 pub returns-in-Some : goal.returns-in-Some
-returns-in-Some c = refused_alone IsTextDesign c.args.bytes.now _ _ c.in-Ok.ensures.design c.in-Some.ensures
+returns-in-Some c = refused_alone IsBareText c.args.bytes.now _ _ c.in-Ok.ensures.design c.in-Some.ensures
 
 pub returns-in-Err : goal.returns-in-Err
-returns-in-Err c = faulty_alone IsTextDesign c.args.bytes.now _ c.in-Err.ensures.design
+returns-in-Err c = faulty_alone IsBareText c.args.bytes.now _ c.in-Err.ensures.design

@@ -1,10 +1,20 @@
-use Rattle.bt_net.specs.Readings.{what_is_read}
-use Rattle.bt_top.proofs.BareTexts.{read_bare, refused_bare}
+use Rattle.std.proofs.Common.{◌≡◌, refl, ap, Ok, Err}
+use Rattle.bt_net.specs.declared.fault.NetFault.TheVariants as net
+use Rattle.bt_net.specs.declared.network.Admitted.TheVariants.{Nothing}
+use Rattle.bt_net.specs.Readings.{IsNetRead}
+use Rattle.bt_top.specs.declared.fault.DesignFault.TheVariants.{Memory}
+use Rattle.bt_top.specs.Refusals.{net_told}
+use Rattle.bt_top.specs.Steps.{went_on}
+use Rattle.bt_top.proofs.InTurns.{stops}
 use Rattle.bt_top.proofs.design.read_bare_text.Goals as goal
 
 pub returns-in-Ok-clause-design : goal.returns-in-Ok-clause-design
-returns-in-Ok-clause-design c = read_bare c.args.bytes.now (what_is_read c.in-Ok.read) _ c.in-Ok.ensures.right c.unpinned.ensures.design
+returns-in-Ok-clause-design c = went_on _ c.in-Ok.ensures.right refl
+
+pub returns-in-Ok-clause-within : goal.returns-in-Ok-clause-within
+returns-in-Ok-clause-within c = c.in-Ok.ensures.right.used
 
 pub returns-in-Err-clause-design : goal.returns-in-Err-clause-design
 returns-in-Err-clause-design c =
-    refused_bare c.args.bytes.now c.in-Err.fault c.refused_bare.result c.in-Err.ensures.right c.refused_bare.ensures.refused c.refused_bare.ensures.memory
+    stops net.Memory Memory (IsNetRead Nothing c.args.bytes.now) (λ fault. Err (net_told fault)) (λ read answer. answer ≡ Ok (read.net, read.used))
+    c.in-Err.fault (Err c.into.result) refl c.in-Err.ensures.right (ap Err c.into.ensures)

@@ -1,6 +1,6 @@
 use Rattle.std.proofs.Common.{◌≡◌, ℕ, List, [], refl, Result, Ok, Err}
 use Rattle.bt_net.specs.declared.network.Block.{Block}
-use Rattle.bt_net.specs.declared.network.Pin.{Pin}
+use Rattle.bt_net.specs.declared.network.Demand.{Demand}
 use Rattle.bt_net.specs.Network.{Network}
 use Rattle.bt_top.specs.declared.fault.DesignFault.{DesignFault}
 use Rattle.bt_top.specs.declared.fault.DesignFault.TheVariants.{Memory}
@@ -10,13 +10,13 @@ use Rattle.bt_top.specs.Steps.{went_on}
 use Rattle.bt_top.proofs.InTurns.{stops}
 use Rattle.bt_top.proofs.request.read_pinned_json.Goals as goal
 
--- no pins and no blocks
-without : (n : Network) (used : ℕ) (pins : List Pin) (blocks : List Block) → pins ≡ [] → blocks ≡ []
-    → ◌≡◌ {A = Result (PinnedNet × ℕ) DesignFault} (Ok (pinned_net n pins blocks, used)) (Ok (pinned_net n [] [], used))
-without n used pins blocks e f = λ i. Ok (pinned_net n (e i) (f i), used)
+-- no pins, no sides and no blocks
+without : (n : Network) (used : ℕ) (demands : List Demand) (blocks : List Block) → demands ≡ [] → blocks ≡ []
+    → ◌≡◌ {A = Result (PinnedNet × ℕ) DesignFault} (Ok (pinned_net n demands blocks, used)) (Ok (pinned_net n [] [], used))
+without n used demands blocks e f = λ i. Ok (pinned_net n (e i) (f i), used)
 
 pub returns-in-Ok-clause-design : goal.returns-in-Ok-clause-design
-returns-in-Ok-clause-design c = went_on _ c.in-Ok.ensures.design (without _ _ _ _ c.new-pins.ensures.items c.new-blocks.ensures.items)
+returns-in-Ok-clause-design c = went_on _ c.in-Ok.ensures.design (without _ _ _ _ c.new-demands.ensures.items c.new-blocks.ensures.items)
 
 pub returns-in-Err-clause-design : goal.returns-in-Err-clause-design
 returns-in-Err-clause-design c =

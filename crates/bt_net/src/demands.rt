@@ -1,0 +1,66 @@
+//! The lines that may stand behind those of the edges.
+ghost use Rattle.std.specs.Prelude.{IfSome, IfNone};
+ghost use Rattle.bt_net.specs.declared.network.Block.{Block as ABlock};
+ghost use Rattle.bt_net.specs.declared.network.Demand.{Demand as ADemand};
+ghost use Rattle.bt_net.specs.PinText.{IsDemandLine, IsDemandHere, IsBlockHere};
+ghost use Rattle.bt_net.specs.Wiring.{HasSmallSizes};
+
+use crate::network::{Admitted, Block, Demand};
+use crate::pins::{read_block, read_pin};
+use crate::sides::read_side;
+use crate::wiring::Wiring;
+
+/// The pin or the side of a line with this number that names ends of the network, where it is admitted.
+pub fn demand_here(
+    admitted: Admitted,
+    wiring: &Wiring,
+    number: usize,
+    line: &[u8],
+) -> Option<Demand>
+    requires { HasSmallSizes wiring.now }
+    ensures some { IfSome result (IsDemandHere admitted wiring.now number line.now) }
+    ensures none { IfNone result
+        ((d : ADemand) → IsDemandHere admitted wiring.now number line.now d → ⊥) }
+{
+    match admitted {
+        Admitted::Nothing => None,
+        Admitted::Sides => side_alone(wiring, number, line),
+        Admitted::All => read_demand(wiring, number, line),
+    }
+}
+
+/// The side of a line with this number.
+fn side_alone(wiring: &Wiring, number: usize, line: &[u8]) -> Option<Demand>
+    requires { HasSmallSizes wiring.now }
+    ensures some { IfSome result (IsDemandHere Admitted.Sides wiring.now number line.now) }
+    ensures none { IfNone result
+        ((d : ADemand) → IsDemandHere Admitted.Sides wiring.now number line.now d → ⊥) }
+{
+    Some(Demand::Side(read_side(wiring, number, line)?))
+}
+
+/// The pin or the side of a line with this number.
+fn read_demand(wiring: &Wiring, number: usize, line: &[u8]) -> Option<Demand>
+    requires { HasSmallSizes wiring.now }
+    ensures some { IfSome result (IsDemandLine wiring.now number line.now) }
+    ensures none { IfNone result ((d : ADemand) → IsDemandLine wiring.now number line.now d → ⊥) }
+{
+    match read_pin(wiring, number, line) {
+        Some(pin) => Some(Demand::Pin(pin)),
+        None => match read_side(wiring, number, line) {
+            Some(side) => Some(Demand::Side(side)),
+            None => None,
+        },
+    }
+}
+
+/// The block of a line with this number, where blocks are admitted.
+pub fn block_here(admitted: Admitted, number: usize, line: &[u8]) -> Option<Block>
+    ensures some { IfSome result (IsBlockHere admitted number line.now) }
+    ensures none { IfNone result ((block : ABlock) → IsBlockHere admitted number line.now block → ⊥) }
+{
+    match admitted {
+        Admitted::All => read_block(number, line),
+        Admitted::Nothing | Admitted::Sides => None,
+    }
+}
