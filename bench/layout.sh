@@ -6,7 +6,8 @@
 #
 #     bench/layout.sh [NAME ...]
 #
-# measures the requests whose names begin so, by default all. It takes those of cadical, minisat and cryptominisat5 that
+# measures the requests whose names begin so, by default all, each under three numberings of its network, of which solvers
+# get the first. It takes those of cadical, minisat and cryptominisat5 that
 # it finds (`apt-get install minisat cryptominisat`).
 set -euo pipefail
 bench=$(cd "$(dirname "${BASH_SOURCE[0]}")" && pwd)
@@ -21,7 +22,7 @@ from pathlib import Path
 import networks
 
 program, examples, work, *wanted_names = sys.argv[1:]
-SECONDS, SOLVER_SECONDS, LEAST = 300, 60, 0.01
+SECONDS, SOLVER_SECONDS, LEAST, NUMBERINGS = 300, 60, 0.01, 3
 SOLVERS = [words for words in (["cadical", "-q"], ["minisat", "-verb=0"], ["cryptominisat5", "--verb", "0"]) if shutil.which(words[0])]
 # A request, its grids, and what is wanted there: an answer, the most seconds, and the most as times of cadical.
 CASES = [
@@ -36,8 +37,15 @@ CASES = [
     ("balancer-8-to-8", ["9x11"], "found", 2, None),
     ("balancer-8-to-8", ["16x16", "12x12", "8x16", "9x12", "8x14", "8x13", "10x10", "10x11"], "found", 20, None),
     ("balancer-8-to-8", ["8x12", "9x10"], "found", None, None),
-    ("loop-6-to-6", ["12x14", "12x12"], "found", None, None),
-    ("loop-7-to-7", ["12x14", "12x12"], "found", None, None),
+    ("stages-4-to-4", ["16x16"], "found", 5, None),
+    ("ring-8-to-8", ["16x16"], "found", 5, None),
+    ("doubled-4-to-4", ["16x16", "10x12", "8x12"], "found", 5, None),
+    ("belt-across", ["16x16"], "found", 5, None),
+    ("pinned-2-to-2", ["16x16"], "found", 5, None),
+    ("own-loop", ["16x16"], "found", 5, None),
+    ("loop-5-to-5", ["16x16", "13x15", "12x14"], "found", 5, None),
+    ("loop-6-to-6", ["16x16", "12x15", "12x14", "12x12"], "found", 5, None),
+    ("loop-7-to-7", ["16x16", "12x14", "12x12"], "found", 5, None),
 ]
 
 
@@ -56,10 +64,20 @@ def balancer():
     return networks.Network(8, 8, 12, ends)
 
 
+def pinned(name, *pins):
+    """The request for a network of the examples with these pins."""
+    return (Path(examples) / f"{name}.net").read_text().replace("end\n", "\n".join([*pins, "end"]) + "\n")
+
+
 MADE = {
     "stages-4-to-4": lambda: staged(4, "s0 s2,s0 s3,s1 s2,s1 s3,s2 s4,s2 s5,s3 s4,s3 s5"),
     "ring-8-to-8": lambda: staged(8, "s0 s4,s0 s5,s1 s5,s1 s6,s2 s6,s2 s7,s3 s7,s3 s4"),
     "ring-6-to-6": lambda: staged(6, "s0 s3,s0 s4,s1 s4,s1 s5,s2 s5,s2 s3"),
+    "doubled-4-to-4": lambda: networks.doubled(2).text(),
+    "belt-across": lambda: pinned("one-belt", "pin i0 0 0", "pin o0 15 15"),
+    "pinned-2-to-2": lambda: pinned("splitter-2-to-2", "pin i0 0 0", "pin i1 15 15", "pin o0 0 15"),
+    "own-loop": lambda: "net 1 1 1\nedge i0 s0\nedge s0 s0\nedge s0 o0\nend\n",
+    "loop-5-to-5": lambda: networks.looped(balancer(), 5).text(),
     "loop-6-to-6": lambda: networks.looped(balancer(), 6).text(),
     "loop-7-to-7": lambda: networks.looped(balancer(), 7).text(),
 }
@@ -97,15 +115,19 @@ print("|---" * (6 + 2 * len(SOLVERS)) + "|")
 for name, grids, wanted, most_seconds, most_times in CASES:
     if wanted_names and not any(name.startswith(front) for front in wanted_names):
         continue
-    text = MADE[name]() if name in MADE else (Path(examples) / f"{name}.net").read_text()
-    for grid in grids:
+    plain = MADE[name]() if name in MADE else (Path(examples) / f"{name}.net").read_text()
+    for grid, numbering in ((grid, numbering) for grid in grids for numbering in range(NUMBERINGS)):
+        text = networks.renumbered(plain, numbering)
         ours, memory, printed = run([program, "layout", "--grid", grid], text, 3, SECONDS)
         first = printed.split("\n", 1)[0]
         steps = sum(line.startswith("r ") for line in printed.splitlines())
         answer = "no answer" if ours is None else "found" if first.startswith("{") else f"{first.split()[0]}, {steps} steps"
-        _, _, formula = run([program, "formula", "--grid", grid], text, 1, SECONDS)
         rivals = []
+        formula = run([program, "formula", "--grid", grid], text, 1, SECONDS)[2] if numbering == 0 else ""
         for words in SOLVERS:
+            if numbering > 0:
+                rivals.append(" | | ")
+                continue
             seconds, _, said = run([*words, "/dev/stdin"], formula, 3, SOLVER_SECONDS)
             if seconds is not None and answer != "no answer" and ("UNSATISFIABLE" in said) == (answer == "found"):
                 sys.exit(f"{name} in {grid}: {words[0]} says otherwise")

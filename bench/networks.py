@@ -81,6 +81,22 @@ def scattered(splitters, ends, seed):
             return Network(ends, ends, splitters, sorted(edges))
 
 
+def renumbered(text, seed):
+    """The text of a network with other numbers of its ends, splitters and edges by chance; by seed 0 as it is."""
+    if seed == 0:
+        return text
+    chance = random.Random(seed)
+    head, *lines = text.splitlines()
+    numbers = {kind: list(range(int(count))) for kind, count in zip("ios", head.split()[1:])}
+    for order in numbers.values():
+        chance.shuffle(order)
+    named = lambda end: f"{end[0]}{numbers[end[0]][int(end[1:])]}"
+    edges = [" ".join([word, named(start), named(target), *rest]) for word, start, target, *rest in (line.split() for line in lines if line.startswith("edge"))]
+    pins = [" ".join([word, named(end), *rest]) for word, end, *rest in (line.split() for line in lines if line.startswith("pin"))]
+    chance.shuffle(edges)
+    return "\n".join([head, *edges, *pins, *(line for line in lines if line.startswith("block")), "end"]) + "\n"
+
+
 def all_networks():
     """The networks of collections, each under its name."""
     named = {f"butterfly-{2**k}": butterfly(k) for k in (3, 4, 5, 6)}

@@ -5,7 +5,7 @@ ghost use Rattle.bt_layout.specs.Early.{IsEarly};
 ghost use Rattle.bt_layout.specs.inner.Progressing.{IsProgress};
 
 use crate::outcome::Early;
-use crate::progress::{Progress, after_search, first_progress};
+use crate::progress::{Means, Progress, after_search, first_progress};
 use bt_model::Request;
 use bt_narrow::is_likely;
 use std::alloc::{AllocError, Global};
@@ -25,16 +25,22 @@ const MOST_PASSED: usize = 8;
 /// Looks for a layout of one of the requests, with so many steps of all searches together. Each layout that is
 /// found lets it go on to the requests before that one, where an earlier request is the better one.
 ///
-/// At first those requests are searched in whose rectangles a layout is likely, and then all, in rounds. Of the other
-/// requests nothing is said: finding a layout takes few steps or very many, so one that isn't found at once is passed,
-/// and one further to the front may be found before it.
+/// At first a round makes sketches of layouts; then those requests are searched in whose rectangles a layout is likely, and
+/// then all, in rounds. Of the other requests nothing is said: finding a layout takes few steps or very many, so one that
+/// isn't found at once is passed, and one further to the front may be found before it.
 pub fn lay_early(alloc: Global, requests: &[Request], learnt: u64) -> Result<Early, AllocError>
     ensures { IfOk result (IsEarly requests.now learnt) }
 {
     let first = first_progress(alloc, requests.len(), learnt)?;
-    let mut progress = after_likely(alloc, requests, first)?;
+    let sketched = after_round(alloc, requests, first, Means::Sketch)?;
+    let mut progress = after_likely(alloc, requests, sketched)?;
     for round in 0..ROUNDS {
-        progress = after_round(alloc, requests, progress, FIRST_STEPS << round)?;
+        progress = after_round(
+            alloc,
+            requests,
+            progress,
+            Means::Search(FIRST_STEPS << round),
+        )?;
     }
     Ok(told(progress, learnt))
 }
@@ -71,18 +77,18 @@ fn looked_where_likely(
 {
     let place = progress.places[at];
     if is_likely(alloc, &requests[place])? {
-        after_search(alloc, requests, progress, at, LIKELY_STEPS)
+        after_search(alloc, requests, progress, at, Means::Search(LIKELY_STEPS))
     } else {
         Ok(progress)
     }
 }
 
-/// One round, in which each search has at most so many steps.
+/// One round, in which layouts are looked for by these means.
 fn after_round(
     alloc: Global,
     requests: &[Request],
     begun: Progress,
-    steps: u64,
+    means: Means,
 ) -> Result<Progress, AllocError>
     requires { IsProgress requests.now begun }
     ensures { IfOk result (IsProgress requests.now) }
@@ -95,7 +101,7 @@ fn after_round(
     let mut place = progress.places.len();
     while place > 0 && progress.left > 0 && progress.passed < MOST_PASSED {
         place -= 1;
-        progress = after_search(alloc, requests, progress, place, steps)?;
+        progress = after_search(alloc, requests, progress, place, means)?;
         place = place.saturating_sub(progress.skipped);
     }
     Ok(progress)

@@ -11,6 +11,7 @@ mod outcome;
 mod printing;
 mod progress;
 mod searching;
+mod sketched;
 mod small;
 
 pub use early::lay_early;

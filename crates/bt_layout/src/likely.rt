@@ -63,7 +63,7 @@ fn literals_of(
 }
 
 /// Adds that choices are made in their turn.
-fn push_choices(
+pub fn push_choices(
     alloc: Global,
     plan: &mut Plan,
     formula: &Formula,
@@ -180,7 +180,7 @@ fn trial_of(alloc: Global, request: &Request, answer: Answer) -> Result<Trial, A
 }
 
 /// A search of a formula by a plan, with at most so many steps.
-fn planned(
+pub fn planned(
     alloc: Global,
     formula: Formula,
     plan: Plan,
@@ -219,7 +219,7 @@ fn solver_of(
 }
 
 /// What a search comes to, and the steps that it takes.
-fn trial_by(
+pub fn trial_by(
     alloc: Global,
     request: &Request,
     solver: &mut Solver<Active>,

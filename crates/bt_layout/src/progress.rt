@@ -2,13 +2,24 @@
 ghost use Rattle.std.specs.Prelude.{◌≡◌, ◌≤◌, ◌<◌, ℕ, List, IfOk, length};
 ghost use Rattle.bt_model.specs.Requests.{LayoutRequest};
 ghost use Rattle.bt_layout.specs.Early.{IsLaid};
+ghost use Rattle.bt_layout.specs.inner.Likely.{IsTrial};
 ghost use Rattle.bt_layout.specs.inner.Progressing.{IsProgress, IsSearched, at_index};
 
 use crate::likely::{Trial, Tried, look_in};
+use crate::sketched::look_by_sketch;
 use bt_model::Request;
 use bt_narrow::whole;
 use bt_parts::Part;
 use std::alloc::{AllocError, Global};
+
+/// How a layout of a request is looked for.
+#[derive(Clone, Copy)]
+pub enum Means {
+    /// By a sketch of one.
+    Sketch,
+    /// By a search where one is likely, with at most so many steps.
+    Search(u64),
+}
 
 /// What was found so far, and what is left.
 #[derive(Drop)]
@@ -44,14 +55,24 @@ pub fn first_progress(alloc: Global, count: usize, learnt: u64) -> Result<Progre
     })
 }
 
-/// Searches for a layout of the request whose place is open at this index where one is likely, with at most so many
-/// steps of those that are left.
+/// Looks for a layout of a request by some means, with at most so many steps. What is found is a layout; where none is
+/// found, nothing is said.
+fn look_by(alloc: Global, request: &Request, means: Means, left: u64) -> Result<Tried, AllocError>
+    ensures { IfOk result (λ tried. IsTrial request.now tried.trial) }
+{
+    match means {
+        Means::Sketch => look_by_sketch(alloc, request, left),
+        Means::Search(steps) => look_in(alloc, request, whole(alloc, request, steps.min(left))?),
+    }
+}
+
+/// Looks by some means for a layout of the request whose place is open at this index, with steps of those that are left.
 pub fn after_search(
     alloc: Global,
     requests: &[Request],
     progress: Progress,
     at: usize,
-    steps: u64,
+    means: Means,
 ) -> Result<Progress, AllocError>
     requires progress { IsProgress requests.now progress }
     requires inside { at < length progress.places.items }
@@ -60,8 +81,7 @@ pub fn after_search(
 {
     let place = progress.places[at];
     let request = &requests[place];
-    let attempt = whole(alloc, request, steps.min(progress.left))?;
-    let tried = look_in(alloc, request, attempt)?;
+    let tried = look_by(alloc, request, means, progress.left)?;
     Ok(after_trial(progress, at, tried))
 }
 

@@ -1,13 +1,16 @@
 //! Searching for a layout of a request by its placement formula.
-ghost use Rattle.std.specs.Prelude.{IfOk, ℕ};
+ghost use Rattle.std.specs.Prelude.{IfOk, IfSome, ℕ};
 ghost use Rattle.bt_layout.specs.Layouts.{IsLayout};
 ghost use Rattle.bt_layout.specs.inner.Ends.{EndsWith};
+ghost use Rattle.bt_layout.specs.inner.Likely.{IsLaidOut};
 
-use crate::likely::{likely_layout, placing};
+use crate::likely::{Trial, Tried, likely_layout, placing};
 use crate::outcome::Layout;
+use crate::sketched::look_by_sketch;
 use bt_cnf::Chooser;
 use bt_log::Log;
 use bt_model::Request;
+use bt_parts::Part;
 use bt_place::{decode, encode_place};
 use bt_sat::{Answer, Solver};
 use std::alloc::{AllocError, Global};
@@ -15,9 +18,9 @@ use std::alloc::{AllocError, Global};
 /// Searches for a layout of a request, with a log of at most so many steps. The choosers steer the
 /// search, which is right whatever they answer.
 ///
-/// At first a layout is searched where one is likely, by at most as many steps; where none is found, the log of
-/// that search is dropped, and the placement formula is searched from the start. It has no atoms, so a model of
-/// its clauses meets it.
+/// At first a sketch of a layout is made, which may show one; then a layout is searched where one is likely, by at most
+/// as many steps; where none is found, the log of that search is dropped, and the placement formula is searched from the
+/// start. It has no atoms, so a model of its clauses meets it.
 pub fn layout<C: Chooser>(
     alloc: Global,
     request: &Request,
@@ -26,7 +29,7 @@ pub fn layout<C: Chooser>(
 ) -> Result<Layout, AllocError>
     ensures { IfOk result (IsLayout request.now learnt) }
 {
-    if let Some(parts) = likely_layout(alloc, request, learnt)? {
+    if let Some(parts) = early_layout(alloc, request, learnt)? {
         return Ok(Layout::Found(parts));
     }
     let formula = encode_place(alloc, request)?;
@@ -34,6 +37,21 @@ pub fn layout<C: Chooser>(
     let mut solver = Solver::by_plan(alloc, formula, choosers, learnt, plan)?;
     let answer = solver.next_model()?;
     layout_of(alloc, request, answer, solver.into_log())
+}
+
+/// A layout of a request that a sketch shows or that is found where one is likely.
+fn early_layout(
+    alloc: Global,
+    request: &Request,
+    learnt: u64,
+) -> Result<Option<Vec<Part>>, AllocError>
+    ensures { IfOk result (λ found. IfSome found (λ parts. IsLaidOut request.now parts.items)) }
+{
+    let Tried { trial, .. } = look_by_sketch(alloc, request, learnt)?;
+    match trial {
+        Trial::Found(parts) => Ok(Some(parts)),
+        Trial::Refuted | Trial::Spent => likely_layout(alloc, request, learnt),
+    }
 }
 
 /// What a search with this answer and these steps comes to.

@@ -1,0 +1,127 @@
+//! Layouts that sketches show: the placement formula is searched with the parts of a sketch chosen first.
+ghost use Rattle.std.specs.Prelude.{IfOk};
+ghost use Rattle.bt_place.specs.Narrowed.{IsNarrowed};
+ghost use Rattle.bt_place.specs.PlaceFormula.{place_formula};
+ghost use Rattle.bt_layout.specs.inner.Likely.{IsNarrowedSearch, IsTrial};
+
+use crate::likely::{Trial, Tried, planned, push_choices, trial_by};
+use bt_cnf::Formula;
+use bt_model::Request;
+use bt_narrow::Choice;
+use bt_parts::{Kind, Part};
+use bt_place::{Numbers, encode_place};
+use bt_route::{Sketch, find_sketch};
+use bt_rules::{Content, Fact, Shape, cells_of, holds};
+use bt_sat::{Active, Plan, Solver, Turn};
+use std::alloc::{AllocError, Global};
+
+/// The most steps of a search with a sketch. One that shows a layout takes none.
+const SKETCHED_STEPS: u64 = 64;
+
+/// That a belt or an underground piece stands where a sketch has it.
+fn standing(part: &Part) -> Option<Choice> {
+    let shape = match part.kind {
+        Kind::Belt => Shape::Belt,
+        Kind::Entrance => Shape::Entrance,
+        Kind::Exit => Shape::Exit,
+        Kind::Splitter => return None,
+    };
+    Some(Choice {
+        fact: holds(part.cell, shape, part.dir),
+        holds: true,
+    })
+}
+
+/// That the parts of a sketch stand where it has them.
+fn shown(alloc: Global, sketch: &Sketch) -> Result<Vec<Choice>, AllocError> {
+    let mut choices = Vec::new(alloc);
+    for (splitter, part) in &sketch.splitters {
+        choices.push(Choice {
+            fact: Fact::At(*splitter, part.cell, part.dir),
+            holds: true,
+        })?;
+    }
+    for part in &sketch.others {
+        if let Some(choice) = standing(part) {
+            choices.push(choice)?;
+        }
+    }
+    Ok(choices)
+}
+
+/// That nothing stands on any cell.
+fn nothing(alloc: Global, request: &Request) -> Result<Vec<Choice>, AllocError> {
+    let mut choices = Vec::new(alloc);
+    for cell in &cells_of(alloc, request.rect())? {
+        choices.push(Choice {
+            fact: Fact::Kind(*cell, Content::Empty),
+            holds: true,
+        })?;
+    }
+    Ok(choices)
+}
+
+/// The plan that the parts of a sketch stand where it has them, and nothing on other cells.
+fn plan_of(
+    alloc: Global,
+    formula: &Formula,
+    request: &Request,
+    sketch: &Sketch,
+) -> Result<Plan, AllocError> {
+    let numbers = Numbers::new(alloc, request)?;
+    let mut plan = Plan::new(alloc, 0);
+    let always = Turn::always();
+    let parts = shown(alloc, sketch)?;
+    push_choices(alloc, &mut plan, formula, &numbers, &parts, always, true)?;
+    let rest = nothing(alloc, request)?;
+    push_choices(alloc, &mut plan, formula, &numbers, &rest, always, false)?;
+    Ok(plan)
+}
+
+/// The placement formula, without more clauses.
+fn bare(alloc: Global, request: &Request) -> Result<Formula, AllocError>
+    ensures { IfOk result (IsNarrowed (place_formula request.now)) }
+{
+    encode_place(alloc, request)
+}
+
+/// The search with a sketch.
+fn solver_with(
+    alloc: Global,
+    request: &Request,
+    sketch: &Sketch,
+    steps: u64,
+) -> Result<Solver<Active>, AllocError>
+    ensures { IfOk result (λ solver. IsNarrowedSearch request.now solver.kernel) }
+{
+    let formula = bare(alloc, request)?;
+    let plan = plan_of(alloc, &formula, request, sketch)?;
+    planned(alloc, formula, plan, steps)
+}
+
+/// What the search with a sketch comes to.
+fn trial_with(
+    alloc: Global,
+    request: &Request,
+    sketch: &Sketch,
+    steps: u64,
+) -> Result<Tried, AllocError>
+    ensures { IfOk result (λ tried. IsTrial request.now tried.trial) }
+{
+    let mut solver = solver_with(alloc, request, sketch, steps)?;
+    trial_by(alloc, request, &mut solver)
+}
+
+/// Looks for a layout that a sketch of the request shows, by at most so many steps. What is found is a layout; where none is
+/// found, nothing is said.
+pub fn look_by_sketch(alloc: Global, request: &Request, steps: u64) -> Result<Tried, AllocError>
+    ensures { IfOk result (λ tried. IsTrial request.now tried.trial) }
+{
+    match find_sketch(alloc, request)? {
+        Some(sketch) => trial_with(alloc, request, &sketch, steps.min(SKETCHED_STEPS)),
+        None => Ok(Tried {
+            trial: Trial::Spent,
+            steps: 0,
+        }),
+    }
+}

@@ -1,0 +1,404 @@
+//! The cheapest chain between the ends of an edge (Dijkstra's algorithm over poses).
+use crate::around::{ahead, turns};
+use crate::ends::{Beginning, Ending, Ends};
+use crate::ledger::{Claim, Ledger, PIECE_PRICE};
+use crate::poses::{Pose, pose_number};
+use bt_parts::{Cell, Dir, Rect, inside};
+use std::alloc::{AllocError, Global};
+use std::collections::BinaryHeap;
+
+/// What a chain puts down to come from one pose to the next.
+#[derive(Clone, Copy)]
+pub enum Step {
+    /// A belt on the cell, turned so.
+    Belt(Cell, Dir),
+    /// An entrance on the cell, turned so, and an exit so far ahead.
+    Pair(Cell, Dir, u32),
+}
+
+/// How a pose is come to.
+#[derive(Clone, Copy)]
+enum Origin {
+    Nowhere,
+    Begun(Beginning),
+    /// From the pose of this number by this step.
+    From(usize, Step),
+}
+
+/// The least that it costs to come to a pose, as far as is known, and how.
+#[derive(Clone, Copy)]
+struct Label {
+    cost: u64,
+    origin: Origin,
+}
+
+/// A chain: its steps from its end on, and the numbers of what it claims.
+#[derive(Drop)]
+pub struct Chain {
+    pub steps: Vec<Step>,
+    pub claims: Vec<usize>,
+}
+
+/// A search for a chain.
+#[derive(Drop)]
+struct Search {
+    rect: Rect,
+    labels: Vec<Label>,
+    /// The poses that are to be gone on from: the greatest number less the cost, and the pose's number.
+    heap: BinaryHeap<(u64, usize)>,
+    /// What the cheapest whole chain so far costs, and the number of the pose where it ends.
+    best: Option<(u64, usize)>,
+}
+
+/// The most poses that a search goes on from, some of them more than once.
+const MOST_TURNS: u32 = 1 << 16;
+
+impl Search {
+    /// A search that has come to no pose of so many.
+    fn new(alloc: Global, rect: Rect, count: usize) -> Result<Search, AllocError> {
+        let label = Label {
+            cost: u64::MAX,
+            origin: Origin::Nowhere,
+        };
+        Ok(Search {
+            rect,
+            labels: vec![in alloc; label; count]?,
+            heap: BinaryHeap::new(alloc),
+            best: None,
+        })
+    }
+
+    /// What it costs to come to the pose of this number.
+    fn cost(&self, number: usize) -> u64 {
+        match self.labels.get(number) {
+            Some(label) => label.cost,
+            None => 0,
+        }
+    }
+
+    /// How the pose of this number is come to.
+    fn origin(&self, number: usize) -> Origin {
+        match self.labels.get(number) {
+            Some(label) => label.origin,
+            None => Origin::Nowhere,
+        }
+    }
+
+    /// Comes to a pose at this cost, where that is less than before.
+    fn come_to(&mut self, pose: Pose, cost: u64, origin: Origin) -> Result<(), AllocError> {
+        let number = pose_number(self.rect, pose);
+        if cost >= self.cost(number) {
+            return Ok(());
+        }
+        if let Some(label) = self.labels.get_mut(number) {
+            *label = Label { cost, origin };
+        }
+        self.heap.push((u64::MAX.saturating_sub(cost), number))?;
+        Ok(())
+    }
+}
+
+/// What a claim costs where there is one, and nothing else.
+fn price_of(ledger: &Ledger, claim: Option<Claim>) -> Option<u64> {
+    match claim {
+        Some(claim) => ledger.price(claim),
+        None => Some(0),
+    }
+}
+
+/// What it costs that an input begins on a cell beside its ground: nothing; none where that can't be had.
+fn input_price(ledger: &Ledger, cell: Cell) -> Option<u64> {
+    match ledger.price(Claim::Ground(cell)) {
+        Some(_) => Some(0),
+        None => None,
+    }
+}
+
+/// What it costs to begin so.
+fn beginning_price(ledger: &Ledger, beginning: &Beginning) -> Option<u64> {
+    let half = match beginning.half {
+        Some(half) => ledger.price(half)?,
+        None => input_price(ledger, beginning.pose.cell)?,
+    };
+    let empty = price_of(ledger, beginning.empty)?;
+    Some(half.saturating_add(empty))
+}
+
+/// What it costs to end so.
+fn ending_price(ledger: &Ledger, ending: Ending) -> Option<u64> {
+    match ending {
+        Ending::Never => None,
+        Ending::Free => Some(0),
+        Ending::Into(half) => ledger.price(Claim::Into(half)),
+    }
+}
+
+/// Comes to all poses in which the chain may begin.
+fn begin(search: &mut Search, ledger: &Ledger, ends: &Ends) -> Result<(), AllocError> {
+    for beginning in &ends.beginnings {
+        if let Some(price) = beginning_price(ledger, beginning) {
+            search.come_to(beginning.pose, price, Origin::Begun(*beginning))?;
+        }
+    }
+    Ok(())
+}
+
+/// A pose that a search goes on from: its number, and what it costs to come there with the ground of its cell.
+#[derive(Clone, Copy)]
+struct Here {
+    pose: Pose,
+    number: usize,
+    cost: u64,
+}
+
+/// Goes on by a belt in each of the directions that it may have.
+fn go_by_belts(search: &mut Search, here: Here, is_straight: bool) -> Result<(), AllocError> {
+    let cell = here.pose.cell;
+    for dir in &turns(here.pose.dir) {
+        if !is_straight || *dir == here.pose.dir {
+            let next = Pose {
+                cell: ahead(cell, *dir),
+                dir: *dir,
+            };
+            let step = Step::Belt(cell, *dir);
+            search.come_to(next, here.cost, Origin::From(here.number, step))?;
+        }
+    }
+    Ok(())
+}
+
+/// Goes on by an underground pair with its exit on this cell, so far ahead.
+fn go_by_pair(
+    search: &mut Search,
+    ledger: &Ledger,
+    here: Here,
+    exit: Cell,
+    length: u32,
+    below: u64,
+) -> Result<(), AllocError> {
+    let Some(ground) = ledger.price(Claim::Ground(exit)) else {
+        return Ok(());
+    };
+    let dir = here.pose.dir;
+    let cost = here.cost.saturating_add(ground).saturating_add(below);
+    let next = Pose {
+        cell: ahead(exit, dir),
+        dir,
+    };
+    let step = Step::Pair(here.pose.cell, dir, length);
+    search.come_to(next, cost, Origin::From(here.number, step))
+}
+
+/// Goes on by underground pairs of each length.
+fn go_below(
+    search: &mut Search,
+    ledger: &Ledger,
+    here: Here,
+    reach: u32,
+) -> Result<(), AllocError> {
+    let Pose { mut cell, dir } = here.pose;
+    let mut below = PIECE_PRICE.saturating_mul(2);
+    for length in 0..reach.saturating_add(2) {
+        let Some(price) = ledger.price(Claim::Below(cell, dir)) else {
+            break;
+        };
+        if !inside(&search.rect, cell) {
+            break;
+        }
+        below = below.saturating_add(price);
+        if length >= 2 {
+            go_by_pair(search, ledger, here, cell, length, below)?;
+        }
+        cell = ahead(cell, dir);
+    }
+    Ok(())
+}
+
+/// Whether the part in the pose of this number keeps its direction.
+fn is_straight(search: &Search, number: usize) -> bool {
+    match search.origin(number) {
+        Origin::Begun(beginning) => beginning.is_straight,
+        _ => false,
+    }
+}
+
+/// Goes on from a pose, to which it costs so much to come.
+fn go_on(
+    search: &mut Search,
+    ledger: &Ledger,
+    pose: Pose,
+    number: usize,
+    reach: u32,
+) -> Result<(), AllocError> {
+    if !inside(&search.rect, pose.cell) {
+        return Ok(());
+    }
+    let Some(ground) = ledger.price(Claim::Ground(pose.cell)) else {
+        return Ok(());
+    };
+    let here = Here {
+        pose,
+        number,
+        cost: search.cost(number).saturating_add(ground),
+    };
+    let is_straight = is_straight(search, number);
+    go_by_belts(search, here, is_straight)?;
+    go_below(search, ledger, here, reach)
+}
+
+/// Ends a chain in the pose of this number, where it may end there and no other chain is cheaper. Whether it may end there.
+fn end_at(search: &mut Search, ledger: &Ledger, ends: &Ends, number: usize) -> bool {
+    let Some(ending) = ends.endings.get(number) else {
+        return false;
+    };
+    let Some(price) = ending_price(ledger, *ending) else {
+        return false;
+    };
+    let cost = search.cost(number).saturating_add(price);
+    let is_better = match search.best {
+        Some((least, _)) => cost < least,
+        None => true,
+    };
+    if is_better {
+        search.best = Some((cost, number));
+    }
+    true
+}
+
+/// Whether no chain through a pose at this cost is better than the best one.
+fn is_over(search: &Search, cost: u64) -> bool {
+    match search.best {
+        Some((least, _)) => least <= cost,
+        None => false,
+    }
+}
+
+/// Goes on from the cheapest pose. Whether there may be a cheaper chain than the best one.
+fn turn(
+    search: &mut Search,
+    ledger: &Ledger,
+    poses: &[Pose],
+    ends: &Ends,
+    reach: u32,
+) -> Result<bool, AllocError> {
+    let Some((key, number)) = search.heap.pop() else {
+        return Ok(false);
+    };
+    let cost = u64::MAX.saturating_sub(key);
+    if is_over(search, cost) {
+        return Ok(false);
+    }
+    if cost == search.cost(number) && !end_at(search, ledger, ends, number) {
+        if let Some(pose) = poses.get(number) {
+            go_on(search, ledger, *pose, number, reach)?;
+        }
+    }
+    Ok(true)
+}
+
+/// Adds the number of a claim.
+fn push_claim(
+    claims: &mut Vec<usize>,
+    ledger: &Ledger,
+    claim: Option<Claim>,
+) -> Result<(), AllocError> {
+    if let Some(claim) = claim {
+        claims.push(ledger.number(claim))?;
+    }
+    Ok(())
+}
+
+/// Adds the claims of a pair.
+fn push_pair(
+    claims: &mut Vec<usize>,
+    ledger: &Ledger,
+    entrance: Cell,
+    dir: Dir,
+    length: u32,
+) -> Result<(), AllocError> {
+    let mut cell = entrance;
+    claims.push(ledger.number(Claim::Ground(cell)))?;
+    claims.push(ledger.number(Claim::Below(cell, dir)))?;
+    for _ in 0..length {
+        cell = ahead(cell, dir);
+        claims.push(ledger.number(Claim::Below(cell, dir)))?;
+    }
+    claims.push(ledger.number(Claim::Ground(cell)))?;
+    Ok(())
+}
+
+/// Adds the claims of a step.
+fn push_step(claims: &mut Vec<usize>, ledger: &Ledger, step: Step) -> Result<(), AllocError> {
+    match step {
+        Step::Belt(cell, _) => claims.push(ledger.number(Claim::Ground(cell)))?,
+        Step::Pair(cell, dir, length) => push_pair(claims, ledger, cell, dir, length)?,
+    }
+    Ok(())
+}
+
+/// Follows a chain back from the pose of this number, and writes down its steps and claims.
+fn trace(
+    chain: &mut Chain,
+    search: &Search,
+    ledger: &Ledger,
+    last: usize,
+) -> Result<(), AllocError> {
+    let mut number = last;
+    for _ in 0..search.labels.len() {
+        match search.origin(number) {
+            Origin::Nowhere => break,
+            Origin::Begun(beginning) => {
+                push_claim(&mut chain.claims, ledger, beginning.half)?;
+                push_claim(&mut chain.claims, ledger, beginning.empty)?;
+                break;
+            }
+            Origin::From(before, step) => {
+                push_step(&mut chain.claims, ledger, step)?;
+                chain.steps.push(step)?;
+                number = before;
+            }
+        }
+    }
+    Ok(())
+}
+
+/// The chain that ends in the pose of this number.
+fn chain_to(
+    alloc: Global,
+    search: &Search,
+    ledger: &Ledger,
+    ends: &Ends,
+    last: usize,
+) -> Result<Chain, AllocError> {
+    let mut chain = Chain {
+        steps: Vec::new(alloc),
+        claims: Vec::new(alloc),
+    };
+    if let Some(Ending::Into(half)) = ends.endings.get(last) {
+        push_claim(&mut chain.claims, ledger, Some(Claim::Into(*half)))?;
+    }
+    trace(&mut chain, search, ledger, last)?;
+    Ok(chain)
+}
+
+/// The cheapest chain of an edge in a rectangle with these poses; none where there is no chain.
+pub fn cheapest(
+    alloc: Global,
+    rect: Rect,
+    ledger: &Ledger,
+    poses: &[Pose],
+    ends: &Ends,
+    reach: u32,
+) -> Result<Option<Chain>, AllocError> {
+    let mut search = Search::new(alloc, rect, poses.len())?;
+    begin(&mut search, ledger, ends)?;
+    for _ in 0..MOST_TURNS {
+        if !turn(&mut search, ledger, poses, ends, reach)? {
+            break;
+        }
+    }
+    match search.best {
+        Some((_, last)) => Ok(Some(chain_to(alloc, &search, ledger, ends, last)?)),
+        None => Ok(None),
+    }
+}

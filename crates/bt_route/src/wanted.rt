@@ -1,0 +1,98 @@
+//! Where a request wants an end to stand.
+use bt_model::{Request, ends_of, names};
+use bt_net::{Demand, End, Pin};
+use bt_parts::{Cell, Dir, Rect};
+
+/// Where an end is to stand.
+#[derive(Clone, Copy)]
+pub enum Wanted {
+    /// On any cell of the border.
+    Anywhere,
+    /// On this cell, and turned so where a direction is named.
+    On(Cell, Option<Dir>),
+    /// At the side that lies in this direction: an input comes in across it, an output leaves across it.
+    At(Dir),
+}
+
+/// The cell in this column and row of a rectangle, where there is one.
+fn cell_in(rect: Rect, x: u32, y: u32) -> Option<Cell> {
+    let mut cell = Cell { x: 0, y: 0 };
+    if x >= rect.width || y >= rect.height {
+        return None;
+    }
+    for _ in 0..x {
+        cell.x = cell.x.wrapping_add(1);
+    }
+    for _ in 0..y {
+        cell.y = cell.y.wrapping_add(1);
+    }
+    Some(cell)
+}
+
+/// Where a pin wants its end to stand.
+fn wanted_by(rect: Rect, pin: &Pin) -> Wanted {
+    match cell_in(rect, pin.x, pin.y) {
+        Some(cell) => Wanted::On(cell, pin.dir),
+        None => Wanted::Anywhere,
+    }
+}
+
+/// Where a demand wants the ends that it names to stand.
+fn wanted_of(rect: Rect, demand: &Demand) -> Wanted {
+    match demand {
+        Demand::Pin(pin) => wanted_by(rect, pin),
+        Demand::Side(side) => Wanted::At(side.dir),
+    }
+}
+
+/// Where a request wants this end to stand.
+pub fn place_wanted(request: &Request, end: End) -> Wanted {
+    for demand in request.demands() {
+        if names(ends_of(*demand), end) {
+            return wanted_of(request.rect(), demand);
+        }
+    }
+    Wanted::Anywhere
+}
+
+/// Whether a request says of no end where it is to stand.
+pub fn is_anywhere(request: &Request) -> bool {
+    request.demands().is_empty()
+}
+
+/// The cells on which a request wants no part.
+pub fn is_blocked(request: &Request, cell: Cell) -> bool {
+    for block in request.blocks() {
+        if cell.x.unsigned_abs() == block.x && cell.y.unsigned_abs() == block.y {
+            return true;
+        }
+    }
+    false
+}
+
+/// A number of where an end is to stand: the same for ends of which the same is wanted.
+pub fn color(wanted: Wanted) -> u64 {
+    match wanted {
+        Wanted::Anywhere => 1,
+        Wanted::On(cell, dir) => {
+            let row = u64::from(cell.y.unsigned_abs()).wrapping_mul(64);
+            let place = row.wrapping_add(u64::from(cell.x.unsigned_abs()));
+            place
+                .wrapping_mul(8)
+                .wrapping_add(turn(dir))
+                .wrapping_add(16)
+        }
+        Wanted::At(dir) => turn(Some(dir)).wrapping_add(8),
+    }
+}
+
+/// A number of a direction, where one is named.
+fn turn(dir: Option<Dir>) -> u64 {
+    match dir {
+        None => 0,
+        Some(Dir::North) => 1,
+        Some(Dir::East) => 2,
+        Some(Dir::South) => 3,
+        Some(Dir::West) => 4,
+    }
+}
