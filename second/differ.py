@@ -249,6 +249,7 @@ WORDS = {
     b"{": (b"{{", b"[" * 60 + b"{", b"{ "), b"}": (b"}}", b"},", b"} "), b":": (b" :\t", b"::", b","),
     b",": (b" ,\r\n", b",,", b"}"),
     b" f": (b" b",), b" b": (b" f",), b"yes": (b"no",), b"no": (b"yes", b"on"), b"r ": (b"f ",), b"f ": (b"r ",),
+    b"p ": (b"c ", b"v ", b"p 0 ", b"c 1 "), b"c ": (b"p ", b"v "), b"v ": (b"p ", b"c ", b"v -1 "),
     b"edge": (b"pin", b"block", b"Edge"), b"end": (b"en", b"end "),
     b"s": (b"i", b"o"), b"i": (b"s", b"o"), b"o": (b"s", b"i"),
     b"balanced": (b"unlimited", b"full"), b"north": (b"south", b"up"), b"east": (b"west",), b"south": (b"south ",),
@@ -360,7 +361,9 @@ def thrown_certificate(chance, design, prop):
         formula = opinion.FlowFormula(opinion.read_net(design.decode())[0], prop)
     except opinion.Answer:
         return f"yes {prop}\nend\n".encode()
-    clauses, lines = [list(clause) for clause in formula.clauses], [f"yes {prop}"]
+    definitions = thrown_definitions(chance, formula) if chance.randrange(2) else []
+    lines = [f"yes {prop}", *(line.decode() for line in definitions)]
+    clauses = [list(clause) for clause in formula.clauses]
     for _ in range(chance.randrange(1, 7)):
         letter = chance.choice("fr")
         if letter == "f":
@@ -378,6 +381,54 @@ def thrown_certificate(chance, design, prop):
         clauses.append(literals)
         lines.append(" ".join([letter, *map(str, literals), "0", *map(str, rest)]))
     return "\n".join([*lines, "end", ""]).encode()
+
+
+def with_definitions(chance, design, prop, data):
+    """A certificate with definitions at its front: it stays as good as it was, where all of these may stand there."""
+    try:
+        formula = opinion.FlowFormula(opinion.read_design(design.decode("latin-1"))[0], prop)
+    except opinion.Answer:
+        return data
+    first, _, steps = data.partition(b"\n")
+    clauses = len(formula.clauses)
+    lines = thrown_definitions(chance, formula)
+    added = len(formula.clauses) - clauses
+    return b"\n".join([first, *lines, *(renumbered(line, clauses, added) for line in steps.split(b"\n"))])
+
+
+def renumbered(line, clauses, added):
+    """A step whose hints behind so many clauses are that many more."""
+    front, zero, rest = line.rpartition(b" 0")[0].partition(b" 0")
+    if line[:1] != b"r" or not zero:
+        return line
+    hints = [int(word) for word in rest.split()]
+    return b" ".join([front + zero, *(b"%d" % (hint + added * (hint > clauses)) for hint in hints), b"0"])
+
+
+def thrown_definitions(chance, formula):
+    """Lines of definitions, mostly such as may stand there, by which the formula is extended."""
+    lines = []
+    for _ in range(chance.choice((1, 1, 2, 3, 6))):
+        line = thrown_definition(chance, formula.variables, formula.columns)
+        if opinion.define(formula, [line]) or chance.randrange(20) == 0:
+            lines.append(line.encode())
+    return lines
+
+
+def thrown_definition(chance, variables, columns):
+    """The line of a definition over so many variables and columns."""
+    few = ["1", "1", "-1", "-1", "1/2", "2", "-3/7", str(2 ** 127 - 1), f"1/{2 ** 126}"]
+
+    def form():
+        chosen = sorted(chance.sample(range(1, columns + 1), min(columns, chance.choice((0, 1, 1, 2, 2, 3)))))
+        terms = [f"{chance.choice(few)} {column}" for column in chosen]
+        return " ".join([chance.choice(["0", "0", *few]), *terms, "0"])
+
+    kind = chance.choice("ppccv")
+    if kind == "v":
+        chosen = sorted(chance.sample(range(1, variables + 1), min(variables, chance.randrange(1, 4))))
+        return " ".join(["v", *(f"{chance.choice(('', '-'))}{variable}" for variable in chosen), "0"])
+    return f"p {form()}" if kind == "p" else f"c {chance.randrange(1, variables + 1)} {form()} {form()}"
 
 
 def propagated(chance, clauses, literals):
@@ -441,7 +492,9 @@ def mutants(differ, chance, sources, count):
         prop = chance.choice(opinion.PROPERTIES)
         if roll < 30:
             design, prop, data = chance.choice(sources["certificate"])
-            differ.compare("certificate", ["check", prop], design + mutant(chance, data))
+            kind = chance.choice(("certificate", "certificate with definitions"))
+            data = data if kind == "certificate" else with_definitions(chance, design, prop, data)
+            differ.compare(kind, ["check", prop], design + mutant(chance, data))
         elif roll < 50:
             design, prop, data = chance.choice(sources["state"])
             differ.compare("state", [chance.choice(("check", "flow-check")), prop], design + mutant(chance, data))

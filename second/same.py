@@ -53,6 +53,7 @@ def same_formula(first, second):
             formula.rows[variable(atom)] = terms, relation, bound
         formula.clauses += [[variable(literal) for literal in clause] for clause in laws.clauses]
         formula.variables += len(laws.rows)
+    formula.columns = edges + others + first.counts["i"] + first.counts["o"]
     if max(edges, others) <= COMPARED:
         for a, edge in enumerate(first.edges):
             for b in (edges + b for b, other in enumerate(second.edges) if are_abreast(edge, other)):

@@ -273,6 +273,38 @@ class Certificates(unittest.TestCase):
         self.assertEqual(run("check balanced", BELT + "yes balanced"), (9, "refused 50 CertLine 2\n"))
         self.assertEqual(run("flow-check unlimited", BELT + lines()), (9, "refused 50 CertLine 1\n"))
 
+    def test_definitions(self):
+        unlimited = "yes unlimited\n{}f -10 -16 0 1 1\nf -12 -17 0 1 1\nr 0 14 15 {} {} 11 13 0\nend\n"
+        less = "p 0 1 1 -1 2 0\n"
+        table = [
+            ("unlimited", unlimited.format(less, 17, 18), 0, "yes unlimited"),
+            ("unlimited", unlimited.format("p 0 1 1 -1 4 0\n", 17, 18), 9, "refused 50 CertLine 2"),
+            ("unlimited", unlimited.format("", 17, 18).replace("f -12", less + "f -12"), 9, "refused 50 CertLine 3"),
+            ("balanced", "yes balanced\nc 1 0 1 1 0 0 0\nr 0 15 0\nend\n", 0, "yes balanced"),
+            ("balanced", "yes balanced\nv 1 -1 0\nr 0 15 0\nend\n", 9, "refused 50 CertLine 2"),
+            ("unlimited", unlimited.format("c 1 1 -1 1 0 0 0\nf -3 -18 -23 0 1 1 1\nr 22 0 18 22 20 2 24 0\n", 26, 27), 0,
+             "yes unlimited"),
+            ("unlimited", unlimited.format("v -1 8 0\nr 18 -8 0 18 0\n", 20, 21), 0, "yes unlimited"),
+            ("unlimited", unlimited.format("v -1 8 0\nr 18 -8 0 17 0\n", 20, 21), 9, "refused 51 BadStep 3 unit"),
+            ("unlimited", "yes unlimited\np 0 0\nend\n", 9, "refused 52 NoVerdict"),
+            ("unlimited", "yes unlimited\np 0 0", 9, "refused 50 CertLine 3"),
+        ]
+        for prop, text, status, answer in table:
+            self.assertEqual(run(f"check {prop}", BELT + text), (status, answer + "\n"), text)
+        wrong = ["v 0", "v 2 1 0", "v 1 18 0", "c 18 0 0 0 0", "c -1 0 0 0 0", "c 1 0 0 0", "c 1 0 0 0 1 4 0", "p 0 1 2 1 1 0",
+                 "p 0 0 0", "p -0 1 1 0", "p 2/4 1 1 0", "p", "p 0", "p 0 1 0", "p 0 1 1/2 0", "c 1", "c 0 0 0 0 0", "c 1/2 0 0 0 0",
+                 "v", "v 1", "v 1/2 0", "v 1 1 0", "p  0 0", "p 0 0 ", " p 0 0", "v " + "9" * 50 + " 0", "p 0 1 " + "9" * 50 + " 0"]
+        for line in wrong:
+            answer = run("check unlimited", BELT + unlimited.format(line + "\n", 17, 18))
+            self.assertEqual(answer, (9, "refused 50 CertLine 2\n"), line)
+        for line in ["p 1/2 -1/2 1 0", "p 0 0", less.strip()]:
+            answer = run("check unlimited", BELT + unlimited.format(line + "\n", 17, 18))
+            self.assertEqual(answer, (0, "yes unlimited\n"), line)
+        formula, steps = "p cnf 2 3\n1 2 0\n-1 0\n-2 0\n", "none\n{}\nr 0 2 3 1 0\nend\n"
+        self.assertEqual(run("none formula", steps.format("v 1 -2 0"), formula=formula), (1, "none\n"))
+        for line in ["p 0 0", "c 1 0 0 0 0", "v 1 3 0"]:
+            self.assertEqual(run("none formula", steps.format(line), formula=formula), (9, "refused 50 CertLine 2\n"), line)
+
     def test_dimacs(self):
         formula = "c two variables\np cnf 2 3\n1 2 0\n-1 0\n-2 0\n"
         table = [("r 0 2 3 1 0\nend", 1, "none"), ("r 0 1 2 3 0\nend", 9, "refused 51 BadStep 2 unit"),
@@ -296,6 +328,8 @@ class Certificates(unittest.TestCase):
         self.assertEqual(proof, "4 2 0 2 1 0\n5 0 4 3 0\n")
         again = "none\n" + "".join("r " + line.split(" ", 1)[1] + "\n" for line in proof.splitlines()) + "end\n"
         self.assertEqual(run("none formula", again, formula=formula), (1, "none\n"))
+        proof = lrat.renamed(formula, "none\nv 1 -2 0\nr 0 2 3 1 0\nend\n")
+        self.assertEqual(proof, "4 -3 1 -2 0 0\n5 3 -1 0 -4 0\n6 3 2 0 -4 0\n7 0 2 3 1 0\n")
         self.assertRaises(ValueError, lrat.renamed, formula, "none\nf 0\nend\n")
         self.assertRaises(ValueError, lrat.renamed, formula, "none\nr 2 0 2 1 0\nend\n")
 

@@ -13,13 +13,15 @@ each byte. To be read in this order:
     properties      the four properties
     states          the laws of a steady state, and when a property fails in it
     formula         the flow formula, which says the same in clauses and rows
-    certificates    steps that refute a formula
+    definitions     rows, columns and variables that a certificate brings
+    certificates    definitions, and steps that refute a formula
     layouts         requests, and whether a blueprint lays one
     words           the commands
 """
 
 from opinion.answers import Answer, need
 from opinion.certificates import check_steps
+from opinion.definitions import define
 from opinion.designs import read_design
 from opinion.formula import FlowFormula, Formula
 from opinion.json_text import json_value

@@ -1,4 +1,6 @@
-"""Certificates: steps, each of which adds a clause that follows, up to the empty one.
+"""Certificates: definitions, and steps, up to one that adds the empty clause.
+
+Definitions come first, and extend the formula. Each step adds a clause that follows.
 
 A step of the first kind, `f`, is a sum of rows that no values meet, so not all of them hold. A
 step of the second kind, `r`, follows by propagation over clauses that its hints name.
@@ -9,6 +11,7 @@ from collections import defaultdict
 from fractions import Fraction
 
 from opinion.answers import INPUT_REFUSED, Answer, need
+from opinion.definitions import define
 from opinion.formula import Formula
 from opinion.lines import nothing_after
 from opinion.numbers import fraction_of, plus
@@ -23,10 +26,12 @@ DIMACS_CLAUSE = re.compile(f"((?:{NUMBER} )*)0")
 def check_steps(formula, first, lines):
     """Ends without a refusal where the lines are a certificate that refutes the formula.
 
-    They are that first line, steps and `end`. The last step is the empty clause.
+    They are that first line, definitions, which extend the formula, steps and `end`. The last
+    step is the empty clause.
     """
     need(lines[0] == first, 50, "CertLine", 1)
-    clauses, number = [frozenset(clause) for clause in formula.clauses], 2
+    number = 2 + define(formula, lines[1:])
+    clauses = [frozenset(clause) for clause in formula.clauses]
     while lines[number - 1] != "end":
         clauses.append(checked_step(formula, clauses, lines[number - 1], number))
         number += 1

@@ -18,6 +18,7 @@ class Formula:
 
     def __init__(self, variables):
         self.variables = variables
+        self.columns = 0  # those up to the greatest that a row names
         self.clauses = []
         self.rows = {}
 
@@ -26,14 +27,26 @@ class Formula:
         factors = Counter(plus)
         factors.subtract(minus)
         terms = [(column, factor) for column, factor in sorted(factors.items()) if factor]
+        return self.atom(terms, relation, bound)
+
+    def atom(self, terms, relation, bound):
+        """A new variable, which says that the sum of the terms is so related to the bound."""
         self.variables += 1
         self.rows[self.variables] = terms, relation, bound
+        self.columns = max([self.columns, *(column + 1 for column, _ in terms)])
         return self.variables
 
     def pair(self, plus, minus, bound=0):
         """Two rows of which one holds, whatever the state; the variable of the first."""
         first = self.row(plus, minus, ">=", bound)
         self.clauses.append([first, self.row(minus, plus, ">", -bound)])
+        return first
+
+    def compare(self, terms, bound):
+        """Two rows: a sum of terms is at least a bound, or less; the variable of the first."""
+        first = self.atom(terms, ">=", bound)
+        turned = [(column, -factor) for column, factor in terms]
+        self.clauses.append([first, self.atom(turned, ">", -bound)])
         return first
 
 

@@ -9,7 +9,7 @@ use Rattle.bt_text.proofs.FirstLines.{first_line_of, BeginsWithLines-nil, Begins
 use Rattle.bt_cnf.specs.Formulas.{FormulaParts}
 use Rattle.bt_log.specs.Refuting.{EndsEmpty}
 use Rattle.bt_cert.specs.StepLines.{WrittenStep, written_text}
-use Rattle.bt_cert.specs.Certificates.{IsCertificate, ComesTo, log_of, end_line}
+use Rattle.bt_cert.specs.Certificates.{SpellsRefutation, ComesTo, log_of, end_line}
 use Rattle.bt_cert.proofs.Accepted.{accepted_of, valid_of, fit_of}
 
 -- the lines after the first ones of a text
@@ -51,7 +51,7 @@ end_is_first rest blanks begins =
     subst (λ l. IsFirstLine rest l blanks) tail.0 (subst (λ r. IsFirstLine rest found.0 r) (BeginsWithLines-nil found.1 blanks tail.1) found.2)
 
 -- a certificate comes to its line `end`
-pub comes_to_end : (f : FormulaParts) (text : List ℕ) (c : IsCertificate f text) → ComesTo f text c.steps end_line c.spells.blanks
+pub comes_to_end : (f : FormulaParts) (text : List ℕ) (c : SpellsRefutation f text) → ComesTo f text c.steps end_line c.spells.blanks
 comes_to_end f text c =
     let b = beyond text (map written_text c.steps) (end_line ∷ []) c.spells.blanks c.spells.begins (omega arith) in
     record {
@@ -63,7 +63,7 @@ comes_to_end f text c =
 
 -- a text that comes to `end` after the empty clause, and then has blanks, is a certificate
 pub certificate_of : (f : FormulaParts) (text : List ℕ) (steps : List WrittenStep) (after : List ℕ) → ComesTo f text steps end_line after → EndsEmpty (log_of steps)
-    → All IsBlank after → IsCertificate f text
+    → All IsBlank after → SpellsRefutation f text
 certificate_of f text steps after c ends blanks = record {
   steps = steps;
   spells = record {

@@ -6,13 +6,13 @@ use Rattle.bt_answers.proofs.OneAnswer.{answers_of}
 use Rattle.bt_io.specs.Bytes.{Takes, TakesAtMost}
 use Rattle.bt_io.specs.Passages.{Passage}
 use Rattle.bt_cnf.specs.Formulas.{FormulaParts, IsFormula}
-use Rattle.bt_cert.specs.Certificates.{IsCertRead}
-use Rattle.bt_cert.specs.Readings.{AnswersWhole, IsLogChecked}
+use Rattle.bt_cert.specs.Certificates.{AreStepsRead}
+use Rattle.bt_cert.specs.Readings.{AnswersBy, IsCheckedBy}
 use Rattle.bt_cert.specs.inner.Feeding.{IsFed, ReadsRest, ReadsWhole}
 use Rattle.bt_cert.specs.inner.Stages.{Progress, HasRead, ReadsOn}
 use Rattle.bt_cert.specs.declared.fault.CertFault.{CertFault}
 use Rattle.bt_cert.specs.declared.fault.CertFault.TheVariants.{CertLine, BadStep, NoVerdict, CertWide, ReadFault, TooLong, Memory}
-use Rattle.bt_cert.proofs.OneAnswer.{one_answer}
+use Rattle.bt_cert.proofs.OneAnswer.{one_steps_answer}
 
 consumes_none : (left : Option (List ℕ)) → Consumes left left []
 consumes_none None = tt
@@ -29,7 +29,7 @@ fed_start left p = record {
   bytes = [];
   consumed = consumes_none left;
   many = refl;
-  reads = record { formula = refl; read = λ text read. subst (λ t. HasRead t p) (sym (append-nil text)) read };
+  reads = record { formula = refl; read = λ start text read. subst (λ t. HasRead start t p) (sym (append-nil text)) read };
   line = omega arith;
 }
 
@@ -41,7 +41,8 @@ fed_more before mid after taken n old p q piece fed consumed many reads lines = 
   many = omega (arith, length-append fed.bytes piece, fed.many, many);
   reads = record {
     formula = reads.formula ∙ fed.reads.formula;
-    read = λ text read. subst (λ t. HasRead t q) (append_assoc text fed.bytes piece) (reads.read (text ++ fed.bytes) (fed.reads.read text read));
+    read = λ start text read.
+        subst (λ t. HasRead start t q) (append_assoc text fed.bytes piece) (reads.read start (text ++ fed.bytes) (fed.reads.read start text read));
   };
   line = omega (arith, fed.line, lines, many);
 }
@@ -58,37 +59,46 @@ fed_whole limit taken source mid old p fed consumed ends few = record {
 }
 
 -- what is told of a text whose source ended
-checked_at : (f : FormulaParts) (head : List ℕ) (limit : ℕ) (source : Passage) (told : Result (Unit {0}) CertFault) → AnswersWhole f head limit source told
-    → IsLogChecked f head limit source told
-checked_at f head limit source (Ok done) h = h
-checked_at f head limit source (Err (CertLine n)) h = h
-checked_at f head limit source (Err (BadStep n cause)) h = h
-checked_at f head limit source (Err NoVerdict) h = h
-checked_at f head limit source (Err (CertWide n row column)) h = h
-checked_at f head limit source (Err ReadFault) h = elim h.3.right [ inl wrong ↦ absurd wrong | inr e ↦ absurd cc ]
-checked_at f head limit source (Err TooLong) h = elim h.3.right [ inl wrong ↦ absurd wrong | inr e ↦ absurd cc ]
-checked_at f head limit source (Err Memory) h = (h.0, h.1.0, h.2)
+pub checked_at : (Right : List ℕ → Result (Unit {0}) CertFault → Type 0) → ((text : List ℕ) → Right text (Err ReadFault) → ⊥) → ((text : List ℕ) → Right text (Err TooLong) → ⊥)
+    → (head : List ℕ) (limit : ℕ) (source : Passage) (told : Result (Unit {0}) CertFault) → AnswersBy Right head limit source told → IsCheckedBy Right head limit source told
+checked_at Right no_fault no_end head limit source (Ok done) h = h
+checked_at Right no_fault no_end head limit source (Err (CertLine n)) h = h
+checked_at Right no_fault no_end head limit source (Err (BadStep n cause)) h = h
+checked_at Right no_fault no_end head limit source (Err NoVerdict) h = h
+checked_at Right no_fault no_end head limit source (Err (CertWide n row column)) h = h
+checked_at Right no_fault no_end head limit source (Err ReadFault) h = elim h.3.right [ inl wrong ↦ absurd (no_fault (head ++ h.0) wrong) | inr e ↦ absurd cc ]
+checked_at Right no_fault no_end head limit source (Err TooLong) h = elim h.3.right [ inl wrong ↦ absurd (no_end (head ++ h.0) wrong) | inr e ↦ absurd cc ]
+checked_at Right no_fault no_end head limit source (Err Memory) h = (h.0, h.1.0, h.2)
 
 -- what is told where the whole source was read
-pub whole_checked : (f : FormulaParts) → IsFormula f → (head : List ℕ) (limit : ℕ) (source : Passage) (start old new : Progress) (told : Result (Unit {0}) CertFault)
-    → start.known.formula ≡ f → HasRead [] start → ReadsOn start head old → ReadsWhole limit source old new
-    → ((text : List ℕ) → HasRead text new → UnlessMemory Memory (IsCertRead new.known.formula text) told) → IsLogChecked f head limit source told
-whole_checked f formula head limit source start old new told start_is nothing headed whole answers =
+pub whole_checked : (first : ℕ) (f : FormulaParts) → IsFormula f → (head : List ℕ) (limit : ℕ) (source : Passage) (start old new : Progress) (told : Result (Unit {0}) CertFault)
+    → start.known.formula ≡ f → HasRead first [] start → ReadsOn start head old → ReadsWhole limit source old new
+    → ((begin : ℕ) (text : List ℕ) → HasRead begin text new → UnlessMemory Memory (AreStepsRead begin new.known.formula text) told) → IsCheckedBy (AreStepsRead first f) head limit source told
+whole_checked first f formula head limit source start old new told start_is nothing headed whole answers =
     let same = whole.reads.formula ∙ headed.formula ∙ start_is in
-    let right : UnlessMemory Memory (IsCertRead f (head ++ whole.bytes)) told =
-    subst (λ g. UnlessMemory Memory (IsCertRead g (head ++ whole.bytes)) told) same (answers (head ++ whole.bytes) (whole.reads.read head (headed.read [] nothing))) in
-    checked_at f head limit source told (whole.bytes, whole.all, whole.few, answers_of Memory (IsCertRead f (head ++ whole.bytes)) (one_answer f formula (head ++ whole.bytes)) told right)
+    let right : UnlessMemory Memory (AreStepsRead first f (head ++ whole.bytes)) told =
+    subst (λ g. UnlessMemory Memory (AreStepsRead first g (head ++ whole.bytes)) told) same
+    (answers first (head ++ whole.bytes) (whole.reads.read first head (headed.read first [] nothing))) in
+    checked_at (AreStepsRead first f) (λ text wrong. wrong) (λ text wrong. wrong) head limit source told
+    (whole.bytes, whole.all, whole.few, answers_of Memory (AreStepsRead first f (head ++ whole.bytes)) (one_steps_answer first f formula (head ++ whole.bytes)) told right)
 
 -- what is told where it was not
-pub rest_refused : (f : FormulaParts) (head : List ℕ) (limit : ℕ) (source : Passage) (old new : Progress) (fault : CertFault) → ReadsRest limit source old new (Err fault)
-    → IsLogChecked f head limit source (Err fault)
-rest_refused f head limit source old new ReadFault h = h
-rest_refused f head limit source old new TooLong h = h
-rest_refused f head limit source old new (CertLine n) h = absurd h
-rest_refused f head limit source old new (BadStep n cause) h = absurd h
-rest_refused f head limit source old new NoVerdict h = absurd h
-rest_refused f head limit source old new (CertWide n row column) h = absurd h
-rest_refused f head limit source old new Memory h = absurd h
+pub rest_refused : (Right : List ℕ → Result (Unit {0}) CertFault → Type 0) (head : List ℕ) (limit : ℕ) (source : Passage) (old new : Progress) (fault : CertFault)
+    → ReadsRest limit source old new (Err fault) → IsCheckedBy Right head limit source (Err fault)
+rest_refused Right head limit source old new ReadFault h = h
+rest_refused Right head limit source old new TooLong h = h
+rest_refused Right head limit source old new (CertLine n) h = absurd h
+rest_refused Right head limit source old new (BadStep n cause) h = absurd h
+rest_refused Right head limit source old new NoVerdict h = absurd h
+rest_refused Right head limit source old new (CertWide n row column) h = absurd h
+rest_refused Right head limit source old new Memory h = absurd h
+
+-- what is told where the whole text was read before
+pub finished : (first : ℕ) (f : FormulaParts) (text : List ℕ) (start old : Progress) (told : Result (Unit {0}) CertFault) → start.known.formula ≡ f → HasRead first [] start
+    → ReadsOn start text old → ((begin : ℕ) (text : List ℕ) → HasRead begin text old → UnlessMemory Memory (AreStepsRead begin old.known.formula text) told)
+    → UnlessMemory Memory (AreStepsRead first f text) told
+finished first f text start old told start_is nothing reads answers =
+    subst (λ g. UnlessMemory Memory (AreStepsRead first g text) told) (reads.formula ∙ start_is) (answers first text (reads.read first [] nothing))
 
 keeps_as : (before mid after : Option (List ℕ)) (bytes : List ℕ) → Consumes before mid bytes → Keeps mid after → Consumes before after bytes
 keeps_as None mid after bytes p q = tt

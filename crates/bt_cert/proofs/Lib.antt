@@ -2,10 +2,11 @@ pub mod Accepted
 pub mod Assumed
 pub mod AtomRows
 pub mod CertificateLines
+pub mod Defined
+pub mod DefinedFed
+pub mod Earlier
 pub mod Endings
 pub mod Feeding
-pub mod ItemLists
-pub mod Numbers
 pub mod OneAnswer
 pub mod OneJudgement
 pub mod Narrow

@@ -7,7 +7,7 @@ use Rattle.bt_cnf.specs.declared.literal.Lit.{Lit}
 use Rattle.bt_log.specs.Logs.{Step, Lemma, Learnt, clause_of}
 use Rattle.bt_log.specs.Validity.{IsValidStep, AreValid}
 use Rattle.bt_log.proofs.NegatedAtoms.{negated_below}
-use Rattle.bt_cert.specs.StepLines.{IsNumber, IsWrittenLit}
+use Rattle.bt_extend.specs.Words.{IsNumber, IsWrittenLit}
 use Rattle.bt_cert.specs.Laws.{written_lit, MayBeWritten}
 
 number : (n : ℕ) → n < 2 * 10 ^ 17 → IsNumber (n + 1)

@@ -13,7 +13,7 @@ use Rattle.bt_log.specs.Validity.{clause_at}
 use Rattle.bt_cert.specs.StepLines.{WrittenStep, Lemma, Learnt, lit_of}
 use Rattle.bt_cert.specs.inner.Judgements.{Judgement, Valid, Fails, IsWideAt, IsJudged}
 use Rattle.bt_cert.specs.Judging.{Negate, MayWeighRows, AreLearntLits, AreHints}
-use Rattle.bt_cert.specs.declared.written.WrittenLit.{WrittenLit}
+use Rattle.bt_extend.specs.declared.written.WrittenLit.{WrittenLit}
 use Rattle.bt_cert.specs.declared.fault.Cause.TheVariants as cause
 
 -- the first item or a later one

@@ -13,11 +13,13 @@ use Rattle.bt_log.specs.Logs.{Step}
 use Rattle.bt_log.specs.LogText.{words, hint_text, step_text, step_line, log_text}
 use Rattle.bt_log.specs.Refuting.{Refutes}
 use Rattle.std.specs.Fmt.{decimal}
-use Rattle.bt_cert.specs.StepLines.{WrittenStep, IsWritten, written_lit_text, written_text, lit_of, step_of}
+use Rattle.bt_extend.specs.Words.{written_lit_text}
+use Rattle.bt_cert.specs.StepLines.{WrittenStep, IsWritten, written_text, lit_of, step_of}
 use Rattle.bt_cert.specs.Judging.{IsWideNowhere}
 use Rattle.bt_cert.specs.Certificates.{SpellsLog, log_of, end_line}
 use Rattle.bt_cert.specs.Laws.{PrintedIsRead, PrintedIsCertificate, TextTellsLog, MayBeWritten, written_lit, written_step}
 use Rattle.bt_cert.proofs.CertificateLines.{end_lacks}
+use Rattle.bt_cert.proofs.Earlier.{log_is_certificate}
 use Rattle.bt_cert.proofs.Stops.{lines_lack}
 use Rattle.bt_cert.proofs.WrittenLines.{written_text_same, end_is_no_step}
 
@@ -73,12 +75,12 @@ pub printed_is_read : PrintedIsRead
 printed_is_read steps all = (spelled steps all, log_back steps)
 
 pub printed_is_certificate : PrintedIsCertificate
-printed_is_certificate f steps refutes all fits = record {
+printed_is_certificate f steps refutes all fits = log_is_certificate f (log_text steps) (record {
   steps = map written_step steps;
   spells = spelled steps all;
   refutes = subst (Refutes f) (sym (log_back steps)) refutes;
   fits = All-map (IsWideNowhere f) written_step steps fits;
-}
+})
 
 -- steps before `end` are one list
 same_to_end : (steps others : List WrittenStep) (more : List (List ℕ)) → All IsWritten steps → All IsWritten others

@@ -7,7 +7,7 @@ use Rattle.bt_cnf.specs.declared.literal.Lit.{Lit}
 use Rattle.bt_log.proofs.NegatedAtoms.{negated_below}
 use Rattle.bt_cert.specs.inner.Checking.{Checking, JudgesStep}
 use Rattle.bt_cert.specs.StepLines.{Lemma, Learnt, lit_of}
-use Rattle.bt_cert.specs.declared.written.WrittenLit.{WrittenLit}
+use Rattle.bt_extend.specs.declared.written.WrittenLit.{WrittenLit}
 use Rattle.bt_cert.specs.declared.fault.Cause.TheVariants as cause
 use Rattle.bt_cert.specs.declared.fault.StepFault.{StepFault}
 use Rattle.bt_cert.specs.declared.fault.StepFault.TheVariants as fault

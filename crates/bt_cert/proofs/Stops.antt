@@ -8,7 +8,7 @@ use Rattle.bt_cnf.specs.Formulas.{FormulaParts}
 use Rattle.bt_cert.specs.StepLines.{WrittenStep, IsWritten, written_text}
 use Rattle.bt_cert.specs.Judging.{IsAccepted}
 use Rattle.bt_cert.specs.Certificates.{AreAccepted, AreRight, ComesTo, clauses_after}
-use Rattle.bt_cert.proofs.ItemLists.{map_same}
+use Rattle.bt_extend.proofs.ItemLists.{map_same}
 use Rattle.bt_cert.proofs.Accepted.{accepted_at}
 use Rattle.bt_cert.proofs.WrittenLines.{written_text_same, written_in_line}
 

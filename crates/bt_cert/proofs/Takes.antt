@@ -16,7 +16,7 @@ pub taken_none : (p : Progress) (piece : List ℕ) → HasTaken p piece p piece
 taken_none p piece = record {
   front = [];
   piece_is = refl;
-  reads = record { formula = refl; read = λ text read. subst (λ t. HasRead t p) (sym (append-nil text)) read };
+  reads = record { formula = refl; read = λ start text read. subst (λ t. HasRead start t p) (sym (append-nil text)) read };
   lines = omega arith;
 }
 

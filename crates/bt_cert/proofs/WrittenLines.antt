@@ -10,43 +10,17 @@ use Rattle.bt_frac.specs.Ratio.{Ratio, IsLowest}
 use Rattle.bt_frac.specs.Texts.{frac_text}
 use Rattle.bt_frac.proofs.Words.{frac_text_same}
 use Rattle.bt_log.specs.LogText.{words}
-use Rattle.bt_cert.specs.StepLines.{WrittenStep, Lemma, Learnt, IsNumber, IsWrittenLit, IsWritten, written_lit_text, written_text}
-use Rattle.bt_cert.specs.declared.written.WrittenLit.{WrittenLit}
+use Rattle.bt_extend.specs.Words.{IsNumber, IsWrittenLit, written_lit_text}
+use Rattle.bt_cert.specs.StepLines.{WrittenStep, Lemma, Learnt, IsWritten, written_text}
+use Rattle.bt_extend.specs.declared.written.WrittenLit.{WrittenLit}
 use Rattle.bt_cert.specs.Certificates.{SpellsNoStep}
 use Rattle.bt_cert.specs.inner.Lines.{IsStepRead}
-use Rattle.bt_cert.specs.inner.Items.{LeadsToNone, HaveNoSpace, StopsAfter}
+use Rattle.bt_extend.specs.Items.{LeadsToNone, HaveNoSpace, StopsAfter}
 use Rattle.bt_text.proofs.Pieces.{piece_is}
-use Rattle.bt_cert.proofs.Numbers.{number_lacks, number_same, number_not_zero, lit_lacks, lit_same, lit_not_zero}
+use Rattle.bt_extend.proofs.Numbers.{number_lacks, number_same, number_not_zero, lit_lacks, lit_same, lit_not_zero}
 use Rattle.bt_frac.proofs.FracTexts.{frac_text_lacks}
-use Rattle.bt_cert.proofs.ItemLists.{words_begin, words_same, words_lack, map_same, stops_at}
-
--- texts with other first bytes are apart
-differ : (b c : ℕ) (xs ys : List ℕ) → b ≢ c → b ∷ xs ≡ c ∷ ys → ⊥
-differ b c xs ys apart e = let heads : b ≡ c = cc in apart heads
-
-lits_have_no_space : HaveNoSpace IsWrittenLit written_lit_text
-lits_have_no_space l h = lit_lacks l 32 h (omega arith) (omega arith)
-
-hints_have_no_space : HaveNoSpace IsNumber decimal
-hints_have_no_space n h = number_lacks n 32 h (omega arith)
-
-fracs_have_no_space : HaveNoSpace IsLowest frac_text
-fracs_have_no_space r h = frac_text_lacks r 32 h (omega arith) (omega arith) (omega arith)
-
-zero_lacks : Lacks 32 (48 ∷ [])
-zero_lacks = All-cons (λ b. b ≢ 32) 48 [] (λ e. omega arith) (All-nil (λ b. b ≢ 32))
-
--- no item comes next where `0` does
-zero_is_none : {A : Type 0} (P : A → Type 0) (word : A → List ℕ) → ((x : A) → P x → word x ≡ 48 ∷ [] → ⊥)
-    → (rest : List ℕ) → BeginsWith 32 rest → LeadsToNone P word (32 ∷ 48 ∷ rest)
-zero_is_none P word apart rest begins x after leads =
-    let text_is = leads.1.text_is in
-    let same : word x ++ after ≡ (48 ∷ []) ++ rest = cc in
-    apart x leads.0 (piece_is 32 (word x) after (48 ∷ []) rest leads.1.lacks zero_lacks leads.1.begins begins same).0
-
--- no item comes next where nothing does
-end_is_none : {A : Type 0} (P : A → Type 0) (word : A → List ℕ) → LeadsToNone P word []
-end_is_none P word x after leads = let text_is = leads.1.text_is in cc
+use Rattle.bt_extend.proofs.ItemLists.{words_begin, words_same, words_lack, map_same, stops_at}
+use Rattle.bt_extend.proofs.NoItems.{differ, lits_have_no_space, hints_have_no_space, fracs_have_no_space, zero_is_none, end_is_none, zero_begins}
 
 -- the line of a lemma
 pub lemma_line : (lits : List WrittenLit) (weights : List Ratio)
@@ -66,9 +40,6 @@ weights_begin (w ∷ weights) = inr (frac_text w ++ words frac_text weights, ref
 
 hints_begin : (hints : List ℕ) → BeginsWith 32 (words decimal hints ++ 32 ∷ 48 ∷ [])
 hints_begin hints = words_begin decimal hints (32 ∷ 48 ∷ []) (inr (48 ∷ [], refl))
-
-zero_begins : (rest : List ℕ) → BeginsWith 32 (32 ∷ 48 ∷ rest)
-zero_begins rest = inr (48 ∷ rest, refl)
 
 hints_end_none : LeadsToNone IsNumber decimal (32 ∷ 48 ∷ [])
 hints_end_none = zero_is_none IsNumber decimal number_not_zero [] (inl refl)

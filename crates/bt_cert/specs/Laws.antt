@@ -1,15 +1,16 @@
 -- What the text of a log tells.
 use Rattle.std.specs.Prelude.{◌≡◌, ℕ, ◌+◌, List, All, map}
-use Rattle.bt_cnf.specs.Formulas.{FormulaParts}
+use Rattle.bt_cnf.specs.Formulas.{FormulaParts, IsFormula}
 use Rattle.bt_cnf.specs.declared.literal.Lit.{Lit}
 use Rattle.bt_log.specs.Logs as log
 use Rattle.bt_log.specs.Logs.{Step}
 use Rattle.bt_log.specs.LogText.{log_text}
+use Rattle.bt_log.specs.Laws.{IsUnmet}
 use Rattle.bt_log.specs.Refuting.{Refutes}
-use Rattle.bt_cert.specs.declared.written.WrittenLit.{WrittenLit}
+use Rattle.bt_extend.specs.declared.written.WrittenLit.{WrittenLit}
 use Rattle.bt_cert.specs.StepLines.{WrittenStep, Lemma, Learnt, IsWritten}
 use Rattle.bt_cert.specs.Judging.{IsWideNowhere}
-use Rattle.bt_cert.specs.Certificates.{IsCertificate, SpellsLog, log_of}
+use Rattle.bt_cert.specs.Certificates.{IsCertificate, SpellsLog, SpellsRefutation, log_of}
 
 -- a literal as it is written: variables are numbered from 1 on in a text
 abbrev pub written_lit : Lit → WrittenLit
@@ -38,3 +39,11 @@ TextTellsLog = (text : List ℕ) (steps others : List WrittenStep) → SpellsLog
 abbrev pub PrintedIsCertificate : Type 0
 PrintedIsCertificate = (f : FormulaParts) (steps : List Step) → Refutes f steps → All MayBeWritten steps
     → All (λ step. IsWideNowhere f (written_step step)) steps → IsCertificate f (log_text steps)
+
+-- a text that spells a log which refutes the formula itself is a certificate that defines nothing
+abbrev pub LogIsCertificate : Type 0
+LogIsCertificate = (f : FormulaParts) (text : List ℕ) → SpellsRefutation f text → IsCertificate f text
+
+-- where a text is a certificate, whatever it defines, nothing meets the formula
+abbrev pub CertificateShowsUnmet : Type 0
+CertificateShowsUnmet = (f : FormulaParts) (text : List ℕ) → IsFormula f → IsCertificate f text → IsUnmet f

@@ -1,5 +1,5 @@
 -- Step lines: how a step is written.
-use Rattle.std.specs.Prelude.{ℕ, ◌-◌, ◌<◌, ◌^◌, List, ◌∷◌, ◌++◌, All, map, codes, cond}
+use Rattle.std.specs.Prelude.{ℕ, ◌-◌, List, ◌++◌, All, map, codes}
 use Rattle.std.specs.Fmt.{decimal}
 use Rattle.bt_frac.specs.Ratio.{Ratio, IsLowest}
 use Rattle.bt_frac.specs.Texts.{frac_text}
@@ -7,30 +7,18 @@ use Rattle.bt_cnf.specs.declared.literal.Lit.{Lit}
 use Rattle.bt_log.specs.Logs.{Step, clause_of}
 use Rattle.bt_log.specs.Logs as log
 use Rattle.bt_log.specs.LogText.{words}
-use Rattle.bt_cert.specs.declared.written.WrittenLit.{WrittenLit}
+use Rattle.bt_extend.specs.Words.{IsNumber, IsWrittenLit, written_lit_text}
+use Rattle.bt_extend.specs.declared.written.WrittenLit.{WrittenLit}
 
 -- a lemma has literals and weights; a learnt clause has literals and hints, the numbers of clauses from 1 on
 pub data WrittenStep : Type 0 where
   Lemma : List WrittenLit → List Ratio → WrittenStep
   Learnt : List WrittenLit → List ℕ → WrittenStep
 
--- the number of a variable or of a clause: it isn't 0, and has at most 18 digits
-pub record IsNumber (n : ℕ) : Type 0 where
-  pub positive : 0 < n
-  pub short : n < 10 ^ 18
-
--- the literal may be written
-abbrev pub IsWrittenLit : WrittenLit → Type 0
-IsWrittenLit l = IsNumber l.number
-
 -- the step may be written: its numbers are such, and its weights are in lowest terms
 abbrev pub IsWritten : WrittenStep → Type 0
 IsWritten (Lemma lits weights) = All IsWrittenLit lits × All IsLowest weights
 IsWritten (Learnt lits hints) = All IsWrittenLit lits × All IsNumber hints
-
--- a written literal: the number of its variable, with a minus where it is negative
-abbrev pub written_lit_text : WrittenLit → List ℕ
-written_lit_text l = cond l.positive (decimal l.number) (45 ∷ decimal l.number)
 
 -- the line of a written step: `f`, the literals, 0, and the weights; or `r`, the literals, 0, the hints, and 0
 abbrev pub written_text : WrittenStep → List ℕ

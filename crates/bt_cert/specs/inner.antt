@@ -1,8 +1,8 @@
 -- Definitions that private functions alone cite.
 pub mod Assuming
 pub mod Checking
+pub mod Defining
 pub mod Feeding
-pub mod Items
 pub mod Judgements
 pub mod Knowing
 pub mod Lines

@@ -5,7 +5,7 @@ ghost use Rattle.std.specs.Prelude.{◌≡◌, ℕ, ◌+◌, ◌<◌, ◌≤◌,
 ghost use Rattle.bt_answers.specs.Answers.{UnlessMemory};
 ghost use Rattle.bt_text.specs.Lines.{Lacks};
 ghost use Rattle.bt_cnf.specs.Formulas.{IsFormula};
-ghost use Rattle.bt_cert.specs.Certificates.{IsCertRead};
+ghost use Rattle.bt_cert.specs.Certificates.{AreStepsRead};
 ghost use Rattle.bt_cert.specs.inner.Checking.{start_of};
 ghost use Rattle.bt_cert.specs.declared.fault.CertFault.TheVariants.{Memory};
 ghost use Rattle.bt_cert.specs.declared.stage.Stage.TheVariants.{Steps, Blanks};
@@ -55,18 +55,18 @@ impl<'a> Model for Reading<'a> {
 }
 
 impl<'a> Reading<'a> {
-    /// A certificate for a formula of which no byte was read.
-    pub fn new(alloc: Global, formula: &'a Formula) -> Result<Reading<'a>, AllocError>
+    /// A certificate for a formula of which no byte was read, and whose first line has this number.
+    pub fn new(alloc: Global, formula: &'a Formula, first: usize) -> Result<Reading<'a>, AllocError>
         ensures formula { IfOk result (λ r. r.known.formula ≡ formula.now) }
-        ensures line { IfOk result (λ r. r.line ≡ FIRST_LINE) }
-        ensures read { IfOk result (HasRead []) }
+        ensures line { IfOk result (λ r. r.line ≡ first) }
+        ensures read { IfOk result (HasRead first []) }
         ensures known { IfOk result (λ _. IsFormula formula.now) }
     {
         Ok(Reading {
             checker: Checker::new(alloc, formula)?,
             step: StepLine::new(alloc),
             part: Vec::new(alloc),
-            line: FIRST_LINE,
+            line: first,
             is_refuted: false,
             stage: Stage::Steps,
         })
@@ -95,8 +95,8 @@ impl<'a> Reading<'a> {
     /// The answer to all that was read, which goes no further.
     pub fn finish(mut self) -> Result<(), CertFault>
         requires { self.line + 1 < 2 ^ 64 }
-        ensures { (text : List ℕ) → HasRead text self.entry →
-            UnlessMemory Memory (IsCertRead self.entry.known.formula text) result }
+        ensures { (start : ℕ) (text : List ℕ) → HasRead start text self.entry →
+            UnlessMemory Memory (AreStepsRead start self.entry.known.formula text) result }
     {
         self.take_last_line();
         self.answer()
@@ -160,7 +160,8 @@ impl<'a> Reading<'a> {
     /// Reads the last line of the text, where it lacks its line feed.
     fn take_last_line(&mut self)
         requires { self.old.line + 1 < 2 ^ 64 }
-        ensures { (text : List ℕ) → HasRead text self.old → IsEnded self.old.known.formula text self.new }
+        ensures { (start : ℕ) (text : List ℕ) → HasRead start text self.old →
+            IsEnded start self.old.known.formula text self.new }
     {
         if self.reads_steps() {
             self.take_part();
@@ -171,7 +172,8 @@ impl<'a> Reading<'a> {
     fn take_part(&mut self)
         requires stage { self.old.stage ≡ Steps }
         requires room { self.old.line + 1 < 2 ^ 64 }
-        ensures { (text : List ℕ) → HasRead text self.old → IsEnded self.old.known.formula text self.new }
+        ensures { (start : ℕ) (text : List ℕ) → HasRead start text self.old →
+            IsEnded start self.old.known.formula text self.new }
     {
         if self.has_no_part() {
             return;

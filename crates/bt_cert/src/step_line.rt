@@ -4,8 +4,8 @@ ghost use Rattle.bt_cert.specs.StepLines.{Lemma, IsWritten};
 ghost use Rattle.bt_cert.specs.inner.Lines.{IsStepRead};
 ghost use Rattle.bt_cert.specs.inner.Views.{written_of};
 
-use crate::items::read_items;
-use crate::written::{StepKind, WrittenLit, WrittenView};
+use crate::written::{StepKind, WrittenView};
+use bt_extend::{WrittenLit, read_items};
 use bt_frac::Frac;
 use bt_text::after_word;
 use std::alloc::{AllocError, Global};

@@ -9,8 +9,8 @@ ghost use Rattle.bt_cert.specs.inner.Refuting.{IsSound, IsPropagated, IsRefuted,
 
 use crate::assumptions::{Assumptions, Standing};
 use crate::clause_database::ClauseDatabase;
-use crate::written::place_of;
 use bt_cnf::Lit;
+use bt_extend::place_of;
 use std::alloc::AllocError;
 
 /// Whether each hint is the number of a known clause.

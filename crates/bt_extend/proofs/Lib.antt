@@ -1,6 +1,14 @@
 pub mod Added
 pub mod ColumnValues
 pub mod Conservative
+pub mod DefinitionTexts
+pub mod FormTexts
 pub mod Formed
+pub mod InLine
+pub mod ItemLists
+pub mod NoItems
+pub mod Numbers
+pub mod OneDefinition
 pub mod Opposites
 pub mod SameOn
+pub mod TermWords

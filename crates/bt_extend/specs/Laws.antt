@@ -1,5 +1,5 @@
 -- That definitions never make a formula false.
-use Rattle.std.specs.Prelude.{◌≡◌, ◌↔◌, ℕ, ◌<◌, Bool, List}
+use Rattle.std.specs.Prelude.{◌≡◌, ◌↔◌, ℕ, ◌<◌, Bool, List, Option, Some}
 use Rattle.bt_frac.specs.Ratio.{Ratio}
 use Rattle.bt_frac.specs.Values.{AreValues}
 use Rattle.bt_cnf.specs.Formulas.{FormulaParts, IsFormula}
@@ -9,6 +9,7 @@ use Rattle.bt_log.specs.Logs.{Step}
 use Rattle.bt_log.specs.Refuting.{Refutes}
 use Rattle.bt_extend.specs.Definitions.{columns_of}
 use Rattle.bt_extend.specs.Extending.{extended, AreDefinitions}
+use Rattle.bt_extend.specs.Texts.{definition_text, MayBeWritten, IsDefinitionRead}
 use Rattle.bt_extend.specs.declared.definition.Definition.{Definition}
 
 -- two assignments with values are the same on the variables and the columns of a formula
@@ -51,3 +52,7 @@ ExtendedIsFormula = (f : FormulaParts) (ds : List Definition) → IsFormula f �
 abbrev pub RefutedExtensionIsUnmet : Type 0
 RefutedExtensionIsUnmet = (f : FormulaParts) (ds : List Definition) (steps : List Step) → IsFormula f → AreDefinitions f ds
     → Refutes (extended f ds) steps → IsUnmet f
+
+-- what is written of a definition, without the line feed, is read as that definition
+abbrev pub PrintedDefinitionIsRead : Type 0
+PrintedDefinitionIsRead = (d : Definition) → MayBeWritten d → (read : Option Definition) → IsDefinitionRead (definition_text d) read → read ≡ Some d

@@ -1,3 +1,4 @@
 -- What the contracts of private functions cite.
 pub mod Adding
 pub mod Terms
+pub mod Told

@@ -1,6 +1,6 @@
 //! Laws of definitions, as the contracts of functions that do nothing.
 ghost use Rattle.bt_extend.specs.Laws.{MeetingGoesOn, CutMeets, DefinitionsAreConservative, ExtendedIsFormula};
-ghost use Rattle.bt_extend.specs.Laws.{RefutedExtensionIsUnmet};
+ghost use Rattle.bt_extend.specs.Laws.{RefutedExtensionIsUnmet, PrintedDefinitionIsRead};
 
 /// What meets a formula goes on to meet the formula that definitions extend. The values are any fractions,
 /// also such as leave 128 bits.
@@ -26,4 +26,9 @@ pub fn extended_is_formula()
 /// Where a log, whoever wrote it, refutes the formula that definitions extend, nothing meets the formula.
 pub fn refuted_extension_is_unmet()
     ensures { RefutedExtensionIsUnmet }
+{}
+
+/// What is written of a definition is read as that definition, and as no other.
+pub fn printed_definition_is_read()
+    ensures { PrintedDefinitionIsRead }
 {}

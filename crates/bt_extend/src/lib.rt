@@ -4,13 +4,21 @@
 mod definition;
 mod extension;
 mod form;
+mod item;
+mod items;
 mod law;
+mod reading;
+mod written;
 
 pub use definition::{Definition, Literals, NamedLit, is_definition};
 pub use extension::extend;
 pub use form::Form;
+pub use item::Item;
+pub use items::{next_item, read_items};
 pub use law::{
     cut_meets, definitions_are_conservative, extended_is_formula, meeting_goes_on,
-    refuted_extension_is_unmet,
+    printed_definition_is_read, refuted_extension_is_unmet,
 };
+pub use reading::read_definition;
 pub use std::alloc::AllocError as Memory;
+pub use written::{MOST_NUMBER, WrittenLit, place_of};

@@ -10,6 +10,7 @@ use Rattle.bt_flow.specs.Steady.{IsSteady}
 use Rattle.bt_flow.specs.declared.property.Property.{Property}
 use Rattle.bt_flow.specs.Properties.{IsAdmissible, Breaks, Holds}
 use Rattle.bt_cnf.specs.Meeting.{Meets}
+use Rattle.bt_log.specs.Laws.{IsUnmet}
 use Rattle.bt_log.specs.Logs.{Step}
 use Rattle.bt_log.specs.Refuting.{Refutes}
 use Rattle.bt_fenc.specs.declared.state_literal.Pair.{Pair}
@@ -60,7 +61,11 @@ abbrev pub BreakingMeets : Type 0
 BreakingMeets = (n : Network) (p : Property) (s : Flows) → IsNetwork n → Breaks n p s
     → AreValues (values_of s) × IsMetWith (variable_of n) (length n.edges) (flow_clauses n p) (backed_at s) (values_of s)
 
--- where a log refutes the flow formula of a network and a property, the network has the property
+-- where nothing meets the flow formula of a network and a property, the network has the property
+abbrev pub UnmetHolds : Type 0
+UnmetHolds = (n : Network) (p : Property) → IsNetwork n → IsUnmet (flow_formula n p) → Holds n p
+
+-- so it has where a log refutes the formula
 abbrev pub RefutedHolds : Type 0
 RefutedHolds =
     (n : Network) (p : Property) (steps : List Step) → IsNetwork n → Refutes (flow_formula n p) steps → Holds n p

@@ -1,6 +1,6 @@
 //! Laws of the flow formula, as contracts of functions that do nothing.
 ghost use Rattle.bt_fenc.specs.EvenFormula.{FlowFormulaIsEven};
-ghost use Rattle.bt_fenc.specs.Laws.{TrueClaimsMeet, SteadyMeets, BreakingMeets, RefutedHolds};
+ghost use Rattle.bt_fenc.specs.Laws.{TrueClaimsMeet, SteadyMeets, BreakingMeets, UnmetHolds, RefutedHolds};
 ghost use Rattle.bt_fenc.specs.Solutions.{MeetingBreaks, MeetingIsSteady};
 ghost use Rattle.bt_fenc.specs.Sizes.{FlowFormulasAreSmall, SteadyFormulasAreSmall};
 
@@ -26,6 +26,12 @@ pub fn breaking_meets()
 /// a property breaks the property. So the formula is met by nothing but such states.
 pub fn meeting_breaks()
     ensures { MeetingBreaks }
+{}
+
+/// Where nothing meets the flow formula of a network and a property, no state breaks the property: the
+/// network has it.
+pub fn unmet_holds()
+    ensures { UnmetHolds }
 {}
 
 /// Where a log, whoever wrote it, refutes the flow formula of a network and a property, no state breaks the

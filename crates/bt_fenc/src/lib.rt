@@ -20,6 +20,7 @@ pub use ends::output_edge;
 pub use law::{
     breaking_meets, flow_formula_is_even, flow_formulas_are_small, meeting_breaks,
     meeting_is_steady, refuted_holds, steady_formulas_are_small, steady_meets, true_claims_meet,
+    unmet_holds,
 };
 pub use rows::above;
 pub use solution::state_of;

@@ -1,6 +1,7 @@
 -- What logs that refute a placement formula show, and what is written of layouts.
 use Rattle.std.specs.Prelude.{◌<◌, ◌^◌, List, length}
 use Rattle.bt_parts.specs.declared.part.Part.{Part}
+use Rattle.bt_log.specs.Laws.{IsUnmet}
 use Rattle.bt_log.specs.Logs.{Step}
 use Rattle.bt_log.specs.LogText.{log_text}
 use Rattle.bt_log.specs.Refuting.{Refutes}
@@ -12,7 +13,11 @@ use Rattle.bt_place.specs.PlaceFormula.{place_formula}
 use Rattle.bt_theory.specs.Outcomes.{IsRefutation}
 use Rattle.bt_layout.specs.Layouts.{HasNoLayout}
 
--- where a log refutes the placement formula of a request, no parts lay the request
+-- where nothing meets the placement formula of a request, no parts lay the request
+abbrev pub UnmetHasNoLayout : Type 0
+UnmetHasNoLayout = (r : LayoutRequest) → IsRequest r → IsUnmet (place_formula r) → HasNoLayout r
+
+-- so none do where a log refutes it
 abbrev pub RefutedHasNoLayout : Type 0
 RefutedHasNoLayout = (r : LayoutRequest) (steps : List Step) → IsRequest r → Refutes (place_formula r) steps → HasNoLayout r
 

@@ -1,6 +1,11 @@
 //! Laws of layouts and of least grids, as the contracts of functions that do nothing.
-ghost use Rattle.bt_layout.specs.Laws.{RefutedHasNoLayout, NowhereIsCertificate, LaidIsReadBack};
+ghost use Rattle.bt_layout.specs.Laws.{UnmetHasNoLayout, RefutedHasNoLayout, NowhereIsCertificate, LaidIsReadBack};
 ghost use Rattle.bt_layout.specs.Smallest.{PassedHasNoLayout};
+
+/// Where nothing meets the placement formula of a request, no parts lay the request.
+pub fn unmet_has_no_layout()
+    ensures { UnmetHasNoLayout }
+{}
 
 /// Where a log refutes the placement formula of a request, whoever wrote it, no parts lay the request.
 pub fn refuted_has_no_layout()

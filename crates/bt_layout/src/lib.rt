@@ -17,6 +17,7 @@ mod small;
 pub use early::lay_early;
 pub use law::{
     laid_is_read_back, nowhere_is_certificate, passed_has_no_layout, refuted_has_no_layout,
+    unmet_has_no_layout,
 };
 pub use least::smallest;
 pub use order::grids;

@@ -6,6 +6,7 @@ use Rattle.bt_net.specs.Network.{Network, IsNetwork}
 use Rattle.bt_flow.specs.States.{Flows, backed_at}
 use Rattle.bt_cnf.specs.Formulas.{IsFormula}
 use Rattle.bt_cnf.specs.Meeting.{Meets}
+use Rattle.bt_log.specs.Laws.{IsUnmet}
 use Rattle.bt_log.specs.Logs.{Step}
 use Rattle.bt_log.specs.Refuting.{Refutes}
 use Rattle.bt_fenc.specs.Laws.{values_of}
@@ -42,7 +43,11 @@ MeetingShows = (a b : Network) (assignment : ℕ → Bool) (values : ℕ → Rat
 abbrev pub SameExactly : Type 0
 SameExactly = (a b : Network) → AreSame a b ↔ ((s t : Flows) → ShowsDifference a b s t → ⊥)
 
--- where a log refutes the formula of two networks, they behave the same
+-- where nothing meets the formula of two networks, they behave the same
+abbrev pub UnmetAreSame : Type 0
+UnmetAreSame = (a b : Network) → IsNetwork a → IsNetwork b → HaveEqualEnds a b → IsUnmet (same_formula a b) → AreSame a b
+
+-- so they do where a log refutes it
 abbrev pub RefutedAreSame : Type 0
 RefutedAreSame = (a b : Network) (steps : List Step) → IsNetwork a → IsNetwork b → HaveEqualEnds a b → IsFormula (same_formula a b)
     → Refutes (same_formula a b) steps → AreSame a b

@@ -1,6 +1,6 @@
 //! Laws of the formula of two networks, as contracts of functions that do nothing.
 ghost use Rattle.std.specs.Prelude.{◌≡◌};
-ghost use Rattle.bt_same.specs.Laws.{ShowingMeets, MeetingShows, SameExactly, RefutedAreSame};
+ghost use Rattle.bt_same.specs.Laws.{ShowingMeets, MeetingShows, SameExactly, UnmetAreSame, RefutedAreSame};
 ghost use Rattle.bt_same.specs.Judging.{ShownPairHolds};
 ghost use Rattle.bt_same.specs.PairReading.{PrintedPairIsRead, ShownPairIsRead};
 ghost use Rattle.bt_same.specs.Sizes.{SameFormulasAreFormulas, SameFormulasAreSmall};
@@ -26,6 +26,11 @@ pub fn meeting_shows()
 /// Two networks behave the same exactly where no pair of states shows a difference.
 pub fn same_exactly()
     ensures { SameExactly }
+{}
+
+/// Where nothing meets the formula of two networks, no pair shows a difference: they behave the same.
+pub fn unmet_are_same()
+    ensures { UnmetAreSame }
 {}
 
 /// Where a log, whoever wrote it, refutes the formula of two networks, no pair shows a difference: they behave the same.

@@ -20,7 +20,7 @@ pub use judge::differs;
 pub use law::{
     limits_are, meeting_shows, printed_pair_is_read, refuted_are_same, same_exactly,
     same_formulas_are_formulas, same_formulas_are_small, showing_meets, shown_pair_holds,
-    shown_pair_is_read,
+    shown_pair_is_read, unmet_are_same,
 };
 pub use pair::{Pair, PairJudgement, PairWide, Which};
 pub use printing::print_pair;

@@ -8,11 +8,13 @@ use Rattle.bt_net.specs.Network.{Network, IsNetwork}
 use Rattle.bt_flow.specs.declared.property.Property.{Property}
 use Rattle.bt_flow.specs.Properties.{Holds}
 use Rattle.bt_fenc.specs.FlowFormula.{flow_formula}
-use Rattle.bt_fenc.proofs.Refuted.{refuted_holds}
+use Rattle.bt_fenc.proofs.Formulas.{is_formula}
+use Rattle.bt_fenc.proofs.Refuted.{unmet_holds}
 use Rattle.bt_cert.specs.declared.fault.CertFault.{CertFault}
 use Rattle.bt_cert.specs.declared.fault.CertFault.TheVariants.{CertLine, BadStep, NoVerdict, CertWide, ReadFault, TooLong, Memory}
 use Rattle.bt_cert.specs.Certificates.{IsCertRead}
 use Rattle.bt_cert.specs.Readings.{AnswersWhole, IsLogChecked}
+use Rattle.bt_cert.proofs.OneAnswer.{certificate_shows_unmet}
 use Rattle.bt_top.specs.declared.answer.Answer.TheVariants as answer
 use Rattle.bt_top.specs.Replies.{Reply}
 use Rattle.bt_top.specs.Certificates.{cert_told, IsYesChecked}
@@ -46,7 +48,7 @@ log_told f lines source (Err Memory) is before after h = inr refl
 -- a certificate that is one shows that the network has the property
 pub yes_told : (n : Network) (p : Property) (lines : List ℕ) → IsNetwork n → IsCertRead (flow_formula n p) lines (Ok tt)
     → IsYesChecked n p lines (Ok (answer.Yes p))
-yes_told n p lines net h = went_on tt h (refuted_holds n p _ net h.refutes, refl)
+yes_told n p lines net h = went_on tt h (unmet_holds n p net (certificate_shows_unmet (flow_formula n p) lines (is_formula n p net) h), refl)
 
 -- and else the first line for which it is none is told
 pub fault_told : (n : Network) (p : Property) (lines : List ℕ) (fault : CertFault) (reply : Reply)

@@ -10,11 +10,13 @@ use Rattle.bt_answers.specs.Answers.{UnlessMemory}
 use Rattle.bt_cert.specs.declared.fault.CertFault.{CertFault}
 use Rattle.bt_cert.specs.declared.fault.CertFault.TheVariants.{Memory}
 use Rattle.bt_cert.specs.Certificates.{IsCertRead}
+use Rattle.bt_cert.proofs.OneAnswer.{certificate_shows_unmet}
 use Rattle.bt_model.specs.Requests.{LayoutRequest, IsRequest}
 use Rattle.bt_place.specs.PlaceFormula.{place_formula}
 use Rattle.bt_layout.specs.Layouts.{HasNoLayout}
 use Rattle.bt_layout.proofs.Certified.{nowhere_is_certificate}
-use Rattle.bt_layout.proofs.Refuted.{refuted_has_no_layout}
+use Rattle.bt_layout.proofs.Formulas.{place_is_formula}
+use Rattle.bt_layout.proofs.Refuted.{unmet_has_no_layout}
 use Rattle.bt_top.specs.declared.answer.Answer.TheVariants as answer
 use Rattle.bt_top.specs.Replies.{Reply}
 use Rattle.bt_top.specs.Certificates.{cert_told}
@@ -25,7 +27,7 @@ use Rattle.bt_top.proofs.InTurns.{stops}
 
 -- a certificate that is one shows that no parts lay the request
 pub none_told : (r : LayoutRequest) (lines : List ℕ) → IsRequest r → IsCertRead (place_formula r) lines (Ok tt) → IsNoneChecked r lines (Ok answer.NoLayout)
-none_told r lines is h = went_on tt h (refuted_has_no_layout r _ is h.refutes, refl)
+none_told r lines is h = went_on tt h (unmet_has_no_layout r is (certificate_shows_unmet (place_formula r) lines (place_is_formula r is) h), refl)
 
 -- and else the first line for which it is none is told
 pub none_fault_told : (r : LayoutRequest) (lines : List ℕ) (fault : CertFault) (reply : Reply)

@@ -6,7 +6,7 @@ use Rattle.bt_net.specs.Network.{Network, IsNetwork}
 use Rattle.bt_cert.specs.declared.fault.CertFault.{CertFault}
 use Rattle.bt_cert.specs.declared.fault.CertFault.TheVariants.{Memory}
 use Rattle.bt_cert.specs.Certificates.{IsCertRead}
-use Rattle.bt_cert.proofs.OneAnswer.{one_answer}
+use Rattle.bt_cert.proofs.OneAnswer.{certificate_shows_unmet, one_answer}
 use Rattle.bt_same.specs.declared.pair.Pair.{Pair}
 use Rattle.bt_same.specs.PairReading.{IsPairRead}
 use Rattle.bt_same.specs.SameFormula.{same_formula}
@@ -14,7 +14,7 @@ use Rattle.bt_same.specs.Sameness.{HaveEqualEnds, AreSame}
 use Rattle.bt_same.proofs.Formed.{formed}
 use Rattle.bt_same.proofs.Judged.{one_pair_answer}
 use Rattle.bt_same.proofs.PairTexts.{one_pair_read}
-use Rattle.bt_same.proofs.Refuted.{refuted_are_same}
+use Rattle.bt_same.proofs.Refuted.{unmet_are_same}
 use Rattle.bt_top.specs.declared.answer.Answer.TheVariants as answer
 use Rattle.bt_top.specs.Certificates.{cert_told}
 use Rattle.bt_top.specs.Replies.{Reply, design_told}
@@ -62,7 +62,7 @@ one_same_certified bytes =
 -- a certificate that is one shows that the networks behave the same
 pub same_shown : (a b : Network) (lines : List ℕ) → IsNetwork a → IsNetwork b → HaveEqualEnds a b → IsCertRead (same_formula a b) lines (Ok tt)
     → IsSameChecked (a, b) lines (Ok answer.ShownSame)
-same_shown a b lines first second ends h = went_on tt h (refuted_are_same a b _ first second ends (formed a b first second) h.refutes, refl)
+same_shown a b lines first second ends h = went_on tt h (unmet_are_same a b first second ends (certificate_shows_unmet (same_formula a b) lines (formed a b first second) h), refl)
 
 -- and else the first line for which it is none is told
 pub same_fault_told : (a b : Network) (lines : List ℕ) (fault : CertFault) (reply : Reply)

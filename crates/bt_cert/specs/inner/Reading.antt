@@ -3,7 +3,7 @@ use Rattle.std.specs.Prelude.{◌≡◌, ℕ, Bool, true, false, List, length, m
 use Rattle.bt_cnf.specs.Formulas.{LitsBelow}
 use Rattle.bt_cnf.specs.declared.literal.Lit.{Lit}
 use Rattle.bt_cert.specs.StepLines.{lit_of}
-use Rattle.bt_cert.specs.declared.written.WrittenLit.{WrittenLit}
+use Rattle.bt_extend.specs.declared.written.WrittenLit.{WrittenLit}
 use Rattle.bt_cert.specs.inner.Assuming.{AreUnset}
 
 -- these are the literals that are written, of so many variables; or one is of no variable

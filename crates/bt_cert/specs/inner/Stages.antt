@@ -7,7 +7,7 @@ use Rattle.bt_text.specs.Blanks.{IsBlank}
 use Rattle.bt_text.specs.Lines.{Lacks, line, line_feeds}
 use Rattle.bt_log.specs.Refuting.{EndsEmpty}
 use Rattle.bt_cert.specs.StepLines.{WrittenStep, written_text}
-use Rattle.bt_cert.specs.Certificates.{AreRight, IsCertRead, clauses_after, line_after, log_of, end_line}
+use Rattle.bt_cert.specs.Certificates.{AreRight, AreStepsRead, clauses_after, line_after, log_of, end_line}
 use Rattle.bt_cert.specs.inner.Checking.{Checking}
 use Rattle.bt_cert.specs.declared.fault.StepFault.{StepFault}
 use Rattle.bt_cert.specs.declared.fault.StepFault.TheVariants as step_fault
@@ -31,54 +31,54 @@ pub record Progress : Type 0 where
 abbrev pub step_lines : List WrittenStep → List ℕ
 step_lines steps = flat_map line (map written_text steps)
 
--- what was read is lines of valid steps, and the bytes of a line that goes on
-pub record StandsAfterSteps (text : List ℕ) (p : Progress) : Type 0 where
+-- what was read is lines of valid steps, the first of them with this number, and the bytes of a line that goes on
+pub record StandsAfterSteps (start : ℕ) (text : List ℕ) (p : Progress) : Type 0 where
   pub steps : List WrittenStep
   pub right : AreRight p.known.formula steps
   pub clauses : p.known.clauses ≡ clauses_after p.known.formula steps
   pub text_is : text ≡ step_lines steps ++ p.part
   pub goes_on : Lacks 10 p.part
-  pub number : p.line ≡ line_after steps
+  pub number : p.line ≡ line_after start steps
   pub refuted : IsTrue p.is_refuted ↔ EndsEmpty (log_of steps)
 
 -- what was read is lines of valid steps, of which the last adds the empty clause, the line `end`, and blanks
-pub record StandsAfterEnd (text : List ℕ) (p : Progress) : Type 0 where
+pub record StandsAfterEnd (start : ℕ) (text : List ℕ) (p : Progress) : Type 0 where
   pub steps : List WrittenStep
   pub right : AreRight p.known.formula steps
   pub ends : EndsEmpty (log_of steps)
   pub blanks : List ℕ
   pub are_blanks : All IsBlank blanks
   pub text_is : text ≡ step_lines steps ++ line end_line ++ blanks
-  pub number : p.line ≡ line_after steps + 1 + line_feeds blanks
+  pub number : p.line ≡ line_after start steps + 1 + line_feeds blanks
 
 -- a text that goes on in whatever way has this fault
-abbrev pub HasFault : Progress → List ℕ → CertFault → Type 0
-HasFault p text fault = (more : List ℕ) → IsCertRead p.known.formula (text ++ more) (Err fault)
+abbrev pub HasFault : ℕ → Progress → List ℕ → CertFault → Type 0
+HasFault start p text fault = (more : List ℕ) → AreStepsRead start p.known.formula (text ++ more) (Err fault)
 
 -- this fault was found, and nothing is said of want of memory
-abbrev pub IsRefused : Progress → List ℕ → CertFault → Type 0
-IsRefused p text (CertLine line) = HasFault p text (CertLine line)
-IsRefused p text (BadStep line cause) = HasFault p text (BadStep line cause)
-IsRefused p text NoVerdict = HasFault p text NoVerdict
-IsRefused p text (CertWide line row column) = HasFault p text (CertWide line row column)
-IsRefused p text ReadFault = ⊥
-IsRefused p text TooLong = ⊥
-IsRefused p text Memory = ⊤
+abbrev pub IsRefused : ℕ → Progress → List ℕ → CertFault → Type 0
+IsRefused start p text (CertLine line) = HasFault start p text (CertLine line)
+IsRefused start p text (BadStep line cause) = HasFault start p text (BadStep line cause)
+IsRefused start p text NoVerdict = HasFault start p text NoVerdict
+IsRefused start p text (CertWide line row column) = HasFault start p text (CertWide line row column)
+IsRefused start p text ReadFault = ⊥
+IsRefused start p text TooLong = ⊥
+IsRefused start p text Memory = ⊤
 
 -- what was read at a stage
-abbrev pub IsAtStage : List ℕ → Progress → Stage → Type 0
-IsAtStage text p Steps = StandsAfterSteps text p
-IsAtStage text p Blanks = StandsAfterEnd text p
-IsAtStage text p (Refused fault) = IsRefused p text fault
+abbrev pub IsAtStage : ℕ → List ℕ → Progress → Stage → Type 0
+IsAtStage start text p Steps = StandsAfterSteps start text p
+IsAtStage start text p Blanks = StandsAfterEnd start text p
+IsAtStage start text p (Refused fault) = IsRefused start p text fault
 
 -- this text was read
-abbrev pub HasRead : List ℕ → Progress → Type 0
-HasRead text p = IsAtStage text p p.stage
+abbrev pub HasRead : ℕ → List ℕ → Progress → Type 0
+HasRead start text p = IsAtStage start text p p.stage
 
 -- the formula stays, and after each text that was read this text was read too
 pub record ReadsOn (old : Progress) (text : List ℕ) (new : Progress) : Type 0 where
   pub formula : new.known.formula ≡ old.known.formula
-  pub read : (before : List ℕ) → HasRead before old → HasRead (before ++ text) new
+  pub read : (start : ℕ) (before : List ℕ) → HasRead start before old → HasRead start (before ++ text) new
 
 -- the fault of a certificate whose step on this line has a fault
 abbrev pub fault_on : ℕ → StepFault → CertFault
@@ -105,5 +105,5 @@ answer_at line Blanks = Ok tt
 answer_at line (Refused fault) = Err fault
 
 -- the answer at this stage is the right one to the text
-abbrev pub IsEnded : FormulaParts → List ℕ → Progress → Type 0
-IsEnded f text p = UnlessMemory Memory (IsCertRead f text) (answer_at p.line p.stage)
+abbrev pub IsEnded : ℕ → FormulaParts → List ℕ → Progress → Type 0
+IsEnded start f text p = UnlessMemory Memory (AreStepsRead start f text) (answer_at p.line p.stage)

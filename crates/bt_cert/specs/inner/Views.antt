@@ -2,10 +2,11 @@
 use Rattle.std.specs.Prelude.{ℕ, List, All}
 use Rattle.bt_frac.specs.Ratio.{Ratio, IsLowest}
 use Rattle.bt_cert.specs.StepLines as step
-use Rattle.bt_cert.specs.StepLines.{WrittenStep, IsNumber, IsWrittenLit}
+use Rattle.bt_extend.specs.Words.{IsNumber, IsWrittenLit}
+use Rattle.bt_cert.specs.StepLines.{WrittenStep}
 use Rattle.bt_cert.specs.declared.written.StepKind.{StepKind}
 use Rattle.bt_cert.specs.declared.written.StepKind.TheVariants as kind
-use Rattle.bt_cert.specs.declared.written.WrittenLit.{WrittenLit}
+use Rattle.bt_extend.specs.declared.written.WrittenLit.{WrittenLit}
 use Rattle.bt_cert.specs.declared.written.WrittenView.{WrittenView}
 use Rattle.bt_cert.specs.declared.written.WrittenView.TheVariants.{Lemma, Learnt}
 

@@ -16,7 +16,7 @@ fn three_clauses(alloc: Global) -> Result<Formula, AllocError> {
 // What is answered to a head and a source that gives at most so many bytes a call.
 fn answer(
     alloc: Global,
-    formula: &Formula,
+    formula: &mut Formula,
     head: &[u8],
     bytes: &[u8],
     most: usize,
@@ -106,7 +106,7 @@ fn is_told(told: &Result<(), CertFault>, line: usize, name: &str) -> bool {
 }
 
 // Whether the text of a row is answered as it says, whatever number of bytes the source gives a call.
-pub fn is_answered(alloc: Global, formula: &Formula, row: &str) -> Result<bool, AllocError> {
+pub fn is_answered(alloc: Global, formula: &mut Formula, row: &str) -> Result<bool, AllocError> {
     let [text, line, name, ..] = fields(row, '|');
     for most in [1, 2, 7, 99] {
         let told = answer(alloc, formula, b"", text.as_bytes(), most.max(1), 99)?;
@@ -130,7 +130,7 @@ fn is_cut(told: &Result<(), CertFault>, length: usize) -> bool {
 }
 
 // Whether a head of this length and a source of the rest are one text, and the source's limit and the end are seen.
-fn is_joined(alloc: Global, formula: &Formula, length: usize) -> Result<bool, AllocError> {
+fn is_joined(alloc: Global, formula: &mut Formula, length: usize) -> Result<bool, AllocError> {
     let (head, bytes) = CERTIFICATE.split_at(length.min(CERTIFICATE.len()));
     let whole = answer(alloc, formula, head, bytes, 3, bytes.len())?;
     let short = answer(
@@ -146,7 +146,7 @@ fn is_joined(alloc: Global, formula: &Formula, length: usize) -> Result<bool, Al
 }
 
 // Whether the certificate is refused where a bit of a byte is changed.
-fn is_refused(alloc: Global, formula: &Formula, at: usize, bit: u8) -> Result<bool, AllocError> {
+fn is_refused(alloc: Global, formula: &mut Formula, at: usize, bit: u8) -> Result<bool, AllocError> {
     let mut text = Vec::from_slice(alloc, CERTIFICATE)?;
     if let Some(byte) = text.get_mut(at) {
         *byte ^= bit;
@@ -155,7 +155,7 @@ fn is_refused(alloc: Global, formula: &Formula, at: usize, bit: u8) -> Result<bo
 }
 
 // Whether the fault of a source that fails at this call is told, where the text's first line isn't read before.
-fn is_fault_told(alloc: Global, formula: &Formula, call: u64) -> Result<bool, AllocError> {
+fn is_fault_told(alloc: Global, formula: &mut Formula, call: u64) -> Result<bool, AllocError> {
     let bytes = Vec::from_slice(alloc, b"x\nend\n")?;
     let mut source = MemSource::new(bytes, vec![in alloc; call]?, 2);
     let told = check_log(alloc, formula, b"", &mut source, 9);
@@ -167,7 +167,7 @@ fn is_fault_told(alloc: Global, formula: &Formula, call: u64) -> Result<bool, Al
 }
 
 // Whether each place where the certificate may be cut is as it is to be.
-fn are_joined(alloc: Global, formula: &Formula) -> Result<bool, AllocError> {
+fn are_joined(alloc: Global, formula: &mut Formula) -> Result<bool, AllocError> {
     for length in 0..CERTIFICATE.len() {
         if !is_joined(alloc, formula, length)? {
             return Ok(false);
@@ -177,7 +177,7 @@ fn are_joined(alloc: Global, formula: &Formula) -> Result<bool, AllocError> {
 }
 
 // Whether the fault of a source is told at each of the first calls.
-fn are_faults_told(alloc: Global, formula: &Formula) -> Result<bool, AllocError> {
+fn are_faults_told(alloc: Global, formula: &mut Formula) -> Result<bool, AllocError> {
     for call in 1..6 {
         if !is_fault_told(alloc, formula, call)? {
             return Ok(false);
@@ -187,7 +187,7 @@ fn are_faults_told(alloc: Global, formula: &Formula) -> Result<bool, AllocError>
 }
 
 // Whether the certificate is refused wherever one bit is changed.
-fn are_refused(alloc: Global, formula: &Formula) -> Result<bool, AllocError> {
+fn are_refused(alloc: Global, formula: &mut Formula) -> Result<bool, AllocError> {
     for at in 0..CERTIFICATE.len() {
         for bit in [1, 2, 4, 8, 16, 32, 64, 128] {
             if !is_refused(alloc, formula, at, bit)? {
@@ -200,18 +200,18 @@ fn are_refused(alloc: Global, formula: &Formula) -> Result<bool, AllocError> {
 
 #[test]
 fn texts(rt: HostRuntime) -> Result<(), Fail> {
-    let formula = three_clauses(rt.alloc())?;
+    let mut formula = three_clauses(rt.alloc())?;
     for row in TEXTS {
-        assert!(rt; is_answered(rt.alloc(), &formula, row)?, "{row}");
+        assert!(rt; is_answered(rt.alloc(), &mut formula, row)?, "{row}");
     }
     Ok(())
 }
 
 #[test]
 fn certificates(rt: HostRuntime) -> Result<(), Fail> {
-    let formula = three_clauses(rt.alloc())?;
-    assert!(rt; are_joined(rt.alloc(), &formula)?);
-    assert!(rt; are_faults_told(rt.alloc(), &formula)?);
-    assert!(rt; are_refused(rt.alloc(), &formula)?);
+    let mut formula = three_clauses(rt.alloc())?;
+    assert!(rt; are_joined(rt.alloc(), &mut formula)?);
+    assert!(rt; are_faults_told(rt.alloc(), &mut formula)?);
+    assert!(rt; are_refused(rt.alloc(), &mut formula)?);
     Ok(())
 }

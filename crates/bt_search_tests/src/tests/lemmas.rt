@@ -24,9 +24,9 @@ fn two_units(alloc: Global) -> Result<Formula, AllocError> {
 
 #[test]
 fn lemmas(rt: HostRuntime) -> Result<(), Fail> {
-    let formula = two_units(rt.alloc())?;
+    let mut formula = two_units(rt.alloc())?;
     for row in LEMMAS {
-        assert!(rt; is_answered(rt.alloc(), &formula, row)?, "{row}");
+        assert!(rt; is_answered(rt.alloc(), &mut formula, row)?, "{row}");
     }
     Ok(())
 }

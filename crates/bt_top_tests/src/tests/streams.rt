@@ -27,6 +27,8 @@ const ANSWERED: &[&str] = &[
     "decide full|net 1 1 0\nedge i0 o0\nend\n\n\nno full\n|3|refused 40 NetLine 6\n",
     "check unlimited|net 1 1 0\nedge i0 o0\nend\n\n \t\r\nyes unlimited\nf -10 -16 0 1 1\nf -12 -17 0 1 1\n\
      r 0 14 15 16 17 11 13 0\nend\n\n \n|0|yes unlimited\n",
+    "check unlimited|net 1 1 0\nedge i0 o0\nend\nyes unlimited\nv -1 8 0\np 0 1 1 -1 2 0\nc 1 1 -1 1 0 0 0\n\
+     f -10 -16 0 1 1\nf -12 -17 0 1 1\nr 0 14 15 28 29 11 13 0\nend\n|0|yes unlimited\n",
     "check unlimited|net 1 1 0\nedge i0 o0\nend\nyes unlimited\nf -10 -16 0 1 1\nf -12 -17 0 1 1\n\
      r 0 14 15 16 17 11 13 0\nend\nx\n|9|refused 50 CertLine 6\n",
     "layout --grid 1x1|net 1 1 0\nedge i0 o0\nblock 1 0\nend\n|3|refused 46 Block 3\n",

@@ -1,24 +1,27 @@
-use Rattle.std.proofs.Common.{Err, Ok, subst}
+use Rattle.std.proofs.Common.{Ok, subst}
 use Rattle.bt_io.specs.Passages.{passage}
-use Rattle.bt_cert.specs.inner.Feeding.{ReadsRest}
-use Rattle.bt_cert.proofs.Feeding.{rest_refused, whole_checked}
+use Rattle.bt_cert.specs.inner.Defining.{ReadsDefinitions}
+use Rattle.bt_cert.proofs.DefinedFed.{checks_behind, ended_checked, head_read}
 use Rattle.bt_cert.proofs.check.check_log.Goals as goal
 
-pub returns-in-Ok : goal.returns-in-Ok
-returns-in-Ok g c =
-    let source = passage g.S.Source.left g.S.Source.faults c.args.source.now c.read_rest.new.source in
-    record {
-      checked = whole_checked c.args.formula.now c.in_ok-reading.ensures.known c.args.head.now c.args.limit source c.in_ok-reading.reading c.take.new.self c.read_rest.new.reading c.finish.result
-          c.in_ok-reading.ensures.formula c.in_ok-reading.ensures.read c.take.ensures.reads
-          (subst (ReadsRest c.args.limit source c.take.new.self c.read_rest.new.reading) c.in-Ok.is c.read_rest.ensures.rest) c.finish.ensures;
-      count = c.read_rest.ensures.count;
-    }
+pub returns-in-Ok-Some : goal.returns-in-Ok-Some
+returns-in-Ok-Some g c =
+    let source = passage g.S.Source.left g.S.Source.faults c.args.source.now c.read_on.new.source in
+    let read = head_read c.args.formula.now c.new-defining.result c.args.head.now c.take.new.formula c.take.new.self c.new-defining.ensures.read c.in_ok-take.ensures in
+    let reached =
+    subst (λ o. ReadsDefinitions c.args.limit source c.take.new.formula c.take.new.self c.read_on.new.formula c.read_on.new.self (Ok o)) c.in-Ok-Some.field-0-is c.in-Ok-Some.ensures.reads in
+    checks_behind g.S.Source.left g.S.Source.faults c.args.source.now c.read_on.new.source c.check_steps.new.source c.args.formula.now c.new-defining.ensures.known c.args.head.now
+    c.args.limit c.in-Ok-Some.taken c.take.new.formula c.take.new.self c.read_on.new.formula c.read_on.new.self read reached c.read_on.ensures.count c.check_steps.result
+    c.check_steps.ensures
 
-pub returns-in-Err : goal.returns-in-Err
-returns-in-Err g c =
-    let source = passage g.S.Source.left g.S.Source.faults c.args.source.now c.read_rest.new.source in
+pub returns-in-Ok-None : goal.returns-in-Ok-None
+returns-in-Ok-None g c =
+    let source = passage g.S.Source.left g.S.Source.faults c.args.source.now c.read_on.new.source in
+    let read = head_read c.args.formula.now c.new-defining.result c.args.head.now c.take.new.formula c.take.new.self c.new-defining.ensures.read c.in_ok-take.ensures in
+    let reached =
+    subst (λ o. ReadsDefinitions c.args.limit source c.take.new.formula c.take.new.self c.read_on.new.formula c.read_on.new.self (Ok o)) c.in-Ok-None.field-0-is c.in-Ok-None.ensures.reads in
     record {
-      checked = rest_refused c.args.formula.now c.args.head.now c.args.limit source c.take.new.self c.read_rest.new.reading c.in-Err.fault
-          (subst (ReadsRest c.args.limit source c.take.new.self c.read_rest.new.reading) c.in-Err.is c.read_rest.ensures.rest);
-      count = c.read_rest.ensures.count;
+      checked = ended_checked c.args.formula.now c.new-defining.ensures.known c.args.head.now c.args.limit source c.take.new.formula c.take.new.self c.read_on.new.formula c.read_on.new.self
+          c.finish_steps.result read reached c.finish_steps.ensures;
+      count = c.read_on.ensures.count;
     }

@@ -1,0 +1,10 @@
+use Rattle.std.proofs.Common.{◌≡◌, take}
+use Rattle.std.specs.Str.Parse.{AllDigits, digits_value}
+use Rattle.bt_extend.proofs.item.read_digits.Given as goal
+
+-- the bytes so far are digits, and this is their value
+abbrev pub invariant-loop-digit : goal.invariant-loop-digit
+invariant-loop-digit l = record {
+  digits : AllDigits 10 (take l.digit-index l.word);
+  value : l.value ≡ digits_value 10 (take l.digit-index l.word);
+}
