@@ -55,17 +55,23 @@ fn relation_named(name: &str) -> Relation {
     }
 }
 
-/// The row of a relation, a bound and the coefficients of the first columns, of which 0 is none.
-fn row_of(alloc: Global, field: &str) -> Result<Option<Row>, AllocError> {
-    let [relation, bound, first, second, third] = fields(field, ' ');
+/// The terms of the coefficients of the first columns, of which 0 is none.
+fn terms_of(alloc: Global, words: &[&str]) -> Result<Vec<(usize, Frac)>, AllocError> {
     let mut terms = Vec::new(alloc);
-    for (column, word) in [first, second, third].into_iter().enumerate() {
+    for (column, word) in words.iter().enumerate() {
         let coefficient = fraction_of(word);
         if coefficient.numerator() != 0 {
             terms.push((column, coefficient))?;
         }
     }
-    Row::new(alloc, &terms, relation_named(relation), fraction_of(bound))
+    Ok(terms)
+}
+
+/// The row of a relation, a bound and the coefficients of the first columns.
+fn row_of(alloc: Global, field: &str) -> Result<Option<Row>, AllocError> {
+    let [relation, bound, first, second, third] = fields(field, ' ');
+    let terms = terms_of(alloc, &[first, second, third])?;
+    Ok(Row::from_vec(terms, relation_named(relation), fraction_of(bound)))
 }
 
 /// The rows of fields that are rows.

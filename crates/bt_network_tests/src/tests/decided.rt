@@ -55,7 +55,16 @@ const LIMITS: Limits = Limits {
     pivots: 100000,
 };
 
-/// A letter for the verdict of a decision that one chooser steers: yes, no, or neither.
+/// A letter for a verdict: yes, no, or neither.
+fn letter_of(verdict: &Verdict) -> u8 {
+    match verdict {
+        Verdict::Yes(_) => b'y',
+        Verdict::No(_) => b'n',
+        Verdict::GaveUp(_) => b'?',
+    }
+}
+
+/// The letter of the verdict of a decision that one chooser steers.
 fn decided<C: Chooser>(
     alloc: Global,
     net: &Net,
@@ -64,28 +73,24 @@ fn decided<C: Chooser>(
 ) -> Result<u8, AllocError> {
     let mut choosers = Vec::new(alloc);
     choosers.push(chooser)?;
-    match decide(alloc, net, property, LIMITS, choosers)? {
-        Verdict::Yes(_) => Ok(b'y'),
-        Verdict::No(_) => Ok(b'n'),
-        Verdict::GaveUp(_) => Ok(b'?'),
+    Ok(letter_of(&decide(alloc, net, property, LIMITS, choosers)?))
+}
+
+/// The letter of an outcome.
+fn letter_of_outcome(outcome: &Outcome) -> u8 {
+    match outcome {
+        Outcome::Refuted(_) => b'y',
+        Outcome::Sat { .. } => b'n',
+        Outcome::GaveUp(_) => b'?',
     }
 }
 
 /// The same of a search without scopes, guesses and choosers.
 fn searched(alloc: Global, net: &Net, property: Property) -> Result<u8, AllocError> {
+    let formula = encode(alloc, net, property)?;
     let choosers: Vec<Lowest> = Vec::new(alloc);
-    match solve(
-        alloc,
-        encode(alloc, net, property)?,
-        &[],
-        &[],
-        choosers,
-        LIMITS,
-    )? {
-        Outcome::Refuted(_) => Ok(b'y'),
-        Outcome::Sat { .. } => Ok(b'n'),
-        Outcome::GaveUp(_) => Ok(b'?'),
-    }
+    let outcome = solve(alloc, formula, &[], &[], choosers, LIMITS)?;
+    Ok(letter_of_outcome(&outcome))
 }
 
 /// Whether one verdict on a property comes of every search.
@@ -101,16 +106,21 @@ fn has_one_verdict(alloc: Global, net: &Net, property: Property) -> Result<bool,
 }
 
 /// Whether each property of a network has one verdict.
-fn is_settled(alloc: Global, text: &str) -> Result<bool, AllocError> {
-    let Some(net) = net_of(alloc, text) else {
-        return Ok(false);
-    };
+fn has_verdicts(alloc: Global, net: &Net) -> Result<bool, AllocError> {
     for name in ["balanced", "drawn-evenly", "unlimited", "full"] {
-        if !has_one_verdict(alloc, &net, property_named(name))? {
+        if !has_one_verdict(alloc, net, property_named(name))? {
             return Ok(false);
         }
     }
     Ok(true)
+}
+
+/// Whether each property of a text's network has one verdict.
+fn is_settled(alloc: Global, text: &str) -> Result<bool, AllocError> {
+    match net_of(alloc, text) {
+        Some(net) => has_verdicts(alloc, &net),
+        None => Ok(false),
+    }
 }
 
 #[test]

@@ -2,7 +2,9 @@
 use super::{GIVEN, MIXED, ONE_BELT, SPLITTER, fields, net_of, number_of, property_named};
 use bt_cnf::{Formula, Lit};
 use bt_fenc::{encode, state_of};
+use bt_flow::State;
 use bt_frac::Frac;
+use bt_net::Net;
 use std::alloc::{AllocError, Global};
 use std::test::Fail;
 
@@ -77,18 +79,29 @@ fn text_named(name: &str) -> &'static str {
     }
 }
 
+/// The formula of a network and a property by their names.
+fn formula_of(alloc: Global, network: &str, property: &str) -> Result<Option<Formula>, AllocError> {
+    match net_of(alloc, text_named(network)) {
+        Some(net) => Ok(Some(encode(alloc, &net, property_named(property))?)),
+        None => Ok(None),
+    }
+}
+
 /// Whether a formula has the sizes of a row.
+fn is_sized(formula: &Formula, row: &str) -> bool {
+    let [_, _, clauses, vars, columns] = fields(row, '|');
+    formula.clauses() == number_of(clauses)
+        && formula.vars() == number_of(vars)
+        && formula.columns() == number_of(columns)
+}
+
+/// Whether the formula of a row's network has its sizes.
 fn has_sizes(alloc: Global, row: &str) -> Result<bool, AllocError> {
-    let [network, property, clauses, vars, columns] = fields(row, '|');
-    let Some(net) = net_of(alloc, text_named(network)) else {
-        return Ok(false);
-    };
-    let formula = encode(alloc, &net, property_named(property))?;
-    Ok(
-        formula.clauses() == number_of(clauses)
-            && formula.vars() == number_of(vars)
-            && formula.columns() == number_of(columns),
-    )
+    let [network, property, ..] = fields(row, '|');
+    match formula_of(alloc, network, property)? {
+        Some(formula) => Ok(is_sized(&formula, row)),
+        None => Ok(false),
+    }
 }
 
 #[test]
@@ -122,14 +135,13 @@ fn has_literals(formula: &Formula, place: usize, words: &str) -> bool {
     lits.next().is_none()
 }
 
-/// Whether a formula has the clause of a row.
+/// Whether the formula of a row's network has its clause.
 fn has_clause(alloc: Global, row: &str) -> Result<bool, AllocError> {
     let [network, property, place, words, _] = fields(row, '|');
-    let Some(net) = net_of(alloc, text_named(network)) else {
-        return Ok(false);
-    };
-    let formula = encode(alloc, &net, property_named(property))?;
-    Ok(has_literals(&formula, number_of(place).saturating_sub(1), words))
+    match formula_of(alloc, network, property)? {
+        Some(formula) => Ok(has_literals(&formula, number_of(place).saturating_sub(1), words)),
+        None => Ok(false),
+    }
 }
 
 #[test]
@@ -140,24 +152,34 @@ fn has_these_clauses(rt: HostRuntime) -> Result<(), Fail> {
     Ok(())
 }
 
+/// Whether a state has these flows, loads and rooms, and its first edge alone is backed.
+fn has_numbers(state: &State, flows: &[Frac], loads: &[Frac], rooms: &[Frac]) -> bool {
+    state.flows() == flows
+        && state.loads() == loads
+        && state.rooms() == rooms
+        && state.backed() == [true, false, false, false].as_slice()
+}
+
 /// Whether the state of an assignment of the splitter has its values.
-fn has_values(alloc: Global) -> Result<bool, AllocError> {
-    let Some(net) = net_of(alloc, SPLITTER) else {
-        return Ok(false);
-    };
-    let [one, two, three] = [Frac::whole(1), Frac::whole(2), Frac::whole(3)];
-    let values = [one, two, one, two, two, three, three];
-    let state = state_of(alloc, &net, &values, &[true])?;
-    Ok(
-        state.flows() == [one, two, one, two].as_slice()
-            && state.loads() == [two, three].as_slice()
-            && state.rooms() == [three, Frac::whole(0)].as_slice()
-            && state.backed() == [true, false, false, false].as_slice(),
-    )
+fn has_values(alloc: Global, net: &Net) -> Result<bool, AllocError> {
+    let [zero, one, two, three] = [
+        Frac::whole(0),
+        Frac::whole(1),
+        Frac::whole(2),
+        Frac::whole(3),
+    ];
+    let state = state_of(
+        alloc,
+        net,
+        &[one, two, one, two, two, three, three],
+        &[true],
+    )?;
+    Ok(has_numbers(&state, &[one, two, one, two], &[two, three], &[three, zero]))
 }
 
 #[test]
 fn gives_the_state_of_an_assignment(rt: HostRuntime) -> Result<(), Fail> {
-    assert!(rt; has_values(rt.alloc())?);
+    let net = net_of(rt.alloc(), SPLITTER).ok_or("no network")?;
+    assert!(rt; has_values(rt.alloc(), &net)?);
     Ok(())
 }

@@ -1,6 +1,7 @@
 //! States of networks that break a property, are steady, or fail a test.
 use super::{GIVEN, MIXED, SPLITTER, fields, net_of, property_named};
 use bt_flow::{Judgement, Property, Test, WideSum, breaks, read_state, steady};
+use bt_net::Net;
 use std::alloc::Global;
 
 const LOOP: &str =
@@ -54,19 +55,25 @@ fn judgement_named(name: &str) -> Judgement {
     Judgement::Fails { test, place }
 }
 
-/// Whether a state is judged as a row says.
-fn is_judged(alloc: Global, row: &str) -> bool {
-    let [network, property, text, broken, at_rest] = fields(row, '|');
+/// Whether a written state of a network is judged as a row says.
+fn is_judged_of(alloc: Global, net: &Net, row: &str) -> bool {
+    let [_, property, text, broken, at_rest] = fields(row, '|');
     let property = property_named(property);
-    let Some(net) = net_of(alloc, text_named(network)) else {
-        return false;
-    };
-    match read_state(alloc, &net, text.as_bytes(), property) {
+    match read_state(alloc, net, text.as_bytes(), property) {
         Ok(state) => {
-            breaks(&net, property, &state) == Ok(judgement_named(broken))
-                && steady(&net, &state) == Ok(judgement_named(at_rest))
+            breaks(net, property, &state) == Ok(judgement_named(broken))
+                && steady(net, &state) == Ok(judgement_named(at_rest))
         }
         Err(_) => false,
+    }
+}
+
+/// Whether a row's state is judged as it says.
+fn is_judged(alloc: Global, row: &str) -> bool {
+    let [network, ..] = fields(row, '|');
+    match net_of(alloc, text_named(network)) {
+        Some(net) => is_judged_of(alloc, &net, row),
+        None => false,
     }
 }
 
@@ -88,17 +95,22 @@ fn is_wide_sum(sum: &WideSum) -> bool {
         && sum.right.denominator() == 3
 }
 
-/// Whether the wide state is told as such.
-fn names_wide_sum(alloc: Global) -> bool {
-    let Some(net) = net_of(alloc, SPLITTER) else {
-        return false;
-    };
-    match read_state(alloc, &net, WIDE.as_bytes(), Property::Unlimited) {
-        Ok(state) => match breaks(&net, Property::Unlimited, &state) {
+/// Whether the wide state of a network is told as such.
+fn is_wide(alloc: Global, net: &Net) -> bool {
+    match read_state(alloc, net, WIDE.as_bytes(), Property::Unlimited) {
+        Ok(state) => match breaks(net, Property::Unlimited, &state) {
             Ok(_) => false,
             Err(sum) => is_wide_sum(&sum),
         },
         Err(_) => false,
+    }
+}
+
+/// Whether the wide state of the splitter is told as such.
+fn names_wide_sum(alloc: Global) -> bool {
+    match net_of(alloc, SPLITTER) {
+        Some(net) => is_wide(alloc, &net),
+        None => false,
     }
 }
 

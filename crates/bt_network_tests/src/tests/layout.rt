@@ -4,6 +4,7 @@ ghost use Rattle.std.specs.Prelude.{None};
 use super::{fields, number_of, request_of};
 use bt_cnf::{Chooser, Lit, Pick, Var};
 use bt_layout::{Layout, layout};
+use bt_model::Request;
 use bt_parts::{Kind, Part, Tier};
 use bt_sat::Highest;
 use std::alloc::{AllocError, Global};
@@ -61,16 +62,25 @@ fn is_told(found: &Layout, wanted: &str) -> bool {
     }
 }
 
+/// Whether a search for a request comes to this within so many steps.
+fn is_laid<C: Chooser>(
+    alloc: Global,
+    request: &Request,
+    learnt: usize,
+    chooser: C,
+    wanted: &str,
+) -> Result<bool, AllocError> {
+    let mut choosers = Vec::new(alloc);
+    choosers.push(chooser)?;
+    let found = layout(alloc, request, learnt as u64, choosers)?;
+    Ok(is_told(&found, wanted))
+}
+
 /// Whether a search comes to what a row says.
 fn is_found<C: Chooser>(alloc: Global, row: &str, chooser: C) -> Result<bool, AllocError> {
     let [text, size, learnt, wanted, ..] = fields(row, '|');
     match request_of(alloc, text, size, Tier::Basic) {
-        Some(request) => {
-            let mut choosers = Vec::new(alloc);
-            choosers.push(chooser)?;
-            let found = layout(alloc, &request, number_of(learnt) as u64, choosers)?;
-            Ok(is_told(&found, wanted))
-        }
+        Some(request) => is_laid(alloc, &request, number_of(learnt), chooser, wanted),
         None => Ok(false),
     }
 }

@@ -1,7 +1,7 @@
 //! Which requests are refused, and by which cause.
 use super::{fields, number_of};
 use bt_model::{Request, RequestFault};
-use bt_net::{Admitted, read};
+use bt_net::{Admitted, NetRead, read};
 use bt_parts::{Rect, Tier};
 use std::alloc::Global;
 
@@ -35,18 +35,23 @@ fn told_of(fault: &RequestFault) -> (&'static str, usize) {
     }
 }
 
-/// Whether what is refused of a row's request is what the row says.
-fn is_so(alloc: Global, row: &str) -> bool {
-    let [text, name, number, ..] = fields(row, '|');
+/// What is refused of a request in one cell.
+fn told_in_cell(found: NetRead) -> (&'static str, usize) {
     let rect = Rect {
         width: 1,
         height: 1,
     };
+    match Request::new(found.net, rect, Tier::Basic, found.demands, found.blocks) {
+        Ok(_) => ("none", 0),
+        Err(fault) => told_of(&fault),
+    }
+}
+
+/// Whether what is refused of a row's request is what the row says.
+fn is_so(alloc: Global, row: &str) -> bool {
+    let [text, name, number, ..] = fields(row, '|');
     let told = match read(alloc, Admitted::All, text.as_bytes()) {
-        Ok(found) => match Request::new(found.net, rect, Tier::Basic, found.demands, found.blocks) {
-            Ok(_) => ("none", 0),
-            Err(fault) => told_of(&fault),
-        },
+        Ok(found) => told_in_cell(found),
         Err(_) => ("no network", 0),
     };
     told.0 == name && told.1 == number_of(number)

@@ -77,21 +77,31 @@ fn is_printed(alloc: Global, pair: &Pair) -> Result<bool, AllocError> {
     Ok(printed && sink.held() == PAIR.as_bytes())
 }
 
+/// Whether the second state of a pair has its numbers, and the pair is printed.
+fn is_so(alloc: Global, pair: &Pair) -> Result<bool, AllocError> {
+    Ok(has_numbers(&pair.second) && is_printed(alloc, pair)?)
+}
+
 /// Whether the second state of a pair is read with the loads and rooms, and the pair is printed as it was read.
 fn is_pair(alloc: Global, first: &Net, second: &Net) -> Result<bool, AllocError> {
     match pair_of(alloc, first, second, PAIR) {
-        Ok(pair) => Ok(has_numbers(&pair.second) && is_printed(alloc, &pair)?),
+        Ok(pair) => is_so(alloc, &pair),
         Err(_) => Ok(false),
     }
+}
+
+/// Judges all rows and the pair.
+fn judge(rt: &HostRuntime, first: &Net, second: &Net) -> Result<(), Fail> {
+    for row in TEXTS {
+        assert!(rt; is_read(rt.alloc(), first, second, row), "{row}");
+    }
+    assert!(rt; is_pair(rt.alloc(), first, second)?);
+    Ok(())
 }
 
 #[test]
 fn pairs(rt: HostRuntime) -> Result<(), Fail> {
     let first = net_of(rt.alloc(), ONE_BELT).ok_or("no network")?;
     let second = net_of(rt.alloc(), PASSED_ON).ok_or("no network")?;
-    for row in TEXTS {
-        assert!(rt; is_read(rt.alloc(), &first, &second, row), "{row}");
-    }
-    assert!(rt; is_pair(rt.alloc(), &first, &second)?);
-    Ok(())
+    judge(&rt, &first, &second)
 }

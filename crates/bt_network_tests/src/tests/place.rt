@@ -32,19 +32,35 @@ fn mark_of(formula: &Formula) -> usize {
     mark
 }
 
+/// Whether a formula has the clauses that a row tells.
+fn is_told(formula: &Formula, row: &str) -> bool {
+    let [_, _, _, counts, mark] = fields(row, '|');
+    let [vars, clauses, ..] = fields(counts, ' ');
+    formula.vars() == number_of(vars)
+        && formula.clauses() == number_of(clauses)
+        && mark_of(formula) == number_of(mark)
+}
+
+/// The formula of a request.
+fn formula_of(
+    alloc: Global,
+    text: &str,
+    size: &str,
+    tier: &str,
+) -> Result<Option<Formula>, AllocError> {
+    match request_of(alloc, text, size, tier_named(tier)) {
+        Some(request) => Ok(Some(encode_place(alloc, &request)?)),
+        None => Ok(None),
+    }
+}
+
 /// Whether the formula of a row's request has the clauses that the row tells.
 fn is_written(alloc: Global, row: &str) -> Result<bool, AllocError> {
-    let [text, size, tier, counts, mark] = fields(row, '|');
-    let [vars, clauses, ..] = fields(counts, ' ');
-    let Some(request) = request_of(alloc, text, size, tier_named(tier)) else {
-        return Ok(false);
-    };
-    let formula = encode_place(alloc, &request)?;
-    Ok(
-        formula.vars() == number_of(vars)
-            && formula.clauses() == number_of(clauses)
-            && mark_of(&formula) == number_of(mark),
-    )
+    let [text, size, tier, ..] = fields(row, '|');
+    match formula_of(alloc, text, size, tier)? {
+        Some(formula) => Ok(is_told(&formula, row)),
+        None => Ok(false),
+    }
 }
 
 #[test]

@@ -60,20 +60,30 @@ fn is_printed(alloc: Global, state: &State) -> Result<bool, AllocError> {
     Ok(printed && sink.held() == STATE.as_bytes())
 }
 
+/// Whether a state has the numbers of the one that is printed, and is printed.
+fn is_so(alloc: Global, state: &State) -> Result<bool, AllocError> {
+    Ok(has_numbers(state) && is_printed(alloc, state)?)
+}
+
 /// Whether each list of a state is read, and it is printed as it was read.
 fn is_state(alloc: Global, net: &Net) -> Result<bool, AllocError> {
     match read_state(alloc, net, STATE.as_bytes(), Property::DrawnEvenly) {
-        Ok(state) => Ok(has_numbers(&state) && is_printed(alloc, &state)?),
+        Ok(state) => is_so(alloc, &state),
         Err(_) => Ok(false),
     }
+}
+
+/// Judges all rows and the state.
+fn judge(rt: &HostRuntime, net: &Net) -> Result<(), Fail> {
+    for row in TEXTS {
+        assert!(rt; is_read(rt.alloc(), net, row), "{row}");
+    }
+    assert!(rt; is_state(rt.alloc(), net)?);
+    Ok(())
 }
 
 #[test]
 fn states(rt: HostRuntime) -> Result<(), Fail> {
     let net = net_of(rt.alloc(), ONE_BELT).ok_or("no network")?;
-    for row in TEXTS {
-        assert!(rt; is_read(rt.alloc(), &net, row), "{row}");
-    }
-    assert!(rt; is_state(rt.alloc(), &net)?);
-    Ok(())
+    judge(&rt, &net)
 }

@@ -6,6 +6,7 @@ use bt_cert::{Cause, CertFault, check_log};
 use bt_cnf::Formula;
 use bt_io::MemSource;
 use std::alloc::{AllocError, Global};
+use std::process::Abort;
 use std::test::Fail;
 
 // Two variables, no atoms, and the clauses `1 2`, `-1` and `-2`.
@@ -106,7 +107,7 @@ fn is_told(told: &Result<(), CertFault>, line: usize, name: &str) -> bool {
 }
 
 // Whether the text of a row is answered as it says, whatever number of bytes the source gives a call.
-pub fn is_answered(alloc: Global, formula: &mut Formula, row: &str) -> Result<bool, AllocError> {
+fn is_answered(alloc: Global, formula: &mut Formula, row: &str) -> Result<bool, AllocError> {
     let [text, line, name, ..] = fields(row, '|');
     for most in [1, 2, 7, 99] {
         let told = answer(alloc, formula, b"", text.as_bytes(), most.max(1), 99)?;
@@ -146,7 +147,12 @@ fn is_joined(alloc: Global, formula: &mut Formula, length: usize) -> Result<bool
 }
 
 // Whether the certificate is refused where a bit of a byte is changed.
-fn is_refused(alloc: Global, formula: &mut Formula, at: usize, bit: u8) -> Result<bool, AllocError> {
+fn is_refused(
+    alloc: Global,
+    formula: &mut Formula,
+    at: usize,
+    bit: u8,
+) -> Result<bool, AllocError> {
     let mut text = Vec::from_slice(alloc, CERTIFICATE)?;
     if let Some(byte) = text.get_mut(at) {
         *byte ^= bit;
@@ -198,20 +204,37 @@ fn are_refused(alloc: Global, formula: &mut Formula) -> Result<bool, AllocError>
     Ok(true)
 }
 
-#[test]
-fn texts(rt: HostRuntime) -> Result<(), Fail> {
-    let mut formula = three_clauses(rt.alloc())?;
-    for row in TEXTS {
-        assert!(rt; is_answered(rt.alloc(), &mut formula, row)?, "{row}");
+// Whether the certificate is accepted whole, however it comes, and refused where it is cut or changed.
+fn are_right(alloc: Global, formula: &mut Formula) -> Result<bool, AllocError> {
+    Ok(
+        are_joined(alloc, formula)?
+            && are_faults_told(alloc, formula)?
+            && are_refused(alloc, formula)?,
+    )
+}
+
+// Judges rows of certificates for a formula.
+pub fn judge(
+    rt: &impl Abort,
+    alloc: Global,
+    formula: &mut Formula,
+    rows: &[&str],
+) -> Result<(), Fail> {
+    for row in rows {
+        assert!(rt; is_answered(alloc, formula, row)?, "{row}");
     }
     Ok(())
 }
 
 #[test]
+fn texts(rt: HostRuntime) -> Result<(), Fail> {
+    let mut formula = three_clauses(rt.alloc())?;
+    judge(&rt, rt.alloc(), &mut formula, TEXTS)
+}
+
+#[test]
 fn certificates(rt: HostRuntime) -> Result<(), Fail> {
     let mut formula = three_clauses(rt.alloc())?;
-    assert!(rt; are_joined(rt.alloc(), &mut formula)?);
-    assert!(rt; are_faults_told(rt.alloc(), &mut formula)?);
-    assert!(rt; are_refused(rt.alloc(), &mut formula)?);
+    assert!(rt; are_right(rt.alloc(), &mut formula)?);
     Ok(())
 }

@@ -3,6 +3,7 @@ use super::{add_clauses, fields, is_modelled, literals_of, number_of};
 use bt_cnf::{Chooser, Formula};
 use bt_sat::{Active, Highest, Lowest, Recent, Solver};
 use std::alloc::{AllocError, Global};
+use std::process::Abort;
 use std::test::Fail;
 
 /// A clause of four variables that `Recent` is told of, and which of the first and the third one it picks then.
@@ -101,30 +102,30 @@ fn is_decided(alloc: Global, row: &str) -> Result<bool, AllocError> {
     is_modelled(&mut solver_of(alloc, row)?, values)
 }
 
-#[test]
-fn recent_picks_the_first_that_is_unset(rt: HostRuntime) -> Result<(), Fail> {
-    let formula = Formula::new(rt.alloc(), 4)?;
+/// Whether `Recent` picks what a row says.
+fn is_most_recent(alloc: Global, formula: &Formula, row: &str) -> Result<bool, AllocError> {
+    is_picked(alloc, formula, &mut Recent::new(alloc)?, row)
+}
+
+/// Whether `Active` picks what a row says.
+fn is_most_active(alloc: Global, formula: &Formula, row: &str) -> Result<bool, AllocError> {
+    is_picked(alloc, formula, &mut Active::new(alloc)?, row)
+}
+
+/// Judges the rows of picks.
+fn judge(rt: &impl Abort, alloc: Global, formula: &Formula) -> Result<(), Fail> {
     for row in PICKS {
-        let mut chooser = Recent::new(rt.alloc())?;
-        assert!(rt;
-            is_picked(rt.alloc(), &formula, &mut chooser, row)?,
-            "{row}"
-        );
+        assert!(rt; is_most_recent(alloc, formula, row)?, "{row}");
+    }
+    for row in ACTIVE_PICKS {
+        assert!(rt; is_most_active(alloc, formula, row)?, "{row}");
     }
     Ok(())
 }
 
 #[test]
-fn active_picks_the_greatest_score(rt: HostRuntime) -> Result<(), Fail> {
-    let formula = Formula::new(rt.alloc(), 4)?;
-    for row in ACTIVE_PICKS {
-        let mut chooser = Active::new(rt.alloc())?;
-        assert!(rt;
-            is_picked(rt.alloc(), &formula, &mut chooser, row)?,
-            "{row}"
-        );
-    }
-    Ok(())
+fn picks_the_first_unset_or_the_greatest_score(rt: HostRuntime) -> Result<(), Fail> {
+    judge(&rt, rt.alloc(), &Formula::new(rt.alloc(), 4)?)
 }
 
 #[test]

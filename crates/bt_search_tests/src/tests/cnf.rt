@@ -101,9 +101,7 @@ fn names_no_row(formula: &Formula, larger: &Formula) -> bool {
 
 #[test]
 fn names_no_row_of_a_larger_formula(rt: HostRuntime) -> Result<(), Fail> {
-    let small = Formula::new(rt.alloc(), 2)?;
-    let large = Formula::new(rt.alloc(), 5)?;
-    assert!(rt; names_no_row(&small, &large));
+    assert!(rt; names_no_row(&Formula::new(rt.alloc(), 2)?, &Formula::new(rt.alloc(), 5)?));
     Ok(())
 }
 

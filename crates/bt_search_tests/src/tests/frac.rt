@@ -203,25 +203,28 @@ fn is_whole(row: &str) -> bool {
     read_whole(word.as_bytes()) == number.parse::<u128>().ok()
 }
 
-#[test]
-fn fractions(rt: HostRuntime) {
-    for row in COMPUTED {
-        assert!(rt; is_computed(row), "{row}");
-    }
-    for row in ORDERED {
-        assert!(rt; is_ordered(row), "{row}");
-    }
-    for row in QUOTIENTS {
-        assert!(rt; is_quotient(row), "{row}");
+/// Whether what is said in a row of the table of this name is so.
+fn is_so(table: &str, row: &str) -> bool {
+    match table {
+        "computed" => is_computed(row),
+        "ordered" => is_ordered(row),
+        "quotients" => is_quotient(row),
+        "spellings" => is_spelling(row),
+        _ => is_whole(row),
     }
 }
 
 #[test]
-fn spellings(rt: HostRuntime) {
-    for row in SPELLINGS {
-        assert!(rt; is_spelling(row), "{row}");
-    }
-    for row in WHOLES {
-        assert!(rt; is_whole(row), "{row}");
+fn fractions(rt: HostRuntime) {
+    for (table, rows) in [
+        ("computed", COMPUTED),
+        ("ordered", ORDERED),
+        ("quotients", QUOTIENTS),
+        ("spellings", SPELLINGS),
+        ("wholes", WHOLES),
+    ] {
+        for row in rows {
+            assert!(rt; is_so(table, row), "{table}: {row}");
+        }
     }
 }

@@ -14,15 +14,25 @@ const COLUMNS: &[&str] = &[
     "0|18446744073709551614|yes",
 ];
 
+/// Whether a list of these terms is a row.
+fn is_copied(alloc: Global, terms: &[(usize, Frac)]) -> Result<bool, AllocError> {
+    let row = Row::new(alloc, terms, Relation::Above, Frac::whole(1))?;
+    Ok(row.is_some())
+}
+
+/// Whether a list that is given away is a row.
+fn is_taken(alloc: Global, terms: &[(usize, Frac)]) -> Result<bool, AllocError> {
+    let terms = Vec::from_slice(alloc, terms)?;
+    Ok(Row::from_vec(terms, Relation::Above, Frac::whole(1)).is_some())
+}
+
 /// Whether the columns of a table's row make a row or not, as it says.
 fn is_so(alloc: Global, row: &str) -> Result<bool, AllocError> {
     let [first, second, answer, ..] = fields(row, '|');
     let one = Frac::whole(1);
     let terms = [(number_of(first), one), (number_of(second), one)];
-    let copied = Row::new(alloc, &terms, Relation::Above, one)?;
-    let taken = Row::from_vec(Vec::from_slice(alloc, &terms)?, Relation::Above, one);
     let wanted = answer == "yes";
-    Ok(copied.is_some() == wanted && taken.is_some() == wanted)
+    Ok(is_copied(alloc, &terms)? == wanted && is_taken(alloc, &terms)? == wanted)
 }
 
 #[test]

@@ -254,9 +254,8 @@ fn is_free_value(solver: &mut Solver<Picky>, value: bool) -> Result<bool, AllocE
     Ok(free_value(solver)? == Some(value) && solver.log().len() > 128)
 }
 
-/// Whether the free variable has this value once one that picks the lowest variable has served an epoch, and where there is
-/// one, another chooser serves.
-fn is_picked(alloc: Global, next: Option<Picky>, value: bool) -> Result<bool, AllocError> {
+/// A chooser that picks the lowest variable, and where there is one, another.
+fn choosers_of(alloc: Global, next: Option<Picky>) -> Result<Vec<Picky>, AllocError> {
     let first = Picky {
         is_high: false,
         left: 1000,
@@ -265,6 +264,13 @@ fn is_picked(alloc: Global, next: Option<Picky>, value: bool) -> Result<bool, Al
     if let Some(next) = next {
         choosers.push(next)?;
     }
+    Ok(choosers)
+}
+
+/// Whether the free variable has this value once one that picks the lowest variable has served an epoch, and where there is
+/// one, another chooser serves.
+fn is_picked(alloc: Global, next: Option<Picky>, value: bool) -> Result<bool, AllocError> {
+    let choosers = choosers_of(alloc, next)?;
     is_free_value(&mut with_free(alloc, 1000, choosers)?, value)
 }
 

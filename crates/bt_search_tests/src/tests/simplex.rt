@@ -2,7 +2,7 @@
 use super::{fields, number_of, rows_of};
 use bt_frac::{Frac, Row};
 use bt_lin::{eval, farkas};
-use bt_simplex::{Check, Operation, Tableau, WidePlace, are_over};
+use bt_simplex::{Check, Operation, Tableau, Wide, WidePlace, are_over};
 use std::alloc::{AllocError, Global};
 use std::test::Fail;
 
@@ -162,20 +162,17 @@ fn is_answered(alloc: Global, row: &str) -> Result<bool, AllocError> {
     }
 }
 
-/// What a check of all these rows answers within ten turns.
-fn check_of(alloc: Global, rows: &[Row], columns: usize) -> Result<Option<Check>, AllocError> {
-    match bound_tableau(alloc, rows, columns)? {
-        Some(mut tableau) => Ok(Some(tableau.check(alloc, 10)?)),
-        None => Ok(None),
-    }
-}
-
-/// Whether a check ends with values that meet the rows where it is told so, and else without.
-fn is_end(check: &Check, rows: &[Row], has_values: bool) -> bool {
-    match check {
-        Check::Sat(values) => has_values && meet(rows, values),
-        Check::Unsat(_) => !has_values,
-        Check::Pivots(_) | Check::Wide(_) => false,
+/// Whether a check within ten turns ends with values that meet the rows where it is told so, and else without.
+fn is_end(
+    alloc: Global,
+    tableau: &mut Tableau,
+    rows: &[Row],
+    has_values: bool,
+) -> Result<bool, AllocError> {
+    match tableau.check(alloc, 10)? {
+        Check::Sat(values) => Ok(has_values && meet(rows, &values)),
+        Check::Unsat(_) => Ok(!has_values),
+        Check::Pivots(_) | Check::Wide(_) => Ok(false),
     }
 }
 
@@ -183,8 +180,8 @@ fn is_end(check: &Check, rows: &[Row], has_values: bool) -> bool {
 /// without.
 fn ends(alloc: Global, fields: &[&str], has_values: bool) -> Result<bool, AllocError> {
     let rows = rows_of(alloc, fields)?;
-    match check_of(alloc, &rows, 2)? {
-        Some(check) => Ok(is_end(&check, &rows, has_values)),
+    match bound_tableau(alloc, &rows, 2)? {
+        Some(mut tableau) => is_end(alloc, &mut tableau, &rows, has_values),
         None => Ok(false),
     }
 }
@@ -205,18 +202,21 @@ fn operation_named(name: &str) -> Operation {
     }
 }
 
-/// Whether a check meets a number that is too wide where a row says so.
-fn is_wide_at(check: &Check, row: &str) -> bool {
+/// Whether a number is too wide where a row says so.
+fn is_wide_at(wide: &Wide, row: &str) -> bool {
     let [_, _, place, operation, at] = fields(row, '|');
     let [turns, row, ..] = fields(at, ' ');
-    match check {
-        Check::Wide(wide) => {
-            wide.place == place_named(place)
-                && wide.row == number_of(row)
-                && wide.operation == operation_named(operation)
-                && wide.trail.turns.len() == number_of(turns)
-        }
-        _ => false,
+    wide.place == place_named(place)
+        && wide.row == number_of(row)
+        && wide.operation == operation_named(operation)
+        && wide.trail.turns.len() == number_of(turns)
+}
+
+/// Whether a check within ten turns meets a number that is too wide where a row says so.
+fn meets_wide(alloc: Global, tableau: &mut Tableau, row: &str) -> Result<bool, AllocError> {
+    match tableau.check(alloc, 10)? {
+        Check::Wide(wide) => Ok(is_wide_at(&wide, row)),
+        _ => Ok(false),
     }
 }
 
@@ -224,8 +224,8 @@ fn is_wide_at(check: &Check, row: &str) -> bool {
 fn is_wide(alloc: Global, row: &str) -> Result<bool, AllocError> {
     let [first, second, ..] = fields(row, '|');
     let rows = rows_of(alloc, &[first, second])?;
-    match check_of(alloc, &rows, 1)? {
-        Some(check) => Ok(is_wide_at(&check, row)),
+    match bound_tableau(alloc, &rows, 1)? {
+        Some(mut tableau) => meets_wide(alloc, &mut tableau, row),
         None => Ok(false),
     }
 }

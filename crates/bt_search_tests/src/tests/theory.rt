@@ -118,21 +118,32 @@ fn limits_of(text: &str) -> Limits {
     }
 }
 
-/// What a row's formula comes to.
-fn outcome_of(alloc: Global, row: &str) -> Result<Outcome, AllocError> {
-    let [clauses, scopes, guesses, limits, _] = fields(row, '|');
-    let guesses = guesses_of(alloc, guesses)?;
-    let formula = formula_of(alloc, 0, ROWS, clauses)?;
+/// What a formula comes to, with scopes and limits of these texts.
+fn solved(
+    alloc: Global,
+    formula: Formula,
+    scopes: &str,
+    guesses: &[Vec<bool>],
+    limits: &str,
+) -> Result<Outcome, AllocError> {
     let scopes = scopes_of(alloc, &formula, scopes)?;
     let choosers: Vec<Box<dyn Chooser>> = Vec::new(alloc);
     solve(
         alloc,
         formula,
         &scopes,
-        &guesses,
+        guesses,
         choosers,
         limits_of(limits),
     )
+}
+
+/// What a row's formula comes to.
+fn outcome_of(alloc: Global, row: &str) -> Result<Outcome, AllocError> {
+    let [clauses, scopes, guesses, limits, _] = fields(row, '|');
+    let guesses = guesses_of(alloc, guesses)?;
+    let formula = formula_of(alloc, 0, ROWS, clauses)?;
+    solved(alloc, formula, scopes, &guesses, limits)
 }
 
 /// Whether a formula comes to what a row says.
