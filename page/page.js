@@ -737,7 +737,7 @@ const start = async () => {
     $("given").textContent = "This browser is too old for the page: it lacks WebAssembly or DecompressionStream.";
     return;
   }
-  const whole = await through(fromBase64($("program").textContent.trim()), new DecompressionStream("deflate"), Infinity);
+  const whole = await through(fromBase85($("program").textContent.trim()), new DecompressionStream("deflate"), Infinity);
   const length = new DataView(whole.buffer).getUint32(0, true);
   offerExamples(JSON.parse(decoder.decode(whole.subarray(4, 4 + length))));
   program = new Program(whole.slice(4 + length), $("worker").textContent);

@@ -49,17 +49,27 @@ def samples():
     return [{"name": name, "text": (EXAMPLES / file).read_text("utf-8")} for file, name in named]
 
 
+def spelled(data):
+    """Bytes in base 85, four of them in five characters, none of which can end an element."""
+    return base64.b85encode(data).decode().replace("<", ",")
+
+
+def despelled(text):
+    """The bytes that are spelled so."""
+    return base64.b85decode(text.replace(b",", b"<"))
+
+
 def packed(module):
     """The examples and the program, compressed: the length of the examples in four bytes, their JSON, and the module."""
     told = json.dumps(samples(), separators=(",", ":")).encode()
     squeeze = zlib.compressobj(9, zlib.DEFLATED, 15, 9)
-    return base64.b64encode(squeeze.compress(struct.pack("<I", len(told)) + told + module) + squeeze.flush()).decode()
+    return spelled(squeeze.compress(struct.pack("<I", len(told)) + told + module) + squeeze.flush())
 
 
 def unpacked(page):
     """A page with what is packed in it as it was before: what compresses it may differ from machine to machine."""
     found = re.search(rb'(<script type="application/octet-stream" id="program">)([^<]*)', page)
-    return page[: found.start(2)] + zlib.decompress(base64.b64decode(found.group(2))) + page[found.end(2) :]
+    return page[: found.start(2)] + zlib.decompress(despelled(found.group(2))) + page[found.end(2) :]
 
 
 def hash_of(text):
@@ -95,6 +105,6 @@ def page_of(module):
 def module_of(page):
     """The program in a page."""
     found = re.search(rb'<script type="application/octet-stream" id="program">([^<]*)', page)
-    whole = zlib.decompress(base64.b64decode(found.group(1)))
+    whole = zlib.decompress(despelled(found.group(1)))
     (length,) = struct.unpack_from("<I", whole)
     return whole[4 + length :]

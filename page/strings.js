@@ -23,6 +23,28 @@ const fromBase64 = (text) => {
   return bytes;
 };
 
+/** The digits of base 85, from 0: those of RFC 1924, with a comma for its `<`. */
+const DIGITS_85 = "0123456789ABCDEFGHIJKLMNOPQRSTUVWXYZabcdefghijklmnopqrstuvwxyz!#$%&()*+-;,=>?@^_`{|}~";
+
+/** The bytes of a text in base 85, of which five characters stand for four bytes. */
+const fromBase85 = (text) => {
+  const values = new Uint8Array(128);
+  [...DIGITS_85].forEach((digit, value) => {
+    values[digit.charCodeAt(0)] = value;
+  });
+  const missing = (5 - (text.length % 5)) % 5;
+  const padded = text + "~".repeat(missing);
+  const bytes = new DataView(new ArrayBuffer((padded.length / 5) * 4));
+  for (let at = 0; at < padded.length; at += 5) {
+    let sum = 0;
+    for (let digit = 0; digit < 5; digit += 1) {
+      sum = sum * 85 + values[padded.charCodeAt(at + digit)];
+    }
+    bytes.setUint32((at / 5) * 4, sum);
+  }
+  return new Uint8Array(bytes.buffer, 0, bytes.byteLength - missing);
+};
+
 const toBase64 = (bytes) => {
   const parts = [];
   for (let at = 0; at < bytes.length; at += 0x8000) parts.push(String.fromCharCode(...bytes.subarray(at, at + 0x8000)));

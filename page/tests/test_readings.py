@@ -9,7 +9,7 @@ from collection.books import entries
 from collection.strings import inflate
 from collection.tests import belt, blueprint, program_path
 
-from . import EXAMPLES, needs_node, run_scripts
+from . import EXAMPLES, needs_node, run_scripts, sheet
 
 NAMES = ["strings", "books", "design", "trace", "states", "refusals", "entities", "cleaning", "labels", "openings"]
 DRIVER = """
@@ -43,6 +43,10 @@ const main = async () => {
   fs.writeSync(1, JSON.stringify({ answers, pairs: labels.map(pairsIn), spelled: labels.map((it) => spelledPairs(pairsIn(it))) }));
 };
 main();
+"""
+SPELLER = """
+const texts = JSON.parse(require("fs").readFileSync(0, "utf8"));
+require("fs").writeSync(1, JSON.stringify(texts.map((it) => [...fromBase85(it)])));
 """
 SPELLINGS = ["4 to 4", "4-4", "4:4", "4x4", "4→4", "4 -> 2", "3 => 5 balancer", "8 × 8 (9x11)", "v2.0", "4-to-4 and 2-to-2", "1:2:3", "[color=red]6[/color] to 6", "10x10cm", "", "a 4–4", "0 to 4", "4 to 4.5"]
 
@@ -124,6 +128,12 @@ class Readings(unittest.TestCase):
         self.assertGreater(opened, 10)
         self.assertEqual(told["pairs"], [[list(pair) for pair in labels.told(it)] for it in SPELLINGS])
         self.assertEqual(told["spelled"], [labels.spelled(labels.told(it)) for it in SPELLINGS])
+
+    def test_bytes_in_base_85_are_read_as_they_were(self):
+        asked = [bytes(range(251, 251 - length, -1)) for length in range(12)] + [bytes(9), b"\xff" * 8, bytes(range(256)) * 3]
+        told = json.loads(run_scripts(["strings"], SPELLER, json.dumps([sheet.spelled(it) for it in asked]).encode()))
+        self.assertEqual([bytes(it) for it in told], asked)
+        self.assertEqual([sheet.despelled(sheet.spelled(it).encode()) for it in asked], asked)
 
 
 if __name__ == "__main__":
