@@ -5,6 +5,7 @@ use bt_io::MemSink;
 use bt_net::Net;
 use bt_same::{Pair, print_pair, read_pair};
 use std::alloc::{AllocError, Global};
+use std::process::Abort;
 use std::test::Fail;
 
 /// A splitter with one belt to it and one from it.
@@ -91,11 +92,11 @@ fn is_pair(alloc: Global, first: &Net, second: &Net) -> Result<bool, AllocError>
 }
 
 /// Judges all rows and the pair.
-fn judge(rt: &HostRuntime, first: &Net, second: &Net) -> Result<(), Fail> {
+fn judge(rt: &impl Abort, alloc: Global, first: &Net, second: &Net) -> Result<(), Fail> {
     for row in TEXTS {
-        assert!(rt; is_read(rt.alloc(), first, second, row), "{row}");
+        assert!(rt; is_read(alloc, first, second, row), "{row}");
     }
-    assert!(rt; is_pair(rt.alloc(), first, second)?);
+    assert!(rt; is_pair(alloc, first, second)?);
     Ok(())
 }
 
@@ -103,5 +104,5 @@ fn judge(rt: &HostRuntime, first: &Net, second: &Net) -> Result<(), Fail> {
 fn pairs(rt: HostRuntime) -> Result<(), Fail> {
     let first = net_of(rt.alloc(), ONE_BELT).ok_or("no network")?;
     let second = net_of(rt.alloc(), PASSED_ON).ok_or("no network")?;
-    judge(&rt, &first, &second)
+    judge(&rt, rt.alloc(), &first, &second)
 }

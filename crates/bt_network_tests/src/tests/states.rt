@@ -4,6 +4,7 @@ use bt_flow::{Property, State, StateFault, print_state, read_state};
 use bt_io::MemSink;
 use bt_net::Net;
 use std::alloc::{AllocError, Global};
+use std::process::Abort;
 use std::test::Fail;
 
 /// A state of the belt as text, and the line that is refused, or 0.
@@ -74,16 +75,16 @@ fn is_state(alloc: Global, net: &Net) -> Result<bool, AllocError> {
 }
 
 /// Judges all rows and the state.
-fn judge(rt: &HostRuntime, net: &Net) -> Result<(), Fail> {
+fn judge(rt: &impl Abort, alloc: Global, net: &Net) -> Result<(), Fail> {
     for row in TEXTS {
-        assert!(rt; is_read(rt.alloc(), net, row), "{row}");
+        assert!(rt; is_read(alloc, net, row), "{row}");
     }
-    assert!(rt; is_state(rt.alloc(), net)?);
+    assert!(rt; is_state(alloc, net)?);
     Ok(())
 }
 
 #[test]
 fn states(rt: HostRuntime) -> Result<(), Fail> {
     let net = net_of(rt.alloc(), ONE_BELT).ok_or("no network")?;
-    judge(&rt, &net)
+    judge(&rt, rt.alloc(), &net)
 }
