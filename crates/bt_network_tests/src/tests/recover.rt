@@ -205,11 +205,9 @@ fn is_recovered(alloc: Global, row: &str) -> Result<bool, Memory> {
     }
 }
 
-/// Whether a network is recovered of parts that has so many inputs, outputs, splitters and edges.
-fn has_counts(alloc: Global, parts: Vec<Part>, ends: [u32; 3], edges: usize) -> bool
-    requires { AreInRange parts.items }
-{
-    match recovered(alloc, parts) {
+/// Whether a network is recovered that has so many inputs, outputs, splitters and edges.
+fn has_counts(recovered: &Result<Traced, RecoverFault>, ends: [u32; 3], edges: usize) -> bool {
+    match recovered {
         Ok(traced) => {
             let net = &traced.net;
             [net.inputs(), net.outputs(), net.splitters()] == ends && net.edges().len() == edges
@@ -218,21 +216,9 @@ fn has_counts(alloc: Global, parts: Vec<Part>, ends: [u32; 3], edges: usize) -> 
     }
 }
 
-/// Whether there are too many parts.
-fn are_too_many(alloc: Global, parts: Vec<Part>) -> bool
-    requires { AreInRange parts.items }
-{
-    match recovered(alloc, parts) {
-        Ok(_) => false,
-        Err(fault) => fault == RecoverFault::TooLarge,
-    }
-}
-
-/// Whether of parts splitters are told by their parts and ends by their cells.
-fn are_numbered(alloc: Global, parts: Vec<Part>) -> bool
-    requires { AreInRange parts.items }
-{
-    match recovered(alloc, parts) {
+/// Whether splitters are told by their parts and ends by their cells.
+fn are_numbered(recovered: &Result<Traced, RecoverFault>) -> bool {
+    match recovered {
         Ok(traced) => {
             traced.inputs.as_slice() == [4, 5].as_slice()
                 && traced.outputs.as_slice() == [0, 1].as_slice()
@@ -251,27 +237,30 @@ fn layouts(rt: HostRuntime) -> Result<(), Fail> {
         assert!(rt; is_recovered(rt.alloc(), row)?, "{row}");
     }
     let parts = parts_with_speeds(rt.alloc(), "^^/[]/[]/^^", "")?;
-    assert!(rt; are_numbered(rt.alloc(), parts));
+    assert!(rt; are_numbered(&recovered(rt.alloc(), parts)));
     Ok(())
 }
 
 #[test]
 fn large_layouts(rt: HostRuntime) -> Result<(), Fail> {
-    let eight = parts_with_speeds(rt.alloc(), EIGHT, "")?;
-    assert!(rt; has_counts(rt.alloc(), eight, [8, 8, 12], 32));
-    let most = lone_belts(rt.alloc(), 2048)?;
-    assert!(rt; has_counts(rt.alloc(), most, [2048, 2048, 0], 2048));
-    let more = lone_belts(rt.alloc(), 2049)?;
-    assert!(rt; are_too_many(rt.alloc(), more));
+    let eight = recovered(rt.alloc(), parts_with_speeds(rt.alloc(), EIGHT, "")?);
+    assert!(rt; has_counts(&eight, [8, 8, 12], 32));
+    let most = recovered(rt.alloc(), lone_belts(rt.alloc(), 2048)?);
+    assert!(rt; has_counts(&most, [2048, 2048, 0], 2048));
+    let more = recovered(rt.alloc(), lone_belts(rt.alloc(), 2049)?);
+    assert!(rt; more.err() == Some(RecoverFault::TooLarge));
     Ok(())
 }
 
-/// Whether the plain list of an entrance, its exit and a belt behind that tells what is paired and handed.
-fn tells_pair(grid: &Grid) -> bool {
+#[test]
+fn plain_lists_tell_pairs_handing_and_rings(rt: HostRuntime) -> Result<(), Fail> {
+    let grid = placed(
+        &rt,
+        rt.alloc(),
+        parts_with_speeds(rt.alloc(), "E...e>", "")?,
+    );
     let parts = grid.parts();
-    if parts.len() != 3 {
-        return false;
-    }
+    assert!(rt; parts.len() == 3);
     let told = [
         pair(parts, 0, 1),
         pair(parts, 1, 0),
@@ -280,29 +269,9 @@ fn tells_pair(grid: &Grid) -> bool {
         hands(parts, 0, 2),
         ring(parts, 0),
     ];
-    told == [true, false, true, true, false, false]
-}
-
-/// Whether the plain list of a ring of four belts tells that it is one.
-fn tells_ring(grid: &Grid) -> bool {
-    let parts = grid.parts();
-    parts.len() == 4 && ring(parts, 3)
-}
-
-#[test]
-fn plain_lists_tell_pairs_and_handing(rt: HostRuntime) -> Result<(), Fail> {
-    let grid = placed(
-        &rt,
-        rt.alloc(),
-        parts_with_speeds(rt.alloc(), "E...e>", "")?,
-    );
-    assert!(rt; tells_pair(&grid));
-    Ok(())
-}
-
-#[test]
-fn plain_lists_tell_rings(rt: HostRuntime) -> Result<(), Fail> {
+    assert!(rt; told == [true, false, true, true, false, false]);
     let grid = placed(&rt, rt.alloc(), parts_with_speeds(rt.alloc(), RING, "")?);
-    assert!(rt; tells_ring(&grid));
+    let parts = grid.parts();
+    assert!(rt; parts.len() == 4 && ring(parts, 3));
     Ok(())
 }

@@ -3,6 +3,7 @@ ghost use Rattle.std.specs.Prelude.{IfSome};
 ghost use Rattle.bt_flow.specs.States.{Fits};
 
 use super::{ONE_BELT, SPLITTER, fields, net_of};
+use bt_cnf::Chooser;
 use bt_decide::{Limits, SameVerdict, decide_same};
 use bt_flow::{Property, State, Test, read_state};
 use bt_net::Net;
@@ -42,17 +43,13 @@ fn text_named(name: &str) -> &'static str {
     }
 }
 
-/// What a verdict says.
-fn told_of(verdict: &SameVerdict) -> &'static str {
-    match verdict {
-        SameVerdict::Yes(_) => "same",
-        SameVerdict::No(_) => "differ",
-        SameVerdict::GaveUp(_) => "gave up",
-    }
-}
-
 /// What deciding whether two networks behave the same comes to.
-fn verdict_on(alloc: Global, first: &Net, second: &Net) -> Result<&'static str, AllocError> {
+fn verdict_on<C: Chooser>(
+    alloc: Global,
+    first: &Net,
+    second: &Net,
+    choosers: Vec<C>,
+) -> Result<&'static str, AllocError> {
     if first.inputs() != second.inputs() || first.outputs() != second.outputs() {
         return Ok("ends");
     }
@@ -60,34 +57,30 @@ fn verdict_on(alloc: Global, first: &Net, second: &Net) -> Result<&'static str, 
         learnt: 1000,
         pivots: 1000,
     };
-    let none: Vec<Lowest> = Vec::new(alloc);
-    Ok(told_of(&decide_same(alloc, first, second, limits, none)?))
-}
-
-/// The networks of two names.
-fn nets_named(alloc: Global, first: &str, second: &str) -> Option<[Net; 2]> {
-    match net_of(alloc, text_named(first)) {
-        Some(first) => match net_of(alloc, text_named(second)) {
-            Some(second) => Some([first, second]),
-            None => None,
-        },
-        None => None,
+    match decide_same(alloc, first, second, limits, choosers)? {
+        SameVerdict::Yes(_) => Ok("same"),
+        SameVerdict::No(_) => Ok("differ"),
+        SameVerdict::GaveUp(_) => Ok("gave up"),
     }
 }
 
 /// Whether a row's networks are decided as it says.
-fn is_decided(alloc: Global, row: &str) -> Result<bool, AllocError> {
+fn is_decided<C: Chooser>(alloc: Global, row: &str, choosers: Vec<C>) -> Result<bool, AllocError> {
     let [first, second, verdict, ..] = fields(row, '|');
-    match nets_named(alloc, first, second) {
-        Some([first, second]) => Ok(verdict_on(alloc, &first, &second)? == verdict),
-        None => Ok(false),
-    }
+    let (Some(first), Some(second)) = (
+        net_of(alloc, text_named(first)),
+        net_of(alloc, text_named(second)),
+    ) else {
+        return Ok(false);
+    };
+    Ok(verdict_on(alloc, &first, &second, choosers)? == verdict)
 }
 
 #[test]
 fn decides_sameness(rt: HostRuntime) -> Result<(), Fail> {
     for row in DECIDED {
-        assert!(rt; is_decided(rt.alloc(), row)?, "{row}");
+        let none: Vec<Lowest> = Vec::new(rt.alloc());
+        assert!(rt; is_decided(rt.alloc(), row, none)?, "{row}");
     }
     Ok(())
 }
@@ -113,30 +106,28 @@ fn judgement_named(name: &str) -> PairJudgement {
 }
 
 /// Whether a pair of written states is judged as a row says.
-fn is_judged_of(alloc: Global, first: &Net, second: &Net, row: &str) -> bool {
+fn is_judged(alloc: Global, row: &str) -> bool {
     let [one, other, judgement, ..] = fields(row, '|');
+    let Some(first) = net_of(alloc, SPLITTER) else {
+        return false;
+    };
+    let Some(second) = net_of(alloc, BELTS) else {
+        return false;
+    };
     if first.inputs() != second.inputs() || first.outputs() != second.outputs() {
         return false;
     }
-    let Some(one) = state_of(alloc, first, one) else {
+    let Some(one) = state_of(alloc, &first, one) else {
         return false;
     };
-    let Some(other) = state_of(alloc, second, other) else {
+    let Some(other) = state_of(alloc, &second, other) else {
         return false;
     };
     let pair = Pair {
         first: one,
         second: other,
     };
-    differs(first, second, &pair) == Ok(judgement_named(judgement))
-}
-
-/// Whether a pair of written states of a splitter and of two belts is judged as a row says.
-fn is_judged(alloc: Global, row: &str) -> bool {
-    match nets_named(alloc, "splitter", "belts") {
-        Some([first, second]) => is_judged_of(alloc, &first, &second, row),
-        None => false,
-    }
+    differs(&first, &second, &pair) == Ok(judgement_named(judgement))
 }
 
 /// The state of a network that a text writes.

@@ -1,6 +1,6 @@
 use Rattle.std.proofs.Common.{subst, sym}
 use Rattle.bt_parts.specs.Layouts.{IsWellPlaced}
-use Rattle.bt_network_tests.proofs.tests.recover.tells_pair.Goals as goal
+use Rattle.bt_network_tests.proofs.tests.recover.plain_lists_tell_pairs_handing_and_rings.Goals as goal
 
 pub pair-requires-clause-well_placed : goal.pair-requires-clause-well_placed
 pair-requires-clause-well_placed g c = subst (λ parts. IsWellPlaced parts) (sym c.parts-parts.ensures.value) c.parts-parts.ensures.well_placed
@@ -19,3 +19,6 @@ hands-requires-3-clause-well_placed g c = subst (λ parts. IsWellPlaced parts) (
 
 pub ring-requires-clause-well_placed : goal.ring-requires-clause-well_placed
 ring-requires-clause-well_placed g c = subst (λ parts. IsWellPlaced parts) (sym c.parts-parts.ensures.value) c.parts-parts.ensures.well_placed
+
+pub ring-requires-then-parts-eq4-clause-well_placed : goal.ring-requires-then-parts-eq4-clause-well_placed
+ring-requires-then-parts-eq4-clause-well_placed g c = subst (λ parts. IsWellPlaced parts) (sym c.parts-parts-2.ensures.value) c.parts-parts-2.ensures.well_placed
