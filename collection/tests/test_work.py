@@ -137,7 +137,7 @@ class Resuming(Case):
             tool = self.start(how="slow")
             self.wait_for(2)
             tool.send_signal(number)
-            _, wrong = tool.communicate(timeout=20)
+            _, wrong = tool.communicate(timeout=90)
             self.assertEqual((tool.returncode, b"goes on from here" in wrong), (130, True), wrong)
             self.assertEqual((self.left_undone(), (self.report / "index.html").exists()), ([], False))
         (self.folder / "log").unlink()
