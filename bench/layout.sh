@@ -36,16 +36,24 @@ CASES = [
     ("splitter-2-to-2", ["16x16"], "found", 1, None),
     ("balancer-8-to-8", ["9x11"], "found", 2, None),
     ("balancer-8-to-8", ["16x16", "12x12", "8x16", "9x12", "8x14", "8x13", "10x10", "10x11"], "found", 20, None),
-    ("balancer-8-to-8", ["8x12", "9x10"], "found", None, None),
+    ("balancer-8-to-8", ["9x10", "10x9", "10x12", "9x13", "11x11", "16x9"], "found", 5, None),
+    ("balancer-8-to-8", ["8x12"], "found", None, None),
     ("stages-4-to-4", ["16x16"], "found", 5, None),
     ("ring-8-to-8", ["16x16"], "found", 5, None),
     ("doubled-4-to-4", ["16x16", "10x12", "8x12"], "found", 5, None),
     ("belt-across", ["16x16"], "found", 5, None),
     ("pinned-2-to-2", ["16x16"], "found", 5, None),
     ("own-loop", ["16x16"], "found", 5, None),
-    ("loop-5-to-5", ["16x16", "13x15", "12x14"], "found", 5, None),
+    ("loop-5-to-5", ["16x16", "13x15", "12x14", "12x12", "10x14"], "found", 5, None),
     ("loop-6-to-6", ["16x16", "12x15", "12x14", "12x12"], "found", 5, None),
-    ("loop-7-to-7", ["16x16", "12x14", "12x12"], "found", 5, None),
+    ("loop-7-to-7", ["16x16", "12x14", "12x12", "9x12"], "found", 5, None),
+    ("sided-4-to-4", ["16x16", "5x8"], "found", 10, None),
+    ("sided-6-to-6", ["16x16", "7x10"], "found", 10, None),
+    ("sided-8-to-8", ["16x16", "12x12", "9x12"], "found", 10, None),
+    ("sided-doubled-4-to-4", ["16x16", "8x14"], "found", 10, None),
+    ("sided-loop-5-to-5", ["16x16", "12x16"], "found", 10, None),
+    ("sided-loop-6-to-6", ["16x16", "12x14"], "found", 10, None),
+    ("sided-loop-7-to-7", ["16x16", "12x14"], "found", 10, None),
 ]
 
 
@@ -64,9 +72,19 @@ def balancer():
     return networks.Network(8, 8, 12, ends)
 
 
+def demanded(text, *lines):
+    """The request for a network with these lines of pins or sides."""
+    return text.replace("end\n", "\n".join([*lines, "end"]) + "\n")
+
+
 def pinned(name, *pins):
     """The request for a network of the examples with these pins."""
-    return (Path(examples) / f"{name}.net").read_text().replace("end\n", "\n".join([*pins, "end"]) + "\n")
+    return demanded((Path(examples) / f"{name}.net").read_text(), *pins)
+
+
+def sided(text):
+    """The request for a network whose inputs are in the south and whose outputs are in the north."""
+    return demanded(text, "side inputs south", "side outputs north")
 
 
 MADE = {
@@ -80,6 +98,13 @@ MADE = {
     "loop-5-to-5": lambda: networks.looped(balancer(), 5).text(),
     "loop-6-to-6": lambda: networks.looped(balancer(), 6).text(),
     "loop-7-to-7": lambda: networks.looped(balancer(), 7).text(),
+    "sided-4-to-4": lambda: sided((Path(examples) / "balancer-4-to-4.net").read_text()),
+    "sided-6-to-6": lambda: sided(MADE["ring-6-to-6"]()),
+    "sided-8-to-8": lambda: sided(balancer().text()),
+    "sided-doubled-4-to-4": lambda: sided(networks.doubled(2).text()),
+    "sided-loop-5-to-5": lambda: sided(networks.looped(balancer(), 5).text()),
+    "sided-loop-6-to-6": lambda: sided(networks.looped(balancer(), 6).text()),
+    "sided-loop-7-to-7": lambda: sided(networks.looped(balancer(), 7).text()),
 }
 
 

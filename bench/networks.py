@@ -92,9 +92,10 @@ def renumbered(text, seed):
         chance.shuffle(order)
     named = lambda end: f"{end[0]}{numbers[end[0]][int(end[1:])]}"
     edges = [" ".join([word, named(start), named(target), *rest]) for word, start, target, *rest in (line.split() for line in lines if line.startswith("edge"))]
-    pins = [" ".join([word, named(end), *rest]) for word, end, *rest in (line.split() for line in lines if line.startswith("pin"))]
+    placed = [line.split() for line in lines if line.startswith(("pin", "side"))]
+    demands = [" ".join([word, end if end in ("inputs", "outputs") else named(end), *rest]) for word, end, *rest in placed]
     chance.shuffle(edges)
-    return "\n".join([head, *edges, *pins, *(line for line in lines if line.startswith("block")), "end"]) + "\n"
+    return "\n".join([head, *edges, *demands, *(line for line in lines if line.startswith("block")), "end"]) + "\n"
 
 
 def all_networks():

@@ -95,12 +95,14 @@ UNDECIDED = Answer(why="not decided yet")
 
 @dataclass(frozen=True)
 class Smaller(Kept):
-    """What became of looking for a smaller layout: its width and height and the digests of its files, or why there is
-    none; what it took, in seconds of a processor and by the clock; and under which limits."""
+    """What became of looking for a smaller layout: its width and height, whether its ends are at the design's sides, and
+    the digests of its files, or why there is none; what it took, in seconds of a processor and by the clock; and under
+    which limits."""
 
     verdict: str
     why: str = ""
     size: list | None = None
+    sides: bool = False
     processor: float | int | None = None
     clock: float | int | None = None
     digests: dict = field(default_factory=dict)

@@ -90,7 +90,8 @@ def say(rows, output):
     print(f"{output / 'index.html'}: {len(rows)} found, {len(with_network)} with a network{': ' * bool(told)}{told}")
     looked_for = [row.smaller.verdict for row in with_network if row.smaller]
     if looked_for:
-        print(f"{looked_for.count('found')} with a smaller layout")
+        kept = sum(row.smaller.sides for row in with_network if row.smaller)
+        print(f"{looked_for.count('found')} with a smaller layout, of which {kept} with each end at its own side")
     broken = all(row.is_broken() for row in rows)
     if broken:
         print("collection: there is no design in what was given", file=sys.stderr)

@@ -307,6 +307,11 @@ def breaking(row, prop):
     return element("section", *content, class_="breaking")
 
 
+SIDES_KEPT = "Each input and output that is at a side of the design is at that side here too."
+SIDES_LEFT = "Its inputs and outputs may be at other sides: with each at its own side of the design none was found."
+"""Which sides the ends of a smaller layout are at."""
+
+
 def smaller(row):
     """The smaller layout that was found: its size, its picture and its string; or why there is none."""
     told, heading = row.smaller, element("h3", "A smaller layout")
@@ -316,7 +321,8 @@ def smaller(row):
     own = row.size()
     than = f", where the design has {own[0]} × {own[1]}, {counted(own[0] * own[1], 'cell')}" if own else ""
     links = " and ".join(link(row, it) for it in (SMALLER, SMALLER_STRING))
-    said = element("p", f"{width} × {height}, {counted(width * height, 'cell')}{than}: ", links)
+    sides = SIDES_KEPT if told.sides else SIDES_LEFT
+    said = element("p", f"{width} × {height}, {counted(width * height, 'cell')}{than}: ", links, f". {sides}")
     picture = row.smaller_picture
     label = f"{files.plain(row.found.name)}, laid out smaller"
     drawn = figure(picture, picture.parts(f"s-{row.id()}") + picture.ends(), label)

@@ -42,7 +42,8 @@ def lines_of(row, program):
     if row.smaller:
         told = row.smaller
         found = told.verdict == "found"
-        why = "{} x {}".format(*told.size) if found else row.why_no_smaller()
+        sides = "each end at its own side" if told.sides else "ends at any side"
+        why = "{} x {}, {}".format(*told.size, sides) if found else row.why_no_smaller()
         line = ["smaller", told.verdict, why, 0, *took(told), "", f"designs/{row.id()}/{SMALLER}" if found else ""]
         lines.append([*start, *line, *digests, "", *of_ends])
     return lines

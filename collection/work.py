@@ -386,20 +386,32 @@ class Worker:
         return told
 
     def shrink_anew(self, folder, answer):
-        """Looks for a smaller layout; where the time is bounded, with more and more steps, so that what was found stands
-        when the time is up."""
+        """Looks for a smaller layout with each end at its own side, for half of the time where that is bounded, and where
+        none is found for one with ends at any side."""
         for name in (SMALLER, SMALLER_STRING):
             folder.file(name).unlink(missing_ok=True)
-        tier, found, spent, told = tier_words(folder.text(folder.design_file().name)), None, Spent(), None
+        seconds, spent = self.limits.seconds, Spent()
+        told = self.look_in_rounds(folder, answer, ["--sides"], seconds and seconds / 2, spent)
+        if told.verdict == "found":
+            told = replace(told, sides=True)
+        elif told.verdict in ("late", "none"):
+            first, told = told, self.look_in_rounds(folder, answer, [], seconds, spent)
+            if first.verdict == told.verdict == "none":
+                told = replace(told, why=f"{first.why} with each end at its own side, and {told.why} with ends at any")
+        return replace(told, processor=round(spent.processor, 3), clock=round(spent.clock, 3), limits=self.limits.told())
+
+    def look_in_rounds(self, folder, answer, words, seconds, spent):
+        """Looks for a smaller layout with these words until so many seconds are spent; where the time is bounded, with
+        more and more steps, so that what was found stands when it is up."""
+        tier, found, told = tier_words(folder.text(folder.design_file().name)), None, None
         for steps in rounds(self.limits):
-            left = self.limits.seconds and max(0.001, self.limits.seconds - spent.clock)
-            told = self.look(folder, answer, [*tier, *steps], left, spent)
+            left = seconds and max(0.001, seconds - spent.clock)
+            told = self.look(folder, answer, [*words, *tier, *steps], left, spent)
             if told.verdict == "found":
                 found = told
             elif told.verdict != "none":
                 break
-        told = found if found and told.verdict in ("late", "none") else told
-        return replace(told, processor=round(spent.processor, 3), clock=round(spent.clock, 3), limits=self.limits.told())
+        return found if found and told.verdict in ("late", "none") else told
 
     def look(self, folder, answer, words, seconds, spent):
         """Looks for a smaller layout once, with these words and for so many seconds."""

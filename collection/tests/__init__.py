@@ -49,8 +49,11 @@ FAKE = '''#!/bin/sh
 # Answers as the program does of one belt, and notes each run; {how} is what else it does.
 echo "$@" >>"{log}"
 cat >/dev/null
+case "$3 {how}" in
+  '--sides sideless') printf 'spent 7\nend\n'; exit 4 ;;
+esac
 case "$1 $2 {how}" in
-  'smallest --found small') printf 'grid 1x1\n%s\n' '{small}' ;;
+  'smallest --found small' | 'smallest --found sideless') printf 'grid 1x1\n%s\n' '{small}' ;;
   'smallest --found other') touch "{log}.asked"; printf 'grid 1x1\n%s\n' '{small}' ;;
   'smallest --found refused') echo 'refused 45 Cap 0'; exit 3 ;;
   'smallest --found killed') kill -9 $$ ;;

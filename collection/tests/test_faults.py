@@ -159,12 +159,15 @@ class Programs(Case):
 
     def test_what_was_found_stands_when_the_time_is_up(self):
         small = blueprint(belt(0, 0))
-        net = 'case $1$6 in recover) printf "net 1 1 0\\nedge i0 o0\\nend\\n";; '
-        search = "smallest500 | smallest2000) printf 'grid 1x1\\n%s\\n' '" + small + "';; smallest*) exec sleep 60;; "
-        self.told(net + search + "*) exit 4;; esac", "--smaller", "--seconds", 3)
-        (line,) = [it for it in self.results() if it["property"] == "smaller"]
-        self.assertEqual((line["verdict"], line["why"]), ("found", "1 x 1"))
-        self.assertGreater(float(line["clock_seconds"]), 1)
+        net = 'case $1$6$7 in recover) printf "net 1 1 0\\nedge i0 o0\\nend\\n";; '
+        found = "printf 'grid 1x1\\n%s\\n' '" + small + "';; smallest*) exec sleep 60;; *) exit 4;; esac"
+        cases = {"500": "ends at any side", "--learnt500": "each end at its own side"}
+        for words, sides in cases.items():
+            with self.subTest(sides=sides):
+                self.told(f"{net} smallest{words} | smallest{words.replace('500', '2000')}) {found}", "--smaller", "--seconds", 4)
+                (line,) = [it for it in self.results() if it["property"] == "smaller"]
+                self.assertEqual((line["verdict"], line["why"]), ("found", f"1 x 1, {sides}"))
+                self.assertGreater(float(line["clock_seconds"]), 1)
 
     def test_progress_is_told_where_there_is_no_terminal(self):
         now, told = [0.0], io.StringIO()

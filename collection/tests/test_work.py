@@ -206,18 +206,26 @@ class Smaller(Case):
 
     def test_it_is_kept_as_json_and_as_a_string(self):
         self.assertEqual(self.run_on(), 0)
-        self.assertEqual(self.searches(), ["smallest --found --tier fast"])
-        self.assertEqual(self.told(), ("found", "1 x 1", "designs/one/smaller.json"))
+        self.assertEqual(self.searches(), ["smallest --found --sides --tier fast"])
+        self.assertEqual(self.told(), ("found", "1 x 1, each end at its own side", "designs/one/smaller.json"))
         json, string = (self.kept / name for name in ("smaller.json", "smaller.txt"))
         self.assertEqual(strings.inflate(string.read_text()), json.read_bytes().rstrip(b"\n"))
         said = "1 × 1, 1 cell, where the design has 1 × 2, 2 cells"
-        for text in ("A smaller layout", said, string.read_text().strip()):
+        sides = "Each input and output that is at a side of the design is at that side here too."
+        for text in ("A smaller layout", said, sides, string.read_text().strip()):
             self.assertIn(text, self.page())
         page, found = self.page(), test_report.Tags()
         found.feed(page)
         self.assertEqual((found.wrong, found.open, len(found.ids)), ([], [], len(set(found.ids))))
         self.assertEqual([it for it in found.links if it[0] != "#" and not (self.report / it).is_file()], [])
         self.assertEqual((self.run_on(), len(self.searches()), self.page()), (0, 1, page))
+
+    def test_where_none_has_its_ends_at_their_sides_any_will_do(self):
+        self.assertEqual(self.run_on(how="sideless"), 0)
+        self.assertEqual(self.searches(), ["smallest --found --sides --tier fast", "smallest --found --tier fast"])
+        self.assertEqual(self.told(), ("found", "1 x 1, ends at any side", "designs/one/smaller.json"))
+        self.assertIn("Its inputs and outputs may be at other sides", self.page())
+        self.assertEqual((self.run_on(how="sideless"), len(self.searches())), (0, 2))
 
     def test_a_lost_or_changed_file_or_another_limit_looks_again(self):
         self.run_on()
@@ -226,7 +234,7 @@ class Smaller(Case):
         (self.kept / "smaller.txt").unlink()
         self.run_on()
         self.run_on("--learnt", 5)
-        words = "smallest --found --tier fast"
+        words = "smallest --found --sides --tier fast"
         self.assertEqual(self.searches()[1:], [words, words, f"{words} --learnt 5"])
 
     def test_it_is_looked_for_where_it_is_asked_and_a_design_is_laid_out(self):
@@ -238,7 +246,11 @@ class Smaller(Case):
 
     def test_each_failure_is_a_line(self):
         cases = {
-            "": (0, "none", "none was found in 7 steps"),
+            "": (
+                0,
+                "none",
+                "none was found in 7 steps with each end at its own side, and none was found in 7 steps with ends at any",
+            ),
             "refused": (0, "refused", "refused 45 Cap: a layout is looked for of networks in which each edge carries one full "
             "belt, and of this one an edge doesn't"),
             "killed": (1, "failed", "the program was ended by signal 9"),

@@ -11,7 +11,7 @@ use Rattle.bt_cnf.specs.Formulas.{FormulaParts, IsFormula}
 use Rattle.bt_extend.specs.Extending.{extended}
 use Rattle.bt_extend.specs.declared.definition.Definition.{Definition}
 use Rattle.bt_cert.specs.Certificates.{AreStepsRead, AreDefined, IsCertRead}
-use Rattle.bt_cert.specs.Readings.{AnswersBy, ChecksBy, IsCheckedBy}
+use Rattle.bt_cert.specs.Readings.{AnswersBy, ChecksBy, IsCheckedBy, ExtendsBy, IsExtendedAfter}
 use Rattle.bt_cert.specs.inner.Defining.{DefiningParts, GoesOn, HasDefined, DefinesOn, ReachesSteps, TakesLastLine, ReadsToSteps, ReadsToEnd, ReadsDefinitions}
 use Rattle.bt_cert.specs.declared.defining.TheConstants.{MOST_DEFINITIONS}
 use Rattle.bt_cert.specs.declared.fault.CertFault.{CertFault}
@@ -115,18 +115,20 @@ module _ {S : Type 0} (left : S → Option (List ℕ)) (faults : S → ℕ) (fir
   full : length reached.bytes + (limit - taken) ≡ limit
   full = omega (arith, reached.many, reached.few)
 
+  defined_behind : (bytes : List ℕ) → AreDefined MOST_DEFINITIONS f (head ++ (reached.bytes ++ bytes)) steps.definitions (new.part ++ bytes)
+  defined_behind bytes =
+      subst (λ t. AreDefined MOST_DEFINITIONS f t steps.definitions (new.part ++ bytes)) (append_assoc head reached.bytes bytes) (steps.defined bytes)
+
   answers_behind : (told : Result (Unit {0}) CertFault)
       → AnswersBy (AreStepsRead (FIRST_LINE + new.count) after) new.part (limit - taken) (passage left faults second third) told
       → AnswersBy (IsCertRead f) head limit (passage left faults first third) told
   answers_behind told h =
-      let text = head ++ (reached.bytes ++ h.0) in
-      let defined : AreDefined MOST_DEFINITIONS f text steps.definitions (new.part ++ h.0) =
-      subst (λ t. AreDefined MOST_DEFINITIONS f t steps.definitions (new.part ++ h.0)) (append_assoc head reached.bytes h.0) (steps.defined h.0) in (
+      let text = head ++ (reached.bytes ++ h.0) in (
         reached.bytes ++ h.0,
         (Consumes-trans (left first) (left second) (left third) reached.bytes h.0 reached.consumed h.1.0, h.1.1),
         omega (arith, length-append reached.bytes h.0, h.2, within),
         answers_of Memory (IsCertRead f text) (one_answer f is text) told
-            (unless_behind f after text (new.part ++ h.0) new.count steps.definitions defined steps.formula steps.count told h.3.right),
+            (unless_behind f after text (new.part ++ h.0) new.count steps.definitions (defined_behind h.0) steps.formula steps.count told h.3.right),
       )
 
   at_most_behind : TakesAtMost (passage left faults second third) (limit - taken) → TakesAtMost (passage left faults first third) limit
@@ -153,6 +155,67 @@ module _ {S : Type 0} (left : S → Option (List ℕ)) (faults : S → ℕ) (fir
     checked = checked_behind told h.count h.checked;
     count = let later : faults second ≤ faults third = h.count in omega (arith, earlier, later);
   }
+
+  -- the formula that the whole text extends is the one with these definitions
+  extends_behind : (told : Result (Unit {0}) CertFault)
+      → AnswersBy (AreStepsRead (FIRST_LINE + new.count) after) new.part (limit - taken) (passage left faults second third) told
+      → ExtendsBy f head (passage left faults first third) after
+  extends_behind told h = record {
+    bytes = reached.bytes ++ h.0;
+    all = (Consumes-trans (left first) (left second) (left third) reached.bytes h.0 reached.consumed h.1.0, h.1.1);
+    definitions = steps.definitions;
+    rest = new.part ++ h.0;
+    defined = defined_behind h.0;
+    formula = steps.formula;
+  }
+
+  pub extended_behind : (told : Result (Unit {0}) CertFault)
+      → IsCheckedBy (AreStepsRead (FIRST_LINE + new.count) after) new.part (limit - taken) (passage left faults second third) told
+      → IsExtendedAfter f head (passage left faults first third) after told
+  extended_behind (Ok done) h = extends_behind (Ok done) h
+  extended_behind (Err (CertLine n)) h = extends_behind (Err (CertLine n)) h
+  extended_behind (Err (BadStep n cause)) h = extends_behind (Err (BadStep n cause)) h
+  extended_behind (Err NoVerdict) h = extends_behind (Err NoVerdict) h
+  extended_behind (Err (CertWide n row column)) h = extends_behind (Err (CertWide n row column)) h
+  extended_behind (Err ReadFault) h = tt
+  extended_behind (Err TooLong) h = tt
+  extended_behind (Err Memory) h = tt
+
+-- what an extended formula is after any answer
+extended_at : (f : FormulaParts) (head : List ℕ) (source : Passage) (now : FormulaParts) (told : Result (Unit {0}) CertFault) → ExtendsBy f head source now → IsExtendedAfter f head source now told
+extended_at f head source now (Ok done) h = h
+extended_at f head source now (Err (CertLine n)) h = h
+extended_at f head source now (Err (BadStep n cause)) h = h
+extended_at f head source now (Err NoVerdict) h = h
+extended_at f head source now (Err (CertWide n row column)) h = h
+extended_at f head source now (Err ReadFault) h = tt
+extended_at f head source now (Err TooLong) h = tt
+extended_at f head source now (Err Memory) h = tt
+
+-- what the formula is where the source ended within the definitions
+pub ended_extended : (f : FormulaParts) (head : List ℕ) (limit : ℕ) (source : Passage) (before : FormulaParts) (old : DefiningParts) (after : FormulaParts) (new : DefiningParts)
+    (told : Result (Unit {0}) CertFault) → HasDefined f head before old → ReadsToEnd limit source before old after new → IsExtendedAfter f head source after told
+ended_extended f head limit source before old after new told read reached =
+    let all = reached.reads f head read in
+    extended_at f head source after told (record {
+      bytes = reached.bytes;
+      all = reached.all;
+      definitions = all.definitions;
+      rest = new.part;
+      defined = all.defined;
+      formula = all.formula;
+    })
+
+-- what it is where the definitions weren't read
+pub refused_extended : (f : FormulaParts) (head : List ℕ) (limit : ℕ) (source : Passage) (before : FormulaParts) (old : DefiningParts) (after : FormulaParts) (new : DefiningParts)
+    (fault : CertFault) → ReadsDefinitions limit source before old after new (Err fault) → IsExtendedAfter f head source after (Err fault)
+refused_extended f head limit source before old after new ReadFault h = tt
+refused_extended f head limit source before old after new TooLong h = tt
+refused_extended f head limit source before old after new Memory h = tt
+refused_extended f head limit source before old after new (CertLine n) h = absurd h
+refused_extended f head limit source before old after new (BadStep n cause) h = absurd h
+refused_extended f head limit source before old after new NoVerdict h = absurd h
+refused_extended f head limit source before old after new (CertWide n row column) h = absurd h
 
 no_fault : (f : FormulaParts) (text : List ℕ) → IsCertRead f text (Err ReadFault) → ⊥
 no_fault f text h = h.read

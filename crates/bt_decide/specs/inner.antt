@@ -1,3 +1,2 @@
 -- Definitions that private functions alone cite.
-pub mod Places
 pub mod Outcomes

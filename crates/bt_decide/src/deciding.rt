@@ -4,8 +4,8 @@ ghost use Rattle.bt_decide.specs.Verdicts.{IsVerdict};
 ghost use Rattle.bt_decide.specs.inner.Outcomes.{IsVerdictOf};
 ghost use Rattle.bt_simulate.specs.Simulations.{IsBreaking};
 
-use crate::scopes::scopes_of;
 use crate::verdict::Verdict;
+use bt_arguments::{goals_of, scopes_of};
 use bt_cnf::{Chooser, Limits};
 use bt_fenc::{encode, state_of};
 use bt_flow::{Property, State};
@@ -59,7 +59,18 @@ fn search<C: Chooser>(
 {
     let formula = encode(alloc, net, property)?;
     let scopes = scopes_of(alloc, net, property, formula.rows())?;
-    let outcome = solve(alloc, formula, &scopes, &[], choosers, limits)?;
+    let goals = goals_of(alloc, net, property, &formula)?;
+    let mut definitions = Vec::new(alloc);
+    let outcome = solve(
+        alloc,
+        formula,
+        &mut definitions,
+        &scopes,
+        &[],
+        &goals,
+        choosers,
+        limits,
+    )?;
     let verdict = verdict_of(alloc, net, outcome)?;
     Ok(verdict)
 }

@@ -2,13 +2,10 @@
 //! evidence.
 #![tactic(auto)]
 
-mod couples;
 mod deciding;
-mod distances;
 mod guessing;
 mod law;
 mod same;
-mod scopes;
 mod verdict;
 
 pub use bt_cnf::Limits;

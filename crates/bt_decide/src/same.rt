@@ -5,8 +5,8 @@ ghost use Rattle.bt_decide.specs.Verdicts.{IsSameVerdict};
 ghost use Rattle.bt_decide.specs.inner.Outcomes.{IsSameVerdictOf};
 
 use crate::guessing::guesses_of_both;
-use crate::scopes::scopes_of_both;
 use crate::verdict::SameVerdict;
+use bt_arguments::scopes_of_both;
 use bt_cnf::{Chooser, Limits};
 use bt_net::Net;
 use bt_same::{encode_same, pair_of};
@@ -28,7 +28,17 @@ pub fn decide_same<C: Chooser>(
     let formula = encode_same(alloc, first, second)?;
     let scopes = scopes_of_both(alloc, first, second, formula.rows())?;
     let guesses = guesses_of_both(alloc, first, second, &formula)?;
-    let outcome = solve(alloc, formula, &scopes, &guesses, choosers, limits)?;
+    let mut definitions = Vec::new(alloc);
+    let outcome = solve(
+        alloc,
+        formula,
+        &mut definitions,
+        &scopes,
+        &guesses,
+        &[],
+        choosers,
+        limits,
+    )?;
     let verdict = verdict_of_both(alloc, first, second, outcome)?;
     Ok(verdict)
 }

@@ -41,7 +41,8 @@ place_blocks s =
     block s.rows s.points (codes "row splitter y") ∷
     block s.points s.entering (codes "points splitter direction") ∷
     block s.entering s.leaving (codes "enters splitter") ∷
-    block s.leaving s.kinds (codes "leaves splitter") ∷
+    block s.leaving s.held (codes "leaves splitter") ∷
+    block s.held s.kinds (codes "held spare half") ∷
     block s.kinds s.places (codes "kind cell content") ∷
     block s.places s.end (codes "at splitter cell direction") ∷
     []

@@ -22,7 +22,7 @@ pub struct Block {
 }
 
 /// The blocks of a placement formula.
-pub fn place_blocks(starts: Starts) -> [Block; 16]
+pub fn place_blocks(starts: Starts) -> [Block; 17]
     ensures { map block_told result ≡ place_blocks starts }
 {
     [
@@ -93,8 +93,13 @@ pub fn place_blocks(starts: Starts) -> [Block; 16]
         },
         Block {
             from: starts.leaving,
-            end: starts.kinds,
+            end: starts.held,
             meaning: "leaves splitter",
+        },
+        Block {
+            from: starts.held,
+            end: starts.kinds,
+            meaning: "held spare half",
         },
         Block {
             from: starts.kinds,

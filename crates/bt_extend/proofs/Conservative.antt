@@ -103,12 +103,12 @@ module _ (f : FormulaParts) (form : FormParts) (assignment : ℕ → Bool) (valu
 -- ---- formulas that go on
 
 -- a formula goes on with more variables, clauses and atoms
-record Prolongs (f g : FormulaParts) : Type 0 where
-  vars : f.vars ≤ g.vars
-  clauses : List (List Lit)
-  clauses_are : g.clauses ≡ f.clauses ++ clauses
-  atoms : List (ℕ × RowParts)
-  atoms_are : g.atoms ≡ f.atoms ++ atoms
+pub record Prolongs (f g : FormulaParts) : Type 0 where
+  pub vars : f.vars ≤ g.vars
+  pub clauses : List (List Lit)
+  pub clauses_are : g.clauses ≡ f.clauses ++ clauses
+  pub atoms : List (ℕ × RowParts)
+  pub atoms_are : g.atoms ≡ f.atoms ++ atoms
 
 prolongs_further : (f g h : FormulaParts) → Prolongs f g → Prolongs g h → Prolongs f h
 prolongs_further f g h p q = record {
@@ -141,7 +141,7 @@ definition_prolongs f (Cases var first second) =
     ∷ (asserted var ∷ asserted (f.vars + 6) ∷ []) ∷ []))
 definition_prolongs f (Disjunction lits) = record { vars = omega arith; clauses = _; clauses_are = refl; atoms = []; atoms_are = sym (append-nil f.atoms) }
 
-extended_prolongs : (f : FormulaParts) (ds : List Definition) → Prolongs f (extended f ds)
+pub extended_prolongs : (f : FormulaParts) (ds : List Definition) → Prolongs f (extended f ds)
 extended_prolongs f [] = record { vars = omega arith; clauses = []; clauses_are = sym (append-nil f.clauses); atoms = []; atoms_are = sym (append-nil f.atoms) }
 extended_prolongs f (d ∷ ds) = prolongs_further f (with_definition f d) (extended (with_definition f d) ds) (definition_prolongs f d) (extended_prolongs (with_definition f d) ds)
 

@@ -11,4 +11,5 @@ pub mod Numbers
 pub mod OneDefinition
 pub mod Opposites
 pub mod SameOn
+pub mod Taken
 pub mod TermWords

@@ -1,5 +1,5 @@
 -- Formulas that definitions extend.
-use Rattle.std.specs.Prelude.{ℕ, ◌+◌, true, false, not, List, [], ◌∷◌, ◌++◌, map}
+use Rattle.std.specs.Prelude.{◌≡◌, ℕ, ◌+◌, true, false, not, List, [], ◌∷◌, ◌++◌, map}
 use Rattle.bt_cnf.specs.declared.literal.Lit.{Lit}
 use Rattle.bt_cnf.specs.Formulas.{FormulaParts}
 use Rattle.bt_extend.specs.Definitions.{columns_of, IsDefinition}
@@ -69,3 +69,16 @@ extended f (d ∷ ds) = extended (with_definition f d) ds
 abbrev pub AreDefinitions : FormulaParts → List Definition → Type 0
 AreDefinitions f [] = Unit {0}
 AreDefinitions f (d ∷ ds) = IsDefinition f d × AreDefinitions (with_definition f d) ds
+
+-- nothing comes first of these, or a definition that may not extend the formula
+abbrev pub BeginsWithNone : FormulaParts → List Definition → Type 0
+BeginsWithNone f [] = Unit {0}
+BeginsWithNone f (d ∷ ds) = IsDefinition f d → ⊥
+
+-- of the definitions that were given these were taken: all in front of the first that may not extend the formula with those
+-- before it
+pub record AreTaken (f : FormulaParts) (given taken : List Definition) : Type 0 where
+  pub are : AreDefinitions f taken
+  pub rest : List Definition
+  pub front : given ≡ taken ++ rest
+  pub stops : BeginsWithNone (extended f taken) rest

@@ -1,4 +1,5 @@
 -- What the contracts of private functions cite.
 pub mod Adding
+pub mod Taking
 pub mod Terms
 pub mod Told

@@ -2,6 +2,7 @@
 #![tactic(auto)]
 
 mod definition;
+mod extending;
 mod extension;
 mod form;
 mod item;
@@ -11,6 +12,7 @@ mod reading;
 mod written;
 
 pub use definition::{Definition, Literals, NamedLit, is_definition};
+pub use extending::extend_all;
 pub use extension::extend;
 pub use form::Form;
 pub use item::Item;

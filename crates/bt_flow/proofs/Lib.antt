@@ -15,6 +15,7 @@ pub mod Compared
 pub mod Each
 pub mod EqualCaps
 pub mod SevenLaws
+pub mod Scaled
 pub mod Judged
 pub mod Numbers
 pub mod Printed

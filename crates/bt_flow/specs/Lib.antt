@@ -3,6 +3,7 @@ pub mod Steady
 pub mod EqualCaps
 pub mod SevenLaws
 pub mod Properties
+pub mod Scaling
 pub mod Tests
 pub mod Sums
 pub mod Judging

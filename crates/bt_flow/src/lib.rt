@@ -25,4 +25,6 @@ pub use property::Property;
 pub use reading::{Edges, Ends, one_state, read_edges, read_end, read_ends, read_state};
 pub use state::State;
 pub use std::alloc::AllocError as Memory;
-pub use theorems::{equal_caps_even, has_flows, holds_exactly, seven_laws, tests_are};
+pub use theorems::{
+    equal_caps_even, has_flows, holds_exactly, lines_are, scaled_is_steady, seven_laws, tests_are,
+};

@@ -2,10 +2,12 @@
 ghost use Rattle.std.specs.Prelude.{◌≡◌, ℕ, ◌↔◌};
 ghost use Rattle.bt_net.specs.Network.{Network};
 ghost use Rattle.bt_flow.specs.declared.property.Property.{Property};
+ghost use Rattle.bt_flow.specs.declared.reading.line.TheConstants.{TITLE, LOADS, ROOMS, FLOWS, END};
 ghost use Rattle.bt_flow.specs.States.{Flows, Fractions, AreLowest, StandsFor, Fits};
 ghost use Rattle.bt_flow.specs.EqualCaps.{EqualCapsEven};
 ghost use Rattle.bt_flow.specs.SevenLaws.{SevenLawsAreAll};
 ghost use Rattle.bt_flow.specs.Properties.{Holds, Breaks};
+ghost use Rattle.bt_flow.specs.Scaling.{ScaledIsSteady};
 
 use crate::judgement::{FIRST_LAW, LAST_LAW, LAST_TEST};
 
@@ -27,6 +29,12 @@ pub fn seven_laws()
     ensures { SevenLawsAreAll }
 {}
 
+/// An admissible steady state is one over any greater denominator too: with its denominator and its numbers so many times
+/// as great. So two states can be put over one denominator.
+pub fn scaled_is_steady()
+    ensures { ScaledIsSteady }
+{}
+
 /// A network has a property exactly where no state breaks it.
 pub fn holds_exactly()
     ensures { (n : Network) (p : Property) → Holds n p ↔ ((s : Flows) → Breaks n p s → ⊥) }
@@ -37,4 +45,13 @@ pub fn tests_are()
     ensures first { FIRST_LAW ≡ 2 }
     ensures last { LAST_LAW ≡ 10 }
     ensures conclusion { LAST_TEST ≡ 11 }
+{}
+
+/// The numbers of the lines of a state's text; that of marks comes behind that of flows.
+pub fn lines_are()
+    ensures title { TITLE ≡ 1 }
+    ensures loads { LOADS ≡ 2 }
+    ensures rooms { ROOMS ≡ 3 }
+    ensures flows { FLOWS ≡ 4 }
+    ensures end { END ≡ 6 }
 {}

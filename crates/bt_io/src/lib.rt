@@ -3,6 +3,7 @@
 #![tactic(auto)]
 
 mod fault;
+mod law;
 mod memory_sink;
 mod memory_source;
 mod read;
@@ -14,9 +15,10 @@ mod std_source;
 mod write;
 
 pub use fault::{Failed, ReadAll, WriteFault};
+pub use law::limits_are;
 pub use memory_sink::MemSink;
 pub use memory_source::MemSource;
-pub use read::{drain, read_all, read_on};
+pub use read::{BLOCK, drain, read_all, read_on};
 pub use sink::Sink;
 pub use slice_source::SliceSource;
 pub use source::Source;

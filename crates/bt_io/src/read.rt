@@ -11,7 +11,7 @@ use crate::source::Source;
 use std::alloc::Global;
 
 /// The most bytes that one call asks of its source.
-const BLOCK: usize = 65536;
+pub const BLOCK: usize = 65536;
 
 /// How many bytes are asked for where so many were taken: one past the limit shows that there are too many.
 fn room_for(limit: usize, taken: usize) -> usize

@@ -8,5 +8,10 @@ pub mod Answering
 mod Ranks
 pub mod Passed
 pub mod Passing
+mod Taken
+mod Through
+mod Told
+mod Sweeps
 mod Smaller
 pub mod Narrow
+mod Ending

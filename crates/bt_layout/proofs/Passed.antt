@@ -3,9 +3,8 @@ use Rattle.std.proofs.Common.{ℕ, List, [], ◌∷◌, ◌++◌, inl, inr, sym,
 use Rattle.std.specs.List.{All, AllPairs, Contains}
 use Rattle.std.proofs.lemmas.List.Elements.{All-tail, Contains-append_cases}
 use Rattle.bt_parts.specs.declared.part.Rect.{Rect}
-use Rattle.bt_parts.specs.declared.part.Tier.{Tier}
 use Rattle.bt_model.proofs.Sorted.{contains_cases, contains_none, pairs_head, pairs_tail}
-use Rattle.bt_net.specs.Network.{Network}
+use Rattle.bt_model.specs.Requests.{LayoutRequest}
 use Rattle.bt_layout.specs.Layouts.{HasNoLayout}
 use Rattle.bt_layout.specs.declared.outcome.RuledOut.{RuledOut}
 use Rattle.bt_layout.specs.declared.outcome.Smallest.TheVariants.{Found, Nowhere, Spent}
@@ -27,19 +26,19 @@ not_behind [] behind grid other ordered has before =
 not_behind (first ∷ front) behind grid other ordered has before =
     not_behind front behind grid other (pairs_tail ComesBefore first (front ++ grid ∷ behind) ordered) has before
 
-module _ (net : Network) (tier : Tier) (learnt : ℕ) (grid : Rect) where
+module _ (r : LayoutRequest) (learnt : ℕ) (grid : Rect) where
   -- a grid that is ruled out
-  passed_none : (earlier : List RuledOut) → All (IsRuledOut net tier learnt) earlier → Contains (grids_of earlier) grid → HasNoLayout (request_on net tier grid)
+  passed_none : (earlier : List RuledOut) → All (IsRuledOut r learnt) earlier → Contains (grids_of earlier) grid → HasNoLayout (request_on r grid)
   passed_none [] ruled has = absurd (contains_none grid has)
   passed_none (one ∷ earlier) ruled has =
-      ⊎_elim (λ same. subst (λ g. HasNoLayout (request_on net tier g)) (sym same) (ruled 0 one (omega arith)).none)
-      (λ there. passed_none earlier (All-tail (IsRuledOut net tier learnt) one earlier ruled) there)
+      ⊎_elim (λ same. subst (λ g. HasNoLayout (request_on r g)) (sym same) (ruled 0 one (omega arith)).none)
+      (λ there. passed_none earlier (All-tail (IsRuledOut r learnt) one earlier ruled) there)
       (contains_cases one.grid (grids_of earlier) grid has)
 
   -- a grid that comes before the first that is left
-  before_none : (earlier : List RuledOut) (most first : Rect) (later : List Rect) → All (IsRuledOut net tier learnt) earlier
-      → AreGrids most (grids_of earlier ++ first ∷ later) → IsWithin most grid → ComesBefore grid first → HasNoLayout (request_on net tier grid)
-  before_none earlier most first later ruled are within before =
+  before_none : (earlier : List RuledOut) (first : Rect) (later : List Rect) → All (IsRuledOut r learnt) earlier
+      → AreGrids r.rect (grids_of earlier ++ first ∷ later) → IsWithin r.rect grid → ComesBefore grid first → HasNoLayout (request_on r grid)
+  before_none earlier first later ruled are within before =
       ⊎_elim (passed_none earlier ruled) (λ behind. absurd (not_behind (grids_of earlier) later first grid are.in_order behind before))
       (Contains-append_cases (grids_of earlier) (first ∷ later) grid (are.all grid within))
 
@@ -49,12 +48,12 @@ among P [] behind x all = all 0 x (omega arith)
 among P (y ∷ front) behind x all = among P front behind x (All-tail P y (front ++ x ∷ behind) all)
 
 -- the first grid that is left is within the greatest one
-pub left_within : (net : Network) (tier : Tier) (most : Rect) (learnt : ℕ) (earlier : List RuledOut) (grid : Rect) → IsFirstLeft net tier most learnt earlier grid → IsWithin most grid
-left_within net tier most learnt earlier grid is = among (IsWithin most) (grids_of earlier) is.later grid is.in_order.within
+pub left_within : (r : LayoutRequest) (learnt : ℕ) (earlier : List RuledOut) (grid : Rect) → IsFirstLeft r learnt earlier grid → IsWithin r.rect grid
+left_within r learnt earlier grid is = among (IsWithin r.rect) (grids_of earlier) is.later grid is.in_order.within
 
 pub passed_has_no_layout : PassedHasNoLayout
-passed_has_no_layout net tier most learnt (Found earlier first parts) grid is within before =
-    before_none net tier learnt grid earlier.items most first is.0.later is.0.ruled_out is.0.in_order within before
-passed_has_no_layout net tier most learnt (Nowhere earlier) grid is within before = passed_none net tier learnt grid earlier.items is.1 (is.0.all grid within)
-passed_has_no_layout net tier most learnt (Spent earlier first log) grid is within before =
-    before_none net tier learnt grid earlier.items most first is.0.later is.0.ruled_out is.0.in_order within before
+passed_has_no_layout r learnt (Found earlier first parts) grid is within before =
+    before_none r learnt grid earlier.items first is.0.later is.0.ruled_out is.0.in_order within before
+passed_has_no_layout r learnt (Nowhere earlier) grid is within before = passed_none r learnt grid earlier.items is.1 (is.0.all grid within)
+passed_has_no_layout r learnt (Spent earlier first log) grid is within before =
+    before_none r learnt grid earlier.items first is.0.later is.0.ruled_out is.0.in_order within before

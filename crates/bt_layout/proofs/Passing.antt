@@ -5,20 +5,26 @@ use Rattle.std.proofs.Math.Seq.{drop-cons}
 use Rattle.std.proofs.lemmas.List.{map-append, take_all, take_more}
 use Rattle.std.proofs.lemmas.List.Elements.{All-nil, All-push}
 use Rattle.bt_parts.specs.declared.part.Rect.{Rect}
-use Rattle.bt_parts.specs.declared.part.Tier.{Tier}
-use Rattle.bt_net.specs.Network.{Network}
+use Rattle.bt_parts.specs.Cells.{IsInside}
+use Rattle.bt_net.specs.declared.network.Demand.{Demand}
+use Rattle.bt_net.specs.declared.network.Demand.TheVariants as demand
 use Rattle.bt_log.specs.declared.log.Log.{Log}
-use Rattle.bt_model.specs.Requests.{IsRequest}
+use Rattle.bt_model.specs.Requests.{LayoutRequest, IsRequest, IsPinnedInside, blocked}
 use Rattle.bt_layout.specs.Layouts.{IsLayout}
 use Rattle.bt_layout.specs.declared.outcome.Layout.TheVariants as layout
 use Rattle.bt_layout.specs.declared.outcome.RuledOut.{RuledOut}
 use Rattle.bt_layout.specs.Grids.{AreGrids, IsWithin}
-use Rattle.bt_layout.specs.Smallest.{IsFirstLeft, IsRuledOut, grids_of, request_on}
+use Rattle.bt_layout.specs.Smallest.{IsFirstLeft, IsRuledOut, NamesNoCell, NamesNoCells, grids_of, request_on}
 use Rattle.bt_layout.specs.inner.Passing.{ArePassed}
 
--- the network is asked for on each grid within the greatest one as on that
-pub asked_on : (net : Network) (tier : Tier) (most grid : Rect) → IsRequest (request_on net tier most) → IsWithin most grid → IsRequest (request_on net tier grid)
-asked_on net tier most grid is within = record {
+-- a line that names no cell names none outside
+inside : (grid : Rect) (d : Demand) → NamesNoCell d → IsPinnedInside grid d
+inside grid (demand.Pin pin) h = absurd h
+inside grid (demand.Side side) h = tt
+
+-- a request that names no cells is asked of each grid within its own as of that
+pub asked_on : (r : LayoutRequest) (grid : Rect) → IsRequest r → NamesNoCells r → IsWithin r.rect grid → IsRequest (request_on r grid)
+asked_on r grid is none within = record {
   net = is.net;
   grid = record {
     some_width = within.some_width;
@@ -30,41 +36,41 @@ asked_on net tier most grid is within = record {
   few_splitters = is.few_splitters;
   caps = is.caps;
   ends = is.ends;
-  pins_inside = All-nil _;
+  pins_inside = λ i d lt. inside grid (get_or r.demands i d) (none.demands i d lt);
   demands_apart = is.demands_apart;
-  blocks_inside = All-nil _;
+  blocks_inside = subst (All (λ block. IsInside grid (blocked block))) (sym none.blocks) (All-nil _);
   blocks_apart = is.blocks_apart;
   blocks_unpinned = is.blocks_unpinned;
 }
 
-module _ (net : Network) (tier : Tier) (learnt : ℕ) (grids : List Rect) where
-  pub none_passed : (earlier : List RuledOut) → earlier ≡ [] → ArePassed net tier learnt grids 0 earlier
-  none_passed earlier e = subst (ArePassed net tier learnt grids 0) (sym e) (record { first = refl; ruled_out = All-nil _ })
+module _ (r : LayoutRequest) (learnt : ℕ) (grids : List Rect) where
+  pub none_passed : (earlier : List RuledOut) → earlier ≡ [] → ArePassed r learnt grids 0 earlier
+  none_passed earlier e = subst (ArePassed r learnt grids 0) (sym e) (record { first = refl; ruled_out = All-nil _ })
 
-  module _ (place : ℕ) (earlier : List RuledOut) (are : ArePassed net tier learnt grids place earlier) (grid : Rect) (within : place < length grids)
+  module _ (place : ℕ) (earlier : List RuledOut) (are : ArePassed r learnt grids place earlier) (grid : Rect) (within : place < length grids)
       (at : grid ≡ get_or grids place grid) where
     -- one grid more is ruled out
-    pub one_passed : (log : Log) → IsLayout (request_on net tier grid) learnt (layout.Nowhere log)
-        → ArePassed net tier learnt grids (place + 1) (earlier ++ record { grid = grid; log = log } ∷ [])
+    pub one_passed : (log : Log) → IsLayout (request_on r grid) learnt (layout.Nowhere log)
+        → ArePassed r learnt grids (place + 1) (earlier ++ record { grid = grid; log = log } ∷ [])
     one_passed log is =
         let one : RuledOut = record { grid = grid; log = log } in
         record {
           first = map-append (λ (x : RuledOut). x.grid) earlier (one ∷ []) ∙ ap (λ gs. gs ++ grid ∷ []) are.first
               ∙ ap (λ g. take place grids ++ g ∷ []) at ∙ sym (take_more grids place grid within);
-          ruled_out = All-push (IsRuledOut net tier learnt) earlier one are.ruled_out (record { none = is.0; refuted = is.1; few = is.2 });
+          ruled_out = All-push (IsRuledOut r learnt) earlier one are.ruled_out (record { none = is.0; refuted = is.1; few = is.2 });
         }
 
     -- the grids before this one are ruled out
-    pub first_left : (most : Rect) → AreGrids most grids → IsFirstLeft net tier most learnt earlier grid
-    first_left most all = record {
+    pub first_left : AreGrids r.rect grids → IsFirstLeft r learnt earlier grid
+    first_left all = record {
       later = drop (suc place) grids;
-      in_order = subst (AreGrids most) (sym (
+      in_order = subst (AreGrids r.rect) (sym (
           ap (λ gs. gs ++ grid ∷ drop (suc place) grids) are.first ∙ ap (λ g. take place grids ++ g ∷ drop (suc place) grids) at
           ∙ ap (λ gs. take place grids ++ gs) (sym (drop-cons grids place grid within)) ∙ take-append-drop place grids)) all;
       ruled_out = are.ruled_out;
     }
 
   -- all grids are ruled out
-  pub all_passed : (place : ℕ) (earlier : List RuledOut) (most : Rect) → ArePassed net tier learnt grids place earlier → length grids ≤ place → AreGrids most grids
-      → AreGrids most (grids_of earlier) × All (IsRuledOut net tier learnt) earlier
-  all_passed place earlier most are ended all = (subst (AreGrids most) (sym (are.first ∙ take_all place grids ended)) all, are.ruled_out)
+  pub all_passed : (place : ℕ) (earlier : List RuledOut) → ArePassed r learnt grids place earlier → length grids ≤ place → AreGrids r.rect grids
+      → AreGrids r.rect (grids_of earlier) × All (IsRuledOut r learnt) earlier
+  all_passed place earlier are ended all = (subst (AreGrids r.rect) (sym (are.first ∙ take_all place grids ended)) all, are.ruled_out)

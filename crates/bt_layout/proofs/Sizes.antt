@@ -1,5 +1,5 @@
 -- The placement formula of a request is small, since the request is.
-use Rattle.std.proofs.Common.{◌≡◌, ℕ, ◌+◌, ◌-◌, ◌*◌, ◌<◌, ◌≤◌, List, [], ◌∷◌, Bool, true, false, cond, length, map, get_or, not, Option, Some, None, refl, sym, ◌∙◌, ap, subst, inl, inr, arith, length-append}
+use Rattle.std.proofs.Common.{◌≡◌, ℕ, zero, suc, ◌+◌, ◌-◌, ◌*◌, ◌<◌, ◌≤◌, List, [], ◌∷◌, Bool, true, false, cond, length, map, get_or, not, Option, Some, None, refl, sym, ◌∙◌, ap, subst, inl, inr, arith, length-append}
 use Rattle.std.specs.Prelude.{unsigned_abs}
 use Rattle.std.specs.List.{flat_map, filter, list_any, range_with_len}
 use Rattle.std.proofs.lemmas.Nat.{mul-le}
@@ -34,6 +34,7 @@ use Rattle.bt_rules.specs.declared.fact.Shape.TheVariants as shape
 use Rattle.bt_rules.specs.Carrying.{carried_rules, taken_rule, kept_in_rules, onward_rules, carrying_rules}
 use Rattle.bt_rules.specs.Classes.{classes_of, input_classes, occurs, ends_out, is_through, same_class, classes_into, splitters_of, shared_into}
 use Rattle.bt_rules.specs.Contents.{holds, contents, content_rules, shape_rules, mate_rules, class_rules}
+use Rattle.bt_rules.specs.Counting.{halves_of, has_room, last_cell_rule, one_fewer_rules, held_rules, all_held_rules, count_rules}
 use Rattle.bt_rules.specs.Going.{going_rules, inner_rules, goes_into, fed_belt, fed_entrance, begin_rules, once_rules, handing_rules}
 use Rattle.bt_rules.specs.Pinning.{is_edge_of, end_shapes, turned_rules, pin_rules, clashes, clash_rules, end_classes, not_begun, begun_rules, stop_rules, apart_rules, pins_other, unpinned_rules, side_end_rules, ends_named, demand_rules, block_rule}
 use Rattle.bt_rules.specs.PlaceRules.{cell_rules, splitter_rules, end_rules, rules_of}
@@ -373,11 +374,31 @@ module _ (r : LayoutRequest) (is : IsRequest r) where
       let at_demands = few_flat (demand_rules r) 1228800000 demands (λ d h. demand_few d (all_at d h)) in
       few_more (few_both (few_both (few_both at_inputs at_demands) clashes_few) (few_map block_rule blocks)) (omega arith)
 
+  fewer_few : (spare half : ℕ) → HasFew (one_fewer_rules spare half) 1
+  fewer_few spare zero = record { few = omega arith }
+  fewer_few spare (suc half) = record { few = omega arith }
+
+  all_held_few : (n m : ℕ) → HasFew (all_held_rules n m) 1
+  all_held_few n zero = record { few = omega arith }
+  all_held_few n (suc half) = record { few = omega arith }
+
+  counts_few : HasFew (count_rules r) 131585
+  counts_few =
+      let all = cells.few in
+      let s = is.few_splitters in
+      let halves_in = few_range {m = 256} 0 (halves_of r) (omega (arith, s)) in
+      let spares_in = few_range {m = 257} 0 (length (cells_of r.rect) + 1 - halves_of r) (omega (arith, all)) in
+      few_both
+      (few_flat (λ spare. flat_map (held_rules (cells_of r.rect) spare) (range_with_len 0 (halves_of r))) 512 spares_in
+      (λ spare h. few_flat (held_rules (cells_of r.rect) spare) 2 halves_in (λ half g. few_first (last_cell_rule (cells_of r.rect) spare half) (fewer_few spare half))))
+      (all_held_few (length (cells_of r.rect)) (halves_of r))
+
   rules_few : HasFew (rules_of r) 10000000000000
   rules_few =
       let at_cells = few_flat (cell_rules r) 9000000 cells (λ c h. cell_few c) in
       let at_splitters = few_flat (splitter_rules r) 13288 splitters (λ s h. few_both (places_few s) (ports_few s)) in
-      few_more (few_both (few_both at_cells at_splitters) ends_few) (omega arith)
+      few_cond (has_room r) (few_more (few_both (few_both (few_both at_cells at_splitters) ends_few) counts_few) (omega arith))
+      (record { few = omega arith })
 
   pub clauses_few : length (place_formula r).clauses ≤ 10000000000000
   clauses_few = (few_map (clause_of (sizes_of r)) rules_few).few
@@ -397,7 +418,8 @@ module _ (r : LayoutRequest) (is : IsRequest r) where
       let columns = mul-le r.net.splitters w 128 16 s is.grid.few_across in
       let rows = mul-le r.net.splitters h 128 16 s is.grid.few_down in
       let places = mul-le r.net.splitters (w * h) 128 256 s area in
-      omega (arith, area, s, carried, starts, stops, turned, columns, rows, places)
+      let held = mul-le (w * h + 1 - r.net.splitters * 2) (r.net.splitters * 2) 257 256 (omega (arith, area)) (omega (arith, s)) in
+      omega (arith, area, s, carried, starts, stops, turned, columns, rows, places, held)
     where
       few_stops : (b : Bool) → cond b r.net.outputs 0 ≤ 2048
       few_stops true = is.net.few_outputs

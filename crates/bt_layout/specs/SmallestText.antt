@@ -50,7 +50,7 @@ smallest_text (Spent earlier grid log) = spent_on_text grid log.steps
 
 -- the blueprint of the parts that are found on a small grid; else nothing
 abbrev pub blueprint_of_small : Small → List ℕ
-blueprint_of_small (small.Found grid parts) = blueprint_text parts.items
+blueprint_of_small (small.Found grid parts steps) = blueprint_text parts.items
 blueprint_of_small (small.Spent steps) = []
 
 -- that none is found in so many steps: `spent` and their number, and `end`
@@ -59,5 +59,5 @@ found_none_text steps = line (codes "spent " ++ decimal steps) ++ line (codes "e
 
 -- the text of a search for small grids: the line of the grid of the parts, and their blueprint; or that none is found
 abbrev pub small_text : Small → List ℕ
-small_text (small.Found grid parts) = grid_line grid ++ blueprint_text parts.items
+small_text (small.Found grid parts steps) = grid_line grid ++ blueprint_text parts.items
 small_text (small.Spent steps) = found_none_text steps

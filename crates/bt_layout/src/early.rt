@@ -1,11 +1,13 @@
 //! Rounds of searches, each of which goes from the back of the list to its front.
-ghost use Rattle.std.specs.Prelude.{◌<◌, ◌≤◌, List, IfOk, length};
+ghost use Rattle.std.specs.Prelude.{◌<◌, ◌≤◌, ℕ, List, IfOk, length};
 ghost use Rattle.bt_model.specs.Requests.{LayoutRequest};
 ghost use Rattle.bt_layout.specs.Early.{IsEarly};
-ghost use Rattle.bt_layout.specs.inner.Progressing.{IsProgress};
+ghost use Rattle.bt_layout.specs.inner.Progressing.{ArePassed, IsProgress, IsSweep};
 
 use crate::outcome::Early;
-use crate::progress::{Means, Progress, after_search, first_progress};
+use crate::progress::{Laid, Progress, first_progress};
+use crate::sweep::{Means, Sweep, after_search, first_sweep};
+use crate::whole::after_all;
 use bt_model::Request;
 use bt_narrow::is_likely;
 use std::alloc::{AllocError, Global};
@@ -25,61 +27,76 @@ const MOST_PASSED: usize = 8;
 /// Looks for a layout of one of the requests, with so many steps of all searches together. Each layout that is
 /// found lets it go on to the requests before that one, where an earlier request is the better one.
 ///
-/// At first a round makes sketches of layouts; then those requests are searched in whose rectangles a layout is likely, and
-/// then all, in rounds. Of the other requests nothing is said: finding a layout takes few steps or very many, so one that
-/// isn't found at once is passed, and one further to the front may be found before it.
+/// First come rounds in which layouts are looked for that are likely. Finding one takes few steps or very many, so a
+/// request of which none is found at once is passed, and one further to the front may be laid before it. At last all steps
+/// that are left serve searches of the requests' placement formulas.
 pub fn lay_early(alloc: Global, requests: &[Request], learnt: u64) -> Result<Early, AllocError>
     ensures { IfOk result (IsEarly requests.now learnt) }
 {
-    let first = first_progress(alloc, requests.len(), learnt)?;
-    let sketched = after_round(alloc, requests, first, Means::Sketch)?;
-    let mut progress = after_likely(alloc, requests, sketched)?;
+    let progress = after_rounds(alloc, requests, learnt, first_progress())?;
+    let progress = after_all(alloc, requests, learnt, progress)?;
+    Ok(told(progress))
+}
+
+/// With rounds of searches for layouts that are likely: at first by sketches; then of those requests in whose rectangles
+/// a layout is likely, and then of all.
+fn after_rounds(
+    alloc: Global,
+    requests: &[Request],
+    learnt: u64,
+    begun: Progress,
+) -> Result<Progress, AllocError>
+    requires { IsProgress requests.now learnt begun }
+    ensures { IfOk result (IsProgress requests.now learnt) }
+{
+    let first = first_sweep(alloc, requests.len(), begun)?;
+    let sketched = after_round(alloc, requests, learnt, first, Means::Sketch)?;
+    let mut sweep = after_likely(alloc, requests, learnt, sketched)?;
     for round in 0..ROUNDS {
-        progress = after_round(
-            alloc,
-            requests,
-            progress,
-            Means::Search(FIRST_STEPS << round),
-        )?;
+        let means = Means::Search(FIRST_STEPS << round);
+        sweep = after_round(alloc, requests, learnt, sweep, means)?;
     }
-    Ok(told(progress, learnt))
+    Ok(sweep.progress)
 }
 
 /// With a search of each request in whose rectangle a layout is likely.
 fn after_likely(
     alloc: Global,
     requests: &[Request],
-    begun: Progress,
-) -> Result<Progress, AllocError>
-    requires { IsProgress requests.now begun }
-    ensures { IfOk result (IsProgress requests.now) }
+    learnt: u64,
+    begun: Sweep,
+) -> Result<Sweep, AllocError>
+    requires { IsSweep requests.now learnt begun }
+    ensures { IfOk result (IsSweep requests.now learnt) }
 {
-    let mut progress = begun;
-    let mut place = progress.places.len();
-    while place > 0 && progress.left > 0 {
-        place -= 1;
-        progress = looked_where_likely(alloc, requests, progress, place)?;
+    let mut sweep = begun;
+    let mut at = sweep.places.len();
+    while at > 0 && sweep.progress.steps < learnt {
+        at -= 1;
+        sweep = looked_where_likely(alloc, requests, learnt, sweep, at)?;
     }
-    Ok(progress)
+    Ok(sweep)
 }
 
-/// With a search of the request whose place is open at this index, where a layout is likely in its rectangle.
+/// With a search of the request whose place is at this index, where a layout is likely in its rectangle.
 fn looked_where_likely(
     alloc: Global,
     requests: &[Request],
-    progress: Progress,
+    learnt: u64,
+    sweep: Sweep,
     at: usize,
-) -> Result<Progress, AllocError>
-    requires progress { IsProgress requests.now progress }
-    requires inside { at < length progress.places.items }
-    ensures progress { IfOk result (IsProgress requests.now) }
+) -> Result<Sweep, AllocError>
+    requires sweep { IsSweep requests.now learnt sweep }
+    requires inside { at < length sweep.places.items }
+    ensures sweep { IfOk result (IsSweep requests.now learnt) }
     ensures places { IfOk result (λ after. at ≤ length after.places.items) }
 {
-    let place = progress.places[at];
+    let place = sweep.places[at];
     if is_likely(alloc, &requests[place])? {
-        after_search(alloc, requests, progress, at, Means::Search(LIKELY_STEPS))
+        let means = Means::Search(LIKELY_STEPS);
+        after_search(alloc, requests, learnt, sweep, at, means)
     } else {
-        Ok(progress)
+        Ok(sweep)
     }
 }
 
@@ -87,34 +104,39 @@ fn looked_where_likely(
 fn after_round(
     alloc: Global,
     requests: &[Request],
-    begun: Progress,
+    learnt: u64,
+    begun: Sweep,
     means: Means,
-) -> Result<Progress, AllocError>
-    requires { IsProgress requests.now begun }
-    ensures { IfOk result (IsProgress requests.now) }
+) -> Result<Sweep, AllocError>
+    requires { IsSweep requests.now learnt begun }
+    ensures { IfOk result (IsSweep requests.now learnt) }
 {
-    let mut progress = Progress {
+    let mut sweep = Sweep {
         skipped: 0,
         passed: 0,
         ..begun
     };
-    let mut place = progress.places.len();
-    while place > 0 && progress.left > 0 && progress.passed < MOST_PASSED {
-        place -= 1;
-        progress = after_search(alloc, requests, progress, place, means)?;
-        place = place.saturating_sub(progress.skipped);
+    let mut at = sweep.places.len();
+    while at > 0 && sweep.progress.steps < learnt && sweep.passed < MOST_PASSED {
+        at -= 1;
+        sweep = after_search(alloc, requests, learnt, sweep, at, means)?;
+        at = at.saturating_sub(sweep.skipped);
     }
-    Ok(progress)
+    Ok(sweep)
 }
 
-/// What was found, or how many steps were taken where nothing was.
-fn told(progress: Progress, learnt: u64) -> Early
-    ensures { (requests : List LayoutRequest) → IsProgress requests progress
-        → IsEarly requests learnt result }
+/// What was found, and how many steps were taken.
+fn told(progress: Progress) -> Early
+    ensures { (requests : List LayoutRequest) (learnt : ℕ) → IsProgress requests learnt progress
+        → ArePassed requests learnt 0 progress → IsEarly requests learnt result }
 {
-    let Progress { found, left, .. } = progress;
+    let Progress { found, steps } = progress;
     match found {
-        Some((place, parts)) => Early::Laid { place, parts },
-        None => Early::Spent(learnt.saturating_sub(left)),
+        Some(Laid { place, parts }) => Early::Laid {
+            place,
+            parts,
+            steps,
+        },
+        None => Early::Spent(steps),
     }
 }

@@ -11,8 +11,12 @@ mod outcome;
 mod printing;
 mod progress;
 mod searching;
+mod seeking;
 mod sketched;
 mod small;
+mod sweep;
+mod turning;
+mod whole;
 
 pub use early::lay_early;
 pub use law::{

@@ -1,15 +1,14 @@
 //! A search for a layout where one is likely: of the placement formula with more clauses, by a plan.
-ghost use Rattle.std.specs.Prelude.{◌≡◌, IfOk, IfSome};
+ghost use Rattle.std.specs.Prelude.{◌≡◌, ℕ, IfOk};
 ghost use Rattle.bt_place.specs.Narrowed.{IsNarrowed};
 ghost use Rattle.bt_place.specs.PlaceFormula.{place_formula};
 ghost use Rattle.bt_sat.specs.Solving.{begun};
-ghost use Rattle.bt_layout.specs.inner.Likely.{IsLaidOut, IsNarrowedSearch, IsTrial, Solves};
+ghost use Rattle.bt_layout.specs.inner.Likely.{IsNarrowedSearch, IsTrial, IsTried, Solves};
 
 use bt_cnf::{Formula, Lit};
 use bt_model::Request;
 use bt_narrow::{
-    Attempt, Choice, Course, attempts, first_rows, looped_places, looped_rows, narrowings,
-    no_tunnels, places,
+    Attempt, Choice, Course, first_rows, looped_places, looped_rows, narrowings, no_tunnels, places,
 };
 use bt_parts::{Part, Rect};
 use bt_place::{Numbers, decode, encode_place, literal_of, narrow};
@@ -139,7 +138,7 @@ fn looped(
 }
 
 /// The plan of an attempt.
-fn likely(
+pub fn likely(
     alloc: Global,
     formula: &Formula,
     numbers: &Numbers,
@@ -153,7 +152,7 @@ fn likely(
 }
 
 /// The placement formula with more clauses, which not every layout meets.
-fn narrowed(
+pub fn narrowed(
     alloc: Global,
     request: &Request,
     numbers: &Numbers,
@@ -199,7 +198,7 @@ fn solver_by(
     numbers: &Numbers,
     attempt: Attempt,
 ) -> Result<Solver<Active>, AllocError>
-    ensures { IfOk result (λ solver. IsNarrowedSearch request.now solver.kernel) }
+    ensures { IfOk result (λ solver. IsNarrowedSearch request.now attempt.steps solver.kernel) }
 {
     let formula = narrowed(alloc, request, numbers, attempt.window)?;
     let plan = likely(alloc, &formula, numbers, request, attempt)?;
@@ -212,58 +211,33 @@ fn solver_of(
     request: &Request,
     attempt: Attempt,
 ) -> Result<Solver<Active>, AllocError>
-    ensures { IfOk result (λ solver. IsNarrowedSearch request.now solver.kernel) }
+    ensures { IfOk result (λ solver. IsNarrowedSearch request.now attempt.steps solver.kernel) }
 {
     let numbers = Numbers::new(alloc, request)?;
     solver_by(alloc, request, &numbers, attempt)
 }
 
-/// What a search comes to, and the steps that it takes.
+/// What a search comes to, and the steps that it takes, of those that it may take.
 pub fn trial_by(
     alloc: Global,
     request: &Request,
     solver: &mut Solver<Active>,
 ) -> Result<Tried, AllocError>
-    requires { IsNarrowedSearch request.now solver.old.kernel }
-    ensures { IfOk result (λ tried. IsTrial request.now tried.trial) }
+    requires { (most : ℕ) × IsNarrowedSearch request.now most solver.old.kernel }
+    ensures { (most : ℕ) → IsNarrowedSearch request.now most solver.old.kernel
+        → IfOk result (IsTried request.now most) }
 {
     let answer = solver.next_model()?;
-    Ok(Tried {
-        trial: trial_of(alloc, request, answer)?,
-        steps: solver.log().len() as u64,
-    })
+    let steps = solver.log().len() as u64;
+    let trial = trial_of(alloc, request, answer)?;
+    Ok(Tried { trial, steps })
 }
 
 /// Searches for a layout of a request where one is likely in a window of its rectangle. What is found is a layout; where
 /// none is found, nothing is said.
 pub fn look_in(alloc: Global, request: &Request, attempt: Attempt) -> Result<Tried, AllocError>
-    ensures { IfOk result (λ tried. IsTrial request.now tried.trial) }
+    ensures { IfOk result (IsTried request.now attempt.steps) }
 {
     let mut solver = solver_of(alloc, request, attempt)?;
     trial_by(alloc, request, &mut solver)
-}
-
-/// Searches for a layout of a request where one is likely, by at most so many steps of all windows together. What is
-/// found is a layout; where none is found, nothing is said. Where none of the whole rectangle is as was looked for, none
-/// of a window is.
-pub fn likely_layout(
-    alloc: Global,
-    request: &Request,
-    learnt: u64,
-) -> Result<Option<Vec<Part>>, AllocError>
-    ensures { IfOk result (λ found. IfSome found (λ parts. IsLaidOut request.now parts.items)) }
-{
-    for attempt in &attempts(alloc, request, learnt)? {
-        let Tried { trial, .. } = look_in(alloc, request, *attempt)?;
-        match trial {
-            Trial::Found(parts) => return Ok(Some(parts)),
-            Trial::Refuted => {
-                if attempt.is_whole {
-                    return Ok(None);
-                }
-            }
-            Trial::Spent => {}
-        }
-    }
-    Ok(None)
 }

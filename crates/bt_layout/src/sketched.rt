@@ -2,15 +2,16 @@
 ghost use Rattle.std.specs.Prelude.{IfOk};
 ghost use Rattle.bt_place.specs.Narrowed.{IsNarrowed};
 ghost use Rattle.bt_place.specs.PlaceFormula.{place_formula};
-ghost use Rattle.bt_layout.specs.inner.Likely.{IsNarrowedSearch, IsTrial};
+ghost use Rattle.bt_layout.specs.inner.Likely.{IsNarrowedSearch, IsTrial, IsTried};
 
 use crate::likely::{Trial, Tried, planned, push_choices, trial_by};
+use crate::seeking::{seek_by_sketch, seek_where_likely};
 use bt_cnf::Formula;
 use bt_model::Request;
 use bt_narrow::Choice;
 use bt_parts::{Kind, Part};
 use bt_place::{Numbers, encode_place};
-use bt_route::{Sketch, find_sketch};
+use bt_route::Sketch;
 use bt_rules::{Content, Fact, Shape, cells_of, holds};
 use bt_sat::{Active, Plan, Solver, Turn};
 use std::alloc::{AllocError, Global};
@@ -92,7 +93,7 @@ fn solver_with(
     sketch: &Sketch,
     steps: u64,
 ) -> Result<Solver<Active>, AllocError>
-    ensures { IfOk result (λ solver. IsNarrowedSearch request.now solver.kernel) }
+    ensures { IfOk result (λ solver. IsNarrowedSearch request.now steps solver.kernel) }
 {
     let formula = bare(alloc, request)?;
     let plan = plan_of(alloc, &formula, request, sketch)?;
@@ -106,7 +107,7 @@ fn trial_with(
     sketch: &Sketch,
     steps: u64,
 ) -> Result<Tried, AllocError>
-    ensures { IfOk result (λ tried. IsTrial request.now tried.trial) }
+    ensures { IfOk result (IsTried request.now steps) }
 {
     let mut solver = solver_with(alloc, request, sketch, steps)?;
     trial_by(alloc, request, &mut solver)
@@ -115,13 +116,32 @@ fn trial_with(
 /// Looks for a layout that a sketch of the request shows, by at most so many steps. What is found is a layout; where none is
 /// found, nothing is said.
 pub fn look_by_sketch(alloc: Global, request: &Request, steps: u64) -> Result<Tried, AllocError>
-    ensures { IfOk result (λ tried. IsTrial request.now tried.trial) }
+    ensures { IfOk result (IsTried request.now steps) }
 {
-    match find_sketch(alloc, request)? {
+    match seek_by_sketch(alloc, request)? {
         Some(sketch) => trial_with(alloc, request, &sketch, steps.min(SKETCHED_STEPS)),
         None => Ok(Tried {
             trial: Trial::Spent,
             steps: 0,
         }),
+    }
+}
+
+/// Whether a sketch lays the request.
+fn laid_by(alloc: Global, request: &Request, sketch: &Sketch) -> Result<Trial, AllocError>
+    ensures { IfOk result (IsTrial request.now) }
+{
+    let Tried { trial, .. } = trial_with(alloc, request, sketch, SKETCHED_STEPS)?;
+    Ok(trial)
+}
+
+/// Looks for a layout of a request where one is likely, by at most so many steps of all windows together. What is found is
+/// a layout; where none is found, nothing is said.
+pub fn look_in_windows(alloc: Global, request: &Request, steps: u64) -> Result<Trial, AllocError>
+    ensures { IfOk result (IsTrial request.now) }
+{
+    match seek_where_likely(alloc, request, steps)? {
+        Some(sketch) => laid_by(alloc, request, &sketch),
+        None => Ok(Trial::Spent),
     }
 }

@@ -1,63 +1,57 @@
-//! Looking for small grids on which parts show a network.
-ghost use Rattle.std.specs.Prelude.{◌↔◌, ℕ, All, IfOk, IsTrue, Option};
-ghost use Rattle.bt_net.specs.Network.{HasNoPriorities, Network};
-ghost use Rattle.bt_model.specs.Requests.{IsRequest};
+//! Looking for small grids on which parts lay a request.
+ghost use Rattle.std.specs.Prelude.{◌↔◌, ℕ, IfOk, IsTrue, Option};
+ghost use Rattle.bt_net.specs.Network.{HasNoPriorities};
+ghost use Rattle.bt_model.specs.Requests.{LayoutRequest};
 ghost use Rattle.bt_layout.specs.Early.{IsEarly};
 ghost use Rattle.bt_layout.specs.Small.{HasFewer, IsSmall};
-ghost use Rattle.bt_layout.specs.Smallest.{request_on};
-ghost use Rattle.bt_layout.specs.inner.Progressing.{AsksSmall};
-ghost use Rattle.bt_parts.specs.declared.part.Rect.{Rect as ARect};
-ghost use Rattle.bt_parts.specs.declared.part.Tier.{Tier as ATier};
+ghost use Rattle.bt_layout.specs.Smallest.{NamesNoCells};
+ghost use Rattle.bt_layout.specs.inner.Progressing.{AskEach};
 
 use crate::early::lay_early;
 use crate::least::request_on;
 use crate::order::grids;
 use crate::outcome::{Early, Small};
 use bt_model::Request;
-use bt_net::Net;
-use bt_parts::{Rect, Tier};
+use bt_parts::Rect;
 use std::alloc::{AllocError, Global};
 
-/// Looks for small grids, of at most so many cells each way and of fewer cells than so many, where a number is
-/// given, on which parts of the tier show the network: from the greatest grid downwards, with so many steps of all
-/// searches together. The least that is found is told; of the other grids nothing is said.
+/// Looks for small grids, of at most as many cells each way as the request's rectangle and of fewer cells than so many,
+/// where a number is given, on which parts lay the request: from the greatest grid downwards, with so many steps of
+/// all searches together. The least that is found is told. Where not all steps were taken, on no other such grid that
+/// is lesser do any parts lay the request.
 ///
-/// A layout has no priorities to show, so no splitter of the network prefers an edge.
+/// The request names no cells. A layout has no priorities to show, so no splitter of the network prefers an edge.
 pub fn find_small(
     alloc: Global,
-    net: &Net,
-    tier: Tier,
-    most: Rect,
+    request: &Request,
     cells: Option<u64>,
     learnt: u64,
 ) -> Result<Small, AllocError>
-    requires request { IsRequest (request_on net.now tier most) }
-    requires plain { HasNoPriorities net.now }
-    ensures { IfOk result (IsSmall net.now tier most cells learnt) }
+    requires cells { NamesNoCells request.now }
+    requires plain { HasNoPriorities request.now.net }
+    ensures { IfOk result (IsSmall request.now cells learnt) }
 {
-    let requests = small_requests(alloc, net, tier, most, cells)?;
+    let requests = small_requests(alloc, request, cells)?;
     let early = lay_early(alloc, &requests, learnt)?;
     Ok(small_of(&requests, early))
 }
 
-/// The requests for the network on these grids, in the order of grids.
+/// The same requests on these grids, in the order of grids.
 fn small_requests(
     alloc: Global,
-    net: &Net,
-    tier: Tier,
-    most: Rect,
+    request: &Request,
     cells: Option<u64>,
 ) -> Result<Vec<Request>, AllocError>
-    requires request { IsRequest (request_on net.now tier most) }
-    requires plain { HasNoPriorities net.now }
-    ensures { IfOk result (λ requests. All (AsksSmall net.now tier most cells) requests.items) }
+    requires cells { NamesNoCells request.now }
+    requires plain { HasNoPriorities request.now.net }
+    ensures { IfOk result (λ requests. AskEach request.now cells requests.items) }
 {
-    let grids = grids(alloc, most)?;
+    let grids = grids(alloc, request.rect())?;
     let mut requests = Vec::new(alloc);
     for place in 0..grids.len() {
         let grid = grids[place];
         if has_fewer(cells, grid) {
-            requests.push(request_on(alloc, net, tier, grid)?)?;
+            requests.push(request_on(alloc, request, grid)?)?;
         }
     }
     Ok(requests)
@@ -76,14 +70,19 @@ fn has_fewer(cells: Option<u64>, grid: Rect) -> bool
 /// What is told of what looking for a layout of one of the requests comes to.
 fn small_of(requests: &[Request], early: Early) -> Small
     requires { (learnt : ℕ) × IsEarly requests.now learnt early }
-    ensures { (net : Network) (tier : ATier) (most : ARect) (cells : Option ℕ) (learnt : ℕ)
-        → All (AsksSmall net tier most cells) requests.now → IsEarly requests.now learnt early
-        → IsSmall net tier most cells learnt result }
+    ensures { (request : LayoutRequest) (cells : Option ℕ) (learnt : ℕ)
+        → AskEach request cells requests.now → IsEarly requests.now learnt early
+        → IsSmall request cells learnt result }
 {
     match early {
-        Early::Laid { place, parts } => Small::Found {
+        Early::Laid {
+            place,
+            parts,
+            steps,
+        } => Small::Found {
             grid: requests[place].rect(),
             parts,
+            steps,
         },
         Early::Spent(steps) => Small::Spent(steps),
     }

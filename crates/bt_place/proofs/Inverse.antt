@@ -22,7 +22,7 @@ use Rattle.bt_rules.specs.Classes.{same_class}
 use Rattle.bt_rules.specs.Contents.{contents}
 use Rattle.bt_rules.specs.Spots.{dirs, row_cells, cells_of}
 use Rattle.bt_rules.proofs.Classed.{class_same, same_found}
-use Rattle.bt_place.specs.Numbering.{Sizes, spot_of, dir_number, content_number, class_number, along, spots, variables, variable_of}
+use Rattle.bt_place.specs.Numbering.{Sizes, spot_of, dir_number, content_number, class_number, along, spots, spares, variables, variable_of}
 use Rattle.bt_place.specs.Within.{IsSpot, IsNumbered}
 use Rattle.bt_place.proofs.Counting.{get_map, length_map, length_range, get_range, length_flat, get_flat, group_within, joined, before_list, list_at, get_joined, length_joined}
 
@@ -216,6 +216,7 @@ module _ (z : Sizes) where
       ∷ by_splitter (λ s. map (fact.Points s) dirs)
       ∷ map fact.EntersLesser (range_with_len 0 z.splitters)
       ∷ map fact.LeavesLesser (range_with_len 0 z.splitters)
+      ∷ flat_map (λ spare. map (fact.Held spare) (range_with_len 0 (z.halves))) (range_with_len 0 (spares z))
       ∷ flat_map (λ c. map (fact.Kind c) (reverse contents)) (reverse along_cells)
       ∷ flat_map (λ s. flat_map (λ c. map (fact.At s c) dirs) (reverse along_cells)) (reverse order)
       ∷ []
@@ -274,8 +275,9 @@ module _ (z : Sizes) where
       pub points : length (list_at (blocks order) 11) ≡ z.splitters * 4
       pub entering : length (list_at (blocks order) 12) ≡ z.splitters
       pub leaving : length (list_at (blocks order) 13) ≡ z.splitters
-      pub kinds : length (list_at (blocks order) 14) ≡ spots z * 21
-      pub places : length (list_at (blocks order) 15) ≡ z.splitters * (spots z * 4)
+      pub held : length (list_at (blocks order) 14) ≡ spares z * z.halves
+      pub kinds : length (list_at (blocks order) 15) ≡ spots z * 21
+      pub places : length (list_at (blocks order) 16) ≡ z.splitters * (spots z * 4)
 
     lengths : Lengths
     lengths = record {
@@ -293,6 +295,8 @@ module _ (z : Sizes) where
       points = splitter_length (λ s. map (fact.Points s) dirs) 4 (λ s. refl);
       entering = ranged fact.EntersLesser 0 z.splitters;
       leaving = ranged fact.LeavesLesser 0 z.splitters;
+      held = length_flat (λ spare. map (fact.Held spare) (range_with_len 0 (z.halves))) (range_with_len 0 (spares z)) (z.halves) (λ spare. ranged (fact.Held spare) 0 (z.halves))
+          ∙ ap (λ n. n * z.halves) (length_range 0 (spares z));
       kinds = length_flat (λ c. map (fact.Kind c) (reverse contents)) (reverse along_cells) 21 (λ c. refl) ∙ ap (λ n. n * 21) (length-reverse along_cells ∙ length_along);
       places = length_flat (λ s. flat_map (λ c. map (fact.At s c) dirs) (reverse along_cells)) (reverse order) (spots z * 4)
           (λ s. length_flat (λ c. map (fact.At s c) dirs) (reverse along_cells) 4 (λ c. refl) ∙ ap (λ n. n * 4) (length-reverse along_cells ∙ length_along))
@@ -303,8 +307,8 @@ module _ (z : Sizes) where
     pub blocks_long : length (joined (blocks order)) ≡ variables z
     blocks_long =
         let l = lengths in
-        let e : before_list (blocks order) 16 ≡ variables z =
-        omega (arith, l.carried, l.halves_on, l.belts_on, l.begun, l.started, l.stopped, l.paired, l.tunnels, l.goings, l.columns, l.rows, l.points, l.entering, l.leaving, l.kinds, l.places) in
+        let e : before_list (blocks order) 17 ≡ variables z =
+        omega (arith, l.carried, l.halves_on, l.belts_on, l.begun, l.started, l.stopped, l.paired, l.tunnels, l.goings, l.columns, l.rows, l.points, l.entering, l.leaving, l.held, l.kinds, l.places) in
         length_joined (blocks order) ∙ e
 
     stands : (x : Fact) → IsNumbered z x → IsIn order x
@@ -392,10 +396,18 @@ module _ (z : Sizes) where
       number = let l = lengths in omega (arith, l.carried, l.halves_on, l.belts_on, l.begun, l.started, l.stopped, l.paired, l.tunnels, l.goings, l.columns, l.rows, l.points, l.entering);
       there = found_ranged fact.LeavesLesser 0 z.splitters s s h (omega arith);
     }
-    stands (fact.Kind c content) h = record {
+    stands (fact.Held spare half) h = record {
       block = 14;
-      place = (spots z - 1 - along z c) * 21 + (20 - content_number content);
+      place = spare * z.halves + half;
       number = let l = lengths in omega (arith, l.carried, l.halves_on, l.belts_on, l.begun, l.started, l.stopped, l.paired, l.tunnels, l.goings, l.columns, l.rows, l.points, l.entering, l.leaving);
+      there = found_flat (λ spare. map (fact.Held spare) (range_with_len 0 (z.halves))) (range_with_len 0 (spares z)) (z.halves) spare half spare (fact.Held spare half) (λ spare. ranged (fact.Held spare) 0 (z.halves))
+          (found_at (range_with_len 0 (spares z)) spare spare spare refl (subst (Found (range_with_len 0 (spares z)) spare) (let e : 0 + spare ≡ spare = omega arith in e) (found_range 0 (spares z) spare (let few = h.0 in omega (arith, few)))))
+          (found_ranged (fact.Held spare) 0 (z.halves) half half h.1 (omega arith));
+    }
+    stands (fact.Kind c content) h = record {
+      block = 15;
+      place = (spots z - 1 - along z c) * 21 + (20 - content_number content);
+      number = let l = lengths in omega (arith, l.carried, l.halves_on, l.belts_on, l.begun, l.started, l.stopped, l.paired, l.tunnels, l.goings, l.columns, l.rows, l.points, l.entering, l.leaving, l.held);
       there = found_flat (λ c. map (fact.Kind c) (reverse contents)) (reverse along_cells) 21 (spots z - 1 - along z c) (20 - content_number content) c (fact.Kind c content) (λ c. refl)
           (found_reverse along_cells (spots z) (along z c) c length_along (found_along c h))
           (found_map (fact.Kind c) (reverse contents) (20 - content_number content) content (found_reverse contents 21 (content_number content) content refl (found_content content)));
@@ -406,9 +418,9 @@ module _ (z : Sizes) where
         let long = ranks.long in
         let here : Found order rank s = record { within = omega (arith, lt, long); is = get_or_default order rank s 0 (omega (arith, lt, long)) ∙ ranks.there s h.0 } in
         record {
-          block = 15;
+          block = 16;
           place = (z.splitters - 1 - rank) * (spots z * 4) + ((spots z - 1 - along z c) * 4 + dir_number dir);
-          number = let l = lengths in omega (arith, l.carried, l.halves_on, l.belts_on, l.begun, l.started, l.stopped, l.paired, l.tunnels, l.goings, l.columns, l.rows, l.points, l.entering, l.leaving, l.kinds);
+          number = let l = lengths in omega (arith, l.carried, l.halves_on, l.belts_on, l.begun, l.started, l.stopped, l.paired, l.tunnels, l.goings, l.columns, l.rows, l.points, l.entering, l.leaving, l.held, l.kinds);
           there = found_flat (λ s. flat_map (λ c. map (fact.At s c) dirs) (reverse along_cells)) (reverse order) (spots z * 4) (z.splitters - 1 - rank) ((spots z - 1 - along z c) * 4 + dir_number dir) s (fact.At s c dir)
               (λ s. length_flat (λ c. map (fact.At s c) dirs) (reverse along_cells) 4 (λ c. refl) ∙ ap (λ n. n * 4) (length-reverse along_cells ∙ length_along))
               (found_reverse order z.splitters rank s long here)

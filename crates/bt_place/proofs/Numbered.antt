@@ -1,21 +1,21 @@
 -- The facts within a request have variables.
-use Rattle.std.proofs.Common.{ℕ, ◌<◌, List, [], ◌∷◌, ◌++◌, arith}
-use Rattle.std.specs.List.{AllByRecursion, flat_map}
+use Rattle.std.proofs.Common.{◌≡◌, ℕ, ◌<◌, true, List, [], ◌∷◌, length, arith}
+use Rattle.std.specs.List.{AllByRecursion}
 use Rattle.bt_model.specs.Requests.{LayoutRequest, IsRequest}
 use Rattle.bt_parts.specs.declared.part.Cell.{Cell}
 use Rattle.bt_parts.specs.Cells.{IsInside}
 use Rattle.bt_rules.specs.declared.fact.Fact.{Fact}
 use Rattle.bt_rules.specs.declared.fact.Fact.TheVariants as fact
-use Rattle.bt_rules.specs.Classes.{splitters_of}
+use Rattle.bt_rules.specs.Counting.{has_room, count_rules}
 use Rattle.bt_rules.specs.PlaceRules.{cell_rules, splitter_rules, end_rules, rules_of}
 use Rattle.bt_rules.specs.Rules.{Rule}
-use Rattle.bt_rules.specs.Spots.{cells_of}
 use Rattle.bt_rules.specs.Within.{IsWithin, HasWithin}
-use Rattle.bt_rules.proofs.Geometry.{in_cells}
-use Rattle.bt_rules.proofs.Keeping.{in_range, all_there}
-use Rattle.bt_rules.proofs.RulesWithin.{rules_within}
+use Rattle.bt_rules.specs.Spots.{cells_of}
+use Rattle.bt_rules.proofs.RulesWithin.{rules_within, cell_within, splitter_within, ends_within, counts_within}
+use Rattle.bt_place.specs.Numbering.{spots}
 use Rattle.bt_place.specs.PlaceFormula.{sizes_of}
 use Rattle.bt_place.specs.Within.{IsNumbered, HasNumbered}
+use Rattle.bt_place.proofs.Inverse.{length_cells}
 
 pub numbered_of : (r : LayoutRequest) (x : Fact) → IsWithin r x → IsNumbered (sizes_of r) x
 numbered_of r (fact.Kind c content) h = h
@@ -34,6 +34,10 @@ numbered_of r (fact.Row s y) h = h
 numbered_of r (fact.Points s dir) h = h
 numbered_of r (fact.EntersLesser s) h = h
 numbered_of r (fact.LeavesLesser s) h = h
+numbered_of r (fact.Held spare half) h =
+    let few = h.0 in
+    let long : length (cells_of r.rect) ≡ spots (sizes_of r) = length_cells (sizes_of r) in
+    (omega (arith, few, long), h.1)
 
 facts_numbered : (r : LayoutRequest) (facts : List Fact) → AllByRecursion (IsWithin r) facts → AllByRecursion (IsNumbered (sizes_of r)) facts
 facts_numbered r [] h = tt
@@ -44,19 +48,6 @@ list_numbered r [] h = tt
 list_numbered r (a ∷ rules) h =
     (record { given = facts_numbered r a.given h.0.given; one_of = facts_numbered r a.one_of h.0.one_of }, list_numbered r rules h.1)
 
--- what is so of the items of two lists, and of what a map makes of items
-all_left : {X : Type 0} (P : X → Type 0) (xs ys : List X) → AllByRecursion P (xs ++ ys) → AllByRecursion P xs
-all_left P [] ys h = tt
-all_left P (x ∷ xs) ys h = (h.0, all_left P xs ys h.1)
-
-all_right : {X : Type 0} (P : X → Type 0) (xs ys : List X) → AllByRecursion P (xs ++ ys) → AllByRecursion P ys
-all_right P [] ys h = h
-all_right P (x ∷ xs) ys h = all_right P xs ys h.1
-
-all_flat : {X Y : Type 0} (P : Y → Type 0) (f : X → List Y) (xs : List X) → AllByRecursion P (flat_map f xs) → AllByRecursion (λ x. AllByRecursion P (f x)) xs
-all_flat P f [] h = tt
-all_flat P f (x ∷ xs) h = (all_left P (f x) (flat_map f xs) h, all_flat P f xs (all_right P (f x) (flat_map f xs) h))
-
 module _ (r : LayoutRequest) (is : IsRequest r) where
   abbrev H : Rule → Type 0
   H = HasNumbered (sizes_of r)
@@ -64,20 +55,14 @@ module _ (r : LayoutRequest) (is : IsRequest r) where
   pub rules_numbered : AllByRecursion H (rules_of r)
   rules_numbered = list_numbered r (rules_of r) (rules_within r is)
 
-  cells_numbered : AllByRecursion H (flat_map (cell_rules r) (cells_of r.rect))
-  cells_numbered = all_left H (flat_map (cell_rules r) (cells_of r.rect)) (flat_map (splitter_rules r) (splitters_of r))
-      (all_left H (flat_map (cell_rules r) (cells_of r.rect) ++ flat_map (splitter_rules r) (splitters_of r)) (end_rules r) rules_numbered)
-
-  splitters_numbered : AllByRecursion H (flat_map (splitter_rules r) (splitters_of r))
-  splitters_numbered = all_right H (flat_map (cell_rules r) (cells_of r.rect)) (flat_map (splitter_rules r) (splitters_of r))
-      (all_left H (flat_map (cell_rules r) (cells_of r.rect) ++ flat_map (splitter_rules r) (splitters_of r)) (end_rules r) rules_numbered)
-
   pub cell_numbered : (c : Cell) → IsInside r.rect c → AllByRecursion H (cell_rules r c)
-  cell_numbered c h = all_there (λ d. AllByRecursion H (cell_rules r d)) (cells_of r.rect) c (all_flat H (cell_rules r) (cells_of r.rect) cells_numbered) (in_cells r.rect c h)
+  cell_numbered c h = list_numbered r (cell_rules r c) (cell_within r is c h)
 
   pub splitter_numbered : (s : ℕ) → s < r.net.splitters → AllByRecursion H (splitter_rules r s)
-  splitter_numbered s lt = all_there (λ t. AllByRecursion H (splitter_rules r t)) (splitters_of r) s (all_flat H (splitter_rules r) (splitters_of r) splitters_numbered)
-      (in_range 0 r.net.splitters s (omega arith) (omega (arith, lt)))
+  splitter_numbered s lt = list_numbered r (splitter_rules r s) (splitter_within r is s lt)
 
   pub ends_numbered : AllByRecursion H (end_rules r)
-  ends_numbered = all_right H (flat_map (cell_rules r) (cells_of r.rect) ++ flat_map (splitter_rules r) (splitters_of r)) (end_rules r) rules_numbered
+  ends_numbered = list_numbered r (end_rules r) (ends_within r is)
+
+  pub counts_numbered : has_room r ≡ true → AllByRecursion H (count_rules r)
+  counts_numbered t = list_numbered r (count_rules r) (counts_within r is t)

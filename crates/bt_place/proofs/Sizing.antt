@@ -16,7 +16,7 @@ use Rattle.bt_rules.specs.declared.fact.Fact.{Fact}
 use Rattle.bt_rules.specs.Classes.{occurs, splitters_of, shared_into, input_classes, classes_of}
 use Rattle.bt_rules.specs.Within.{sides_outputs}
 use Rattle.bt_place.specs.declared.blocks.Starts.{Starts}
-use Rattle.bt_place.specs.Numbering.{Sizes, spots, spot_of, along, variables, variable_of}
+use Rattle.bt_place.specs.Numbering.{Sizes, spots, spares, spot_of, along, variables, variable_of}
 use Rattle.bt_place.specs.PlaceFormula.{splitter_order, ranks_of, sizes_of}
 use Rattle.bt_place.specs.Within.{IsSpot, IsNumbered}
 use Rattle.bt_place.specs.inner.Blocks.{AreNumbers, place_number}
@@ -79,7 +79,8 @@ few_of_request r is =
     let columns = product z.splitters z.width 128 16 s wide in
     let rows = product z.splitters z.height 128 16 s high in
     let places = product z.splitters (spots z) 128 256 s n in
-    omega (arith, n, s, carried, started, stopped, distances, columns, rows, places)
+    let held = product (spares z) z.halves 257 256 (omega (arith, n)) (omega (arith, s)) in
+    omega (arith, n, s, carried, started, stopped, distances, columns, rows, places, held)
   where
     few_stops : (b : Bool) → cond b r.net.outputs 0 ≤ 2048
     few_stops true = is.net.few_outputs

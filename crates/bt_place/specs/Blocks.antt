@@ -19,6 +19,7 @@ starts_of z = record {
   points = numbering.points_from z;
   entering = numbering.entering_from z;
   leaving = numbering.leaving_from z;
+  held = numbering.held_from z;
   kinds = numbering.kinds_from z;
   places = numbering.places_from z;
   end = numbering.variables z;

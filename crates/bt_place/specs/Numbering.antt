@@ -23,6 +23,7 @@ pub record Sizes : Type 0 where
   pub width : ℕ
   pub height : ℕ
   pub splitters : ℕ
+  pub halves : ℕ
   pub inputs : ℕ
   pub stops : ℕ
   pub distances : ℕ
@@ -104,6 +105,10 @@ along z c = if nat_lt z.height z.width
 abbrev pub spots : Sizes → ℕ
 spots z = z.width * z.height
 
+-- how many numbers of cells may hold no half, from 0 on
+abbrev pub spares : Sizes → ℕ
+spares z = spots z + 1 - z.halves
+
 -- where each block of variables begins, after that of the classes which cells carry
 abbrev pub halves_from : Sizes → ℕ
 halves_from z = spots z * length z.classes
@@ -144,8 +149,11 @@ entering_from z = points_from z + z.splitters * 4
 abbrev pub leaving_from : Sizes → ℕ
 leaving_from z = entering_from z + z.splitters
 
+abbrev pub held_from : Sizes → ℕ
+held_from z = leaving_from z + z.splitters
+
 abbrev pub kinds_from : Sizes → ℕ
-kinds_from z = leaving_from z + z.splitters
+kinds_from z = held_from z + spares z * z.halves
 
 abbrev pub places_from : Sizes → ℕ
 places_from z = kinds_from z + spots z * 21
@@ -172,6 +180,7 @@ variable_of z (fact.Row s y) = rows_from z + (s * z.height + y)
 variable_of z (fact.Points s dir) = points_from z + (s * 4 + dir_number dir)
 variable_of z (fact.EntersLesser s) = entering_from z + s
 variable_of z (fact.LeavesLesser s) = leaving_from z + s
+variable_of z (fact.Held spare half) = held_from z + (spare * z.halves + half)
 variable_of z (fact.Kind c content) = kinds_from z + ((spots z - 1 - along z c) * 21 + (20 - content_number content))
 variable_of z (fact.At s c dir) = places_from z
     + (((z.splitters - 1 - slice_index z.ranks s) * spots z + (spots z - 1 - along z c)) * 4 + dir_number dir)

@@ -7,6 +7,7 @@ use Rattle.bt_net.specs.Network.{Network}
 use Rattle.bt_model.specs.Requests.{LayoutRequest}
 use Rattle.bt_rules.specs.declared.fact.Fact.{Fact}
 use Rattle.bt_rules.specs.Classes.{classes_of}
+use Rattle.bt_rules.specs.Counting.{halves_of}
 use Rattle.bt_rules.specs.PlaceRules.{rules_of}
 use Rattle.bt_rules.specs.Rules.{Rule}
 use Rattle.bt_rules.specs.Underground.{most_distance}
@@ -27,6 +28,7 @@ sizes_of r = record {
   width = r.rect.width;
   height = r.rect.height;
   splitters = r.net.splitters;
+  halves = halves_of r;
   inputs = r.net.inputs;
   stops = stopping r;
   distances = most_distance r;

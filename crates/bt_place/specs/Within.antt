@@ -1,12 +1,12 @@
 -- Facts that have variables: those of cells, splitters, inputs and classes which the sizes have.
-use Rattle.std.specs.Prelude.{◌<◌, ◌≤◌, Contains}
+use Rattle.std.specs.Prelude.{◌<◌, ◌≤◌, ◌+◌, Contains}
 use Rattle.std.specs.List.{AllByRecursion}
 use Rattle.bt_parts.specs.declared.part.Cell.{Cell}
 use Rattle.bt_parts.specs.Cells.{IsInside}
 use Rattle.bt_rules.specs.declared.fact.Fact.{Fact}
 use Rattle.bt_rules.specs.declared.fact.Fact.TheVariants as fact
 use Rattle.bt_rules.specs.Rules.{Rule}
-use Rattle.bt_place.specs.Numbering.{Sizes}
+use Rattle.bt_place.specs.Numbering.{Sizes, spots}
 
 -- the cell is one of the rectangle of these sizes
 abbrev pub IsSpot : Sizes → Cell → Type 0
@@ -30,6 +30,7 @@ IsNumbered z (fact.Row s y) = (s < z.splitters) × (y < z.height)
 IsNumbered z (fact.Points s dir) = s < z.splitters
 IsNumbered z (fact.EntersLesser s) = s < z.splitters
 IsNumbered z (fact.LeavesLesser s) = s < z.splitters
+IsNumbered z (fact.Held spare half) = (spare + z.halves ≤ spots z) × (half < z.halves)
 
 -- so are all facts of a rule
 pub record HasNumbered (z : Sizes) (r : Rule) : Type 0 where

@@ -12,6 +12,8 @@ pub struct Extent {
     pub width: usize,
     pub height: usize,
     pub splitters: usize,
+    /// Twice as many as splitters.
+    pub halves: usize,
     pub inputs: usize,
     /// The outputs that may stop on cells: all, where some are to stand at a side.
     pub stops: usize,
@@ -35,6 +37,7 @@ pub struct Starts {
     pub points: usize,
     pub entering: usize,
     pub leaving: usize,
+    pub held: usize,
     pub kinds: usize,
     pub places: usize,
     pub end: usize,
@@ -68,7 +71,12 @@ pub fn starts_of(extent: Extent, classes: &[Class]) -> Starts
     let points = after(rows, extent.splitters, extent.height);
     let entering = after(points, extent.splitters, 4);
     let leaving = after(entering, extent.splitters, 1);
-    let kinds = after(leaving, extent.splitters, 1);
+    let held = after(leaving, extent.splitters, 1);
+    let kinds = after(
+        held,
+        (spots + 1).saturating_sub(extent.halves),
+        extent.halves,
+    );
     let places = after(kinds, spots, 21);
     let all = after(0, extent.splitters, spots);
     Starts {
@@ -85,6 +93,7 @@ pub fn starts_of(extent: Extent, classes: &[Class]) -> Starts
         points,
         entering,
         leaving,
+        held,
         kinds,
         places,
         end: after(places, all, 4),

@@ -1,11 +1,12 @@
 //! The placement formula of a request.
-ghost use Rattle.std.specs.Prelude.{◌≡◌, ◌<◌, map, flat_map, IfOk, OnOk};
+ghost use Rattle.std.specs.Prelude.{◌≡◌, ◌<◌, true, map, flat_map, IfOk, OnOk};
 ghost use Rattle.std.specs.List.{AllByRecursion};
 ghost use Rattle.bt_parts.specs.Cells.{IsInside};
 ghost use Rattle.bt_model.specs.Requests.{IsRequest};
 ghost use Rattle.bt_rules.specs.Classes.{splitters_of};
 ghost use Rattle.bt_rules.specs.Plans.{IsGate, IsPlan};
-ghost use Rattle.bt_rules.specs.PlaceRules.{cell_rules, splitter_rules, end_rules, rules_of};
+ghost use Rattle.bt_rules.specs.PlaceRules.{cell_rules, splitter_rules, end_rules, room_rules, rules_of};
+ghost use Rattle.bt_rules.specs.Counting as counting;
 ghost use Rattle.bt_rules.specs.Spots as spots;
 ghost use Rattle.bt_place.specs.PlaceFormula.{place_formula};
 ghost use Rattle.bt_place.specs.inner.Writing.{HasVariables, IsEncoding, with_rules};
@@ -15,7 +16,9 @@ use crate::writing::write;
 use bt_cnf::Formula;
 use bt_model::Request;
 use bt_parts::Cell;
-use bt_rules::{Draft, Gate, Plan, add_cell, add_ends, add_splitter, cells_of};
+use bt_rules::{
+    Draft, Gate, Plan, add_cell, add_counts, add_ends, add_splitter, cells_of, has_room,
+};
 use std::alloc::{AllocError, Global};
 
 /// The rules at a cell.
@@ -161,7 +164,58 @@ fn write_ends(
     Ok(())
 }
 
-/// Adds the clauses of all rules.
+/// The rules that count halves.
+fn count_draft(alloc: Global, request: &Request, cells: &[Cell]) -> Result<Draft, AllocError>
+    requires cells { cells.now ≡ spots.cells_of request.now.rect }
+    requires room { counting.has_room request.now ≡ true }
+    ensures { IfOk result (λ draft. draft ≡ counting.count_rules request.now) }
+{
+    let mut draft = Draft::new(alloc)?;
+    add_counts(alloc, &mut draft, request, cells)?;
+    Ok(draft)
+}
+
+/// Adds the clauses of the rules that count halves.
+fn write_counts(
+    alloc: Global,
+    formula: &mut Formula,
+    numbers: &Numbers,
+    request: &Request,
+    cells: &[Cell],
+) -> Result<(), AllocError>
+    requires cells { cells.now ≡ spots.cells_of request.now.rect }
+    requires room { counting.has_room request.now ≡ true }
+    requires encoding { IsEncoding request.now numbers.now formula.old.vars }
+    ensures { OnOk result (formula.new ≡ with_rules numbers.now formula.old
+        (counting.count_rules request.now)) }
+{
+    let draft = count_draft(alloc, request, cells)?;
+    write(alloc, formula, numbers, &draft)?;
+    Ok(())
+}
+
+/// Adds the clauses of the rules of a request whose rectangle has room.
+fn write_room(
+    alloc: Global,
+    formula: &mut Formula,
+    numbers: &Numbers,
+    request: &Request,
+    cells: &[Cell],
+) -> Result<(), AllocError>
+    requires cells { cells.now ≡ spots.cells_of request.now.rect }
+    requires room { counting.has_room request.now ≡ true }
+    requires encoding { IsEncoding request.now numbers.now formula.old.vars }
+    ensures { OnOk result (formula.new ≡ with_rules numbers.now formula.old (room_rules request.now)) }
+{
+    let plan = Plan::new(alloc, request)?;
+    write_cells(alloc, formula, numbers, request, &plan, cells)?;
+    write_splitters(alloc, formula, numbers, request, cells, &plan.gates)?;
+    write_ends(alloc, formula, numbers, request, cells)?;
+    write_counts(alloc, formula, numbers, request, cells)?;
+    Ok(())
+}
+
+/// Adds the clauses of all rules: where there is no room, the empty clause alone.
 fn write_all(
     alloc: Global,
     formula: &mut Formula,
@@ -173,10 +227,11 @@ fn write_all(
         (rules_of request.now)) }
 {
     let cells = cells_of(alloc, request.rect())?;
-    let plan = Plan::new(alloc, request)?;
-    write_cells(alloc, formula, numbers, request, &plan, &cells)?;
-    write_splitters(alloc, formula, numbers, request, &cells, &plan.gates)?;
-    write_ends(alloc, formula, numbers, request, &cells)?;
+    if has_room(alloc, request, &cells)? {
+        write_room(alloc, formula, numbers, request, &cells)?;
+    } else {
+        formula.add_clause(&[])?;
+    }
     Ok(())
 }
 

@@ -1,5 +1,5 @@
 //! The variables of facts.
-ghost use Rattle.std.specs.Prelude.{◌≡◌, ◌↔◌, ◌<◌, ◌+◌, ◌-◌, ◌*◌, ◌^◌, length, IfOk, IfNone, IfSome, IsTrue, Contains};
+ghost use Rattle.std.specs.Prelude.{◌≡◌, ◌↔◌, ◌<◌, ◌≤◌, ◌+◌, ◌-◌, ◌*◌, ◌^◌, length, IfOk, IfNone, IfSome, IsTrue, Contains};
 ghost use Rattle.std.specs.List.{position_or_len};
 ghost use Rattle.bt_parts.specs.Cells.{IsInside};
 ghost use Rattle.bt_model.specs.Requests.{IsRequest};
@@ -139,6 +139,7 @@ fn extent_of(request: &Request) -> Extent
         width: rect.width as usize,
         height: rect.height as usize,
         splitters: net.splitters() as usize,
+        halves: net.splitters() as usize * 2,
         inputs: net.inputs() as usize,
         stops: stopping(request),
         distances: request.tier().reach() as usize + 1,
@@ -276,6 +277,7 @@ impl Numbers {
             Fact::Points(s, dir) => numbered(starts.points, s, 4, dir_number(dir)),
             Fact::EntersLesser(s) => numbered(starts.entering, s, 1, 0),
             Fact::LeavesLesser(s) => numbered(starts.leaving, s, 1, 0),
+            Fact::Held(spare, half) => numbered(starts.held, spare, extent.halves, half),
             Fact::Kind(cell, content) => {
                 let row = self.from_last(cell);
                 numbered(starts.kinds, row, 21, 20 - content_number(content))
@@ -319,6 +321,14 @@ impl Numbers {
         splitter < self.extent.splitters
     }
 
+    /// Whether so many cells may hold no half.
+    fn has_spare(&self, spare: usize) -> bool
+        ensures { IsTrue result ↔ (spare + self.now.halves ≤ numbering.spots self.now) }
+    {
+        let spots = self.extent.width * self.extent.height;
+        self.extent.halves <= spots && spare <= spots - self.extent.halves
+    }
+
     /// Whether the fact has a variable.
     fn has(&self, fact: Fact) -> bool
         ensures { IsTrue result ↔ IsNumbered self.now fact }
@@ -339,6 +349,7 @@ impl Numbers {
             Fact::Points(s, _) => self.has_splitter(s),
             Fact::EntersLesser(s) => self.has_splitter(s),
             Fact::LeavesLesser(s) => self.has_splitter(s),
+            Fact::Held(spare, half) => self.has_spare(spare) && half < extent.halves,
             Fact::Kind(cell, _) => self.has_spot(cell),
             Fact::At(s, cell, _) => self.has_splitter(s) && self.has_spot(cell),
         }

@@ -14,13 +14,12 @@ use Rattle.bt_parts.specs.declared.part.Kind.TheVariants.{Entrance}
 use Rattle.bt_parts.specs.declared.part.Part.{Part}
 use Rattle.bt_parts.specs.Cells.{beside, step}
 use Rattle.bt_parts.specs.Layouts.{HasPart, IsAt}
-use Rattle.bt_net.specs.declared.network.Edge.{Edge}
 use Rattle.bt_net.specs.declared.network.Target.TheVariants as to
 use Rattle.bt_model.specs.Handing.{FeedsFrom, Hands}
 use Rattle.bt_model.specs.Chains.{IsSplitter, IsLink, Path, one, IsInput, IsOutput, Source, begins, leaves, Sink, ends, enters, Chain, IsChain, StartsAs}
 use Rattle.bt_model.specs.Clean.{IsClean}
 use Rattle.bt_model.specs.Speeds.{HasSpeed, IsLeastSpeed, IsOnWay, IsSpeedOf}
-use Rattle.bt_model.specs.Shown.{Naming, ListsEach, Precedes, IsPlacedBefore, ComesBefore, IsEdgeOf}
+use Rattle.bt_model.specs.Shown.{Naming, ListsEach, Precedes, IsPlacedBefore, ComesBefore}
 use Rattle.bt_parts.proofs.Places.{same_part, own_cell, covers_at}
 use Rattle.bt_model.proofs.HandLemmas.{taker_at}
 use Rattle.bt_model.proofs.PathLemmas.{path_snoc}

@@ -9,4 +9,5 @@ pub mod OneRecovery
 pub mod PartnerLaws
 pub mod PreferLemmas
 pub mod RefusalLemmas
+pub mod SideLemmas
 pub mod WiredLemmas

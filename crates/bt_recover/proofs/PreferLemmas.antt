@@ -1,7 +1,7 @@
 -- The edges that splitters prefer.
-use Rattle.std.proofs.Common.{◌≡◌, ◌≢◌, ◌⊎◌, ℕ, zero, suc, ◌+◌, ◌-◌, ◌<◌, ◌≤◌, List, [], ◌∷◌, map, length, get_or, Option, Some, None, Bool, true, ◌↔◌, IsTrue, refl, sym, ◌∙◌, ap, subst, inl, inr, ⊎_elim, arith}
+use Rattle.std.proofs.Common.{◌≡◌, ◌≢◌, ◌⊎◌, ℕ, zero, suc, ◌+◌, ◌-◌, ◌<◌, List, [], ◌∷◌, map, length, get_or, Option, Some, None, true, IsTrue, refl, sym, ◌∙◌, ap, subst, inl, inr, ⊎_elim, arith}
 use Rattle.std.specs.Prelude.{MatchOption, Ok, Err}
-use Rattle.std.specs.List.{slice_get, AllPairs, AllZip, Contains, All}
+use Rattle.std.specs.List.{slice_get, AllPairs, AllZip, Contains}
 use Rattle.std.proofs.Common.{set, replicate}
 use Rattle.std.specs.Prelude.{Result}
 use Rattle.std.proofs.Math.ListN.{get_or-eq_default}

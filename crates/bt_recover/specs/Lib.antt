@@ -1,3 +1,4 @@
 pub mod Recovered
 pub mod Preferred
+pub mod Sides
 pub mod inner

@@ -5,4 +5,5 @@ pub mod Found
 pub mod Marks
 pub mod Refused
 pub mod Speeds
+pub mod Staying
 pub mod Told

@@ -14,10 +14,12 @@ mod marks;
 mod preferring;
 mod recovery;
 mod refusals;
+mod sides;
 mod sight;
 mod speeds;
 
 pub use fault::RecoverFault;
 pub use law::{one_preferring, plain_recovery};
 pub use recovery::{Traced, recover, recover_with};
+pub use sides::{NO_LINE, end_sides};
 pub use std::alloc::AllocError as Memory;

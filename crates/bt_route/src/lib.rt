@@ -11,6 +11,7 @@ mod ends;
 mod finding;
 mod ledger;
 mod lines;
+mod naming;
 mod negotiating;
 mod network;
 mod numbering;
@@ -22,5 +23,6 @@ mod sketching;
 mod stand;
 mod wanted;
 
+pub use naming::{Named, name_by_structure};
 pub use sketching::{Sketch, find_sketch};
 pub use std::alloc::AllocError as Memory;

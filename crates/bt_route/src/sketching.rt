@@ -9,7 +9,7 @@ use crate::ordering::{Rows, orders, ranked};
 use crate::random::Random;
 use crate::seats::stands_of;
 use crate::stand::Stand;
-use crate::wanted::is_anywhere;
+use crate::wanted::goes_north;
 use bt_model::Request;
 use bt_parts::{Cell, Dir, Kind, Part, Tier};
 use std::alloc::{AllocError, Global};
@@ -151,9 +151,9 @@ fn sketch_with(
     }
 }
 
-/// The view of a seed: all goes to the north, or by turns in each direction where ends have places.
+/// The view of a seed: all goes to the north where it may, or by turns in each direction.
 fn view_of(request: &Request, seed: usize) -> View {
-    let dir = if is_anywhere(request) {
+    let dir = if goes_north(request) {
         Dir::North
     } else {
         match DIRS.get(seed % 4) {
@@ -185,7 +185,7 @@ fn sketch_by(
         return Ok(None);
     };
     let view = view_of(request, seed);
-    let moves = if is_anywhere(request) { seed } else { seed / 4 };
+    let moves = if goes_north(request) { seed } else { seed / 4 };
     let splitters = network.splitters.len();
     match stands_of(alloc, request, view, rows, splitters, moves)? {
         Some(stands) => sketch_with(alloc, request, network, progress, stands),

@@ -1,6 +1,6 @@
 //! Where a request wants an end to stand.
 use bt_model::{Request, ends_of, names};
-use bt_net::{Demand, End, Pin};
+use bt_net::{Demand, End, Ends, Pin};
 use bt_parts::{Cell, Dir, Rect};
 
 /// Where an end is to stand.
@@ -55,9 +55,26 @@ pub fn place_wanted(request: &Request, end: End) -> Wanted {
     Wanted::Anywhere
 }
 
-/// Whether a request says of no end where it is to stand.
-pub fn is_anywhere(request: &Request) -> bool {
-    request.demands().is_empty()
+/// Whether a demand wants inputs in the south or outputs in the north.
+fn is_upright(demand: &Demand) -> bool {
+    let Demand::Side(side) = demand else {
+        return false;
+    };
+    match side.ends {
+        Ends::Inputs | Ends::One(End::Input(_)) => side.dir == Dir::South,
+        Ends::Outputs | Ends::One(End::Output(_)) => side.dir == Dir::North,
+    }
+}
+
+/// Whether all may go to the north: a request says of no end where it is to stand, or of inputs in the south and of outputs
+/// in the north alone.
+pub fn goes_north(request: &Request) -> bool {
+    for demand in request.demands() {
+        if !is_upright(demand) {
+            return false;
+        }
+    }
+    true
 }
 
 /// The cells on which a request wants no part.

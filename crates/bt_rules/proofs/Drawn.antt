@@ -1,9 +1,10 @@
 -- What loops over lists have found so far.
-use Rattle.std.proofs.Common.{◌≡◌, ℕ, zero, suc, ◌<◌, ◌≤◌, ◌+◌, Bool, true, false, cond, ◌||◌, List, [], ◌∷◌, ◌++◌, length, map, take, get_or, refl, ap, sym, ◌∙◌, subst, arith, append_assoc, append-nil}
-use Rattle.std.specs.List.{AllByRecursion, flat_map, filter, list_any, range_with_len}
+use Rattle.std.proofs.Common.{◌≡◌, ℕ, zero, suc, ◌<◌, ◌≤◌, ◌+◌, Bool, true, false, cond, ◌||◌, List, [], ◌∷◌, ◌++◌, length, map, take, get_or, refl, ap, sym, ◌∙◌, subst, arith, append_assoc, append-nil, length-append}
+use Rattle.std.specs.List.{AllByRecursion, flat_map, filter, list_any, range_with_len, count_by}
 use Rattle.std.proofs.lemmas.List.{take_all, take_more, map-append}
 use Rattle.std.proofs.lemmas.List.Elements.{filter-append}
 use Rattle.std.proofs.lemmas.Grind.{flat_map-append}
+use Rattle.std.proofs.lemmas.List.Sums.{length-filter}
 use Rattle.std.proofs.lemmas.List.Folds.{list_any_more, list_any_at}
 use Rattle.bt_arena.proofs.Loops.{range_more}
 
@@ -29,6 +30,20 @@ pub number_kept : (p : ℕ → Bool) (now new : List ℕ) (n : ℕ) → now ≡ 
 number_kept p now new n e h =
     let same : n ≡ 0 + n = omega arith in
     h ∙ ap (λ l. l ++ cond (p n) (n ∷ []) []) e ∙ sym (filter-append p (range_with_len 0 n) (n ∷ [])) ∙ ap (λ m. filter p (range_with_len 0 n ++ m ∷ [])) same ∙ ap (filter p) (sym (range_more 0 n))
+
+-- how many they are
+counted_more : (p : ℕ → Bool) (n : ℕ) → count_by p (range_with_len 0 (n + 1)) ≡ count_by p (range_with_len 0 n) + length (cond (p n) (n ∷ []) [])
+counted_more p n =
+    let one = cond (p n) (n ∷ []) [] in
+    let kept = number_kept p (filter p (range_with_len 0 n)) (filter p (range_with_len 0 n) ++ one) n refl refl in
+    sym (length-filter p (range_with_len 0 (n + 1))) ∙ ap length (sym kept) ∙ length-append (filter p (range_with_len 0 n)) one
+    ∙ ap (λ m. m + length one) (length-filter p (range_with_len 0 n))
+
+pub counted_yes : (p : ℕ → Bool) (n : ℕ) → p n ≡ true → count_by p (range_with_len 0 (n + 1)) ≡ count_by p (range_with_len 0 n) + 1
+counted_yes p n t = counted_more p n ∙ ap (λ b. count_by p (range_with_len 0 n) + length (cond b (n ∷ []) [])) t
+
+pub counted_no : (p : ℕ → Bool) (n : ℕ) → p n ≡ false → count_by p (range_with_len 0 (n + 1)) ≡ count_by p (range_with_len 0 n) + 0
+counted_no p n t = counted_more p n ∙ ap (λ b. count_by p (range_with_len 0 n) + length (cond b (n ∷ []) [])) t
 
 -- the things named by numbers that pass a test
 pub named_kept : {X : Type 0} (p : X → Bool) (f : ℕ → X) (old now new : List X) (n : ℕ) → now ≡ old ++ filter p (map f (range_with_len 0 n))

@@ -103,7 +103,7 @@ module _ (r : LayoutRequest) (parts : List Part) (lays : Lays parts r) where
 
   -- what the layout says of a fact
   abbrev pub Said : Fact → Type 0
-  Said = Says parts lays.naming r.net.edges r.demands match_of
+  Said = Says parts lays.naming r.net.edges r.demands match_of r.rect
 
   pub clean_of : IsClean parts
   clean_of = lays.shows.clean

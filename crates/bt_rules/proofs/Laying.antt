@@ -1,5 +1,5 @@
 -- Each layout that lays a request gives a reading of the facts that keeps the request's rules.
-use Rattle.std.proofs.Common.{◌≡◌, inl, inr, ℕ, ◌<◌, Bool, true, false, List, [], ◌∷◌, ◌++◌, map, refl, arith}
+use Rattle.std.proofs.Common.{◌≡◌, inl, inr, ℕ, ◌<◌, Bool, true, false, cond, List, [], ◌∷◌, ◌++◌, map, refl, sym, subst, arith}
 use Rattle.std.specs.List.{AllByRecursion, flat_map, range_with_len}
 use Rattle.std.proofs.lemmas.Bool.{false≢true}
 use Rattle.bt_parts.specs.declared.part.Part.{Part}
@@ -9,21 +9,23 @@ use Rattle.bt_rules.specs.declared.fact.Fact.{Fact}
 use Rattle.bt_rules.specs.Carrying.{carrying_rules}
 use Rattle.bt_rules.specs.Classes.{splitters_of}
 use Rattle.bt_rules.specs.Contents.{content_rules, shape_rules, mate_rules, class_rules}
+use Rattle.bt_rules.specs.Counting.{count_rules}
 use Rattle.bt_rules.specs.Going.{handing_rules}
 use Rattle.bt_rules.specs.Laws.{LayingKeeps}
 use Rattle.bt_rules.specs.Pinning.{demand_rules, clash_rules, block_rule}
-use Rattle.bt_rules.specs.PlaceRules.{cell_rules, splitter_rules, end_rules, rules_of}
+use Rattle.bt_rules.specs.PlaceRules.{cell_rules, splitter_rules, end_rules, room_rules, rules_of}
 use Rattle.bt_rules.specs.Ports.{port_rules}
-use Rattle.bt_rules.specs.Rules.{Rule, AllHold, OneHolds, Keeps}
+use Rattle.bt_rules.specs.Rules.{Rule, some_of, AllHold, OneHolds, Keeps}
 use Rattle.bt_rules.specs.Spots.{cells_of}
 use Rattle.bt_rules.specs.Standing.{standing_rules, place_rules}
 use Rattle.bt_rules.specs.Starts.{input_rules}
 use Rattle.bt_rules.specs.Underground.{underground_rules}
 use Rattle.bt_rules.proofs.CarryingStay.{classes_stay, carrying_stay}
 use Rattle.bt_rules.proofs.ContentsStay.{contents_stay, shapes_stay, mates_stay}
+use Rattle.bt_rules.proofs.CountStay.{room_there, counts_stay}
 use Rattle.bt_rules.proofs.Deciding.{Decided}
 use Rattle.bt_rules.proofs.GoingStay.{handing_stay}
-use Rattle.bt_rules.proofs.Keeping.{In, in_contains, from_range, all_there, each_both, each_three, each_four, each_flat, each_map, OneSaid, Stays, AllStay}
+use Rattle.bt_rules.proofs.Keeping.{In, in_contains, from_range, all_there, each_both, each_four, each_flat, each_map, OneSaid, Stays, AllStay}
 use Rattle.bt_rules.proofs.Laid.{Said}
 use Rattle.bt_rules.proofs.PinningStay.{clashes_stay, block_stays}
 use Rattle.bt_rules.proofs.SidesStay.{each_of, demand_stays}
@@ -78,11 +80,14 @@ module _ (r : LayoutRequest) (is : IsRequest r) (parts : List Part) (lays : Lays
       (clashes_stay r parts lays r.demands kept is.demands_apart)
       (each_map (Stays S) block_rule r.blocks (λ block h. block_stays r parts lays block (in_contains r.blocks block h)))
 
-  rules_stay : AllStay S (rules_of r)
-  rules_stay = each_three (Stays S) (flat_map (cell_rules r) (cells_of r.rect)) (flat_map (splitter_rules r) (splitters_of r)) (end_rules r)
+  room_stays : AllStay S (room_rules r)
+  room_stays = each_four (Stays S) (flat_map (cell_rules r) (cells_of r.rect)) (flat_map (splitter_rules r) (splitters_of r)) (end_rules r) (count_rules r)
       (each_flat (Stays S) (cell_rules r) (cells_of r.rect) (λ c h. cell_stays c))
       (each_flat (Stays S) (splitter_rules r) (splitters_of r) (λ s h. splitter_stays s (below r.net.splitters s h)))
-      ends_stay
+      ends_stay (counts_stay r parts lays)
+
+  rules_stay : AllStay S (rules_of r)
+  rules_stay = subst (λ b. AllStay S (cond b (room_rules r) (some_of [] ∷ []))) (sym (room_there r parts lays is)) room_stays
 
   -- the reading that is read off
   read_off : Fact → Bool

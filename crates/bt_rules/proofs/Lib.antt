@@ -18,6 +18,8 @@ pub mod PortsStay
 pub mod StartsStay
 pub mod PinningStay
 pub mod SidesStay
+pub mod Fitting
+pub mod CountStay
 pub mod Told
 pub mod Laying
 pub mod RulesWithin

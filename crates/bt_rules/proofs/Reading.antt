@@ -1,11 +1,12 @@
 -- What a layout says of each fact.
-use Rattle.std.proofs.Common.{◌≡◌, ◌⊎◌, ℕ, ◌<◌, List, [], ◌∷◌, length, get_or, Some}
+use Rattle.std.proofs.Common.{◌≡◌, ◌⊎◌, ℕ, zero, suc, ◌+◌, ◌<◌, List, [], ◌∷◌, length, get_or, Some}
 use Rattle.std.specs.List.{Contains, enumerate_from, filter, slice_get}
 use Rattle.std.specs.Prelude.{unsigned_abs}
 use Rattle.bt_parts.specs.declared.part.Cell.{Cell}
 use Rattle.bt_parts.specs.declared.part.Dir.{Dir}
 use Rattle.bt_parts.specs.declared.part.Kind.TheVariants as kind
 use Rattle.bt_parts.specs.declared.part.Part.{Part}
+use Rattle.bt_parts.specs.declared.part.Rect.{Rect}
 use Rattle.bt_parts.specs.Cells.{steps}
 use Rattle.bt_parts.specs.Layouts.{HasPart, IsAt, Pairs}
 use Rattle.bt_net.specs.declared.network.Edge.{Edge}
@@ -16,6 +17,7 @@ use Rattle.bt_net.specs.Network.{leaves, enters}
 use Rattle.bt_model.specs.Chains.{IsSplitter, IsInput, Source}
 use Rattle.bt_model.specs.Chains as chains
 use Rattle.bt_model.specs.Handing.{FeedsFrom}
+use Rattle.bt_model.specs.Requests.{cell_at}
 use Rattle.bt_model.specs.Shown.{Naming}
 use Rattle.bt_rules.specs.declared.fact.Class.{Class}
 use Rattle.bt_rules.specs.declared.fact.Class.TheVariants.{Split}
@@ -28,7 +30,7 @@ use Rattle.bt_rules.specs.declared.fact.Shape.{Shape}
 use Rattle.bt_rules.specs.declared.fact.Shape.TheVariants as shape
 use Rattle.bt_rules.specs.Classes.{class_of}
 use Rattle.bt_rules.specs.Kept.{kind_of}
-use Rattle.bt_rules.specs.Spots.{half_at, behind}
+use Rattle.bt_rules.specs.Spots.{half_at, behind, cells_of}
 use Rattle.bt_rules.proofs.Matching.{Matched}
 
 -- the cell of a part's shape
@@ -121,6 +123,20 @@ abbrev pub FirstHas : List (ℕ × Edge) → (ℕ → Type 0) → Type 0
 FirstHas [] P = ⊥
 FirstHas (first ∷ rest) P = P first.0
 
+-- a half of some splitter stands on the cell
+abbrev pub HalfThere : List Part → Cell → Type 0
+HalfThere parts c = (i : ℕ) × IsSplitter parts i × IsAt parts i c
+
+-- the cell with this number, row by row
+abbrev pub cell_numbered : Rect → ℕ → Cell
+cell_numbered rect n = get_or (cells_of rect) n (cell_at 0 0)
+
+-- of the first so many cells, row by row, at least so many hold halves
+abbrev pub Holding : List Part → Rect → ℕ → ℕ → Type 0
+Holding parts rect n zero = Unit {0}
+Holding parts rect zero (suc k) = ⊥
+Holding parts rect (suc n) (suc k) = Holding parts rect n (suc k) ⊎ (HalfThere parts (cell_numbered rect n) × Holding parts rect n k)
+
 module _ (parts : List Part) (naming : Naming) (edges : List Edge) (demands : List Demand) (m : Matched parts naming edges) where
   -- the edge leaves the splitter by this half
   abbrev pub LeavesBy : ℕ → ℕ → Half → Type 0
@@ -143,21 +159,22 @@ module _ (parts : List Part) (naming : Naming) (edges : List Edge) (demands : Li
       ⊎ ((e : ℕ) × LiesOn i e × (k ≡ class_of demands (edge_at edges e)))
 
   -- what the layout says of a fact
-  abbrev pub Says : Fact → Type 0
-  Says (fact.Kind c Empty) = (i : ℕ) → IsAt parts i c → ⊥
-  Says (fact.Kind c (Turned of dir)) = Stands parts c of dir
-  Says (fact.Carries c k) = (i : ℕ) × IsAt parts i c × HasClass i k
-  Says (fact.HalfOn c) = (i : ℕ) × IsSplitter parts i × IsAt parts i c
-  Says (fact.BeltOn c) = (dir : Dir) × Stands parts c shape.Belt dir
-  Says (fact.Begins c) = (i : ℕ) × IsInput parts i × IsAt parts i c
-  Says (fact.Starts c i) = NamedAt parts naming.inputs i c
-  Says (fact.Stops c o) = NamedAt parts naming.outputs o c
-  Says (fact.Pair c dir k) = Stands parts c shape.Entrance dir × Reaches parts c k
-  Says (fact.Tunnel c dir) = Runs parts c dir
-  Says (fact.Goes c dir) = GoesOn parts c dir
-  Says (fact.At s c dir) = (split : Splits parts naming s) × ((c ≡ split.part.cell) × (split.part.dir ≡ dir))
-  Says (fact.Column s x) = (split : Splits parts naming s) × (unsigned_abs split.part.cell.x ≡ x)
-  Says (fact.Row s y) = (split : Splits parts naming s) × (unsigned_abs split.part.cell.y ≡ y)
-  Says (fact.Points s dir) = (split : Splits parts naming s) × (split.part.dir ≡ dir)
-  Says (fact.EntersLesser s) = FirstHas (edges_into edges s) (λ e. EntersBy s e Lesser)
-  Says (fact.LeavesLesser s) = FirstHas (edges_from edges s) (λ e. LeavesBy s e Lesser)
+  abbrev pub Says : Rect → Fact → Type 0
+  Says rect (fact.Kind c Empty) = (i : ℕ) → IsAt parts i c → ⊥
+  Says rect (fact.Kind c (Turned of dir)) = Stands parts c of dir
+  Says rect (fact.Carries c k) = (i : ℕ) × IsAt parts i c × HasClass i k
+  Says rect (fact.HalfOn c) = HalfThere parts c
+  Says rect (fact.BeltOn c) = (dir : Dir) × Stands parts c shape.Belt dir
+  Says rect (fact.Begins c) = (i : ℕ) × IsInput parts i × IsAt parts i c
+  Says rect (fact.Starts c i) = NamedAt parts naming.inputs i c
+  Says rect (fact.Stops c o) = NamedAt parts naming.outputs o c
+  Says rect (fact.Pair c dir k) = Stands parts c shape.Entrance dir × Reaches parts c k
+  Says rect (fact.Tunnel c dir) = Runs parts c dir
+  Says rect (fact.Goes c dir) = GoesOn parts c dir
+  Says rect (fact.At s c dir) = (split : Splits parts naming s) × ((c ≡ split.part.cell) × (split.part.dir ≡ dir))
+  Says rect (fact.Column s x) = (split : Splits parts naming s) × (unsigned_abs split.part.cell.x ≡ x)
+  Says rect (fact.Row s y) = (split : Splits parts naming s) × (unsigned_abs split.part.cell.y ≡ y)
+  Says rect (fact.Points s dir) = (split : Splits parts naming s) × (split.part.dir ≡ dir)
+  Says rect (fact.EntersLesser s) = FirstHas (edges_into edges s) (λ e. EntersBy s e Lesser)
+  Says rect (fact.LeavesLesser s) = FirstHas (edges_from edges s) (λ e. LeavesBy s e Lesser)
+  Says rect (fact.Held spare half) = Holding parts rect (suc (spare + half)) (suc half)

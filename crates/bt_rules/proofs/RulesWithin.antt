@@ -1,5 +1,5 @@
 -- The rules of a request speak of cells, splitters, inputs and classes that it has.
-use Rattle.std.proofs.Common.{◌≡◌, inl, inr, ℕ, suc, ◌<◌, ◌≤◌, ◌-◌, ℤ, pos, negsuc, Bool, true, false, not, cond, List, [], ◌∷◌, ◌++◌, map, Option, Some, None, refl, sym, ap, subst, ⊎_elim, arith}
+use Rattle.std.proofs.Common.{◌≡◌, inl, inr, ℕ, zero, suc, ◌+◌, ◌<◌, ◌≤◌, ◌-◌, ℤ, pos, negsuc, Bool, true, false, not, cond, List, [], ◌∷◌, ◌++◌, length, get_or, map, Option, Some, None, refl, sym, ap, subst, ⊎_elim, arith}
 use Rattle.std.specs.List.{AllByRecursion, All, Contains, flat_map, filter, range_with_len}
 use Rattle.std.specs.Prelude.{unsigned_abs, ◌<ℤ◌, ◌≤ℤ◌}
 use Rattle.std.proofs.lemmas.Int.{ints}
@@ -17,7 +17,7 @@ use Rattle.bt_net.specs.declared.network.Pin.{Pin}
 use Rattle.bt_net.specs.declared.network.Side.{Side}
 use Rattle.bt_net.specs.Network.{leaves, enters}
 use Rattle.bt_net.specs.PinText.{HasEnds}
-use Rattle.bt_model.specs.Requests.{LayoutRequest, IsRequest, IsPinnedInside, ends_of, pinned, blocked}
+use Rattle.bt_model.specs.Requests.{LayoutRequest, IsRequest, IsPinnedInside, ends_of, pinned, blocked, cell_at}
 use Rattle.bt_rules.specs.declared.fact.Class.{Class}
 use Rattle.bt_rules.specs.declared.fact.Class.TheVariants as class
 use Rattle.bt_rules.specs.declared.fact.Content.TheVariants.{Empty}
@@ -30,10 +30,11 @@ use Rattle.bt_rules.specs.declared.fact.Shape.TheVariants as shape
 use Rattle.bt_rules.specs.Carrying.{carried_rules, taken_rule, kept_in_rules, onward_rules, carrying_rules}
 use Rattle.bt_rules.specs.Classes.{same_class, class_of, goes_to, ends_out, is_through, splitters_of, input_classes, classes_of, goals, sources, onward, classes_into}
 use Rattle.bt_rules.specs.Contents.{holds, contents, content_rules, equals_one, half_kinds, belt_kinds, shape_rules, mate_rule, mate_rules, class_rules}
+use Rattle.bt_rules.specs.Counting.{halves_of, ends_apart, has_room, among_less, one_fewer_rules, held_rules, counter_rules, all_held_rules, count_rules}
 use Rattle.bt_rules.specs.Going.{runners, givers, inner_rules, going_rules, goes_into, begins_there, fed_belt, fed_entrance, begin_rules, once_rules, handing_rules}
 use Rattle.bt_rules.specs.Laws.{RulesAreWithin}
 use Rattle.bt_rules.specs.Pinning.{is_edge_of, pin_class_rules, end_facts, end_shapes, turned_rules, pin_rules, clashes, clash_rules, end_classes, not_begun, begun_rules, stop_rules, apart_rules, pins_other, unpinned_rules, side_end_rules, ends_named, side_rules, demand_rules, block_rule}
-use Rattle.bt_rules.specs.PlaceRules.{cell_rules, splitter_rules, end_rules, rules_of}
+use Rattle.bt_rules.specs.PlaceRules.{cell_rules, splitter_rules, end_rules, room_rules, rules_of}
 use Rattle.bt_rules.specs.Ports.{carries_into, two_in_rules, in_rules, in_front, out_rules, standing_port_rules, port_rules}
 use Rattle.bt_rules.specs.Rules.{Rule, rule, some_of, not_all, at_most_one, exactly_one, rule_by}
 use Rattle.bt_rules.specs.Spots.{dirs, halves, sides_of, others_than, other_half, behind, mate, half_at, where_inside, where_outside, cells_of, is_border, border_of}
@@ -42,8 +43,9 @@ use Rattle.bt_rules.specs.Starts.{start_rules, input_rules}
 use Rattle.bt_rules.specs.Underground.{most_distance, tunnel_into, tunnel_rules, pairs_from, back, pairs_into, paired_rules, way_rules, pair_class_rules, pair_rules, piece_rules, underground_rules}
 use Rattle.bt_rules.specs.Within.{IsWithin, HasWithin, has_outputs, sides_outputs, stopping}
 use Rattle.bt_rules.proofs.Classed.{edge_class_listed, through_listed}
+use Rattle.bt_rules.proofs.Fitting.{from_enough}
 use Rattle.bt_rules.proofs.Geometry.{inside_cases, inside_between, from_cells}
-use Rattle.bt_rules.proofs.Keeping.{In, in_left, in_right, in_map, from_map, in_range, in_contains, from_filter, from_range, any_in, each_both, each_three, each_four, each_flat, each_map}
+use Rattle.bt_rules.proofs.Keeping.{In, in_left, in_right, in_at, in_map, from_map, in_range, in_contains, from_filter, from_range, any_in, each_both, each_three, each_four, each_flat, each_map}
 
 -- of lists of what is inside, or outside
 all_inside : {X : Type 0} (r : LayoutRequest) (c : Cell) (P : X → Type 0) (xs : List X) → (IsInside r.rect c → AllByRecursion P xs) → AllByRecursion P (where_inside r.rect c xs)
@@ -551,9 +553,50 @@ module _ (r : LayoutRequest) (is : IsRequest r) where
   demand_within (demand.Pin pin) there h has = pins_within pin h
   demand_within (demand.Side side) there h has = side_within side there has
 
+  -- ---- counts
+
+  less_within : (spare half : ℕ) → spare + halves_of r ≤ length (cells_of r.rect) → half < halves_of r → A (among_less spare half)
+  less_within zero half few lt = tt
+  less_within (suc spare) half few lt = ((omega (arith, few), lt), tt)
+
+  fewer_within : (spare half : ℕ) → spare + halves_of r ≤ length (cells_of r.rect) → half < halves_of r → R (one_fewer_rules spare half)
+  fewer_within spare zero few lt = tt
+  fewer_within spare (suc half) few lt =
+      let less : half < halves_of r = omega (arith, lt) in (
+        made (fact.Held spare (suc half) ∷ []) (among_less spare (suc half) ++ fact.Held spare half ∷ []) ((few, lt), tt)
+            (each_both W (among_less spare (suc half)) (fact.Held spare half ∷ []) (less_within spare (suc half) few lt) ((few, less), tt)),
+        tt,
+      )
+
+  held_within : (spare half : ℕ) → spare + halves_of r ≤ length (cells_of r.rect) → half < halves_of r → R (held_rules (cells_of r.rect) spare half)
+  held_within spare half few lt =
+      let last = get_or (cells_of r.rect) (spare + half) (cell_at 0 0) in
+      let there : In (cells_of r.rect) last = in_at (cells_of r.rect) (spare + half) (cell_at 0 0) (omega (arith, few, lt)) in (
+        made (fact.Held spare half ∷ []) (among_less spare half ++ fact.HalfOn last ∷ []) ((few, lt), tt)
+            (each_both W (among_less spare half) (fact.HalfOn last ∷ []) (less_within spare half few lt) (from_cells r.rect last there, tt)),
+        fewer_within spare half few lt,
+      )
+
+  counter_within : R (counter_rules (cells_of r.rect) (halves_of r))
+  counter_within = each_flat H (λ spare. flat_map (held_rules (cells_of r.rect) spare) (range_with_len 0 (halves_of r))) (range_with_len 0 (length (cells_of r.rect) + 1 - halves_of r))
+      (λ spare at. each_flat H (held_rules (cells_of r.rect) spare) (range_with_len 0 (halves_of r))
+      (λ half there. let some = below (length (cells_of r.rect) + 1 - halves_of r) spare at in held_within spare half (omega (arith, some)) (below (halves_of r) half there)))
+
+  all_held_within : (m : ℕ) → m ≡ halves_of r → m ≤ length (cells_of r.rect) → R (all_held_rules (length (cells_of r.rect)) m)
+  all_held_within zero same few = tt
+  all_held_within (suc half) same few =
+      (record { given = tt; one_of = ((omega (arith, same, few), (omega (arith, same))), tt) }, tt)
+
+  pub counts_within : has_room r ≡ true → R (count_rules r)
+  counts_within t =
+      let enough = from_enough (length (cells_of r.rect)) (length (border_of r.rect)) (halves_of r) (ends_apart r) t in
+      let few = enough.1 in
+      each_both H (counter_rules (cells_of r.rect) (halves_of r)) (all_held_rules (length (cells_of r.rect)) (halves_of r))
+      counter_within (all_held_within (halves_of r) refl (omega (arith, few)))
+
   -- ---- all rules
 
-  cell_within : (c : Cell) → I c → R (cell_rules r c)
+  pub cell_within : (c : Cell) → I c → R (cell_rules r c)
   cell_within c h =
       let a = content_rules c in let b = shape_rules c in let m = mate_rules r.rect c in let k = class_rules r c in
       let s = standing_rules r c in let g = handing_rules r c in let u = underground_rules r c in let l = carrying_rules r c in
@@ -563,15 +606,25 @@ module _ (r : LayoutRequest) (is : IsRequest r) where
       (standing_within c h) (handing_within c h) (each_flat H (piece_rules r c) dirs (λ d k. pieces_within c d h)))
       (each_flat H (onward_rules r c) dirs (λ d k. onward_within c d h))
 
-  all_within : R (rules_of r)
-  all_within = each_three H (flat_map (cell_rules r) (cells_of r.rect)) (flat_map (splitter_rules r) (splitters_of r)) (end_rules r)
-      (each_flat H (cell_rules r) (cells_of r.rect) (λ c at. cell_within c (from_cells r.rect c at)))
-      (each_flat H (splitter_rules r) (splitters_of r) (λ s at. let lt = below r.net.splitters s at in each_both H (place_rules r.rect s) (port_rules r s) (places_within s lt) (ports_within s lt)))
-      (each_four H (flat_map (input_rules r) (range_with_len 0 r.net.inputs)) (flat_map (demand_rules r) r.demands) (clash_rules r.demands) (map block_rule r.blocks)
+  pub splitter_within : (s : ℕ) → s < r.net.splitters → R (splitter_rules r s)
+  splitter_within s lt = each_both H (place_rules r.rect s) (port_rules r s) (places_within s lt) (ports_within s lt)
+
+  pub ends_within : R (end_rules r)
+  ends_within = each_four H (flat_map (input_rules r) (range_with_len 0 r.net.inputs)) (flat_map (demand_rules r) r.demands) (clash_rules r.demands) (map block_rule r.blocks)
       (each_flat H (input_rules r) (range_with_len 0 r.net.inputs) (λ i at. inputs_within i (below r.net.inputs i at)))
       (each_flat H (demand_rules r) r.demands (λ d at. demand_within d at (all_of (IsPinnedInside r.rect) r.demands d is.pins_inside at) (all_of (λ x. HasEnds r.net (ends_of x)) r.demands d is.ends at)))
       (clashes_within r.demands)
-      (each_map H block_rule r.blocks (λ block at. record { given = tt; one_of = (all_of (λ b. I (blocked b)) r.blocks block is.blocks_inside at, tt) })))
+      (each_map H block_rule r.blocks (λ block at. record { given = tt; one_of = (all_of (λ b. I (blocked b)) r.blocks block is.blocks_inside at, tt) }))
+
+  all_within : R (rules_of r)
+  all_within = by (has_room r) refl
+    where
+      by : (b : Bool) → has_room r ≡ b → R (cond b (room_rules r) (some_of [] ∷ []))
+      by true t = each_four H (flat_map (cell_rules r) (cells_of r.rect)) (flat_map (splitter_rules r) (splitters_of r)) (end_rules r) (count_rules r)
+          (each_flat H (cell_rules r) (cells_of r.rect) (λ c at. cell_within c (from_cells r.rect c at)))
+          (each_flat H (splitter_rules r) (splitters_of r) (λ s at. splitter_within s (below r.net.splitters s at)))
+          ends_within (counts_within t)
+      by false t = (record { given = tt; one_of = tt }, tt)
 
 pub rules_within : RulesAreWithin
 rules_within r is = all_within r is

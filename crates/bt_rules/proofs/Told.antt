@@ -1,5 +1,5 @@
 -- It can be told of each fact whether a layout that lays a request says so.
-use Rattle.std.proofs.Common.{◌≡◌, ◌⊎◌, inl, inr, ℕ, List, [], ◌∷◌, length, subst, ⊎_elim}
+use Rattle.std.proofs.Common.{◌≡◌, ◌⊎◌, inl, inr, ℕ, zero, suc, ◌+◌, List, [], ◌∷◌, length, subst, ⊎_elim}
 use Rattle.std.specs.Prelude.{unsigned_abs}
 use Rattle.std.proofs.lemmas.Bool.{cases_eq}
 use Rattle.bt_parts.specs.declared.part.Cell.{Cell}
@@ -25,7 +25,7 @@ use Rattle.bt_rules.proofs.Classed.{m, class_cases, class_there, one_class}
 use Rattle.bt_rules.proofs.Deciding.{Decided, both, same_cell, same_dir, same_source, same_sink, lt_decided, stands_decided, goes_decided, half_decided, begins_decided, named_decided, comes_decided, reaches_decided, runs_decided, of_split}
 use Rattle.bt_rules.proofs.Laid.{Said, is_orderly}
 use Rattle.bt_rules.proofs.PortsStay.{Leaving, Entering}
-use Rattle.bt_rules.proofs.Reading.{ComesFromCell, FirstHas, edges_into, edges_from}
+use Rattle.bt_rules.proofs.Reading.{ComesFromCell, FirstHas, edges_into, edges_from, cell_numbered, Holding}
 use Rattle.bt_rules.proofs.StandingStay.{HasSaid}
 
 -- some direction has P, or none has
@@ -49,6 +49,12 @@ some_dir P test = by (test North) (test East) (test South) (test West)
 first_has : (P : ℕ → Type 0) → ((e : ℕ) → Decided (P e)) → (edges : List (ℕ × Edge)) → Decided (FirstHas edges P)
 first_has P test [] = inr (λ h. h)
 first_has P test (first ∷ rest) = test first.0
+
+-- one of two that are decided
+either : {P Q : Type 0} → Decided P → Decided Q → Decided (P ⊎ Q)
+either (inl p) q = inl (inl p)
+either (inr n) (inl q) = inl (inr q)
+either (inr n) (inr m) = inr (λ h. ⊎_elim n m h)
 
 module _ (r : LayoutRequest) (parts : List Part) (lays : Lays parts r) where
   carries_decided : (c : Cell) (k : Class) → Decided (Said r parts lays (fact.Carries c k))
@@ -76,6 +82,12 @@ module _ (r : LayoutRequest) (parts : List Part) (lays : Lays parts r) where
       (λ i part. (chain.sink ≡ chains.enters i) × ComesFromCell parts chain.source chain.links (behind part.dir (half_at half part.dir part.cell)))
       (λ i part. both (same_sink i chain.sink) (comes_decided parts (is_orderly r parts lays) chain.source chain.links (behind part.dir (half_at half part.dir part.cell)))))
 
+  holding_decided : (n k : ℕ) → Decided (Holding parts r.rect n k)
+  holding_decided n zero = inl tt
+  holding_decided zero (suc k) = inr (λ h. h)
+  holding_decided (suc n) (suc k) =
+      either (holding_decided n (suc k)) (both (half_decided parts (is_orderly r parts lays) (cell_numbered r.rect n)) (holding_decided n k))
+
   pub said : (f : Fact) → Decided (Said r parts lays f)
   said (fact.Kind c Empty) = ⊎_elim (λ found. inr (λ none. none found.0 found.1)) (λ none. inl none) (at_cases parts c)
   said (fact.Kind c (Turned of dir)) = stands_decided parts (is_orderly r parts lays) c of dir
@@ -94,3 +106,4 @@ module _ (r : LayoutRequest) (parts : List Part) (lays : Lays parts r) where
   said (fact.Points s dir) = of_split parts (is_orderly r parts lays) lays.naming lays.shows.names.splitters s (λ i part. part.dir ≡ dir) (λ i part. same_dir part.dir dir)
   said (fact.EntersLesser s) = first_has _ (λ e. entering_decided s e Lesser) (edges_into r.net.edges s)
   said (fact.LeavesLesser s) = first_has _ (λ e. leaving_decided s e Lesser) (edges_from r.net.edges s)
+  said (fact.Held spare half) = holding_decided (suc (spare + half)) (suc half)

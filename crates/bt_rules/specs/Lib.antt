@@ -1,5 +1,6 @@
 pub mod Classes
 pub mod Contents
+pub mod Counting
 pub mod Carrying
 pub mod Going
 pub mod Kept

@@ -1,15 +1,16 @@
 -- The rules of a request.
 use Rattle.std.specs.List.{range_with_len, flat_map}
-use Rattle.std.specs.Prelude.{ℕ, List, ◌++◌, map}
+use Rattle.std.specs.Prelude.{ℕ, List, [], ◌∷◌, ◌++◌, map, if◌then◌else◌}
 use Rattle.bt_parts.specs.declared.part.Cell.{Cell}
 use Rattle.bt_model.specs.Requests.{LayoutRequest}
 use Rattle.bt_rules.specs.Carrying.{carrying_rules}
 use Rattle.bt_rules.specs.Classes.{splitters_of}
 use Rattle.bt_rules.specs.Contents.{content_rules, shape_rules, mate_rules, class_rules}
+use Rattle.bt_rules.specs.Counting.{has_room, count_rules}
 use Rattle.bt_rules.specs.Going.{handing_rules}
 use Rattle.bt_rules.specs.Pinning.{demand_rules, clash_rules, block_rule}
 use Rattle.bt_rules.specs.Ports.{port_rules}
-use Rattle.bt_rules.specs.Rules.{Rule}
+use Rattle.bt_rules.specs.Rules.{Rule, some_of}
 use Rattle.bt_rules.specs.Spots.{cells_of}
 use Rattle.bt_rules.specs.Standing.{standing_rules, place_rules}
 use Rattle.bt_rules.specs.Starts.{input_rules}
@@ -29,6 +30,10 @@ abbrev pub end_rules : LayoutRequest → List Rule
 end_rules r = flat_map (input_rules r) (range_with_len 0 r.net.inputs)
     ++ flat_map (demand_rules r) r.demands ++ clash_rules r.demands ++ map block_rule r.blocks
 
--- all rules of a request
+-- the rules of a request whose rectangle has room
+abbrev pub room_rules : LayoutRequest → List Rule
+room_rules r = flat_map (cell_rules r) (cells_of r.rect) ++ flat_map (splitter_rules r) (splitters_of r) ++ end_rules r ++ count_rules r
+
+-- all rules of a request; where there is no room, only that one of no facts holds
 abbrev pub rules_of : LayoutRequest → List Rule
-rules_of r = flat_map (cell_rules r) (cells_of r.rect) ++ flat_map (splitter_rules r) (splitters_of r) ++ end_rules r
+rules_of r = if has_room r then room_rules r else some_of [] ∷ []

@@ -1,5 +1,5 @@
 -- Facts of cells, splitters, inputs and classes that a request has.
-use Rattle.std.specs.Prelude.{ℕ, Bool, true, false, ◌<◌, ◌≤◌, Contains, if◌then◌else◌}
+use Rattle.std.specs.Prelude.{ℕ, Bool, true, false, ◌<◌, ◌≤◌, ◌+◌, length, Contains, if◌then◌else◌}
 use Rattle.std.specs.List.{AllByRecursion, list_any}
 use Rattle.bt_parts.specs.Cells.{IsInside}
 use Rattle.bt_net.specs.declared.network.Demand.{Demand}
@@ -11,7 +11,9 @@ use Rattle.bt_model.specs.Requests.{LayoutRequest}
 use Rattle.bt_rules.specs.declared.fact.Fact.{Fact}
 use Rattle.bt_rules.specs.declared.fact.Fact.TheVariants as fact
 use Rattle.bt_rules.specs.Classes.{classes_of}
+use Rattle.bt_rules.specs.Counting.{halves_of}
 use Rattle.bt_rules.specs.Rules.{Rule}
+use Rattle.bt_rules.specs.Spots.{cells_of}
 use Rattle.bt_rules.specs.Underground.{most_distance}
 
 -- the request has a splitter with this number
@@ -52,6 +54,7 @@ IsWithin r (fact.Row s y) = HasSplitter r s × (y < r.rect.height)
 IsWithin r (fact.Points s dir) = HasSplitter r s
 IsWithin r (fact.EntersLesser s) = HasSplitter r s
 IsWithin r (fact.LeavesLesser s) = HasSplitter r s
+IsWithin r (fact.Held spare half) = (spare + halves_of r ≤ length (cells_of r.rect)) × (half < halves_of r)
 
 -- so are all facts of a rule
 pub record HasWithin (r : LayoutRequest) (a : Rule) : Type 0 where

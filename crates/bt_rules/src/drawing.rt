@@ -1,7 +1,8 @@
 //! The rules of a request, as they are drawn up.
-ghost use Rattle.std.specs.Prelude.{◌≡◌, ◌++◌, ◌∷◌, [], map, flat_map, IfOk, OnOk};
+ghost use Rattle.std.specs.Prelude.{◌≡◌, ◌++◌, ◌∷◌, [], map, flat_map, true, IfOk, OnOk};
 ghost use Rattle.std.specs.List.{AllByRecursion};
 ghost use Rattle.bt_parts.specs.Cells.{IsInside};
+ghost use Rattle.bt_rules.specs.Counting as counting;
 ghost use Rattle.bt_rules.specs.PlaceRules as place;
 ghost use Rattle.bt_rules.specs.Plans.{IsGate, IsPlan};
 ghost use Rattle.bt_rules.specs.Spots.{border_of as border_cells, cells_of as all_cells};
@@ -11,6 +12,7 @@ ghost use Rattle.bt_rules.specs.inner.Parts as parts;
 use crate::carrying::add_carrying;
 use crate::cells::{border_of, cells_of};
 use crate::contents::add_cell_contents;
+use crate::counting::{add_counts, has_room};
 use crate::draft::Draft;
 use crate::going::add_handing;
 use crate::pinning::{add_blocks, add_clashes};
@@ -146,18 +148,38 @@ fn add_splitters(
     Ok(())
 }
 
+/// Adds the rules of a request whose rectangle has room.
+fn add_room(
+    alloc: Global,
+    draft: &mut Draft,
+    request: &Request,
+    cells: &[Cell],
+) -> Result<(), AllocError>
+    requires cells { cells.now ≡ all_cells request.now.rect }
+    requires room { counting.has_room request.now ≡ true }
+    ensures { OnOk result (draft.new ≡ draft.old ++ place.room_rules request.now) }
+{
+    let plan = Plan::new(alloc, request)?;
+    add_cells(alloc, draft, request, &plan, cells)?;
+    add_splitters(alloc, draft, request, cells, &plan.gates)?;
+    add_ends(alloc, draft, request, cells)?;
+    add_counts(alloc, draft, request, cells)?;
+    Ok(())
+}
+
 /// The rules of a request.
 ///
-/// They are many: who writes them elsewhere draws them up part by part, by `Plan::new`, `cells_of`,
-/// `add_cell`, `add_splitter` and `add_ends`, in the same order.
+/// They are many: who writes them elsewhere asks `has_room`, and draws them up part by part, by `Plan::new`,
+/// `cells_of`, `add_cell`, `add_splitter`, `add_ends` and `add_counts`, in the same order.
 pub fn rules_of(alloc: Global, request: &Request) -> Result<Draft, AllocError>
     ensures { IfOk result (λ draft. draft ≡ place.rules_of request.now) }
 {
     let cells = cells_of(alloc, request.rect())?;
-    let plan = Plan::new(alloc, request)?;
     let mut draft = Draft::new(alloc)?;
-    add_cells(alloc, &mut draft, request, &plan, &cells)?;
-    add_splitters(alloc, &mut draft, request, &cells, &plan.gates)?;
-    add_ends(alloc, &mut draft, request, &cells)?;
+    if has_room(alloc, request, &cells)? {
+        add_room(alloc, &mut draft, request, &cells)?;
+    } else {
+        draft.add(&[], &[])?;
+    }
     Ok(draft)
 }

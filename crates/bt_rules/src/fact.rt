@@ -78,4 +78,7 @@ pub enum Fact {
     EntersLesser(usize),
     /// The first of the edges from this splitter leaves by its lesser half.
     LeavesLesser(usize),
+    /// Of the cells up to the one whose number is the sum of both numbers, row by row from 0, more than the
+    /// second number hold halves: so at most the first number of them hold none.
+    Held(usize, usize),
 }

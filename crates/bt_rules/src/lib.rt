@@ -6,6 +6,7 @@ mod carrying;
 mod cells;
 mod classes;
 mod contents;
+mod counting;
 mod draft;
 mod drawing;
 mod fact;
@@ -23,6 +24,7 @@ mod underground;
 
 pub use cells::cells_of;
 pub use classes::{class_of, enters, goes_to, leaves, same_class};
+pub use counting::{add_counts, has_room};
 pub use draft::{Draft, Drafted, RuleFact};
 pub use drawing::{add_cell, add_ends, add_splitter, rules_of};
 pub use fact::{Class, Content, Fact, Half, Shape};

@@ -11,7 +11,7 @@ use Rattle.bt_cnf.specs.declared.literal.Lit.{Lit}
 use Rattle.bt_log.specs.Logs.{Step, Learnt, Lemma, LogParts, clause_of}
 use Rattle.bt_log.specs.Refuting.{Refutes}
 use Rattle.bt_log.specs.Validity.{AreValid}
-use Rattle.bt_sat.specs.Answering.{AddsLemma, GivesNext, Says}
+use Rattle.bt_sat.specs.Answering.{AddsLemma, Assumes, GivesNext, Says, SaysAssumed}
 use Rattle.bt_sat.specs.Serving.{TellsSteps}
 use Rattle.bt_sat.specs.Solving.{AreFresh, AreNonempty, EndsRefuted, EndsSpent, IsLearnt, IsLemmaOf, IsModel, IsSoundLog, IsSpent, KeepsModel, LacksMemory, Searches, Standing}
 use Rattle.bt_sat.specs.declared.kernel.Stage.{Stage}
@@ -20,9 +20,11 @@ use Rattle.bt_sat.specs.declared.logged_formula.LoggedFormula.{LoggedFormula}
 use Rattle.bt_sat.specs.declared.progress.Progress.{Progress}
 use Rattle.bt_sat.specs.declared.solver.Answer.{Answer}
 use Rattle.bt_sat.specs.declared.solver.Answer.TheVariants as answer
+use Rattle.bt_sat.specs.declared.solver.Assumed.{Assumed}
+use Rattle.bt_sat.specs.declared.solver.Assumed.TheVariants as assumed
 use Rattle.bt_sat.specs.inner.Choices.{IsComplete}
 use Rattle.bt_sat.specs.inner.Searching.{HasSpent, IsRefuted}
-use Rattle.bt_sat.specs.inner.Kernels.{AddsTo, AnswersBy, Comes, MayGoOn, StandsAt, model_of, parts_of, stage_after}
+use Rattle.bt_sat.specs.inner.Kernels.{AddsTo, AnswersBy, AssumesBy, Comes, MayGoOn, StandsAt, StandsBy, model_of, parts_of, stage_after, stage_assumed}
 use Rattle.bt_sat.specs.inner.Progressing.{IsLogged, IsNextStep}
 use Rattle.bt_sat.specs.inner.Truths.{IsFalseIn}
 use Rattle.bt_sat.proofs.Counting.{fresh_steps_are_few}
@@ -145,6 +147,58 @@ pub again_spent : (p : Progress) (stage : Stage) (waiting : List (Option (List (
 again_spent p stage waiting at stands =
     let is : HasSpent p = subst (StandsAt p) at stands in
     subst (λ s. GivesNext (parts_of p s) waiting (parts_of p s) waiting answer.Spent) (sym at) (again p Spent waiting answer.Spent (logged_sound p Spent is.logged) (refl, full_spent p Spent is))
+
+assumed_sound : (p : Progress) (said : Assumed) → StandsBy p said → IsSoundLog (parts_of p (stage_assumed said))
+assumed_sound p (assumed.Open truths) stands = logged_sound p Running stands.logged
+assumed_sound p assumed.Follows stands = logged_sound p Running stands.logged
+assumed_sound p assumed.Refuted stands = refuted_sound p stands Refuted
+assumed_sound p assumed.Spent stands = logged_sound p Spent stands.logged
+
+assumed_says : (p : Progress) (said : Assumed) → StandsBy p said → SaysAssumed (parts_of p (stage_assumed said)) said
+assumed_says p (assumed.Open truths) stands = refl
+assumed_says p assumed.Follows stands = refl
+assumed_says p assumed.Refuted stands = (refl, refutes p stands)
+assumed_says p assumed.Spent stands = (refl, full_spent p Spent stands)
+
+-- literals were made false
+pub assumes : (old new : Progress) (was : Stage) (waiting left : List (Option (List (List Lit)))) (said : Assumed) → MayGoOn (parts_of old was).standing → AssumesBy old waiting new left said
+    → Assumes (parts_of old was) waiting (parts_of new (stage_assumed said)) left said
+assumes old new was waiting left said may by = record {
+  added = by.0.added;
+  learnt = by.0.learnt;
+  goes_on = record { formula = by.0.formula; limit = by.0.limit; steps = ap (λ (l : LogParts). l.steps) by.0.log };
+  tells = by.0.tells;
+  sound = assumed_sound new said by.1;
+  says = assumed_says new said by.1;
+  refuted = λ ends. absurd (subst MayGoOn ends may);
+  spent = λ ends. absurd (subst MayGoOn ends may);
+}
+
+-- none was, at the search's end
+not_assumed : (p : Progress) (stage : Stage) (waiting : List (Option (List (List Lit)))) (said : Assumed) → IsSoundLog (parts_of p stage) → SaysAssumed (parts_of p stage) said
+    → Assumes (parts_of p stage) waiting (parts_of p stage) waiting said
+not_assumed p stage waiting said sound says = record {
+  added = [];
+  learnt = All-nil IsLearnt;
+  goes_on = record { formula = refl; limit = refl; steps = sym (append-nil p.known.log.steps) };
+  tells = tells_none p.known.log.steps waiting;
+  sound = sound;
+  says = says;
+  refuted = λ ends. refl;
+  spent = λ ends. refl;
+}
+
+pub assumed_refuted : (p : Progress) (stage : Stage) (waiting : List (Option (List (List Lit)))) → stage ≡ Refuted → StandsAt p stage
+    → Assumes (parts_of p stage) waiting (parts_of p stage) waiting assumed.Refuted
+assumed_refuted p stage waiting at stands =
+    let is : IsRefuted p = subst (StandsAt p) at stands in
+    subst (λ s. Assumes (parts_of p s) waiting (parts_of p s) waiting assumed.Refuted) (sym at) (not_assumed p Refuted waiting assumed.Refuted (refuted_sound p is Refuted) (refl, refutes p is))
+
+pub assumed_spent : (p : Progress) (stage : Stage) (waiting : List (Option (List (List Lit)))) → stage ≡ Spent → StandsAt p stage
+    → Assumes (parts_of p stage) waiting (parts_of p stage) waiting assumed.Spent
+assumed_spent p stage waiting at stands =
+    let is : HasSpent p = subst (StandsAt p) at stands in
+    subst (λ s. Assumes (parts_of p s) waiting (parts_of p s) waiting assumed.Spent) (sym at) (not_assumed p Spent waiting assumed.Spent (logged_sound p Spent is.logged) (refl, full_spent p Spent is))
 
 -- what is known where a lemma comes
 pub record MeetsLemma (p : Progress) (lits : List Lit) (weights : List Ratio) : Type 0 where

@@ -13,8 +13,8 @@ use Rattle.bt_sat.specs.declared.cdcl.Found.TheVariants.{Model, Refuted, Spent}
 use Rattle.bt_sat.specs.declared.logged_formula.LoggedFormula.{LoggedFormula}
 use Rattle.bt_sat.specs.declared.progress.Progress.{Progress}
 use Rattle.bt_sat.specs.declared.search.Search.{Search}
-use Rattle.bt_sat.specs.inner.Choices.{KeepsLog}
-use Rattle.bt_sat.specs.inner.Searching.{Finds, SearchesOn, LearnsAndTells, StepsOn}
+use Rattle.bt_sat.specs.inner.Choices.{HasPropagated, KeepsLog}
+use Rattle.bt_sat.specs.inner.Searching.{AssumesTo, Finds, Restarts, SearchesOn, LearnsAndTells, StepsOn}
 use Rattle.bt_sat.specs.inner.Levels.{Backjumps, IsHeld, IsOrdered, IsReady}
 use Rattle.bt_sat.specs.inner.Progressing.{KeepsFormula, Stands}
 use Rattle.bt_sat.proofs.Leveled
@@ -46,6 +46,22 @@ kept_next old mid new was is = record {
   formula = is.formula ∙ was.formula;
   first = is.first ∙ was.first;
 }
+
+-- what is true was propagated, and more was
+pub propagated_next : (old mid new : Progress) → HasPropagated old mid → HasPropagated mid new → HasPropagated old new
+propagated_next old mid new was is = record {
+  keeps = record { known = is.keeps.known ∙ was.keeps.known; limit = is.keeps.limit ∙ was.keeps.limit };
+  running = is.running;
+  choice = is.choice;
+  fewer = omega (arith, is.fewer, was.fewer);
+}
+
+-- the search went back, and its log stays
+pub restart_keeps : (old new : Progress) → Restarts old new → KeepsLog old new
+restart_keeps old new back = record { known = back.known; limit = back.limit }
+
+pub restart_kept : (old new : Progress) → Restarts old new → KeepsFormula old new
+restart_kept old new back = record { formula = ap (λ (k : LoggedFormula). k.formula) back.known; first = ap (λ (k : LoggedFormula). k.log.first) back.known }
 
 -- at first no step was added
 pub searches_none : (p : Progress) (waiting : List (Option (List (List Lit)))) → SearchesOn p waiting p waiting
@@ -101,3 +117,10 @@ pub searches_end : (old mid new : Progress) (waiting left left' : List (Option (
 searches_end old mid new waiting left left' Model on learns = absurd learns
 searches_end old mid new waiting left left' Refuted on learns = (searches_step old mid new waiting left left' on learns.0, learns.1)
 searches_end old mid new waiting left left' Spent on learns = (searches_kept old mid new waiting left left' on learns.0 learns.1, learns.2)
+
+-- literals were made false until the search came to its end
+pub assumes_end : (old mid new : Progress) (waiting left left' : List (Option (List (List Lit)))) (found : Found) → SearchesOn old waiting mid left → LearnsAndTells mid left new left' (Some found)
+    → AssumesTo old waiting new left' (Some found)
+assumes_end old mid new waiting left left' Model on learns = absurd learns
+assumes_end old mid new waiting left left' Refuted on learns = (searches_step old mid new waiting left left' on learns.0, learns.1)
+assumes_end old mid new waiting left left' Spent on learns = (searches_kept old mid new waiting left left' on learns.0 learns.1, learns.2)

@@ -10,6 +10,8 @@ use Rattle.bt_sat.specs.Serving.{TellsSteps}
 use Rattle.bt_sat.specs.Solving.{SolverParts, KeepsModel, Searches, EndsRefuted, EndsSpent, LacksMemory, IsModel, IsSoundLog, IsSpent, IsLearnt, GoesOnBy}
 use Rattle.bt_sat.specs.declared.solver.Answer.{Answer}
 use Rattle.bt_sat.specs.declared.solver.Answer.TheVariants as answer
+use Rattle.bt_sat.specs.declared.solver.Assumed.{Assumed}
+use Rattle.bt_sat.specs.declared.solver.Assumed.TheVariants as assumed
 use Rattle.bt_sat.specs.declared.solver.Added.{Added}
 use Rattle.bt_sat.specs.declared.solver.Added.TheVariants as added
 
@@ -31,9 +33,28 @@ pub record GivesNext (old : SolverParts) (waiting : List (Option (List (List Lit
   pub refuted : old.standing ≡ EndsRefuted → new ≡ old
   pub spent : old.standing ≡ EndsSpent → new ≡ old
 
+-- what comes of making literals false says this of the solver: the search goes on, or it is at an end
+abbrev pub SaysAssumed : SolverParts → Assumed → Type 0
+SaysAssumed s (assumed.Open truths) = s.standing ≡ Searches
+SaysAssumed s assumed.Follows = s.standing ≡ Searches
+SaysAssumed s assumed.Refuted = (s.standing ≡ EndsRefuted) × Refutes s.formula s.steps
+SaysAssumed s assumed.Spent = (s.standing ≡ EndsSpent) × IsSpent s
+
+-- literals were made false: learnt steps alone were added, of which the choosers were told, and each step of the log is
+-- valid and fresh; where the search had come to its end, nothing has changed
+pub record Assumes (old : SolverParts) (waiting : List (Option (List (List Lit)))) (new : SolverParts) (left : List (Option (List (List Lit)))) (said : Assumed) : Type 0 where
+  pub added : List Step
+  pub learnt : All IsLearnt added
+  pub goes_on : GoesOnBy added old new
+  pub tells : TellsSteps old.steps new.steps waiting left
+  pub sound : IsSoundLog new
+  pub says : SaysAssumed new said
+  pub refuted : old.standing ≡ EndsRefuted → new ≡ old
+  pub spent : old.standing ≡ EndsSpent → new ≡ old
+
 -- a search that is at an end goes on nowhere: one that was refuted or spent gives an answer, and one that lacks memory
 -- gives none
-abbrev pub MayAnswer : SolverParts → Result Answer AllocError → Type 0
+abbrev pub MayAnswer : {X : Type 0} → SolverParts → Result X AllocError → Type 0
 MayAnswer old (Ok answer) = old.standing ≡ LacksMemory → ⊥
 MayAnswer old (Err memory) = (old.standing ≡ EndsRefuted → ⊥) × (old.standing ≡ EndsSpent → ⊥)
 

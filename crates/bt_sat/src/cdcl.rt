@@ -34,7 +34,7 @@ pub fn restart(progress: &mut Progress)
 }
 
 /// Learns from a conflict, and tells the chooser that serves.
-fn learn_and_tell<C: Chooser>(
+pub fn learn_and_tell<C: Chooser>(
     progress: &mut Progress,
     choosers: &mut [C],
     conflict: usize,

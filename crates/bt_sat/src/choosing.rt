@@ -1,10 +1,11 @@
 //! Choosing what to set next.
-ghost use Rattle.std.specs.Prelude.{◌≡◌, ◌<◌, length, map, OnOk, IfOk, None};
+ghost use Rattle.std.specs.Prelude.{◌≡◌, ◌<◌, length, map, OnOk, IfOk, None, true};
 ghost use Rattle.bt_cnf.specs.Choosing.{Ascends};
 ghost use Rattle.bt_sat.specs.Picks.{AsksFirst};
 ghost use Rattle.bt_sat.specs.inner.Choices.{BeginsLevel, Decides, ListsUnset};
 ghost use Rattle.bt_sat.specs.inner.Orders.{HasUnset, IsNext};
 ghost use Rattle.bt_sat.specs.inner.Progressing.{IsRunning, KeepsFormula};
+ghost use Rattle.bt_sat.specs.inner.Truths.{LacksValue};
 
 use crate::assignment::assign;
 use crate::order::Order;
@@ -66,6 +67,20 @@ fn begin_level(search: &mut Search, lit: &Lit) -> Result<(), AllocError>
     Ok(())
 }
 
+/// Begins a level with a literal whose variable has no value.
+pub fn begin_with(progress: &mut Progress, lit: &Lit) -> Result<(), AllocError>
+    requires running { IsRunning progress.old }
+    requires none { progress.old.conflict ≡ None }
+    requires settled { progress.old.settled ≡ length progress.old.search.assignment.trail.items }
+    requires listed { ListsUnset progress.old }
+    requires lacks { LacksValue progress.old.search.assignment.values lit.now.var }
+    ensures decides { OnOk result (Decides progress.old progress.new true) }
+    ensures kept { KeepsFormula progress.old progress.new }
+{
+    begin_level(&mut progress.search, lit)?;
+    Ok(())
+}
+
 /// Chooses a variable and a value, where a variable has none.
 pub fn decide<C: Chooser>(progress: &mut Progress, choosers: &mut [C]) -> Result<bool, AllocError>
     requires running { IsRunning progress.old }
@@ -87,6 +102,6 @@ pub fn decide<C: Chooser>(progress: &mut Progress, choosers: &mut [C]) -> Result
     let Some(lit) = next else {
         return Ok(false);
     };
-    begin_level(&mut progress.search, &lit)?;
+    begin_with(progress, &lit)?;
     Ok(true)
 }

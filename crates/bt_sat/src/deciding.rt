@@ -9,7 +9,7 @@ use bt_cnf::Chooser;
 use std::alloc::AllocError;
 
 /// Propagates what is true at first, and begins with all variables again.
-fn propagate_first(progress: &mut Progress) -> Result<(), AllocError>
+pub fn propagate_first(progress: &mut Progress) -> Result<(), AllocError>
     requires { IsRunning progress.old }
     ensures propagates { OnOk result (HasPropagated progress.old progress.new) }
     ensures kept { KeepsFormula progress.old progress.new }
@@ -25,7 +25,7 @@ fn propagate_first(progress: &mut Progress) -> Result<(), AllocError>
 }
 
 /// Propagates a decision.
-fn propagate_decision(progress: &mut Progress) -> Result<(), AllocError>
+pub fn propagate_decision(progress: &mut Progress) -> Result<(), AllocError>
     requires running { IsRunning progress.old }
     requires ready { progress.old.conflict ≡ None }
     requires listed { ListsUnset progress.old }

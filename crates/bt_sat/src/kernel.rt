@@ -1,14 +1,14 @@
 //! What a search holds beside its choosers.
 ghost use Rattle.std.specs.Prelude.{◌≡◌, map, IfOk, OnErr};
-ghost use Rattle.bt_sat.specs.Answering.{GivesNext, IsAdded, MayAnswer};
+ghost use Rattle.bt_sat.specs.Answering.{Assumes, GivesNext, IsAdded, MayAnswer};
 ghost use Rattle.bt_sat.specs.Solving.{begun, log_of, IsLemmaOf, LacksMemory};
-ghost use Rattle.bt_sat.specs.inner.Kernels.{MayGoOn, stage_after};
+ghost use Rattle.bt_sat.specs.inner.Kernels.{MayGoOn, stage_after, stage_assumed};
 
 use crate::loading::load;
 use crate::plan::Plan;
 use crate::progress::Progress;
-use crate::solver::{Added, Answer};
-use crate::turns::{add, answer};
+use crate::solver::{Added, Answer, Assumed};
+use crate::turns::{add, answer, supposed};
 use bt_cnf::{Chooser, Formula, Lit};
 use bt_frac::Frac;
 use bt_log::Log;
@@ -60,6 +60,17 @@ fn stage_of(answer: &Answer) -> Stage
     }
 }
 
+/// The stage to which making literals false leads.
+fn stage_supposed(assumed: &Assumed) -> Stage
+    ensures { result ≡ stage_assumed assumed.now }
+{
+    match assumed {
+        Assumed::Open(_) | Assumed::Follows => Stage::Running,
+        Assumed::Refuted => Stage::Refuted,
+        Assumed::Spent => Stage::Spent,
+    }
+}
+
 impl Kernel {
     /// A search by a plan that begins, with an empty log.
     pub fn new(
@@ -106,6 +117,48 @@ impl Kernel {
             Stage::Running | Stage::Complete => self.go_on(choosers),
             Stage::Refuted => Ok(Answer::Refuted),
             Stage::Spent => Ok(Answer::Spent),
+            Stage::Lost => Err(AllocError),
+        }
+    }
+
+    /// Makes literals false, where the search may go on.
+    fn suppose<C: Chooser>(
+        &mut self,
+        choosers: &mut Vec<C>,
+        lits: &[Lit],
+    ) -> Result<Assumed, AllocError>
+        requires { MayGoOn self.old.standing }
+        ensures given { IfOk result (Assumes self.old (map C.told_clauses choosers.old.items)
+            self.new (map C.told_clauses choosers.new.items)) }
+        ensures memory { OnErr result (self.new.standing ≡ LacksMemory) }
+    {
+        match supposed(&mut self.progress, choosers, lits) {
+            Ok(assumed) => {
+                self.stage = stage_supposed(&assumed);
+                Ok(assumed)
+            }
+            Err(error) => {
+                self.stage = Stage::Lost;
+                Err(error)
+            }
+        }
+    }
+
+    /// Makes literals false, where the search has not come to its end.
+    pub fn assume<C: Chooser>(
+        &mut self,
+        choosers: &mut Vec<C>,
+        lits: &[Lit],
+    ) -> Result<Assumed, AllocError>
+        ensures given { IfOk result (Assumes self.old (map C.told_clauses choosers.old.items)
+            self.new (map C.told_clauses choosers.new.items)) }
+        ensures may { MayAnswer self.old result }
+        ensures memory { OnErr result (self.new.standing ≡ LacksMemory) }
+    {
+        match self.stage {
+            Stage::Running | Stage::Complete => self.suppose(choosers, lits),
+            Stage::Refuted => Ok(Assumed::Refuted),
+            Stage::Spent => Ok(Assumed::Spent),
             Stage::Lost => Err(AllocError),
         }
     }

@@ -1,6 +1,6 @@
 //! A search for models that learns clauses.
 ghost use Rattle.std.specs.Prelude.{◌≡◌, map, IfOk, OnErr};
-ghost use Rattle.bt_sat.specs.Answering.{GivesNext, IsAdded, MayAnswer};
+ghost use Rattle.bt_sat.specs.Answering.{Assumes, GivesNext, IsAdded, MayAnswer};
 ghost use Rattle.bt_sat.specs.Solving.{begun, log_of, IsLemmaOf, LacksMemory};
 
 use crate::kernel::Kernel;
@@ -18,6 +18,19 @@ pub const EPOCH_STEPS: u64 = 128;
 pub enum Answer {
     /// The values of the variables in a model, which meets every clause of the formula and of the log.
     Model(Vec<bool>),
+    /// The log refutes the formula.
+    Refuted,
+    /// The log has as many steps as it may, and one more is needed.
+    Spent,
+}
+
+/// What comes of making literals false in turn.
+#[derive(Drop)]
+pub enum Assumed {
+    /// All of them are false, and no clause is: for each variable, whether it is true then.
+    Open(Vec<bool>),
+    /// One of them is true where those before it are false.
+    Follows,
     /// The log refutes the formula.
     Refuted,
     /// The log has as many steps as it may, and one more is needed.
@@ -85,6 +98,19 @@ impl<C: Chooser> Solver<C> {
         ensures memory { OnErr result (self.new.kernel.standing ≡ LacksMemory) }
     {
         self.kernel.next_model(&mut self.choosers)
+    }
+
+    /// Makes literals false in turn, from what is true before the first decision on, and learns clauses from conflicts, until
+    /// there is none. Literals of variables that the formula doesn't have are passed over. A model that is asked for next
+    /// is looked for from there on. After `Refuted` and `Spent`, and after want of memory, each later call answers the
+    /// same.
+    pub fn assume(&mut self, lits: &[Lit]) -> Result<Assumed, AllocError>
+        ensures given { IfOk result (Assumes self.old.kernel (map C.told_clauses self.old.choosers.items)
+            self.new.kernel (map C.told_clauses self.new.choosers.items)) }
+        ensures may { MayAnswer self.old.kernel result }
+        ensures memory { OnErr result (self.new.kernel.standing ≡ LacksMemory) }
+    {
+        self.kernel.assume(&mut self.choosers, lits)
     }
 
     /// Adds a lemma: a clause whose literals are all false under the model that was answered last.

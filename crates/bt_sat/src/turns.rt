@@ -3,15 +3,16 @@ ghost use Rattle.std.specs.Prelude.{◌≡◌, ◌<◌, length, map, slice_index
 ghost use Rattle.std.specs.List.{All};
 ghost use Rattle.bt_log.specs.Logs.{Lemma};
 ghost use Rattle.bt_sat.specs.inner.Choices.{IsComplete};
-ghost use Rattle.bt_sat.specs.inner.Kernels.{AddsTo, AnswersBy, model_of, value_of};
+ghost use Rattle.bt_sat.specs.inner.Kernels.{AddsTo, AnswersBy, AssumesBy, IsOpen, model_of, value_of};
 ghost use Rattle.bt_sat.specs.inner.Progressing.{HasRoom, IsNextStep, IsRunning, KeepsFormula};
 ghost use Rattle.bt_sat.specs.inner.Truths.{IsFalseIn};
 
+use crate::assuming::{assume, has_true};
 use crate::cdcl::{Found, find_model, restart};
 use crate::lemmas::take_lemma;
 use crate::progress::Progress;
 use crate::serving::{begins_epoch, tell};
-use crate::solver::Answer;
+use crate::solver::{Answer, Assumed};
 use crate::truth::Values;
 use bt_cnf::{Chooser, Lit};
 use bt_frac::Frac;
@@ -52,6 +53,39 @@ pub fn answer<C: Chooser>(progress: &mut Progress, choosers: &mut [C]) -> Result
         Found::Refuted => Ok(Answer::Refuted),
         Found::Spent => Ok(Answer::Spent),
     }
+}
+
+/// Makes literals false in turn, and tells what is true then.
+pub fn supposed<C: Chooser>(
+    progress: &mut Progress,
+    choosers: &mut [C],
+    lits: &[Lit],
+) -> Result<Assumed, AllocError>
+    requires { IsRunning progress.old }
+    ensures kept { KeepsFormula progress.old progress.new }
+    ensures assumes { IfOk result (AssumesBy progress.old (map C.told_clauses choosers.old)
+        progress.new (map C.told_clauses choosers.new)) }
+{
+    match assume(progress, choosers, lits)? {
+        None => {
+            let alloc = progress.learnt_clause.lits.allocator().clone()?;
+            standing(alloc, &progress.search.assignment.values, lits)
+        }
+        Some(Found::Model) => Ok(Assumed::Follows),
+        Some(Found::Refuted) => Ok(Assumed::Refuted),
+        Some(Found::Spent) => Ok(Assumed::Spent),
+    }
+}
+
+/// Whether one of the literals is true, or which variables are true where none is.
+fn standing(alloc: Global, values: &Values, lits: &[Lit]) -> Result<Assumed, AllocError>
+    ensures { IfOk result IsOpen }
+{
+    if has_true(values, lits) {
+        return Ok(Assumed::Follows);
+    }
+    let truths = list_model(alloc, values)?;
+    Ok(Assumed::Open(truths))
 }
 
 /// Adds a lemma whose literals are all false, tells the chooser that serves, and restarts where its epoch

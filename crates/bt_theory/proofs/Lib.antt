@@ -2,6 +2,8 @@ pub mod Truths
 pub mod Chosen
 pub mod Atoms
 pub mod Columns
+pub mod Bases
 pub mod Reached
 pub mod Scoped
 pub mod Rounds
+pub mod Goals

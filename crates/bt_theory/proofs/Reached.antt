@@ -44,7 +44,8 @@ module _ (f : FormulaParts) where
 pub table_bound : (f : FormulaParts) (t t' : TableauParts) (bound : List Bool) → t' ≡ record t { bound = bound } → IsTableauOf f t → IsTableauOf f t'
 table_bound f t t' bound e table = subst (IsTableauOf f) (sym e) (record { rows = table.rows; columns = table.columns; solved = table.solved })
 
--- the rows that are bound are those of the assignment that was lent
-pub bound_for : (t t' : TableauParts) (atoms : List ℕ) (chosen lent : List Bool) → lent ≡ chosen → t' ≡ record t { bound = map (truth_in lent) atoms }
-    → t' ≡ record t { bound = map (truth_in chosen) atoms }
-bound_for t t' atoms chosen lent e h = h ∙ ap (λ list. record t { bound = map (truth_in list) atoms }) e
+-- the rows that are bound are those of the atoms and the assignment that were lent
+pub bound_for : (t t' : TableauParts) (atoms lent_atoms : List ℕ) (chosen lent : List Bool) → lent_atoms ≡ atoms → lent ≡ chosen
+    → t' ≡ record t { bound = map (truth_in lent) lent_atoms } → t' ≡ record t { bound = map (truth_in chosen) atoms }
+bound_for t t' atoms lent_atoms chosen lent same e h =
+    h ∙ ap (λ list. record t { bound = map (truth_in list) lent_atoms }) e ∙ ap (λ vars. record t { bound = map (truth_in chosen) vars }) same

@@ -1,9 +1,9 @@
 -- What one round comes to.
-use Rattle.std.proofs.Common.{◌≡◌, ℕ, ◌<◌, Bool, true, false, List, [], ◌∷◌, ◌++◌, length, get_or, map, Option, Some, None, ap, sym, ◌∙◌, refl, subst, arith, length-append}
+use Rattle.std.proofs.Common.{◌≡◌, ℕ, ◌<◌, Bool, true, false, List, [], ◌∷◌, ◌++◌, length, get_or, map, take, Option, Some, None, ap, sym, ◌∙◌, refl, subst, arith, length-append}
 use Rattle.std.specs.Prelude.{Contains, Ok}
 use Rattle.std.specs.List.{All, Any, AllZip}
 use Rattle.std.proofs.lemmas.Bool.{false≢true}
-use Rattle.std.proofs.lemmas.List.{length-map, get_or-map}
+use Rattle.std.proofs.lemmas.List.{length-map, length-take-le, get_or-map}
 use Rattle.std.proofs.lemmas.List.Elements.{All-nil, All-cons, All-head, All-tail, All-append, All-map, All-contains, All-weaker, Contains-get_or, Contains-append_left}
 use Rattle.bt_frac.specs.Ratio.{Ratio}
 use Rattle.bt_frac.specs.Rows.{RowParts}
@@ -16,7 +16,7 @@ use Rattle.bt_cnf.specs.Formulas.{FormulaParts}
 use Rattle.bt_cnf.specs.Meeting.{IsTrueUnder, MeetsClause, Meets}
 use Rattle.bt_log.specs.Logs.{Step, Lemma, Learnt}
 use Rattle.bt_log.specs.Validity.{NegatesAtom}
-use Rattle.bt_sat.specs.Solving.{SolverParts, IsLearnt, GoesOnBy, IsSoundLog, IsSpent}
+use Rattle.bt_sat.specs.Solving.{SolverParts, KeepsModel, IsLearnt, GoesOnBy, IsSoundLog, IsSpent}
 use Rattle.bt_sat.specs.Answering.{GivesNext}
 use Rattle.bt_sat.specs.declared.solver.Answer.{Answer}
 use Rattle.bt_sat.specs.declared.solver.Answer.TheVariants as answer
@@ -27,6 +27,9 @@ use Rattle.bt_simplex.specs.Runs.{LeadsTo}
 use Rattle.bt_simplex.specs.Checks.{IsBound, MeetsBoundRows, RefutesBoundRows}
 use Rattle.bt_theory.specs.Reaching.{atom_rows, atom_vars, IsTableauOf, IsReachable, IsReached}
 use Rattle.bt_theory.specs.Outcomes.{IsSolution, FitsLemma, Fits, IsSound, IsUsedUp}
+use Rattle.bt_theory.specs.declared.base.Base.{Base}
+use Rattle.bt_theory.specs.inner.Bases.{base_in, IsBase}
+use Rattle.bt_theory.proofs.Bases.{base_atoms, front_within}
 use Rattle.bt_theory.specs.inner.Rounds.{IsReady, HasChosen, MakesLemma, IsLemmaLearnt, IsEnd, IsRound}
 use Rattle.bt_theory.specs.inner.Scopes.{negations, IsConflictOf, AreAtoms, IsScopeOf, IsConflict, IsConflictIn}
 use Rattle.bt_theory.specs.declared.lemma.Conflict.{Conflict}
@@ -53,22 +56,27 @@ pub used_up : (s : SolverParts) → IsSoundLog s → All (Fits s.formula) s.step
 used_up s sound fits spent =
     record { sound = sound_log s sound fits; full = spent.full; few = spent.few; nonempty = spent.nonempty; more = spent.more; valid = spent.valid; fresh = spent.fresh }
 
+-- all sums fit, where steps follow whose sums do
+pub fits_on : (s s' : SolverParts) (more : List Step) → GoesOnBy more s s' → All (Fits s.formula) s.steps → All (Fits s.formula) more → All (Fits s'.formula) s'.steps
+fits_on s s' more goes fits also =
+    subst (λ f. All (Fits f) s'.steps) (sym goes.formula) (subst (All (Fits s.formula)) (sym goes.steps) (All-append (Fits s.formula) s.steps more fits also))
+
 -- what was ready goes on being so, where steps follow whose sums fit
-ready_on : (s s' : SolverParts) (t : TableauParts) (more : List Step) → GoesOnBy more s s' → IsTableauOf s.formula t → IsReachable s.formula (basis_of t.slots)
-    → All (Fits s.formula) s.steps → All (Fits s.formula) more → IsReady s' t
-ready_on s s' t more goes table reach fits also =
+ready_on : (b : Base) (s s' : SolverParts) (t : TableauParts) (more : List Step) → GoesOnBy more s s' → IsTableauOf (base_in b s.formula) t
+    → IsReachable (base_in b s.formula) (basis_of t.slots) → All (Fits s.formula) s.steps → All (Fits s.formula) more → IsReady b s' t
+ready_on b s s' t more goes table reach fits also =
     let e = sym goes.formula in
     record {
-      tableau = subst (λ f. IsTableauOf f t) e table;
-      reachable = subst (λ f. IsReachable f (basis_of t.slots)) e reach;
-      fits = subst (λ f. All (Fits f) s'.steps) e (subst (All (Fits s.formula)) (sym goes.steps) (All-append (Fits s.formula) s.steps more fits also));
+      tableau = subst (λ f. IsTableauOf (base_in b f) t) e table;
+      reachable = subst (λ f. IsReachable (base_in b f) (basis_of t.slots)) e reach;
+      fits = fits_on s s' more goes fits also;
     }
 
-module _ (old new : SolverParts) (t : TableauParts) (waiting left : List (Option (List (List Lit)))) (ready : IsReady old t) where
-  pub ready_next : (a : Answer) → GivesNext old waiting new left a → IsReady new t
-  ready_next a gives = ready_on old new t gives.added gives.goes_on ready.tableau ready.reachable ready.fits (All-weaker IsLearnt (Fits old.formula) (learnt_fit old.formula) gives.added gives.learnt)
+module _ (b : Base) (old new : SolverParts) (t : TableauParts) (waiting left : List (Option (List (List Lit)))) (ready : IsReady b old t) where
+  pub ready_next : (a : Answer) → GivesNext old waiting new left a → IsReady b new t
+  ready_next a gives = ready_on b old new t gives.added gives.goes_on ready.tableau ready.reachable ready.fits (All-weaker IsLearnt (Fits old.formula) (learnt_fit old.formula) gives.added gives.learnt)
 
-  pub refuted_round : (pivots : ℕ) → GivesNext old waiting new left answer.Refuted → IsRound pivots old new t (Some end.Refuted)
+  pub refuted_round : (pivots : ℕ) → GivesNext old waiting new left answer.Refuted → IsRound pivots b old new t (Some end.Refuted)
   refuted_round pivots gives =
       record {
         formula = gives.goes_on.formula;
@@ -76,7 +84,7 @@ module _ (old new : SolverParts) (t : TableauParts) (waiting left : List (Option
         says = (record { sound = sound_log new gives.sound (ready_next answer.Refuted gives).fits; refutes = gives.says.1 }, gives.sound.within);
       }
 
-  pub spent_round : (pivots : ℕ) → GivesNext old waiting new left answer.Spent → IsRound pivots old new t (Some end.Spent)
+  pub spent_round : (pivots : ℕ) → GivesNext old waiting new left answer.Spent → IsRound pivots b old new t (Some end.Spent)
   spent_round pivots gives =
       record {
         formula = gives.goes_on.formula;
@@ -85,8 +93,8 @@ module _ (old new : SolverParts) (t : TableauParts) (waiting left : List (Option
       }
 
   -- a round that begins with more steps is one
-  pub round_after : (pivots : ℕ) (a : Answer) (last : SolverParts) (t' : TableauParts) (said : Option End) → GivesNext old waiting new left a → IsRound pivots new last t' said
-      → IsRound pivots old last t' said
+  pub round_after : (pivots : ℕ) (a : Answer) (last : SolverParts) (t' : TableauParts) (said : Option End) → GivesNext old waiting new left a → IsRound pivots b new last t' said
+      → IsRound pivots b old last t' said
   round_after pivots a last t' None gives round =
       let more = ap length gives.goes_on.steps ∙ length-append old.steps gives.added in
       let grows = round.says.1 in
@@ -196,52 +204,73 @@ conflict_among f chosen conflict scopes are (k, parts, l, at, found) =
 
 -- ---- all rows
 
-module _ (s : SolverParts) (t0 t1 : TableauParts) (chosen : List Bool) (atoms : List ℕ) (pivots : ℕ) (ready : IsReady s t0) (atoms_are : atoms ≡ atom_vars s.formula)
-    (of_model : HasChosen s chosen) (bound_is : t1 ≡ record t0 { bound = map (truth_in chosen) atoms }) where
-  meets : All (MeetsClause (truth_in chosen)) s.formula.clauses
-  meets = chosen_meets of_model.model chosen s.formula.clauses of_model.chose
+module _ (b : Base) (s : SolverParts) (t0 t1 : TableauParts) (chosen : List Bool) (pivots : ℕ) (base : IsBase b s.formula) (ready : IsReady b s t0)
+    (of_model : HasChosen b s chosen) (bound_is : t1 ≡ record t0 { bound = map (truth_in chosen) b.atoms.items }) where
+  abbrev pub first : FormulaParts
+  first = base_in b s.formula
 
-  pub reached : IsReached s.formula t1
+  meets : All (MeetsClause (truth_in chosen)) first.clauses
+  meets = chosen_meets (take b.vars of_model.model) chosen first.clauses of_model.chose
+
+  pub reached : IsReached first t1
   reached =
-      bound_reached s.formula t0 t1 (truth_in chosen) (bound_is ∙ ap (λ vars. record t0 { bound = map (truth_in chosen) vars }) atoms_are) meets ready.tableau ready.reachable
+      bound_reached first t0 t1 (truth_in chosen) (bound_is ∙ ap (λ vars. record t0 { bound = map (truth_in chosen) vars }) base.atoms) meets ready.tableau ready.reachable
 
-  bound_are : t1.bound ≡ map (truth_in chosen) (atom_vars s.formula)
-  bound_are = ap (λ (x : TableauParts). x.bound) bound_is ∙ ap (map (truth_in chosen)) atoms_are
+  bound_are : t1.bound ≡ map (truth_in chosen) (atom_vars first)
+  bound_are = ap (λ (x : TableauParts). x.bound) bound_is ∙ ap (map (truth_in chosen)) base.atoms
 
-  pub solves_all : (values : List Ratio) → MeetsBoundRows t1 values → IsSolution s.formula values chosen
-  solves_all values holds = solves s.formula t1 chosen reached.tableau bound_are meets values (of_model.chose.size ∙ of_model.has.is_model.size) holds
+  size : length chosen ≡ b.vars
+  size =
+      let model = of_model.has.is_model.size in
+      let within = base.vars in
+      of_model.chose.size ∙ length-take-le b.vars of_model.model (omega (arith, model, within))
 
-  pub ready_after : (t2 : TableauParts) → LeadsTo pivots t1 t2 → IsReady s t2
-  ready_after t2 leads = let at = reached_on s.formula pivots t1 t2 reached leads in record { tableau = at.0; reachable = at.1; fits = ready.fits }
+  pub solves_all : (values : List Ratio) → MeetsBoundRows t1 values → IsSolution first values chosen
+  solves_all values holds = solves first t1 chosen reached.tableau bound_are meets values size holds
 
-  pub rows_of_atoms : (weighed : List (ℕ × Ratio)) → RefutesBoundRows t1 weighed → All (λ w. w.0 < length atoms) weighed
-  rows_of_atoms weighed refutes = rows_below atoms t1 chosen (ap (λ (x : TableauParts). x.bound) bound_is) weighed refutes
+  pub ready_after : (t2 : TableauParts) → LeadsTo pivots t1 t2 → IsReady b s t2
+  ready_after t2 leads = let at = reached_on first pivots t1 t2 reached leads in record { tableau = at.0; reachable = at.1; fits = ready.fits }
 
-  pub conflict_all : (weighed : List (ℕ × Ratio)) (conflict : Conflict) → RefutesBoundRows t1 weighed → IsConflictOf atoms weighed conflict → IsConflict s.formula chosen conflict
+  pub rows_of_atoms : (weighed : List (ℕ × Ratio)) → RefutesBoundRows t1 weighed → All (λ w. w.0 < length b.atoms.items) weighed
+  rows_of_atoms weighed refutes = rows_below b.atoms.items t1 chosen (ap (λ (x : TableauParts). x.bound) bound_is) weighed refutes
+
+  pub conflict_all : (weighed : List (ℕ × Ratio)) (conflict : Conflict) → RefutesBoundRows t1 weighed → IsConflictOf b.atoms.items weighed conflict
+      → IsConflict s.formula chosen conflict
   conflict_all weighed conflict refutes is =
-      conflict_is s.formula chosen conflict (atom_vars s.formula) (atom_rows s.formula) (all_atoms s.formula)
-      (conflict_in (atom_vars s.formula) t1 chosen bound_are weighed refutes conflict (atom_rows s.formula) reached.tableau.rows
-      (subst (λ vars. IsConflictOf vars weighed conflict) atoms_are is))
+      conflict_is s.formula chosen conflict (atom_vars first) (atom_rows first) (base_atoms b s.formula base (atom_vars first) (atom_rows first) (all_atoms first))
+      (conflict_in (atom_vars first) t1 chosen bound_are weighed refutes conflict (atom_rows first) reached.tableau.rows
+      (subst (λ vars. IsConflictOf vars weighed conflict) base.atoms is))
 
 -- ---- its lemma
 
-pub makes_lemma : (s : SolverParts) (chosen : List Bool) (conflict : Conflict) → HasChosen s chosen → IsConflict s.formula chosen conflict → MakesLemma s conflict
-makes_lemma s chosen conflict of_model is low =
+-- a conflict under the model that the search keeps
+pub model_lemma : (s : SolverParts) (model : List Bool) (conflict : Conflict) → s.standing ≡ KeepsModel model → IsConflict s.formula model conflict → MakesLemma s conflict
+model_lemma s model conflict keeps is low =
     record {
-      model = of_model.model;
-      keeps = of_model.has.keeps;
-      unmet = All-weaker (λ l. (l.positive ≡ false) × (truth_in chosen l.var ≡ true)) (λ l. IsTrueUnder (truth_in of_model.model) l → ⊥)
-          (λ l (negative, holds) met. false≢true (sym (met ∙ negative) ∙ of_model.chose.within l.var holds)) conflict.lits.items is.unmet;
+      model = model;
+      keeps = keeps;
+      unmet = All-weaker (λ l. (l.positive ≡ false) × (truth_in model l.var ≡ true)) (λ l. IsTrueUnder (truth_in model) l → ⊥)
+          (λ l (negative, holds) met. false≢true (sym (met ∙ negative) ∙ holds)) conflict.lits.items is.unmet;
       valid = record { rows = is.fits.rows; negated = is.fits.negated; counted = is.counted; fractions = low; false_sum = is.fits.accepted.1.0 refl };
     }
 
--- a round that ends without a step
-pub ends_round : (pivots : ℕ) (s : SolverParts) (t : TableauParts) (e : End) → IsEnd pivots s e → IsRound pivots s s t (Some e)
-ends_round pivots s t e says = record { formula = refl; limit = refl; says = says }
+pub makes_lemma : (b : Base) (s : SolverParts) (chosen : List Bool) (conflict : Conflict) → HasChosen b s chosen → IsConflict s.formula chosen conflict → MakesLemma s conflict
+makes_lemma b s chosen conflict of_model is =
+    model_lemma s of_model.model conflict of_model.has.keeps
+    (record {
+      fits = is.fits;
+      counted = is.counted;
+      unmet = All-weaker (λ l. (l.positive ≡ false) × (truth_in chosen l.var ≡ true)) (λ l. (l.positive ≡ false) × (truth_in of_model.model l.var ≡ true))
+          (λ l (negative, holds). (negative, front_within b.vars of_model.model l.var (of_model.chose.within l.var holds))) conflict.lits.items is.unmet;
+    })
 
-module _ (pivots : ℕ) (s s' : SolverParts) (t : TableauParts) (chosen : List Bool) (conflict : Conflict) (ready : IsReady s t) (of_model : HasChosen s chosen)
+-- a round that ends without a step
+pub ends_round : (pivots : ℕ) (b : Base) (s : SolverParts) (t : TableauParts) (e : End) → IsEnd pivots b s e → IsRound pivots b s s t (Some e)
+ends_round pivots b s t e says = record { formula = refl; limit = refl; says = says }
+
+module _ (pivots : ℕ) (b : Base) (s s' : SolverParts) (t : TableauParts) (chosen : List Bool) (conflict : Conflict) (ready : IsReady b s t) (of_model : HasChosen b s chosen)
     (is : IsConflict s.formula chosen conflict) where
-  pub learnt_round : (said : Option End) → IsLemmaLearnt s s' conflict said → IsRound pivots s s' t said
+  pub learnt_round : (said : Option End) → IsLemmaLearnt s s' conflict said → IsRound pivots b s s' t said
   learnt_round None (goes, sound) =
       let step = Lemma conflict.lits.items conflict.weights.items in
       let more = ap length goes.steps ∙ length-append s.steps (step ∷ []) in
@@ -249,13 +278,13 @@ module _ (pivots : ℕ) (s s' : SolverParts) (t : TableauParts) (chosen : List B
         formula = goes.formula;
         limit = goes.limit;
         says = (
-          ready_on s s' t (step ∷ []) goes ready.tableau ready.reachable ready.fits (All-cons (Fits s.formula) step [] is.fits (All-nil (Fits s.formula))),
+          ready_on b s s' t (step ∷ []) goes ready.tableau ready.reachable ready.fits (All-cons (Fits s.formula) step [] is.fits (All-nil (Fits s.formula))),
           (let l : length s.steps < length s'.steps = omega (arith, more) in l),
           sound.within,
         );
       }
   learnt_round (Some end.Spent) (same, spent) =
-      subst (λ x. IsRound pivots s x t (Some end.Spent)) (sym same) (ends_round pivots s t end.Spent (used_up s of_model.has.sound ready.fits spent))
+      subst (λ x. IsRound pivots b s x t (Some end.Spent)) (sym same) (ends_round pivots b s t end.Spent (used_up s of_model.has.sound ready.fits spent))
   learnt_round (Some end.Refuted) h = absurd h
   learnt_round (Some (end.Sat solution)) h = absurd h
   learnt_round (Some (end.Pivots trail)) h = absurd h

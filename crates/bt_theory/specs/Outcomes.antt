@@ -9,6 +9,8 @@ use Rattle.bt_cnf.specs.Formulas.{FormulaParts}
 use Rattle.bt_cnf.specs.Assignments.{truth_in}
 use Rattle.bt_cnf.specs.Meeting.{Meets}
 use Rattle.bt_cnf.specs.declared.literal.Lit.{Lit}
+use Rattle.bt_extend.specs.Extending.{extended}
+use Rattle.bt_extend.specs.declared.definition.Definition.{Definition}
 use Rattle.bt_log.specs.Logs.{Step, Lemma, Learnt, clause_of}
 use Rattle.bt_log.specs.Validity.{NegatesAtom, IsValidStep, AreValid}
 use Rattle.bt_log.specs.Refuting.{Refutes}
@@ -79,18 +81,28 @@ pub record IsTooWide (f : FormulaParts) (pivots : ℕ) (at : wide.Wide) : Type 0
   pub reached : IsReached f tableau
   pub wide : IsWideCheck pivots tableau at
 
--- it is right to give up: the log is used up, or the turns for one assignment are, or a number leaves 128 bits
+-- it is right to give up: the log over the further formula is used up, or the turns for one assignment of the formula are,
+-- or a number leaves 128 bits
+abbrev pub IsGivenUpOver : FormulaParts → FormulaParts → Limits → GaveUp → Type 0
+IsGivenUpOver f g limits (Spent log) = IsUsedUp g limits.learnt log.steps
+IsGivenUpOver f g limits (Pivots trail) = TurnsOn f limits.pivots trail
+IsGivenUpOver f g limits (Wide at) = IsTooWide f limits.pivots at
+
+-- the same where nothing is defined
 abbrev pub IsGivenUp : FormulaParts → Limits → GaveUp → Type 0
-IsGivenUp f limits (Spent log) = IsUsedUp f limits.learnt log.steps
-IsGivenUp f limits (Pivots trail) = TurnsOn f limits.pivots trail
-IsGivenUp f limits (Wide at) = IsTooWide f limits.pivots at
+IsGivenUp f limits cause = IsGivenUpOver f f limits cause
 
 -- each is the place of a row among the formula's rows
 abbrev pub AreRowsOf : FormulaParts → List ℕ → Type 0
 AreRowsOf f rows = All (λ row. row < length f.atoms) rows
 
--- what is right to say of a formula within limits
-abbrev pub IsOutcome : FormulaParts → Limits → Outcome → Type 0
-IsOutcome f limits (outcome.Sat values assignment) = IsSolution f values.items assignment.items
-IsOutcome f limits (outcome.Refuted log) = IsRefutation f log.steps × (length log.steps ≤ limits.learnt)
-IsOutcome f limits (outcome.GaveUp cause) = IsGivenUp f limits cause
+-- what is right to say of a formula within limits, where the search is over a further formula: a solution, turns and numbers
+-- are those of the formula, and logs are over the further one
+abbrev pub IsOutcomeOver : FormulaParts → FormulaParts → Limits → Outcome → Type 0
+IsOutcomeOver f g limits (outcome.Sat values assignment) = IsSolution f values.items assignment.items
+IsOutcomeOver f g limits (outcome.Refuted log) = IsRefutation g log.steps × (length log.steps ≤ limits.learnt)
+IsOutcomeOver f g limits (outcome.GaveUp cause) = IsGivenUpOver f g limits cause
+
+-- what is right to say of a formula within limits, where the search is over the formula that definitions extend
+abbrev pub IsOutcome : FormulaParts → List Definition → Limits → Outcome → Type 0
+IsOutcome f definitions limits o = IsOutcomeOver f (extended f definitions) limits o

@@ -1,10 +1,13 @@
 //! The tableau of a formula's rows, and which of them are bound.
 ghost use Rattle.std.specs.Prelude.{◌≡◌, length, map, IfOk};
 ghost use Rattle.bt_cnf.specs.Assignments.{truth_in};
-ghost use Rattle.bt_theory.specs.Reaching.{atom_vars};
+ghost use Rattle.bt_theory.specs.Reaching.{atom_rows, atom_vars};
+ghost use Rattle.bt_theory.specs.inner.Bases.{IsBase, base_in};
 ghost use Rattle.bt_theory.specs.inner.Rounds.{IsFirst};
 
+use crate::base::Base;
 use bt_cnf::{Formula, Var, is_true};
+use bt_frac::Row;
 use bt_simplex::Tableau;
 use std::alloc::{AllocError, Global};
 
@@ -24,11 +27,21 @@ pub fn atoms_of(alloc: Global, formula: &Formula) -> Result<Vec<Var>, AllocError
     Ok(atoms)
 }
 
-/// The tableau of the formula's rows, of which none is bound.
-pub fn tableau_of(alloc: Global, formula: &Formula) -> Result<Tableau, AllocError>
-    ensures { IfOk result (IsFirst formula.now) }
+/// The rows that stand before the formula's definitions.
+#[tactic(auto, using(crate::proofs::Bases::base_rows))]
+fn rows_in<'a>(formula: &'a Formula, base: &Base) -> &'a [Row]
+    requires { IsBase base.now formula.now }
+    ensures { result.now ≡ atom_rows (base_in base.now formula.now) }
 {
-    let tableau = Tableau::new(alloc, formula.rows(), formula.columns())?;
+    &formula.rows()[..base.atoms.len()]
+}
+
+/// The tableau of the rows that stand before the formula's definitions, of which none is bound.
+pub fn tableau_of(alloc: Global, formula: &Formula, base: &Base) -> Result<Tableau, AllocError>
+    requires { IsBase base.now formula.now }
+    ensures { IfOk result (IsFirst (base_in base.now formula.now)) }
+{
+    let tableau = Tableau::new(alloc, rows_in(formula, base), base.columns)?;
     tableau.all_known();
     Ok(tableau)
 }

@@ -2,12 +2,14 @@
 //!
 //! Each true atom is one more row that the tableau has to meet, so the atoms start as false, and one is
 //! chosen only where a clause has no other true literal.
-ghost use Rattle.std.specs.Prelude.{◌≡◌, ◌↔◌, ◌<◌, true, IsTrue, length, IfOk};
+ghost use Rattle.std.specs.Prelude.{◌≡◌, ◌↔◌, ◌<◌, ◌≤◌, true, IsTrue, length, take, IfOk};
 ghost use Rattle.std.specs.List.{All};
 ghost use Rattle.bt_cnf.specs.Assignments.{truth_in};
 ghost use Rattle.bt_cnf.specs.Meeting.{IsTrueUnder, MeetsClause};
+ghost use Rattle.bt_theory.specs.inner.Bases.{IsBase, base_in};
 ghost use Rattle.bt_theory.specs.inner.Choosing.{IsWithin, StaysTrue, HasSettled, Settles, IsChosen};
 
+use crate::base::Base;
 use bt_cnf::{Formula, Lit, Var, is_true};
 use std::alloc::{AllocError, Global};
 
@@ -92,11 +94,13 @@ fn is_met(lits: &[Lit], assignment: &[bool]) -> bool
     false
 }
 
-/// Whether an assignment gives each clause of the formula a true literal.
-pub fn meets_clauses(formula: &Formula, assignment: &[bool]) -> bool
-    ensures { IsTrue result → All (MeetsClause (truth_in assignment.now)) formula.now.clauses }
+/// Whether an assignment gives each of the first so many clauses of the formula a true literal.
+pub fn meets_clauses(formula: &Formula, clauses: usize, assignment: &[bool]) -> bool
+    requires { clauses ≤ length formula.now.clauses }
+    ensures { IsTrue result
+        → All (MeetsClause (truth_in assignment.now)) (take clauses formula.now.clauses) }
 {
-    for place in 0..formula.clauses() {
+    for place in 0..clauses {
         let Some(id) = formula.clause_at(place) else {
             unreachable!()
         };
@@ -107,19 +111,21 @@ pub fn meets_clauses(formula: &Formula, assignment: &[bool]) -> bool
     true
 }
 
-/// An assignment within a model that gives each clause of the formula a true literal: what isn't among the
+/// An assignment within a model that gives each clause before the definitions a true literal: what isn't among the
 /// atoms is as in the model, and of the atoms those are true that some clause needs.
 pub fn choose(
     alloc: Global,
     formula: &Formula,
-    atoms: &[Var],
+    base: &Base,
     model: &[bool],
 ) -> Result<Vec<bool>, AllocError>
-    requires { All (MeetsClause (truth_in model.now)) formula.now.clauses }
-    ensures { IfOk result (λ chosen. IsChosen model.now chosen.items formula.now.clauses) }
+    requires base { IsBase base.now formula.now }
+    requires met { All (MeetsClause (truth_in model.now)) (base_in base.now formula.now).clauses }
+    ensures { IfOk result
+        (λ chosen. IsChosen model.now chosen.items (base_in base.now formula.now).clauses) }
 {
-    let mut chosen = without_atoms(alloc, atoms, model)?;
-    for place in 0..formula.clauses() {
+    let mut chosen = without_atoms(alloc, base.atoms(), model)?;
+    for place in 0..base.clauses {
         let Some(id) = formula.clause_at(place) else {
             unreachable!()
         };

@@ -5,13 +5,14 @@ ghost use Rattle.bt_cnf.specs.Assignments.{truth_in};
 ghost use Rattle.bt_cnf.specs.Meeting.{MeetsClause};
 ghost use Rattle.bt_simplex.specs.Checks.{MeetsBoundRows};
 ghost use Rattle.bt_theory.specs.Outcomes.{IsSolution};
-ghost use Rattle.bt_theory.specs.Reaching.{atom_vars};
+ghost use Rattle.bt_theory.specs.inner.Bases.{IsBase, base_in};
 ghost use Rattle.bt_theory.specs.inner.Rounds.{Solves};
 
+use crate::base::Base;
 use crate::binding::{bind, tableau_of};
 use crate::choosing::{choose, meets_clauses};
 use crate::outcome::Solution;
-use bt_cnf::{Formula, Var, is_true};
+use bt_cnf::{Formula, is_true};
 use bt_frac::Frac;
 use bt_simplex::{Check, Tableau};
 use std::alloc::{AllocError, Global};
@@ -20,15 +21,15 @@ use std::alloc::{AllocError, Global};
 pub fn first_solution(
     alloc: Global,
     formula: &Formula,
-    atoms: &[Var],
+    base: &Base,
     guesses: &[Vec<bool>],
     pivots: u64,
 ) -> Result<Option<Solution>, AllocError>
-    requires { atoms.now ≡ atom_vars formula.now }
-    ensures { IfOk result (λ found. IfSome found (Solves formula.now)) }
+    requires { IsBase base.now formula.now }
+    ensures { IfOk result (λ found. IfSome found (Solves (base_in base.now formula.now))) }
 {
     for guess in guesses {
-        let found = solution_of(alloc, formula, atoms, guess, pivots)?;
+        let found = solution_of(alloc, formula, base, guess, pivots)?;
         if found.is_some() {
             return Ok(found);
         }
@@ -36,22 +37,22 @@ pub fn first_solution(
     Ok(None)
 }
 
-/// The solution that a guess gives: where it gives every clause a true literal, and values are found for
-/// the rows of the atoms that are chosen within it.
+/// The solution that a guess gives: where it gives every clause before the definitions a true literal, and values are
+/// found for the rows of the atoms that are chosen within it.
 fn solution_of(
     alloc: Global,
     formula: &Formula,
-    atoms: &[Var],
+    base: &Base,
     guess: &[bool],
     pivots: u64,
 ) -> Result<Option<Solution>, AllocError>
-    requires { atoms.now ≡ atom_vars formula.now }
-    ensures { IfOk result (λ found. IfSome found (Solves formula.now)) }
+    requires { IsBase base.now formula.now }
+    ensures { IfOk result (λ found. IfSome found (Solves (base_in base.now formula.now))) }
 {
-    let model = assignment_of(alloc, guess, formula.vars())?;
-    if meets_clauses(formula, &model) {
-        let chosen = choose(alloc, formula, atoms, &model)?;
-        valued(alloc, formula, atoms, chosen, pivots)
+    let model = assignment_of(alloc, guess, base.vars)?;
+    if meets_clauses(formula, base.clauses, &model) {
+        let chosen = choose(alloc, formula, base, &model)?;
+        valued(alloc, formula, base, chosen, pivots)
     } else {
         Ok(None)
     }
@@ -72,16 +73,17 @@ fn assignment_of(alloc: Global, guess: &[bool], vars: usize) -> Result<Vec<bool>
 fn valued(
     alloc: Global,
     formula: &Formula,
-    atoms: &[Var],
+    base: &Base,
     assignment: Vec<bool>,
     pivots: u64,
 ) -> Result<Option<Solution>, AllocError>
-    requires atoms { atoms.now ≡ atom_vars formula.now }
-    requires size { length assignment.items ≡ formula.now.vars }
-    requires met { All (MeetsClause (truth_in assignment.items)) formula.now.clauses }
-    ensures { IfOk result (λ found. IfSome found (Solves formula.now)) }
+    requires base { IsBase base.now formula.now }
+    requires size { length assignment.items ≡ base.now.vars }
+    requires met { All (MeetsClause (truth_in assignment.items))
+        (base_in base.now formula.now).clauses }
+    ensures { IfOk result (λ found. IfSome found (Solves (base_in base.now formula.now))) }
 {
-    match values_of(alloc, formula, atoms, &assignment, pivots)? {
+    match values_of(alloc, formula, base, &assignment, pivots)? {
         Some(values) => Ok(Some(Solution { values, assignment })),
         None => Ok(None),
     }
@@ -91,18 +93,19 @@ fn valued(
 fn values_of(
     alloc: Global,
     formula: &Formula,
-    atoms: &[Var],
+    base: &Base,
     assignment: &[bool],
     pivots: u64,
 ) -> Result<Option<Vec<Frac>>, AllocError>
-    requires atoms { atoms.now ≡ atom_vars formula.now }
-    requires size { length assignment.now ≡ formula.now.vars }
-    requires met { All (MeetsClause (truth_in assignment.now)) formula.now.clauses }
+    requires base { IsBase base.now formula.now }
+    requires size { length assignment.now ≡ base.now.vars }
+    requires met { All (MeetsClause (truth_in assignment.now))
+        (base_in base.now formula.now).clauses }
     ensures { IfOk result (λ found. IfSome found
-        (λ values. IsSolution formula.now values.items assignment.now)) }
+        (λ values. IsSolution (base_in base.now formula.now) values.items assignment.now)) }
 {
-    let mut tableau = tableau_of(alloc, formula)?;
-    bind(&mut tableau, atoms, assignment);
+    let mut tableau = tableau_of(alloc, formula, base)?;
+    bind(&mut tableau, base.atoms(), assignment);
     bound_values(alloc, &mut tableau, pivots)
 }
 

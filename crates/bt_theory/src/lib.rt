@@ -2,8 +2,10 @@
 //! turns of a tableau: an assignment with values that meets the formula, or a log that refutes it.
 #![tactic(auto)]
 
+mod base;
 mod binding;
 mod choosing;
+mod goal;
 mod guessing;
 mod lemma;
 mod outcome;
@@ -12,6 +14,7 @@ mod scope;
 mod solving;
 
 pub use bt_cnf::Limits;
+pub use goal::Goal;
 pub use outcome::{GaveUp, Outcome};
 pub use solving::solve;
 pub use std::alloc::AllocError as Memory;

@@ -29,22 +29,36 @@ struct Picked {
     rows: Vec<Row>,
 }
 
-/// The scopes of lists of rows, which are named by their places among the formula's rows.
+/// The scopes of lists of rows, which are named by their places among the formula's rows. A place of none is passed over.
 pub fn scopes_of(
     alloc: Global,
     formula: &Formula,
     atoms: &[Var],
     lists: &[Vec<usize>],
 ) -> Result<Vec<Scope>, AllocError>
-    requires atoms { atoms.now ≡ atom_vars formula.now }
-    requires rows { All (λ list. AreRowsOf formula.now list.items) lists.now }
+    requires { atoms.now ≡ atom_vars formula.now }
     ensures { IfOk result (λ scopes. All (IsScopeOf formula.now) (map parts_of scopes.items)) }
 {
     let mut scopes = Vec::new(alloc);
     for list in lists {
-        scopes.push(scope_of(alloc, formula, atoms, list)?)?;
+        let rows = rows_of(alloc, formula, list)?;
+        scopes.push(scope_of(alloc, formula, atoms, &rows)?)?;
     }
     Ok(scopes)
+}
+
+/// The places of a list at which the formula has a row.
+fn rows_of(alloc: Global, formula: &Formula, list: &[usize]) -> Result<Vec<usize>, AllocError>
+    ensures { IfOk result (λ rows. AreRowsOf formula.now rows.items) }
+{
+    let count = formula.rows().len();
+    let mut rows = Vec::new(alloc);
+    for place in list {
+        if *place < count {
+            rows.push(*place)?;
+        }
+    }
+    Ok(rows)
 }
 
 fn scope_of(
@@ -105,12 +119,54 @@ pub fn first_conflict(
         Any (IsConflictIn assignment.now conflict) (map parts_of scopes.old))) }
 {
     for place in 0..scopes.len() {
-        let found = scopes[place].conflict(alloc, assignment, pivots)?;
+        let found = conflict_at(alloc, scopes, place, assignment, pivots)?;
         if found.is_some() {
             return Ok(found);
         }
     }
     Ok(None)
+}
+
+/// The same of the scopes at these places alone. A place of no scope is passed over.
+pub fn conflict_among(
+    alloc: Global,
+    scopes: &mut [Scope],
+    places: &[usize],
+    assignment: &[bool],
+    pivots: u64,
+) -> Result<Option<Conflict>, AllocError>
+    requires { All IsPaired (map parts_of scopes.old) }
+    ensures same { IfOk result (λ found. map parts_of scopes.new ≡ map parts_of scopes.old) }
+    ensures found { IfOk result (λ found. IfSome found (λ conflict.
+        Any (IsConflictIn assignment.now conflict) (map parts_of scopes.old))) }
+{
+    for place in places {
+        let found = conflict_at(alloc, scopes, *place, assignment, pivots)?;
+        if found.is_some() {
+            return Ok(found);
+        }
+    }
+    Ok(None)
+}
+
+/// The conflict of the scope at a place, where there is one, and one is found within so many turns.
+fn conflict_at(
+    alloc: Global,
+    scopes: &mut [Scope],
+    place: usize,
+    assignment: &[bool],
+    pivots: u64,
+) -> Result<Option<Conflict>, AllocError>
+    requires { All IsPaired (map parts_of scopes.old) }
+    ensures same { IfOk result (λ found. map parts_of scopes.new ≡ map parts_of scopes.old) }
+    ensures found { IfOk result (λ found. IfSome found (λ conflict.
+        Any (IsConflictIn assignment.now conflict) (map parts_of scopes.old))) }
+{
+    if place >= scopes.len() {
+        return Ok(None);
+    }
+    let found = scopes[place].conflict(alloc, assignment, pivots)?;
+    Ok(found)
 }
 
 impl Scope {

@@ -1,53 +1,88 @@
 //! Deciding a formula: rounds of a search, one after another.
-ghost use Rattle.std.specs.Prelude.{◌≡◌, IfOk, Some, map};
+ghost use Rattle.std.specs.Prelude.{◌≡◌, ◌≤◌, IfOk, OnOk, Some, length, map};
 ghost use Rattle.std.specs.List.{All};
-ghost use Rattle.bt_theory.specs.Reaching.{atom_vars};
-ghost use Rattle.bt_theory.specs.Outcomes.{AreRowsOf, IsOutcome};
+ghost use Rattle.bt_extend.specs.Extending.{AreTaken};
+ghost use Rattle.bt_theory.specs.Outcomes.{IsOutcome, IsOutcomeOver};
+ghost use Rattle.bt_theory.specs.inner.Bases.{IsBase, base_in};
 ghost use Rattle.bt_theory.specs.inner.Scopes.{IsScopeOf, parts_of};
 ghost use Rattle.bt_theory.specs.inner.Rounds.{AreTablesOf, IsReady, IsRound, Tells};
 
+use crate::base::{Base, base_of};
 use crate::binding::{atoms_of, tableau_of};
+use crate::goal::{Goal, try_goals};
 use crate::guessing::first_solution;
 use crate::outcome::{GaveUp, Outcome, Solution};
 use crate::round::{End, round};
 use crate::scope::{Scope, scopes_of};
-use bt_cnf::{Chooser, Formula, Limits, Var};
+use bt_cnf::{Chooser, Formula, Limits};
+use bt_extend::{Definition, extend_all};
 use bt_log::Log;
 use bt_sat::Solver;
 use bt_simplex::Tableau;
 use std::alloc::{AllocError, Global};
 
-/// Decides a formula within limits.
+/// Decides a formula within limits, with the help of definitions.
 ///
-/// Each guess is an assignment: a truth value for each variable, and false past its end. Where one gives
+/// The search is for a model of the formula that the definitions extend, each over the formula with those before it; from
+/// the first that may not extend it so on they are dropped. By definitions a formula can be met exactly where it can be
+/// without them. So `Refuted` and `Spent` tell of a log over the extended formula, and `Sat`, `Pivots` and `Wide` of the
+/// formula itself: its rows and columns alone are checked together.
+///
+/// Each guess is an assignment of the formula: a truth value for each variable, and false past its end. Where one gives
 /// every clause a true literal, and within the turns values are found for the rows that this needs, the
 /// outcome is `Sat`. Nothing else comes of a guess.
 ///
+/// Each goal is a clause that is likely to follow. It is tried before the search: its literals are made false, and where its
+/// scopes refute that, a lemma is added, until the clause follows. What this leads to are steps of the search, so nothing
+/// rests on a goal.
+///
 /// The choosers steer the search, which is right whatever they answer; without one the lowest unset variable
-/// is set to false. Each scope is a list of rows, by their places among the formula's rows. Of a model the
-/// rows of each scope are checked in turn, before all rows are: the first that no values meet give the
-/// lemma. Where the turns don't suffice or a number is too wide, the scope counts as passed, so `Sat`,
+/// is set to false. Each scope is a list of rows, by their places among the rows of the extended formula; a place of no row
+/// is passed over. Of a model the rows of each scope are checked in turn, before all rows are: the first that no values
+/// meet give the lemma. Where the turns don't suffice or a number is too wide, the scope counts as passed, so `Sat`,
 /// `Pivots` and `Wide` come of the check of all rows.
 pub fn solve<C: Chooser>(
     alloc: Global,
-    formula: Formula,
+    mut formula: Formula,
+    definitions: &mut Vec<Definition>,
     scopes: &[Vec<usize>],
     guesses: &[Vec<bool>],
+    goals: &[Goal],
     choosers: Vec<C>,
     limits: Limits,
 ) -> Result<Outcome, AllocError>
-    requires { All (λ list. AreRowsOf formula list.items) scopes.now }
-    ensures { IfOk result (IsOutcome formula limits) }
+    ensures taken { OnOk result (AreTaken formula definitions.old.items definitions.new.items) }
+    ensures outcome { IfOk result (IsOutcome formula definitions.new.items limits) }
 {
-    let atoms = atoms_of(alloc, &formula)?;
-    match first_solution(alloc, &formula, &atoms, guesses, limits.pivots)? {
+    let base = base_of(alloc, &formula)?;
+    extend_all(alloc, &mut formula, definitions)?;
+    decide(
+        alloc, formula, &base, scopes, guesses, goals, choosers, limits,
+    )
+}
+
+/// Decides what stands before the definitions, by guesses and by a search.
+fn decide<C: Chooser>(
+    alloc: Global,
+    formula: Formula,
+    base: &Base,
+    scopes: &[Vec<usize>],
+    guesses: &[Vec<bool>],
+    goals: &[Goal],
+    choosers: Vec<C>,
+    limits: Limits,
+) -> Result<Outcome, AllocError>
+    requires { IsBase base.now formula }
+    ensures { IfOk result (IsOutcomeOver (base_in base.now formula) formula limits) }
+{
+    match first_solution(alloc, &formula, base, guesses, limits.pivots)? {
         Some(solution) => Ok(sat(solution)),
-        None => search(alloc, formula, &atoms, scopes, choosers, limits),
+        None => search(alloc, formula, base, scopes, goals, choosers, limits),
     }
 }
 
-/// What the rows are checked by. One tableau of all rows is carried from model to model, so that the basis is near
-/// to the next one's.
+/// What the rows are checked by. One tableau of all rows before the definitions is carried from model to model, so that the
+/// basis is near to the next one's.
 #[derive(Drop)]
 struct Tables {
     scopes: Vec<Scope>,
@@ -58,53 +93,76 @@ struct Tables {
 fn tables_of(
     alloc: Global,
     formula: &Formula,
-    atoms: &[Var],
+    base: &Base,
     scopes: &[Vec<usize>],
 ) -> Result<Tables, AllocError>
-    requires atoms { atoms.now ≡ atom_vars formula.now }
-    requires scopes { All (λ list. AreRowsOf formula.now list.items) scopes.now }
-    ensures { IfOk result (AreTablesOf formula.now) }
+    requires { IsBase base.now formula.now }
+    ensures { IfOk result (AreTablesOf base.now formula.now) }
 {
-    let tableau = tableau_of(alloc, formula)?;
+    let tableau = tableau_of(alloc, formula, base)?;
+    let atoms = atoms_of(alloc, formula)?;
     Ok(Tables {
-        scopes: scopes_of(alloc, formula, atoms, scopes)?,
+        scopes: scopes_of(alloc, formula, &atoms, scopes)?,
         tableau,
     })
 }
 
-/// Searches, with these scopes, for what a formula comes to within limits.
+/// Searches, with these scopes, for what comes of a formula within limits.
 fn search<C: Chooser>(
     alloc: Global,
     formula: Formula,
-    atoms: &[Var],
+    base: &Base,
     scopes: &[Vec<usize>],
+    goals: &[Goal],
     choosers: Vec<C>,
     limits: Limits,
 ) -> Result<Outcome, AllocError>
-    requires atoms { atoms.now ≡ atom_vars formula }
-    requires scopes { All (λ list. AreRowsOf formula list.items) scopes.now }
-    ensures { IfOk result (IsOutcome formula limits) }
+    requires { IsBase base.now formula }
+    ensures { IfOk result (IsOutcomeOver (base_in base.now formula) formula limits) }
 {
-    let mut tables = tables_of(alloc, &formula, atoms, scopes)?;
-    search_by(alloc, formula, atoms, &mut tables, choosers, limits)
+    let mut tables = tables_of(alloc, &formula, base, scopes)?;
+    search_by(alloc, formula, base, &mut tables, goals, choosers, limits)
 }
 
 /// The same search by these tables.
 fn search_by<C: Chooser>(
     alloc: Global,
     formula: Formula,
-    atoms: &[Var],
+    base: &Base,
     tables: &mut Tables,
+    goals: &[Goal],
     choosers: Vec<C>,
     limits: Limits,
 ) -> Result<Outcome, AllocError>
-    requires atoms { atoms.now ≡ atom_vars formula }
-    requires tables { AreTablesOf formula tables.old }
-    ensures { IfOk result (IsOutcome formula limits) }
+    requires base { IsBase base.now formula }
+    requires tables { AreTablesOf base.now formula tables.old }
+    ensures { IfOk result (IsOutcomeOver (base_in base.now formula) formula limits) }
 {
     let mut solver = Solver::new(alloc, formula, choosers, limits.learnt)?;
-    let end = rounds(alloc, &mut solver, tables, atoms, limits.pivots)?;
+    let end = by_goals(alloc, &mut solver, tables, goals, base, limits.pivots)?;
     Ok(outcome(end, solver.into_log()))
+}
+
+/// Tries the goals, and makes rounds where the search isn't at its end then.
+fn by_goals<C: Chooser>(
+    alloc: Global,
+    solver: &mut Solver<C>,
+    tables: &mut Tables,
+    goals: &[Goal],
+    base: &Base,
+    pivots: u64,
+) -> Result<End, AllocError>
+    requires within { length solver.old.kernel.steps ≤ solver.old.kernel.limit }
+    requires base { IsBase base.now solver.old.kernel.formula }
+    requires ready { IsReady base.now solver.old.kernel tables.old.tableau }
+    requires scopes { All (IsScopeOf solver.old.kernel.formula) (map parts_of tables.old.scopes.items) }
+    ensures { IfOk result (λ end.
+        IsRound pivots base.now solver.old.kernel solver.new.kernel tables.new.tableau (Some end)) }
+{
+    match try_goals(alloc, solver, &mut tables.scopes, goals, pivots)? {
+        Some(end) => Ok(end),
+        None => rounds(alloc, solver, tables, base, pivots),
+    }
 }
 
 /// Rounds, up to one that ends the search.
@@ -112,14 +170,14 @@ fn rounds<C: Chooser>(
     alloc: Global,
     solver: &mut Solver<C>,
     tables: &mut Tables,
-    atoms: &[Var],
+    base: &Base,
     pivots: u64,
 ) -> Result<End, AllocError>
-    requires ready { IsReady solver.old.kernel tables.old.tableau }
-    requires atoms { atoms.now ≡ atom_vars solver.old.kernel.formula }
+    requires base { IsBase base.now solver.old.kernel.formula }
+    requires ready { IsReady base.now solver.old.kernel tables.old.tableau }
     requires scopes { All (IsScopeOf solver.old.kernel.formula) (map parts_of tables.old.scopes.items) }
     ensures { IfOk result (λ end.
-        IsRound pivots solver.old.kernel solver.new.kernel tables.new.tableau (Some end)) }
+        IsRound pivots base.now solver.old.kernel solver.new.kernel tables.new.tableau (Some end)) }
 {
     loop {
         let said = round(
@@ -127,7 +185,7 @@ fn rounds<C: Chooser>(
             solver,
             &mut tables.scopes,
             &mut tables.tableau,
-            atoms,
+            base,
             pivots,
         )?;
         if let Some(end) = said {

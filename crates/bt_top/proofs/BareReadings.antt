@@ -1,12 +1,17 @@
--- Texts in which nothing may stand behind the edges, as they are read where pins, sides and blocks may stand.
+-- Texts in which nothing or sides alone may stand behind the edges, as they are read where pins, sides and blocks may stand.
 use Rattle.std.proofs.Common.{◌≡◌, ℕ, List, [], ◌∷◌, ◌+◌, length, Ok, refl}
-use Rattle.bt_net.specs.declared.network.Admitted.TheVariants.{Nothing, All}
+use Rattle.std.specs.List.{All as EachOf}
+use Rattle.std.proofs.lemmas.List.Elements.{All-nil, All-cons}
+use Rattle.bt_net.specs.declared.network.Admitted.{Admitted}
+use Rattle.bt_net.specs.declared.network.Admitted.TheVariants.{Nothing, Sides, All}
 use Rattle.bt_net.specs.declared.network.Block.{Block}
 use Rattle.bt_net.specs.declared.network.Demand.{Demand}
+use Rattle.bt_net.specs.declared.network.Demand.TheVariants as demand
 use Rattle.bt_net.specs.Network.{Network}
-use Rattle.bt_net.specs.PinText.{AreLinesFrom, IsDemandHere, IsBlockHere}
+use Rattle.bt_net.specs.PinText.{AreLinesFrom, Admits, IsDemandHere, IsBlockHere}
 use Rattle.bt_net.specs.Readings.{Reading, IsNetRead}
 use Rattle.bt_net.proofs.ReadAlike.{read_alike}
+use Rattle.bt_layout.specs.Smallest.{NamesNoCell}
 
 -- where no lines may stand behind those of the edges, none are read
 no_demands : (n : Network) (number : ℕ) (lines : List (List ℕ)) (ds : List Demand) → AreLinesFrom (IsDemandHere Nothing n) number lines ds → ds ≡ []
@@ -25,11 +30,63 @@ nothing_read bytes read h = (
   no_blocks (length read.net.edges + length read.demands + 2) h.begins.block_lines read.blocks h.begins.are_blocks,
 )
 
+-- what is read where some may stand is read where any may
+wider_demands : (may : Admitted) (n : Network) (number : ℕ) (lines : List (List ℕ)) (ds : List Demand) → AreLinesFrom (IsDemandHere may n) number lines ds → AreLinesFrom (IsDemandHere All n) number lines ds
+wider_demands may n number [] [] are = tt
+wider_demands may n number [] (d ∷ ds) are = absurd are
+wider_demands may n number (l ∷ ls) [] are = absurd are
+wider_demands may n number (l ∷ ls) (d ∷ ds) are = ((tt, are.0.1), wider_demands may n (number + 1) ls ds are.1)
+
+wider_blocks : (may : Admitted) (number : ℕ) (lines : List (List ℕ)) (bs : List Block) → AreLinesFrom (IsBlockHere may) number lines bs → AreLinesFrom (IsBlockHere All) number lines bs
+wider_blocks may number [] [] are = tt
+wider_blocks may number [] (b ∷ bs) are = absurd are
+wider_blocks may number (l ∷ ls) [] are = absurd are
+wider_blocks may number (l ∷ ls) (b ∷ bs) are = ((refl, are.0.1), wider_blocks may (number + 1) ls bs are.1)
+
+pub wider_is_read : (may : Admitted) (bytes : List ℕ) (read : Reading) → IsNetRead may bytes (Ok read) → IsNetRead All bytes (Ok read)
+wider_is_read may bytes read h =
+    let b = h.begins in
+    record {
+      network = h.network;
+      begins = record {
+        plain = b.plain;
+        edge_lines = b.edge_lines;
+        are_edges = b.are_edges;
+        demand_lines = b.demand_lines;
+        are_demands = wider_demands may read.net (length read.net.edges + 2) b.demand_lines read.demands b.are_demands;
+        block_lines = b.block_lines;
+        are_blocks = wider_blocks may (length read.net.edges + length read.demands + 2) b.block_lines read.blocks b.are_blocks;
+        begins = b.begins;
+      };
+      used = h.used;
+      lines = h.lines;
+    }
+
+-- where sides alone may stand, no cells are named
+no_cell : (d : Demand) → Admits Sides d → NamesNoCell d
+no_cell (demand.Pin pin) h = absurd h
+no_cell (demand.Side side) h = tt
+
+no_cells : (n : Network) (number : ℕ) (lines : List (List ℕ)) (ds : List Demand) → AreLinesFrom (IsDemandHere Sides n) number lines ds → EachOf NamesNoCell ds
+no_cells n number lines [] are = All-nil NamesNoCell
+no_cells n number [] (d ∷ ds) are = absurd are
+no_cells n number (l ∷ ls) (d ∷ ds) are = All-cons NamesNoCell d ds (no_cell d are.0.0) (no_cells n (number + 1) ls ds are.1)
+
+none_blocked : (number : ℕ) (lines : List (List ℕ)) (bs : List Block) → AreLinesFrom (IsBlockHere Sides) number lines bs → bs ≡ []
+none_blocked number lines [] are = refl
+none_blocked number [] (b ∷ bs) are = absurd are
+none_blocked number (l ∷ ls) (b ∷ bs) are = absurd (let e = are.0.0 in cc)
+
+pub sides_read : (bytes : List ℕ) (read : Reading) → IsNetRead Sides bytes (Ok read) → EachOf NamesNoCell read.demands × (read.blocks ≡ [])
+sides_read bytes read h = (
+  no_cells read.net (length read.net.edges + 2) h.begins.demand_lines read.demands h.begins.are_demands,
+  none_blocked (length read.net.edges + length read.demands + 2) h.begins.block_lines read.blocks h.begins.are_blocks,
+)
+
 -- so it is read where any may stand, and a text without such lines where none may
 pub bare_is_read : (bytes : List ℕ) (read : Reading) → IsNetRead Nothing bytes (Ok read) → IsNetRead All bytes (Ok read)
 bare_is_read bytes read h =
-    let none = nothing_read bytes read h in
-    ((read_alike All bytes read).0 ((read_alike Nothing bytes read).1 (h, none.0, none.1))).0
+    wider_is_read Nothing bytes read h
 
 pub read_is_bare : (bytes : List ℕ) (read : Reading) → IsNetRead All bytes (Ok read) → read.demands ≡ [] → read.blocks ≡ [] → IsNetRead Nothing bytes (Ok read)
 read_is_bare bytes read h demands blocks = ((read_alike Nothing bytes read).0 ((read_alike All bytes read).1 (h, demands, blocks))).0

@@ -63,7 +63,7 @@ use Rattle.bt_top.specs.TwoDesigns.{IsTwoNets}
 use Rattle.bt_top.proofs.InTurns.{same_value, not_both}
 use Rattle.bt_top.proofs.OneAnswer.{one_lone_net}
 use Rattle.bt_top.proofs.OnePair.{one_two_nets}
-use Rattle.bt_top.proofs.OneRequest.{one_lone_request, one_plain_request, plain_rect}
+use Rattle.bt_top.proofs.OneRequest.{one_lone_request, one_sided_request, sided_request}
 
 -- the steps of an ample budget are never used up
 never_used_up : (f : FormulaParts) (learnt : ℕ) (steps : List Step) → IsAmple f learnt → IsUsedUp f learnt steps → ⊥
@@ -167,21 +167,21 @@ lay_never rect tier learnt bytes a (r, alone, ample) (went_on s h (found, is, ag
 
 -- with ample steps for each grid none is given up
 abbrev AmpleOn : LayoutRequest → ℕ → Type 0
-AmpleOn r learnt = (grid : Rect) → IsWithin r.rect grid → IsAmple (place_formula (request_on r.net r.tier grid)) learnt
+AmpleOn r learnt = (grid : Rect) → IsWithin r.rect grid → IsAmple (place_formula (request_on r grid)) learnt
 
-least_never : (r : LayoutRequest) (learnt : ℕ) (found : ASmallest) → AmpleOn r learnt → IsSmallest r.net r.tier r.rect learnt found → IsOther 4 high_four (Ok (answer.Least found))
+least_never : (r : LayoutRequest) (learnt : ℕ) (found : ASmallest) → AmpleOn r learnt → IsSmallest r learnt found → IsOther 4 high_four (Ok (answer.Least found))
 least_never r learnt (smallest.Found earlier grid parts) ample is = other_status 4 high_four (answer.Least (smallest.Found earlier grid parts)) (λ e. omega (arith, e))
 least_never r learnt (smallest.Nowhere earlier) ample is = other_status 4 high_four (answer.Least (smallest.Nowhere earlier)) (λ e. omega (arith, e))
 least_never r learnt (smallest.Spent earlier grid log) ample is =
-    absurd (never_used_up (place_formula (request_on r.net r.tier grid)) learnt log.steps (ample grid (left_within r.net r.tier r.rect learnt earlier.items grid is.0)) is.1)
+    absurd (never_used_up (place_formula (request_on r grid)) learnt log.steps (ample grid (left_within r learnt earlier.items grid is.0)) is.1)
 
 search_never : (most : Rect) (tier : Tier) (learnt : ℕ) (bytes : List ℕ) (a : Answer) → HasAmple (Smallest most tier learnt) bytes
     → IsRightTo (Smallest most tier learnt) bytes (Ok a) → status_of a ≢ 4
 search_never most tier learnt bytes a ample (stopped fault h e) = design_other 4 high_four fault a (sym e)
 search_never most tier learnt bytes a (r, alone, ample) (went_on s h (found, is, again, e)) =
-    let same = same_value s r (one_plain_request most tier bytes (Ok s) (Ok r) h alone) in
-    let greatest = plain_rect most tier bytes r alone in
-    least_never s learnt found (subst (λ x. AmpleOn x learnt) (sym same) (subst (λ rect. (grid : Rect) → IsWithin rect grid → IsAmple (place_formula (request_on r.net r.tier grid)) learnt) (sym greatest) ample)) is a (sym e)
+    let same = same_value s r (one_sided_request most tier bytes (Ok s) (Ok r) h alone) in
+    let greatest = (sided_request most tier bytes r alone).rect in
+    least_never s learnt found (subst (λ x. AmpleOn x learnt) (sym same) (subst (λ rect. (grid : Rect) → IsWithin rect grid → IsAmple (place_formula (request_on r grid)) learnt) (sym greatest) ample)) is a (sym e)
 
 pub ample_is_never_spent : AmpleIsNeverSpent
 ample_is_never_spent (FlowCheck p) bytes a ample h = absurd ample
@@ -193,7 +193,7 @@ ample_is_never_spent (Make Chain order limits) bytes a ample h = chain_other 4 h
 ample_is_never_spent (Layout rect tier learnt) bytes a ample h = lay_never rect tier learnt bytes a ample h
 ample_is_never_spent (CheckLayout rect tier) bytes a ample h = absurd ample
 ample_is_never_spent (Smallest most tier learnt) bytes a ample h = search_never most tier learnt bytes a ample h
-ample_is_never_spent (FindSmall most tier learnt) bytes a ample h = absurd ample
+ample_is_never_spent (FindSmall most tier sides learnt) bytes a ample h = absurd ample
 ample_is_never_spent (FlowFormula p) bytes a ample h = absurd ample
 ample_is_never_spent (PlaceFormula rect tier) bytes a ample h = absurd ample
 ample_is_never_spent (Same limits) bytes a (nets, alone, ample) h =
@@ -221,7 +221,7 @@ ample_turns_are_never_made (Make Chain order limits) bytes a ample h = chain_oth
 ample_turns_are_never_made (Layout rect tier learnt) bytes a ample h = absurd ample
 ample_turns_are_never_made (CheckLayout rect tier) bytes a ample h = absurd ample
 ample_turns_are_never_made (Smallest most tier learnt) bytes a ample h = absurd ample
-ample_turns_are_never_made (FindSmall most tier learnt) bytes a ample h = absurd ample
+ample_turns_are_never_made (FindSmall most tier sides learnt) bytes a ample h = absurd ample
 ample_turns_are_never_made (FlowFormula p) bytes a ample h = absurd ample
 ample_turns_are_never_made (PlaceFormula rect tier) bytes a ample h = absurd ample
 ample_turns_are_never_made (Same limits) bytes a (nets, alone, ample) h =

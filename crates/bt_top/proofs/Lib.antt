@@ -13,6 +13,7 @@ pub mod Rechecked
 pub mod RecheckedLayouts
 pub mod RecheckedLeast
 pub mod StandingAlone
+pub mod OwnSides
 pub mod OneRequest
 pub mod OnePair
 pub mod SameCertified

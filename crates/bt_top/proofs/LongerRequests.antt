@@ -23,7 +23,7 @@ module _ (bytes : List ℕ) (n : PinnedNet) (used : ℕ) where
   abbrev pub PinnedStays : Type 0
   PinnedStays = ((more : List ℕ) → IsPinned (bytes ++ more) (Ok (n, used))) ⊎ ((used ≡ length bytes) × ((more : List ℕ) → IsPinned (bytes ++ 10 ∷ more) (Ok (n, used + 1))))
 
-  pinned_text_stays : IsPinnedText bytes (Ok (n, used)) → PinnedStays
+  pinned_text_stays : IsPinnedText All bytes (Ok (n, used)) → PinnedStays
   pinned_text_stays (stopped fault h e) = absurd (not_both (n, used) (net_told fault) e)
   pinned_text_stays (went_on read h e) = by (reading_stays All bytes read h)
     where
@@ -54,7 +54,7 @@ module _ (bytes : List ℕ) (n : PinnedNet) (used : ℕ) where
   pinned_json_within (went_on found h e) =
       let same = place_of n (pinned_net found.0 [] []) used found.1 e in omega (arith, same, json_within IsBlueprintNet bytes found.0 found.1 h)
 
-  pinned_text_within : IsPinnedText bytes (Ok (n, used)) → used ≤ length bytes
+  pinned_text_within : IsPinnedText All bytes (Ok (n, used)) → used ≤ length bytes
   pinned_text_within (stopped fault h e) = absurd (not_both (n, used) (net_told fault) e)
   pinned_text_within (went_on read h e) =
       let same = place_of n (pinned_net read.net read.demands read.blocks) used read.used e in omega (arith, same, h.used)

@@ -52,7 +52,7 @@ use Rattle.bt_top.specs.LayingOut.{IsLaidOut, layout_told}
 use Rattle.bt_top.specs.Making.{IsSaidBalanced, IsBalanceDecided, balance_told, gen_told}
 use Rattle.bt_top.specs.NoneCertificates.{IsNoneChecked, IsNoneTextChecked, IsNoneCertificateChecked, IsLayoutChecked}
 use Rattle.bt_top.specs.Recovering.{IsRecoveredFrom}
-use Rattle.bt_top.specs.Searching.{IsPlainRequest, IsSearched}
+use Rattle.bt_top.specs.Searching.{IsSidedRequest, IsSearched}
 use Rattle.bt_top.specs.Requested.{IsFrontRequest, IsLoneRequest}
 use Rattle.bt_top.specs.Replies.{Reply, design_told}
 use Rattle.bt_top.specs.States.{verdict, state_told, IsJudged, IsStateJudged, IsStateChecked, IsChecked}
@@ -62,7 +62,7 @@ use Rattle.bt_top.proofs.Blanks.{one_rest}
 use Rattle.bt_top.proofs.InTurns.{one_in_turn, one_in_turn_of, same_value, same_fault, not_both}
 use Rattle.bt_top.proofs.OneDesign.{one_design, design_network}
 use Rattle.bt_top.proofs.OnePair.{one_two_nets}
-use Rattle.bt_top.proofs.OneRequest.{one_front_request, one_lone_request, one_plain_request, one_design_request, front_request}
+use Rattle.bt_top.proofs.OneRequest.{one_front_request, one_lone_request, one_sided_request, one_design_request, front_request}
 use Rattle.bt_top.proofs.SameCertified.{one_same_certified}
 use Rattle.bt_top.proofs.StandingAlone.{one_alone}
 
@@ -190,7 +190,7 @@ least_apart (smallest.Nowhere earlier) is = omega (arith, is)
 least_apart (smallest.Spent earlier grid log) is = omega (arith, is)
 
 small_apart : (found : ASmall) → status_of (answer.Small found) ≢ 3
-small_apart (small.Found grid parts) is = omega (arith, is)
+small_apart (small.Found grid parts steps) is = omega (arith, is)
 small_apart (small.Spent steps) is = omega (arith, is)
 
 -- ---- make
@@ -215,9 +215,9 @@ only_right (Layout rect tier learnt) bytes a b only h k =
     refused_only (IsLoneRequest rect tier bytes) design_told (IsLaidOut learnt) (one_lone_request rect tier bytes) (λ r c d. apart c (layout_told d.0) d.3 (layout_apart d.0)) a b only h k
 only_right (CheckLayout rect tier) bytes a b only h k = same_value a b (one_layout_checked rect tier bytes (Ok a) (Ok b) h k)
 only_right (Smallest most tier learnt) bytes a b only h k =
-    refused_only (IsPlainRequest most tier bytes) design_told (IsSearched learnt) (one_plain_request most tier bytes) (λ r c d. apart c (answer.Least d.0) d.3 (least_apart d.0)) a b only h k
-only_right (FindSmall most tier learnt) bytes a b only h k =
-    refused_only (IsDesignRequest most tier bytes) design_told (IsFound bytes learnt) (one_design_request most tier bytes) (λ r c d. apart c (answer.Small d.0) d.3 (small_apart d.0)) a b only h k
+    refused_only (IsSidedRequest most tier bytes) design_told (IsSearched learnt) (one_sided_request most tier bytes) (λ r c d. apart c (answer.Least d.0) d.3 (least_apart d.0)) a b only h k
+only_right (FindSmall most tier sides learnt) bytes a b only h k =
+    refused_only (IsDesignRequest sides most tier bytes) design_told (IsFound bytes learnt) (one_design_request sides most tier bytes) (λ r c d. apart c (answer.Small d.1) d.5 (small_apart d.1)) a b only h k
 only_right (FlowFormula p) bytes a b only h k = same_value a b (one_flow_formula p bytes (Ok a) (Ok b) h k)
 only_right (PlaceFormula rect tier) bytes a b only h k = same_value a b (one_place_formula rect tier bytes (Ok a) (Ok b) h k)
 only_right (Same limits) bytes a b only h k =

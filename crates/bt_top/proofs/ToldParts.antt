@@ -5,7 +5,10 @@ use Rattle.bt_answers.specs.Answers.{UnlessMemory}
 use Rattle.bt_text.specs.Blanks.{IsBlank, SkipsBlanks}
 use Rattle.bt_text.specs.Lines.{line, line_feeds}
 use Rattle.bt_text.specs.Whole.{EndsLines}
+use Rattle.bt_net.specs.declared.network.Admitted.TheVariants.{Nothing}
 use Rattle.bt_net.specs.Network.{Network, IsNetwork}
+use Rattle.bt_net.specs.Readings.{IsNetRead}
+use Rattle.bt_net.proofs.Longer.{stays_refused}
 use Rattle.bt_top.specs.declared.fault.DesignFault.{DesignFault}
 use Rattle.bt_top.specs.declared.fault.DesignFault.TheVariants as design
 use Rattle.bt_top.specs.declared.held.Held.{Held}
@@ -18,7 +21,7 @@ use Rattle.bt_top.specs.inner.Fronts.{MayFollow, LastsBehind, IsAtHand, IsToldTe
 use Rattle.bt_top.specs.inner.Moved.{moved, moved_told, moved_refusal, IsFaultWithin}
 use Rattle.bt_top.proofs.Blanks.{nil_of}
 use Rattle.bt_top.proofs.BlankDesigns.{design_behind, design_indented, design_fault_within, bare_behind, bare_indented, bare_fault_within, pinned_behind, pinned_indented, pinned_fault_within}
-use Rattle.bt_top.proofs.LongerDesigns.{Stays, design_stays, json_text_stays, json_design_stays, json_settled, other_text_stays, refusal_stays}
+use Rattle.bt_top.proofs.LongerDesigns.{Stays, design_stays, json_text_stays, json_design_stays, json_settled, not_json, other_text_stays, read_refused, refusal_stays}
 use Rattle.bt_top.proofs.LongerRequests.{pinned_goes_on, pinned_refusal_stays}
 use Rattle.bt_top.proofs.OneDesign.{design_network}
 use Rattle.bt_top.proofs.TwoFollowed.{bare_goes_on}
@@ -48,15 +51,15 @@ module _ (held : Held) where
   ended_part : held.ended ≡ true → (IsJsonText held.bytes.now ⊎ (held.skipped ≡ 0)) → IsToldPart held held.bytes.now
   ended_part e behind = record { rest = []; bytes_are = sym (append-nil held.bytes.now); kind = inl (e, refl); behind = behind }
 
-  not_json : (lines : List ℕ) → EndsLines held.bytes.now lines → (IsJsonText held.bytes.now → ⊥) → IsJsonText lines → ⊥
-  not_json lines ends other is = other (subst IsJsonText (sym ends.text_is) (json_text_stays lines ends.rest is))
+  lines_are_other : (lines : List ℕ) → EndsLines held.bytes.now lines → (IsJsonText held.bytes.now → ⊥) → IsJsonText lines → ⊥
+  lines_are_other lines ends other is = other (subst IsJsonText (sym ends.text_is) (json_text_stays lines ends.rest is))
 
   -- and of other text the lines that have their line feeds, where they aren't blanks
   lines_part : (lines text : List ℕ) → held.ended ≡ false → held.skipped ≡ 0 → (IsJsonText held.bytes.now → ⊥) → EndsLines held.bytes.now lines → SkipsBlanks lines text → 0 < length text → IsToldPart held lines
   lines_part lines text goes none other ends skips some = record {
     rest = ends.rest;
     bytes_are = ends.text_is;
-    kind = inr (goes, inr (other_text lines text (not_json lines ends other) skips some, whole ends.whole));
+    kind = inr (goes, inr (other_text lines text (lines_are_other lines ends other) skips some, whole ends.whole));
     behind = inr none;
   }
     where
@@ -76,7 +79,7 @@ module _ (held : Held) where
   indented_before lines text some none ends skips byte = record {
     some = some;
     other = λ more may is.
-        other_text_stays lines (ends.rest ++ more) (other_text lines text (not_json lines ends none) skips byte)
+        other_text_stays lines (ends.rest ++ more) (other_text lines text (lines_are_other lines ends none) skips byte)
         (subst IsJsonText (ap (λ b. b ++ more) ends.text_is ∙ append_assoc lines ends.rest more) is);
     at_hand = inr (omega (arith, byte, ap length skips.text_is, length-append skips.blanks text, ap length ends.text_is, length-append lines ends.rest));
   }
@@ -201,15 +204,15 @@ pinned_last = record {
   indented = λ blanks bytes are some other. pinned_indented blanks bytes are some other;
 }
 
--- of a bare design in JSON text
-abbrev pub IsSettledJson : List ℕ → DesignFault → Type 0
-IsSettledJson bytes fault = IsJsonText bytes × (fault ≢ design.Refused (refusal.Json (length bytes)))
+-- a settled refusal of a bare design is that of all longer bytes
+bare_stays : (bytes more : List ℕ) (fault : DesignFault) → IsSettled bytes fault → IsBareDesign bytes (Err fault) → IsBareDesign (bytes ++ more) (Err fault)
+bare_stays bytes more fault (inl (is, other)) (inl h) = inl (json_text_stays bytes more is, json_design_stays IsBlueprintNet bytes more (Err fault) is (json_settled bytes fault other) h.1)
+bare_stays bytes more fault (inl (is, other)) (inr h) = absurd (h.0 is)
+bare_stays bytes more fault (inr (text, (lines, e), other)) (inl h) = absurd (not_json bytes text h.0)
+bare_stays bytes more fault (inr (text, (lines, e), other)) (inr h) =
+    inr (other_text_stays bytes more text, read_refused (IsNetRead Nothing) (stays_refused Nothing) (λ read. (read.net, read.used)) bytes more lines fault e other h.1)
 
-bare_stays : (bytes more : List ℕ) (fault : DesignFault) → IsSettledJson bytes fault → IsBareDesign bytes (Err fault) → IsBareDesign (bytes ++ more) (Err fault)
-bare_stays bytes more fault (is, other) (inl h) = inl (json_text_stays bytes more is, json_design_stays IsBlueprintNet bytes more (Err fault) is (json_settled bytes fault other) h.1)
-bare_stays bytes more fault (is, other) (inr h) = absurd (h.0 is)
-
-pub bare_last : IsLasting IsBareDesign IsSettledJson
+pub bare_last : IsLasting IsBareDesign IsSettled
 bare_last = record {
   goes_on = λ bytes more found h few. bare_goes_on bytes found.0 found.1 h more few;
   stays = bare_stays;
@@ -229,12 +232,6 @@ settled part text r fault is other = subst (IsSettled part) (sym is) (by text)
     by : IsToldText part → IsSettled part (design.Refused r)
     by (inl json) = inl (json, λ e. other (subst (RestsOnEnd part) (sym (same_refusal r (refusal.Json (length part)) e)) refl))
     by (inr (begins, ends)) = inr (begins, ends, λ e. other (subst (RestsOnEnd part) (sym (same_refusal r (refusal.NetLine (line_feeds part + 1)) e)) refl))
-
--- and of JSON text
-pub settled_json : (part : List ℕ) (r : Refusal) (fault : DesignFault) → fault ≡ design.Refused r → (RestsOnEnd part r → ⊥) → IsJsonText part ⊎ (fault ≡ design.Memory) → IsSettledJson part fault
-settled_json part r fault is other (inl json) =
-    (json, λ e. other (subst (RestsOnEnd part) (sym (same_refusal r (refusal.Json (length part)) (sym is ∙ e))) refl))
-settled_json part r fault is other (inr memory) = absurd (let e : design.Refused r ≡ design.Memory = sym is ∙ memory in cc)
 
 -- a refusal isn't want of memory
 pub refused_so : {V : Type 0} (P : Result V DesignFault → Type 0) (r : Refusal) → UnlessMemory design.Memory P (Err (design.Refused r)) → P (Err (design.Refused r))

@@ -47,7 +47,7 @@ least_status (SpentOn earlier grid log) = 4
 
 -- the status of a search for small grids: 0 where one is found, else 4
 abbrev pub small_status : ASmall → ℕ
-small_status (small.Found grid parts) = 0
+small_status (small.Found grid parts steps) = 0
 small_status (small.Spent steps) = 4
 
 -- the status of an answer

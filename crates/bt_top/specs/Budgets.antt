@@ -25,7 +25,7 @@ use Rattle.bt_top.specs.Answers.{status_of}
 use Rattle.bt_top.specs.Endings.{Ends}
 use Rattle.bt_top.specs.Inputs.{IsInput}
 use Rattle.bt_top.specs.Requested.{IsLoneRequest}
-use Rattle.bt_top.specs.Searching.{IsPlainRequest}
+use Rattle.bt_top.specs.Searching.{IsSidedRequest}
 use Rattle.bt_top.specs.TwoDesigns.{IsTwoNets}
 
 -- so many steps may be logged in deciding the formula: 3 ^ v or more, where it has v variables
@@ -39,7 +39,7 @@ HasAmple (Make Butterfly order limits) bytes = Unit {0}
 HasAmple (Make Chain order limits) bytes = IsAmple (flow_formula (chain_net order) Balanced) limits.learnt
 HasAmple (Layout rect tier learnt) bytes = (r : LayoutRequest) × IsLoneRequest rect tier bytes (Ok r) × IsAmple (place_formula r) learnt
 HasAmple (Smallest most tier learnt) bytes =
-    (r : LayoutRequest) × IsPlainRequest most tier bytes (Ok r) × ((grid : Rect) → IsWithin most grid → IsAmple (place_formula (request_on r.net r.tier grid)) learnt)
+    (r : LayoutRequest) × IsSidedRequest most tier bytes (Ok r) × ((grid : Rect) → IsWithin most grid → IsAmple (place_formula (request_on r grid)) learnt)
 HasAmple (Same limits) bytes = (nets : Network × Network) × IsTwoNets bytes (Ok nets) × IsAmple (same_formula nets.0 nets.1) limits.learnt
 HasAmple other bytes = ⊥
 

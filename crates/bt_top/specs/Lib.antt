@@ -11,6 +11,7 @@ pub mod Certificates
 pub mod Deciding
 pub mod Making
 pub mod Requested
+pub mod Kept
 pub mod LayingOut
 pub mod Searching
 pub mod Finding

@@ -3,6 +3,7 @@ use Rattle.std.specs.Prelude.{◌≡◌, ℕ, List, [], ◌⊎◌, Result, Ok, E
 use Rattle.bt_answers.specs.Answers.{seen}
 use Rattle.bt_parts.specs.declared.part.Rect.{Rect}
 use Rattle.bt_parts.specs.declared.part.Tier.{Tier}
+use Rattle.bt_net.specs.declared.network.Admitted.{Admitted}
 use Rattle.bt_net.specs.declared.network.Admitted.TheVariants.{All}
 use Rattle.bt_net.specs.declared.network.Block.{Block}
 use Rattle.bt_net.specs.declared.network.Demand.{Demand}
@@ -26,9 +27,9 @@ pub record PinnedNet : Type 0 where
 abbrev pub pinned_net : Network → List Demand → List Block → PinnedNet
 pinned_net net demands blocks = record { net = net; demands = demands; blocks = blocks }
 
--- what comes of network text: the network at its front with its pins, sides and blocks, and the place after it, or the first refusal
-abbrev pub IsPinnedText : List ℕ → Result (PinnedNet × ℕ) DesignFault → Type 0
-IsPinnedText bytes = InTurn (IsNetRead All bytes) (λ fault. Err (net_told fault)) (λ read answer. answer ≡ Ok (pinned_net read.net read.demands read.blocks, read.used))
+-- what comes of network text, behind whose edges these lines may stand: the network at its front with its pins, sides and blocks, and the place after it, or the first refusal
+abbrev pub IsPinnedText : Admitted → List ℕ → Result (PinnedNet × ℕ) DesignFault → Type 0
+IsPinnedText may bytes = InTurn (IsNetRead may bytes) (λ fault. Err (net_told fault)) (λ read answer. answer ≡ Ok (pinned_net read.net read.demands read.blocks, read.used))
 
 -- what comes of JSON text: the network of the design at its front, with neither pins, sides nor blocks, and the place after it, or the first refusal
 abbrev pub IsPinnedJson : List ℕ → Result (PinnedNet × ℕ) DesignFault → Type 0
@@ -36,7 +37,7 @@ IsPinnedJson bytes = InTurn (IsJsonLayout bytes) Err (λ found answer. answer �
 
 -- what comes of bytes: the network of the design at their front with its pins, sides and blocks, and the place after it, or the first refusal; they are read as JSON text, or else as network text
 abbrev pub IsPinned : List ℕ → Result (PinnedNet × ℕ) DesignFault → Type 0
-IsPinned bytes answer = (IsJsonText bytes × IsPinnedJson bytes answer) ⊎ ((IsJsonText bytes → ⊥) × IsPinnedText bytes answer)
+IsPinned bytes answer = (IsJsonText bytes × IsPinnedJson bytes answer) ⊎ ((IsJsonText bytes → ⊥) × IsPinnedText All bytes answer)
 
 -- what comes of a network with pins, sides and blocks: the request for it in the rectangle, of parts of the tier, or why there is none
 abbrev pub IsRequestFor : Rect → Tier → PinnedNet → Result LayoutRequest DesignFault → Type 0

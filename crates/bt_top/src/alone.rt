@@ -2,10 +2,10 @@
 ghost use Rattle.std.specs.Prelude.{◌≡◌, ◌≤◌, length};
 ghost use Rattle.bt_answers.specs.Answers.{UnlessMemory};
 ghost use Rattle.bt_top.specs.Alone.{IsAlone, IsLoneNet, IsRefusedAt, line_at};
-ghost use Rattle.bt_top.specs.Designs.{IsBareDesign, IsBareText};
+ghost use Rattle.bt_top.specs.Designs.{IsBareDesign};
 ghost use Rattle.bt_top.specs.inner.Behind.{IsBehind};
 
-use crate::design::{Design, is_json, read_bare, read_bare_text, read_design};
+use crate::design::{Design, is_json, read_bare, read_design};
 use crate::fault::DesignFault;
 use crate::refusal::Refusal;
 use bt_net::Net;
@@ -17,19 +17,6 @@ pub fn read_alone(alloc: Global, bytes: &[u8]) -> Result<Net, DesignFault>
     ensures { UnlessMemory DesignFault.Memory (IsLoneNet bytes.now) result }
 {
     match read_design(alloc, bytes) {
-        Ok(Design { net, used }) => match refused_behind(bytes, used) {
-            None => Ok(net),
-            Some(refusal) => Err(DesignFault::Refused(refusal)),
-        },
-        Err(fault) => Err(fault),
-    }
-}
-
-/// The network whose text the bytes are, in which nothing stands behind the edges, with blanks behind it.
-pub fn read_lone_text(alloc: Global, bytes: &[u8]) -> Result<Net, DesignFault>
-    ensures { UnlessMemory DesignFault.Memory (IsAlone IsBareText bytes.now) result }
-{
-    match read_bare_text(alloc, bytes) {
         Ok(Design { net, used }) => match refused_behind(bytes, used) {
             None => Ok(net),
             Some(refusal) => Err(DesignFault::Refused(refusal)),

@@ -86,7 +86,7 @@ pub fn read_bare(alloc: Global, bytes: &[u8]) -> Result<Design, DesignFault>
 }
 
 /// The bare design whose network text stands at the front of the bytes.
-pub fn read_bare_text(alloc: Global, bytes: &[u8]) -> Result<Design, DesignFault>
+fn read_bare_text(alloc: Global, bytes: &[u8]) -> Result<Design, DesignFault>
     ensures design { UnlessMemory DesignFault.Memory (IsBareText bytes.now) (seen net_and_used result) }
     ensures within { IfOk result (λ design. design.used ≤ length bytes.now) }
 {

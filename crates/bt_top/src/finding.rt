@@ -1,24 +1,25 @@
 //! `smallest --found`: small grids on which parts that show a design's network are found.
-ghost use Rattle.std.specs.Prelude.{Contains, IfOk, List, alloc_error};
+ghost use Rattle.std.specs.Prelude.{[], ◌∷◌, ◌++◌, Contains, IfOk, List, alloc_error};
 ghost use Rattle.bt_answers.specs.Answers.{UnlessMemory};
 ghost use Rattle.bt_net.specs.Network.{HasNoPriorities};
 ghost use Rattle.bt_parts.specs.Cells.{IsInRange};
 ghost use Rattle.bt_parts.specs.Layouts.{AreInRange};
 ghost use Rattle.bt_parts.specs.declared.part.Part.{Part as APart};
 ghost use Rattle.bt_model.specs.Requests.{IsGrid, IsRequest};
-ghost use Rattle.bt_layout.specs.Smallest.{request_on};
-ghost use Rattle.bt_top.specs.Finding.{IsDesignRequest, IsFound, IsFoundFrom};
-ghost use Rattle.bt_top.specs.inner.Spans.{IsOwn, IsSpanOf, IsSpanned};
+ghost use Rattle.bt_layout.specs.Smallest.{NamesNoCells};
+ghost use Rattle.bt_top.specs.Finding.{IsDesignRequest, IsFound, IsFoundFrom, IsOwn, IsSpanned};
+ghost use Rattle.bt_top.specs.inner.Spans.{Encloses, IsNear, IsSpanOf};
 
 use crate::answer::{Answer, refused};
 use crate::design::is_json;
 use crate::fault::DesignFault;
-use crate::least::read_plain_request;
-use crate::request::read_lone_request;
+use crate::kept::read_drawn_request;
+use crate::least::read_sided_request;
 use bt_entities::parts_of;
 use bt_layout::find_small;
 use bt_model::Request;
 use bt_parts::{Cell, Part, Rect, Tier, cells_of};
+use bt_words::AskedSides;
 use std::alloc::{AllocError, Global};
 
 /// The answer of `smallest --found` to the bytes of its input.
@@ -26,32 +27,35 @@ pub fn found_small(
     alloc: Global,
     most: Rect,
     tier: Tier,
+    sides: AskedSides,
     learnt: u64,
     bytes: &[u8],
 ) -> Result<Answer, AllocError>
     requires { IsGrid most }
-    ensures { UnlessMemory alloc_error (IsFoundFrom most tier learnt bytes.now) result }
+    ensures { UnlessMemory alloc_error (IsFoundFrom most tier sides learnt bytes.now) result }
 {
-    match read_design_request(alloc, most, tier, bytes) {
+    match read_design_request(alloc, sides, most, tier, bytes) {
         Ok(request) => found_of(alloc, learnt, &request, bytes),
         Err(fault) => refused(fault),
     }
 }
 
-/// The request for the network of the design that the bytes are, on the greatest grid.
+/// The request for the network of the design that the bytes are, on the greatest grid, with the ends of a blueprint at
+/// these sides.
 fn read_design_request(
     alloc: Global,
+    sides: AskedSides,
     most: Rect,
     tier: Tier,
     bytes: &[u8],
 ) -> Result<Request, DesignFault>
     requires { IsGrid most }
-    ensures { UnlessMemory DesignFault.Memory (IsDesignRequest most tier bytes.now) result }
+    ensures { UnlessMemory DesignFault.Memory (IsDesignRequest sides most tier bytes.now) result }
 {
     if is_json(bytes) {
-        read_lone_request(alloc, most, tier, bytes)
+        read_drawn_request(alloc, sides, most, tier, bytes)
     } else {
-        read_plain_request(alloc, most, tier, bytes)
+        read_sided_request(alloc, most, tier, bytes)
     }
 }
 
@@ -62,13 +66,13 @@ fn found_of(
     request: &Request,
     bytes: &[u8],
 ) -> Result<Answer, AllocError>
-    requires request { IsRequest (request_on request.now.net request.now.tier request.now.rect) }
+    requires request { IsRequest request.now }
+    requires cells { NamesNoCells request.now }
     requires plain { HasNoPriorities request.now.net }
     ensures { UnlessMemory alloc_error (IsFound bytes.now learnt request.now) result }
 {
     let cells = own_cells(alloc, bytes)?;
-    let net = request.net();
-    let small = find_small(alloc, net, request.tier(), request.rect(), cells, learnt)?;
+    let small = find_small(alloc, request, cells, learnt)?;
     Ok(Answer::Small(small))
 }
 
@@ -118,8 +122,14 @@ fn spanned(parts: &[Part]) -> u64
 
 /// With the cells of one part more.
 fn with_part(span: Span, part: &Part) -> Span
-    requires { IsInRange part.now.cell }
-    ensures { (parts : List APart) → IsSpanOf parts span → Contains parts part.now → IsSpanOf parts result }
+    requires part { IsInRange part.now.cell }
+    requires least { IsNear span.least }
+    requires greatest { IsNear span.greatest }
+    ensures least { IsNear result.least }
+    ensures greatest { IsNear result.greatest }
+    ensures within { (parts : List APart) → IsSpanOf parts span → Contains parts part.now
+        → IsSpanOf parts result }
+    ensures encloses { (seen : List APart) → Encloses span seen → Encloses result (seen ++ part.now ∷ []) }
 {
     let (first, second) = cells_of(part);
     let last = second.unwrap_or(first);
@@ -138,7 +148,10 @@ fn with_part(span: Span, part: &Part) -> Span
 impl Span {
     /// How many cells there are from the one to the other.
     fn cells(self) -> u64
-        ensures { (parts : List APart) → IsSpanOf parts self → IsSpanned result parts }
+        requires least { IsNear self.least }
+        requires greatest { IsNear self.greatest }
+        ensures { (parts : List APart) → IsSpanOf parts self → Encloses self parts
+            → IsSpanned result parts }
     {
         let Span { least, greatest } = self;
         let across = u64::from(least.x.abs_diff(greatest.x)) + 1;

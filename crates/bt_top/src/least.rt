@@ -1,19 +1,16 @@
 //! `smallest`: the least grid on which parts show a network.
-ghost use Rattle.std.specs.Prelude.{◌≡◌, ◌↔◌, IsTrue, alloc_error};
+ghost use Rattle.std.specs.Prelude.{alloc_error};
 ghost use Rattle.bt_answers.specs.Answers.{UnlessMemory};
 ghost use Rattle.bt_net.specs.Network.{HasNoPriorities};
 ghost use Rattle.bt_model.specs.Requests.{IsGrid, IsRequest};
-ghost use Rattle.bt_layout.specs.Smallest.{request_on};
-ghost use Rattle.bt_top.specs.Searching.{IsPlainRequest, IsSearched, IsSearchedFrom};
+ghost use Rattle.bt_layout.specs.Smallest.{NamesNoCells};
+ghost use Rattle.bt_top.specs.Searching.{IsSidedRequest, IsSearched, IsSearchedFrom};
 
-use crate::alone::read_lone_text;
 use crate::answer::{Answer, refused};
 use crate::fault::DesignFault;
-use crate::refusal::Refusal;
-use crate::request::{PinnedDesign, request_for};
+use crate::request::{read_lone_sided, request_for};
 use bt_layout::smallest;
 use bt_model::Request;
-use bt_net::Net;
 use bt_parts::{Rect, Tier};
 use std::alloc::{AllocError, Global};
 
@@ -28,46 +25,36 @@ pub fn searched(
     requires { IsGrid most }
     ensures { UnlessMemory alloc_error (IsSearchedFrom most tier learnt bytes.now) result }
 {
-    match read_plain_request(alloc, most, tier, bytes) {
+    match read_sided_request(alloc, most, tier, bytes) {
         Ok(request) => searched_of(alloc, learnt, &request),
         Err(fault) => refused(fault),
     }
 }
 
-/// The request for the network whose text the bytes are, on the greatest grid.
-pub fn read_plain_request(
+/// The request for the network whose text the bytes are, with its sides, on the greatest grid.
+pub fn read_sided_request(
     alloc: Global,
     most: Rect,
     tier: Tier,
     bytes: &[u8],
 ) -> Result<Request, DesignFault>
     requires { IsGrid most }
-    ensures { UnlessMemory DesignFault.Memory (IsPlainRequest most tier bytes.now) result }
+    ensures { UnlessMemory DesignFault.Memory (IsSidedRequest most tier bytes.now) result }
 {
-    match read_lone_text(alloc, bytes) {
-        Ok(net) => {
-            let demands = Vec::new(alloc);
-            let blocks = Vec::new(alloc);
-            let used = bytes.len();
-            let design = PinnedDesign {
-                net,
-                demands,
-                blocks,
-                used,
-            };
-            request_for(most, tier, design)
-        }
+    match read_lone_sided(alloc, bytes) {
+        Ok(design) => request_for(most, tier, design),
         Err(fault) => Err(fault),
     }
 }
 
 /// The answer to a request on the greatest grid.
 fn searched_of(alloc: Global, learnt: u64, request: &Request) -> Result<Answer, AllocError>
-    requires request { IsRequest (request_on request.now.net request.now.tier request.now.rect) }
+    requires request { IsRequest request.now }
+    requires cells { NamesNoCells request.now }
     requires plain { HasNoPriorities request.now.net }
     ensures { UnlessMemory alloc_error (IsSearched learnt request.now) result }
 {
-    match smallest(alloc, request.net(), request.tier(), request.rect(), learnt) {
+    match smallest(alloc, request, learnt) {
         Ok(found) => Ok(Answer::Least(found)),
         Err(_) => Err(AllocError),
     }

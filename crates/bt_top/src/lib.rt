@@ -1,7 +1,7 @@
 //! All that the program does, over words, a source of bytes and a sink of bytes.
 //!
 //! `program` reads the words and the source and writes the answer; `design`, `alone`, `request`, `flow_check`, `recover`,
-//! `decision`, `making`, `laying`, `least`, `finding`, `formula`, `two_designs` and `comparing` find the answer to an input
+//! `kept`, `decision`, `making`, `laying`, `least`, `finding`, `formula`, `two_designs` and `comparing` find the answer to an input
 //! that is read whole. `blocks` finds that of `check`, `check-layout` and `check-same` as the input is read into `held`: by
 //! what `told` tells of a design at its front, `flow_front`, `layout_front` and `same_front` give a `front`, and
 //! `front_answer` the answer that it tells, with `pair_check` of a pair of states. `text` and `printing` write answers.
@@ -24,6 +24,7 @@ mod front;
 mod front_answer;
 mod held;
 mod input;
+mod kept;
 mod law;
 mod laying;
 mod layout_front;

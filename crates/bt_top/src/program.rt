@@ -153,7 +153,9 @@ fn right_answer(
             laid_out(alloc, rect, tier, learnt, bytes, choosers.layouts)
         }
         Command::Smallest(most, tier, learnt) => searched(alloc, most, tier, learnt, bytes),
-        Command::FindSmall(most, tier, learnt) => found_small(alloc, most, tier, learnt, bytes),
+        Command::FindSmall(most, tier, sides, learnt) => {
+            found_small(alloc, most, tier, sides, learnt, bytes)
+        }
         Command::FlowFormula(property) => flow_formula(alloc, property, bytes),
         Command::PlaceFormula(rect, tier) => place_formula(alloc, rect, tier, bytes),
         Command::Same(limits) => compared(alloc, limits, bytes, choosers.decisions),

@@ -82,7 +82,7 @@ pub fn request_for(rect: Rect, tier: Tier, design: PinnedDesign) -> Result<Reque
 }
 
 /// The design that the bytes are, with its pins, its sides and its blocks, and blanks behind it.
-fn read_lone_pinned(alloc: Global, bytes: &[u8]) -> Result<PinnedDesign, DesignFault>
+pub fn read_lone_pinned(alloc: Global, bytes: &[u8]) -> Result<PinnedDesign, DesignFault>
     ensures { UnlessMemory DesignFault.Memory (IsAlone IsPinned bytes.now) (seen pinned_of result) }
 {
     match read_pinned(alloc, bytes) {
@@ -102,16 +102,35 @@ pub fn read_pinned(alloc: Global, bytes: &[u8]) -> Result<PinnedDesign, DesignFa
     if is_json(bytes) {
         read_pinned_json(alloc, bytes)
     } else {
-        read_pinned_text(alloc, bytes)
+        read_pinned_text(alloc, Admitted::All, bytes)
     }
 }
 
-/// The design whose network text stands at the front of the bytes, with its pins, its sides and its blocks.
-fn read_pinned_text(alloc: Global, bytes: &[u8]) -> Result<PinnedDesign, DesignFault>
-    ensures design { UnlessMemory DesignFault.Memory (IsPinnedText bytes.now) (seen pinned_and_used result) }
+/// The design whose network text the bytes are, behind whose edges sides alone may stand, and blanks behind it.
+pub fn read_lone_sided(alloc: Global, bytes: &[u8]) -> Result<PinnedDesign, DesignFault>
+    ensures { UnlessMemory DesignFault.Memory (IsAlone (IsPinnedText Admitted.Sides) bytes.now)
+        (seen pinned_of result) }
+{
+    match read_pinned_text(alloc, Admitted::Sides, bytes) {
+        Ok(design) => match refused_behind(bytes, design.used) {
+            None => Ok(design),
+            Some(refusal) => Err(DesignFault::Refused(refusal)),
+        },
+        Err(fault) => Err(fault),
+    }
+}
+
+/// The design whose network text stands at the front of the bytes, with what may stand behind its edges.
+fn read_pinned_text(
+    alloc: Global,
+    admitted: Admitted,
+    bytes: &[u8],
+) -> Result<PinnedDesign, DesignFault>
+    ensures design { UnlessMemory DesignFault.Memory (IsPinnedText admitted bytes.now)
+        (seen pinned_and_used result) }
     ensures within { IfOk result (λ design. design.used ≤ length bytes.now) }
 {
-    match bt_net::read(alloc, Admitted::All, bytes) {
+    match bt_net::read(alloc, admitted, bytes) {
         Ok(read) => Ok(PinnedDesign {
             net: read.net,
             demands: read.demands,

@@ -7,7 +7,7 @@ ghost use Rattle.bt_top.specs.Designs.{IsBareDesign, IsDesign, IsJsonText};
 ghost use Rattle.bt_top.specs.Requested.{IsPinned};
 ghost use Rattle.bt_top.specs.inner.Found.{net_and_used, pinned_and_used};
 ghost use Rattle.bt_top.specs.inner.Fronts.{IsTextPart, IsToldPart, RestsOnEnd};
-ghost use Rattle.bt_top.specs.inner.Fronts.{TellsBareFault, TellsFault, TellsFront, TellsLine, TellsPart};
+ghost use Rattle.bt_top.specs.inner.Fronts.{TellsFault, TellsFront, TellsLine, TellsPart};
 ghost use Rattle.bt_top.specs.inner.Moved.{IsFaultWithin, IsOffsetWithin, moved_refusal};
 
 use crate::design::{Design, is_json, read_bare, read_design};
@@ -113,7 +113,7 @@ fn bare_of_part(alloc: Global, held: Held<'_>, part: &[u8]) -> Result<Option<Des
             }
             Ok(Some(design))
         }
-        Err(fault) => match told_bare_fault(held, part, fault) {
+        Err(fault) => match told_fault(held, part, fault) {
             Some(told) => Err(told),
             None => Ok(None),
         },
@@ -179,18 +179,6 @@ fn told_fault(held: Held<'_>, part: &[u8], fault: DesignFault) -> Option<DesignF
             Some(DesignFault::Refused(moved(refusal, held.skipped)))
         }
         DesignFault::Memory => Some(fault),
-    }
-}
-
-/// The same of a bare design. A network text is refused at its end alone.
-fn told_bare_fault(held: Held<'_>, part: &[u8], fault: DesignFault) -> Option<DesignFault>
-    requires few { held.skipped ≤ MOST_CHECKED }
-    requires within { IsFaultWithin (MOST_CHECKED - held.skipped) fault }
-    ensures { TellsBareFault held.entry part.now fault result }
-{
-    match fault {
-        DesignFault::Refused(_) if !held.ended && !is_json(part) => None,
-        _ => told_fault(held, part, fault),
     }
 }
 

@@ -8,17 +8,19 @@ use Rattle.bt_model.specs.Requests.{IsGrid}
 use Rattle.bt_parts.specs.declared.part.Rect.{Rect}
 use Rattle.bt_parts.specs.declared.part.Tier.{Tier}
 use Rattle.bt_words.specs.declared.argument.Argument.{Argument}
-use Rattle.bt_words.specs.declared.argument.Argument.TheVariants.{Named, Order, Chain, Learnt, Pivots, Grid, OfTier, Most, Found}
+use Rattle.bt_words.specs.declared.argument.Argument.TheVariants.{Named, Order, Chain, Learnt, Pivots, Grid, OfTier, Most, Found, Sides}
 use Rattle.bt_words.specs.declared.given.Given.{Given}
 use Rattle.bt_words.specs.declared.verb.Verb.{Verb}
 use Rattle.bt_words.specs.declared.verb.Verb.TheVariants as verb
 use Rattle.bt_words.specs.declared.command.NetworkFamily.{NetworkFamily}
 use Rattle.bt_words.specs.declared.command.NetworkFamily.TheVariants as family
+use Rattle.bt_words.specs.declared.command.AskedSides.{AskedSides}
+use Rattle.bt_words.specs.declared.command.AskedSides.TheVariants as asked
 use Rattle.bt_words.specs.declared.command.Command.{Command}
 use Rattle.bt_words.specs.declared.command.Command.TheVariants.{FlowCheck, Recover, Check, Decide, Make, Layout, CheckLayout, Smallest, FindSmall, FlowFormula, PlaceFormula, Same, CheckSame}
 use Rattle.bt_words.specs.Arguments.{AreArguments}
 use Rattle.bt_words.specs.Verbs.{verb_name, verb_of}
-use Rattle.bt_words.specs.Commands.{Gives, IsGiven, Suits, IsCommand, IsUsage, IsToDecide, IsToMake, IsToLay, IsToCheckLayout, IsToSearch, IsToFind, greatest_grid, is_chain, nothing, mark, grid_in, most_in}
+use Rattle.bt_words.specs.Commands.{Gives, IsGiven, Suits, IsCommand, IsUsage, IsToDecide, IsToMake, IsToLay, IsToCheckLayout, IsToSearch, IsToFind, greatest_grid, is_chain, are_kept, nothing, mark, grid_in, most_in}
 use Rattle.bt_words.proofs.Fronts.{some_word}
 use Rattle.bt_words.proofs.OneFront.{one_front}
 
@@ -86,7 +88,8 @@ same_given g h words (ones, are, gives) (others, be, give) =
     let t = same_option g.tier h.tier (sym gives.tier ∙ give.tier) in
     let m = same_option g.most h.most (sym gives.most ∙ give.most) in
     let f = same_mark g.found h.found (sym gives.found ∙ give.found) in
-    λ i. record { property = p i; order = o i; chain = c i; learnt = l i; pivots = v i; grid = r i; tier = t i; most = m i; found = f i }
+    let s = same_mark g.sides h.sides (sym gives.sides ∙ give.sides) in
+    λ i. record { property = p i; order = o i; chain = c i; learnt = l i; pivots = v i; grid = r i; tier = t i; most = m i; found = f i; sides = s i }
 
 -- what no command of this word is given
 pub none_checks_flow : (g : Given) → ((p : _) → g ≡ record nothing { property = Some p } → ⊥) → (c : Command) → verb.FlowCheck ≡ verb_of c → Suits c g → ⊥
@@ -115,7 +118,7 @@ none_checks_layouts g none c v s = cc
 
 pub none_searches : (g : Given) → ((r : _) → IsToFind r g → ⊥) → ((r : _) → IsToSearch r g → ⊥) → (c : Command) → verb.Smallest ≡ verb_of c → Suits c g → ⊥
 none_searches g not none (Smallest r t n) v s = none r s.0
-none_searches g not none (FindSmall r t n) v s = not r s.0
+none_searches g not none (FindSmall r t a n) v s = not r s.0
 none_searches g not none c v s = cc
 
 pub none_formula : (g : Given) → ((p : _) → g ≡ record nothing { property = Some p } → ⊥) → ((r : _) → IsToCheckLayout r g → ⊥) → (c : Command) → verb.Formula ≡ verb_of c → Suits c g → ⊥
@@ -147,6 +150,12 @@ same_family family.Butterfly family.Chain e = cc
 same_family family.Chain family.Butterfly e = cc
 same_family family.Chain family.Chain e = refl
 
+same_sides : (a b : AskedSides) → are_kept a ≡ are_kept b → a ≡ b
+same_sides asked.Any asked.Any e = refl
+same_sides asked.Any asked.Kept e = cc
+same_sides asked.Kept asked.Any e = cc
+same_sides asked.Kept asked.Kept e = refl
+
 -- what is given to a word is one command
 same_suited : (c d : Command) (g : Given) → verb_of c ≡ verb_of d → Suits c g → Suits d g → c ≡ d
 same_suited (FlowCheck p) (FlowCheck q) g v h k = let e = ap (λ x. x.property) (sym h ∙ k) in cc
@@ -160,9 +169,12 @@ same_suited (Make f i l) (Make n j m) g v (h, x, a) (k, y, b) =
 same_suited (Layout r t n) (Layout s u m) g v (h, x, a) (k, y, b) = let e = ap (λ x. x.grid) (sym h ∙ k) in cc
 same_suited (CheckLayout r t) (CheckLayout s u) g v (h, x) (k, y) = let e = ap (λ x. x.grid) (sym h ∙ k) in cc
 same_suited (Smallest r t n) (Smallest s u m) g v (h, x, a) (k, y, b) = let e = h.1 ∙ sym k.1 in cc
-same_suited (FindSmall r t n) (FindSmall s u m) g v (h, x, a) (k, y, b) = let e = h.1 ∙ sym k.1 in cc
-same_suited (Smallest r t n) (FindSmall s u m) g v (h, x, a) (k, y, b) = let e = ap (λ x. x.found) (sym h.0 ∙ k.0) in cc
-same_suited (FindSmall r t n) (Smallest s u m) g v (h, x, a) (k, y, b) = let e = ap (λ x. x.found) (sym h.0 ∙ k.0) in cc
+same_suited (FindSmall r t a n) (FindSmall s u b m) g v (h, x, c, l) (k, y, d, o) =
+    let e = h.1 ∙ sym k.1 in
+    let sides = same_sides a b (c ∙ sym d) in
+    cc
+same_suited (Smallest r t n) (FindSmall s u b m) g v (h, x, a) (k, y, d, o) = let e = ap (λ x. x.found) (sym h.0 ∙ k.0) in cc
+same_suited (FindSmall r t a n) (Smallest s u m) g v (h, x, c, l) (k, y, b) = let e = ap (λ x. x.found) (sym h.0 ∙ k.0) in cc
 same_suited (FlowFormula p) (FlowFormula q) g v h k = let e = ap (λ x. x.property) (sym h ∙ k) in cc
 same_suited (PlaceFormula r t) (PlaceFormula s u) g v (h, x) (k, y) = let e = ap (λ x. x.grid) (sym h ∙ k) in cc
 same_suited (FlowFormula p) (PlaceFormula s u) g v h (k, y) = let e = ap (λ x. x.grid) (sym h ∙ k) in cc
@@ -193,6 +205,7 @@ grid_given (Pivots n ∷ more) words grid (front, rest, is, at, are) e = grid_gi
 grid_given (OfTier t ∷ more) words grid (front, rest, is, at, are) e = grid_given more rest grid are e
 grid_given (Most r ∷ more) words grid (front, rest, is, at, are) e = grid_given more rest grid are e
 grid_given (Found ∷ more) words grid (front, rest, is, at, are) e = grid_given more rest grid are e
+grid_given (Sides ∷ more) words grid (front, rest, is, at, are) e = grid_given more rest grid are e
 
 -- the grid of `layout`, of `check-layout` and of `formula` has from 1 to `MOST_ACROSS` cells each way
 pub grid_to_lay : (grid : Rect) (tier : Tier) (learnt : ℕ) (words : List (List ℕ)) → IsCommand (Layout grid tier learnt) words → IsGrid grid
@@ -216,6 +229,7 @@ most_given (Pivots n ∷ more) words grid (front, rest, is, at, are) e = most_gi
 most_given (Grid r ∷ more) words grid (front, rest, is, at, are) e = most_given more rest grid are e
 most_given (OfTier t ∷ more) words grid (front, rest, is, at, are) e = most_given more rest grid are e
 most_given (Found ∷ more) words grid (front, rest, is, at, are) e = most_given more rest grid are e
+most_given (Sides ∷ more) words grid (front, rest, is, at, are) e = most_given more rest grid are e
 
 -- the greatest of all is a grid
 greatest_is_grid : IsGrid greatest_grid
@@ -231,8 +245,8 @@ greatest_given arguments words most (Some grid) are one is = subst IsGrid (sym i
 pub grid_to_search : (most : Rect) (tier : Tier) (learnt : ℕ) (words : List (List ℕ)) → IsCommand (Smallest most tier learnt) words → IsGrid most
 grid_to_search most tier learnt words (behind, g, e, (arguments, are, gives), suits) = greatest_given arguments behind most g.most are gives.most suits.0.1
 
-pub grid_to_find : (most : Rect) (tier : Tier) (learnt : ℕ) (words : List (List ℕ)) → IsCommand (FindSmall most tier learnt) words → IsGrid most
-grid_to_find most tier learnt words (behind, g, e, (arguments, are, gives), suits) = greatest_given arguments behind most g.most are gives.most suits.0.1
+pub grid_to_find : (most : Rect) (tier : Tier) (sides : AskedSides) (learnt : ℕ) (words : List (List ℕ)) → IsCommand (FindSmall most tier sides learnt) words → IsGrid most
+grid_to_find most tier sides learnt words (behind, g, e, (arguments, are, gives), suits) = greatest_given arguments behind most g.most are gives.most suits.0.1
 
 -- and that of `formula`
 pub grid_of_formula : (grid : Rect) (tier : Tier) (words : List (List ℕ)) → IsCommand (PlaceFormula grid tier) words → IsGrid grid

@@ -11,7 +11,7 @@ use Rattle.bt_frac.proofs.Numerals.{decimal-lacks, decimal_apart}
 use Rattle.bt_text.specs.Lines.{Lacks, SplitsAt}
 use Rattle.bt_text.proofs.FirstLines.{split_apart, SplitsAt-lacks}
 use Rattle.bt_words.specs.declared.argument.Argument.{Argument}
-use Rattle.bt_words.specs.declared.argument.Argument.TheVariants.{Named, Order, Chain, Learnt, Pivots, Grid, OfTier, Most, Found}
+use Rattle.bt_words.specs.declared.argument.Argument.TheVariants.{Named, Order, Chain, Learnt, Pivots, Grid, OfTier, Most, Found, Sides}
 use Rattle.bt_words.specs.Arguments.{IsPlain, IsValued}
 use Rattle.bt_words.proofs.Grids.{same_grid, same_tier}
 use Rattle.bt_words.specs.inner.Reading.{BeginsWith}
@@ -68,6 +68,15 @@ plain_apart Found (Order j) word h (small, k) = absurd (digit_first j 45 (drop 1
 plain_apart Chain Found word h k = absurd (omega (arith, ap (λ w. get_or w 2 0) (sym h ∙ k)))
 plain_apart Found Chain word h k = absurd (omega (arith, ap (λ w. get_or w 2 0) (sym h ∙ k)))
 plain_apart Found Found word h k = refl
+plain_apart (Named p) Sides word h k = absurd (no_dash p (drop 1 (codes "--sides")) (sym h ∙ k))
+plain_apart (Order i) Sides word (small, h) k = absurd (digit_first i 45 (drop 1 (codes "--sides")) (omega arith) (λ r. omega (arith, r.0)) (sym k ∙ h))
+plain_apart Sides (Named q) word h k = absurd (no_dash q (drop 1 (codes "--sides")) (sym k ∙ h))
+plain_apart Sides (Order j) word h (small, k) = absurd (digit_first j 45 (drop 1 (codes "--sides")) (omega arith) (λ r. omega (arith, r.0)) (sym h ∙ k))
+plain_apart Chain Sides word h k = absurd (omega (arith, ap (λ w. get_or w 2 0) (sym h ∙ k)))
+plain_apart Sides Chain word h k = absurd (omega (arith, ap (λ w. get_or w 2 0) (sym h ∙ k)))
+plain_apart Found Sides word h k = absurd (omega (arith, ap (λ w. get_or w 2 0) (sym h ∙ k)))
+plain_apart Sides Found word h k = absurd (omega (arith, ap (λ w. get_or w 2 0) (sym h ∙ k)))
+plain_apart Sides Sides word h k = refl
 plain_apart (Learnt m) b word h k = absurd h
 plain_apart (Pivots m) b word h k = absurd h
 plain_apart (Grid m) b word h k = absurd h
@@ -98,6 +107,7 @@ has_name (Named p) name value v = absurd v
 has_name (Order k) name value v = absurd v
 has_name Chain name value v = absurd v
 has_name Found name value v = absurd v
+has_name Sides name value v = absurd v
 
 -- a name and a value are one option
 valued_apart : (a b : Argument) (name value : List ℕ) → IsValued a name value → IsValued b name value → a ≡ b
@@ -110,10 +120,12 @@ valued_apart (Named p) b name value h k = absurd h
 valued_apart (Order p) b name value h k = absurd h
 valued_apart Chain b name value h k = absurd h
 valued_apart Found b name value h k = absurd h
+valued_apart Sides b name value h k = absurd h
 valued_apart a (Named p) name value h k = absurd k
 valued_apart a (Order p) name value h k = absurd k
 valued_apart a Chain name value h k = absurd k
 valued_apart a Found name value h k = absurd k
+valued_apart a Sides name value h k = absurd k
 valued_apart a b name value h k = absurd (omega (arith, ap (λ w. get_or w 0 0) (sym (has_name a name value h) ∙ has_name b name value k)))
 
 -- the third byte of an option is none of `--chain`
@@ -122,6 +134,7 @@ not_chain (Named p) name value more v is = absurd v
 not_chain (Order p) name value more v is = absurd v
 not_chain Chain name value more v is = absurd v
 not_chain Found name value more v is = absurd v
+not_chain Sides name value more v is = absurd v
 not_chain b name value more v is = omega (arith, ap (λ w. get_or w 2 0) (is ∙ ap (λ x. codes "--" ++ x ++ more) (has_name b name value v)))
 
 -- nor of `--found`
@@ -130,7 +143,17 @@ not_found (Named p) name value more v is = absurd v
 not_found (Order p) name value more v is = absurd v
 not_found Chain name value more v is = absurd v
 not_found Found name value more v is = absurd v
+not_found Sides name value more v is = absurd v
 not_found b name value more v is = omega (arith, ap (λ w. get_or w 2 0) (is ∙ ap (λ x. codes "--" ++ x ++ more) (has_name b name value v)))
+
+-- nor of `--sides`
+not_sides : (b : Argument) (name value more : List ℕ) → IsValued b name value → codes "--sides" ≡ codes "--" ++ name ++ more → ⊥
+not_sides (Named p) name value more v is = absurd v
+not_sides (Order p) name value more v is = absurd v
+not_sides Chain name value more v is = absurd v
+not_sides Found name value more v is = absurd v
+not_sides Sides name value more v is = absurd v
+not_sides b name value more v is = omega (arith, ap (λ w. get_or w 2 0) (is ∙ ap (λ x. codes "--" ++ x ++ more) (has_name b name value v)))
 
 -- a word that is an argument for itself begins no option
 plain_is_none : (a b : Argument) (word name value more : List ℕ) → IsPlain a word → IsValued b name value → word ≡ codes "--" ++ name ++ more → ⊥
@@ -138,6 +161,7 @@ plain_is_none (Named p) b word name value more h k is = no_dash p (45 ∷ (name 
 plain_is_none (Order i) b word name value more (small, h) k is = digit_first i 45 (45 ∷ (name ++ more)) (omega arith) (λ r. omega (arith, r.0)) (sym is ∙ h)
 plain_is_none Chain b word name value more h k is = not_chain b name value more k (sym h ∙ is)
 plain_is_none Found b word name value more h k is = not_found b name value more k (sym h ∙ is)
+plain_is_none Sides b word name value more h k is = not_sides b name value more k (sym h ∙ is)
 plain_is_none (Learnt n) b word name value more h k is = absurd h
 plain_is_none (Pivots n) b word name value more h k is = absurd h
 plain_is_none (Grid n) b word name value more h k is = absurd h

@@ -6,7 +6,7 @@ use Rattle.bt_parts.specs.declared.part.Rect.{Rect}
 use Rattle.bt_parts.specs.declared.part.Tier.{Tier}
 use Rattle.bt_parts.specs.declared.part.Tier.TheVariants.{Basic, Fast, Express, Turbo}
 use Rattle.bt_words.specs.declared.argument.Argument.{Argument}
-use Rattle.bt_words.specs.declared.argument.Argument.TheVariants.{Named, Order, Chain, Learnt, Pivots, Grid, OfTier, Most, Found}
+use Rattle.bt_words.specs.declared.argument.Argument.TheVariants.{Named, Order, Chain, Learnt, Pivots, Grid, OfTier, Most, Found, Sides}
 use Rattle.bt_words.specs.declared.argument.TheConstants.{MOST_ORDER, MOST_LEARNT, MOST_PIVOTS}
 
 -- the name of a tier
@@ -20,7 +20,7 @@ tier_name Turbo = codes "turbo"
 abbrev pub IsGridWord : Rect → List ℕ → Type 0
 IsGridWord grid word = IsGrid grid × (word ≡ decimal grid.width ++ 120 ∷ decimal grid.height)
 
--- the argument is this word for itself: a property's name, a whole number, `--chain`, or `--found`
+-- the argument is this word for itself: a property's name, a whole number, `--chain`, `--found`, or `--sides`
 abbrev pub IsPlain : Argument → List ℕ → Type 0
 IsPlain (Named p) word = word ≡ property_name p
 IsPlain (Order k) word = (k ≤ MOST_ORDER) × (word ≡ decimal k)
@@ -31,6 +31,7 @@ IsPlain (Grid grid) word = ⊥
 IsPlain (OfTier tier) word = ⊥
 IsPlain (Most grid) word = ⊥
 IsPlain Found word = word ≡ codes "--found"
+IsPlain Sides word = word ≡ codes "--sides"
 
 -- the argument is the option of this name with this value: a whole number in its range, a grid, or the name of a tier
 abbrev pub IsValued : Argument → List ℕ → List ℕ → Type 0
@@ -43,6 +44,7 @@ IsValued (Grid grid) name value = (name ≡ codes "grid") × IsGridWord grid val
 IsValued (OfTier tier) name value = (name ≡ codes "tier") × (value ≡ tier_name tier)
 IsValued (Most grid) name value = (name ≡ codes "most") × IsGridWord grid value
 IsValued Found name value = ⊥
+IsValued Sides name value = ⊥
 
 -- an option is written `--name value`, as two words, or `--name=value`
 abbrev pub IsOption : List ℕ → List ℕ → List (List ℕ) → Type 0

@@ -9,11 +9,13 @@ use Rattle.bt_parts.specs.declared.part.Rect.{Rect}
 use Rattle.bt_parts.specs.declared.part.Tier.{Tier}
 use Rattle.bt_parts.specs.declared.part.Tier.TheVariants.{Basic}
 use Rattle.bt_words.specs.declared.argument.Argument.{Argument}
-use Rattle.bt_words.specs.declared.argument.Argument.TheVariants.{Named, Order, Chain, Learnt, Pivots, Grid, OfTier, Most, Found}
+use Rattle.bt_words.specs.declared.argument.Argument.TheVariants.{Named, Order, Chain, Learnt, Pivots, Grid, OfTier, Most, Found, Sides}
 use Rattle.bt_words.specs.declared.given.Given.{Given}
 use Rattle.bt_cnf.specs.declared.limits.Limits.{Limits}
 use Rattle.bt_words.specs.declared.command.NetworkFamily.{NetworkFamily}
 use Rattle.bt_words.specs.declared.command.NetworkFamily.TheVariants as family
+use Rattle.bt_words.specs.declared.command.AskedSides.{AskedSides}
+use Rattle.bt_words.specs.declared.command.AskedSides.TheVariants as asked
 use Rattle.bt_words.specs.declared.command.Command.{Command}
 use Rattle.bt_words.specs.declared.command.Command.TheVariants.{FlowCheck, Recover, Check, Decide, Make, Layout, CheckLayout, Smallest, FindSmall, FlowFormula, PlaceFormula, Same, CheckSame}
 use Rattle.bt_words.specs.declared.command.TheConstants.{USUAL_LEARNT, USUAL_PIVOTS}
@@ -65,6 +67,11 @@ abbrev pub found_in : Argument → Option (Unit {0})
 found_in Found = Some tt
 found_in other = None
 
+-- whether it is `--sides`
+abbrev pub sides_in : Argument → Option (Unit {0})
+sides_in Sides = Some tt
+sides_in other = None
+
 -- a mark that is there, or not
 abbrev pub mark : Bool → Option (Unit {0})
 mark true = Some tt
@@ -81,6 +88,7 @@ pub record Gives (arguments : List Argument) (g : Given) : Type 0 where
   pub tier : filter_map tier_in arguments ≡ option_to_list g.tier
   pub most : filter_map most_in arguments ≡ option_to_list g.most
   pub found : filter_map found_in arguments ≡ option_to_list (mark g.found)
+  pub sides : filter_map sides_in arguments ≡ option_to_list (mark g.sides)
 
 -- the words are arguments, in any order, and this is what they give
 abbrev pub IsGiven : Given → List (List ℕ) → Type 0
@@ -88,7 +96,7 @@ IsGiven g words = (arguments : List Argument) × AreArguments arguments words ×
 
 -- nothing is given
 abbrev pub nothing : Given
-nothing = record { property = None; order = None; chain = false; learnt = None; pivots = None; grid = None; tier = None; most = None; found = false }
+nothing = record { property = None; order = None; chain = false; learnt = None; pivots = None; grid = None; tier = None; most = None; found = false; sides = false }
 
 -- the limits are those that are given, or else the usual ones
 abbrev pub limits_of : Given → Limits
@@ -102,6 +110,11 @@ tier_of g = unwrap_or g.tier Basic
 abbrev pub is_chain : NetworkFamily → Bool
 is_chain family.Butterfly = false
 is_chain family.Chain = true
+
+-- ends are asked to stay at their sides where `--sides` says so
+abbrev pub are_kept : AskedSides → Bool
+are_kept asked.Any = false
+are_kept asked.Kept = true
 
 -- this property is given, and perhaps limits
 abbrev pub IsToDecide : Property → Given → Type 0
@@ -131,11 +144,11 @@ greatest_grid = record { width = MOST_ACROSS; height = MOST_ACROSS }
 abbrev pub IsToSearch : Rect → Given → Type 0
 IsToSearch most g = (g ≡ record nothing { most = g.most; tier = g.tier; learnt = g.learnt }) × (most ≡ unwrap_or g.most greatest_grid)
 
--- `--found` is given, and perhaps what may be given without it
+-- `--found` is given, and perhaps `--sides` and what may be given without it
 abbrev pub IsToFind : Rect → Given → Type 0
-IsToFind most g = (g ≡ record nothing { found = true; most = g.most; tier = g.tier; learnt = g.learnt }) × (most ≡ unwrap_or g.most greatest_grid)
+IsToFind most g = (g ≡ record nothing { found = true; sides = g.sides; most = g.most; tier = g.tier; learnt = g.learnt }) × (most ≡ unwrap_or g.most greatest_grid)
 
--- what a command is given: a property, or nothing; `decide` a property, and limits where they aren't the usual ones; `make` an order, and whether it is that of a chain, and limits; those that speak of layouts a grid, and a tier where it isn't the basic one, and `layout` the most steps of a log where they aren't the usual ones; `smallest` a greatest grid where it isn't the greatest of all, a tier and the most steps likewise, and with `--found` it looks for small layouts; `formula` a property, or a grid and a tier; and `same` limits where they aren't the usual ones
+-- what a command is given: a property, or nothing; `decide` a property, and limits where they aren't the usual ones; `make` an order, and whether it is that of a chain, and limits; those that speak of layouts a grid, and a tier where it isn't the basic one, and `layout` the most steps of a log where they aren't the usual ones; `smallest` a greatest grid where it isn't the greatest of all, a tier and the most steps likewise, and with `--found` it looks for small layouts, and perhaps for those that keep sides; `formula` a property, or a grid and a tier; and `same` limits where they aren't the usual ones
 abbrev pub Suits : Command → Given → Type 0
 Suits (FlowCheck p) g = g ≡ record nothing { property = Some p }
 Suits Recover g = g ≡ nothing
@@ -145,7 +158,7 @@ Suits (Make kind order limits) g = IsToMake order g × (is_chain kind ≡ g.chai
 Suits (Layout grid tier learnt) g = IsToLay grid g × (tier ≡ tier_of g) × (learnt ≡ (limits_of g).learnt)
 Suits (CheckLayout grid tier) g = IsToCheckLayout grid g × (tier ≡ tier_of g)
 Suits (Smallest most tier learnt) g = IsToSearch most g × (tier ≡ tier_of g) × (learnt ≡ (limits_of g).learnt)
-Suits (FindSmall most tier learnt) g = IsToFind most g × (tier ≡ tier_of g) × (learnt ≡ (limits_of g).learnt)
+Suits (FindSmall most tier sides learnt) g = IsToFind most g × (tier ≡ tier_of g) × (are_kept sides ≡ g.sides) × (learnt ≡ (limits_of g).learnt)
 Suits (FlowFormula p) g = g ≡ record nothing { property = Some p }
 Suits (PlaceFormula grid tier) g = IsToCheckLayout grid g × (tier ≡ tier_of g)
 Suits (Same limits) g = IsToCompare g × (limits ≡ limits_of g)

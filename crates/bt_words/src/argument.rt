@@ -40,6 +40,8 @@ pub enum Argument {
     Most(Rect),
     /// `--found`: small layouts are looked for.
     Found,
+    /// `--sides`: ends stay at their sides.
+    Sides,
 }
 
 /// The argument at the front of the words, and the words behind it.
@@ -69,6 +71,9 @@ fn plain(word: &str) -> Option<Argument>
     }
     if word == "--found" {
         return Some(Argument::Found);
+    }
+    if word == "--sides" {
+        return Some(Argument::Sides);
     }
     if let Some(property) = Property::named(word) {
         return Some(Argument::Named(property));

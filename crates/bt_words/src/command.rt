@@ -24,6 +24,15 @@ pub enum NetworkFamily {
     Chain,
 }
 
+/// The sides at which `smallest --found` asks the ends of a blueprint to stand.
+#[derive(Clone, Copy, PartialEq, Eq)]
+pub enum AskedSides {
+    /// Any.
+    Any,
+    /// Those at which they stand in the design.
+    Kept,
+}
+
 /// A command of the program.
 #[derive(Clone, Copy, PartialEq, Eq)]
 pub enum Command {
@@ -46,8 +55,9 @@ pub enum Command {
     /// the network, found in at most so many steps of a log for each grid?
     Smallest(Rect, Tier, u64),
     /// `smallest --found`: on which small grids, of at most so many cells each way and within the design's own
-    /// cells, do parts of this tier show the design's network, found in at most so many steps of all searches?
-    FindSmall(Rect, Tier, u64),
+    /// cells, do parts of this tier show the design's network, with its ends at these sides, found in at most so
+    /// many steps of all searches?
+    FindSmall(Rect, Tier, AskedSides, u64),
     /// `formula`: which formula do the states meet in which the design hasn't the property?
     FlowFormula(Property),
     /// `formula`: which formula do the layouts meet of parts of this tier on this grid?
@@ -125,7 +135,7 @@ fn smallest(given: Given) -> Option<Command>
 {
     let learnt = given.limits().learnt;
     if let Some(most) = given.most_to_find() {
-        return Some(Command::FindSmall(most, given.tier(), learnt));
+        return Some(Command::FindSmall(most, given.tier(), given.asked_sides(), learnt));
     }
     let most = given.most_to_search()?;
     Some(Command::Smallest(most, given.tier(), learnt))

@@ -4,13 +4,13 @@ ghost use Rattle.std.specs.Prelude.{◌↔◌, IsTrue};
 ghost use Rattle.bt_flow.specs.declared.property.Property.{Property as AProperty};
 ghost use Rattle.bt_parts.specs.declared.part.Rect.{Rect as ARect};
 ghost use Rattle.bt_words.specs.Commands.{IsGiven, IsToDecide, IsToMake, IsToLay, IsToCheckLayout, IsToSearch, IsToFind, IsToCompare};
-ghost use Rattle.bt_words.specs.Commands.{is_chain, limits_of, tier_of, nothing};
+ghost use Rattle.bt_words.specs.Commands.{are_kept, is_chain, limits_of, tier_of, nothing};
 ghost use Rattle.bt_words.specs.inner.Reading.{Adds};
 ghost use Rattle.bt_words.specs.declared.argument.Argument.{Argument as AnArgument};
 ghost use Rattle.bt_words.specs.declared.given.Given.{Given as AGiven};
 
 use crate::argument::{Argument, next_argument};
-use crate::command::{NetworkFamily, USUAL_LEARNT, USUAL_PIVOTS};
+use crate::command::{AskedSides, NetworkFamily, USUAL_LEARNT, USUAL_PIVOTS};
 use bt_cnf::Limits;
 use bt_flow::Property;
 use bt_model::MOST_ACROSS;
@@ -28,6 +28,7 @@ pub struct Given {
     pub tier: Option<Tier>,
     pub most: Option<Rect>,
     pub found: bool,
+    pub sides: bool,
 }
 
 /// The greatest grid.
@@ -47,6 +48,7 @@ pub const NOTHING: Given = Given {
     tier: None,
     most: None,
     found: false,
+    sides: false,
 };
 
 /// What the words behind a command's word give.
@@ -108,6 +110,10 @@ impl Given {
                 found: true,
                 ..self
             }),
+            Argument::Sides if !self.sides => Some(Given {
+                sides: true,
+                ..self
+            }),
             _ => None,
         }
     }
@@ -129,6 +135,7 @@ impl Given {
                 tier: None,
                 most: None,
                 found: false,
+                sides: false,
             } => true,
             _ => false,
         }
@@ -147,6 +154,7 @@ impl Given {
                 tier: None,
                 most: None,
                 found: false,
+                sides: false,
                 ..
             } => true,
             _ => false,
@@ -169,6 +177,7 @@ impl Given {
                 tier: None,
                 most: None,
                 found: false,
+                sides: false,
             } => Some(property),
             _ => None,
         }
@@ -187,6 +196,7 @@ impl Given {
                 tier: None,
                 most: None,
                 found: false,
+                sides: false,
                 ..
             } => Some(property),
             _ => None,
@@ -205,6 +215,7 @@ impl Given {
                 tier: None,
                 most: None,
                 found: false,
+                sides: false,
                 ..
             } => order,
             _ => None,
@@ -235,6 +246,7 @@ impl Given {
                 grid,
                 most: None,
                 found: false,
+                sides: false,
                 ..
             } => grid,
             _ => None,
@@ -256,6 +268,7 @@ impl Given {
                 grid,
                 most: None,
                 found: false,
+                sides: false,
                 ..
             } => grid,
             _ => None,
@@ -276,6 +289,7 @@ impl Given {
                 grid: None,
                 most,
                 found: false,
+                sides: false,
                 ..
             } => Some(most.unwrap_or(GREATEST_GRID)),
             _ => None,
@@ -298,6 +312,17 @@ impl Given {
                 ..
             } => Some(most.unwrap_or(GREATEST_GRID)),
             _ => None,
+        }
+    }
+
+    /// The sides that are asked of the ends of a blueprint.
+    pub fn asked_sides(self) -> AskedSides
+        ensures { are_kept result ≡ self.sides }
+    {
+        if self.sides {
+            AskedSides::Kept
+        } else {
+            AskedSides::Any
         }
     }
 

@@ -14,5 +14,7 @@ mod verb;
 
 pub use argument::{MOST_LEARNT, MOST_ORDER, MOST_PIVOTS};
 pub use bt_cnf::Limits;
-pub use command::{Command, NetworkFamily, USUAL_LEARNT, USUAL_PIVOTS, command_of, one_command};
+pub use command::{
+    AskedSides, Command, NetworkFamily, USUAL_LEARNT, USUAL_PIVOTS, command_of, one_command,
+};
 pub use law::limits_are;

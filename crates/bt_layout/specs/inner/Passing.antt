@@ -1,12 +1,11 @@
 -- Grids that a search left behind.
 use Rattle.std.specs.Prelude.{◌≡◌, ℕ, List, All, take}
 use Rattle.bt_parts.specs.declared.part.Rect.{Rect}
-use Rattle.bt_parts.specs.declared.part.Tier.{Tier}
-use Rattle.bt_net.specs.Network.{Network}
+use Rattle.bt_model.specs.Requests.{LayoutRequest}
 use Rattle.bt_layout.specs.declared.outcome.RuledOut.{RuledOut}
 use Rattle.bt_layout.specs.Smallest.{IsRuledOut, grids_of}
 
 -- the first so many of the grids are ruled out
-pub record ArePassed (net : Network) (tier : Tier) (learnt : ℕ) (grids : List Rect) (count : ℕ) (earlier : List RuledOut) : Type 0 where
+pub record ArePassed (r : LayoutRequest) (learnt : ℕ) (grids : List Rect) (count : ℕ) (earlier : List RuledOut) : Type 0 where
   pub first : grids_of earlier ≡ take count grids
-  pub ruled_out : All (IsRuledOut net tier learnt) earlier
+  pub ruled_out : All (IsRuledOut r learnt) earlier

@@ -1,32 +1,106 @@
 -- What was found so far, and what is left.
-use Rattle.std.specs.Prelude.{◌≡◌, ℕ, ◌<◌, List, All, IfSome, Option, get_or, length}
+use Rattle.std.specs.Prelude.{◌≡◌, ◌⊎◌, ℕ, ◌+◌, ◌^◌, ◌<◌, ◌≤◌, List, All, AllPairs, Contains, IfSome, Option, Some, None, drop, get_or, length, map, slice_get, take}
 use Rattle.bt_parts.specs.declared.part.Rect.{Rect}
-use Rattle.bt_parts.specs.declared.part.Tier.{Tier}
-use Rattle.bt_net.specs.Network.{Network}
+use Rattle.bt_log.specs.Logs.{Step}
 use Rattle.bt_model.specs.Requests.{LayoutRequest}
-use Rattle.bt_layout.specs.declared.likely.Trial.{Trial}
-use Rattle.bt_layout.specs.declared.likely.Trial.TheVariants.{Found, Refuted, Spent}
+use Rattle.bt_layout.specs.declared.likely.Tried.{Tried}
+use Rattle.bt_layout.specs.declared.outcome.Layout.{Layout}
+use Rattle.bt_layout.specs.declared.outcome.Layout.TheVariants as layout
+use Rattle.bt_layout.specs.declared.progress.Laid.{Laid}
 use Rattle.bt_layout.specs.declared.progress.Progress.{Progress}
-use Rattle.bt_layout.specs.Early.{IsLaid}
-use Rattle.bt_layout.specs.Grids.{IsWithin}
-use Rattle.bt_layout.specs.Small.{HasFewer}
+use Rattle.bt_layout.specs.declared.searching.Searched.{Searched}
+use Rattle.bt_layout.specs.declared.sweep.Sweep.{Sweep}
+use Rattle.bt_layout.specs.Early.{AreRefuted, AreSought, AreTaken, IsLaid}
+use Rattle.bt_layout.specs.Grids.{ComesBefore}
+use Rattle.bt_layout.specs.Layouts.{IsLayout}
+use Rattle.bt_layout.specs.Small.{HasFewer, MayBeAsked}
 use Rattle.bt_layout.specs.Smallest.{request_on}
+use Rattle.bt_layout.specs.inner.Likely.{IsSought, IsTried}
 
--- each place that is open is one of the list, and the parts that were found lay the request at their place
-pub record IsProgress (requests : List LayoutRequest) (progress : Progress) : Type 0 where
-  pub places : All (λ place. place < length requests) progress.places.items
-  pub found : IfSome progress.found (λ laid. IsLaid requests laid.0 laid.1)
+-- the parts that were found lay the request at their place, and searches for layouts of the requests took the steps, of so many that they may take
+pub record IsProgress (requests : List LayoutRequest) (learnt : ℕ) (progress : Progress) : Type 0 where
+  pub found : IfSome progress.found (λ laid. IsLaid requests laid.place laid.parts)
+  pub few : progress.steps ≤ learnt
+  pub taken : AreTaken (Contains requests) progress.steps
 
--- the place that is open at an index
-abbrev pub at_index : Progress → ℕ → ℕ
-at_index progress at = get_or progress.places.items at 0
+-- how many of so many requests are lesser: those before the one that was laid, or all
+abbrev pub lesser_of : ℕ → Option Laid → ℕ
+lesser_of count (Some laid) = laid.place
+lesser_of count None = count
 
--- where parts were found, they lay the request whose place is open at the index
-abbrev pub IsSearched : List LayoutRequest → Progress → ℕ → Trial → Type 0
-IsSearched requests progress at (Found parts) = IsLaid requests (at_index progress at) parts
-IsSearched requests progress at Refuted = Unit {0}
-IsSearched requests progress at Spent = Unit {0}
+-- so many more steps may be taken, and were in a search for a layout of one of the requests
+pub record ArePaid (requests : List LayoutRequest) (learnt taken steps : ℕ) : Type 0 where
+  pub request : LayoutRequest
+  pub among : Contains requests request
+  pub most : ℕ
+  pub sought : IsSought request most steps
+  pub few : taken + steps ≤ learnt
+  pub limit : learnt < 2 ^ 64
 
--- the request is for the network on a grid that is within the greatest one and has fewer cells than so many
-abbrev pub AsksSmall : Network → Tier → Rect → Option ℕ → LayoutRequest → Type 0
-AsksSmall net tier most cells request = (grid : Rect) × IsWithin most grid × HasFewer cells grid × (request ≡ request_on net tier grid)
+-- each place is one of the list and before that of the request that was laid, and they ascend
+pub record IsSweep (requests : List LayoutRequest) (learnt : ℕ) (sweep : Sweep) : Type 0 where
+  pub progress : IsProgress requests learnt sweep.progress
+  pub lesser : All (λ place. place < lesser_of (length requests) sweep.progress.found) sweep.places.items
+  pub in_order : AllPairs (λ one other. one < other) sweep.places.items
+
+-- the place at an index
+abbrev pub at_index : Sweep → ℕ → ℕ
+at_index sweep at = get_or sweep.places.items at 0
+
+-- what a search for a layout of the request comes to whose place is at this index, where so many steps may be taken
+pub record IsSearched (requests : List LayoutRequest) (learnt : ℕ) (sweep : Sweep) (at : ℕ) (tried : Tried) : Type 0 where
+  pub request : LayoutRequest
+  pub is : slice_get requests (at_index sweep at) ≡ Some request
+  pub most : ℕ
+  pub is_tried : IsTried request most tried
+  pub left : sweep.progress.steps + most ≤ learnt
+  pub limit : learnt < 2 ^ 64
+
+-- where no parts were found, these are the steps of the log
+abbrev pub HasLog : Layout → List Step → Type 0
+HasLog (layout.Found parts) steps = Unit {0}
+HasLog (layout.Nowhere log) steps = log.steps ≡ steps
+HasLog (layout.Spent log) steps = log.steps ≡ steps
+
+-- what a search of the placement formula comes to that may take so many steps
+pub record IsWhole (r : LayoutRequest) (most : ℕ) (searched : Searched) : Type 0 where
+  pub layout : IsLayout r most searched.layout
+  pub log : List Step
+  pub sought : AreSought r log
+  pub size : length log ≡ searched.steps
+  pub few : searched.steps ≤ most
+  pub is_log : HasLog searched.layout log
+
+-- what a search comes to of the placement formula of the request at this place, which may take all steps that are left
+pub record IsEnded (requests : List LayoutRequest) (learnt : ℕ) (progress : Progress) (place : ℕ) (searched : Searched) : Type 0 where
+  pub request : LayoutRequest
+  pub is : slice_get requests place ≡ Some request
+  pub most : ℕ
+  pub whole : IsWhole request most searched
+  pub left : progress.steps + most ≡ learnt
+  pub limit : learnt < 2 ^ 64
+
+-- the requests that are lesser than the one that was laid, from this place on
+abbrev pub lesser_from : List LayoutRequest → ℕ → Option Laid → List LayoutRequest
+lesser_from requests place found = drop place (take (lesser_of (length requests) found) requests)
+
+-- all steps were taken, or no parts lay any of the requests that are lesser than the one that was laid, from this place on
+abbrev pub ArePassed : List LayoutRequest → ℕ → ℕ → Progress → Type 0
+ArePassed requests learnt place progress = (progress.steps ≡ learnt) ⊎ AreRefuted (lesser_from requests place progress.found) progress.steps
+
+-- the requests are the same on those of these grids that have fewer cells than so many, in their order
+pub record AskSmall (r : LayoutRequest) (cells : Option ℕ) (grids : List Rect) (requests : List LayoutRequest) : Type 0 where
+  pub asked : List Rect
+  pub are : requests ≡ map (request_on r) asked
+  pub only : All (MayBeAsked r cells) asked
+  pub among : All (Contains grids) asked
+  pub all : (grid : Rect) → Contains grids grid → HasFewer cells grid → Contains asked grid
+  pub in_order : AllPairs ComesBefore asked
+
+-- the requests are the same on each grid that may be asked, in the order of grids
+pub record AskEach (r : LayoutRequest) (cells : Option ℕ) (requests : List LayoutRequest) : Type 0 where
+  pub grids : List Rect
+  pub are : requests ≡ map (request_on r) grids
+  pub only : All (MayBeAsked r cells) grids
+  pub all : (grid : Rect) → MayBeAsked r cells grid → Contains grids grid
+  pub in_order : AllPairs ComesBefore grids

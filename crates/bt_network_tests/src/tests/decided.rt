@@ -85,11 +85,21 @@ fn letter_of_outcome(outcome: &Outcome) -> u8 {
     }
 }
 
-/// The same of a search without scopes, guesses and choosers.
+/// The same of a search without definitions, scopes, guesses, goals and choosers.
 fn searched(alloc: Global, net: &Net, property: Property) -> Result<u8, AllocError> {
     let formula = encode(alloc, net, property)?;
     let choosers: Vec<Lowest> = Vec::new(alloc);
-    let outcome = solve(alloc, formula, &[], &[], choosers, LIMITS)?;
+    let mut definitions = Vec::new(alloc);
+    let outcome = solve(
+        alloc,
+        formula,
+        &mut definitions,
+        &[],
+        &[],
+        &[],
+        choosers,
+        LIMITS,
+    )?;
     Ok(letter_of_outcome(&outcome))
 }
 

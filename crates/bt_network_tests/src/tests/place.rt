@@ -8,12 +8,19 @@ use std::test::Fail;
 /// A request, its size, its tier, the numbers of variables and clauses, and a number that tells the clauses.
 const FORMULAS: &[&str] = &[
     "net 1 1 0\nedge i0 o0\nend\n|1 1|basic|54 292|13830953461466788898",
-    "net 2 2 1\nedge i0 s0\nedge i1 s0\nedge s0 o0\nedge s0 o1\nend\n|3 2|fast|419 2377|9439122627990228030",
-    "net 1 3 2\nedge i0 s0\nedge s0 s1\nedge s0 o0\nedge s1 o1\nedge s1 o2\nend\n|3 4|turbo|1082 6078|3231138008564520068",
+    "net 2 2 1\nedge i0 s0\nedge i1 s0\nedge s0 o0\nedge s0 o1\nend\n|3 2|fast|429 2393|9466604927049202443",
+    "net 1 3 2\nedge i0 s0\nedge s0 s1\nedge s0 o0\nedge s1 o1\nedge s1 o2\nend\n|3 4|turbo|1118 6142|3742254066135251343",
     "net 2 2 1\nedge i0 s0\nedge i1 s0\nedge s0 o0\nedge s0 o1\npin i0 0 0 east\npin o1 2 1\nblock 2 2\nend\n\
-     |3 3|basic|561 3973|14267802942626617784",
+     |3 3|basic|577 3998|14064798769332620854",
     "net 2 2 1\nedge i0 s0\nedge i1 s0\nedge s0 o0\nedge s0 o1\npin i0 0 0 east\npin o1 2 1\nblock 2 2\nend\n\
-     |4 3|express|937 5493|12032601904869221532",
+     |4 3|express|959 5527|4922818009807109763",
+    "net 2 2 1\nedge i0 s0\nedge i1 s0\nedge s0 o0\nedge s0 o1\nend\n|2 2|basic|256 1|0",
+    "net 2 2 0\nedge i0 o1\nedge i1 o0\nend\n|2 1|basic|112 640|5708860213272961752",
+    "net 3 3 0\nedge i0 o0\nedge i1 o1\nedge i2 o2\nend\n|2 1|basic|116 1|0",
+    "net 9 9 0\nedge i0 o0\nedge i1 o1\nedge i2 o2\nedge i3 o3\nedge i4 o4\nedge i5 o5\nedge i6 o6\nedge i7 o7\nedge i8 o8\nend\n\
+     |3 3|basic|630 1|0",
+    "net 1 1 1\nedge i0 o0\nend\n|3 1|basic|191 1098|1080026366932981108",
+    "net 1 1 1\nedge i0 o0\nend\n|2 1|basic|129 1|0",
 ];
 
 /// A number that tells which literals stand in which clauses, in which order.

@@ -15,6 +15,7 @@ sizes_with e classes ranks = record {
   width = e.width;
   height = e.height;
   splitters = e.splitters;
+  halves = e.halves;
   inputs = e.inputs;
   stops = e.stops;
   distances = e.distances;

@@ -1,5 +1,5 @@
 -- A request with a reading of the facts that keeps its rules: the rules family by family.
-use Rattle.std.proofs.Common.{◌≡◌, ◌⊎◌, ℕ, ◌<◌, Bool, true, false, List, ◌++◌, map, subst, ⊎_elim, arith}
+use Rattle.std.proofs.Common.{◌≡◌, ◌⊎◌, ℕ, ◌<◌, Bool, true, false, cond, List, [], ◌∷◌, ◌++◌, map, subst, ⊎_elim, arith}
 use Rattle.std.specs.List.{AllByRecursion, flat_map, range_with_len}
 use Rattle.std.proofs.lemmas.Bool.{both_ways, cases_Bool}
 use Rattle.bt_parts.specs.declared.part.Cell.{Cell}
@@ -11,11 +11,12 @@ use Rattle.bt_rules.specs.declared.fact.Fact.{Fact}
 use Rattle.bt_rules.specs.Carrying.{carrying_rules}
 use Rattle.bt_rules.specs.Classes.{splitters_of}
 use Rattle.bt_rules.specs.Contents.{content_rules, shape_rules, mate_rules, class_rules}
+use Rattle.bt_rules.specs.Counting.{has_room, count_rules}
 use Rattle.bt_rules.specs.Going.{handing_rules}
 use Rattle.bt_rules.specs.Pinning.{demand_rules, clash_rules, block_rule}
-use Rattle.bt_rules.specs.PlaceRules.{cell_rules, splitter_rules, rules_of}
+use Rattle.bt_rules.specs.PlaceRules.{cell_rules, splitter_rules, room_rules, rules_of}
 use Rattle.bt_rules.specs.Ports.{port_rules}
-use Rattle.bt_rules.specs.Rules.{Rule, Keeps, OneHolds}
+use Rattle.bt_rules.specs.Rules.{Rule, some_of, Keeps, OneHolds}
 use Rattle.bt_rules.specs.Spots.{cells_of, where_inside, where_outside}
 use Rattle.bt_rules.specs.Standing.{standing_rules, place_rules}
 use Rattle.bt_rules.specs.Starts.{input_rules}
@@ -94,7 +95,11 @@ module _ (r : LayoutRequest) where
 module _ (w : Solved) where
   all_kept : Kept w (of_cells w.r ++ of_splitters w.r ++ (of_inputs w.r ++ of_demands w.r ++ of_clashes w.r ++ of_blocks w.r))
   unfolding KeepsAll of_cells of_splitters of_inputs of_demands of_clashes of_blocks
-  all_kept = w.keeps
+  all_kept = by (has_room w.r) w.keeps
+    where
+      by : (b : Bool) → Kept w (cond b (room_rules w.r) (some_of [] ∷ [])) → Kept w (of_cells w.r ++ of_splitters w.r ++ (of_inputs w.r ++ of_demands w.r ++ of_clashes w.r ++ of_blocks w.r))
+      by true kept = all_left (Keeps w.reading) (of_cells w.r ++ of_splitters w.r ++ (of_inputs w.r ++ of_demands w.r ++ of_clashes w.r ++ of_blocks w.r)) (count_rules w.r) kept
+      by false kept = absurd (kept.0 tt)
 
   fronts : Kept w (of_cells w.r ++ of_splitters w.r)
   fronts = all_left (Keeps w.reading) (of_cells w.r ++ of_splitters w.r) (of_inputs w.r ++ of_demands w.r ++ of_clashes w.r ++ of_blocks w.r) all_kept

@@ -7,6 +7,8 @@ use Rattle.bt_sat.specs.Solving.{SolverParts, Standing, Searches, KeepsModel, En
 use Rattle.bt_sat.specs.declared.progress.Progress.{Progress}
 use Rattle.bt_sat.specs.declared.solver.Answer.{Answer}
 use Rattle.bt_sat.specs.declared.solver.Answer.TheVariants as answer
+use Rattle.bt_sat.specs.declared.solver.Assumed.{Assumed}
+use Rattle.bt_sat.specs.declared.solver.Assumed.TheVariants as assumed
 use Rattle.bt_sat.specs.declared.kernel.Stage.{Stage}
 use Rattle.bt_sat.specs.declared.kernel.Stage.TheVariants.{Running, Complete, Refuted, Spent, Lost}
 use Rattle.bt_sat.specs.inner.Choices.{IsComplete}
@@ -68,6 +70,30 @@ abbrev pub stage_after : Answer → Stage
 stage_after (answer.Model model) = Complete
 stage_after answer.Refuted = Refuted
 stage_after answer.Spent = Spent
+
+-- what making literals false says of the search
+abbrev pub StandsBy : Progress → Assumed → Type 0
+StandsBy p (assumed.Open truths) = IsRunning p
+StandsBy p assumed.Follows = IsRunning p
+StandsBy p assumed.Refuted = IsRefuted p
+StandsBy p assumed.Spent = HasSpent p
+
+-- learnt steps were added, and the search stands so
+abbrev pub AssumesBy : Progress → List (Option (List (List Lit))) → Progress → List (Option (List (List Lit))) → Assumed → Type 0
+AssumesBy old waiting new left said = SearchesOn old waiting new left × StandsBy new said
+
+-- the search is at no end
+abbrev pub IsOpen : Assumed → Type 0
+IsOpen (assumed.Open truths) = Unit {0}
+IsOpen assumed.Follows = Unit {0}
+IsOpen _ = ⊥
+
+-- the stage to which making literals false leads
+abbrev pub stage_assumed : Assumed → Stage
+stage_assumed (assumed.Open truths) = Running
+stage_assumed assumed.Follows = Running
+stage_assumed assumed.Refuted = Refuted
+stage_assumed assumed.Spent = Spent
 
 -- the search has not come to its end
 abbrev pub MayGoOn : Standing → Type 0

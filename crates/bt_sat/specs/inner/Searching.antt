@@ -69,3 +69,10 @@ pub record Restarts (old new : Progress) : Type 0 where
   pub running : IsRunning new
   pub known : new.known ≡ old.known
   pub limit : new.limit ≡ old.limit
+
+-- what comes of making literals false: the search may go on, or it has come to its end
+abbrev pub AssumesTo : Progress → List (Option (List (List Lit))) → Progress → List (Option (List (List Lit))) → Option Found → Type 0
+AssumesTo old waiting new left None = SearchesOn old waiting new left × IsRunning new
+AssumesTo old waiting new left (Some Model) = ⊥
+AssumesTo old waiting new left (Some Refuted) = SearchesOn old waiting new left × IsRefuted new
+AssumesTo old waiting new left (Some Spent) = SearchesOn old waiting new left × HasSpent new

@@ -1,10 +1,8 @@
 //! What formulas with rows come to within limits, with scopes and with guesses.
-ghost use Rattle.std.specs.Prelude.{◌≡◌, ◌<◌, IfOk, length};
-ghost use Rattle.std.specs.List.{All};
-ghost use Rattle.bt_theory.specs.Outcomes.{AreRowsOf};
-
 use super::{fields, formula_of, number_of};
 use bt_cnf::{Chooser, Formula};
+use bt_extend::{Definition, Form};
+use bt_frac::Frac;
 use bt_theory::{GaveUp, Limits, Outcome, solve};
 use std::alloc::{AllocError, Global};
 use std::test::Fail;
@@ -30,6 +28,7 @@ const CASES: &[&str] = &[
     "1,2|-||9 9|refuted",
     "1,2|0 0 1 1||9 9|refuted",
     "1,2|0 1,0 1,-||9 9|refuted",
+    "1,2|0 7 1||9 9|refuted",
     "1,2|0 1||0 9|spent",
     "1,2|0 1||9 0|pivots",
     "1,2|1,0||9 9|refuted",
@@ -48,30 +47,21 @@ const CASES: &[&str] = &[
     "1 2,1 -2|0 1|000|9 9|sat",
 ];
 
-/// The places of a scope, as far as there is a row.
-fn scope_of(alloc: Global, formula: &Formula, text: &str) -> Result<Vec<usize>, AllocError>
-    ensures { IfOk result (λ scope. AreRowsOf formula.now scope.items) }
-{
-    let end = formula.rows().len();
+fn scope_of(alloc: Global, text: &str) -> Result<Vec<usize>, AllocError> {
     let mut scope = Vec::new(alloc);
     if text != "-" {
         for word in text.split(' ') {
-            let place = number_of(word);
-            if place < end {
-                scope.push(place)?;
-            }
+            scope.push(number_of(word))?;
         }
     }
     Ok(scope)
 }
 
-fn scopes_of(alloc: Global, formula: &Formula, text: &str) -> Result<Vec<Vec<usize>>, AllocError>
-    ensures { IfOk result (λ scopes. All (λ scope. AreRowsOf formula.now scope.items) scopes.items) }
-{
+fn scopes_of(alloc: Global, text: &str) -> Result<Vec<Vec<usize>>, AllocError> {
     let mut scopes = Vec::new(alloc);
     if !text.is_empty() {
         for scope in text.split(',') {
-            scopes.push(scope_of(alloc, formula, scope)?)?;
+            scopes.push(scope_of(alloc, scope)?)?;
         }
     }
     Ok(scopes)
@@ -126,13 +116,16 @@ fn solved(
     guesses: &[Vec<bool>],
     limits: &str,
 ) -> Result<Outcome, AllocError> {
-    let scopes = scopes_of(alloc, &formula, scopes)?;
+    let scopes = scopes_of(alloc, scopes)?;
     let choosers: Vec<Box<dyn Chooser>> = Vec::new(alloc);
+    let mut definitions = Vec::new(alloc);
     solve(
         alloc,
         formula,
+        &mut definitions,
         &scopes,
         guesses,
+        &[],
         choosers,
         limits_of(limits),
     )
@@ -156,6 +149,48 @@ fn is_outcome(alloc: Global, row: &str) -> Result<bool, AllocError> {
 fn formulas(rt: HostRuntime) -> Result<(), Fail> {
     for row in CASES {
         assert!(rt; is_outcome(rt.alloc(), row)?, "{row}");
+    }
+    Ok(())
+}
+
+/// The comparison of a column with 0.
+fn compared(alloc: Global, column: usize) -> Result<Definition, AllocError> {
+    let mut terms = Vec::new(alloc);
+    terms.push((column, Frac::whole(1)))?;
+    match Form::new(Frac::whole(0), terms) {
+        Some(form) => Ok(Definition::Comparison(form)),
+        None => Err(AllocError),
+    }
+}
+
+/// How many of the comparisons of these columns a search takes of a formula that it refutes, and 0 where it doesn't.
+fn taken(alloc: Global, columns: &[usize]) -> Result<usize, AllocError> {
+    let formula = formula_of(alloc, 0, ROWS, "1,2")?;
+    let choosers: Vec<Box<dyn Chooser>> = Vec::new(alloc);
+    let mut definitions = Vec::new(alloc);
+    for column in columns {
+        definitions.push(compared(alloc, *column)?)?;
+    }
+    let outcome = solve(
+        alloc,
+        formula,
+        &mut definitions,
+        &[],
+        &[],
+        &[],
+        choosers,
+        limits_of("9 9"),
+    )?;
+    match outcome {
+        Outcome::Refuted(_) => Ok(definitions.len()),
+        _ => Ok(0),
+    }
+}
+
+#[test]
+fn definitions(rt: HostRuntime) -> Result<(), Fail> {
+    for (columns, wanted) in [(&[0, 1, 0], 3), (&[0, 7, 1], 1)] {
+        assert!(rt; taken(rt.alloc(), columns)? == wanted);
     }
     Ok(())
 }

@@ -1,5 +1,5 @@
 -- One round of a search: a model, what is chosen of it, and what the tableau says of the rows that are bound.
-use Rattle.std.specs.Prelude.{◌≡◌, ℕ, ◌<◌, ◌≤◌, Bool, List, [], ◌∷◌, length, map, Option, Some, None}
+use Rattle.std.specs.Prelude.{◌≡◌, ℕ, ◌<◌, ◌≤◌, Bool, List, [], ◌∷◌, length, map, take, Option, Some, None}
 use Rattle.std.specs.List.{All}
 use Rattle.bt_frac.specs.Ratio.{IsLowest}
 use Rattle.bt_cnf.specs.Formulas.{FormulaParts}
@@ -8,10 +8,12 @@ use Rattle.bt_sat.specs.Solving.{SolverParts, KeepsModel, IsModel, IsSoundLog, I
 use Rattle.bt_simplex.specs.SolvedForms.{basis_of}
 use Rattle.bt_simplex.specs.Tableaus.{TableauParts, positions_from}
 use Rattle.bt_theory.specs.Reaching.{atom_rows, columns_of, IsTableauOf, IsReachable}
-use Rattle.bt_theory.specs.Outcomes.{IsSolution, Fits, IsRefutation, IsUsedUp, TurnsOn, IsTooWide, IsOutcome}
+use Rattle.bt_theory.specs.Outcomes.{IsSolution, Fits, IsRefutation, IsUsedUp, TurnsOn, IsTooWide, IsOutcomeOver}
+use Rattle.bt_theory.specs.declared.base.Base.{Base}
 use Rattle.bt_theory.specs.declared.lemma.Conflict.{Conflict}
 use Rattle.bt_theory.specs.declared.outcome.Outcome.{Outcome}
 use Rattle.bt_theory.specs.declared.outcome.Solution.{Solution}
+use Rattle.bt_theory.specs.inner.Bases.{base_in}
 use Rattle.bt_theory.specs.inner.Choosing.{IsChosen}
 use Rattle.bt_theory.specs.inner.Scopes.{IsScopeOf, parts_of}
 use Rattle.bt_theory.specs.declared.solving.Tables.{Tables}
@@ -23,15 +25,16 @@ pub record IsFirst (f : FormulaParts) (t : TableauParts) : Type 0 where
   pub tableau : IsTableauOf f t
   pub basis : basis_of t.slots ≡ positions_from (columns_of f) (atom_rows f)
 
--- the tables are those of a formula at the start of a search
-pub record AreTablesOf (f : FormulaParts) (tables : Tables) : Type 0 where
-  pub scopes : All (IsScopeOf f) (map parts_of tables.scopes.items)
-  pub tableau : IsFirst f tables.tableau
+-- the tables are those of a formula at the start of a search: the scopes are of its rows, and the tableau is of those before
+-- the definitions
+pub record AreTablesOf (b : Base) (g : FormulaParts) (tables : Tables) : Type 0 where
+  pub scopes : All (IsScopeOf g) (map parts_of tables.scopes.items)
+  pub tableau : IsFirst (base_in b g) tables.tableau
 
--- between rounds: the tableau is one of the formula's rows at a reachable basis, and the sums of all lemmas fit
-pub record IsReady (s : SolverParts) (t : TableauParts) : Type 0 where
-  pub tableau : IsTableauOf s.formula t
-  pub reachable : IsReachable s.formula (basis_of t.slots)
+-- between rounds: the tableau is one of the rows before the definitions at a reachable basis, and the sums of all lemmas fit
+pub record IsReady (b : Base) (s : SolverParts) (t : TableauParts) : Type 0 where
+  pub tableau : IsTableauOf (base_in b s.formula) t
+  pub reachable : IsReachable (base_in b s.formula) (basis_of t.slots)
   pub fits : All (Fits s.formula) s.steps
 
 -- the search keeps the model, and its log is sound
@@ -40,11 +43,11 @@ pub record HasModel (s : SolverParts) (model : List Bool) : Type 0 where
   pub is_model : IsModel s model
   pub sound : IsSoundLog s
 
--- so much is chosen of the model that the search keeps
-pub record HasChosen (s : SolverParts) (chosen : List Bool) : Type 0 where
+-- so much is chosen, before the definitions, of the model that the search keeps
+pub record HasChosen (b : Base) (s : SolverParts) (chosen : List Bool) : Type 0 where
   pub model : List Bool
   pub has : HasModel s model
-  pub chose : IsChosen model chosen s.formula.clauses
+  pub chose : IsChosen (take b.vars model) chosen (base_in b s.formula).clauses
 
 -- the conflict makes a lemma, where the weights are fractions in lowest terms
 abbrev pub MakesLemma : SolverParts → Conflict → Type 0
@@ -55,12 +58,12 @@ abbrev pub Solves : FormulaParts → Solution → Type 0
 Solves f solution = IsSolution f solution.values.items solution.assignment.items
 
 -- what is right to say at the end of a search
-abbrev pub IsEnd : ℕ → SolverParts → End → Type 0
-IsEnd pivots s (end.Sat solution) = Solves s.formula solution
-IsEnd pivots s end.Refuted = IsRefutation s.formula s.steps × (length s.steps ≤ s.limit)
-IsEnd pivots s end.Spent = IsUsedUp s.formula s.limit s.steps
-IsEnd pivots s (end.Pivots trail) = TurnsOn s.formula pivots trail
-IsEnd pivots s (end.Wide at) = IsTooWide s.formula pivots at
+abbrev pub IsEnd : ℕ → Base → SolverParts → End → Type 0
+IsEnd pivots b s (end.Sat solution) = Solves (base_in b s.formula) solution
+IsEnd pivots b s end.Refuted = IsRefutation s.formula s.steps × (length s.steps ≤ s.limit)
+IsEnd pivots b s end.Spent = IsUsedUp s.formula s.limit s.steps
+IsEnd pivots b s (end.Pivots trail) = TurnsOn (base_in b s.formula) pivots trail
+IsEnd pivots b s (end.Wide at) = IsTooWide (base_in b s.formula) pivots at
 
 -- what became of the lemma of the conflict: it was added, or the log is full
 abbrev pub IsLemmaLearnt : SolverParts → SolverParts → Conflict → Option End → Type 0
@@ -69,17 +72,17 @@ IsLemmaLearnt old new conflict (Some end.Spent) = (new ≡ old) × IsSpent old
 IsLemmaLearnt old new conflict (Some other) = ⊥
 
 -- the search may go on, with more steps, or it is at an end
-abbrev pub GoesOnOrEnds : ℕ → SolverParts → SolverParts → TableauParts → Option End → Type 0
-GoesOnOrEnds pivots old new t None = IsReady new t × (length old.steps < length new.steps) × (length new.steps ≤ new.limit)
-GoesOnOrEnds pivots old new t (Some e) = IsEnd pivots new e
+abbrev pub GoesOnOrEnds : ℕ → Base → SolverParts → SolverParts → TableauParts → Option End → Type 0
+GoesOnOrEnds pivots b old new t None = IsReady b new t × (length old.steps < length new.steps) × (length new.steps ≤ new.limit)
+GoesOnOrEnds pivots b old new t (Some e) = IsEnd pivots b new e
 
 -- the formula and the limit stay, and the search goes on or is at an end
-pub record IsRound (pivots : ℕ) (old new : SolverParts) (t : TableauParts) (said : Option End) : Type 0 where
+pub record IsRound (pivots : ℕ) (b : Base) (old new : SolverParts) (t : TableauParts) (said : Option End) : Type 0 where
   pub formula : new.formula ≡ old.formula
   pub limit : new.limit ≡ old.limit
-  pub says : GoesOnOrEnds pivots old new t said
+  pub says : GoesOnOrEnds pivots b old new t said
 
--- where it is right to end a search with this log so, it is right to say this of its formula
+-- where it is right to end a search with this log so, it is right to say this of what stands before the definitions
 abbrev pub Tells : End → LogParts → Outcome → Type 0
-Tells e log o = (pivots : ℕ) (s : SolverParts) → s.steps ≡ log.steps → IsEnd pivots s e
-    → IsOutcome s.formula (record { learnt = s.limit; pivots = pivots }) o
+Tells e log o = (pivots : ℕ) (b : Base) (s : SolverParts) → s.steps ≡ log.steps → IsEnd pivots b s e
+    → IsOutcomeOver (base_in b s.formula) s.formula (record { learnt = s.limit; pivots = pivots }) o

@@ -94,10 +94,6 @@ abbrev pub TellsFault : Held → List ℕ → DesignFault → Option DesignFault
 TellsFault held part fault None = held.ended ≡ false
 TellsFault held part fault (Some told) = (told ≡ moved_told held.skipped fault) × (held.ended ≡ false → IsSettledFault part fault)
 
--- the same of a bare design: network text tells none before its end
-abbrev pub TellsBareFault : Held → List ℕ → DesignFault → Option DesignFault → Type 0
-TellsBareFault held part fault told = TellsFault held part fault told × IfSome told (λ t. held.ended ≡ false → IsJsonText part ⊎ (fault ≡ design.Memory))
-
 -- what is told of something that is to stand at the front: this stands there, and so much of the bytes is it; or more has to be read; or it is refused
 abbrev pub TellsFront : {X D : Type 0} → (List ℕ → Result (X × ℕ) DesignFault → Type 0) → (D → X × ℕ) → Held → Result (Option D) DesignFault → Type 0
 TellsFront IsFront of held (Ok (Some d)) =

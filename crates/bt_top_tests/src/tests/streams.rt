@@ -32,8 +32,9 @@ const ANSWERED: &[&str] = &[
     "check unlimited|net 1 1 0\nedge i0 o0\nend\nyes unlimited\nf -10 -16 0 1 1\nf -12 -17 0 1 1\n\
      r 0 14 15 16 17 11 13 0\nend\nx\n|9|refused 50 CertLine 6\n",
     "layout --grid 1x1|net 1 1 0\nedge i0 o0\nblock 1 0\nend\n|3|refused 46 Block 3\n",
-    "check-layout --grid 2x2|net 2 2 1\nedge i0 s0\nedge i1 s0\nedge s0 o0\nedge s0 o1\nend\nnone\n\
-     r 0 590 592 953 955 1314 1315 1316 1317 1463 1466 1474 1487 1495 1498 1506 1519 607 618 975 986 1331 1336 1341 1346 1449 0\n\
+    "check-layout --grid 1x6|net 2 2 1\nedge i0 s0\nedge i1 s0\nedge s0 o0\nedge s0 o1\nend\nnone\n\
+     r 0 226 228 621 623 1019 1021 1411 1413 1803 1805 2201 2202 2203 2204 2391 2399 2407 2415 2423 2431 \
+     2439 2447 2455 2463 243 254 638 649 1036 1047 1428 1439 1820 1831 2218 2223 2228 2233 2369 0\n\
      end\n|1|none\n",
     "smallest --learnt 0|net 2 2 1\nedge i0 s0\nedge i1 s0\nedge s0 o0\nedge s0 o1\nend\n|4|\
      spent 0\ngrid 1x1\nend\n",

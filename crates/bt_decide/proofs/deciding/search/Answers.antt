@@ -1,18 +1,15 @@
-use Rattle.std.proofs.Common.{ℕ, ◌<◌, List, Vec, Global, length, ap, sym, ◌∙◌, subst}
-use Rattle.std.specs.List.{All}
-use Rattle.std.proofs.lemmas.List.{length-map}
-use Rattle.bt_frac.specs.Rows.{RowParts}
-use Rattle.bt_theory.specs.Outcomes.{AreRowsOf, IsOutcome}
+use Rattle.std.proofs.Common.{◌≡◌, [], List, subst}
+use Rattle.bt_extend.specs.declared.definition.Definition.{Definition}
+use Rattle.bt_extend.specs.Extending.{AreTaken}
+use Rattle.bt_extend.proofs.Taken.{none_taken}
+use Rattle.bt_theory.specs.Outcomes.{IsOutcome}
 use Rattle.bt_decide.proofs.deciding.search.Goals as goal
-
-pub solve-requires : goal.solve-requires
-solve-requires g c =
-    let f = c.in_ok-formula.formula in
-    let many = ap length c.rows.ensures.value ∙ length-map f.atoms (λ (a : ℕ × RowParts). a.1) in
-    subst (λ (lists : List (Vec ℕ Global)). All (λ (list : Vec ℕ Global). AreRowsOf f list.items) lists) (sym c.deref.ensures.value)
-    (subst (λ n. All (λ (list : Vec ℕ Global). All (λ place. place < n) list.items) c.in_ok-scopes.scopes.items) many c.in_ok-scopes.ensures)
 
 pub returns : goal.returns
 returns g c =
+    let f = c.in_ok-formula.formula in
+    let taken = c.solve.new.definitions.items in
+    let none = none_taken f taken (subst (λ (old : List Definition). AreTaken f old taken) c.new-definitions.ensures.items c.in_ok-outcome.ensures.taken) in
     c.in_ok-verdict.ensures c.args.property c.args.limits c.in_ok-formula.ensures.network
-    (subst (λ f. IsOutcome f c.args.limits c.in_ok-outcome.outcome) c.in_ok-formula.ensures.formula c.in_ok-outcome.ensures)
+    (subst (λ f. IsOutcome f [] c.args.limits c.in_ok-outcome.outcome) c.in_ok-formula.ensures.formula
+    (subst (λ (ds : List Definition). IsOutcome f ds c.args.limits c.in_ok-outcome.outcome) none c.in_ok-outcome.ensures.outcome))

@@ -1,4 +1,4 @@
-use Rattle.std.proofs.Common.{◌≡◌, List, Bool, sym, subst}
+use Rattle.std.proofs.Common.{◌≡◌, [], List, Bool, sym, subst}
 use Rattle.bt_frac.specs.Ratio.{Ratio}
 use Rattle.bt_frac.specs.Values.{value_in}
 use Rattle.bt_net.specs.Network.{Network}
@@ -22,11 +22,11 @@ breaks_met n p state values lent_values truths lent_truths e f met breaks =
 pub returns-in_ok-state-in-Sat : goal.returns-in_ok-state-in-Sat
 returns-in_ok-state-in-Sat c = λ p limits network is. (
   breaks_met c.args.net.now p c.in_ok-state-in-Sat.state c.in-Sat.values.items c.deref.result.now c.in-Sat.assignment.items c.deref-in-Sat.result.now c.deref.ensures.value c.deref-in-Sat.ensures.value
-      (subst (IsOutcome (flow_formula c.args.net.now p) limits) c.in-Sat.is is).meets c.in_ok-state-in-Sat.ensures.breaks,
+      (subst (IsOutcome (flow_formula c.args.net.now p) [] limits) c.in-Sat.is is).meets c.in_ok-state-in-Sat.ensures.breaks,
   c.in_ok-state-in-Sat.ensures.lowest,
 )
 
 pub returns-in-Refuted : goal.returns-in-Refuted
 returns-in-Refuted c = λ p limits network is.
-    let refutes = subst (IsOutcome (flow_formula c.args.net.now p) limits) c.in-Refuted.is is in
+    let refutes = subst (IsOutcome (flow_formula c.args.net.now p) [] limits) c.in-Refuted.is is in
     (refuted_holds c.args.net.now p c.in-Refuted.log.steps network refutes.0.refutes, refutes.0, refutes.1)

@@ -1,4 +1,4 @@
-use Rattle.std.proofs.Common.{◌≡◌, List, Bool, sym, subst}
+use Rattle.std.proofs.Common.{◌≡◌, [], List, Bool, sym, subst}
 use Rattle.bt_frac.specs.Ratio.{Ratio}
 use Rattle.bt_frac.specs.Values.{value_in}
 use Rattle.bt_net.specs.Network.{Network}
@@ -23,12 +23,12 @@ pub returns-in_ok-pair-in-Sat : goal.returns-in_ok-pair-in-Sat
 returns-in_ok-pair-in-Sat c = λ limits first second formula is.
     let pair = c.in_ok-pair-in-Sat.pair in (
       shows_met c.args.first.now c.args.second.now pair.first pair.second c.in-Sat.values.items c.deref.result.now c.in-Sat.assignment.items c.deref-in-Sat.result.now c.deref.ensures.value c.deref-in-Sat.ensures.value
-          (subst (IsOutcome (same_formula c.args.first.now c.args.second.now) limits) c.in-Sat.is is).meets c.in_ok-pair-in-Sat.ensures.shows,
+          (subst (IsOutcome (same_formula c.args.first.now c.args.second.now) [] limits) c.in-Sat.is is).meets c.in_ok-pair-in-Sat.ensures.shows,
       c.in_ok-pair-in-Sat.ensures.lowest.0,
       c.in_ok-pair-in-Sat.ensures.lowest.1,
     )
 
 pub returns-in-Refuted : goal.returns-in-Refuted
 returns-in-Refuted c = λ limits first second formula is.
-    let refutes = subst (IsOutcome (same_formula c.args.first.now c.args.second.now) limits) c.in-Refuted.is is in
+    let refutes = subst (IsOutcome (same_formula c.args.first.now c.args.second.now) [] limits) c.in-Refuted.is is in
     (refuted_are_same c.args.first.now c.args.second.now c.in-Refuted.log.steps first second c.requires formula refutes.0.refutes, refutes.0, refutes.1)

@@ -1,10 +1,10 @@
 use Rattle.std.proofs.Common.{◌≤◌, length}
-use Rattle.bt_layout.specs.inner.Progressing.{IsProgress}
+use Rattle.bt_layout.specs.inner.Progressing.{IsSweep}
 use Rattle.bt_layout.proofs.early.after_likely.Given as goal
 
 -- the places before this one are still to be looked at
-abbrev pub invariant-loop-place : goal.invariant-loop-place
-invariant-loop-place l = IsProgress l.requests l.progress × (l.place ≤ length l.progress.places.items)
+abbrev pub invariant-loop-at : goal.invariant-loop-at
+invariant-loop-at l = IsSweep l.requests l.learnt l.sweep × (l.at ≤ length l.sweep.places.items)
 
-abbrev pub decreases-loop-place : goal.decreases-loop-place
-decreases-loop-place l = l.place
+abbrev pub decreases-loop-at : goal.decreases-loop-at
+decreases-loop-at l = l.at

@@ -1,8 +1,17 @@
-use Rattle.bt_layout.proofs.Narrow.{answer_solves}
+use Rattle.std.proofs.Common.{◌∙◌, ap, length, sym}
+use Rattle.bt_log.specs.Logs.{LogParts}
+use Rattle.bt_layout.proofs.Narrow.{answer_solves, tried_sought}
 use Rattle.bt_layout.proofs.likely.trial_by.Goals as goal
 
 pub trial_of-requires : goal.trial_of-requires
 trial_of-requires c =
-    let search = c.requires in
-    answer_solves c.args.request.now search.limit search.formula c.args.solver.now.kernel c.next_model.new.self.kernel _ _ _
+    let search = c.requires.1 in
+    answer_solves c.args.request.now c.requires.0 search.formula c.args.solver.now.kernel c.next_model.new.self.kernel _ _ _
     search.narrowed search.begins c.in_ok-answer.ensures.given
+
+pub returns : goal.returns
+returns c = λ most search. (
+  c.in_ok-trial.ensures,
+  tried_sought c.args.request.now most c.len-steps.result search.formula c.args.solver.now.kernel c.next_model.new.self.kernel _ _ _
+      search.narrowed search.begins c.in_ok-answer.ensures.given (ap (λ (log : LogParts). length log.steps) (sym c.log.ensures) ∙ sym c.len-steps.ensures),
+)

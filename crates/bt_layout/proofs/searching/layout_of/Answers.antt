@@ -8,8 +8,8 @@ decode-requires c =
     let ends = subst (EndsWith c.args.request.now c.requires.0 c.args.log.steps) c.in-Model.is c.requires.1 in
     subst (IsSolution c.args.request.now) (sym c.deref.ensures.value) ends
 
-pub returns-in-Refuted : goal.returns-in-Refuted
-returns-in-Refuted c learnt ends = subst (EndsWith c.args.request.now learnt c.args.log.steps) c.in-Refuted.is ends
+pub returns-in-Refuted-clause-layout : goal.returns-in-Refuted-clause-layout
+returns-in-Refuted-clause-layout c learnt ends = subst (EndsWith c.args.request.now learnt c.args.log.steps) c.in-Refuted.is ends
 
-pub returns-in-Spent : goal.returns-in-Spent
-returns-in-Spent c learnt ends = subst (EndsWith c.args.request.now learnt c.args.log.steps) c.in-Spent.is ends
+pub returns-in-Spent-clause-layout : goal.returns-in-Spent-clause-layout
+returns-in-Spent-clause-layout c learnt ends = subst (EndsWith c.args.request.now learnt c.args.log.steps) c.in-Spent.is ends

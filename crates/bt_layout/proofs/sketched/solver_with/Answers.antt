@@ -6,5 +6,5 @@ use Rattle.bt_layout.proofs.sketched.solver_with.Goals as goal
 
 pub returns : goal.returns
 returns c =
-    IfOk-weaker c.planned.result (λ solver. solver.kernel ≡ begun c.in_ok-formula.formula c.args.steps) (λ solver. IsNarrowedSearch c.args.request.now solver.kernel)
-    (λ solver begins. record { formula = c.in_ok-formula.formula; narrowed = c.in_ok-formula.ensures; limit = c.args.steps; begins = begins }) c.planned.ensures
+    IfOk-weaker c.planned.result (λ solver. solver.kernel ≡ begun c.in_ok-formula.formula c.args.steps) (λ solver. IsNarrowedSearch c.args.request.now c.args.steps solver.kernel)
+    (λ solver begins. record { formula = c.in_ok-formula.formula; narrowed = c.in_ok-formula.ensures; begins = begins }) c.planned.ensures

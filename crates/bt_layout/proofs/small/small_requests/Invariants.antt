@@ -1,7 +1,7 @@
-use Rattle.std.specs.List.{All}
-use Rattle.bt_layout.specs.inner.Progressing.{AsksSmall}
+use Rattle.std.proofs.Common.{take}
+use Rattle.bt_layout.specs.inner.Progressing.{AskSmall}
 use Rattle.bt_layout.proofs.small.small_requests.Given as goal
 
--- the requests so far are for the network on such grids
+-- the requests so far are the same on the grids so far that may be asked
 abbrev pub invariant-loop-place : goal.invariant-loop-place
-invariant-loop-place l = All (AsksSmall l.fn.net l.fn.tier l.fn.most l.fn.cells) l.requests.items
+invariant-loop-place l = AskSmall l.fn.request l.fn.cells (take l.place l.grids.items) l.requests.items

@@ -1,4 +1,4 @@
-use Rattle.std.proofs.Common.{◌≡◌, ◌+◌, ◌<◌, [], ◌∷◌, ◌++◌, length, get_or, subst, sym, ap, arith}
+use Rattle.std.proofs.Common.{◌≡◌, ◌+◌, ◌<◌, length, get_or, subst, sym, ap, arith}
 use Rattle.bt_net.specs.declared.network.Start.TheVariants as from
 use Rattle.bt_model.specs.Chains.{IsInput, IsSplitter, IsLink}
 use Rattle.bt_recover.specs.inner.Edges.{naming_of, IsJoint, HasEdges, LeadsTo, AddsHalves}

@@ -1,14 +1,9 @@
-use Rattle.std.proofs.Common.{◌≡◌, ◌+◌, List, Some, refl, sym, subst, length, map, arith}
-use Rattle.std.specs.Prelude.{slice_get}
-use Rattle.std.specs.List.{AllZip}
+use Rattle.std.proofs.Common.{◌+◌, sym, subst, arith}
 use Rattle.std.proofs.lemmas.Option.{slice_get-get_or}
-use Rattle.bt_model.specs.Chains.{Chain}
-use Rattle.bt_model.specs.Shown.{Naming}
 use Rattle.bt_model.proofs.Places.{zip_length}
 use Rattle.bt_recover.specs.Preferred.{IsGivenFirst}
 use Rattle.bt_recover.specs.inner.Edges.{IsJoint}
-use Rattle.bt_recover.specs.inner.Found.{TellsPreferred}
-use Rattle.bt_recover.proofs.PreferLemmas.{PreferredUpTo, preferred_first, preferred_skip, preferred_more, preferred_all, zip_get, given_functional}
+use Rattle.bt_recover.proofs.PreferLemmas.{PreferredUpTo, preferred_skip, preferred_more, preferred_all, zip_get, given_functional}
 use Rattle.bt_recover.proofs.preferring.gives_of.Goals.{in-Some, in_default}
 use Rattle.bt_recover.proofs.preferring.gives_of.Goals as goal
 

@@ -1,9 +1,8 @@
 use Rattle.std.proofs.Common.{◌≡◌, ◌∙◌, ap, map, inl, refl, subst}
-use Rattle.std.specs.Prelude.{Ok, Err}
 use Rattle.std.proofs.lemmas.Result.{err_from_is_err_and}
 use Rattle.bt_recover.specs.inner.Edges.{naming_of, net_with}
 use Rattle.bt_recover.proofs.OneRecovery.{net_refused}
-use Rattle.bt_recover.proofs.NetworkLemmas.{numbered, large_exists, edges_alone}
+use Rattle.bt_recover.proofs.NetworkLemmas.{large_exists}
 use Rattle.bt_recover.proofs.WiredLemmas.{wired}
 use Rattle.bt_recover.proofs.PreferLemmas.{numbered_of}
 use Rattle.bt_recover.proofs.recovery.found_in.Goals as goal

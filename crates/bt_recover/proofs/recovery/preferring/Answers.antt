@@ -1,8 +1,7 @@
-use Rattle.std.proofs.Common.{◌≡◌, ◌<◌, length, subst, sym, ap, List}
+use Rattle.std.proofs.Common.{◌≡◌, ◌<◌, length, subst, sym}
 use Rattle.std.specs.Prelude.{Ok}
 use Rattle.std.specs.List.{All, AllZip}
-use Rattle.bt_model.specs.Chains.{IsSplitter, Chain}
-use Rattle.bt_model.specs.Shown.{Naming}
+use Rattle.bt_model.specs.Chains.{IsSplitter}
 use Rattle.bt_recover.specs.Preferred.{IsGivenFirst, IsTakenFirst, ArePreferred, IsRecoveredWith}
 use Rattle.bt_recover.specs.inner.Edges.{naming_of, IsJoint}
 use Rattle.bt_recover.proofs.NetworkLemmas.{splitter_within, each_within}

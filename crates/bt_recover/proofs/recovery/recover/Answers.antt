@@ -1,4 +1,4 @@
-use Rattle.std.proofs.Common.{sym, subst, ap, ◌∙◌}
+use Rattle.std.proofs.Common.{sym, subst}
 use Rattle.std.specs.Prelude.{Ok, Err}
 use Rattle.bt_recover.specs.Recovered.{IsRecovered}
 use Rattle.bt_recover.proofs.OneRecovery.{recovery_answers}

@@ -1,20 +1,18 @@
-use Rattle.std.proofs.Common.{◌≡◌, ◌+◌, take, length, ◌∙◌, ap, sym, subst}
+use Rattle.std.proofs.Common.{◌≡◌, ◌+◌, take, length, ◌∙◌, ap, sym, subst, arith}
 use Rattle.std.proofs.lemmas.List.{with_items_is}
-use Rattle.std.proofs.lemmas.List.Elements.{All-get_or}
-use Rattle.std.proofs.lemmas.Option.{slice_get_within, get_or_from_slice_get}
 use Rattle.bt_cnf.specs.Assignments.{truth_in}
 use Rattle.bt_cnf.specs.Meeting.{MeetsClause}
 use Rattle.bt_theory.specs.inner.Choosing.{IsChosen}
+use Rattle.bt_theory.proofs.Bases.{in_front}
 use Rattle.bt_theory.proofs.Chosen.{chosen_more}
 use Rattle.bt_theory.proofs.choosing.choose.Goals as goal
 
 pub settle-requires-clause-met : goal.settle-requires-clause-met
 settle-requires-clause-met c =
-    let clauses = c.args.formula.now.clauses in
-    let clause = c.clause.result.now in
-    let at = c.clause.ensures.value in
-    subst (MeetsClause (truth_in c.args.model.now)) (get_or_from_slice_get clauses c.in-Some.id clause clause at)
-    (All-get_or (MeetsClause (truth_in c.args.model.now)) clauses c.in-Some.id clause (slice_get_within clauses c.in-Some.id clause at) c.requires)
+    let same = c.in-Some.ensures.some in
+    let inside = c.loop-place-test.true in
+    in_front (MeetsClause (truth_in c.args.model.now)) c.args.base.now.clauses c.args.formula.now.clauses c.in-Some.id c.clause.result.now c.requires.base.clauses c.requires.met
+    (omega (arith, same, inside)) c.clause.ensures.value
 
 pub loop-place-preserved : goal.loop-place-preserved
 loop-place-preserved c =

@@ -1,6 +1,5 @@
-use Rattle.std.proofs.Common.{subst, arith}
+use Rattle.std.proofs.Common.{◌≡◌, take, subst, arith}
 use Rattle.std.specs.List.{All}
-use Rattle.std.proofs.lemmas.List.{take_all}
 use Rattle.bt_cnf.specs.Assignments.{truth_in}
 use Rattle.bt_cnf.specs.Meeting.{MeetsClause}
 use Rattle.bt_theory.proofs.Chosen.{one_more}
@@ -12,4 +11,6 @@ loop-place-preserved c =
     c.loop-place.invariant (c.is_met.ensures c.if-not-is_met.false)
 
 pub returns : goal.returns
-returns c = λ _. subst (All (MeetsClause (truth_in c.args.assignment.now))) (take_all c.loop-place.place c.args.formula.now.clauses (omega arith)) c.loop-place.invariant
+returns c = λ _.
+    let end : c.loop-place.place ≡ c.args.clauses = omega arith in
+    subst (λ n. All (MeetsClause (truth_in c.args.assignment.now)) (take n c.args.formula.now.clauses)) end c.loop-place.invariant

@@ -8,7 +8,7 @@ abbrev pub invariant-loop-said : goal.invariant-loop-said
 invariant-loop-said g l = record {
   formula : l.solver.kernel.formula ≡ l.fn.solver.kernel.formula;
   limit : l.solver.kernel.limit ≡ l.fn.solver.kernel.limit;
-  ready : IsReady l.solver.kernel l.tables.tableau;
+  ready : IsReady l.base l.solver.kernel l.tables.tableau;
   scopes : All (IsScopeOf l.fn.solver.kernel.formula) (map parts_of l.tables.scopes.items);
 }
 

@@ -4,19 +4,22 @@ use Rattle.bt_top.specs.declared.fault.DesignFault.TheVariants.{Memory}
 use Rattle.bt_top.specs.Replies.{design_told}
 use Rattle.bt_top.specs.Finding.{IsDesignRequest, IsFound}
 use Rattle.bt_top.proofs.InTurns.{stops, went}
-use Rattle.bt_top.proofs.OneRequest.{design_net, design_request}
+use Rattle.bt_top.proofs.OneRequest.{design_request}
 use Rattle.bt_top.proofs.finding.found_small.Goals as goal
 
-pub found_of-requires-clause-plain : goal.found_of-requires-clause-plain
-found_of-requires-clause-plain c = design_net c.args.most c.args.tier c.args.bytes.now c.in-Ok.request c.in-Ok.ensures
-
 pub found_of-requires-clause-request : goal.found_of-requires-clause-request
-found_of-requires-clause-request c = design_request c.args.most c.args.tier c.args.bytes.now c.in-Ok.request c.in-Ok.ensures
+found_of-requires-clause-request c = (design_request c.args.sides c.args.most c.args.tier c.args.bytes.now c.in-Ok.request c.in-Ok.ensures).request
+
+pub found_of-requires-clause-plain : goal.found_of-requires-clause-plain
+found_of-requires-clause-plain c = (design_request c.args.sides c.args.most c.args.tier c.args.bytes.now c.in-Ok.request c.in-Ok.ensures).plain
+
+pub found_of-requires-clause-cells : goal.found_of-requires-clause-cells
+found_of-requires-clause-cells c = (design_request c.args.sides c.args.most c.args.tier c.args.bytes.now c.in-Ok.request c.in-Ok.ensures).cells
 
 pub returns-in-Ok : goal.returns-in-Ok
 returns-in-Ok c =
-    went alloc_error (IsDesignRequest c.args.most c.args.tier c.args.bytes.now) design_told (IsFound c.args.bytes.now c.args.learnt) c.in-Ok.request c.found_of.result c.in-Ok.ensures c.found_of.ensures
+    went alloc_error (IsDesignRequest c.args.sides c.args.most c.args.tier c.args.bytes.now) design_told (IsFound c.args.bytes.now c.args.learnt) c.in-Ok.request c.found_of.result c.in-Ok.ensures c.found_of.ensures
 
 pub returns-in-Err : goal.returns-in-Err
 returns-in-Err c =
-    stops Memory alloc_error (IsDesignRequest c.args.most c.args.tier c.args.bytes.now) design_told (IsFound c.args.bytes.now c.args.learnt) c.in-Err.fault c.refused.result refl c.in-Err.ensures c.refused.ensures
+    stops Memory alloc_error (IsDesignRequest c.args.sides c.args.most c.args.tier c.args.bytes.now) design_told (IsFound c.args.bytes.now c.args.learnt) c.in-Err.fault c.refused.result refl c.in-Err.ensures c.refused.ensures

@@ -1,5 +1,5 @@
 use Rattle.std.proofs.Common.{subst}
-use Rattle.bt_top.specs.inner.Spans.{IsSpanned}
+use Rattle.bt_top.specs.Finding.{IsSpanned}
 use Rattle.bt_top.proofs.finding.own_cells.Goals as goal
 
 pub returns-in-Ok-parts : goal.returns-in-Ok-parts

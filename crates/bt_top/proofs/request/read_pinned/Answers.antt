@@ -1,4 +1,5 @@
 use Rattle.std.proofs.Common.{◌≡◌, true, false, inl, inr, refl}
+use Rattle.bt_net.specs.declared.network.Admitted.TheVariants.{All}
 use Rattle.bt_top.specs.declared.fault.DesignFault.TheVariants.{Memory}
 use Rattle.bt_top.specs.Requested.{IsPinned, IsPinnedJson, IsPinnedText}
 use Rattle.bt_top.proofs.InTurns.{weaker}
@@ -12,4 +13,4 @@ returns-then-is_json-clause-design c =
 pub returns-else-is_json-clause-design : goal.returns-else-is_json-clause-design
 returns-else-is_json-clause-design c =
     let json = c.if-is_json.ensures in
-    weaker Memory (IsPinnedText c.args.bytes.now) (IsPinned c.args.bytes.now) _ (λ r h. inr (λ j. let f : false ≡ true = json.1 j in cc, h)) c.read_pinned_text.ensures.design
+    weaker Memory (IsPinnedText All c.args.bytes.now) (IsPinned c.args.bytes.now) _ (λ r h. inr (λ j. let f : false ≡ true = json.1 j in cc, h)) c.read_pinned_text.ensures.design

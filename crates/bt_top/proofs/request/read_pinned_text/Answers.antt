@@ -1,6 +1,5 @@
 use Rattle.std.proofs.Common.{◌≡◌, refl, ap, Ok, Err}
 use Rattle.bt_net.specs.declared.fault.NetFault.TheVariants as net
-use Rattle.bt_net.specs.declared.network.Admitted.TheVariants.{All}
 use Rattle.bt_net.specs.Readings.{IsNetRead}
 use Rattle.bt_top.specs.declared.fault.DesignFault.TheVariants.{Memory}
 use Rattle.bt_top.specs.Refusals.{net_told}
@@ -17,5 +16,5 @@ returns-in-Ok-clause-within c = c.in-Ok.ensures.right.used
 
 pub returns-in-Err-clause-design : goal.returns-in-Err-clause-design
 returns-in-Err-clause-design c =
-    stops net.Memory Memory (IsNetRead All c.args.bytes.now) (λ fault. Err (net_told fault)) (λ read answer. answer ≡ Ok (pinned_net read.net read.demands read.blocks, read.used))
+    stops net.Memory Memory (IsNetRead c.args.admitted c.args.bytes.now) (λ fault. Err (net_told fault)) (λ read answer. answer ≡ Ok (pinned_net read.net read.demands read.blocks, read.used))
     c.in-Err.fault (Err c.into.result) refl c.in-Err.ensures.right (ap Err c.into.ensures)

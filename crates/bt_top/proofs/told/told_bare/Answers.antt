@@ -1,7 +1,7 @@
 use Rattle.std.proofs.Common.{Err, sym, subst}
 use Rattle.bt_top.specs.declared.fault.DesignFault.{DesignFault}
 use Rattle.bt_top.specs.Designs.{IsBareDesign}
-use Rattle.bt_top.proofs.ToldParts.{IsSettledJson}
+use Rattle.bt_top.specs.Longer.{IsSettled}
 use Rattle.bt_top.specs.inner.Found.{net_and_used}
 use Rattle.bt_top.specs.inner.Fronts.{TellsFront}
 use Rattle.bt_top.proofs.ToldParts.{bare_last, indented_behind}
@@ -10,4 +10,4 @@ use Rattle.bt_top.proofs.told.told_bare.Goals as goal
 pub returns-in-Err : goal.returns-in-Err
 returns-in-Err c =
     subst (λ (fault : DesignFault). TellsFront IsBareDesign net_and_used c.args.held (Err fault)) (sym c.in-Err.ensures.0)
-    (c.in-Err.ensures.1.at_hand, indented_behind IsBareDesign IsSettledJson bare_last c.args.held c.in-Err.ensures.1)
+    (c.in-Err.ensures.1.at_hand, indented_behind IsBareDesign IsSettled bare_last c.args.held c.in-Err.ensures.1)

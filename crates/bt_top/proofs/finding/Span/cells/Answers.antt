@@ -1,11 +1,10 @@
 use Rattle.std.proofs.Common.{arith}
 use Rattle.std.proofs.lemmas.Int.{ints}
-use Rattle.bt_top.proofs.Spanning.{spans}
+use Rattle.bt_top.proofs.Spanning.{least_holding}
 use Rattle.bt_top.proofs.finding.Span.cells.Goals as goal
 
 pub returns : goal.returns
-returns c = λ parts span corner rect holds.
-    let both = span corner rect holds in
-    spans corner rect c.args.self.least c.args.self.greatest c.from-across.result c.from-down.result c.saturating_mul.result _
+returns c = λ parts within encloses.
+    least_holding parts c.args.self c.from-across.result c.from-down.result c.saturating_mul.result _
     (omega (arith, ints, c.from-across.ensures, c.abs_diff.ensures)) (omega (arith, ints, c.from-down.ensures, c.abs_diff-2.ensures))
-    c.saturating_mul.ensures both.0 both.1
+    c.saturating_mul.ensures (omega arith) c.requires.least c.requires.greatest within encloses

@@ -1,0 +1,15 @@
+use Rattle.std.proofs.Common.{◌≤◌, length, sym, subst}
+use Rattle.bt_layout.proofs.searching.searched_of.Goals as goal
+
+pub layout_of-requires : goal.layout_of-requires
+layout_of-requires c = (c.requires.0, c.requires.1.ends)
+
+pub returns : goal.returns
+returns c = λ learnt ends. record {
+  layout = c.in_ok-layout.ensures.layout learnt ends.ends;
+  log = c.args.log.steps;
+  sought = ends.sought;
+  size = sym c.len-steps.ensures;
+  few = subst (λ n. n ≤ learnt) (sym c.len-steps.ensures) ends.few;
+  is_log = c.in_ok-layout.ensures.log;
+}

@@ -1,0 +1,189 @@
+//! Sweeps over requests: searches for layouts that are likely, one after another.
+ghost use Rattle.std.specs.Prelude.{◌≡◌, ◌≤◌, ◌<◌, ℕ, List, All, AllPairs, IfOk, IfSome, length};
+ghost use Rattle.bt_model.specs.Requests.{LayoutRequest};
+ghost use Rattle.bt_layout.specs.Early.{IsLaid};
+ghost use Rattle.bt_layout.specs.inner.Likely.{IsTried};
+ghost use Rattle.bt_layout.specs.inner.Progressing.{ArePaid, IsProgress, IsSearched, IsSweep, at_index};
+
+use crate::likely::{Trial, Tried, look_in};
+use crate::progress::{Laid, Progress, lesser, with_layout, with_steps};
+use crate::sketched::look_by_sketch;
+use bt_model::Request;
+use bt_narrow::{Attempt, whole};
+use bt_parts::Part;
+use std::alloc::{AllocError, Global};
+
+/// How a layout of a request is looked for.
+#[derive(Clone, Copy)]
+pub enum Means {
+    /// By a sketch of one.
+    Sketch,
+    /// By a search where one is likely, with at most so many steps.
+    Search(u64),
+}
+
+/// The requests that searches for likely layouts may still lay, and what was found so far.
+#[derive(Drop)]
+pub struct Sweep {
+    pub progress: Progress,
+    /// The places of the requests, in their order: each stands before the one that was laid.
+    pub places: Vec<usize>,
+    /// How many places are left out before the next search: none at first, and each time that a layout is found
+    /// twice as many and one.
+    pub skipped: usize,
+    /// How many requests were passed in a row.
+    pub passed: usize,
+}
+
+/// At the beginning each request that is lesser than the one that was laid may be laid.
+pub fn first_sweep(alloc: Global, count: usize, progress: Progress) -> Result<Sweep, AllocError>
+    ensures { (requests : List LayoutRequest) (learnt : ℕ) → count ≡ length requests
+        → IsProgress requests learnt progress → IfOk result (IsSweep requests learnt) }
+{
+    let places = places_below(alloc, lesser(&progress, count))?;
+    Ok(Sweep {
+        progress,
+        places,
+        skipped: 0,
+        passed: 0,
+    })
+}
+
+/// Looks for a layout of a request by some means, with at most so many steps. What is found is a layout; where none is
+/// found, nothing is said.
+fn look_by(alloc: Global, request: &Request, means: Means, left: u64) -> Result<Tried, AllocError>
+    ensures { IfOk result (IsTried request.now left) }
+{
+    match means {
+        Means::Sketch => look_by_sketch(alloc, request, left),
+        Means::Search(steps) => look_where_likely(alloc, request, steps.min(left)),
+    }
+}
+
+/// Looks for a layout of a request where one is likely in its rectangle, with at most so many steps.
+fn look_where_likely(alloc: Global, request: &Request, steps: u64) -> Result<Tried, AllocError>
+    ensures { IfOk result (IsTried request.now steps) }
+{
+    let attempt = Attempt {
+        steps,
+        ..whole(alloc, request, steps)?
+    };
+    look_in(alloc, request, attempt)
+}
+
+/// Looks by some means for a layout of the request whose place is at this index, with steps of those that are left of
+/// so many.
+pub fn after_search(
+    alloc: Global,
+    requests: &[Request],
+    learnt: u64,
+    sweep: Sweep,
+    at: usize,
+    means: Means,
+) -> Result<Sweep, AllocError>
+    requires sweep { IsSweep requests.now learnt sweep }
+    requires inside { at < length sweep.places.items }
+    ensures sweep { IfOk result (IsSweep requests.now learnt) }
+    ensures places { IfOk result (λ after. at ≤ length after.places.items) }
+{
+    let place = sweep.places[at];
+    let left = learnt.saturating_sub(sweep.progress.steps);
+    let tried = look_by(alloc, &requests[place], means, left)?;
+    Ok(after_trial(sweep, at, tried))
+}
+
+/// With what a search came to.
+fn after_trial(sweep: Sweep, at: usize, tried: Tried) -> Sweep
+    requires inside { at < length sweep.places.items }
+    requires lesser { IfSome sweep.progress.found (λ laid. at_index sweep at < laid.place) }
+    ensures sweep { (requests : List LayoutRequest) (learnt : ℕ)
+        → IsSweep requests learnt sweep → IsSearched requests learnt sweep at tried
+        → IsSweep requests learnt result }
+    ensures places { at ≤ length result.places.items }
+{
+    let Tried { trial, steps } = tried;
+    match trial {
+        Trial::Found(parts) => after_layout(sweep, at, steps, parts),
+        Trial::Refuted => after_refutation(sweep, at, steps),
+        Trial::Spent => after_giving_up(sweep, steps),
+    }
+}
+
+/// With a layout of the request whose place is at this index, as so many steps found: those before it are left.
+fn after_layout(sweep: Sweep, at: usize, steps: u64, parts: Vec<Part>) -> Sweep
+    requires inside { at < length sweep.places.items }
+    requires lesser { IfSome sweep.progress.found (λ laid. at_index sweep at < laid.place) }
+    ensures sweep { (requests : List LayoutRequest) (learnt : ℕ) → IsSweep requests learnt sweep
+        → ArePaid requests learnt sweep.progress.steps steps → IsLaid requests (at_index sweep at) parts
+        → IsSweep requests learnt result }
+    ensures places { at ≤ length result.places.items }
+{
+    let Sweep {
+        progress,
+        mut places,
+        skipped,
+        ..
+    } = sweep;
+    let place = places[at];
+    places.truncate(at);
+    Sweep {
+        progress: with_layout(progress, Laid { place, parts }, steps),
+        places,
+        skipped: skipped.saturating_mul(2).saturating_add(1),
+        passed: 0,
+    }
+}
+
+/// Without the place at this index, where no such layout as is looked for is, as so many steps showed.
+fn after_refutation(sweep: Sweep, at: usize, steps: u64) -> Sweep
+    requires { at < length sweep.places.items }
+    ensures sweep { (requests : List LayoutRequest) (learnt : ℕ) → IsSweep requests learnt sweep
+        → ArePaid requests learnt sweep.progress.steps steps → IsSweep requests learnt result }
+    ensures places { at ≤ length result.places.items }
+{
+    let Sweep {
+        progress,
+        mut places,
+        passed,
+        ..
+    } = sweep;
+    let _ = places.remove(at);
+    Sweep {
+        progress: with_steps(progress, steps),
+        places,
+        skipped: 0,
+        passed,
+    }
+}
+
+/// With a request that is passed after so many steps.
+fn after_giving_up(sweep: Sweep, steps: u64) -> Sweep
+    ensures sweep { (requests : List LayoutRequest) (learnt : ℕ) → IsSweep requests learnt sweep
+        → ArePaid requests learnt sweep.progress.steps steps → IsSweep requests learnt result }
+    ensures places { result.places ≡ sweep.places }
+{
+    let Sweep {
+        progress,
+        places,
+        passed,
+        ..
+    } = sweep;
+    Sweep {
+        progress: with_steps(progress, steps),
+        places,
+        skipped: 0,
+        passed: passed.saturating_add(1),
+    }
+}
+
+/// All places below a number, in ascending order.
+fn places_below(alloc: Global, end: usize) -> Result<Vec<usize>, AllocError>
+    ensures below { IfOk result (λ places. All (λ place. place < end) places.items) }
+    ensures in_order { IfOk result (λ places. AllPairs (λ one other. one < other) places.items) }
+{
+    let mut places = Vec::new(alloc);
+    for place in 0..end {
+        places.push(place)?;
+    }
+    Ok(places)
+}

@@ -1,0 +1,151 @@
+-- What trying goals comes to.
+use Rattle.std.proofs.Common.{◌≡◌, ℕ, ◌<◌, ◌≤◌, Bool, true, false, List, [], ◌∷◌, ◌++◌, length, Option, Some, None, ap, sym, ◌∙◌, refl, subst, arith, length-append}
+use Rattle.std.specs.Prelude.{IfSome}
+use Rattle.std.specs.List.{All, Any}
+use Rattle.std.proofs.lemmas.List.Elements.{All-nil, All-cons, All-weaker}
+use Rattle.bt_frac.specs.Rows.{RowParts}
+use Rattle.bt_log.specs.Logs.{Step, Lemma}
+use Rattle.bt_sat.specs.Answering.{Assumes, GivesNext}
+use Rattle.bt_sat.specs.Solving.{SolverParts, IsLearnt, GoesOnBy}
+use Rattle.bt_sat.specs.declared.solver.Answer.{Answer}
+use Rattle.bt_sat.specs.declared.solver.Answer.TheVariants as answer
+use Rattle.bt_sat.specs.declared.solver.Assumed.{Assumed}
+use Rattle.bt_sat.specs.declared.solver.Assumed.TheVariants as assumed
+use Rattle.bt_theory.specs.Outcomes.{Fits}
+use Rattle.bt_theory.specs.declared.base.Base.{Base}
+use Rattle.bt_theory.specs.inner.Bases.{base_in}
+use Rattle.bt_theory.specs.inner.Goals.{AllFit, AreNegated, GoesOn, IsOfSame, IsPossible, IsGrown, IsTried, IsTry}
+use Rattle.bt_theory.specs.inner.Rounds.{HasModel, IsEnd, IsLemmaLearnt, IsReady, IsRound}
+use Rattle.bt_theory.specs.inner.Scopes.{IsConflict, IsConflictIn, IsScopeOf}
+use Rattle.bt_theory.specs.declared.goal.Tried.{Tried}
+use Rattle.bt_theory.specs.declared.goal.Tried.TheVariants as tried
+use Rattle.bt_theory.specs.declared.lemma.Conflict.{Conflict}
+use Rattle.bt_theory.specs.declared.round.End.{End}
+use Rattle.bt_theory.specs.declared.round.End.TheVariants as end
+use Rattle.bt_cnf.specs.Formulas.{FormulaParts}
+use Rattle.bt_cnf.specs.declared.literal.Lit.{Lit}
+use Rattle.bt_simplex.specs.SolvedForms.{basis_of}
+use Rattle.bt_theory.specs.Reaching.{IsReachable, IsTableauOf}
+use Rattle.bt_theory.proofs.Rounds.{conflict_among, fits_on, learnt_fit, sound_log, used_up}
+use Rattle.bt_simplex.specs.Tableaus.{TableauParts}
+
+-- the search goes on with more steps
+advances : (s s' : SolverParts) (more : List Step) → GoesOnBy more s s' → AllFit s → All (Fits s.formula) more → length s'.steps ≤ s'.limit → GoesOn s s'
+advances s s' more goes fits also within =
+    let long = ap length goes.steps ∙ length-append s.steps more in
+    record {
+      same = record { formula = goes.formula; limit = goes.limit };
+      fits = fits_on s s' more goes fits also;
+      more = omega (arith, long);
+      within = within;
+    }
+
+-- with learnt ones
+learns : (s s' : SolverParts) (more : List Step) → GoesOnBy more s s' → AllFit s → All IsLearnt more → length s'.steps ≤ s'.limit → GoesOn s s'
+learns s s' more goes fits learnt within = advances s s' more goes fits (All-weaker IsLearnt (Fits s.formula) (learnt_fit s.formula) more learnt) within
+
+module _ (old new : SolverParts) (waiting left : List (Option (List (List Lit)))) (fits : AllFit old) where
+  pub assumed_on : (said : Assumed) → Assumes old waiting new left said → GoesOn old new
+  assumed_on said a = learns old new a.added a.goes_on fits a.learnt a.sound.within
+
+  pub assumed_refuted : (pivots : ℕ) → Assumes old waiting new left assumed.Refuted → IsTry pivots old new (tried.Ends end.Refuted)
+  assumed_refuted pivots a =
+      let on = assumed_on assumed.Refuted a in
+      (on.same, λ _. (record { sound = sound_log new a.sound on.fits; refutes = a.says.1 }, a.sound.within))
+
+  pub assumed_spent : (pivots : ℕ) → Assumes old waiting new left assumed.Spent → IsTry pivots old new (tried.Ends end.Spent)
+  assumed_spent pivots a =
+      let on = assumed_on assumed.Spent a in
+      (on.same, λ _. used_up new a.sound on.fits a.says.1)
+
+  pub given_on : (a : Answer) → GivesNext old waiting new left a → GoesOn old new
+  given_on a gives = learns old new gives.added gives.goes_on fits gives.learnt gives.sound.within
+
+  pub given_refuted : (pivots : ℕ) → GivesNext old waiting new left answer.Refuted → IsTry pivots old new (tried.Ends end.Refuted)
+  given_refuted pivots a =
+      let on = given_on answer.Refuted a in
+      (on.same, λ _. (record { sound = sound_log new a.sound on.fits; refutes = a.says.1 }, a.sound.within))
+
+  pub given_spent : (pivots : ℕ) → GivesNext old waiting new left answer.Spent → IsTry pivots old new (tried.Ends end.Spent)
+  given_spent pivots a =
+      let on = given_on answer.Spent a in
+      (on.same, λ _. used_up new a.sound on.fits a.says.1)
+
+-- at first nothing has changed
+pub goes_none : (s : SolverParts) → AllFit s → length s.steps ≤ s.limit → GoesOn s s
+goes_none s fits within = record { same = record { formula = refl; limit = refl }; fits = fits; more = omega arith; within = within }
+
+-- a goal is worth another try where the log has grown
+pub grown_try : (pivots : ℕ) (old new : SolverParts) (before now : ℕ) (said : Tried) → GoesOn old new → before ≡ length old.steps → now ≡ length new.steps → IsGrown before now said
+    → IsTry pivots old new said
+grown_try pivots old new before now tried.Done on was is grown = on
+grown_try pivots old new before now tried.Again on was is grown = (on, (let l : length old.steps < length new.steps = omega (arith, was, is, grown) in l))
+grown_try pivots old new before now (tried.Ends e) on was is grown = absurd grown
+
+same_next : (old mid new : SolverParts) → IsOfSame old mid → IsOfSame mid new → IsOfSame old new
+same_next old mid new was is = record { formula = is.formula ∙ was.formula; limit = is.limit ∙ was.limit }
+
+-- one after the other
+pub goes_next : (old mid new : SolverParts) → GoesOn old mid → GoesOn mid new → GoesOn old new
+goes_next old mid new was is = record {
+  same = same_next old mid new was.same is.same;
+  fits = is.fits;
+  more = omega (arith, was.more, is.more);
+  within = is.within;
+}
+
+pub then_try : (pivots : ℕ) (old mid new : SolverParts) (said : Tried) → GoesOn old mid → IsTry pivots mid new said → IsTry pivots old new said
+then_try pivots old mid new tried.Done on is = goes_next old mid new on is
+then_try pivots old mid new tried.Again on is =
+    let first = on.more in
+    let second = is.1 in
+    (goes_next old mid new on is.0, (let l : length old.steps < length new.steps = omega (arith, first, second) in l))
+then_try pivots old mid new (tried.Ends e) on is = (same_next old mid new on.same is.0, is.1)
+
+pub then_tried : (pivots : ℕ) (old mid new : SolverParts) (said : Option End) → GoesOn old mid → IsTried pivots mid new said → IsTried pivots old new said
+then_tried pivots old mid new None on is = goes_next old mid new on is
+then_tried pivots old mid new (Some e) on is = (same_next old mid new on.same is.0, is.1)
+
+-- the lemma of a conflict under the model that the search keeps was added, or the log is full
+module _ (pivots : ℕ) (s s' : SolverParts) (model : List Bool) (conflict : Conflict) (fits : AllFit s) (has : HasModel s model) (is : IsConflict s.formula model conflict) where
+  pub learnt_again : IsLemmaLearnt s s' conflict None → IsTry pivots s s' tried.Again
+  learnt_again (goes, sound) =
+      let step = Lemma conflict.lits.items conflict.weights.items in
+      let long = ap length goes.steps ∙ length-append s.steps (step ∷ []) in (
+        advances s s' (step ∷ []) goes fits (All-cons (Fits s.formula) step [] is.fits (All-nil (Fits s.formula))) sound.within,
+        (let l : length s.steps < length s'.steps = omega (arith, long) in l),
+      )
+
+  pub learnt_ends : (e : End) → IsLemmaLearnt s s' conflict (Some e) → IsTry pivots s s' (tried.Ends e)
+  learnt_ends end.Spent (same, spent) =
+      subst (λ x. IsTry pivots s x (tried.Ends end.Spent)) (sym same) (record { formula = refl; limit = refl }, λ _. used_up s has.sound fits spent)
+  learnt_ends end.Refuted h = absurd h
+  learnt_ends (end.Sat solution) h = absurd h
+  learnt_ends (end.Pivots trail) h = absurd h
+  learnt_ends (end.Wide wide) h = absurd h
+
+-- a conflict whose literals negate atoms that are true in the model is one under it
+pub under_model : (f : FormulaParts) (model : List Bool) (conflict : Conflict) → IsPossible f conflict → AreNegated model conflict.lits.items → IsConflict f model conflict
+under_model f model conflict may negated = record { fits = may.is.fits; counted = may.is.counted; unmet = negated }
+
+-- the conflict that scopes have is one of the formula
+pub possible : (f : FormulaParts) (truths : List Bool) (conflict : Conflict) (scopes : List (List ℕ × List RowParts)) → All (IsScopeOf f) scopes → Any (IsConflictIn truths conflict) scopes → IsPossible f conflict
+possible f truths conflict scopes are found = record { assignment = truths; is = conflict_among f truths conflict scopes are found }
+
+-- a round that begins when goals were tried
+module _ (b : Base) (old mid : SolverParts) (t : TableauParts) (ready : IsReady b old t) (on : GoesOn old mid) where
+  pub ready_goes : IsReady b mid t
+  ready_goes =
+      let e = sym on.same.formula in
+      record {
+        tableau = subst (λ f. IsTableauOf (base_in b f) t) e ready.tableau;
+        reachable = subst (λ f. IsReachable (base_in b f) (basis_of t.slots)) e ready.reachable;
+        fits = on.fits;
+      }
+
+  pub rounds_goes : (pivots : ℕ) (new : SolverParts) (t' : TableauParts) (e : End) → IsRound pivots b mid new t' (Some e) → IsRound pivots b old new t' (Some e)
+  rounds_goes pivots new t' e round = record { formula = round.formula ∙ on.same.formula; limit = round.limit ∙ on.same.limit; says = round.says }
+
+-- the search is at an end by a goal
+pub goals_end : (pivots : ℕ) (b : Base) (old new : SolverParts) (t : TableauParts) (e : End) → IsOfSame old new × ((b : Base) → IsEnd pivots b new e) → IsRound pivots b old new t (Some e)
+goals_end pivots b old new t e (same, says) = record { formula = same.formula; limit = same.limit; says = says b }
