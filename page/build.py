@@ -30,7 +30,12 @@ WIDEST_DIVISION = 64
 
 PROCESSOR = [f"--target={TARGET}", "-mcpu=lime1", "--no-default-config"]
 DIVISIONS = [f"-expand-div-rem-bits={WIDEST_DIVISION}", f"-expand-fp-convert-bits={WIDEST_DIVISION}"]
-COMPILED = ["-O2", "-Xclang", "-fmerge-functions", *(word for it in DIVISIONS for word in ("-mllvm", it)), "-c", "-x", "ir"]
+DEAREST_INLINED = 100
+"""How much a function may cost that is written into those that call it, where the compiler takes 225: the page is smaller
+by 4 %."""
+
+ADAPTED = [*DIVISIONS, f"-inline-threshold={DEAREST_INLINED}"]
+COMPILED = ["-O2", "-Xclang", "-fmerge-functions", *(word for it in ADAPTED for word in ("-mllvm", it)), "-c", "-x", "ir"]
 OF_C = ["-O3", "-std=c17", "-ffreestanding", "-fno-builtin", "-Wall", "-Wextra", "-Werror", "-c"]
 LINKED = ["-mwasm64", "--no-entry", "--stack-first", "-z", f"stack-size={STACK}", f"--max-memory={MOST_MEMORY}"]
 LINKED += ["--gc-sections", "--fatal-warnings", "--strip-all", "--export=__stack_pointer"]

@@ -174,6 +174,16 @@ def more_looks(page):
             yield f"the comparison doesn't say {words!r}"
     if page.wait(f"{pair}.querySelector('.pair') !== null", 20) is None:
         yield "the states that show a difference aren't told"
+    other = others[0][0]
+    certificate = program("same", data=text + b"\n" + other.encode()).stdout.decode()
+    page.value(f"{pair}.querySelector('textarea').value = {json.dumps(other)}")
+    for saved, words in ((certificate, "shows that they behave the same"), ("same\nend\n", "not accepted")):
+        page.value(
+            f"(() => {{ const input = {pair}.querySelector('input'); const given = new DataTransfer();"
+            f" given.items.add(new File([{json.dumps(saved)}], 'saved')); input.files = given.files; input.dispatchEvent(new Event('change')); }})()"
+        )
+        if page.wait(f"{pair}.textContent.includes({json.dumps(words)})") is None:
+            yield f"the check of a saved comparison doesn't say {words!r}"
 
 
 def books(page):

@@ -386,6 +386,10 @@ class View {
 /** Whether the program can keep each end of a design at its side: it takes the word. */
 const knowsSides = async () => (await program.run(["smallest", "--found", "--sides"], new Uint8Array(), "Asking for what can be kept").told).status !== USAGE;
 
+/** What is known where no smaller layout was found: where not all steps were taken, there is none. */
+const noneFound = (taken, most) =>
+  taken < most ? "There is none on fewer tiles, in at most 16 by 16." : `None was found in ${taken} steps. That says nothing of whether there is one.`;
+
 /** What can be asked besides: a smaller layout, a saved certificate, another design, and the texts. */
 class More {
   constructor(view) {
@@ -426,7 +430,7 @@ class More {
     const fault = faultOf(ended);
     const line = ended.written ? firstLine(ended.written) : "";
     if (fault) out.append(make("p", { class: "held" }, `There is none: ${fault}.`));
-    else if (ended.status === 4) out.append(make("p", { class: "held" }, `None was found in ${line.split(" ")[1]} steps. That says nothing of whether there is one.`));
+    else if (ended.status === 4) out.append(make("p", { class: "held" }, noneFound(Number(line.split(" ")[1]), steps)));
     else if (ended.status !== 0) out.append(make("p", { class: "trouble" }, told(`The program refuses it: ${toldRefusal(line, view.bytes).words}.`)));
     else await this.showSmaller(ended, out);
   }
@@ -461,28 +465,46 @@ class More {
     const chosen = make("select", { "aria-label": "Another design of the list" }, make("option", { value: "" }, "or one of the list…"));
     const out = make("div");
     const go = make("button", { type: "button", class: "main" }, "Compare");
-    go.addEventListener("click", async () => {
+    const file = make("input", { type: "file", class: "hidden", tabindex: -1, "aria-hidden": "true" });
+    const ask = async (show) => {
       out.replaceChildren();
       const asked = area.value.trim() ? (await designsIn(encoder.encode(area.value), "the other design"))[0] : others[chosen.value];
       if (!asked) out.append(make("p", { class: "held" }, "Paste the other design first."));
       else if (!asked.bytes) out.append(make("p", { class: "trouble" }, told(`The other isn't a design: ${asked.trouble}.`)));
       else {
         go.disabled = true;
-        await this.showSame(asked, out);
+        await show({ ...asked, bytes: isJson(asked.bytes) ? cleaned(asked.bytes).bytes : asked.bytes });
         go.disabled = false;
       }
+    };
+    go.addEventListener("click", () => ask((other) => this.showSame(other, out)));
+    file.addEventListener("change", async () => {
+      const [saved] = file.files;
+      if (saved) await ask(async (other) => this.showSaved(other, new Uint8Array(await saved.arrayBuffer()), out));
+      file.value = "";
     });
+    const checking = make("button", { type: "button", onclick: () => file.click() }, "Check a saved comparison…");
     const words = "Do two designs behave the same: does each output carry the same in both, whatever comes in and whatever is taken?";
-    const part = this.part("Compare with another design", make("p", { class: "note" }, words), area, make("div", { class: "row" }, go, others.length ? chosen : null), out);
+    const part = this.part("Compare with another design", make("p", { class: "note" }, words), area, make("div", { class: "row" }, go, others.length ? chosen : null, checking, file), out);
     // A book may have thousands.
     const list = () => chosen.append(...others.slice(0, MOST_SHOWN).map((it, at) => make("option", { value: at }, plain(it.name))));
     part.addEventListener("toggle", list, { once: true });
     return part;
   }
 
-  async showSame(asked, out) {
+  /** What a saved certificate or a saved pair of states shows of both designs. */
+  async showSaved(other, saved, out) {
     const { view } = this;
-    const other = { ...asked, bytes: isJson(asked.bytes) ? cleaned(asked.bytes).bytes : asked.bytes };
+    const ended = await view.run(["check-same"], lined(lined(view.bytes, other.bytes), saved), "Checking a saved comparison");
+    const fault = faultOf(ended);
+    const line = fault ?? firstLine(ended.written);
+    const isGood = !fault && (ended.status === 0 || ended.status === 1);
+    const words = isGood ? (ended.status === 0 ? "The certificate shows that they behave the same." : "The states show that they differ.") : "It shows nothing of these two designs: ";
+    out.append(make("p", {}, make("span", { class: `verdict ${isGood ? (ended.status === 0 ? "yes" : "no") : "withheld"}` }, isGood ? line : "not accepted"), ` ${words}`, isGood ? ` (${seconds(ended.seconds)})` : told(line)));
+  }
+
+  async showSame(other, out) {
+    const { view } = this;
     const both = lined(view.bytes, other.bytes);
     const ended = await view.run(["same"], both, "Comparing two designs");
     const fault = faultOf(ended);
