@@ -3,7 +3,9 @@ of them is told of this one and ends nothing else."""
 
 import os
 import shlex
-from concurrent.futures import FIRST_COMPLETED, ThreadPoolExecutor, wait
+import signal
+from concurrent.futures import ThreadPoolExecutor
+from queue import Empty, SimpleQueue
 
 from . import design, files
 from .answers import Answer, Smaller
@@ -121,26 +123,41 @@ def tasks_of(rows, worker):
             yield f"{row.found.name} smaller", (shrink, worker, row)
 
 
+def next_of(ended, progress):
+    """What the next task to end leaves; the progress is drawn until then."""
+    while True:
+        progress.draw()
+        try:
+            return ended.get(timeout=REDRAWN_EACH)
+        except Empty:
+            pass
+
+
 def run_all(tasks, jobs, program):
-    """Does all tasks, so many at once."""
-    progress = Progress(len(tasks))
+    """Does all tasks, so many at once. An interrupt comes through the queue of what tasks leave, as if one had ended by
+    it: raised wherever it comes, it could leave a lock taken that a task waits for."""
+    progress, ended = Progress(len(tasks)), SimpleQueue()
 
     def run(name, call, *rest):
         progress.running[id(rest)] = name
+        fault = None
         try:
             call(*rest)
-        finally:
-            progress.running.pop(id(rest))
+        except BaseException as it:
+            fault = it
+        progress.running.pop(id(rest))
+        ended.put(fault)
 
+    before = signal.signal(signal.SIGINT, lambda *_: ended.put(KeyboardInterrupt()))
     pool = ThreadPoolExecutor(jobs)
     try:
-        left = {pool.submit(run, name, *task) for name, task in tasks}
-        while left:
-            progress.draw()
-            done, left = wait(left, REDRAWN_EACH, FIRST_COMPLETED)
-            progress.done += len(done)
-            for it in done:
-                it.result()
+        for name, task in tasks:
+            pool.submit(run, name, *task)
+        for _ in tasks:
+            fault = next_of(ended, progress)
+            progress.done += 1
+            if fault:
+                raise fault
     except BaseException:
         program.stop()
         pool.shutdown(cancel_futures=True)
@@ -148,6 +165,7 @@ def run_all(tasks, jobs, program):
     finally:
         progress.end()
         pool.shutdown()
+        signal.signal(signal.SIGINT, before)
 
 
 def work(rows, worker, jobs):

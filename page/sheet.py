@@ -14,7 +14,7 @@ EXAMPLES = TOP / "examples"
 SCRIPTS = "strings books design trace picture states refusals entities cleaning labels openings inputs runs dom drawing page".split()
 PICTURE_RULES = re.compile(r"^\.body\{.*?(?=^@media)", re.M | re.S)
 COLORS = re.compile(r"^:root\{.*?\n(?=\*\{)", re.M | re.S)
-MOST_BYTES = 500_000
+MOST_BYTES = 550_000
 
 
 COMMENT = re.compile(r"^\s*(?://.*|/\*\*(?:[^*]|\*(?!/))*\*/)$", re.M)

@@ -105,6 +105,7 @@ class Rows(unittest.TestCase):
             "row a\n$ parts\n= 0\nparts grid 1x1 1x2\n% 1x1 1x2\n$ give\n<: %\n<@ part %\n= 0\n>: %\n>...\n"
             "$ give\n<@ part 1x1\n= 0\n> none\n> r 0\n$ give\n<@ part 1x2\n= 0\n>: {}\n"
         )
+        self.passes("row a\n$ say from\n$: grid\\x201x1\n= 0\n> from\nparts grid 1x1\n$ give\n<@ part 1x1\n= 0\n")
         self.passes("text t\n| abc\nrow a\n% 1..3\n$ give\n<@ first % t\n= 0\n>@ first % t\n")
 
     def test_shares_texts(self):
@@ -139,6 +140,9 @@ class Rows(unittest.TestCase):
         for names in ("1x1", "1x2 1x1", "1x1 1x2 1x3", "1x1 2x1"):
             with self.subTest(names):
                 self.fails(f"row a\n$ parts\n= 0\nparts grid {names}\n", "other parts")
+        for front in ("", "> grid\n", "> from 1x2\n"):
+            with self.subTest(front):
+                self.fails(f"row a\n$ say from\n$: grid\\x201x1\n= 0\n{front}parts grid 1x1\n", "other parts")
 
     def test_fails_a_later_step(self):
         status, text = self.run_rows({"table": "row a\n$ say a\n= 0\n> a\n% b c\n$ say %\n= 0\n> b\n"})
@@ -178,7 +182,7 @@ class Rows(unittest.TestCase):
             ("row a\n$ end 0\n= 0\n= 0\n", 4, "may not stand here"),
             ("row a\n$ end 0\n= 0\n< x\n", 4, "may not stand here"),
             ("row a\n$ end 0\n= 0\n>...\n> x\n", 5, "may not stand here"),
-            ("row a\n$ end 0\n= 0\n> x\nparts grid 1x1\n", 5, "may not stand here"),
+            ("row a\n$ end 0\n= 0\nparts grid 1x1\n> x\n", 5, "may not stand here"),
             ("row a\n$ end 0\n= 0\nwhat\n", 4, "may not stand here"),
             ("row a\n$ end 0\n= x\n", 3, "'x' is no number"),
             ("row a\n$ end 0\n= 0\nparts grid\n", 4, "the word that heads them"),

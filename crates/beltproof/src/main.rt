@@ -1,9 +1,9 @@
 //! The program: its words, standard input and standard output.
 #![tactic(auto)]
 
+use bt_choosers::Active;
 use bt_cnf::Chooser;
 use bt_io::{StdSink, StdSource};
-use bt_sat::Active;
 use bt_top::{Choosers, NO_MEMORY, WRITE_FAULT, run};
 use std::alloc::AllocError;
 use std::env;

@@ -1,5 +1,6 @@
-//! The scopes of a flow formula: for each splitter the rows that speak of its edges alone, and one of all rows that
-//! compare flows. Of two networks also those of two splitters that are likely to do the same.
+//! The scopes of a flow formula: for each splitter the rows that speak of its edges alone, one of all rows that compare
+//! flows, and one for each edge that leads from an input straight to an output. Of two networks also those of two
+//! splitters that are likely to do the same.
 //!
 //! What a search refutes is mostly refuted at one splitter, so these rows are worth asking before all. A proof by
 //! hand goes from the outputs back, splitter by splitter, and so do the scopes. What is left then is a matter of
@@ -76,7 +77,8 @@ struct Gaps {
 
 /// The scopes of the rows of a network's flow formula, as lists of their places. Each splitter has one: the rows
 /// whose columns are all flows of its edges, or the load or the room at one of these. The splitters nearest to the
-/// outputs come first, and for `drawn-evenly` the farthest. Behind them comes a scope of the rows that compare flows.
+/// outputs come first, and for `drawn-evenly` the farthest. Behind them comes a scope of the rows that compare flows, and
+/// then one for each edge that touches no splitter.
 pub fn scopes_of(
     alloc: Global,
     net: &Net,
@@ -92,12 +94,12 @@ pub fn scopes_of(
     let farthest_first = property == Property::DrawnEvenly;
     let mut scopes = splitter_scopes(alloc, Vec::new(alloc), net, gaps, farthest_first, rows)?;
     scopes.push(comparisons(alloc, net.edges().len(), farthest_first, rows)?)?;
-    Ok(scopes)
+    direct_scopes(alloc, scopes, net, gaps, rows)
 }
 
 /// The scopes of the rows of two networks' formula: those of the splitters of the first, of the second, of each two that
-/// are likely to do the same, and then one of the rows that compare flows. The splitters nearest to the outputs come
-/// first.
+/// are likely to do the same, then one of the rows that compare flows, and those of edges that touch no splitter. The
+/// splitters nearest to the outputs come first.
 pub fn scopes_of_both(
     alloc: Global,
     first: &Net,
@@ -119,13 +121,14 @@ pub fn scopes_of_both(
     let ones = splitter_scopes(alloc, Vec::new(alloc), first, of_first, false, rows)?;
     let each = splitter_scopes(alloc, ones, second, of_second, false, rows)?;
     let columns = BothSides {
-        first: columns_of(alloc, first, of_first)?,
-        second: columns_of(alloc, second, of_second)?,
+        first: splitter_columns(alloc, first, of_first)?,
+        second: splitter_columns(alloc, second, of_second)?,
     };
     let couples = couples_of(alloc, first, second)?;
     let mut scopes = couple_scopes(alloc, each, &columns, &couples, rows)?;
     scopes.push(comparisons(alloc, edges + more, false, rows)?)?;
-    Ok(scopes)
+    let ones = direct_scopes(alloc, scopes, first, of_first, rows)?;
+    direct_scopes(alloc, ones, second, of_second, rows)
 }
 
 /// For each column its sides in either of two networks.
@@ -191,9 +194,57 @@ fn splitter_scopes(
     requires { All (λ scope. AreBelow (length rows.now) scope.items) before.items }
     ensures { IfOk result (λ scopes. All (λ scope. AreBelow (length rows.now) scope.items) scopes.items) }
 {
-    let mut lists = lists_of(alloc, net, gaps, rows)?;
+    let columns = splitter_columns(alloc, net, gaps)?;
+    let mut lists = lists_of(alloc, net.splitters(), &columns, rows)?;
     let order = ranked_splitters(alloc, net, farthest_first)?;
     in_order(alloc, before, &mut lists, &order)
+}
+
+/// The scopes of a network's edges that lead from an input straight to an output, behind others: for each the rows that
+/// speak of it alone.
+fn direct_scopes(
+    alloc: Global,
+    before: Vec<Vec<usize>>,
+    net: &Net,
+    gaps: Gaps,
+    rows: &[Row],
+) -> Result<Vec<Vec<usize>>, AllocError>
+    requires { All (λ scope. AreBelow (length rows.now) scope.items) before.items }
+    ensures { IfOk result (λ scopes. All (λ scope. AreBelow (length rows.now) scope.items) scopes.items) }
+{
+    let (sides, order) = direct_sides(alloc, net)?;
+    let columns = columns_of(alloc, net, &sides, gaps)?;
+    let count = u32::try_from(order.len()).unwrap_or(0);
+    let mut lists = lists_of(alloc, count, &columns, rows)?;
+    in_order(alloc, before, &mut lists, &order)
+}
+
+/// For each edge its number among those that lead from an input straight to an output, as if it were a splitter's, where
+/// it is one of these; and all these numbers.
+fn direct_sides(alloc: Global, net: &Net) -> Result<(Vec<Sides>, Vec<usize>), AllocError> {
+    let mut all = Vec::new(alloc);
+    let mut numbers = Vec::new(alloc);
+    for edge in net.edges() {
+        if Sides::of(edge) == Sides::NONE {
+            all.push(Sides {
+                start: u32::try_from(numbers.len()).ok(),
+                target: None,
+            })?;
+            numbers.push(numbers.len())?;
+        } else {
+            all.push(Sides::NONE)?;
+        }
+    }
+    Ok((all, numbers))
+}
+
+/// For each column the splitters at its edge.
+fn splitter_columns(alloc: Global, net: &Net, gaps: Gaps) -> Result<Vec<Sides>, AllocError> {
+    let mut sides = Vec::with_capacity(alloc, net.edges().len())?;
+    for edge in net.edges() {
+        sides.push(Sides::of(edge))?;
+    }
+    columns_of(alloc, net, &sides, gaps)
 }
 
 /// The rows that compare flows or add them up: those of two flows or more, and of nothing else. A check takes rows in
@@ -249,19 +300,18 @@ fn in_order(
     Ok(scopes)
 }
 
-/// For each splitter the rows that speak of its edges alone.
+/// For each of so many splitters the rows all of whose columns are at it.
 fn lists_of(
     alloc: Global,
-    net: &Net,
-    gaps: Gaps,
+    count: u32,
+    columns: &[Sides],
     rows: &[Row],
 ) -> Result<Vec<Vec<usize>>, AllocError>
     ensures { IfOk result (λ lists. All (λ list. AreBelow (length rows.now) list.items) lists.items) }
 {
-    let columns = columns_of(alloc, net, gaps)?;
-    let mut lists = empty_lists(alloc, net.splitters())?;
+    let mut lists = empty_lists(alloc, count)?;
     for (place, row) in rows.iter().enumerate() {
-        let sides = sides_of(&columns, row.terms());
+        let sides = sides_of(columns, row.terms());
         add(&mut lists, sides.start, place)?;
         if sides.target != sides.start {
             add(&mut lists, sides.target, place)?;
@@ -296,16 +346,20 @@ pub fn add(lists: &mut [Vec<usize>], splitter: Option<u32>, number: usize) -> Re
     Ok(())
 }
 
-/// For each column the sides of the edge whose flow it is, or of which it is the load or the room.
-fn columns_of(alloc: Global, net: &Net, gaps: Gaps) -> Result<Vec<Sides>, AllocError> {
+/// For each column the sides, of those of all edges, of the edge whose flow it is, or of which it is the load or the room.
+fn columns_of(
+    alloc: Global,
+    net: &Net,
+    edges: &[Sides],
+    gaps: Gaps,
+) -> Result<Vec<Sides>, AllocError> {
     let mut columns = vec![in alloc; Sides::NONE; gaps.before]?;
     let mut loads = vec![in alloc; Sides::NONE; net.inputs() as usize]?;
     let mut rooms = vec![in alloc; Sides::NONE; net.outputs() as usize]?;
-    for edge in net.edges() {
-        let sides = Sides::of(edge);
-        columns.push(sides)?;
-        put(&mut loads, Role::FromInput.number_in(edge), sides);
-        put(&mut rooms, Role::ToOutput.number_in(edge), sides);
+    for (edge, sides) in net.edges().iter().zip(edges) {
+        columns.push(*sides)?;
+        put(&mut loads, Role::FromInput.number_in(edge), *sides);
+        put(&mut rooms, Role::ToOutput.number_in(edge), *sides);
     }
     for _ in 0..gaps.behind {
         columns.push(Sides::NONE)?;

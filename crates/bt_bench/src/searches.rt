@@ -1,8 +1,9 @@
 //! Searches for models of formulas.
 use crate::certificates::add_clause;
+use bt_choosers::{Highest, Lowest, Recent};
 use bt_cnf::{Chooser, Formula};
 use bt_log::Log;
-use bt_sat::{Answer, Highest, Lowest, Recent, Solver};
+use bt_sat::{Answer, Solver};
 use std::alloc::{AllocError, Global};
 
 /// The most steps of a search's log.

@@ -48,7 +48,7 @@ are_definitions most f text (d ∷ ds) rest h = (h.2.0.defines, are_definitions 
 -- ---- lines of definitions
 
 -- definitions, line by line, and those of what follows
-lines_defined : (most : ℕ) (f : FormulaParts) (ds es : List Definition) (rest last : List ℕ) → MayAllStand f ds → length ds ≤ most
+pub lines_defined : (most : ℕ) (f : FormulaParts) (ds es : List Definition) (rest last : List ℕ) → MayAllStand f ds → length ds ≤ most
     → AreDefined (most - length ds) (extended f ds) rest es last → AreDefined most f (flat_map definition_line ds ++ rest) (ds ++ es) last
 lines_defined most f [] es rest last stand few h =
     let whole : most - 0 ≡ most = omega arith in subst (λ m. AreDefined m f rest es last) whole h

@@ -25,7 +25,7 @@ definition_is_no_step : (d : Definition) (step : WrittenStep) → definition_tex
 definition_is_no_step d (Lemma lits weights) e = definition_differs d 102 _ (λ s. omega arith) (λ s. omega arith) (λ s. omega arith) (e ∙ lemma_line lits weights)
 definition_is_no_step d (Learnt lits hints) e = definition_differs d 114 _ (λ s. omega arith) (λ s. omega arith) (λ s. omega arith) (e ∙ learnt_line lits hints)
 
-no_definition : (f : FormulaParts) (text : List ℕ) (steps : List WrittenStep) (blanks : List ℕ) → All IsWritten steps
+pub no_definition : (f : FormulaParts) (text : List ℕ) (steps : List WrittenStep) (blanks : List ℕ) → All IsWritten steps
     → BeginsWithLines text (map written_text steps ++ end_line ∷ []) blanks → NoneComesFirst f text
 no_definition f text [] blanks written begins d after c =
     definition_differs d 101 _ (λ s. omega arith) (λ s. omega arith) (λ s. omega arith)

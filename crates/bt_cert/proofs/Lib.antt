@@ -11,6 +11,7 @@ pub mod OneAnswer
 pub mod OneJudgement
 pub mod Narrow
 pub mod Printed
+pub mod PrintedDefined
 pub mod Stages
 pub mod Stepped
 pub mod Stops

@@ -9,7 +9,7 @@ use Rattle.bt_lin.proofs.FarkasLemmas.{one_farkas}
 use Rattle.bt_cnf.specs.Formulas.{FormulaParts, IsFormula, AscendBelow}
 use Rattle.bt_cnf.specs.declared.literal.Lit.{Lit}
 use Rattle.bt_log.specs.Units.{UnitsRefute}
-use Rattle.bt_log.specs.Validity.{clause_at}
+use Rattle.bt_cnf.specs.Units.{clause_at}
 use Rattle.bt_cert.specs.StepLines.{WrittenStep, Lemma, Learnt, lit_of}
 use Rattle.bt_cert.specs.inner.Judgements.{Judgement, Valid, Fails, IsWideAt, IsJudged}
 use Rattle.bt_cert.specs.Judging.{Negate, MayWeighRows, AreLearntLits, AreHints}

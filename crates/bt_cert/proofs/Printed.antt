@@ -7,6 +7,7 @@ use Rattle.bt_text.specs.Blanks.{IsBlank}
 use Rattle.bt_text.specs.Lines.{Lacks, line}
 use Rattle.bt_text.proofs.FirstLines.{fork}
 use Rattle.bt_frac.specs.Texts.{frac_text}
+use Rattle.bt_cnf.specs.Formulas.{FormulaParts}
 use Rattle.bt_cnf.specs.declared.literal.Lit.{Lit}
 use Rattle.bt_log.specs.Logs as log
 use Rattle.bt_log.specs.Logs.{Step}
@@ -16,7 +17,7 @@ use Rattle.std.specs.Fmt.{decimal}
 use Rattle.bt_extend.specs.Words.{written_lit_text}
 use Rattle.bt_cert.specs.StepLines.{WrittenStep, IsWritten, written_text, lit_of, step_of}
 use Rattle.bt_cert.specs.Judging.{IsWideNowhere}
-use Rattle.bt_cert.specs.Certificates.{SpellsLog, log_of, end_line}
+use Rattle.bt_cert.specs.Certificates.{SpellsLog, SpellsRefutation, log_of, end_line}
 use Rattle.bt_cert.specs.Laws.{PrintedIsRead, PrintedIsCertificate, TextTellsLog, MayBeWritten, written_lit, written_step}
 use Rattle.bt_cert.proofs.CertificateLines.{end_lacks}
 use Rattle.bt_cert.proofs.Earlier.{log_is_certificate}
@@ -74,13 +75,18 @@ spelled steps all = record {
 pub printed_is_read : PrintedIsRead
 printed_is_read steps all = (spelled steps all, log_back steps)
 
+module _ (f : FormulaParts) (steps : List Step) (refutes : Refutes f steps) (all : All MayBeWritten steps) (fits : All (λ step. IsWideNowhere f (written_step step)) steps) where
+  -- what is printed of a log that refutes a formula spells that
+  pub printed_refutation : SpellsRefutation f (log_text steps)
+  printed_refutation = record {
+    steps = map written_step steps;
+    spells = spelled steps all;
+    refutes = subst (Refutes f) (sym (log_back steps)) refutes;
+    fits = All-map (IsWideNowhere f) written_step steps fits;
+  }
+
 pub printed_is_certificate : PrintedIsCertificate
-printed_is_certificate f steps refutes all fits = log_is_certificate f (log_text steps) (record {
-  steps = map written_step steps;
-  spells = spelled steps all;
-  refutes = subst (Refutes f) (sym (log_back steps)) refutes;
-  fits = All-map (IsWideNowhere f) written_step steps fits;
-})
+printed_is_certificate f steps refutes all fits = log_is_certificate f (log_text steps) (printed_refutation f steps refutes all fits)
 
 -- steps before `end` are one list
 same_to_end : (steps others : List WrittenStep) (more : List (List ℕ)) → All IsWritten steps → All IsWritten others

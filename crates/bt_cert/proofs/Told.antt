@@ -6,8 +6,10 @@ use Rattle.std.proofs.lemmas.Bool.{cases_eq}
 use Rattle.std.proofs.lemmas.List.Elements.{All-head, All-tail, All-contains, Contains-push, Contains-push_cases, Contains-append_left}
 use Rattle.bt_cnf.specs.Formulas.{LitsBelow}
 use Rattle.bt_cnf.specs.declared.literal.Lit.{Lit}
-use Rattle.bt_log.specs.Units.{opposite, IsUnit, UnitsRefute, HasNoBothSigns}
-use Rattle.bt_log.proofs.Sound.{true_or, twice}
+use Rattle.bt_cnf.specs.Units.{opposite, IsUnit, HasNoBothSigns}
+use Rattle.bt_log.specs.Units.{UnitsRefute}
+use Rattle.bt_cnf.proofs.Signs.{twice}
+use Rattle.bt_log.proofs.Sound.{true_or}
 use Rattle.bt_cert.specs.inner.Assuming.{value_at, AreUnset, IsTrueIn, IsFalseIn, IsUnitIn, Propagates, Tells, with_value}
 use Rattle.bt_cert.proofs.Assumed.{true_not_false, unset_not_false, unset_not_true}
 

@@ -7,7 +7,7 @@ use Rattle.std.proofs.lemmas.List.Elements.{All-map, All-contains, Contains-push
 use Rattle.bt_cnf.specs.Formulas.{LitsBelow}
 use Rattle.bt_cnf.specs.declared.literal.Lit.{Lit}
 use Rattle.bt_log.specs.Units.{UnitsRefute}
-use Rattle.bt_log.specs.Validity.{clause_at}
+use Rattle.bt_cnf.specs.Units.{clause_at}
 use Rattle.bt_cert.specs.inner.Checking.{Checking}
 use Rattle.bt_cert.specs.Judging.{AreHints}
 use Rattle.bt_cert.specs.inner.Assuming.{Propagates, with_value, IsFalseIn}

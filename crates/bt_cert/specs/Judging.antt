@@ -9,8 +9,9 @@ use Rattle.bt_lin.specs.declared.places.Place.{Place}
 use Rattle.bt_lin.specs.declared.wide.WideAt.{WideAt}
 use Rattle.bt_cnf.specs.Formulas.{FormulaParts, LitsBelow}
 use Rattle.bt_cnf.specs.declared.literal.Lit.{Lit}
-use Rattle.bt_log.specs.Units.{HasNoBothSigns, UnitsRefute}
-use Rattle.bt_log.specs.Validity.{NegatesAtom, clause_at, IsValidStep}
+use Rattle.bt_cnf.specs.Units.{HasNoBothSigns, clause_at}
+use Rattle.bt_log.specs.Units.{UnitsRefute}
+use Rattle.bt_log.specs.Validity.{NegatesAtom, IsValidStep}
 use Rattle.bt_cert.specs.StepLines.{WrittenStep, Lemma, Learnt, lit_of, step_of}
 use Rattle.bt_cert.specs.declared.fault.Cause.{Cause}
 use Rattle.bt_cert.specs.declared.fault.Cause.TheVariants as cause

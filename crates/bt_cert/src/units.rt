@@ -2,7 +2,7 @@
 ghost use Rattle.std.specs.Prelude.{◌≡◌, ◌<◌, ◌-◌, length, IfOk, IfSome, IfNone, IsTrue, ◌↔◌};
 ghost use Rattle.std.specs.List.{All};
 ghost use Rattle.bt_cnf.specs.Formulas.{LitsBelow};
-ghost use Rattle.bt_log.specs.Validity.{clause_at};
+ghost use Rattle.bt_cnf.specs.Units.{clause_at};
 ghost use Rattle.bt_cert.specs.Judging.{AreHints};
 ghost use Rattle.bt_cert.specs.inner.Assuming.{IsFalseIn, IsUnitIn, HasNoUnit};
 ghost use Rattle.bt_cert.specs.inner.Refuting.{IsSound, IsPropagated, IsRefuted, hinted, places_of};

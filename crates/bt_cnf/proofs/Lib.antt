@@ -1,2 +1,5 @@
 pub mod Atoms
 pub mod Ends
+pub mod Lacking
+pub mod Lists
+pub mod Signs

@@ -3,4 +3,7 @@ pub mod Choosing
 pub mod Formulas
 pub mod Meeting
 pub mod Places
+pub mod Truths
+pub mod Units
+pub mod Unset
 pub mod inner

@@ -1,2 +1,4 @@
 -- What the contracts of private functions cite.
 pub mod RowPlaces
+pub mod Unset
+pub mod Worths

@@ -7,6 +7,8 @@ mod formula;
 mod limits;
 mod literal;
 mod row_place;
+mod truth;
+mod unset;
 
 pub use assignment::is_true;
 pub use chooser::{Chooser, Pick};
@@ -14,3 +16,5 @@ pub use formula::Formula;
 pub use limits::Limits;
 pub use literal::{Clause, ClauseId, Lit, Var, Variable};
 pub use std::alloc::AllocError as Memory;
+pub use truth::{Values, Worth, is_lit_false, is_lit_true};
+pub use unset::{lacks_value, list_unset};

@@ -6,10 +6,12 @@ pub mod FormTexts
 pub mod Formed
 pub mod InLine
 pub mod ItemLists
+pub mod Lines
 pub mod NoItems
 pub mod Numbers
 pub mod OneDefinition
 pub mod Opposites
 pub mod SameOn
+pub mod Sizes
 pub mod Taken
 pub mod TermWords

@@ -1,5 +1,5 @@
 -- The lines of definitions.
-use Rattle.std.specs.Prelude.{◌≡◌, ◌≢◌, ℕ, ◌+◌, ◌<◌, ◌^◌, All, List, ◌∷◌, [], ◌++◌, codes, cond, Option, Some, None}
+use Rattle.std.specs.Prelude.{◌≡◌, ◌≢◌, ℕ, ◌+◌, ◌<◌, ◌^◌, All, List, ◌∷◌, [], ◌++◌, flat_map, codes, cond, Option, Some, None}
 use Rattle.std.specs.Fmt.{decimal}
 use Rattle.bt_frac.specs.Ratio.{Ratio}
 use Rattle.bt_frac.specs.Texts.{frac_text}
@@ -30,6 +30,10 @@ definition_text (Disjunction lits) = codes "v" ++ (words named_text lits ++ code
 -- the line of a definition
 abbrev pub definition_line : Definition → List ℕ
 definition_line d = definition_text d ++ 10 ∷ []
+
+-- the lines of definitions
+abbrev pub definitions_text : List Definition → List ℕ
+definitions_text definitions = flat_map definition_line definitions
 
 -- the number of a variable, from 1 on, has at most 18 digits
 abbrev pub IsNumbered : ℕ → Type 0

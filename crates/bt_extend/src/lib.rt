@@ -8,6 +8,7 @@ mod form;
 mod item;
 mod items;
 mod law;
+mod printing;
 mod reading;
 mod written;
 
@@ -21,6 +22,7 @@ pub use law::{
     cut_meets, definitions_are_conservative, extended_is_formula, meeting_goes_on,
     printed_definition_is_read, refuted_extension_is_unmet,
 };
+pub use printing::print_definitions;
 pub use reading::read_definition;
 pub use std::alloc::AllocError as Memory;
 pub use written::{MOST_NUMBER, WrittenLit, place_of};

@@ -6,11 +6,11 @@ use Rattle.std.proofs.Math.Nat.{mul-le-mul_right}
 use Rattle.bt_model.proofs.PathLemmas.{crowded}
 use Rattle.bt_parts.specs.declared.part.Cell.{Cell}
 use Rattle.bt_parts.specs.declared.part.Rect.{Rect}
-use Rattle.bt_rules.specs.declared.fact.Fact.{Fact}
-use Rattle.bt_rules.specs.Rules.{not_all, at_most_one}
-use Rattle.bt_rules.specs.Spots.{is_inside, where_inside, where_outside}
+use Rattle.bt_facts.specs.declared.fact.Fact.{Fact}
+use Rattle.bt_facts.specs.Rules.{not_all, at_most_one}
+use Rattle.bt_facts.specs.Spots.{is_inside, where_inside, where_outside}
 use Rattle.bt_place.proofs.Counting.{get_map, length_map, length_range}
-use Rattle.bt_rules.proofs.Keeping.{In}
+use Rattle.bt_facts.proofs.Keeping.{In}
 
 -- the list has at most so many items
 pub record HasFew {X : Type 0} (xs : List X) (n : ℕ) : Type 0 where

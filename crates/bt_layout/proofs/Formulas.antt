@@ -5,11 +5,11 @@ use Rattle.std.proofs.lemmas.List.Elements.{All-from_recursion}
 use Rattle.bt_cnf.specs.Formulas.{IsFormula, LitsBelow}
 use Rattle.bt_cnf.specs.declared.literal.Lit.{Lit}
 use Rattle.bt_model.specs.Requests.{LayoutRequest, IsRequest}
-use Rattle.bt_rules.specs.declared.fact.Fact.{Fact}
+use Rattle.bt_facts.specs.declared.fact.Fact.{Fact}
 use Rattle.bt_place.specs.Numbering.{variables}
 use Rattle.bt_rules.specs.PlaceRules.{rules_of}
-use Rattle.bt_rules.specs.Rules.{Rule}
-use Rattle.bt_rules.proofs.Keeping.{each_both}
+use Rattle.bt_facts.specs.Rules.{Rule}
+use Rattle.bt_facts.proofs.Keeping.{each_both}
 use Rattle.bt_place.specs.PlaceFormula.{sizes_of, splitter_order, literal, clause_of, place_formula}
 use Rattle.bt_place.specs.Within.{IsNumbered, HasNumbered}
 use Rattle.bt_place.proofs.Inverse.{fact_at}

@@ -13,5 +13,6 @@ mod Through
 mod Told
 mod Sweeps
 mod Smaller
+mod Skipping
 pub mod Narrow
 mod Ending

@@ -1,6 +1,7 @@
 -- On no grid that a search left behind do any parts show the network.
 use Rattle.std.proofs.Common.{ℕ, List, [], ◌∷◌, ◌++◌, inl, inr, sym, subst, ⊎_elim, arith}
 use Rattle.std.specs.List.{All, AllPairs, Contains}
+use Rattle.std.specs.declared.option.Option.{Option}
 use Rattle.std.proofs.lemmas.List.Elements.{All-tail, Contains-append_cases}
 use Rattle.bt_parts.specs.declared.part.Rect.{Rect}
 use Rattle.bt_model.proofs.Sorted.{contains_cases, contains_none, pairs_head, pairs_tail}
@@ -8,7 +9,7 @@ use Rattle.bt_model.specs.Requests.{LayoutRequest}
 use Rattle.bt_layout.specs.Layouts.{HasNoLayout}
 use Rattle.bt_layout.specs.declared.outcome.RuledOut.{RuledOut}
 use Rattle.bt_layout.specs.declared.outcome.Smallest.TheVariants.{Found, Nowhere, Spent}
-use Rattle.bt_layout.specs.Grids.{AreGrids, ComesBefore, IsWithin}
+use Rattle.bt_layout.specs.Grids.{AreGridsFrom, ComesBefore, IsSkipped, IsWithin}
 use Rattle.bt_layout.specs.Smallest.{IsFirstLeft, IsRuledOut, PassedHasNoLayout, grids_of, request_on}
 
 -- no two grids come before each other
@@ -36,11 +37,11 @@ module _ (r : LayoutRequest) (learnt : ℕ) (grid : Rect) where
       (contains_cases one.grid (grids_of earlier) grid has)
 
   -- a grid that comes before the first that is left
-  before_none : (earlier : List RuledOut) (first : Rect) (later : List Rect) → All (IsRuledOut r learnt) earlier
-      → AreGrids r.rect (grids_of earlier ++ first ∷ later) → IsWithin r.rect grid → ComesBefore grid first → HasNoLayout (request_on r grid)
-  before_none earlier first later ruled are within before =
-      ⊎_elim (passed_none earlier ruled) (λ behind. absurd (not_behind (grids_of earlier) later first grid are.in_order behind before))
-      (Contains-append_cases (grids_of earlier) (first ∷ later) grid (are.all grid within))
+  before_none : (first : Option Rect) (earlier : List RuledOut) (left : Rect) (later : List Rect) → All (IsRuledOut r learnt) earlier
+      → AreGridsFrom first r.rect (grids_of earlier ++ left ∷ later) → IsWithin r.rect grid → (IsSkipped first grid → ⊥) → ComesBefore grid left → HasNoLayout (request_on r grid)
+  before_none first earlier left later ruled are within taken before =
+      ⊎_elim (passed_none earlier ruled) (λ behind. absurd (not_behind (grids_of earlier) later left grid are.in_order behind before))
+      (Contains-append_cases (grids_of earlier) (left ∷ later) grid (are.all grid within taken))
 
 -- what holds of all items of a list holds of one among them
 among : {X : Type 0} (P : X → Type 0) (front behind : List X) (x : X) → All P (front ++ x ∷ behind) → P x
@@ -48,12 +49,16 @@ among P [] behind x all = all 0 x (omega arith)
 among P (y ∷ front) behind x all = among P front behind x (All-tail P y (front ++ x ∷ behind) all)
 
 -- the first grid that is left is within the greatest one
-pub left_within : (r : LayoutRequest) (learnt : ℕ) (earlier : List RuledOut) (grid : Rect) → IsFirstLeft r learnt earlier grid → IsWithin r.rect grid
-left_within r learnt earlier grid is = among (IsWithin r.rect) (grids_of earlier) is.later grid is.in_order.within
+pub left_within : (first : Option Rect) (r : LayoutRequest) (learnt : ℕ) (earlier : List RuledOut) (grid : Rect) → IsFirstLeft first r learnt earlier grid → IsWithin r.rect grid
+left_within first r learnt earlier grid is = among (IsWithin r.rect) (grids_of earlier) is.later grid is.in_order.within
+
+-- and isn't passed by
+pub left_taken : (first : Option Rect) (r : LayoutRequest) (learnt : ℕ) (earlier : List RuledOut) (grid : Rect) → IsFirstLeft first r learnt earlier grid → IsSkipped first grid → ⊥
+left_taken first r learnt earlier grid is = among (λ g. IsSkipped first g → ⊥) (grids_of earlier) is.later grid is.in_order.none_skipped
 
 pub passed_has_no_layout : PassedHasNoLayout
-passed_has_no_layout r learnt (Found earlier first parts) grid is within before =
-    before_none r learnt grid earlier.items first is.0.later is.0.ruled_out is.0.in_order within before
-passed_has_no_layout r learnt (Nowhere earlier) grid is within before = passed_none r learnt grid earlier.items is.1 (is.0.all grid within)
-passed_has_no_layout r learnt (Spent earlier first log) grid is within before =
-    before_none r learnt grid earlier.items first is.0.later is.0.ruled_out is.0.in_order within before
+passed_has_no_layout first r learnt (Found earlier left parts) grid is within taken before =
+    before_none r learnt grid first earlier.items left is.0.later is.0.ruled_out is.0.in_order within taken before
+passed_has_no_layout first r learnt (Nowhere earlier) grid is within taken before = passed_none r learnt grid earlier.items is.1 (is.0.all grid within taken)
+passed_has_no_layout first r learnt (Spent earlier left log) grid is within taken before =
+    before_none r learnt grid first earlier.items left is.0.later is.0.ruled_out is.0.in_order within taken before

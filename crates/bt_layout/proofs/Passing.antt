@@ -1,19 +1,23 @@
 -- One grid after another.
 use Rattle.std.proofs.Common.{◌≡◌, ℕ, suc, ◌+◌, ◌<◌, ◌≤◌, List, [], ◌∷◌, ◌++◌, length, get_or, take, drop, refl, sym, ◌∙◌, ap, subst, arith, take-append-drop}
 use Rattle.std.specs.List.{All}
+use Rattle.std.specs.declared.option.Option.{Option}
 use Rattle.std.proofs.Math.Seq.{drop-cons}
 use Rattle.std.proofs.lemmas.List.{map-append, take_all, take_more}
 use Rattle.std.proofs.lemmas.List.Elements.{All-nil, All-push}
 use Rattle.bt_parts.specs.declared.part.Rect.{Rect}
 use Rattle.bt_parts.specs.Cells.{IsInside}
+use Rattle.bt_net.specs.NetText.{alone}
 use Rattle.bt_net.specs.declared.network.Demand.{Demand}
 use Rattle.bt_net.specs.declared.network.Demand.TheVariants as demand
+use Rattle.bt_net.specs.Network.{Network}
+use Rattle.bt_net.proofs.Preference.{plain_alone}
 use Rattle.bt_log.specs.declared.log.Log.{Log}
 use Rattle.bt_model.specs.Requests.{LayoutRequest, IsRequest, IsPinnedInside, blocked}
 use Rattle.bt_layout.specs.Layouts.{IsLayout}
 use Rattle.bt_layout.specs.declared.outcome.Layout.TheVariants as layout
 use Rattle.bt_layout.specs.declared.outcome.RuledOut.{RuledOut}
-use Rattle.bt_layout.specs.Grids.{AreGrids, IsWithin}
+use Rattle.bt_layout.specs.Grids.{AreGridsFrom, IsWithin}
 use Rattle.bt_layout.specs.Smallest.{IsFirstLeft, IsRuledOut, NamesNoCell, NamesNoCells, grids_of, request_on}
 use Rattle.bt_layout.specs.inner.Passing.{ArePassed}
 
@@ -26,6 +30,7 @@ inside grid (demand.Side side) h = tt
 pub asked_on : (r : LayoutRequest) (grid : Rect) → IsRequest r → NamesNoCells r → IsWithin r.rect grid → IsRequest (request_on r grid)
 asked_on r grid is none within = record {
   net = is.net;
+  plain = is.plain;
   grid = record {
     some_width = within.some_width;
     few_across = let a = within.few_across in let b = is.grid.few_across in omega (arith, a, b);
@@ -42,6 +47,12 @@ asked_on r grid is none within = record {
   blocks_apart = is.blocks_apart;
   blocks_unpinned = is.blocks_unpinned;
 }
+
+-- a copy of its network without its priorities is asked for as the network is, which has none
+pub asked_again : (r : LayoutRequest) (copy : Network) (grid : Rect) (made : LayoutRequest) → IsRequest (request_on r grid) → copy ≡ alone r.net
+    → made ≡ request_on (record r { net = alone copy }) grid → made ≡ request_on r grid
+asked_again r copy grid made is same asked =
+    let once : alone copy ≡ alone r.net = ap alone same in asked ∙ ap (λ n. request_on (record r { net = n }) grid) (once ∙ plain_alone r.net is.plain)
 
 module _ (r : LayoutRequest) (learnt : ℕ) (grids : List Rect) where
   pub none_passed : (earlier : List RuledOut) → earlier ≡ [] → ArePassed r learnt grids 0 earlier
@@ -61,16 +72,16 @@ module _ (r : LayoutRequest) (learnt : ℕ) (grids : List Rect) where
         }
 
     -- the grids before this one are ruled out
-    pub first_left : AreGrids r.rect grids → IsFirstLeft r learnt earlier grid
-    first_left all = record {
+    pub first_left : (first : Option Rect) → AreGridsFrom first r.rect grids → IsFirstLeft first r learnt earlier grid
+    first_left first all = record {
       later = drop (suc place) grids;
-      in_order = subst (AreGrids r.rect) (sym (
+      in_order = subst (AreGridsFrom first r.rect) (sym (
           ap (λ gs. gs ++ grid ∷ drop (suc place) grids) are.first ∙ ap (λ g. take place grids ++ g ∷ drop (suc place) grids) at
           ∙ ap (λ gs. take place grids ++ gs) (sym (drop-cons grids place grid within)) ∙ take-append-drop place grids)) all;
       ruled_out = are.ruled_out;
     }
 
   -- all grids are ruled out
-  pub all_passed : (place : ℕ) (earlier : List RuledOut) → ArePassed r learnt grids place earlier → length grids ≤ place → AreGrids r.rect grids
-      → AreGrids r.rect (grids_of earlier) × All (IsRuledOut r learnt) earlier
-  all_passed place earlier are ended all = (subst (AreGrids r.rect) (sym (are.first ∙ take_all place grids ended)) all, are.ruled_out)
+  pub all_passed : (place : ℕ) (earlier : List RuledOut) → ArePassed r learnt grids place earlier → length grids ≤ place → (first : Option Rect) → AreGridsFrom first r.rect grids
+      → AreGridsFrom first r.rect (grids_of earlier) × All (IsRuledOut r learnt) earlier
+  all_passed place earlier are ended first all = (subst (AreGridsFrom first r.rect) (sym (are.first ∙ take_all place grids ended)) all, are.ruled_out)

@@ -23,29 +23,32 @@ use Rattle.bt_net.specs.declared.network.Pin.{Pin}
 use Rattle.bt_net.specs.Network.{leaves}
 use Rattle.bt_net.specs.PinText.{HasEnds}
 use Rattle.bt_model.specs.Requests.{LayoutRequest, IsRequest, HasEnd, Names, ends_of, pinned, blocked}
-use Rattle.bt_rules.specs.declared.fact.Class.{Class}
-use Rattle.bt_rules.specs.declared.fact.Class.TheVariants as class
-use Rattle.bt_rules.specs.declared.fact.Content.TheVariants.{Empty}
-use Rattle.bt_rules.specs.declared.fact.Fact.{Fact}
-use Rattle.bt_rules.specs.declared.fact.Fact.TheVariants.{Kind, Carries, HalfOn, Begins, Starts, Stops, Pair, Tunnel, Goes, At, Column, Row, Points, EntersLesser}
-use Rattle.bt_rules.specs.declared.fact.Half.{Half}
-use Rattle.bt_rules.specs.declared.fact.Half.TheVariants.{Lesser}
-use Rattle.bt_rules.specs.declared.fact.Shape.TheVariants as shape
+use Rattle.bt_facts.specs.declared.fact.Class.{Class}
+use Rattle.bt_facts.specs.declared.fact.Class.TheVariants as class
+use Rattle.bt_facts.specs.declared.fact.Content.TheVariants.{Empty}
+use Rattle.bt_facts.specs.declared.fact.Fact.{Fact}
+use Rattle.bt_facts.specs.declared.fact.Fact.TheVariants.{Kind, Carries, HalfOn, Begins, Starts, Stops, Pair, Tunnel, Goes, At, Column, Row, Points, EntersLesser}
+use Rattle.bt_facts.specs.declared.fact.Half.{Half}
+use Rattle.bt_facts.specs.declared.fact.Half.TheVariants.{Lesser}
+use Rattle.bt_facts.specs.declared.fact.Shape.TheVariants as shape
 use Rattle.bt_rules.specs.Carrying.{carried_rules, taken_rule, kept_in_rules, onward_rules, carrying_rules}
-use Rattle.bt_rules.specs.Classes.{classes_of, input_classes, occurs, ends_out, is_through, same_class, classes_into, splitters_of, shared_into}
-use Rattle.bt_rules.specs.Contents.{holds, contents, content_rules, shape_rules, mate_rules, class_rules}
-use Rattle.bt_rules.specs.Counting.{halves_of, has_room, last_cell_rule, one_fewer_rules, held_rules, all_held_rules, count_rules}
-use Rattle.bt_rules.specs.Going.{going_rules, inner_rules, goes_into, fed_belt, fed_entrance, begin_rules, once_rules, handing_rules}
-use Rattle.bt_rules.specs.Pinning.{is_edge_of, end_shapes, turned_rules, pin_rules, clashes, clash_rules, end_classes, not_begun, begun_rules, stop_rules, apart_rules, pins_other, unpinned_rules, side_end_rules, ends_named, demand_rules, block_rule}
-use Rattle.bt_rules.specs.PlaceRules.{cell_rules, splitter_rules, end_rules, rules_of}
+use Rattle.bt_demands.specs.Classes.{classes_of, input_classes, occurs, ends_out, is_through, same_class, classes_into, splitters_of, shared_into}
+use Rattle.bt_facts.specs.Facts.{holds}
+use Rattle.bt_rules.specs.Contents.{contents, content_rules, shape_rules, mate_rules, class_rules}
+use Rattle.bt_demands.specs.Counting.{halves_of, has_room, last_cell_rule, one_fewer_rules, held_rules, all_held_rules, count_rules}
+use Rattle.bt_rules.specs.Going.{going_rules, inner_rules, fed_belt, fed_entrance, begin_rules, once_rules, handing_rules}
+use Rattle.bt_facts.specs.Facts.{goes_into}
+use Rattle.bt_demands.specs.Pinning.{is_edge_of, end_shapes, turned_rules, pin_rules, clashes, clash_rules, end_classes, not_begun, begun_rules, stop_rules, apart_rules, pins_other, unpinned_rules, side_end_rules, ends_named, demand_rules, block_rule}
+use Rattle.bt_rules.specs.PlaceRules.{cell_rules, splitter_rules, rules_of}
+use Rattle.bt_demands.specs.Ends.{end_rules}
 use Rattle.bt_rules.specs.Ports.{two_in_rules, in_rules, out_rules, standing_port_rules, port_rules}
-use Rattle.bt_rules.specs.Rules.{rule, rule_by, some_of, not_all}
-use Rattle.bt_rules.specs.Spots.{dirs, halves, others_than, behind, mate, half_at, other_half, is_inside, row_cells, cells_of, is_border, border_of, where_inside}
+use Rattle.bt_facts.specs.Rules.{rule, rule_by, some_of, not_all}
+use Rattle.bt_facts.specs.Spots.{dirs, halves, others_than, behind, mate, half_at, other_half, is_inside, row_cells, cells_of, is_border, border_of, where_inside}
 use Rattle.bt_rules.specs.Standing.{owner_rule, at_rules, name_rule, standing_rules, place_rules}
-use Rattle.bt_rules.specs.Starts.{start_rules, input_rules}
+use Rattle.bt_demands.specs.Starts.{start_rules, input_rules}
 use Rattle.bt_rules.specs.Underground.{most_distance, tunnel_rules, pairs_from, pairs_into, back, paired_rules, way_rules, pair_class_rules, pair_rules, piece_rules, underground_rules}
-use Rattle.bt_rules.specs.Within.{sides_outputs, stopping}
-use Rattle.bt_rules.proofs.Keeping.{In, place_of, from_map, from_range}
+use Rattle.bt_demands.specs.Stopping.{sides_outputs, stopping}
+use Rattle.bt_facts.proofs.Keeping.{In, place_of, from_map, from_range}
 use Rattle.bt_place.specs.inner.Grid.{spot_in, spots_in, cell_numbered}
 use Rattle.bt_place.specs.PlaceFormula.{sizes_of, clause_of, place_formula}
 use Rattle.bt_place.proofs.Cells.{spot_within, spot_numbered}

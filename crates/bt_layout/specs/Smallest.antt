@@ -1,5 +1,5 @@
 -- What is right to say of the least grid on which parts lay a request.
-use Rattle.std.specs.Prelude.{◌≡◌, ℕ, ◌≤◌, List, [], ◌∷◌, ◌++◌, All, AllPairs, length, map}
+use Rattle.std.specs.Prelude.{◌≡◌, ℕ, ◌≤◌, List, [], ◌∷◌, ◌++◌, All, AllPairs, Option, length, map}
 use Rattle.bt_parts.specs.declared.part.Rect.{Rect}
 use Rattle.bt_net.specs.declared.network.Demand.{Demand}
 use Rattle.bt_net.specs.declared.network.Demand.TheVariants as demand
@@ -12,7 +12,7 @@ use Rattle.bt_layout.specs.Layouts.{HasNoLayout}
 use Rattle.bt_layout.specs.declared.outcome.RuledOut.{RuledOut}
 use Rattle.bt_layout.specs.declared.outcome.Smallest.{Smallest}
 use Rattle.bt_layout.specs.declared.outcome.Smallest.TheVariants.{Found, Nowhere, Spent}
-use Rattle.bt_layout.specs.Grids.{AreGrids, ComesBefore, IsWithin}
+use Rattle.bt_layout.specs.Grids.{AreGridsFrom, ComesBefore, IsSkipped, IsWithin}
 
 -- the line names no cell
 abbrev pub NamesNoCell : Demand → Type 0
@@ -38,19 +38,19 @@ pub record IsRuledOut (r : LayoutRequest) (learnt : ℕ) (one : RuledOut) : Type
 abbrev pub grids_of : List RuledOut → List Rect
 grids_of earlier = map (λ (one : RuledOut). one.grid) earlier
 
--- all grids before this one in the order of grids are ruled out
-pub record IsFirstLeft (r : LayoutRequest) (learnt : ℕ) (earlier : List RuledOut) (grid : Rect) : Type 0 where
+-- all grids before this one in the order of grids are ruled out, but those that the search passes by
+pub record IsFirstLeft (first : Option Rect) (r : LayoutRequest) (learnt : ℕ) (earlier : List RuledOut) (grid : Rect) : Type 0 where
   pub later : List Rect
-  pub in_order : AreGrids r.rect (grids_of earlier ++ grid ∷ later)
+  pub in_order : AreGridsFrom first r.rect (grids_of earlier ++ grid ∷ later)
   pub ruled_out : All (IsRuledOut r learnt) earlier
 
--- what is right to say: the parts lay the request of the grid, in ascending order of y and then x, and all grids before it are ruled out; or all grids are; or those before the grid are, of whose request the log has so many steps, and one more is needed
-abbrev pub IsSmallest : LayoutRequest → ℕ → Smallest → Type 0
-IsSmallest r learnt (Found earlier grid parts) =
-    IsFirstLeft r learnt earlier.items grid × Lays parts.items (request_on r grid) × AllPairs ComesAbove parts.items
-IsSmallest r learnt (Nowhere earlier) = AreGrids r.rect (grids_of earlier.items) × All (IsRuledOut r learnt) earlier.items
-IsSmallest r learnt (Spent earlier grid log) =
-    IsFirstLeft r learnt earlier.items grid × IsUsedUp (place_formula (request_on r grid)) learnt log.steps
+-- what is right to say of the grids that a search doesn't pass by: the parts lay the request of the grid, in ascending order of y and then x, and all those before it are ruled out; or all of them are; or those before the grid are, of whose request the log has so many steps, and one more is needed
+abbrev pub IsSmallest : Option Rect → LayoutRequest → ℕ → Smallest → Type 0
+IsSmallest first r learnt (Found earlier grid parts) =
+    IsFirstLeft first r learnt earlier.items grid × Lays parts.items (request_on r grid) × AllPairs ComesAbove parts.items
+IsSmallest first r learnt (Nowhere earlier) = AreGridsFrom first r.rect (grids_of earlier.items) × All (IsRuledOut r learnt) earlier.items
+IsSmallest first r learnt (Spent earlier grid log) =
+    IsFirstLeft first r learnt earlier.items grid × IsUsedUp (place_formula (request_on r grid)) learnt log.steps
 
 -- a grid that the search left behind: one before the grid that it names, or any where it names none
 abbrev pub IsPassed : Smallest → Rect → Type 0
@@ -58,7 +58,7 @@ IsPassed (Found earlier grid parts) other = ComesBefore other grid
 IsPassed (Nowhere earlier) other = Unit {0}
 IsPassed (Spent earlier grid log) other = ComesBefore other grid
 
--- no parts lay the request on a grid that the search left behind
+-- no parts lay the request on a grid that the search left behind, but those that it passed by
 abbrev pub PassedHasNoLayout : Type 0
-PassedHasNoLayout = (r : LayoutRequest) (learnt : ℕ) (answer : Smallest) (grid : Rect) → IsSmallest r learnt answer
-    → IsWithin r.rect grid → IsPassed answer grid → HasNoLayout (request_on r grid)
+PassedHasNoLayout = (first : Option Rect) (r : LayoutRequest) (learnt : ℕ) (answer : Smallest) (grid : Rect) → IsSmallest first r learnt answer
+    → IsWithin r.rect grid → (IsSkipped first grid → ⊥) → IsPassed answer grid → HasNoLayout (request_on r grid)

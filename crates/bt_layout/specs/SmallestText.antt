@@ -1,5 +1,5 @@
 -- The text of what a search for the least grid comes to, and one for small grids.
-use Rattle.std.specs.Prelude.{ℕ, List, [], ◌++◌, codes, decimal, length}
+use Rattle.std.specs.Prelude.{ℕ, List, [], ◌++◌, Option, Some, None, codes, decimal, length}
 use Rattle.std.specs.List.{flat_map}
 use Rattle.bt_text.specs.Lines.{line}
 use Rattle.bt_parts.specs.declared.part.Rect.{Rect}
@@ -20,9 +20,18 @@ none_word = codes "none"
 abbrev pub nowhere_text : List Step → List ℕ
 nowhere_text steps = line none_word ++ log_text steps
 
--- the line of a grid: its width, `x` and its height
+-- the line of a word and the numbers of a grid: its width, `x` and its height
+abbrev pub rect_line : List ℕ → Rect → List ℕ
+rect_line word grid = line (word ++ decimal grid.width ++ codes "x" ++ decimal grid.height)
+
+-- the line of a grid
 abbrev pub grid_line : Rect → List ℕ
-grid_line grid = line (codes "grid " ++ decimal grid.width ++ codes "x" ++ decimal grid.height)
+grid_line grid = rect_line (codes "grid ") grid
+
+-- the line of the grid with which a search begins; none where none is named
+abbrev pub from_line : Option Rect → List ℕ
+from_line (Some first) = rect_line (codes "from ") first
+from_line None = []
 
 -- of a grid that is ruled out: its line, and the none certificate
 abbrev pub ruled_out_text : RuledOut → List ℕ
@@ -42,11 +51,15 @@ blueprint_of (Spent earlier grid log) = []
 abbrev pub spent_on_text : Rect → List Step → List ℕ
 spent_on_text grid steps = line (codes "spent " ++ decimal (length steps)) ++ grid_line grid ++ log_text steps
 
--- the text: the grids that are ruled out, and then the line of the grid of the parts and their blueprint; or those grids alone; or the log that is used up
-abbrev pub smallest_text : Smallest → List ℕ
-smallest_text (Found earlier grid parts) = earlier_text earlier.items ++ grid_line grid ++ blueprint_text parts.items
-smallest_text (Nowhere earlier) = earlier_text earlier.items
-smallest_text (Spent earlier grid log) = spent_on_text grid log.steps
+-- the text, behind the grid with which the search begins: the grids that are ruled out, and then the line of the grid of the parts and their blueprint; or those grids alone; or the log that is used up
+abbrev pub least_text : Smallest → List ℕ
+least_text (Found earlier grid parts) = earlier_text earlier.items ++ grid_line grid ++ blueprint_text parts.items
+least_text (Nowhere earlier) = earlier_text earlier.items
+least_text (Spent earlier grid log) = spent_on_text grid log.steps
+
+-- the whole text: the line of the grid with which the search begins, where one is named, and what it comes to
+abbrev pub smallest_text : Option Rect → Smallest → List ℕ
+smallest_text first answer = from_line first ++ least_text answer
 
 -- the blueprint of the parts that are found on a small grid; else nothing
 abbrev pub blueprint_of_small : Small → List ℕ

@@ -1,6 +1,7 @@
 -- Definitions that private functions alone cite.
 pub mod Ends
 pub mod Ranks
+pub mod Skipping
 pub mod Passing
 pub mod Progressing
 pub mod Likely

@@ -4,16 +4,25 @@ ghost use Rattle.bt_model.specs.Requests.{LayoutRequest};
 ghost use Rattle.bt_layout.specs.Early.{IsEarly};
 ghost use Rattle.bt_layout.specs.inner.Progressing.{ArePassed, IsProgress, IsSweep};
 
+use crate::lessening::seek_lesser;
 use crate::outcome::Early;
 use crate::progress::{Laid, Progress, first_progress};
-use crate::sweep::{Means, Sweep, after_search, first_sweep};
+use crate::sweep::{Means, Sweep, after_search, after_sketch, first_sweep};
 use crate::whole::after_all;
 use bt_model::Request;
 use bt_narrow::is_likely;
+use bt_parts::Rect;
+use bt_shrink::Shrunk;
 use std::alloc::{AllocError, Global};
 
 /// The most steps of a search of a request in whose rectangle a layout is likely.
 const LIKELY_STEPS: u64 = 8192;
+
+/// After so many steps the least layout is made smaller.
+const RUN_STEPS: u64 = 5_000;
+
+/// It is for about as long as so many conflicts of a light search take.
+const RUN_EFFORT: u64 = 40_000;
 
 /// The most steps of a search in the first round. Each later round has twice as many as the one before it.
 const FIRST_STEPS: u64 = 128;
@@ -23,6 +32,9 @@ const ROUNDS: u32 = 24;
 
 /// How many requests in a row a round passes before it ends.
 const MOST_PASSED: usize = 8;
+
+/// How many it passes where it makes sketches.
+const MOST_SKETCHED: usize = 3;
 
 /// Looks for a layout of one of the requests, with so many steps of all searches together. Each layout that is
 /// found lets it go on to the requests before that one, where an earlier request is the better one.
@@ -59,6 +71,111 @@ fn after_rounds(
     Ok(sweep.progress)
 }
 
+/// How many requests in a row a round passes before it ends.
+fn most_passed(means: Means) -> usize {
+    match means {
+        Means::Sketch => MOST_SKETCHED,
+        Means::Search(_) => MOST_PASSED,
+    }
+}
+
+/// An index that is at most so great.
+fn within(at: usize, most: usize) -> usize
+    ensures less { result ≤ at }
+    ensures most { result ≤ most }
+{
+    if at < most { at } else { most }
+}
+
+/// With a search of the request whose place is at this index, and then with smaller layouts where they are due.
+fn after_turn(
+    alloc: Global,
+    requests: &[Request],
+    learnt: u64,
+    sweep: Sweep,
+    at: usize,
+    means: Means,
+) -> Result<Sweep, AllocError>
+    requires sweep { IsSweep requests.now learnt sweep }
+    requires inside { at < length sweep.places.items }
+    ensures { IfOk result (IsSweep requests.now learnt) }
+{
+    let searched = after_search(alloc, requests, learnt, sweep, at, means)?;
+    after_runs(alloc, requests, learnt, searched)
+}
+
+/// With the least layout made smaller as often as it is due after so many steps.
+fn after_runs(
+    alloc: Global,
+    requests: &[Request],
+    learnt: u64,
+    begun: Sweep,
+) -> Result<Sweep, AllocError>
+    requires { IsSweep requests.now learnt begun }
+    ensures { IfOk result (IsSweep requests.now learnt) }
+{
+    let (first, runs) = (begun.runs, begun.progress.steps / RUN_STEPS);
+    let mut sweep = begun;
+    for number in first..runs {
+        sweep = after_lesser(alloc, requests, learnt, sweep, number)?;
+    }
+    Ok(Sweep { runs, ..sweep })
+}
+
+/// With the layout that was found made smaller.
+fn after_lesser(
+    alloc: Global,
+    requests: &[Request],
+    learnt: u64,
+    sweep: Sweep,
+    number: u64,
+) -> Result<Sweep, AllocError>
+    requires { IsSweep requests.now learnt sweep }
+    ensures { IfOk result (IsSweep requests.now learnt) }
+{
+    match seek_lesser(
+        alloc,
+        requests,
+        sweep.progress.found.as_ref(),
+        RUN_EFFORT,
+        number,
+    )? {
+        Some(shrunk) => after_shrunk(alloc, requests, learnt, sweep, &shrunk),
+        None => Ok(sweep),
+    }
+}
+
+/// With a smaller layout, where a request has its rectangle.
+fn after_shrunk(
+    alloc: Global,
+    requests: &[Request],
+    learnt: u64,
+    sweep: Sweep,
+    shrunk: &Shrunk,
+) -> Result<Sweep, AllocError>
+    requires { IsSweep requests.now learnt sweep }
+    ensures { IfOk result (IsSweep requests.now learnt) }
+{
+    match index_with(requests, &sweep.places, shrunk.rect) {
+        Some(at) if at < sweep.places.len() => {
+            after_sketch(alloc, requests, learnt, sweep, at, &shrunk.sketch)
+        }
+        _ => Ok(sweep),
+    }
+}
+
+/// The index of the place of a request with this rectangle.
+fn index_with(requests: &[Request], places: &[usize], rect: Rect) -> Option<usize> {
+    for at in 0..places.len() {
+        if let Some(request) = requests.get(places[at]) {
+            if request.rect() == rect {
+                return Some(at);
+            }
+        }
+    }
+    None
+}
+
 /// With a search of each request in whose rectangle a layout is likely.
 fn after_likely(
     alloc: Global,
@@ -74,6 +191,7 @@ fn after_likely(
     while at > 0 && sweep.progress.steps < learnt {
         at -= 1;
         sweep = looked_where_likely(alloc, requests, learnt, sweep, at)?;
+        at = within(at, sweep.places.len());
     }
     Ok(sweep)
 }
@@ -89,12 +207,11 @@ fn looked_where_likely(
     requires sweep { IsSweep requests.now learnt sweep }
     requires inside { at < length sweep.places.items }
     ensures sweep { IfOk result (IsSweep requests.now learnt) }
-    ensures places { IfOk result (λ after. at ≤ length after.places.items) }
 {
     let place = sweep.places[at];
     if is_likely(alloc, &requests[place])? {
         let means = Means::Search(LIKELY_STEPS);
-        after_search(alloc, requests, learnt, sweep, at, means)
+        after_turn(alloc, requests, learnt, sweep, at, means)
     } else {
         Ok(sweep)
     }
@@ -117,10 +234,10 @@ fn after_round(
         ..begun
     };
     let mut at = sweep.places.len();
-    while at > 0 && sweep.progress.steps < learnt && sweep.passed < MOST_PASSED {
+    while at > 0 && sweep.progress.steps < learnt && sweep.passed < most_passed(means) {
         at -= 1;
-        sweep = after_search(alloc, requests, learnt, sweep, at, means)?;
-        at = at.saturating_sub(sweep.skipped);
+        sweep = after_turn(alloc, requests, learnt, sweep, at, means)?;
+        at = within(at, sweep.places.len()).saturating_sub(sweep.skipped);
     }
     Ok(sweep)
 }

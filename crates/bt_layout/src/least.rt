@@ -1,28 +1,32 @@
 //! Searching for the least grid on which parts lay a request.
 ghost use Rattle.std.specs.Prelude.{◌≡◌, IfOk};
-ghost use Rattle.bt_net.specs.Network.{HasNoPriorities};
+ghost use Rattle.bt_net.specs.NetText.{alone};
 ghost use Rattle.bt_model.specs.Requests.{IsRequest};
 ghost use Rattle.bt_layout.specs.Layouts.{IsLayout};
 ghost use Rattle.bt_layout.specs.Smallest.{IsSmallest, NamesNoCells, request_on};
 
-use crate::order::grids;
+use crate::order::grids_from;
 use crate::outcome::{Layout, RuledOut, Smallest};
 use crate::searching::layout;
+use bt_choosers::Highest;
 use bt_model::Request;
 use bt_net::Net;
 use bt_parts::Rect;
-use bt_sat::Highest;
 use std::alloc::{AllocError, Global};
 
-/// Searches for the least grid, of at most as many cells each way as the request's rectangle, on which parts lay the
-/// request, with a log of at most so many steps for each grid by itself. The request names no cells. A layout has
-/// no priorities to show, so no splitter of the network prefers an edge.
-pub fn smallest(alloc: Global, request: &Request, learnt: u64) -> Result<Smallest, AllocError>
-    requires cells { NamesNoCells request.now }
-    requires plain { HasNoPriorities request.now.net }
-    ensures { IfOk result (IsSmallest request.now learnt) }
+/// Searches for the least grid, of at most as many cells each way as the request's rectangle and from the first on where
+/// one is named, on which parts lay the request, with a log of at most so many steps for each grid by itself. The
+/// request names no cells.
+pub fn smallest(
+    alloc: Global,
+    first: Option<Rect>,
+    request: &Request,
+    learnt: u64,
+) -> Result<Smallest, AllocError>
+    requires { NamesNoCells request.now }
+    ensures { IfOk result (IsSmallest first request.now learnt) }
 {
-    let grids = grids(alloc, request.rect())?;
+    let grids = grids_from(alloc, first, request.rect())?;
     let mut earlier = Vec::new(alloc);
     for place in 0..grids.len() {
         let grid = grids[place];
@@ -50,7 +54,6 @@ fn layout_on(
 ) -> Result<Layout, AllocError>
     requires request { IsRequest (request_on request.now grid) }
     requires cells { NamesNoCells request.now }
-    requires plain { HasNoPriorities request.now.net }
     ensures { IfOk result (IsLayout (request_on request.now grid) learnt) }
 {
     let request = request_on(alloc, request, grid)?;
@@ -63,7 +66,6 @@ fn layout_on(
 pub fn request_on(alloc: Global, request: &Request, grid: Rect) -> Result<Request, AllocError>
     requires request { IsRequest (request_on request.now grid) }
     requires cells { NamesNoCells request.now }
-    requires plain { HasNoPriorities request.now.net }
     ensures { IfOk result (λ again. again ≡ request_on request.now grid) }
 {
     let net = copy_of(alloc, request.net())?;
@@ -75,10 +77,9 @@ pub fn request_on(alloc: Global, request: &Request, grid: Rect) -> Result<Reques
     }
 }
 
-/// The same network again.
+/// The same network again, without the edges that its splitters prefer.
 fn copy_of(alloc: Global, net: &Net) -> Result<Net, AllocError>
-    requires { HasNoPriorities net.now }
-    ensures { IfOk result (λ copy. copy ≡ net.now) }
+    ensures { IfOk result (λ copy. copy ≡ alone net.now) }
 {
     let edges = Vec::from_slice(alloc, net.edges())?;
     match Net::new(net.inputs(), net.outputs(), net.splitters(), edges) {

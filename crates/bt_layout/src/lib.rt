@@ -5,6 +5,7 @@
 mod early;
 mod law;
 mod least;
+mod lessening;
 mod likely;
 mod order;
 mod outcome;
@@ -15,6 +16,7 @@ mod seeking;
 mod sketched;
 mod small;
 mod sweep;
+mod tight;
 mod turning;
 mod whole;
 

@@ -5,14 +5,16 @@ ghost use Rattle.bt_place.specs.PlaceFormula.{place_formula};
 ghost use Rattle.bt_sat.specs.Solving.{begun};
 ghost use Rattle.bt_layout.specs.inner.Likely.{IsNarrowedSearch, IsTrial, IsTried, Solves};
 
+use crate::tight::is_tight;
+use bt_choosers::{Active, Part as PlanPart, Plan, Turn};
 use bt_cnf::{Formula, Lit};
 use bt_model::Request;
 use bt_narrow::{
     Attempt, Choice, Course, first_rows, looped_places, looped_rows, narrowings, no_tunnels, places,
 };
-use bt_parts::{Part, Rect};
+use bt_parts::Part;
 use bt_place::{Numbers, decode, encode_place, literal_of, narrow};
-use bt_sat::{Active, Answer, Part as PlanPart, Plan, Solver, Turn};
+use bt_sat::{Answer, Solver};
 use std::alloc::{AllocError, Global};
 
 /// The search restarts after as many steps as the numbers of Luby's sequence times this one say.
@@ -78,8 +80,11 @@ pub fn push_choices(
 
 /// The plan that the splitters are placed first, from both ends of the network to its middle.
 pub fn placing(alloc: Global, formula: &Formula, request: &Request) -> Result<Plan, AllocError> {
-    let numbers = Numbers::new(alloc, request)?;
     let mut plan = Plan::new(alloc, RESTART_STEPS);
+    if is_tight(request) {
+        return Ok(plan);
+    }
+    let numbers = Numbers::new(alloc, request)?;
     let rect = request.rect();
     let chosen = places(alloc, request, rect, rect.width)?;
     let lits = literals_of(alloc, formula, &numbers, &chosen)?;
@@ -152,16 +157,11 @@ pub fn likely(
 }
 
 /// The placement formula with more clauses, which not every layout meets.
-pub fn narrowed(
-    alloc: Global,
-    request: &Request,
-    numbers: &Numbers,
-    window: Rect,
-) -> Result<Formula, AllocError>
+pub fn narrowed(alloc: Global, request: &Request, numbers: &Numbers) -> Result<Formula, AllocError>
     ensures { IfOk result (IsNarrowed (place_formula request.now)) }
 {
     let mut formula = encode_place(alloc, request)?;
-    let rules = narrowings(alloc, request, window)?;
+    let rules = narrowings(alloc, request)?;
     narrow(alloc, &mut formula, numbers, &rules)?;
     Ok(formula)
 }
@@ -200,7 +200,7 @@ fn solver_by(
 ) -> Result<Solver<Active>, AllocError>
     ensures { IfOk result (λ solver. IsNarrowedSearch request.now attempt.steps solver.kernel) }
 {
-    let formula = narrowed(alloc, request, numbers, attempt.window)?;
+    let formula = narrowed(alloc, request, numbers)?;
     let plan = likely(alloc, &formula, numbers, request, attempt)?;
     planned(alloc, formula, plan, attempt.steps)
 }

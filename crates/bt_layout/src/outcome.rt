@@ -20,8 +20,8 @@ pub struct RuledOut {
     pub log: Log,
 }
 
-/// What a search for the least grid comes to. `earlier` are the grids that were searched before it, in the
-/// order of grids.
+/// What a search for the least grid comes to, of the grids that it doesn't pass by. `earlier` are those that were
+/// searched before it, in the order of grids.
 #[derive(Drop)]
 pub enum Smallest {
     /// The parts show the network on this grid, and on no grid before it do any. They come in ascending

@@ -2,8 +2,8 @@
 ghost use Rattle.std.specs.Prelude.{◌≡◌, ◌++◌, IfOk};
 ghost use Rattle.bt_io.specs.Bytes.{WritesText};
 ghost use Rattle.bt_io.specs.Passages.{passage};
-ghost use Rattle.bt_layout.specs.SmallestText.{blueprint_of, earlier_text, grid_line, nowhere_text};
-ghost use Rattle.bt_layout.specs.SmallestText.{ruled_out_text, smallest_text, spent_on_text};
+ghost use Rattle.bt_layout.specs.SmallestText.{blueprint_of, earlier_text, from_line, grid_line, nowhere_text};
+ghost use Rattle.bt_layout.specs.SmallestText.{least_text, rect_line, ruled_out_text, smallest_text, spent_on_text};
 ghost use Rattle.bt_layout.specs.SmallestText.{blueprint_of_small, found_none_text, small_text};
 
 use crate::outcome::{RuledOut, Small, Smallest};
@@ -23,16 +23,37 @@ pub fn blueprint_of(alloc: Global, answer: &Smallest) -> Result<Vec<u8>, AllocEr
     }
 }
 
-/// Writes the text of what a search comes to, where this is the blueprint of the parts that were found.
+/// Writes the text of what a search comes to, which begins with the first grid where one is named, and where this is the
+/// blueprint of the parts that were found.
 ///
 /// Where the sink fails, which its count of faults shows, a proper prefix of the text was written.
 pub fn print_smallest<K: Sink>(
+    first: Option<Rect>,
     answer: &Smallest,
     blueprint: &[u8],
     sink: &mut K,
 ) -> Result<(), WriteFault>
     requires { blueprint.now ≡ blueprint_of answer.now }
-    ensures { WritesText (passage K.held K.faults sink.old sink.new) (smallest_text answer.now) result }
+    ensures { WritesText (passage K.held K.faults sink.old sink.new) (smallest_text first answer.now) result }
+{
+    print_from(first, sink)?;
+    print_least(answer, blueprint, sink)
+}
+
+/// Writes the line of the grid with which a search begins, where one is named.
+fn print_from<K: Sink>(first: Option<Rect>, sink: &mut K) -> Result<(), WriteFault>
+    ensures { WritesText (passage K.held K.faults sink.old sink.new) (from_line first) result }
+{
+    match first {
+        Some(first) => print_rect(b"from ", first, sink),
+        None => Ok(()),
+    }
+}
+
+/// Writes what stands behind that line.
+fn print_least<K: Sink>(answer: &Smallest, blueprint: &[u8], sink: &mut K) -> Result<(), WriteFault>
+    requires { blueprint.now ≡ blueprint_of answer.now }
+    ensures { WritesText (passage K.held K.faults sink.old sink.new) (least_text answer.now) result }
 {
     match answer {
         Smallest::Found { earlier, grid, .. } => print_found(earlier, *grid, blueprint, sink),
@@ -123,11 +144,18 @@ fn print_ruled_out<K: Sink>(one: &RuledOut, sink: &mut K) -> Result<(), WriteFau
 fn print_grid<K: Sink>(grid: Rect, sink: &mut K) -> Result<(), WriteFault>
     ensures { WritesText (passage K.held K.faults sink.old sink.new) (grid_line grid) result }
 {
+    print_rect(b"grid ", grid, sink)
+}
+
+/// Writes a line of the numbers of a grid behind a word.
+fn print_rect<K: Sink>(word: &[u8], grid: Rect, sink: &mut K) -> Result<(), WriteFault>
+    ensures { WritesText (passage K.held K.faults sink.old sink.new) (rect_line word.now grid) result }
+{
     let mut width = Buffer::new();
     let mut height = Buffer::new();
     let width = width.format(grid.width).as_bytes();
     let height = height.format(grid.height).as_bytes();
-    write_pieces(sink, &[b"grid ", width, b"x", height, b"\n"])
+    write_pieces(sink, &[word, width, b"x", height, b"\n"])
 }
 
 /// Writes the grid whose log is used up, and the log.

@@ -8,6 +8,7 @@ ghost use Rattle.bt_layout.specs.inner.Progressing.{HasLog, IsWhole};
 use crate::likely::{Trial, Tried, placing};
 use crate::outcome::Layout;
 use crate::sketched::{look_by_sketch, look_in_windows};
+use crate::tight::is_tight;
 use bt_cnf::Chooser;
 use bt_log::Log;
 use bt_model::Request;
@@ -84,6 +85,9 @@ fn early_layout(
 ) -> Result<Option<Vec<Part>>, AllocError>
     ensures { IfOk result (λ found. IfSome found (λ parts. IsLaidOut request.now parts.items)) }
 {
+    if is_tight(request) {
+        return Ok(None);
+    }
     let Tried { trial, .. } = look_by_sketch(alloc, request, learnt)?;
     match trial {
         Trial::Found(parts) => Ok(Some(parts)),

@@ -1,23 +1,27 @@
 //! Searches by the structure of a network: of a request in which it gives the numbers, in a rectangle that may be smaller.
 //! What is found is told as a sketch of the first request, so nothing is claimed of it.
+
+use crate::lessening::seek_by_lessening;
 use crate::likely::{likely, narrowed, planned};
+use crate::sketched::{SKETCHED_STEPS, solver_with};
 use crate::turning::{add_stretched, turned_part, turned_rect};
+use bt_choosers::Active;
 use bt_cnf::Formula;
+use bt_facts::{Fact, Shape, cells_of, holds};
 use bt_model::Request;
 use bt_narrow::{Attempt, attempts};
-use bt_parts::{Cell, Dir, Kind, Part, Rect};
+use bt_parts::{Cell, DIRS, Dir, Kind, Part, Rect};
 use bt_place::{Numbers, literal_of};
 use bt_route::{Named, Sketch, find_sketch, name_by_structure};
-use bt_rules::{Fact, Shape, cells_of, holds};
-use bt_sat::{Active, Answer, Solver};
+use bt_sat::{Answer, Solver};
 use std::alloc::{AllocError, Global};
 
-/// The four directions.
-const DIRS: [Dir; 4] = [Dir::North, Dir::East, Dir::South, Dir::West];
+/// Before each search of more steps than these a greater layout is made smaller.
+const SHORT_STEPS: u64 = 8192;
 
 /// A request whose numbers come from the structure, in a rectangle of the first request's.
 #[derive(Drop)]
-struct Ground {
+pub struct Ground {
     named: Named,
     /// The first request's rectangle, turned over as the other is.
     great: Rect,
@@ -97,7 +101,7 @@ impl Ground {
     }
 
     /// A sketch as one of the first request.
-    fn told(&self, alloc: Global, sketch: &Sketch) -> Result<Sketch, AllocError> {
+    pub fn told(&self, alloc: Global, sketch: &Sketch) -> Result<Sketch, AllocError> {
         let mut splitters = Vec::new(alloc);
         for (splitter, part) in &sketch.splitters {
             splitters.push((self.named.first_number(*splitter), self.first_part(*part)))?;
@@ -182,10 +186,23 @@ impl Ground {
     fn seek(&self, alloc: Global, attempt: Attempt) -> Result<Sought, AllocError> {
         let request = &self.named.request;
         let numbers = Numbers::new(alloc, request)?;
-        let formula = narrowed(alloc, request, &numbers, attempt.window)?;
+        let formula = narrowed(alloc, request, &numbers)?;
         let plan = likely(alloc, &formula, &numbers, request, attempt)?;
         let mut solver = planned(alloc, formula, plan, attempt.steps)?;
         self.outcome(alloc, &numbers, &mut solver)
+    }
+
+    /// Its request.
+    pub fn request(&self) -> &Request {
+        &self.named.request
+    }
+
+    /// A sketch of its request as one of the first.
+    pub fn show(&self, alloc: Global, sketch: &Sketch) -> Result<Option<Sketch>, AllocError> {
+        let request = &self.named.request;
+        let numbers = Numbers::new(alloc, request)?;
+        let mut solver = solver_with(alloc, request, sketch, SKETCHED_STEPS)?;
+        Ok(self.outcome(alloc, &numbers, &mut solver)?.sketch)
     }
 
     /// A sketch of a layout.
@@ -204,7 +221,7 @@ fn is_turned(request: &Request) -> bool {
 }
 
 /// The first request's rectangle, turned over where it is searched so.
-fn great_rect(request: &Request) -> Rect {
+pub fn great_rect(request: &Request) -> Rect {
     if is_turned(request) {
         turned_rect(request.rect())
     } else {
@@ -213,7 +230,11 @@ fn great_rect(request: &Request) -> Rect {
 }
 
 /// The ground in a rectangle.
-fn ground_in(alloc: Global, request: &Request, rect: Rect) -> Result<Option<Ground>, AllocError> {
+pub fn ground_in(
+    alloc: Global,
+    request: &Request,
+    rect: Rect,
+) -> Result<Option<Ground>, AllocError> {
     match name_by_structure(alloc, request, rect)? {
         Some(named) => Ok(Some(Ground {
             named,
@@ -259,7 +280,13 @@ pub fn seek_where_likely(
     request: &Request,
     steps: u64,
 ) -> Result<Option<Sketch>, AllocError> {
-    for attempt in &attempts_at(alloc, request, steps)? {
+    for (place, attempt) in attempts_at(alloc, request, steps)?.iter().enumerate() {
+        if attempt.steps > SHORT_STEPS {
+            let lessened = seek_by_lessening(alloc, request, place)?;
+            if lessened.is_some() {
+                return Ok(lessened);
+            }
+        }
         let sought = seek_in_window(alloc, request, *attempt)?;
         if sought.sketch.is_some() {
             return Ok(sought.sketch);

@@ -6,18 +6,19 @@ ghost use Rattle.bt_layout.specs.inner.Likely.{IsNarrowedSearch, IsTrial, IsTrie
 
 use crate::likely::{Trial, Tried, planned, push_choices, trial_by};
 use crate::seeking::{seek_by_sketch, seek_where_likely};
+use bt_choosers::{Active, Plan, Turn};
 use bt_cnf::Formula;
+use bt_facts::{Content, Fact, Shape, cells_of, holds};
 use bt_model::Request;
 use bt_narrow::Choice;
 use bt_parts::{Kind, Part};
 use bt_place::{Numbers, encode_place};
 use bt_route::Sketch;
-use bt_rules::{Content, Fact, Shape, cells_of, holds};
-use bt_sat::{Active, Plan, Solver, Turn};
+use bt_sat::Solver;
 use std::alloc::{AllocError, Global};
 
 /// The most steps of a search with a sketch. One that shows a layout takes none.
-const SKETCHED_STEPS: u64 = 64;
+pub const SKETCHED_STEPS: u64 = 64;
 
 /// That a belt or an underground piece stands where a sketch has it.
 fn standing(part: &Part) -> Option<Choice> {
@@ -87,7 +88,7 @@ fn bare(alloc: Global, request: &Request) -> Result<Formula, AllocError>
 }
 
 /// The search with a sketch.
-fn solver_with(
+pub fn solver_with(
     alloc: Global,
     request: &Request,
     sketch: &Sketch,
@@ -113,13 +114,26 @@ fn trial_with(
     trial_by(alloc, request, &mut solver)
 }
 
+/// Looks for the layout that a sketch of the request shows, by at most so many steps. What is found is a layout; where none
+/// is found, nothing is said.
+pub fn look_at_sketch(
+    alloc: Global,
+    request: &Request,
+    sketch: &Sketch,
+    steps: u64,
+) -> Result<Tried, AllocError>
+    ensures { IfOk result (IsTried request.now steps) }
+{
+    trial_with(alloc, request, sketch, steps.min(SKETCHED_STEPS))
+}
+
 /// Looks for a layout that a sketch of the request shows, by at most so many steps. What is found is a layout; where none is
 /// found, nothing is said.
 pub fn look_by_sketch(alloc: Global, request: &Request, steps: u64) -> Result<Tried, AllocError>
     ensures { IfOk result (IsTried request.now steps) }
 {
     match seek_by_sketch(alloc, request)? {
-        Some(sketch) => trial_with(alloc, request, &sketch, steps.min(SKETCHED_STEPS)),
+        Some(sketch) => look_at_sketch(alloc, request, &sketch, steps),
         None => Ok(Tried {
             trial: Trial::Spent,
             steps: 0,

@@ -1,6 +1,5 @@
 //! Looking for small grids on which parts lay a request.
 ghost use Rattle.std.specs.Prelude.{◌↔◌, ℕ, IfOk, IsTrue, Option};
-ghost use Rattle.bt_net.specs.Network.{HasNoPriorities};
 ghost use Rattle.bt_model.specs.Requests.{LayoutRequest};
 ghost use Rattle.bt_layout.specs.Early.{IsEarly};
 ghost use Rattle.bt_layout.specs.Small.{HasFewer, IsSmall};
@@ -20,15 +19,14 @@ use std::alloc::{AllocError, Global};
 /// all searches together. The least that is found is told. Where not all steps were taken, on no other such grid that
 /// is lesser do any parts lay the request.
 ///
-/// The request names no cells. A layout has no priorities to show, so no splitter of the network prefers an edge.
+/// The request names no cells.
 pub fn find_small(
     alloc: Global,
     request: &Request,
     cells: Option<u64>,
     learnt: u64,
 ) -> Result<Small, AllocError>
-    requires cells { NamesNoCells request.now }
-    requires plain { HasNoPriorities request.now.net }
+    requires { NamesNoCells request.now }
     ensures { IfOk result (IsSmall request.now cells learnt) }
 {
     let requests = small_requests(alloc, request, cells)?;
@@ -42,8 +40,7 @@ fn small_requests(
     request: &Request,
     cells: Option<u64>,
 ) -> Result<Vec<Request>, AllocError>
-    requires cells { NamesNoCells request.now }
-    requires plain { HasNoPriorities request.now.net }
+    requires { NamesNoCells request.now }
     ensures { IfOk result (λ requests. AskEach request.now cells requests.items) }
 {
     let grids = grids(alloc, request.rect())?;

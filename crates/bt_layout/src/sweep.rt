@@ -7,10 +7,11 @@ ghost use Rattle.bt_layout.specs.inner.Progressing.{ArePaid, IsProgress, IsSearc
 
 use crate::likely::{Trial, Tried, look_in};
 use crate::progress::{Laid, Progress, lesser, with_layout, with_steps};
-use crate::sketched::look_by_sketch;
+use crate::sketched::{look_at_sketch, look_by_sketch};
 use bt_model::Request;
 use bt_narrow::{Attempt, whole};
 use bt_parts::Part;
+use bt_route::Sketch;
 use std::alloc::{AllocError, Global};
 
 /// How a layout of a request is looked for.
@@ -33,6 +34,8 @@ pub struct Sweep {
     pub skipped: usize,
     /// How many requests were passed in a row.
     pub passed: usize,
+    /// How often a layout was made smaller, or would have been.
+    pub runs: u64,
 }
 
 /// At the beginning each request that is lesser than the one that was laid may be laid.
@@ -46,6 +49,7 @@ pub fn first_sweep(alloc: Global, count: usize, progress: Progress) -> Result<Sw
         places,
         skipped: 0,
         passed: 0,
+        runs: 0,
     })
 }
 
@@ -92,6 +96,26 @@ pub fn after_search(
     Ok(after_trial(sweep, at, tried))
 }
 
+/// Tries a sketch of the request whose place is at this index, with steps of those that are left of so many.
+pub fn after_sketch(
+    alloc: Global,
+    requests: &[Request],
+    learnt: u64,
+    sweep: Sweep,
+    at: usize,
+    sketch: &Sketch,
+) -> Result<Sweep, AllocError>
+    requires sweep { IsSweep requests.now learnt sweep }
+    requires inside { at < length sweep.places.items }
+    ensures sweep { IfOk result (IsSweep requests.now learnt) }
+    ensures places { IfOk result (λ after. at ≤ length after.places.items) }
+{
+    let place = sweep.places[at];
+    let left = learnt.saturating_sub(sweep.progress.steps);
+    let tried = look_at_sketch(alloc, &requests[place], sketch, left)?;
+    Ok(after_trial(sweep, at, tried))
+}
+
 /// With what a search came to.
 fn after_trial(sweep: Sweep, at: usize, tried: Tried) -> Sweep
     requires inside { at < length sweep.places.items }
@@ -122,6 +146,7 @@ fn after_layout(sweep: Sweep, at: usize, steps: u64, parts: Vec<Part>) -> Sweep
         progress,
         mut places,
         skipped,
+        runs,
         ..
     } = sweep;
     let place = places[at];
@@ -131,6 +156,7 @@ fn after_layout(sweep: Sweep, at: usize, steps: u64, parts: Vec<Part>) -> Sweep
         places,
         skipped: skipped.saturating_mul(2).saturating_add(1),
         passed: 0,
+        runs,
     }
 }
 
@@ -145,6 +171,7 @@ fn after_refutation(sweep: Sweep, at: usize, steps: u64) -> Sweep
         progress,
         mut places,
         passed,
+        runs,
         ..
     } = sweep;
     let _ = places.remove(at);
@@ -153,6 +180,7 @@ fn after_refutation(sweep: Sweep, at: usize, steps: u64) -> Sweep
         places,
         skipped: 0,
         passed,
+        runs,
     }
 }
 
@@ -166,6 +194,7 @@ fn after_giving_up(sweep: Sweep, steps: u64) -> Sweep
         progress,
         places,
         passed,
+        runs,
         ..
     } = sweep;
     Sweep {
@@ -173,6 +202,7 @@ fn after_giving_up(sweep: Sweep, steps: u64) -> Sweep
         places,
         skipped: 0,
         passed: passed.saturating_add(1),
+        runs,
     }
 }
 

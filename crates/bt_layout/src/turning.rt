@@ -5,29 +5,6 @@ use std::alloc::AllocError;
 /// More cells than any rectangle has each way.
 const MOST: u32 = 16;
 
-/// The next cell in a direction.
-pub fn ahead(cell: Cell, dir: Dir) -> Cell {
-    let Cell { x, y } = cell;
-    match dir {
-        Dir::North => Cell {
-            x,
-            y: y.wrapping_sub(1),
-        },
-        Dir::East => Cell {
-            x: x.wrapping_add(1),
-            y,
-        },
-        Dir::South => Cell {
-            x,
-            y: y.wrapping_add(1),
-        },
-        Dir::West => Cell {
-            x: x.wrapping_sub(1),
-            y,
-        },
-    }
-}
-
 /// A direction where rows and columns are exchanged.
 fn turned_dir(dir: Dir) -> Dir {
     match dir {
@@ -67,7 +44,7 @@ fn add_belts(
 ) -> Result<(), AllocError> {
     let mut cell = part.cell;
     for _ in 0..MOST {
-        cell = ahead(cell, towards);
+        cell = cell.next(towards);
         if inside(&rect, cell) {
             others.push(Part {
                 kind: Kind::Belt,
@@ -98,10 +75,10 @@ pub fn add_stretched(
 ) -> Result<(), AllocError> {
     others.push(part)?;
     let back = part.dir.opposite();
-    if begins && !inside(&small, ahead(part.cell, back)) {
+    if begins && !inside(&small, part.cell.next(back)) {
         add_belts(others, great, part, back)?;
     }
-    if hands_ahead(part) && !inside(&small, ahead(part.cell, part.dir)) {
+    if hands_ahead(part) && !inside(&small, part.cell.next(part.dir)) {
         add_belts(others, great, part, part.dir)?;
     }
     Ok(())

@@ -6,8 +6,8 @@ ghost use Rattle.bt_layout.specs.inner.Progressing.{ArePassed, IsEnded, IsProgre
 use crate::outcome::Layout;
 use crate::progress::{Laid, Progress, lesser, with_layout, with_steps};
 use crate::searching::{Searched, search_whole};
+use bt_choosers::Highest;
 use bt_model::Request;
-use bt_sat::Highest;
 use std::alloc::{AllocError, Global};
 
 /// Searches for a layout of each request that is lesser than the one that was laid, from the greatest one downwards, by

@@ -14,8 +14,10 @@ use Rattle.bt_cnf.specs.Meeting.{IsTrueUnder, MeetsClause, Meets}
 use Rattle.bt_cnf.specs.declared.literal.Lit.{Lit}
 use Rattle.bt_log.specs.Laws.{RefutedIsUnmet}
 use Rattle.bt_log.specs.Logs.{Step, Lemma, Learnt, clause_of}
-use Rattle.bt_log.specs.Units.{opposite, IsUnit, UnitsRefute}
-use Rattle.bt_log.specs.Validity.{NegatesAtom, clause_at, IsValidLemma, IsValidLearnt, IsValidStep, AreValid}
+use Rattle.bt_cnf.specs.Units.{opposite, IsUnit, clause_at}
+use Rattle.bt_log.specs.Units.{UnitsRefute}
+use Rattle.bt_log.specs.Validity.{NegatesAtom, IsValidLemma, IsValidLearnt, IsValidStep, AreValid}
+use Rattle.bt_cnf.proofs.Signs.{twice}
 
 -- a literal of a variable with two values is true or its opposite is
 pub true_or : (a b : Bool) → (a ≡ b) ⊎ (a ≡ not b)
@@ -29,10 +31,6 @@ not_self true true p q = false≢true (sym q)
 not_self true false p q = false≢true (sym p)
 not_self false true p q = false≢true p
 not_self false false p q = false≢true q
-
-pub twice : (b : Bool) → not (not b) ≡ b
-twice true = refl
-twice false = refl
 
 -- the literal is false under the assignment
 IsFalseUnder : (ℕ → Bool) → Lit → Type 0

@@ -1,5 +1,5 @@
 -- Valid steps.
-use Rattle.std.specs.Prelude.{◌≡◌, ℕ, ◌<◌, List, [], ◌∷◌, ◌++◌, length, map, false, slice_index_or, Contains}
+use Rattle.std.specs.Prelude.{◌≡◌, ℕ, ◌<◌, List, [], ◌∷◌, ◌++◌, length, map, false, Contains}
 use Rattle.std.specs.List.{All, AllZip, zip}
 use Rattle.bt_frac.specs.Ratio.{Ratio, IsLowest}
 use Rattle.bt_frac.specs.Rows.{RowParts}
@@ -7,15 +7,12 @@ use Rattle.bt_lin.specs.FalseSums.{IsFalseSum}
 use Rattle.bt_cnf.specs.Formulas.{FormulaParts, LitsBelow}
 use Rattle.bt_cnf.specs.declared.literal.Lit.{Lit}
 use Rattle.bt_log.specs.Logs.{Step, Lemma, Learnt, clause_of}
-use Rattle.bt_log.specs.Units.{HasNoBothSigns, UnitsRefute}
+use Rattle.bt_cnf.specs.Units.{HasNoBothSigns, clause_at}
+use Rattle.bt_log.specs.Units.{UnitsRefute}
 
 -- the literal is the negation of the atom that has this row
 abbrev pub NegatesAtom : FormulaParts → Lit → RowParts → Type 0
 NegatesAtom f l row = (l.positive ≡ false) × Contains f.atoms (l.var, row)
-
--- the clause with this number
-abbrev pub clause_at : List (List Lit) → ℕ → List Lit
-clause_at clauses number = slice_index_or clauses number []
 
 -- the literals are negations of atoms, whose rows with the weights, one for each, add up to a false sum
 pub record IsValidLemma (f : FormulaParts) (lits : List Lit) (weights : List Ratio) : Type 0 where

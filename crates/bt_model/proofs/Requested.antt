@@ -7,7 +7,7 @@ use Rattle.std.proofs.lemmas.Option.{same_Some, slice_get_within, slice_get-get_
 use Rattle.bt_answers.specs.Answers.{AnswersAlways, HasOneAnswer}
 use Rattle.bt_answers.proofs.OneAnswer.{answers_always_of}
 use Rattle.bt_parts.specs.declared.part.Rect.{Rect}
-use Rattle.bt_parts.specs.Cells.{IsInside}
+use Rattle.bt_parts.specs.Cells.{IsInside, cell_at}
 use Rattle.bt_net.specs.declared.network.Demand.{Demand}
 use Rattle.bt_net.specs.declared.network.Demand.TheVariants as demand
 use Rattle.bt_net.specs.declared.network.Edge.{Edge}
@@ -15,11 +15,11 @@ use Rattle.bt_net.specs.declared.network.End.{End}
 use Rattle.bt_net.specs.declared.network.End.TheVariants as end
 use Rattle.bt_net.specs.declared.network.Ends.{Ends}
 use Rattle.bt_net.specs.declared.network.Ends.TheVariants.{One, Inputs, Outputs}
-use Rattle.bt_net.specs.Network.{Network, IsNetwork, HasEnd}
+use Rattle.bt_net.specs.Network.{Network, IsNetwork, HasEnd, HasNoPriorities}
 use Rattle.bt_model.specs.declared.fault.RequestFault.{RequestFault}
 use Rattle.bt_model.specs.declared.fault.RequestFault.TheVariants as fault
 use Rattle.bt_model.specs.declared.request.TheConstants.{MOST_REQUESTED}
-use Rattle.bt_model.specs.Requests.{LayoutRequest, HasEnds, cell_at, IsGrid, IsRequest, ends_of, line_of, ShareEnd, IsPinnedTo, IsPinnedInside, blocked}
+use Rattle.bt_model.specs.Requests.{LayoutRequest, HasEnds, IsGrid, IsRequest, ends_of, line_of, ShareEnd, IsPinnedTo, IsPinnedInside, blocked}
 use Rattle.bt_model.specs.RequestFaults.{HasNone, IsLeast, IsTooLarge, HasOtherCap, IsLineOfBad, IsLaterOfTwo, IsOutOfPlace, NameOneEnd, IsPinRefused, IsInTheWay, BlockOneCell, IsBlockRefused, IsMade}
 
 -- an edge of another cap, as it is found
@@ -91,10 +91,11 @@ caps_of_one net none = λ k d lt. ⊎_elim (λ eq. eq) (λ apart. absurd (none k
 
 module _ (r : LayoutRequest) where
   -- a request, where nothing of it is refused
-  pub request_where_none : IsNetwork r.net → IsGrid r.rect → (IsTooLarge r.net → ⊥) → HasNone (HasOtherCap r.net)
+  pub request_where_none : IsNetwork r.net → HasNoPriorities r.net → IsGrid r.rect → (IsTooLarge r.net → ⊥) → HasNone (HasOtherCap r.net)
       → HasNone (IsPinRefused r.net r.rect r.demands) → HasNone (IsBlockRefused r.rect r.demands r.blocks) → IsRequest r
-  request_where_none net grid small caps demands blocks = record {
+  request_where_none net plain grid small caps demands blocks = record {
     net = net;
+    plain = plain;
     grid = grid;
     few_edges = ⊎_elim (λ lt. absurd (small (inl lt))) (λ le. le) (cases_lt MOST_REQUESTED (length r.net.edges));
     few_splitters = ⊎_elim (λ lt. absurd (small (inr lt))) (λ le. le) (cases_lt MOST_REQUESTED r.net.splitters);
@@ -169,3 +170,7 @@ module _ (r : LayoutRequest) where
   -- what a call that makes a request owes
   pub made_answers : (told : Result LayoutRequest RequestFault) → IsMade r told → AnswersAlways (IsMade r) told
   made_answers told right = answers_always_of (IsMade r) one_made told right
+
+  -- the same of a network that is this one
+  pub made_answers_of : (net : Network) → r.net ≡ net → (told : Result LayoutRequest RequestFault) → IsMade r told → AnswersAlways (IsMade (record r { net = net })) told
+  made_answers_of net same told right = subst (λ n. AnswersAlways (IsMade (record r { net = n })) told) same (made_answers told right)

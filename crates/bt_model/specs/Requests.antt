@@ -1,9 +1,9 @@
 -- What a layout is asked for: a network in a rectangle, whose ends may have to stand on cells or at sides, and blocked cells.
-use Rattle.std.specs.Prelude.{◌≡◌, ◌≢◌, ℕ, ◌≤◌, pos, List, length, All, AllPairs}
+use Rattle.std.specs.Prelude.{◌≡◌, ◌≢◌, ℕ, ◌≤◌, List, length, All, AllPairs}
 use Rattle.bt_parts.specs.declared.part.Cell.{Cell}
 use Rattle.bt_parts.specs.declared.part.Rect.{Rect}
 use Rattle.bt_parts.specs.declared.part.Tier.{Tier}
-use Rattle.bt_parts.specs.Cells.{IsInside}
+use Rattle.bt_parts.specs.Cells.{IsInside, cell_at}
 use Rattle.bt_net.specs.declared.network.Block.{Block}
 use Rattle.bt_net.specs.declared.network.Demand.{Demand}
 use Rattle.bt_net.specs.declared.network.Demand.TheVariants as demand
@@ -12,7 +12,7 @@ use Rattle.bt_net.specs.declared.network.End.TheVariants.{Input, Output}
 use Rattle.bt_net.specs.declared.network.Ends.{Ends}
 use Rattle.bt_net.specs.declared.network.Ends.TheVariants.{One, Inputs, Outputs}
 use Rattle.bt_net.specs.declared.network.Pin.{Pin}
-use Rattle.bt_net.specs.Network.{Network, IsNetwork}
+use Rattle.bt_net.specs.Network.{Network, HasNoPriorities, IsNetwork}
 pub use Rattle.bt_net.specs.Network.{HasEnd}
 pub use Rattle.bt_net.specs.PinText.{HasEnds}
 use Rattle.bt_model.specs.declared.request.TheConstants.{MOST_ACROSS, MOST_REQUESTED}
@@ -28,10 +28,6 @@ pub record LayoutRequest : Type 0 where
 -- the request for these
 abbrev pub request_of : Network → Rect → Tier → List Demand → List Block → LayoutRequest
 request_of net rect tier demands blocks = record { net = net; rect = rect; tier = tier; demands = demands; blocks = blocks }
-
--- the cell so many tiles to the east and to the south of the rectangle's first one
-abbrev pub cell_at : ℕ → ℕ → Cell
-cell_at x y = record { x = pos x; y = pos y }
 
 -- the cell that a pin names
 abbrev pub pinned : Pin → Cell
@@ -79,9 +75,10 @@ pub record IsGrid (rect : Rect) : Type 0 where
   pub some_height : 1 ≤ rect.height
   pub few_down : rect.height ≤ MOST_ACROSS
 
--- a request: a network of at most `MOST_REQUESTED` edges and splitters and with caps of 1; pins and sides of its ends, of each end at most one; pins on cells of the rectangle; and blocks of cells of the rectangle, at most one of each and none of a pinned cell
+-- a request: a network of at most `MOST_REQUESTED` edges and splitters, with caps of 1 and without priorities, since a layout that is laid out has none to show; pins and sides of its ends, of each end at most one; pins on cells of the rectangle; and blocks of cells of the rectangle, at most one of each and none of a pinned cell
 pub record IsRequest (request : LayoutRequest) : Type 0 where
   pub net : IsNetwork request.net
+  pub plain : HasNoPriorities request.net
   pub grid : IsGrid request.rect
   pub few_edges : length request.net.edges ≤ MOST_REQUESTED
   pub few_splitters : request.net.splitters ≤ MOST_REQUESTED

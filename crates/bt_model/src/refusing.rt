@@ -5,9 +5,9 @@
 //! pins and sides that are not refused there is at most one of each end, and among such blocks one of each
 //! cell.
 ghost use Rattle.std.specs.Prelude.{◌≡◌, ◌↔◌, ℕ, ◌<◌, ◌≤◌, length, max, Some, IsTrue};
-ghost use Rattle.bt_parts.specs.Cells.{IsInside};
+ghost use Rattle.bt_parts.specs.Cells.{IsInside, cell_at};
 ghost use Rattle.bt_net.specs.Network.{HasEnd};
-ghost use Rattle.bt_model.specs.Requests.{cell_at, HasEnds, IsPinnedInside, IsPinnedTo, blocked, line_of as line_is};
+ghost use Rattle.bt_model.specs.Requests.{HasEnds, IsPinnedInside, IsPinnedTo, blocked, line_of as line_is};
 ghost use Rattle.bt_model.specs.RequestFaults.{HasOtherCap, IsOutOfPlace, NameOneEnd, IsPinned, IsInTheWay};
 ghost use Rattle.bt_model.specs.RequestFaults.{BlockOneCell, IsPinRefused, IsBlockRefused};
 ghost use Rattle.bt_model.specs.inner.Least.{IsLeastIfAny, lesser, MayPrecede, IsRefusedHere};

@@ -18,9 +18,9 @@ pub const MOST_REQUESTED: usize = 128;
 /// lie, their tier, the cells on which ends of the network are to stand or the sides at which they are, and
 /// the cells on which no part is to stand.
 ///
-/// The network has at most `MOST_REQUESTED` edges and splitters, and every cap is 1. The rectangle has
-/// from 1 to `MOST_ACROSS` cells each way, and pins, sides and blocks name cells of it. No two pins or sides name
-/// one end, no two blocks one cell, and no block names a pinned cell.
+/// The network has at most `MOST_REQUESTED` edges and splitters, every cap is 1, and no splitter prefers an edge.
+/// The rectangle has from 1 to `MOST_ACROSS` cells each way, and pins, sides and blocks name cells of it. No two
+/// pins or sides name one end, no two blocks one cell, and no block names a pinned cell.
 #[derive(Drop)]
 pub struct Request {
     net: Net,
@@ -41,11 +41,13 @@ impl Model for Request {
 }
 
 impl Request {
+    ghost use Rattle.bt_net.specs.NetText.{alone};
     ghost use Rattle.bt_model.specs.Requests.{IsGrid, IsRequest, request_of};
     ghost use Rattle.bt_model.specs.RequestFaults.{IsMade};
 
     /// The request for these, or the first cause in the order of `RequestFault` why there is none. It
-    /// takes no memory.
+    /// takes no memory. A layout that is laid out has no priorities to show, so it asks for the network without
+    /// those that it has.
     pub fn new(
         net: Net,
         rect: Rect,
@@ -54,8 +56,10 @@ impl Request {
         blocks: Vec<Block>,
     ) -> Result<Request, RequestFault>
         requires { IsGrid rect }
-        ensures { AnswersAlways (IsMade (request_of net rect tier demands.items blocks.items)) result }
+        ensures { AnswersAlways
+            (IsMade (request_of (alone net) rect tier demands.items blocks.items)) result }
     {
+        let net = net.alone();
         if net.edges().len() > MOST_REQUESTED || net.splitters() as usize > MOST_REQUESTED {
             return Err(RequestFault::TooLarge);
         }

@@ -5,8 +5,8 @@
 #![tactic(auto)]
 
 mod around;
+mod choices;
 mod levels;
-mod likely;
 mod looped;
 mod loops;
 mod narrowing;
@@ -16,7 +16,7 @@ mod sides;
 mod twins;
 mod windows;
 
-pub use likely::{Choice, first_rows, no_tunnels, places};
+pub use choices::{Choice, first_rows, no_tunnels, places};
 pub use looped::{looped_places, looped_rows};
 pub use narrowing::{narrowings, pairings};
 pub use std::alloc::AllocError as Memory;

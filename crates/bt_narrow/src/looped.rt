@@ -1,13 +1,13 @@
 //! Where the parts of a layout are likely to stand of a network with loops.
-use crate::likely::{Choice, Seat, add_places, ordered, rows_by};
+
+use crate::choices::{Choice, Seat, add_places, ordered, rows_by};
 use crate::loops::looped_levels;
 use crate::returning::Returning;
 use crate::sides::middles;
+use bt_facts::cells_of;
 use bt_model::Request;
 use bt_parts::{Cell, Rect};
-use bt_rules::cells_of;
 use std::alloc::{AllocError, Global};
-
 /// Seats for splitters with these levels and middles, level by level and from the west to the east.
 fn seats_by(alloc: Global, levels: &[u64], middles: &[u64]) -> Result<Vec<Seat>, AllocError> {
     let mut keyed = Vec::new(alloc);

@@ -1,13 +1,13 @@
 //! Rules that some layout keeps, where there is any, though not each does.
-use crate::around::{DIRS, ahead, is_border, mate, sides};
+
+use crate::around::{is_border, mate};
 use crate::network::is_full;
 use crate::twins::twins;
-use crate::windows::add_outside;
+use bt_demands::{Plan, Way};
+use bt_facts::{Class, Content, Draft, Fact, Half, Shape, cells_of, holds, sides_of};
 use bt_model::Request;
-use bt_parts::{Cell, Dir, Rect, inside};
-use bt_rules::{Class, Content, Draft, Fact, Half, Plan, Shape, Way, cells_of, holds};
+use bt_parts::{Cell, DIRS, Dir, Rect, inside};
 use std::alloc::{AllocError, Global};
-
 /// A pair doesn't pass empty cells alone, which belts would do for.
 fn add_pair(
     alloc: Global,
@@ -20,7 +20,7 @@ fn add_pair(
     given.push(Fact::Pair(cell, dir, distance as usize))?;
     let mut between = cell;
     for _ in 1..distance {
-        between = ahead(between, dir);
+        between = between.next(dir);
         given.push(Fact::Kind(between, Content::Empty))?;
     }
     draft.add(&given, &[])
@@ -43,12 +43,12 @@ fn add_pairs(
 
 /// No belt turns to a side and back to where the first one could have turned at once, unless an input begins there.
 fn add_turn(draft: &mut Draft, cell: Cell, dir: Dir, side: Dir) -> Result<(), AllocError> {
-    let next = ahead(cell, dir);
+    let next = cell.next(dir);
     let given = [
         holds(cell, Shape::Belt, dir),
         holds(next, Shape::Belt, side),
-        holds(ahead(next, side), Shape::Belt, dir.opposite()),
-        Fact::BeltOn(ahead(cell, side)),
+        holds(next.next(side), Shape::Belt, dir.opposite()),
+        Fact::BeltOn(cell.next(side)),
     ];
     draft.add(&given, &[Fact::Begins(cell)])
 }
@@ -56,15 +56,15 @@ fn add_turn(draft: &mut Draft, cell: Cell, dir: Dir, side: Dir) -> Result<(), Al
 /// Of the two cells by which belts can lead around a corner, the lesser one is taken where it is empty, unless an input
 /// begins before it.
 fn add_corner(draft: &mut Draft, cell: Cell, dir: Dir, side: Dir) -> Result<(), AllocError> {
-    let next = ahead(cell, dir);
-    let other = ahead(cell, side);
+    let next = cell.next(dir);
+    let other = cell.next(side);
     if (other.y, other.x) >= (next.y, next.x) {
         return Ok(());
     }
     let given = [
         holds(cell, Shape::Belt, dir),
         holds(next, Shape::Belt, side),
-        Fact::BeltOn(ahead(next, side)),
+        Fact::BeltOn(next.next(side)),
         Fact::Kind(other, Content::Empty),
     ];
     draft.add(&given, &[Fact::Begins(cell)])
@@ -72,13 +72,13 @@ fn add_corner(draft: &mut Draft, cell: Cell, dir: Dir, side: Dir) -> Result<(), 
 
 /// A splitter doesn't stand before two belts that lead on from it, over which it could slide.
 fn add_slide(draft: &mut Draft, rect: &Rect, cell: Cell, dir: Dir) -> Result<(), AllocError> {
-    if !inside(rect, ahead(ahead(cell, dir), dir)) {
+    if !inside(rect, cell.next(dir).next(dir)) {
         return Ok(());
     }
     let given = [
         holds(cell, Shape::Half(Half::Lesser), dir),
-        holds(ahead(cell, dir), Shape::Belt, dir),
-        holds(ahead(mate(cell, dir), dir), Shape::Belt, dir),
+        holds(cell.next(dir), Shape::Belt, dir),
+        holds(mate(cell, dir).next(dir), Shape::Belt, dir),
     ];
     draft.add(&given, &[])
 }
@@ -99,7 +99,7 @@ fn add_beginnings(
     dir: Dir,
     classes: &[Class],
 ) -> Result<(), AllocError> {
-    if inside(rect, ahead(cell, dir.opposite())) {
+    if inside(rect, cell.next(dir.opposite())) {
         return Ok(());
     }
     for class in classes {
@@ -116,7 +116,7 @@ fn add_endings(
     dir: Dir,
     ways: &[Way],
 ) -> Result<(), AllocError> {
-    if !is_border(rect, cell) || !inside(rect, ahead(cell, dir)) {
+    if !is_border(rect, cell) || !inside(rect, cell.next(dir)) {
         return Ok(());
     }
     for way in ways {
@@ -194,7 +194,7 @@ fn add_towards(
     let RequestTraits { plan, rect, .. } = known;
     add_pairs(alloc, draft, cell, dir, known.most)?;
     add_slide(draft, rect, cell, dir)?;
-    for side in &sides(dir) {
+    for side in &sides_of(dir) {
         add_turn(draft, cell, dir, *side)?;
         if known.is_free {
             add_corner(draft, cell, dir, *side)?;
@@ -224,23 +224,33 @@ fn known_of(alloc: Global, request: &Request) -> Result<RequestTraits, AllocErro
     })
 }
 
-/// Rules over the facts of a request that a layout in a window keeps which has few underground pieces and belts, and whose
-/// splitters stand as near to the front and, of those that may change places, in the order of their numbers. They may
-/// speak of cells that the request doesn't have.
-pub fn narrowings(alloc: Global, request: &Request, window: Rect) -> Result<Draft, AllocError> {
-    let net = request.net();
+/// Adds what a layout keeps around each cell.
+fn add_around(alloc: Global, draft: &mut Draft, request: &Request) -> Result<(), AllocError> {
     let known = known_of(alloc, request)?;
-    let cells = cells_of(alloc, request.rect())?;
-    let mut draft = Draft::new(alloc)?;
-    for cell in &cells {
-        add_outside(&mut draft, window, *cell)?;
+    for cell in &cells_of(alloc, request.rect())? {
         for dir in &DIRS {
-            add_towards(alloc, &mut draft, &known, *cell, *dir)?;
+            add_towards(alloc, draft, &known, *cell, *dir)?;
         }
     }
+    Ok(())
+}
+
+/// Adds the order of the splitters that may change places.
+fn add_all_twins(alloc: Global, draft: &mut Draft, request: &Request) -> Result<(), AllocError> {
+    let net = request.net();
     for (one, other) in &twins(alloc, net.edges(), net.splitters() as usize)? {
-        add_twins(&mut draft, request.rect(), *one, *other)?;
+        add_twins(draft, request.rect(), *one, *other)?;
     }
+    Ok(())
+}
+
+/// Rules over the facts of a request that a layout keeps which has few underground pieces and belts, and whose splitters
+/// stand as near to the front and, of those that may change places, in the order of their numbers. They may speak of cells
+/// that the request doesn't have.
+pub fn narrowings(alloc: Global, request: &Request) -> Result<Draft, AllocError> {
+    let mut draft = Draft::new(alloc)?;
+    add_around(alloc, &mut draft, request)?;
+    add_all_twins(alloc, &mut draft, request)?;
     Ok(draft)
 }
 

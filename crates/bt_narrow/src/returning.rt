@@ -1,12 +1,12 @@
 //! Ways back: pairs of underground pieces that lead south beside a splitter, one below the other.
-use crate::likely::{Choice, PARTS, Seat};
+
+use crate::choices::{Choice, PARTS, Seat};
 use crate::loops::is_back;
 use crate::network::{from, to};
+use bt_facts::{Class, Fact, Shape, holds};
 use bt_net::Edge;
 use bt_parts::{Cell, Dir, Rect};
-use bt_rules::{Class, Fact, Shape, holds};
 use std::alloc::{AllocError, Global};
-
 /// The fewest cells of a pair in a column that aren't next to one another.
 const LEAST_LENGTH: u64 = 3;
 

@@ -18,4 +18,3 @@ pub mod OnePlain
 pub mod PrintedPriorities
 pub mod ReadAlike
 pub mod PrintedNets
-pub mod Unwritten

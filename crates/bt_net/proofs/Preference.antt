@@ -1,6 +1,8 @@
 -- Networks of which no splitter prefers an edge, and of which some do.
-use Rattle.std.proofs.Common.{◌≡◌, ℕ, ◌+◌, zero, suc, List, [], ◌∷◌, ◌++◌, length, Option, Some, None, refl, ap, ◌∙◌, arith}
-use Rattle.bt_net.specs.Network.{Network, none_each, preferred_in, give_of, take_of, HasNoPriorities, IsPrioritised, IsNetwork}
+use Rattle.std.proofs.Common.{◌≡◌, ℕ, ◌+◌, zero, suc, List, [], ◌∷◌, ◌++◌, length, Option, Some, None, refl, ap, sym, ◌∙◌, arith}
+use Rattle.bt_net.specs.declared.network.Edge.{Edge}
+use Rattle.bt_net.specs.Network.{Network, none_each, network_of, preferred_in, give_of, take_of, HasNoPriorities, IsPrioritised, IsNetwork}
+use Rattle.bt_net.specs.NetText.{alone}
 use Rattle.bt_net.specs.Priorities.{preferring}
 use Rattle.bt_net.specs.declared.priority.Preferred.{Preferred}
 use Rattle.bt_net.specs.inner.Preferred.{with_preferred}
@@ -63,3 +65,19 @@ preferring_network n gives takes is prioritised =
 pub preferring_instead : (preferred : Option Preferred) (n : Network) (gives takes : List (Option ℕ)) → preferring (with_preferred preferred n) gives takes ≡ preferring n gives takes
 preferring_instead None n gives takes = refl
 preferring_instead (Some preferred) n gives takes = refl
+
+-- a network without its priorities is one, whichever it had
+pub alone_network : (n : Network) → IsNetwork n → IsNetwork (alone n)
+alone_network n is =
+    preferring_network n (none_each n.splitters) (none_each n.splitters) is (plain_is_prioritised (alone n) (record { gives = refl; takes = refl }))
+
+pub alone_instead : (preferred : Option Preferred) (inputs outputs splitters : ℕ) (edges : List Edge)
+    → alone (with_preferred preferred (network_of inputs outputs splitters edges)) ≡ network_of inputs outputs splitters edges
+alone_instead None inputs outputs splitters edges = refl
+alone_instead (Some preferred) inputs outputs splitters edges = refl
+
+-- a network in which no splitter prefers an edge is that one
+pub plain_alone : (n : Network) → HasNoPriorities n → alone n ≡ n
+plain_alone n plain =
+    let gives = sym plain.gives in let takes = sym plain.takes in
+    λ i. record { inputs = n.inputs; outputs = n.outputs; splitters = n.splitters; edges = n.edges; gives = gives i; takes = takes i }

@@ -14,8 +14,8 @@ pub fn one_net()
         → BeginsWithNet bytes m r → BeginsWithNet bytes n s → (m ≡ n) × (r ≡ s) }
 {}
 
-/// The text that `print` writes of a network is read by `read_plain` as that network, with the edges that its
-/// splitters prefer, to its end; and where none prefers an edge, by `read` too.
+/// The one text of a network is read by `read_plain` as that network, with the edges that its splitters prefer,
+/// to its end; and where none prefers an edge, by `read` too.
 pub fn printed_is_read()
     ensures plain { PrintedIsPlain }
     ensures read { PrintedIsRead }

@@ -5,11 +5,9 @@ mod demands;
 mod fault;
 mod header;
 mod law;
-mod line_buffer;
 mod net;
 mod network;
 mod pins;
-mod printing;
 mod priority;
 mod reading;
 mod sides;
@@ -23,6 +21,5 @@ pub use network::{
     Admitted, Block, Demand, Edge, End, Ends, MOST_CAP, MOST_OF_EACH, NO_COORDINATE, Pin, Priority,
     Side, Start, Target,
 };
-pub use printing::print;
 pub use reading::{NetRead, read, read_plain};
 pub use std::alloc::AllocError as Memory;

@@ -37,7 +37,8 @@ impl Model for Net {
 }
 
 impl Net {
-    ghost use Rattle.bt_net.specs.Network.{IsNetwork, IsPrioritised, give_of, take_of};
+    ghost use Rattle.bt_net.specs.Network.{HasNoPriorities, IsNetwork, IsPrioritised, give_of, take_of};
+    ghost use Rattle.bt_net.specs.NetText.{alone};
     ghost use Rattle.bt_net.specs.Priorities.{preferring};
 
     /// The network of these counts and edges, in which the edges have their places as numbers, and no
@@ -120,6 +121,20 @@ impl Net {
             splitters: self.splitters,
             edges: self.edges,
             preferred: Some(Preferred { gives, takes }),
+        }
+    }
+
+    /// The same network, in which no splitter prefers an edge.
+    pub fn alone(self) -> Net
+        ensures net { result ≡ alone self }
+        ensures plain { HasNoPriorities result }
+    {
+        Net {
+            inputs: self.inputs,
+            outputs: self.outputs,
+            splitters: self.splitters,
+            edges: self.edges,
+            preferred: None,
         }
     }
 

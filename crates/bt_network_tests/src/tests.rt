@@ -19,8 +19,9 @@ mod states;
 use bt_flow::Property;
 use bt_io::MemSink;
 use bt_model::Request;
-use bt_net::{Admitted, Net, print, read, read_plain};
+use bt_net::{Admitted, Net, read, read_plain};
 use bt_parts::{Dir, Rect, Tier};
+use bt_print::print;
 use std::alloc::{AllocError, Global};
 
 /// One belt from an input to an output.

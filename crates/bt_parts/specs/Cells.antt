@@ -1,5 +1,6 @@
 -- Cells, directions as steps, and the cells that a part covers.
 use Rattle.std.specs.Prelude.{◌≡◌, ℕ, ◌≤◌, pos, ◌+ℤ◌, ◌-ℤ◌, ◌≤ℤ◌, ◌<ℤ◌, unsigned_abs, ◌⊎◌}
+use Rattle.std.specs.Int.{w32, int_wrap}
 use Rattle.bt_parts.specs.declared.part.TheConstants.{MOST_COORDINATE}
 use Rattle.bt_parts.specs.declared.part.Cell.{Cell}
 use Rattle.bt_parts.specs.declared.part.Dir.{Dir}
@@ -7,6 +8,10 @@ use Rattle.bt_parts.specs.declared.part.Dir.TheVariants.{North, East, South, Wes
 use Rattle.bt_parts.specs.declared.part.Kind.TheVariants.{Splitter}
 use Rattle.bt_parts.specs.declared.part.Part.{Part}
 use Rattle.bt_parts.specs.declared.part.Rect.{Rect}
+
+-- the cell so many tiles to the east and to the south of the first one
+abbrev pub cell_at : ℕ → ℕ → Cell
+cell_at x y = record { x = pos x; y = pos y }
 
 -- the cell so many steps on in a direction; x grows to the east and y to the south
 abbrev pub steps : ℕ → Dir → Cell → Cell
@@ -18,6 +23,10 @@ steps n West c = record { x = c.x -ℤ pos n; y = c.y }
 -- the next cell in a direction
 abbrev pub step : Dir → Cell → Cell
 step dir c = steps 1 dir c
+
+-- the cell whose coordinates are these in 32 bits: beyond the greatest one comes the least
+abbrev pub wrapped : Cell → Cell
+wrapped c = record { x = int_wrap w32 c.x; y = int_wrap w32 c.y }
 
 -- the direction against this one
 abbrev pub opposite : Dir → Dir

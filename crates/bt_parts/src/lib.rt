@@ -10,6 +10,6 @@ mod piece;
 pub use handing::{accepts, side};
 pub use law::limits_are;
 pub use part::{
-    Cell, Dir, Kind, MOST_COORDINATE, Part, Rect, Side, Tier, back, cells_of, front, inside,
+    Cell, DIRS, Dir, Kind, MOST_COORDINATE, Part, Rect, Side, Tier, back, cells_of, front, inside,
 };
 pub use piece::{Layout, is_underground, other_end};

@@ -1,7 +1,7 @@
 //! Cells, directions, tiers and parts, and the cells that a part covers, faces and turns its back to.
 
 ghost use Rattle.std.specs.Prelude.{◌≡◌, ◌↔◌, ◌≤◌, ◌+◌, unsigned_abs, IsTrue};
-ghost use Rattle.bt_parts.specs.Cells.{step, steps, opposite, Covers, IsGreaterHalf, IsInRange, IsInside};
+ghost use Rattle.bt_parts.specs.Cells.{step, steps, wrapped, opposite, Covers, IsGreaterHalf, IsInRange, IsInside};
 ghost use Rattle.bt_parts.specs.Tiers.{reach_of, speed_of};
 
 /// The greatest magnitude of a coordinate of a part's cell, in tiles: far more than a map of the game
@@ -37,6 +37,31 @@ impl Cell {
             Dir::West => Cell { x: x - distance, y },
         }
     }
+
+    /// The next cell in a direction; beyond the greatest coordinate comes the least.
+    pub fn next(self, dir: Dir) -> Cell
+        ensures { result ≡ wrapped (step dir self) }
+    {
+        let Cell { x, y } = self;
+        match dir {
+            Dir::North => Cell {
+                x,
+                y: y.wrapping_sub(1),
+            },
+            Dir::East => Cell {
+                x: x.wrapping_add(1),
+                y,
+            },
+            Dir::South => Cell {
+                x,
+                y: y.wrapping_add(1),
+            },
+            Dir::West => Cell {
+                x: x.wrapping_sub(1),
+                y,
+            },
+        }
+    }
 }
 
 /// The direction in which a part moves its items.
@@ -51,6 +76,9 @@ pub enum Dir {
     /// Towards lesser x.
     West,
 }
+
+/// The four directions.
+pub const DIRS: [Dir; 4] = [Dir::North, Dir::East, Dir::South, Dir::West];
 
 impl Dir {
     /// The direction against this one.

@@ -8,8 +8,8 @@ use Rattle.std.proofs.Math.Nat.{mod-lt, mul-le-mul_right}
 use Rattle.bt_parts.specs.declared.part.Cell.{Cell}
 use Rattle.bt_parts.specs.declared.part.Part.{Part}
 use Rattle.bt_parts.specs.declared.part.Rect.{Rect}
-use Rattle.bt_parts.specs.Cells.{IsInside}
-use Rattle.bt_model.specs.Requests.{IsGrid, cell_at}
+use Rattle.bt_parts.specs.Cells.{IsInside, cell_at}
+use Rattle.bt_model.specs.Requests.{IsGrid}
 use Rattle.bt_rules.proofs.kept.Geometry.{across, same_cell}
 use Rattle.bt_place.specs.Solutions.{ComesAbove}
 use Rattle.bt_place.specs.inner.Grid.{spots_in, spot_in, cell_numbered}

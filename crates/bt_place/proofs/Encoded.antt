@@ -3,10 +3,10 @@ use Rattle.std.proofs.Common.{◌≡◌, ℕ, ◌<◌, ◌≤◌, ◌+◌, List,
 use Rattle.std.specs.List.{AllByRecursion, flat_map}
 use Rattle.bt_cnf.specs.Formulas.{FormulaParts}
 use Rattle.bt_model.specs.Requests.{LayoutRequest, IsRequest}
-use Rattle.bt_rules.specs.declared.plan.Gate.{Gate}
-use Rattle.bt_rules.specs.Classes.{splitters_of}
+use Rattle.bt_demands.specs.declared.plan.Gate.{Gate}
+use Rattle.bt_demands.specs.Classes.{splitters_of}
 use Rattle.bt_rules.specs.PlaceRules.{rules_of}
-use Rattle.bt_rules.specs.Rules.{Rule}
+use Rattle.bt_facts.specs.Rules.{Rule}
 use Rattle.bt_arena.proofs.Loops.{taken_more, taken_all}
 use Rattle.bt_place.specs.Numbering.{Sizes, variables, variable_of}
 use Rattle.bt_place.specs.PlaceFormula.{sizes_of, splitter_order, place_formula}

@@ -10,12 +10,12 @@ use Rattle.bt_parts.specs.declared.part.Part.{Part}
 use Rattle.bt_parts.specs.Cells.{IsInside}
 use Rattle.bt_model.specs.Laying.{Lays}
 use Rattle.bt_model.specs.Shown.{ListsEach}
-use Rattle.bt_rules.specs.declared.fact.Content.TheVariants.{Empty}
-use Rattle.bt_rules.specs.declared.fact.Fact.TheVariants.{Kind}
-use Rattle.bt_rules.specs.declared.fact.Half.TheVariants.{Greater}
-use Rattle.bt_rules.specs.declared.fact.Shape.{Shape}
-use Rattle.bt_rules.specs.declared.fact.Shape.TheVariants as shape
-use Rattle.bt_rules.specs.Contents.{holds}
+use Rattle.bt_facts.specs.declared.fact.Content.TheVariants.{Empty}
+use Rattle.bt_facts.specs.declared.fact.Fact.TheVariants.{Kind}
+use Rattle.bt_facts.specs.declared.fact.Half.TheVariants.{Greater}
+use Rattle.bt_facts.specs.declared.fact.Shape.{Shape}
+use Rattle.bt_facts.specs.declared.fact.Shape.TheVariants as shape
+use Rattle.bt_facts.specs.Facts.{holds}
 use Rattle.bt_rules.specs.Kept.{kind_of, IsKeptPart}
 use Rattle.bt_rules.proofs.kept.Arrivals.{reached_inside}
 use Rattle.bt_rules.proofs.kept.CellFacts.{one_shape, one_dir, not_empty}

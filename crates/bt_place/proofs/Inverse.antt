@@ -9,18 +9,18 @@ use Rattle.bt_parts.specs.declared.part.Cell.{Cell}
 use Rattle.bt_parts.specs.declared.part.Dir.{Dir}
 use Rattle.bt_parts.specs.declared.part.Dir.TheVariants.{North, East, South, West}
 use Rattle.bt_parts.specs.declared.part.Rect.{Rect}
-use Rattle.bt_model.specs.Requests.{cell_at}
+use Rattle.bt_parts.specs.Cells.{cell_at}
 use Rattle.bt_model.proofs.Sorted.{contains_none, contains_cases}
-use Rattle.bt_rules.specs.declared.fact.Class.{Class}
-use Rattle.bt_rules.specs.declared.fact.Content.{Content}
-use Rattle.bt_rules.specs.declared.fact.Content.TheVariants.{Empty, Turned}
-use Rattle.bt_rules.specs.declared.fact.Fact.{Fact}
-use Rattle.bt_rules.specs.declared.fact.Fact.TheVariants as fact
-use Rattle.bt_rules.specs.declared.fact.Half.TheVariants.{Lesser, Greater}
-use Rattle.bt_rules.specs.declared.fact.Shape.TheVariants as shape
-use Rattle.bt_rules.specs.Classes.{same_class}
+use Rattle.bt_facts.specs.declared.fact.Class.{Class}
+use Rattle.bt_facts.specs.declared.fact.Content.{Content}
+use Rattle.bt_facts.specs.declared.fact.Content.TheVariants.{Empty, Turned}
+use Rattle.bt_facts.specs.declared.fact.Fact.{Fact}
+use Rattle.bt_facts.specs.declared.fact.Fact.TheVariants as fact
+use Rattle.bt_facts.specs.declared.fact.Half.TheVariants.{Lesser, Greater}
+use Rattle.bt_facts.specs.declared.fact.Shape.TheVariants as shape
+use Rattle.bt_demands.specs.Classes.{same_class}
 use Rattle.bt_rules.specs.Contents.{contents}
-use Rattle.bt_rules.specs.Spots.{dirs, row_cells, cells_of}
+use Rattle.bt_facts.specs.Spots.{dirs, row_cells, cells_of}
 use Rattle.bt_rules.proofs.Classed.{class_same, same_found}
 use Rattle.bt_place.specs.Numbering.{Sizes, spot_of, dir_number, content_number, class_number, along, spots, spares, variables, variable_of}
 use Rattle.bt_place.specs.Within.{IsSpot, IsNumbered}

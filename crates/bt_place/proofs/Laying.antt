@@ -3,9 +3,9 @@ use Rattle.std.proofs.Common.{◌≡◌, ◌⊎◌, inl, inr, ℕ, zero, suc, �
 use Rattle.std.specs.List.{All, Any, AllByRecursion}
 use Rattle.bt_cnf.specs.Meeting.{IsTrueUnder, MeetsClause}
 use Rattle.bt_model.specs.Requests.{LayoutRequest}
-use Rattle.bt_rules.specs.declared.fact.Fact.{Fact}
+use Rattle.bt_facts.specs.declared.fact.Fact.{Fact}
 use Rattle.bt_rules.specs.PlaceRules.{rules_of}
-use Rattle.bt_rules.specs.Rules.{Rule, AllHold, OneHolds, Keeps}
+use Rattle.bt_facts.specs.Rules.{Rule, AllHold, OneHolds, Keeps}
 use Rattle.bt_rules.proofs.Laying.{laying_keeps}
 use Rattle.bt_place.specs.Laws.{LayingMeets}
 use Rattle.bt_place.specs.Numbering.{variable_of}

@@ -6,11 +6,11 @@ use Rattle.bt_parts.specs.declared.part.Cell.{Cell}
 use Rattle.bt_parts.specs.declared.part.Dir.{Dir}
 use Rattle.bt_parts.specs.Cells.{step, steps, IsInside}
 use Rattle.bt_model.specs.Requests.{IsGrid}
-use Rattle.bt_rules.specs.declared.fact.Content.TheVariants.{Empty}
-use Rattle.bt_rules.specs.declared.fact.Fact.TheVariants.{Kind, Goes, Pair}
-use Rattle.bt_rules.specs.declared.fact.Shape.{Shape}
-use Rattle.bt_rules.specs.declared.fact.Shape.TheVariants as shape
-use Rattle.bt_rules.specs.Contents.{holds}
+use Rattle.bt_facts.specs.declared.fact.Content.TheVariants.{Empty}
+use Rattle.bt_facts.specs.declared.fact.Fact.TheVariants.{Kind, Goes, Pair}
+use Rattle.bt_facts.specs.declared.fact.Shape.{Shape}
+use Rattle.bt_facts.specs.declared.fact.Shape.TheVariants as shape
+use Rattle.bt_facts.specs.Facts.{holds}
 use Rattle.bt_rules.specs.Kept.{kind_of, begun, half, handed, under}
 use Rattle.bt_rules.specs.Underground.{most_distance}
 use Rattle.bt_rules.proofs.kept.CellFacts.{one_shape, one_dir, not_empty}

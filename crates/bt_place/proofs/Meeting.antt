@@ -3,9 +3,9 @@ use Rattle.std.proofs.Common.{◌≡◌, ◌⊎◌, ℕ, zero, suc, ◌<◌, Boo
 use Rattle.std.specs.List.{All, Any, AllByRecursion}
 use Rattle.std.proofs.lemmas.Bool.{false≢true}
 use Rattle.bt_cnf.specs.Meeting.{IsTrueUnder, MeetsClause}
-use Rattle.bt_rules.specs.declared.fact.Fact.{Fact}
+use Rattle.bt_facts.specs.declared.fact.Fact.{Fact}
 use Rattle.bt_rules.specs.PlaceRules.{rules_of}
-use Rattle.bt_rules.specs.Rules.{Rule, AllHold, OneHolds, Keeps}
+use Rattle.bt_facts.specs.Rules.{Rule, AllHold, OneHolds, Keeps}
 use Rattle.bt_place.specs.Laws.{MeetingKeeps}
 use Rattle.bt_place.specs.Numbering.{Sizes, variable_of}
 use Rattle.bt_place.specs.PlaceFormula.{sizes_of, literal, clause_of}

@@ -4,13 +4,14 @@ use Rattle.std.specs.List.{AllByRecursion}
 use Rattle.bt_model.specs.Requests.{LayoutRequest, IsRequest}
 use Rattle.bt_parts.specs.declared.part.Cell.{Cell}
 use Rattle.bt_parts.specs.Cells.{IsInside}
-use Rattle.bt_rules.specs.declared.fact.Fact.{Fact}
-use Rattle.bt_rules.specs.declared.fact.Fact.TheVariants as fact
-use Rattle.bt_rules.specs.Counting.{has_room, count_rules}
-use Rattle.bt_rules.specs.PlaceRules.{cell_rules, splitter_rules, end_rules, rules_of}
-use Rattle.bt_rules.specs.Rules.{Rule}
+use Rattle.bt_facts.specs.declared.fact.Fact.{Fact}
+use Rattle.bt_facts.specs.declared.fact.Fact.TheVariants as fact
+use Rattle.bt_demands.specs.Counting.{has_room, count_rules}
+use Rattle.bt_rules.specs.PlaceRules.{cell_rules, splitter_rules, rules_of}
+use Rattle.bt_demands.specs.Ends.{end_rules}
+use Rattle.bt_facts.specs.Rules.{Rule}
 use Rattle.bt_rules.specs.Within.{IsWithin, HasWithin}
-use Rattle.bt_rules.specs.Spots.{cells_of}
+use Rattle.bt_facts.specs.Spots.{cells_of}
 use Rattle.bt_rules.proofs.RulesWithin.{rules_within, cell_within, splitter_within, ends_within, counts_within}
 use Rattle.bt_place.specs.Numbering.{spots}
 use Rattle.bt_place.specs.PlaceFormula.{sizes_of}

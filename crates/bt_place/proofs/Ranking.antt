@@ -10,7 +10,7 @@ use Rattle.bt_place.specs.Numbering.{joining, place_of_most, first_most, ordered
 use Rattle.bt_place.specs.PlaceFormula.{splitter_order, ranks_of, sizes_of}
 use Rattle.bt_place.proofs.Counting.{get_map, length_map, length_range, get_range}
 use Rattle.bt_place.proofs.Inverse.{AreRanks}
-use Rattle.bt_rules.proofs.Keeping.{In, in_left, in_right, in_range}
+use Rattle.bt_facts.proofs.Keeping.{In, in_left, in_right, in_range}
 
 most_within : (place most next : ℕ) (ns : List ℕ) → place < next → place_of_most place most next ns < next + length ns
 most_within place most next [] lt = omega arith

@@ -10,11 +10,11 @@ use Rattle.bt_parts.specs.declared.part.Tier.TheVariants.{Basic, Fast, Express, 
 use Rattle.bt_parts.specs.Tiers.{reach_of}
 use Rattle.bt_net.specs.Network.{Network}
 use Rattle.bt_model.specs.Requests.{LayoutRequest, IsRequest}
-use Rattle.bt_rules.specs.declared.fact.Class.{Class}
-use Rattle.bt_rules.specs.declared.fact.Class.TheVariants.{Split, Input}
-use Rattle.bt_rules.specs.declared.fact.Fact.{Fact}
-use Rattle.bt_rules.specs.Classes.{occurs, splitters_of, shared_into, input_classes, classes_of}
-use Rattle.bt_rules.specs.Within.{sides_outputs}
+use Rattle.bt_facts.specs.declared.fact.Class.{Class}
+use Rattle.bt_facts.specs.declared.fact.Class.TheVariants.{Split, Input}
+use Rattle.bt_facts.specs.declared.fact.Fact.{Fact}
+use Rattle.bt_demands.specs.Classes.{occurs, splitters_of, shared_into, input_classes, classes_of}
+use Rattle.bt_demands.specs.Stopping.{sides_outputs}
 use Rattle.bt_place.specs.declared.blocks.Starts.{Starts}
 use Rattle.bt_place.specs.Numbering.{Sizes, spots, spares, spot_of, along, variables, variable_of}
 use Rattle.bt_place.specs.PlaceFormula.{splitter_order, ranks_of, sizes_of}

@@ -6,12 +6,12 @@ use Rattle.bt_parts.specs.declared.part.Dir.TheVariants.{North, East, South, Wes
 use Rattle.bt_parts.specs.Cells.{IsInside}
 use Rattle.bt_parts.specs.declared.part.Cell.{Cell}
 use Rattle.bt_model.specs.Requests.{LayoutRequest, IsRequest}
-use Rattle.bt_rules.specs.declared.fact.Content.{Content}
-use Rattle.bt_rules.specs.declared.fact.Content.TheVariants.{Empty, Turned}
-use Rattle.bt_rules.specs.declared.fact.Fact.TheVariants.{Kind}
-use Rattle.bt_rules.specs.declared.fact.Half.TheVariants.{Lesser, Greater}
-use Rattle.bt_rules.specs.declared.fact.Shape.{Shape}
-use Rattle.bt_rules.specs.declared.fact.Shape.TheVariants as shape
+use Rattle.bt_facts.specs.declared.fact.Content.{Content}
+use Rattle.bt_facts.specs.declared.fact.Content.TheVariants.{Empty, Turned}
+use Rattle.bt_facts.specs.declared.fact.Fact.TheVariants.{Kind}
+use Rattle.bt_facts.specs.declared.fact.Half.TheVariants.{Lesser, Greater}
+use Rattle.bt_facts.specs.declared.fact.Shape.{Shape}
+use Rattle.bt_facts.specs.declared.fact.Shape.TheVariants as shape
 use Rattle.bt_rules.specs.Contents.{contents}
 use Rattle.bt_rules.proofs.kept.CellFacts.{content_of}
 use Rattle.bt_rules.proofs.kept.Solved.{KeepsAll, Solved}

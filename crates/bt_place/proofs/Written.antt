@@ -5,11 +5,11 @@ use Rattle.std.proofs.lemmas.List.{map-append, map_push, take_more}
 use Rattle.std.proofs.lemmas.Option.{get_or_from_slice_get}
 use Rattle.bt_cnf.specs.declared.literal.Lit.{Lit}
 use Rattle.bt_cnf.specs.Formulas.{FormulaParts, LitsBelow}
-use Rattle.bt_rules.specs.declared.draft.RuleFact.{RuleFact}
-use Rattle.bt_rules.specs.declared.fact.Fact.{Fact}
-use Rattle.bt_rules.specs.Drafts.{rule_of}
-use Rattle.bt_rules.specs.Rules.{Rule}
-use Rattle.bt_rules.proofs.Drawn.{all_get}
+use Rattle.bt_facts.specs.declared.draft.RuleFact.{RuleFact}
+use Rattle.bt_facts.specs.declared.fact.Fact.{Fact}
+use Rattle.bt_facts.specs.Drafts.{rule_of}
+use Rattle.bt_facts.specs.Rules.{Rule}
+use Rattle.bt_facts.proofs.Drawn.{all_get}
 use Rattle.bt_place.specs.Numbering.{Sizes}
 use Rattle.bt_place.specs.PlaceFormula.{literal, clause_of}
 use Rattle.bt_place.specs.Within.{IsNumbered, HasNumbered}

@@ -5,7 +5,7 @@ use Rattle.bt_frac.specs.Ratio.{Ratio}
 use Rattle.bt_cnf.specs.Meeting.{Meets}
 use Rattle.bt_model.specs.Laying.{Lays}
 use Rattle.bt_model.specs.Requests.{LayoutRequest, IsRequest}
-use Rattle.bt_rules.specs.declared.fact.Fact.{Fact}
+use Rattle.bt_facts.specs.declared.fact.Fact.{Fact}
 use Rattle.bt_rules.specs.Laws.{KeepsRules}
 use Rattle.bt_place.specs.Numbering.{variable_of}
 use Rattle.bt_place.specs.PlaceFormula.{sizes_of, place_formula}

@@ -5,13 +5,13 @@ use Rattle.bt_cnf.specs.declared.literal.Lit.{Lit}
 use Rattle.bt_cnf.specs.Formulas.{FormulaParts}
 use Rattle.bt_net.specs.Network.{Network}
 use Rattle.bt_model.specs.Requests.{LayoutRequest}
-use Rattle.bt_rules.specs.declared.fact.Fact.{Fact}
-use Rattle.bt_rules.specs.Classes.{classes_of}
-use Rattle.bt_rules.specs.Counting.{halves_of}
+use Rattle.bt_facts.specs.declared.fact.Fact.{Fact}
+use Rattle.bt_demands.specs.Classes.{classes_of}
+use Rattle.bt_demands.specs.Counting.{halves_of}
 use Rattle.bt_rules.specs.PlaceRules.{rules_of}
-use Rattle.bt_rules.specs.Rules.{Rule}
+use Rattle.bt_facts.specs.Rules.{Rule}
 use Rattle.bt_rules.specs.Underground.{most_distance}
-use Rattle.bt_rules.specs.Within.{stopping}
+use Rattle.bt_demands.specs.Stopping.{stopping}
 use Rattle.bt_place.specs.Numbering.{Sizes, ordered, variable_of, variables}
 
 -- the splitters of a network in the order in which the search places them

@@ -3,9 +3,9 @@ use Rattle.std.specs.Prelude.{◌<◌, ◌≤◌, ◌+◌, Contains}
 use Rattle.std.specs.List.{AllByRecursion}
 use Rattle.bt_parts.specs.declared.part.Cell.{Cell}
 use Rattle.bt_parts.specs.Cells.{IsInside}
-use Rattle.bt_rules.specs.declared.fact.Fact.{Fact}
-use Rattle.bt_rules.specs.declared.fact.Fact.TheVariants as fact
-use Rattle.bt_rules.specs.Rules.{Rule}
+use Rattle.bt_facts.specs.declared.fact.Fact.{Fact}
+use Rattle.bt_facts.specs.declared.fact.Fact.TheVariants as fact
+use Rattle.bt_facts.specs.Rules.{Rule}
 use Rattle.bt_place.specs.Numbering.{Sizes, spots}
 
 -- the cell is one of the rectangle of these sizes

@@ -4,7 +4,7 @@ ghost use Rattle.bt_place.specs.Numbering.{variables};
 ghost use Rattle.bt_place.specs.Blocks.{starts_of};
 ghost use Rattle.bt_place.specs.inner.Blocks.{sizes_with};
 
-use bt_rules::Class;
+use bt_facts::Class;
 
 /// How much of each kind a request has, but for classes.
 #[derive(Clone, Copy)]

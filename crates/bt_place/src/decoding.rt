@@ -10,9 +10,9 @@ use crate::grid::{cell_of, spots};
 use crate::numbering::Numbers;
 use crate::reaching::reached;
 use crate::reading::Reading;
+use bt_facts::{Content, Half, Shape};
 use bt_model::Request;
 use bt_parts::{Kind, Part};
-use bt_rules::{Content, Half, Shape};
 use std::alloc::{AllocError, Global};
 
 /// The kind of the part whose own cell has this shape: none for the greater half of a splitter.

@@ -3,22 +3,23 @@ ghost use Rattle.std.specs.Prelude.{◌≡◌, ◌<◌, true, map, flat_map, IfO
 ghost use Rattle.std.specs.List.{AllByRecursion};
 ghost use Rattle.bt_parts.specs.Cells.{IsInside};
 ghost use Rattle.bt_model.specs.Requests.{IsRequest};
-ghost use Rattle.bt_rules.specs.Classes.{splitters_of};
-ghost use Rattle.bt_rules.specs.Plans.{IsGate, IsPlan};
-ghost use Rattle.bt_rules.specs.PlaceRules.{cell_rules, splitter_rules, end_rules, room_rules, rules_of};
-ghost use Rattle.bt_rules.specs.Counting as counting;
-ghost use Rattle.bt_rules.specs.Spots as spots;
+ghost use Rattle.bt_demands.specs.Classes.{splitters_of};
+ghost use Rattle.bt_demands.specs.Plans.{IsGate, IsPlan};
+ghost use Rattle.bt_rules.specs.PlaceRules.{cell_rules, splitter_rules, room_rules, rules_of};
+ghost use Rattle.bt_demands.specs.Ends.{end_rules};
+ghost use Rattle.bt_demands.specs.Counting as counting;
+ghost use Rattle.bt_facts.specs.Spots as spots;
 ghost use Rattle.bt_place.specs.PlaceFormula.{place_formula};
 ghost use Rattle.bt_place.specs.inner.Writing.{HasVariables, IsEncoding, with_rules};
 
 use crate::numbering::Numbers;
 use crate::writing::write;
 use bt_cnf::Formula;
+use bt_demands::{Gate, Plan, add_counts, add_ends, has_room};
+use bt_facts::{Draft, cells_of};
 use bt_model::Request;
 use bt_parts::Cell;
-use bt_rules::{
-    Draft, Gate, Plan, add_cell, add_counts, add_ends, add_splitter, cells_of, has_room,
-};
+use bt_rules::{add_cell, add_splitter};
 use std::alloc::{AllocError, Global};
 
 /// The rules at a cell.

@@ -6,7 +6,7 @@ ghost use Rattle.bt_place.specs.Narrowed.{IsNarrowed};
 use crate::numbering::Numbers;
 use bt_arena::Pool;
 use bt_cnf::{Formula, Lit};
-use bt_rules::{Draft, Drafted, Fact, RuleFact};
+use bt_facts::{Draft, Drafted, Fact, RuleFact};
 use std::alloc::{AllocError, Global};
 
 /// The literal that is true where a fact holds, or where it doesn't. None where the fact has no variable.

@@ -3,7 +3,7 @@ ghost use Rattle.std.specs.Prelude.{◌≡◌, ◌↔◌, ◌<◌, ◌≤◌, �
 ghost use Rattle.std.specs.List.{position_or_len};
 ghost use Rattle.bt_parts.specs.Cells.{IsInside};
 ghost use Rattle.bt_model.specs.Requests.{IsRequest};
-ghost use Rattle.bt_rules.specs.Classes as classing;
+ghost use Rattle.bt_demands.specs.Classes as classing;
 ghost use Rattle.bt_place.specs.Numbering as numbering;
 ghost use Rattle.bt_place.specs.Blocks.{starts_of};
 ghost use Rattle.bt_place.specs.PlaceFormula.{sizes_of};
@@ -12,9 +12,10 @@ ghost use Rattle.bt_place.specs.inner.Blocks.{sizes_with, AreNumbers, place_numb
 
 use crate::blocks::{Extent, Starts, starts_of};
 use crate::order::ranks_of;
+use bt_demands::{Plan, same_class, stopping};
+use bt_facts::{Class, Content, Fact, Half, Shape};
 use bt_model::Request;
 use bt_parts::{Cell, Dir};
-use bt_rules::{Class, Content, Fact, Half, Plan, Shape, same_class, stopping};
 use std::alloc::{AllocError, Global};
 use std::marker::Model;
 

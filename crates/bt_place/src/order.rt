@@ -5,8 +5,8 @@ ghost use Rattle.bt_place.specs.Numbering as numbering;
 ghost use Rattle.bt_place.specs.PlaceFormula as formula;
 ghost use Rattle.bt_place.specs.inner.Order.{IsNextPlaced};
 
+use bt_demands::{enters, leaves};
 use bt_net::{Edge, Net};
-use bt_rules::{enters, leaves};
 use std::alloc::{AllocError, Global};
 
 /// Whether the edge goes from one of these splitters to this one, or from this one to one of these.

@@ -3,7 +3,7 @@
 //!
 //! Each cell is marked once, so that this takes no more steps than there are cells.
 ghost use Rattle.std.specs.Prelude.{◌≡◌, ◌↔◌, ◌<◌, ◌≤◌, ◌+◌, IsTrue, IfOk};
-ghost use Rattle.bt_rules.specs.declared.fact.Shape.TheVariants as shapes;
+ghost use Rattle.bt_facts.specs.declared.fact.Shape.TheVariants as shapes;
 ghost use Rattle.bt_rules.specs.Underground.{most_distance};
 ghost use Rattle.bt_place.specs.inner.Grid.{spots_in};
 ghost use Rattle.bt_place.specs.inner.Told.{IsSolved};
@@ -12,8 +12,8 @@ ghost use Rattle.bt_place.specs.inner.Reaching.{IsMarked, AreMarks, Keeps, HasSt
 
 use crate::grid::{ahead, cell_of, spots};
 use crate::reading::Reading;
+use bt_facts::{Content, Fact, Shape};
 use bt_parts::Dir;
-use bt_rules::{Content, Fact, Shape};
 use std::alloc::{AllocError, Global};
 
 /// Whether a half stands on the cell with this number, or an input begins there.

@@ -1,7 +1,7 @@
 //! What an assignment says of a request's facts.
 ghost use Rattle.std.specs.Prelude.{◌≡◌, ◌<◌, ◌≤◌, ◌+◌, true};
 ghost use Rattle.bt_model.specs.Requests.{IsRequest, IsGrid};
-ghost use Rattle.bt_rules.specs.declared.fact.Fact.TheVariants.{Kind};
+ghost use Rattle.bt_facts.specs.declared.fact.Fact.TheVariants.{Kind};
 ghost use Rattle.bt_rules.specs.Underground.{most_distance};
 ghost use Rattle.bt_rules.specs.Within.{IsWithin};
 ghost use Rattle.bt_place.specs.Numbering.{content_number, shape_number, dir_number};
@@ -13,9 +13,9 @@ ghost use Rattle.bt_place.specs.inner.Reaching.{cell_in};
 use crate::grid::cell_of;
 use crate::numbering::Numbers;
 use bt_cnf::is_true;
+use bt_facts::{Content, Fact, Half, Shape};
 use bt_model::Request;
 use bt_parts::{Dir, Rect, Tier};
-use bt_rules::{Content, Fact, Half, Shape};
 use std::marker::Model;
 
 /// The direction with this number.

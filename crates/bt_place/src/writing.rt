@@ -1,7 +1,7 @@
 //! Rules as clauses of a formula.
 ghost use Rattle.std.specs.Prelude.{◌≡◌, ◌<◌, ◌++◌, ◌∷◌, [], length, map, flat_map, get_or, OnOk};
 ghost use Rattle.std.specs.List.{AllByRecursion};
-ghost use Rattle.bt_rules.specs.Drafts.{rule_of};
+ghost use Rattle.bt_facts.specs.Drafts.{rule_of};
 ghost use Rattle.bt_place.specs.Numbering as numbering;
 ghost use Rattle.bt_place.specs.PlaceFormula.{clause_of};
 ghost use Rattle.bt_place.specs.Within.{IsNumbered, HasNumbered};
@@ -10,7 +10,7 @@ ghost use Rattle.bt_place.specs.inner.Writing.{HasVariables, with_rules, given_l
 use crate::numbering::Numbers;
 use bt_arena::Pool;
 use bt_cnf::{Formula, Lit, Var};
-use bt_rules::{Draft, Drafted, Fact, RuleFact};
+use bt_facts::{Draft, Drafted, Fact, RuleFact};
 use std::alloc::{AllocError, Global};
 
 /// The variable of a fact.

@@ -1,8 +1,8 @@
 //! Splitters that are moved by chance.
-use crate::around::{DIRS, ahead};
 use crate::random::Random;
 use crate::stand::Stand;
 use bt_model::Request;
+use bt_parts::DIRS;
 use std::alloc::{AllocError, Global};
 
 /// One of so many moves lets two splitters change places.
@@ -28,7 +28,7 @@ fn shifted(stand: Stand, random: &mut Random) -> Stand {
     let steps = random.below(FURTHEST);
     if let Some(way) = DIRS.get(turn) {
         for _ in 0..=steps {
-            cell = ahead(cell, *way);
+            cell = cell.next(*way);
         }
     }
     Stand { cell, dir }

@@ -1,5 +1,4 @@
 //! Where the chain of an edge may begin and end.
-use crate::around::ahead;
 use crate::ledger::Claim;
 use crate::network::leaving;
 use crate::poses::{Pose, pose_number, poses_of};
@@ -45,7 +44,7 @@ pub struct Field<'a> {
 
 /// The cell from which a chain comes in a pose.
 fn back(pose: Pose) -> Cell {
-    ahead(pose.cell, pose.dir.opposite())
+    pose.cell.next(pose.dir.opposite())
 }
 
 /// Whether a chain that begins in a pose comes in across this side.

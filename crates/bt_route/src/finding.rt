@@ -1,5 +1,5 @@
 //! The cheapest chain between the ends of an edge (Dijkstra's algorithm over poses).
-use crate::around::{ahead, turns};
+use crate::around::turns;
 use crate::ends::{Beginning, Ending, Ends};
 use crate::ledger::{Claim, Ledger, PIECE_PRICE};
 use crate::poses::{Pose, pose_number};
@@ -157,7 +157,7 @@ fn go_by_belts(search: &mut Search, here: Here, is_straight: bool) -> Result<(),
     for dir in &turns(here.pose.dir) {
         if !is_straight || *dir == here.pose.dir {
             let next = Pose {
-                cell: ahead(cell, *dir),
+                cell: cell.next(*dir),
                 dir: *dir,
             };
             let step = Step::Belt(cell, *dir);
@@ -182,7 +182,7 @@ fn go_by_pair(
     let dir = here.pose.dir;
     let cost = here.cost.saturating_add(ground).saturating_add(below);
     let next = Pose {
-        cell: ahead(exit, dir),
+        cell: exit.next(dir),
         dir,
     };
     let step = Step::Pair(here.pose.cell, dir, length);
@@ -209,7 +209,7 @@ fn go_below(
         if length >= 2 {
             go_by_pair(search, ledger, here, cell, length, below)?;
         }
-        cell = ahead(cell, dir);
+        cell = cell.next(dir);
     }
     Ok(())
 }
@@ -320,7 +320,7 @@ fn push_pair(
     claims.push(ledger.number(Claim::Ground(cell)))?;
     claims.push(ledger.number(Claim::Below(cell, dir)))?;
     for _ in 0..length {
-        cell = ahead(cell, dir);
+        cell = cell.next(dir);
         claims.push(ledger.number(Claim::Below(cell, dir)))?;
     }
     claims.push(ledger.number(Claim::Ground(cell)))?;

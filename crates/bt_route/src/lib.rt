@@ -26,3 +26,4 @@ mod wanted;
 pub use naming::{Named, name_by_structure};
 pub use sketching::{Sketch, find_sketch};
 pub use std::alloc::AllocError as Memory;
+pub use wanted::goes_north;

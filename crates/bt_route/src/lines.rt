@@ -1,5 +1,5 @@
 //! Rows of splitters, in a rectangle that is seen in one of four directions.
-use crate::around::{ahead, is_upright};
+use crate::around::is_upright;
 use crate::ordering::Rows;
 use bt_parts::{Cell, Dir, Rect};
 use std::alloc::{AllocError, Global};
@@ -20,10 +20,10 @@ fn last(count: u32) -> usize {
 fn cell_at(x: usize, y: usize) -> Cell {
     let mut cell = Cell { x: 0, y: 0 };
     for _ in 0..x {
-        cell = ahead(cell, Dir::East);
+        cell = cell.next(Dir::East);
     }
     for _ in 0..y {
-        cell = ahead(cell, Dir::South);
+        cell = cell.next(Dir::South);
     }
     cell
 }

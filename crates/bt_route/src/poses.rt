@@ -1,7 +1,6 @@
 //! Poses: chains that come to a cell in a direction. They are numbered in a rectangle with a margin of one cell, over which
 //! outputs leave.
-use crate::around::{DIRS, ahead};
-use bt_parts::{Cell, Dir, Rect};
+use bt_parts::{Cell, DIRS, Dir, Rect};
 use std::alloc::{AllocError, Global};
 
 /// A chain that comes to a cell in a direction.
@@ -51,7 +50,7 @@ fn push_row(poses: &mut Vec<Pose>, first: Cell, count: usize) -> Result<(), Allo
         for dir in &DIRS {
             poses.push(Pose { cell, dir: *dir })?;
         }
-        cell = ahead(cell, Dir::East);
+        cell = cell.next(Dir::East);
     }
     Ok(())
 }
@@ -62,7 +61,7 @@ pub fn poses_of(alloc: Global, rect: Rect) -> Result<Vec<Pose>, AllocError> {
     let mut first = Cell { x: -1, y: -1 };
     for _ in 0..rect.height.saturating_add(2) {
         push_row(&mut poses, first, across(rect))?;
-        first = ahead(first, Dir::South);
+        first = first.next(Dir::South);
     }
     Ok(poses)
 }

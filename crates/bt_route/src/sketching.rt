@@ -1,5 +1,4 @@
 //! Plans of layouts: splitters in rows, and chains between them.
-use crate::around::{DIRS, ahead};
 use crate::climbing::moved;
 use crate::finding::{Chain, Step};
 use crate::lines::View;
@@ -11,7 +10,7 @@ use crate::seats::stands_of;
 use crate::stand::Stand;
 use crate::wanted::goes_north;
 use bt_model::Request;
-use bt_parts::{Cell, Dir, Kind, Part, Tier};
+use bt_parts::{Cell, DIRS, Dir, Kind, Part, Tier};
 use std::alloc::{AllocError, Global};
 
 /// How often splitters are placed at most.
@@ -68,7 +67,7 @@ fn push_pair(
 ) -> Result<(), AllocError> {
     let mut exit = cell;
     for _ in 0..length {
-        exit = ahead(exit, dir);
+        exit = exit.next(dir);
     }
     push_part(parts, tier, Kind::Entrance, cell, dir)?;
     push_part(parts, tier, Kind::Exit, exit, dir)

@@ -1,5 +1,5 @@
 //! Splitters at their places.
-use crate::around::{ahead, is_upright};
+use crate::around::is_upright;
 use crate::wanted::is_blocked;
 use bt_model::Request;
 use bt_parts::{Cell, Dir, inside};
@@ -19,7 +19,7 @@ impl Stand {
         } else {
             Dir::South
         };
-        [self.cell, ahead(self.cell, beside)]
+        [self.cell, self.cell.next(beside)]
     }
 
     /// Whether a half stands on the cell.
@@ -30,7 +30,7 @@ impl Stand {
 
     /// The cell in front of a half.
     pub fn front(&self, half: Cell) -> Cell {
-        ahead(half, self.dir)
+        half.next(self.dir)
     }
     /// Whether both halves lie in the rectangle of a request, and on no block.
     pub fn is_within(&self, request: &Request) -> bool {

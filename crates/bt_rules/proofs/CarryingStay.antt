@@ -16,26 +16,27 @@ use Rattle.bt_model.specs.Laying.{Lays}
 use Rattle.bt_model.specs.Requests.{LayoutRequest, IsRequest}
 use Rattle.bt_model.proofs.ChainLemmas.{no_link}
 use Rattle.bt_model.proofs.ExistLemmas.{at_cases, part_cases, empty_chain}
-use Rattle.bt_rules.specs.declared.fact.Class.{Class}
-use Rattle.bt_rules.specs.declared.fact.Class.TheVariants.{Split, Shared, Input}
-use Rattle.bt_rules.specs.declared.fact.Content.TheVariants.{Empty}
-use Rattle.bt_rules.specs.declared.fact.Fact.{Fact}
-use Rattle.bt_rules.specs.declared.fact.Fact.TheVariants.{Kind, Carries, HalfOn}
+use Rattle.bt_facts.specs.declared.fact.Class.{Class}
+use Rattle.bt_facts.specs.declared.fact.Class.TheVariants.{Split, Shared, Input}
+use Rattle.bt_facts.specs.declared.fact.Content.TheVariants.{Empty}
+use Rattle.bt_facts.specs.declared.fact.Fact.{Fact}
+use Rattle.bt_facts.specs.declared.fact.Fact.TheVariants.{Kind, Carries, HalfOn}
 use Rattle.bt_rules.specs.Carrying.{carried_rules, taken_rule, kept_in_rules, onward_rules, carrying_rules}
-use Rattle.bt_rules.specs.Classes.{occurs, goes_to, ends_out, splitters_of, input_classes, classes_of, goals, sources, shared_into, from_inputs}
-use Rattle.bt_rules.specs.Contents.{holds, class_rules}
+use Rattle.bt_demands.specs.Classes.{occurs, goes_to, ends_out, splitters_of, input_classes, classes_of, goals, sources, shared_into, from_inputs}
+use Rattle.bt_facts.specs.Facts.{holds}
+use Rattle.bt_rules.specs.Contents.{class_rules}
 use Rattle.bt_rules.specs.Going.{runners}
-use Rattle.bt_rules.specs.Rules.{Rule, not_all, at_most_one}
-use Rattle.bt_rules.specs.Spots.{dirs}
+use Rattle.bt_facts.specs.Rules.{Rule, not_all, at_most_one}
+use Rattle.bt_facts.specs.Spots.{dirs}
 use Rattle.bt_rules.proofs.Chaining.{chain_from_half, goes_on, ends_into, ends_out as chain_ends_out, comes_cell}
 use Rattle.bt_rules.proofs.Classed.{m, the_edge, class_at, is_edge, lies_class, lies_link, link_lies, class_there, one_class, start_of, target_of, split_class_at, leads_there, class_goes, class_ends, class_listed, said_listed, in_splitters}
 use Rattle.bt_rules.proofs.Deciding.{stands_at}
-use Rattle.bt_rules.proofs.Geometry.{inside_cases}
+use Rattle.bt_facts.proofs.Geometry.{inside_cases}
 use Rattle.bt_rules.proofs.GoingStay.{taker_there, runner_cases, runner_link, runs_out}
-use Rattle.bt_rules.proofs.Keeping.{In, in_both, from_map, in_filter, from_filter, Distinct, distinct_both, distinct_map, distinct_filter, distinct_range, each_both, each_three, each_flat, each_map, one_of_map, at_most_stays, AllStay, Stays}
+use Rattle.bt_facts.proofs.Keeping.{In, in_both, from_map, in_filter, from_filter, Distinct, distinct_both, distinct_map, distinct_filter, distinct_range, each_both, each_three, each_flat, each_map, one_of_map, at_most_stays, AllStay, Stays}
 use Rattle.bt_rules.proofs.Laid.{Said, is_orderly, placed_of, inside_at}
 use Rattle.bt_rules.proofs.Reading.{GoesOn, Bears, ComesFromCell}
-use Rattle.bt_rules.proofs.Sharing.{from_shared, distinct_shared}
+use Rattle.bt_demands.proofs.Sharing.{from_shared, distinct_shared}
 use Rattle.bt_rules.proofs.StandingStay.{HasSaid, splitter_number, split_on}
 
 -- ---- the lists of classes

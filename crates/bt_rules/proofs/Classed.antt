@@ -20,15 +20,15 @@ use Rattle.bt_model.specs.Shown.{IsEdgeOf, IsStartOf, IsTargetOf}
 use Rattle.bt_model.proofs.ChainLemmas.{no_link}
 use Rattle.bt_model.proofs.ExistLemmas.{part_cases, from_input}
 use Rattle.bt_model.proofs.Sorted.{one_place}
-use Rattle.bt_rules.specs.declared.fact.Class.{Class}
-use Rattle.bt_rules.specs.declared.fact.Class.TheVariants.{Split, Shared, Input}
-use Rattle.bt_rules.specs.Classes.{is_pinned, side_of, class_between, class_of, same_way, same_class, is_of, leads_out, occurs, goes_to, ends_out, is_through, splitters_of, shared_into, from_inputs, input_classes, classes_of}
+use Rattle.bt_facts.specs.declared.fact.Class.{Class}
+use Rattle.bt_facts.specs.declared.fact.Class.TheVariants.{Split, Shared, Input}
+use Rattle.bt_demands.specs.Classes.{is_pinned, side_of, class_between, class_of, same_way, same_class, is_of, leads_out, occurs, goes_to, ends_out, is_through, splitters_of, shared_into, from_inputs, input_classes, classes_of}
 use Rattle.bt_rules.proofs.Chaining.{chain_through, one_chain, contained_link, has_input, has_output}
-use Rattle.bt_rules.proofs.Keeping.{In, place_of, from_any, both_true, in_left, in_right, in_map, in_at, in_range, in_filter, any_in}
+use Rattle.bt_facts.proofs.Keeping.{In, place_of, from_any, both_true, in_left, in_right, in_map, in_at, in_range, in_filter, any_in}
 use Rattle.bt_rules.proofs.Laid.{match_of, is_orderly}
 use Rattle.bt_rules.proofs.Matching.{Matched}
 use Rattle.bt_rules.proofs.Reading.{Bears, LiesOn, edge_at, no_edge}
-use Rattle.bt_rules.proofs.Sharing.{way_same, way_itself, in_shared}
+use Rattle.bt_demands.proofs.Sharing.{way_same, way_itself, in_shared}
 use Rattle.bt_rules.proofs.StandingStay.{HasSaid, splitter_number}
 
 -- ---- classes of edges

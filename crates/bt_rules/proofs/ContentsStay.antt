@@ -7,18 +7,20 @@ use Rattle.bt_parts.specs.Cells.{beside}
 use Rattle.bt_model.specs.Laying.{Lays}
 use Rattle.bt_model.specs.Requests.{LayoutRequest}
 use Rattle.bt_model.proofs.ExistLemmas.{at_cases}
-use Rattle.bt_rules.specs.declared.fact.Content.{Content}
-use Rattle.bt_rules.specs.declared.fact.Content.TheVariants.{Empty, Turned}
-use Rattle.bt_rules.specs.declared.fact.Fact.TheVariants.{Kind, HalfOn, BeltOn}
-use Rattle.bt_rules.specs.declared.fact.Half.{Half}
-use Rattle.bt_rules.specs.declared.fact.Half.TheVariants.{Lesser, Greater}
-use Rattle.bt_rules.specs.declared.fact.Shape.{Shape}
-use Rattle.bt_rules.specs.declared.fact.Shape.TheVariants as shape
-use Rattle.bt_rules.specs.Spots.{dirs, halves, other_half, mate, before}
-use Rattle.bt_rules.specs.Contents.{holds, shapes, contents, content_rules, half_kinds, belt_kinds, equals_one, shape_rules, mate_rule, mate_rules}
+use Rattle.bt_facts.specs.declared.fact.Content.{Content}
+use Rattle.bt_facts.specs.declared.fact.Content.TheVariants.{Empty, Turned}
+use Rattle.bt_facts.specs.declared.fact.Fact.TheVariants.{Kind, HalfOn, BeltOn}
+use Rattle.bt_facts.specs.declared.fact.Half.{Half}
+use Rattle.bt_facts.specs.declared.fact.Half.TheVariants.{Lesser, Greater}
+use Rattle.bt_facts.specs.declared.fact.Shape.{Shape}
+use Rattle.bt_facts.specs.declared.fact.Shape.TheVariants as shape
+use Rattle.bt_facts.specs.Spots.{dirs, halves, other_half, mate, before}
+use Rattle.bt_facts.specs.Facts.{holds}
+use Rattle.bt_rules.specs.Contents.{shapes, contents, content_rules, half_kinds, belt_kinds, shape_rules, mate_rule, mate_rules}
+use Rattle.bt_facts.specs.Rules.{equals_one}
 use Rattle.bt_rules.proofs.Deciding.{stands_at}
-use Rattle.bt_rules.proofs.Geometry.{in_dirs, in_halves, distinct_dirs, before_beside}
-use Rattle.bt_rules.proofs.Keeping.{In, in_map, from_map, in_flat, from_flat, Distinct, distinct_map, distinct_flat, each_both, each_flat, each_map, one_in, at_most_stays, equal_stays, AllStay, Stays}
+use Rattle.bt_facts.proofs.Geometry.{in_dirs, in_halves, distinct_dirs, before_beside}
+use Rattle.bt_facts.proofs.Keeping.{In, in_map, from_map, in_flat, from_flat, Distinct, distinct_map, distinct_flat, each_both, each_flat, each_map, one_in, at_most_stays, equal_stays, AllStay, Stays}
 use Rattle.bt_rules.proofs.Laid.{Said, is_orderly, inside_at, stands_there, one_stands, half_there, one_inside}
 use Rattle.bt_rules.proofs.Reading.{cell_of, Stands}
 

@@ -1,16 +1,16 @@
 -- Layouts keep the rules that count halves and ends.
-use Rattle.std.proofs.Common.{◌≡◌, ◌⊎◌, inl, inr, ℕ, zero, suc, ◌+◌, ◌-◌, ◌*◌, ◌<◌, ◌≤◌, Bool, true, false, not, ◌&&◌, List, [], ◌∷◌, ◌++◌, length, map, get_or, Some, pos, eq-eqb, length-append, refl, sym, ◌∙◌, ap, subst, ⊎_elim, arith}
+use Rattle.std.proofs.Common.{◌≡◌, ◌⊎◌, inl, inr, ℕ, zero, suc, ◌+◌, ◌-◌, ◌<◌, ◌≤◌, true, false, not, ◌&&◌, List, [], ◌∷◌, ◌++◌, length, map, get_or, eq-eqb, length-append, refl, sym, ◌∙◌, ap, subst, ⊎_elim, arith}
 use Rattle.std.specs.List.{flat_map, filter, range_with_len}
 use Rattle.std.proofs.lemmas.Bool.{both_ways, not-true, cases_eq}
 use Rattle.std.proofs.lemmas.List.{length-map}
 use Rattle.std.proofs.lemmas.List.Sums.{length-filter}
-use Rattle.std.proofs.lemmas.Option.{same_Some, slice_get_within, slice_get-get_or, get_or_from_slice_get}
+use Rattle.std.proofs.lemmas.Option.{slice_get_within, slice_get-get_or, get_or_from_slice_get}
 use Rattle.bt_parts.specs.declared.part.Cell.{Cell}
 use Rattle.bt_parts.specs.declared.part.Dir.TheVariants.{North}
 use Rattle.bt_parts.specs.declared.part.Kind.TheVariants as kind
 use Rattle.bt_parts.specs.declared.part.Part.{Part}
 use Rattle.bt_parts.specs.declared.part.Tier.TheVariants.{Basic}
-use Rattle.bt_parts.specs.Cells.{beside, step, opposite}
+use Rattle.bt_parts.specs.Cells.{beside, opposite, cell_at}
 use Rattle.bt_parts.specs.Layouts.{HasPart, IsAt}
 use Rattle.bt_parts.proofs.Places.{one_there}
 use Rattle.bt_net.specs.declared.network.Edge.{Edge}
@@ -19,24 +19,25 @@ use Rattle.bt_net.specs.declared.network.Target.TheVariants as to
 use Rattle.bt_net.specs.Network.{is_input, is_output}
 use Rattle.bt_model.specs.Chains.{IsSplitter, IsInput, IsOutput}
 use Rattle.bt_model.specs.Laying.{Lays}
-use Rattle.bt_model.specs.Requests.{LayoutRequest, IsRequest, cell_at}
+use Rattle.bt_model.specs.Requests.{LayoutRequest, IsRequest}
 use Rattle.bt_model.proofs.ChainLemmas.{no_link}
 use Rattle.bt_model.proofs.ExistLemmas.{input_link, output_link}
 use Rattle.bt_model.proofs.Places.{contained_at}
 use Rattle.bt_model.proofs.Sorted.{one_place}
-use Rattle.bt_rules.specs.declared.fact.Fact.{Fact}
-use Rattle.bt_rules.specs.declared.fact.Fact.TheVariants.{HalfOn, Held}
-use Rattle.bt_rules.specs.Classes.{leads_out, is_through}
-use Rattle.bt_rules.specs.Counting.{halves_of, inputs_apart, ends_apart, has_room, among_less, last_cell_rule, one_fewer_rules, held_rules, counter_rules, all_held_rules, count_rules}
-use Rattle.bt_rules.specs.Spots.{cells_of, border_of}
+use Rattle.bt_facts.specs.declared.fact.Fact.{Fact}
+use Rattle.bt_facts.specs.declared.fact.Fact.TheVariants.{HalfOn, Held}
+use Rattle.bt_demands.specs.Classes.{leads_out, is_through}
+use Rattle.bt_demands.specs.Counting.{halves_of, ends_apart, has_room, among_less, last_cell_rule, one_fewer_rules, held_rules, counter_rules, all_held_rules, count_rules}
+use Rattle.bt_facts.specs.Spots.{cells_of, border_of}
 use Rattle.bt_rules.proofs.Classed.{the_edge, edge_in, one_edge, input_lies, from_target, target_out, output_target}
-use Rattle.bt_rules.proofs.Deciding.{Decided, half_decided, contains_at}
-use Rattle.bt_rules.proofs.Fitting.{no_longer, distinct_pairs, distinct_made, enough_for}
-use Rattle.bt_rules.proofs.Geometry.{in_border, in_cells, beside_apart}
-use Rattle.bt_rules.proofs.Keeping.{In, in_left, in_right, in_both, in_map, from_map, from_filter, from_range, in_contains, any_in, place_of, each_both, each_flat, Distinct, distinct_both, distinct_filter, distinct_range, OneSaid, AllStay, Stays, said_left, said_right}
+use Rattle.bt_facts.proofs.Decided.{Decided, contains_at}
+use Rattle.bt_rules.proofs.Deciding.{half_decided}
+use Rattle.bt_demands.proofs.Fitting.{no_longer, distinct_pairs, distinct_made, enough_for}
+use Rattle.bt_facts.proofs.Geometry.{in_border, in_cells, beside_apart}
+use Rattle.bt_facts.proofs.Keeping.{In, in_both, from_map, from_filter, from_range, in_contains, any_in, place_of, each_both, each_flat, Distinct, distinct_both, distinct_filter, distinct_range, OneSaid, AllStay, Stays, said_left, said_right}
 use Rattle.bt_rules.proofs.Laid.{Said, is_orderly, placed_of, inside_at}
 use Rattle.bt_rules.proofs.Reading.{Bears, HalfThere, Holding, cell_numbered, no_edge}
-use Rattle.bt_rules.proofs.kept.ListFacts.{contains_in, counted}
+use Rattle.bt_rules.proofs.kept.ListFacts.{counted}
 
 module _ (r : LayoutRequest) (parts : List Part) (lays : Lays parts r) where
   abbrev S : Fact → Type 0

@@ -1,9 +1,9 @@
 -- It can be told of each fact whether a layout says so.
-use Rattle.std.proofs.Common.{◌≡◌, ◌≢◌, ◌⊎◌, inl, inr, ℕ, zero, suc, ◌<◌, ℤ, pos, negsuc, List, [], ◌∷◌, length, get_or, Option, Some, None, refl, sym, ◌∙◌, ap, subst, ⊎_elim, arith}
-use Rattle.std.specs.List.{Contains, slice_get}
-use Rattle.std.proofs.lemmas.Bool.{cases_eq, cases_lt}
+use Rattle.std.proofs.Common.{◌≡◌, ◌≢◌, ◌⊎◌, inl, inr, ℕ, List, [], ◌∷◌, length, Some, refl, sym, ◌∙◌, ap, subst, ⊎_elim, arith}
+use Rattle.std.specs.List.{slice_get}
+use Rattle.std.proofs.lemmas.Bool.{cases_eq}
 use Rattle.std.proofs.lemmas.Int.{ints}
-use Rattle.std.proofs.lemmas.Option.{same_Some, none-some, slice_get_within, get_or_from_slice_get}
+use Rattle.std.proofs.lemmas.Option.{same_Some, slice_get_within}
 use Rattle.bt_parts.specs.declared.part.Cell.{Cell}
 use Rattle.bt_parts.specs.declared.part.Dir.{Dir}
 use Rattle.bt_parts.specs.declared.part.Dir.TheVariants.{North, East, South, West}
@@ -20,46 +20,14 @@ use Rattle.bt_model.proofs.HandLemmas.{entrance_paired, one_handed}
 use Rattle.bt_model.proofs.ExistLemmas.{at_cases, giver_cases, unhanded_input, input_link, input_unhanded, part_cases}
 use Rattle.bt_model.proofs.HandLaws.{front_fed}
 use Rattle.bt_model.proofs.ChainLemmas.{no_link}
-use Rattle.bt_rules.specs.declared.fact.Half.TheVariants.{Lesser, Greater}
-use Rattle.bt_rules.specs.declared.fact.Shape.{Shape}
-use Rattle.bt_rules.specs.declared.fact.Shape.TheVariants as shape
+use Rattle.bt_facts.specs.declared.fact.Half.TheVariants.{Lesser, Greater}
+use Rattle.bt_facts.specs.declared.fact.Shape.{Shape}
+use Rattle.bt_facts.specs.declared.fact.Shape.TheVariants as shape
+use Rattle.bt_facts.proofs.Decided.{Decided, both, moved, same_cell, same_dir, listed, contains_at, some_below}
 use Rattle.bt_rules.specs.Kept.{kind_of}
 use Rattle.bt_rules.proofs.Reading.{cell_of, Stands, GoesOn, Splits, NamedAt, last_link, ComesFromCell, Runs, Reaches}
 
--- it holds, or it doesn't
-abbrev pub Decided : Type 0 → Type 0
-Decided P = P ⊎ (P → ⊥)
-
--- two that are decided
-pub both : {P Q : Type 0} → Decided P → Decided Q → Decided (P × Q)
-both (inl p) (inl q) = inl (p, q)
-both (inl p) (inr n) = inr (λ h. n h.1)
-both (inr n) q = inr (λ h. n h.0)
-
--- what is decided by what is the same
-pub moved : {P Q : Type 0} → (P → Q) → (Q → P) → Decided P → Decided Q
-moved to from (inl p) = inl (to p)
-moved to from (inr n) = inr (λ q. n (from q))
-
 -- ---- equations
-
-same_int : (a b : ℤ) → Decided (a ≡ b)
-same_int (pos a) (pos b) = moved (λ e. ap pos e) (λ e. cc) (cases_eq a b)
-same_int (negsuc a) (negsuc b) = moved (λ e. ap negsuc e) (λ e. cc) (cases_eq a b)
-same_int (pos a) (negsuc b) = inr (λ e. cc)
-same_int (negsuc a) (pos b) = inr (λ e. cc)
-
-pub same_cell : (a b : Cell) → Decided (a ≡ b)
-same_cell a b =
-    moved (λ h. ap (λ x. record { x = x; y = a.y }) h.0 ∙ ap (λ y. record { x = b.x; y = y }) h.1)
-    (λ e. (ap (λ c. c.x) e, ap (λ c. c.y) e)) (both (same_int a.x b.x) (same_int a.y b.y))
-
-pub same_dir : (a b : Dir) → Decided (a ≡ b)
-same_dir North North = inl refl
-same_dir East East = inl refl
-same_dir South South = inl refl
-same_dir West West = inl refl
-same_dir a b = inr (λ e. cc)
 
 pub same_kind : (a b : Kind) → Decided (a ≡ b)
 same_kind kind.Belt kind.Belt = inl refl
@@ -81,44 +49,6 @@ same_source s c (leaves i cell) = moved (λ h. ap (λ x. leaves x cell) h.0 ∙ 
 pub same_sink : (s : ℕ) (sink : Sink) → Decided (sink ≡ enters s)
 same_sink s (ends i) = inr (λ e. cc)
 same_sink s (enters i) = moved (ap enters) (λ e. cc) (cases_eq i s)
-
--- ---- lists
-
-pub in_list : (xs : List ℕ) (i : ℕ) → Decided (Contains xs i)
-in_list [] i = inr (λ h. let lt = h.1 in omega arith)
-in_list (x ∷ xs) i = by (cases_eq x i) (in_list xs i)
-  where
-    split : (k : ℕ) → k < length (x ∷ xs) → get_or (x ∷ xs) k i ≡ i → (x ≡ i → ⊥) → (Contains xs i → ⊥) → ⊥
-    split zero lt e n m = n e
-    split (suc k) lt e n m = m (k, omega arith, e)
-
-    by : Decided (x ≡ i) → Decided (Contains xs i) → Decided (Contains (x ∷ xs) i)
-    by (inl e) m = inl (0, omega arith, e)
-    by (inr n) (inl h) = let lt = h.1 in inl (suc h.0, omega arith, h.2)
-    by (inr n) (inr m) = inr (λ h. split h.0 h.1 h.2 n m)
-
-pub listed : {X : Type 0} (xs : List X) (k : ℕ) → ((x : X) × (slice_get xs k ≡ Some x)) ⊎ ((x : X) → slice_get xs k ≡ Some x → ⊥)
-listed {X} xs k = by (slice_get xs k)
-  where
-    by : (o : Option X) → ((x : X) × (o ≡ Some x)) ⊎ ((x : X) → o ≡ Some x → ⊥)
-    by (Some x) = inl (x, refl)
-    by None = inr (λ x e. none-some x e)
-
-pub lt_decided : (a b : ℕ) → Decided (a < b)
-lt_decided a b = ⊎_elim (λ lt. inl lt) (λ ge. inr (λ lt. omega arith)) (cases_lt a b)
-
-pub contains_at : {X : Type 0} (xs : List X) (k : ℕ) (x : X) → slice_get xs k ≡ Some x → Contains xs x
-contains_at xs k x e = (k, slice_get_within xs k x e, get_or_from_slice_get xs k x x e)
-
--- below a bound one number has P, or none has
-pub some_below : (P : ℕ → Type 0) → ((k : ℕ) → Decided (P k)) → (n : ℕ) → ((k : ℕ) × (k < n) × P k) ⊎ ((k : ℕ) → k < n → P k → ⊥)
-some_below P test zero = inr (λ k lt p. absurd (omega arith))
-some_below P test (suc n) = by (some_below P test n) (test n)
-  where
-    by : ((k : ℕ) × (k < n) × P k) ⊎ ((k : ℕ) → k < n → P k → ⊥) → Decided (P n) → ((k : ℕ) × (k < suc n) × P k) ⊎ ((k : ℕ) → k < suc n → P k → ⊥)
-    by (inl h) t = let lt = h.1 in inl (h.0, omega arith, h.2)
-    by (inr none) (inl p) = inl (n, omega arith, p)
-    by (inr none) (inr not) = inr (λ k lt p. ⊎_elim (λ less. none k less p) (λ ge. let e : k ≡ n = omega arith in not (subst P e p)) (cases_lt k n))
 
 -- ---- parts
 

@@ -21,22 +21,24 @@ use Rattle.bt_model.specs.Requests.{LayoutRequest, IsRequest}
 use Rattle.bt_model.proofs.ExistLemmas.{at_cases, giver_cases, unhanded_input, input_no_splitter}
 use Rattle.bt_model.proofs.HandLaws.{front_fed, takes_at, comes_at, pair_leaves}
 use Rattle.bt_model.proofs.SightLemmas.{one_side}
-use Rattle.bt_rules.specs.declared.fact.Content.TheVariants.{Empty}
-use Rattle.bt_rules.specs.declared.fact.Fact.{Fact}
-use Rattle.bt_rules.specs.declared.fact.Fact.TheVariants.{Carries, Begins, Goes}
-use Rattle.bt_rules.specs.declared.fact.Fact.TheVariants as fact
-use Rattle.bt_rules.specs.declared.fact.Half.TheVariants.{Lesser, Greater}
-use Rattle.bt_rules.specs.declared.fact.Shape.{Shape}
-use Rattle.bt_rules.specs.declared.fact.Shape.TheVariants as shape
-use Rattle.bt_rules.specs.Rules.{rule, not_all, at_most_one}
-use Rattle.bt_rules.specs.Spots.{dirs, halves, sides_of, behind, where_outside}
-use Rattle.bt_rules.specs.Contents.{holds}
-use Rattle.bt_rules.specs.Going.{runners, givers, takers, inner_rules, going_rules, goes_into, begins_there, fed_belt, fed_entrance, starters, begin_rules, once_rules, handing_rules}
-use Rattle.bt_rules.proofs.Deciding.{stands_at, same_dir}
-use Rattle.bt_rules.proofs.Geometry.{inside_cases, in_dirs, in_halves, in_sides, distinct_dirs, behind_step, step_behind}
-use Rattle.bt_rules.proofs.Keeping.{In, from_map, from_flat, Distinct, distinct_map, distinct_flat, each_both, each_four, each_flat, each_map, one_of_map, said_left, said_right, said_flat, at_most_stays, AllStay, Stays, OneSaid}
+use Rattle.bt_facts.specs.declared.fact.Content.TheVariants.{Empty}
+use Rattle.bt_facts.specs.declared.fact.Fact.{Fact}
+use Rattle.bt_facts.specs.declared.fact.Fact.TheVariants.{Carries, Begins, Goes}
+use Rattle.bt_facts.specs.declared.fact.Fact.TheVariants as fact
+use Rattle.bt_facts.specs.declared.fact.Half.TheVariants.{Lesser, Greater}
+use Rattle.bt_facts.specs.declared.fact.Shape.{Shape}
+use Rattle.bt_facts.specs.declared.fact.Shape.TheVariants as shape
+use Rattle.bt_facts.specs.Rules.{rule, not_all, at_most_one}
+use Rattle.bt_facts.specs.Spots.{dirs, halves, sides_of, behind, where_outside}
+use Rattle.bt_facts.specs.Facts.{holds}
+use Rattle.bt_rules.specs.Going.{runners, givers, takers, inner_rules, going_rules, begins_there, fed_belt, fed_entrance, starters, begin_rules, once_rules, handing_rules}
+use Rattle.bt_facts.specs.Facts.{goes_into}
+use Rattle.bt_rules.proofs.Deciding.{stands_at}
+use Rattle.bt_facts.proofs.Decided.{same_dir}
+use Rattle.bt_facts.proofs.Geometry.{inside_cases, in_dirs, in_halves, in_sides, distinct_dirs, behind_step, step_behind}
+use Rattle.bt_facts.proofs.Keeping.{In, from_map, from_flat, Distinct, distinct_map, distinct_flat, each_both, each_four, each_flat, each_map, one_of_map, said_left, said_right, said_flat, at_most_stays, AllStay, Stays, OneSaid}
 use Rattle.bt_rules.proofs.Classed.{class_at, lies_class, input_lies, input_listed}
-use Rattle.bt_rules.specs.Classes.{input_classes}
+use Rattle.bt_demands.specs.Classes.{input_classes}
 use Rattle.bt_rules.proofs.Laid.{Said, stands_as, one_inside, is_orderly, placed_of, inside_at, one_outside, from_inside, shape_on}
 use Rattle.bt_rules.specs.Kept.{kind_of}
 use Rattle.bt_rules.proofs.Reading.{cell_of, Stands, GoesOn}

@@ -16,17 +16,17 @@ use Rattle.bt_model.specs.Laying.{Lays}
 use Rattle.bt_model.specs.Requests.{LayoutRequest}
 use Rattle.bt_model.specs.Orderly.{IsOrderly}
 use Rattle.bt_model.proofs.ChainLemmas.{orderly_of}
-use Rattle.bt_rules.specs.declared.fact.Fact.{Fact}
-use Rattle.bt_rules.specs.declared.fact.Half.{Half}
-use Rattle.bt_rules.specs.declared.fact.Half.TheVariants.{Lesser, Greater}
-use Rattle.bt_rules.specs.declared.fact.Shape.{Shape}
-use Rattle.bt_rules.specs.declared.fact.Shape.TheVariants as shape
-use Rattle.bt_rules.specs.Rules.{Rule}
-use Rattle.bt_rules.specs.Spots.{where_inside, where_outside}
+use Rattle.bt_facts.specs.declared.fact.Fact.{Fact}
+use Rattle.bt_facts.specs.declared.fact.Half.{Half}
+use Rattle.bt_facts.specs.declared.fact.Half.TheVariants.{Lesser, Greater}
+use Rattle.bt_facts.specs.declared.fact.Shape.{Shape}
+use Rattle.bt_facts.specs.declared.fact.Shape.TheVariants as shape
+use Rattle.bt_facts.specs.Rules.{Rule}
+use Rattle.bt_facts.specs.Spots.{where_inside, where_outside}
 use Rattle.bt_rules.specs.Kept.{kind_of}
 use Rattle.bt_rules.proofs.Deciding.{stands_at}
-use Rattle.bt_rules.proofs.Geometry.{inside_cases, beside_apart}
-use Rattle.bt_rules.proofs.Keeping.{In, OneSaid}
+use Rattle.bt_facts.proofs.Geometry.{inside_cases, beside_apart}
+use Rattle.bt_facts.proofs.Keeping.{In, OneSaid}
 use Rattle.bt_rules.proofs.Matching.{Matched, matched}
 use Rattle.bt_rules.proofs.Reading.{cell_of, Stands, Says}
 

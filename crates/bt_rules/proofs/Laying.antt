@@ -5,27 +5,28 @@ use Rattle.std.proofs.lemmas.Bool.{false≢true}
 use Rattle.bt_parts.specs.declared.part.Part.{Part}
 use Rattle.bt_model.specs.Laying.{Lays, KeepsDemand}
 use Rattle.bt_model.specs.Requests.{LayoutRequest, IsRequest}
-use Rattle.bt_rules.specs.declared.fact.Fact.{Fact}
+use Rattle.bt_facts.specs.declared.fact.Fact.{Fact}
 use Rattle.bt_rules.specs.Carrying.{carrying_rules}
-use Rattle.bt_rules.specs.Classes.{splitters_of}
+use Rattle.bt_demands.specs.Classes.{splitters_of}
 use Rattle.bt_rules.specs.Contents.{content_rules, shape_rules, mate_rules, class_rules}
-use Rattle.bt_rules.specs.Counting.{count_rules}
+use Rattle.bt_demands.specs.Counting.{count_rules}
 use Rattle.bt_rules.specs.Going.{handing_rules}
 use Rattle.bt_rules.specs.Laws.{LayingKeeps}
-use Rattle.bt_rules.specs.Pinning.{demand_rules, clash_rules, block_rule}
-use Rattle.bt_rules.specs.PlaceRules.{cell_rules, splitter_rules, end_rules, room_rules, rules_of}
+use Rattle.bt_demands.specs.Pinning.{demand_rules, clash_rules, block_rule}
+use Rattle.bt_rules.specs.PlaceRules.{cell_rules, splitter_rules, room_rules, rules_of}
+use Rattle.bt_demands.specs.Ends.{end_rules}
 use Rattle.bt_rules.specs.Ports.{port_rules}
-use Rattle.bt_rules.specs.Rules.{Rule, some_of, AllHold, OneHolds, Keeps}
-use Rattle.bt_rules.specs.Spots.{cells_of}
+use Rattle.bt_facts.specs.Rules.{Rule, some_of, AllHold, OneHolds, Keeps}
+use Rattle.bt_facts.specs.Spots.{cells_of}
 use Rattle.bt_rules.specs.Standing.{standing_rules, place_rules}
-use Rattle.bt_rules.specs.Starts.{input_rules}
+use Rattle.bt_demands.specs.Starts.{input_rules}
 use Rattle.bt_rules.specs.Underground.{underground_rules}
 use Rattle.bt_rules.proofs.CarryingStay.{classes_stay, carrying_stay}
 use Rattle.bt_rules.proofs.ContentsStay.{contents_stay, shapes_stay, mates_stay}
 use Rattle.bt_rules.proofs.CountStay.{room_there, counts_stay}
-use Rattle.bt_rules.proofs.Deciding.{Decided}
+use Rattle.bt_facts.proofs.Decided.{Decided}
 use Rattle.bt_rules.proofs.GoingStay.{handing_stay}
-use Rattle.bt_rules.proofs.Keeping.{In, in_contains, from_range, all_there, each_both, each_four, each_flat, each_map, OneSaid, Stays, AllStay}
+use Rattle.bt_facts.proofs.Keeping.{In, in_contains, from_range, all_there, each_both, each_four, each_flat, each_map, OneSaid, Stays, AllStay}
 use Rattle.bt_rules.proofs.Laid.{Said}
 use Rattle.bt_rules.proofs.PinningStay.{clashes_stay, block_stays}
 use Rattle.bt_rules.proofs.SidesStay.{each_of, demand_stays}

@@ -14,27 +14,27 @@ use Rattle.bt_net.specs.declared.network.End.{End}
 use Rattle.bt_net.specs.declared.network.End.TheVariants.{Input, Output}
 use Rattle.bt_net.specs.declared.network.Pin.{Pin}
 use Rattle.bt_model.specs.Laying.{Lays, IsNamed, KeepsPin, KeepsDemand}
-use Rattle.bt_model.specs.Requests.{LayoutRequest, ShareEnd, ends_of, cell_at, pinned}
-use Rattle.bt_rules.specs.declared.fact.Fact.{Fact}
-use Rattle.bt_rules.specs.declared.fact.Fact.TheVariants.{Carries}
-use Rattle.bt_rules.specs.declared.fact.Shape.TheVariants as shape
-use Rattle.bt_rules.specs.Rules.{some_of, not_all}
-use Rattle.bt_rules.specs.Spots.{dirs, others_than, where_outside}
-use Rattle.bt_rules.specs.Contents.{holds}
-use Rattle.bt_rules.specs.Pinning.{is_edge_of, pin_class_rules, enders, end_facts, end_shapes, turned_rules, pin_rules, same_kind, pins_clash, clashes, clash_rules, block_rule}
-use Rattle.bt_rules.proofs.Geometry.{in_dirs, others_apart}
-use Rattle.bt_rules.proofs.Keeping.{place_of, from_filter, both_true, all_there, each_both, each_flat, each_map, said_flat, AllStay, Stays, OneSaid}
+use Rattle.bt_model.specs.Requests.{LayoutRequest, ShareEnd, ends_of, pinned}
+use Rattle.bt_facts.specs.declared.fact.Fact.{Fact}
+use Rattle.bt_facts.specs.declared.fact.Fact.TheVariants.{Carries}
+use Rattle.bt_facts.specs.declared.fact.Shape.TheVariants as shape
+use Rattle.bt_facts.specs.Rules.{some_of, not_all}
+use Rattle.bt_facts.specs.Spots.{dirs, others_than, where_outside}
+use Rattle.bt_facts.specs.Facts.{holds}
+use Rattle.bt_demands.specs.Pinning.{is_edge_of, pin_class_rules, enders, end_facts, end_shapes, turned_rules, pin_rules, same_kind, pins_clash, clashes, clash_rules, block_rule}
+use Rattle.bt_facts.proofs.Geometry.{in_dirs, others_apart}
+use Rattle.bt_facts.proofs.Keeping.{place_of, from_filter, both_true, all_there, each_both, each_flat, each_map, said_flat, AllStay, Stays, OneSaid}
 use Rattle.bt_rules.proofs.Laid.{Said, placed_of, stands_as, one_outside}
 use Rattle.bt_rules.proofs.Classed.{the_edge, Lies, from_start, from_target, input_start, output_target}
-use Rattle.bt_rules.proofs.Sharing.{NameApart, head_apart}
+use Rattle.bt_demands.proofs.Sharing.{NameApart, head_apart}
 use Rattle.bt_model.proofs.Sorted.{pairs_tail}
 use Rattle.bt_rules.proofs.StartsStay.{named_input}
-use Rattle.bt_rules.proofs.Deciding.{contains_at}
+use Rattle.bt_facts.proofs.Decided.{contains_at}
 use Rattle.bt_rules.proofs.Reading.{no_edge}
-use Rattle.bt_rules.specs.Classes.{class_of}
+use Rattle.bt_demands.specs.Classes.{class_of}
 use Rattle.bt_model.specs.Chains.{IsOutput}
 use Rattle.bt_model.proofs.Sorted.{one_place}
-use Rattle.bt_parts.specs.Cells.{step, IsInside}
+use Rattle.bt_parts.specs.Cells.{step, IsInside, cell_at}
 use Rattle.bt_parts.proofs.Places.{one_there, covers_at, own_cell}
 
 module _ (r : LayoutRequest) (parts : List Part) (lays : Lays parts r) where

@@ -23,28 +23,29 @@ use Rattle.bt_model.proofs.Sorted.{contains_head, contains_more}
 use Rattle.bt_model.proofs.ChainLemmas.{chain_from}
 use Rattle.bt_model.proofs.HandLaws.{takes_at, comes_at}
 use Rattle.bt_model.proofs.SameChain.{Hop, hop_of, hop_half, same_hop, leaves_half}
-use Rattle.bt_rules.specs.declared.fact.Class.{Class}
-use Rattle.bt_rules.specs.declared.fact.Class.TheVariants as class
-use Rattle.bt_rules.specs.declared.fact.Fact.{Fact}
-use Rattle.bt_rules.specs.declared.fact.Fact.TheVariants.{Carries, Goes, At, EntersLesser, LeavesLesser}
-use Rattle.bt_rules.specs.declared.fact.Half.{Half}
-use Rattle.bt_rules.specs.declared.fact.Half.TheVariants.{Lesser, Greater}
-use Rattle.bt_rules.specs.declared.fact.Shape.TheVariants as shape
-use Rattle.bt_rules.specs.Classes.{class_of, goes_to, splitters_of, onward, classes_into}
-use Rattle.bt_rules.specs.Going.{goes_into}
+use Rattle.bt_facts.specs.declared.fact.Class.{Class}
+use Rattle.bt_facts.specs.declared.fact.Class.TheVariants as class
+use Rattle.bt_facts.specs.declared.fact.Fact.{Fact}
+use Rattle.bt_facts.specs.declared.fact.Fact.TheVariants.{Carries, Goes, At, EntersLesser, LeavesLesser}
+use Rattle.bt_facts.specs.declared.fact.Half.{Half}
+use Rattle.bt_facts.specs.declared.fact.Half.TheVariants.{Lesser, Greater}
+use Rattle.bt_facts.specs.declared.fact.Shape.TheVariants as shape
+use Rattle.bt_demands.specs.Classes.{class_of, goes_to, splitters_of, onward, classes_into}
+use Rattle.bt_facts.specs.Facts.{goes_into}
 use Rattle.bt_rules.specs.Ports.{carries_into, two_in_rules, in_rules, in_front, out_rules, standing_port_rules, port_rules}
-use Rattle.bt_rules.specs.Rules.{Rule, rule, not_all, rule_by}
-use Rattle.bt_rules.specs.Spots.{dirs, halves, behind, mate, half_at, other_half, cells_of}
+use Rattle.bt_facts.specs.Rules.{Rule, rule, not_all, rule_by}
+use Rattle.bt_facts.specs.Spots.{dirs, halves, behind, mate, half_at, other_half, cells_of}
 use Rattle.bt_rules.proofs.Chaining.{contained_link, chain_from_half, begins_with, comes_cell}
 use Rattle.bt_rules.proofs.Classed.{the_edge, class_at, is_edge, class_cases, start_of, leaves_start, enters_target, start_leaves, target_enters, class_goes, in_splitters}
 use Rattle.bt_rules.proofs.CarryingStay.{edge_on, target_on, half_class}
-use Rattle.bt_rules.proofs.Deciding.{Decided, contains_at, stands_at}
-use Rattle.bt_rules.proofs.Geometry.{step_behind, beside_apart}
+use Rattle.bt_facts.proofs.Decided.{Decided, contains_at}
+use Rattle.bt_rules.proofs.Deciding.{stands_at}
+use Rattle.bt_facts.proofs.Geometry.{step_behind, beside_apart}
 use Rattle.bt_rules.proofs.GoingStay.{taker_there, into_said, from_into}
-use Rattle.bt_rules.proofs.Keeping.{In, in_filter, from_filter, Distinct, distinct_filter, or_true, each_both, each_flat, each_map, one_of_map, TellsOf, by_stays, AllStay, Stays, OneSaid}
+use Rattle.bt_facts.proofs.Keeping.{In, in_filter, from_filter, Distinct, distinct_filter, or_true, each_both, each_flat, each_map, one_of_map, TellsOf, by_stays, AllStay, Stays, OneSaid}
 use Rattle.bt_rules.proofs.Laid.{Said, match_of, is_orderly, placed_of, inside_at, one_inside, each_inside}
 use Rattle.bt_rules.proofs.Matching.{Matched}
-use Rattle.bt_rules.proofs.Numbered.{from_enumerate, in_enumerate, distinct_enumerate, one_numbered, numbered, numbered_map}
+use Rattle.bt_facts.proofs.Numbered.{from_enumerate, in_enumerate, distinct_enumerate, one_numbered, numbered, numbered_map}
 use Rattle.bt_rules.proofs.Reading.{Stands, GoesOn, Bears, Splits, LeavesBy, EntersBy, FirstHas, last_link, ComesFromCell, edges_into, edges_from, no_edge}
 use Rattle.bt_rules.proofs.StandingStay.{HasSaid, one_split, splitter_number}
 

@@ -7,7 +7,7 @@ use Rattle.bt_parts.specs.declared.part.Dir.{Dir}
 use Rattle.bt_parts.specs.declared.part.Kind.TheVariants as kind
 use Rattle.bt_parts.specs.declared.part.Part.{Part}
 use Rattle.bt_parts.specs.declared.part.Rect.{Rect}
-use Rattle.bt_parts.specs.Cells.{steps}
+use Rattle.bt_parts.specs.Cells.{steps, cell_at}
 use Rattle.bt_parts.specs.Layouts.{HasPart, IsAt, Pairs}
 use Rattle.bt_net.specs.declared.network.Edge.{Edge}
 use Rattle.bt_net.specs.declared.network.Demand.{Demand}
@@ -17,20 +17,19 @@ use Rattle.bt_net.specs.Network.{leaves, enters}
 use Rattle.bt_model.specs.Chains.{IsSplitter, IsInput, Source}
 use Rattle.bt_model.specs.Chains as chains
 use Rattle.bt_model.specs.Handing.{FeedsFrom}
-use Rattle.bt_model.specs.Requests.{cell_at}
 use Rattle.bt_model.specs.Shown.{Naming}
-use Rattle.bt_rules.specs.declared.fact.Class.{Class}
-use Rattle.bt_rules.specs.declared.fact.Class.TheVariants.{Split}
-use Rattle.bt_rules.specs.declared.fact.Content.TheVariants.{Empty, Turned}
-use Rattle.bt_rules.specs.declared.fact.Fact.{Fact}
-use Rattle.bt_rules.specs.declared.fact.Fact.TheVariants as fact
-use Rattle.bt_rules.specs.declared.fact.Half.{Half}
-use Rattle.bt_rules.specs.declared.fact.Half.TheVariants.{Lesser}
-use Rattle.bt_rules.specs.declared.fact.Shape.{Shape}
-use Rattle.bt_rules.specs.declared.fact.Shape.TheVariants as shape
-use Rattle.bt_rules.specs.Classes.{class_of}
+use Rattle.bt_facts.specs.declared.fact.Class.{Class}
+use Rattle.bt_facts.specs.declared.fact.Class.TheVariants.{Split}
+use Rattle.bt_facts.specs.declared.fact.Content.TheVariants.{Empty, Turned}
+use Rattle.bt_facts.specs.declared.fact.Fact.{Fact}
+use Rattle.bt_facts.specs.declared.fact.Fact.TheVariants as fact
+use Rattle.bt_facts.specs.declared.fact.Half.{Half}
+use Rattle.bt_facts.specs.declared.fact.Half.TheVariants.{Lesser}
+use Rattle.bt_facts.specs.declared.fact.Shape.{Shape}
+use Rattle.bt_facts.specs.declared.fact.Shape.TheVariants as shape
+use Rattle.bt_demands.specs.Classes.{class_of}
 use Rattle.bt_rules.specs.Kept.{kind_of}
-use Rattle.bt_rules.specs.Spots.{half_at, behind, cells_of}
+use Rattle.bt_facts.specs.Spots.{half_at, behind, cells_of}
 use Rattle.bt_rules.proofs.Matching.{Matched}
 
 -- the cell of a part's shape

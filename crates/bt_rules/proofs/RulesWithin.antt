@@ -5,7 +5,7 @@ use Rattle.std.specs.Prelude.{unsigned_abs, ◌<ℤ◌, ◌≤ℤ◌}
 use Rattle.std.proofs.lemmas.Int.{ints}
 use Rattle.bt_parts.specs.declared.part.Cell.{Cell}
 use Rattle.bt_parts.specs.declared.part.Dir.{Dir}
-use Rattle.bt_parts.specs.Cells.{step, steps, opposite, IsInside}
+use Rattle.bt_parts.specs.Cells.{step, steps, opposite, IsInside, cell_at}
 use Rattle.bt_net.specs.declared.network.Demand.{Demand}
 use Rattle.bt_net.specs.declared.network.Demand.TheVariants as demand
 use Rattle.bt_net.specs.declared.network.Edge.{Edge}
@@ -17,35 +17,40 @@ use Rattle.bt_net.specs.declared.network.Pin.{Pin}
 use Rattle.bt_net.specs.declared.network.Side.{Side}
 use Rattle.bt_net.specs.Network.{leaves, enters}
 use Rattle.bt_net.specs.PinText.{HasEnds}
-use Rattle.bt_model.specs.Requests.{LayoutRequest, IsRequest, IsPinnedInside, ends_of, pinned, blocked, cell_at}
-use Rattle.bt_rules.specs.declared.fact.Class.{Class}
-use Rattle.bt_rules.specs.declared.fact.Class.TheVariants as class
-use Rattle.bt_rules.specs.declared.fact.Content.TheVariants.{Empty}
-use Rattle.bt_rules.specs.declared.fact.Fact.{Fact}
-use Rattle.bt_rules.specs.declared.fact.Fact.TheVariants as fact
-use Rattle.bt_rules.specs.declared.fact.Fact.TheVariants.{Stops}
-use Rattle.bt_rules.specs.declared.fact.Half.{Half}
-use Rattle.bt_rules.specs.declared.fact.Half.TheVariants.{Lesser, Greater}
-use Rattle.bt_rules.specs.declared.fact.Shape.TheVariants as shape
+use Rattle.bt_model.specs.Requests.{LayoutRequest, IsRequest, IsPinnedInside, ends_of, pinned, blocked}
+use Rattle.bt_facts.specs.declared.fact.Class.{Class}
+use Rattle.bt_facts.specs.declared.fact.Class.TheVariants as class
+use Rattle.bt_facts.specs.declared.fact.Content.TheVariants.{Empty}
+use Rattle.bt_facts.specs.declared.fact.Fact.{Fact}
+use Rattle.bt_facts.specs.declared.fact.Fact.TheVariants as fact
+use Rattle.bt_facts.specs.declared.fact.Fact.TheVariants.{Stops}
+use Rattle.bt_facts.specs.declared.fact.Half.{Half}
+use Rattle.bt_facts.specs.declared.fact.Half.TheVariants.{Lesser, Greater}
+use Rattle.bt_facts.specs.declared.fact.Shape.TheVariants as shape
 use Rattle.bt_rules.specs.Carrying.{carried_rules, taken_rule, kept_in_rules, onward_rules, carrying_rules}
-use Rattle.bt_rules.specs.Classes.{same_class, class_of, goes_to, ends_out, is_through, splitters_of, input_classes, classes_of, goals, sources, onward, classes_into}
-use Rattle.bt_rules.specs.Contents.{holds, contents, content_rules, equals_one, half_kinds, belt_kinds, shape_rules, mate_rule, mate_rules, class_rules}
-use Rattle.bt_rules.specs.Counting.{halves_of, ends_apart, has_room, among_less, one_fewer_rules, held_rules, counter_rules, all_held_rules, count_rules}
-use Rattle.bt_rules.specs.Going.{runners, givers, inner_rules, going_rules, goes_into, begins_there, fed_belt, fed_entrance, begin_rules, once_rules, handing_rules}
+use Rattle.bt_demands.specs.Classes.{same_class, class_of, goes_to, ends_out, is_through, splitters_of, input_classes, classes_of, goals, sources, onward, classes_into}
+use Rattle.bt_facts.specs.Facts.{holds}
+use Rattle.bt_rules.specs.Contents.{contents, content_rules, half_kinds, belt_kinds, shape_rules, mate_rule, mate_rules, class_rules}
+use Rattle.bt_facts.specs.Rules.{equals_one}
+use Rattle.bt_demands.specs.Counting.{halves_of, ends_apart, has_room, among_less, one_fewer_rules, held_rules, counter_rules, all_held_rules, count_rules}
+use Rattle.bt_rules.specs.Going.{runners, givers, inner_rules, going_rules, begins_there, fed_belt, fed_entrance, begin_rules, once_rules, handing_rules}
+use Rattle.bt_facts.specs.Facts.{goes_into}
 use Rattle.bt_rules.specs.Laws.{RulesAreWithin}
-use Rattle.bt_rules.specs.Pinning.{is_edge_of, pin_class_rules, end_facts, end_shapes, turned_rules, pin_rules, clashes, clash_rules, end_classes, not_begun, begun_rules, stop_rules, apart_rules, pins_other, unpinned_rules, side_end_rules, ends_named, side_rules, demand_rules, block_rule}
-use Rattle.bt_rules.specs.PlaceRules.{cell_rules, splitter_rules, end_rules, room_rules, rules_of}
+use Rattle.bt_demands.specs.Pinning.{is_edge_of, pin_class_rules, end_facts, end_shapes, turned_rules, pin_rules, clashes, clash_rules, end_classes, not_begun, begun_rules, stop_rules, apart_rules, pins_other, unpinned_rules, side_end_rules, ends_named, side_rules, demand_rules, block_rule}
+use Rattle.bt_rules.specs.PlaceRules.{cell_rules, splitter_rules, room_rules, rules_of}
+use Rattle.bt_demands.specs.Ends.{end_rules}
 use Rattle.bt_rules.specs.Ports.{carries_into, two_in_rules, in_rules, in_front, out_rules, standing_port_rules, port_rules}
-use Rattle.bt_rules.specs.Rules.{Rule, rule, some_of, not_all, at_most_one, exactly_one, rule_by}
-use Rattle.bt_rules.specs.Spots.{dirs, halves, sides_of, others_than, other_half, behind, mate, half_at, where_inside, where_outside, cells_of, is_border, border_of}
+use Rattle.bt_facts.specs.Rules.{Rule, rule, some_of, not_all, at_most_one, exactly_one, rule_by}
+use Rattle.bt_facts.specs.Spots.{dirs, halves, sides_of, others_than, other_half, behind, mate, half_at, where_inside, where_outside, cells_of, is_border, border_of}
 use Rattle.bt_rules.specs.Standing.{owner_rule, at_rules, stands_on, name_rule, standing_rules, place_rules}
-use Rattle.bt_rules.specs.Starts.{start_rules, input_rules}
+use Rattle.bt_demands.specs.Starts.{start_rules, input_rules}
 use Rattle.bt_rules.specs.Underground.{most_distance, tunnel_into, tunnel_rules, pairs_from, back, pairs_into, paired_rules, way_rules, pair_class_rules, pair_rules, piece_rules, underground_rules}
-use Rattle.bt_rules.specs.Within.{IsWithin, HasWithin, has_outputs, sides_outputs, stopping}
+use Rattle.bt_rules.specs.Within.{IsWithin, HasWithin}
+use Rattle.bt_demands.specs.Stopping.{has_outputs, sides_outputs, stopping}
 use Rattle.bt_rules.proofs.Classed.{edge_class_listed, through_listed}
-use Rattle.bt_rules.proofs.Fitting.{from_enough}
-use Rattle.bt_rules.proofs.Geometry.{inside_cases, inside_between, from_cells}
-use Rattle.bt_rules.proofs.Keeping.{In, in_left, in_right, in_at, in_map, from_map, in_range, in_contains, from_filter, from_range, any_in, each_both, each_three, each_four, each_flat, each_map}
+use Rattle.bt_demands.proofs.Fitting.{from_enough}
+use Rattle.bt_facts.proofs.Geometry.{inside_cases, inside_between, from_cells}
+use Rattle.bt_facts.proofs.Keeping.{In, in_left, in_right, in_at, in_map, from_map, in_range, in_contains, from_filter, from_range, any_in, each_both, each_three, each_four, each_flat, each_map}
 
 -- of lists of what is inside, or outside
 all_inside : {X : Type 0} (r : LayoutRequest) (c : Cell) (P : X → Type 0) (xs : List X) → (IsInside r.rect c → AllByRecursion P xs) → AllByRecursion P (where_inside r.rect c xs)

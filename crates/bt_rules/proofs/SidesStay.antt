@@ -22,25 +22,25 @@ use Rattle.bt_model.specs.Chains.{IsOutput}
 use Rattle.bt_model.specs.Laying.{Lays, IsNamed, KeepsPin, StandsAtSide, KeepsDemand}
 use Rattle.bt_model.specs.Requests.{LayoutRequest, IsRequest, Names, ends_of, pinned}
 use Rattle.bt_model.proofs.Sorted.{one_place}
-use Rattle.bt_rules.specs.declared.fact.Class.{Class}
-use Rattle.bt_rules.specs.declared.fact.Fact.{Fact}
-use Rattle.bt_rules.specs.declared.fact.Fact.TheVariants.{Carries, Begins, Stops}
-use Rattle.bt_rules.specs.declared.fact.Shape.{Shape}
-use Rattle.bt_rules.specs.declared.fact.Shape.TheVariants as shape
-use Rattle.bt_rules.specs.Classes.{side_of, class_between, class_of}
-use Rattle.bt_rules.specs.Contents.{holds}
-use Rattle.bt_rules.specs.Pinning.{is_edge_of, end_classes, not_begun, begun_rules, stop_rules, apart_rules, pins_other, unpinned_rules, side_end_rules, ends_named, demand_rules}
-use Rattle.bt_rules.specs.Rules.{rule, not_all}
-use Rattle.bt_rules.specs.Spots.{others_than, border_of, where_outside}
+use Rattle.bt_facts.specs.declared.fact.Class.{Class}
+use Rattle.bt_facts.specs.declared.fact.Fact.{Fact}
+use Rattle.bt_facts.specs.declared.fact.Fact.TheVariants.{Carries, Begins, Stops}
+use Rattle.bt_facts.specs.declared.fact.Shape.{Shape}
+use Rattle.bt_facts.specs.declared.fact.Shape.TheVariants as shape
+use Rattle.bt_demands.specs.Classes.{side_of, class_between, class_of}
+use Rattle.bt_facts.specs.Facts.{holds}
+use Rattle.bt_demands.specs.Pinning.{is_edge_of, end_classes, not_begun, begun_rules, stop_rules, apart_rules, pins_other, unpinned_rules, side_end_rules, ends_named, demand_rules}
+use Rattle.bt_facts.specs.Rules.{rule, not_all}
+use Rattle.bt_facts.specs.Spots.{others_than, border_of, where_outside}
 use Rattle.bt_rules.proofs.CarryingStay.{there_has}
 use Rattle.bt_rules.proofs.Classed.{the_edge, class_at, one_class, lies_class, input_lies, from_target, input_start, output_target}
-use Rattle.bt_rules.proofs.Deciding.{contains_at}
-use Rattle.bt_rules.proofs.Geometry.{in_border, others_apart}
-use Rattle.bt_rules.proofs.Keeping.{In, place_of, from_map, from_filter, from_range, all_there, each_three, each_flat, each_map, one_of_map, OneSaid, AllStay, Stays}
+use Rattle.bt_facts.proofs.Decided.{contains_at}
+use Rattle.bt_facts.proofs.Geometry.{in_border, others_apart}
+use Rattle.bt_facts.proofs.Keeping.{In, place_of, from_map, from_filter, from_range, all_there, each_three, each_flat, each_map, one_of_map, OneSaid, AllStay, Stays}
 use Rattle.bt_rules.proofs.Laid.{Said, placed_of, stands_as, one_outside}
 use Rattle.bt_rules.proofs.PinningStay.{pin_stays, output_cell}
 use Rattle.bt_rules.proofs.Reading.{Bears, no_edge}
-use Rattle.bt_rules.proofs.Sharing.{class_side, side_from, side_is}
+use Rattle.bt_demands.proofs.Sharing.{class_side, side_from, side_is}
 
 -- what holds of each item, by its place
 pub each_of : {X : Type 0} (P : X → Type 0) (xs : List X) → All P xs → AllByRecursion P xs

@@ -14,23 +14,24 @@ use Rattle.bt_model.specs.Laying.{Lays}
 use Rattle.bt_model.specs.Requests.{LayoutRequest}
 use Rattle.bt_model.proofs.ChainLemmas.{no_link}
 use Rattle.bt_rules.proofs.Chaining.{contained_link}
-use Rattle.bt_rules.specs.declared.fact.Class.{Class}
-use Rattle.bt_rules.specs.Classes.{splitters_of}
+use Rattle.bt_facts.specs.declared.fact.Class.{Class}
+use Rattle.bt_demands.specs.Classes.{splitters_of}
 use Rattle.bt_parts.specs.Layouts.{IsAt}
 use Rattle.bt_model.proofs.Places.{contained_at}
-use Rattle.bt_rules.specs.declared.fact.Fact.{Fact}
-use Rattle.bt_rules.specs.declared.fact.Fact.TheVariants.{Carries, Column, Row, Points, At}
-use Rattle.bt_rules.specs.declared.fact.Class.TheVariants.{Split}
-use Rattle.bt_rules.specs.declared.fact.Half.{Half}
-use Rattle.bt_rules.specs.declared.fact.Half.TheVariants.{Lesser, Greater}
-use Rattle.bt_rules.specs.declared.fact.Shape.TheVariants as shape
-use Rattle.bt_rules.specs.Rules.{rule, at_most_one}
-use Rattle.bt_rules.specs.Spots.{dirs, mate, before, half_at, where_inside, cells_of}
-use Rattle.bt_rules.specs.Contents.{holds}
+use Rattle.bt_facts.specs.declared.fact.Fact.{Fact}
+use Rattle.bt_facts.specs.declared.fact.Fact.TheVariants.{Carries, Column, Row, Points, At}
+use Rattle.bt_facts.specs.declared.fact.Class.TheVariants.{Split}
+use Rattle.bt_facts.specs.declared.fact.Half.{Half}
+use Rattle.bt_facts.specs.declared.fact.Half.TheVariants.{Lesser, Greater}
+use Rattle.bt_facts.specs.declared.fact.Shape.TheVariants as shape
+use Rattle.bt_facts.specs.Rules.{rule, at_most_one}
+use Rattle.bt_facts.specs.Spots.{dirs, mate, before, half_at, where_inside, cells_of}
+use Rattle.bt_facts.specs.Facts.{holds}
 use Rattle.bt_rules.specs.Standing.{owner_rule, at_rules, stands_on, name_rule, standing_rules, stands_at, place_rules}
-use Rattle.bt_rules.proofs.Deciding.{stands_at as at_stands, same_split, contains_at}
-use Rattle.bt_rules.proofs.Geometry.{in_dirs, distinct_dirs, before_beside, in_cells}
-use Rattle.bt_rules.proofs.Keeping.{In, in_map, from_map, in_flat, in_range, Distinct, distinct_map, distinct_range, each_three, each_flat, each_map, one_in, at_most_stays, AllStay, Stays}
+use Rattle.bt_rules.proofs.Deciding.{stands_at as at_stands, same_split}
+use Rattle.bt_facts.proofs.Decided.{contains_at}
+use Rattle.bt_facts.proofs.Geometry.{in_dirs, distinct_dirs, before_beside, in_cells}
+use Rattle.bt_facts.proofs.Keeping.{In, in_map, from_map, in_flat, in_range, Distinct, distinct_map, distinct_range, each_three, each_flat, each_map, one_in, at_most_stays, AllStay, Stays}
 use Rattle.bt_rules.proofs.Laid.{Said, match_of, is_orderly, placed_of, inside_at, stands_as, half_there, in_inside, from_inside}
 use Rattle.bt_rules.proofs.Reading.{Stands, Bears, Splits, HasClass}
 

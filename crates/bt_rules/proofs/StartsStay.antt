@@ -15,19 +15,19 @@ use Rattle.bt_net.specs.Network.{is_input}
 use Rattle.bt_model.specs.Chains.{IsInput}
 use Rattle.bt_model.specs.Laying.{Lays}
 use Rattle.bt_model.specs.Requests.{LayoutRequest}
-use Rattle.bt_rules.specs.declared.fact.Class.TheVariants.{Shared, Input}
-use Rattle.bt_rules.specs.declared.fact.Fact.{Fact}
-use Rattle.bt_rules.specs.declared.fact.Fact.TheVariants.{Starts}
-use Rattle.bt_rules.specs.Classes.{is_pinned, side_of, class_between, leads_out, is_through}
-use Rattle.bt_rules.specs.Rules.{exactly_one}
-use Rattle.bt_rules.specs.Spots.{border_of}
-use Rattle.bt_rules.specs.Starts.{start_rules, input_rules}
+use Rattle.bt_facts.specs.declared.fact.Class.TheVariants.{Shared, Input}
+use Rattle.bt_facts.specs.declared.fact.Fact.{Fact}
+use Rattle.bt_facts.specs.declared.fact.Fact.TheVariants.{Starts}
+use Rattle.bt_demands.specs.Classes.{is_pinned, side_of, class_between, leads_out, is_through}
+use Rattle.bt_facts.specs.Rules.{exactly_one}
+use Rattle.bt_facts.specs.Spots.{border_of}
+use Rattle.bt_demands.specs.Starts.{start_rules, input_rules}
 use Rattle.bt_rules.proofs.CarryingStay.{there_has}
 use Rattle.bt_rules.proofs.Classed.{the_edge, class_at, one_class, lies_class, input_lies, from_start, input_start, out_target}
-use Rattle.bt_rules.proofs.Deciding.{contains_at}
-use Rattle.bt_rules.proofs.Geometry.{in_border, distinct_border}
+use Rattle.bt_facts.proofs.Decided.{contains_at}
+use Rattle.bt_facts.proofs.Geometry.{in_border, distinct_border}
 use Rattle.bt_rules.proofs.GoingStay.{input_cell}
-use Rattle.bt_rules.proofs.Keeping.{from_map, place_of, from_any, both_true, distinct_map, each_both, each_flat, one_of_map, at_most_stays, AllStay, Stays}
+use Rattle.bt_facts.proofs.Keeping.{from_map, place_of, from_any, both_true, distinct_map, each_both, each_flat, one_of_map, at_most_stays, AllStay, Stays}
 use Rattle.bt_rules.proofs.Laid.{Said, inside_at}
 use Rattle.bt_rules.proofs.Reading.{Bears, no_edge}
 use Rattle.bt_rules.proofs.StandingStay.{HasSaid}

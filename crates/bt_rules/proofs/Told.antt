@@ -12,17 +12,18 @@ use Rattle.bt_model.specs.Chains as chains
 use Rattle.bt_model.specs.Laying.{Lays}
 use Rattle.bt_model.specs.Requests.{LayoutRequest}
 use Rattle.bt_model.proofs.ExistLemmas.{at_cases}
-use Rattle.bt_rules.specs.declared.fact.Class.{Class}
-use Rattle.bt_rules.specs.declared.fact.Content.TheVariants.{Empty, Turned}
-use Rattle.bt_rules.specs.declared.fact.Fact.{Fact}
-use Rattle.bt_rules.specs.declared.fact.Fact.TheVariants as fact
-use Rattle.bt_rules.specs.declared.fact.Half.{Half}
-use Rattle.bt_rules.specs.declared.fact.Half.TheVariants.{Lesser}
-use Rattle.bt_rules.specs.declared.fact.Shape.TheVariants as shape
-use Rattle.bt_rules.specs.Spots.{half_at, behind}
+use Rattle.bt_facts.specs.declared.fact.Class.{Class}
+use Rattle.bt_facts.specs.declared.fact.Content.TheVariants.{Empty, Turned}
+use Rattle.bt_facts.specs.declared.fact.Fact.{Fact}
+use Rattle.bt_facts.specs.declared.fact.Fact.TheVariants as fact
+use Rattle.bt_facts.specs.declared.fact.Half.{Half}
+use Rattle.bt_facts.specs.declared.fact.Half.TheVariants.{Lesser}
+use Rattle.bt_facts.specs.declared.fact.Shape.TheVariants as shape
+use Rattle.bt_facts.specs.Spots.{half_at, behind}
 use Rattle.bt_rules.proofs.CarryingStay.{there_has}
 use Rattle.bt_rules.proofs.Classed.{m, class_cases, class_there, one_class}
-use Rattle.bt_rules.proofs.Deciding.{Decided, both, same_cell, same_dir, same_source, same_sink, lt_decided, stands_decided, goes_decided, half_decided, begins_decided, named_decided, comes_decided, reaches_decided, runs_decided, of_split}
+use Rattle.bt_facts.proofs.Decided.{Decided, both, same_cell, same_dir, lt_decided}
+use Rattle.bt_rules.proofs.Deciding.{same_source, same_sink, stands_decided, goes_decided, half_decided, begins_decided, named_decided, comes_decided, reaches_decided, runs_decided, of_split}
 use Rattle.bt_rules.proofs.Laid.{Said, is_orderly}
 use Rattle.bt_rules.proofs.PortsStay.{Leaving, Entering}
 use Rattle.bt_rules.proofs.Reading.{ComesFromCell, FirstHas, edges_into, edges_from, cell_numbered, Holding}

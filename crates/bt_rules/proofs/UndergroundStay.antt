@@ -16,23 +16,23 @@ use Rattle.bt_model.specs.Laying.{Lays}
 use Rattle.bt_model.specs.Requests.{LayoutRequest}
 use Rattle.bt_model.proofs.HandLaws.{pair_enters}
 use Rattle.bt_model.proofs.SightLemmas.{not_opposite}
-use Rattle.bt_rules.specs.declared.fact.Fact.{Fact}
-use Rattle.bt_rules.specs.declared.fact.Fact.TheVariants.{Pair, Tunnel}
-use Rattle.bt_rules.specs.declared.fact.Class.{Class}
-use Rattle.bt_rules.specs.declared.fact.Shape.{Shape}
-use Rattle.bt_rules.specs.declared.fact.Shape.TheVariants as shape
-use Rattle.bt_rules.specs.Rules.{rule, not_all, at_most_one}
-use Rattle.bt_rules.specs.Spots.{dirs, behind, where_inside, where_outside}
-use Rattle.bt_rules.specs.Contents.{holds}
-use Rattle.bt_rules.specs.Classes.{classes_of}
+use Rattle.bt_facts.specs.declared.fact.Fact.{Fact}
+use Rattle.bt_facts.specs.declared.fact.Fact.TheVariants.{Pair, Tunnel}
+use Rattle.bt_facts.specs.declared.fact.Class.{Class}
+use Rattle.bt_facts.specs.declared.fact.Shape.{Shape}
+use Rattle.bt_facts.specs.declared.fact.Shape.TheVariants as shape
+use Rattle.bt_facts.specs.Rules.{rule, not_all, at_most_one}
+use Rattle.bt_facts.specs.Spots.{dirs, behind, where_inside, where_outside}
+use Rattle.bt_facts.specs.Facts.{holds}
+use Rattle.bt_demands.specs.Classes.{classes_of}
 use Rattle.bt_rules.specs.Underground.{most_distance, tunnel_into, tunnel_rules, pairs_from, back, pairs_into, paired_rules, way_rules, pair_class_rules, pair_rules, piece_rules, underground_rules}
 use Rattle.bt_rules.proofs.Chaining.{goes_on}
 use Rattle.bt_rules.proofs.Classed.{class_there, one_class}
 use Rattle.bt_rules.proofs.StandingStay.{HasSaid}
 use Rattle.bt_model.proofs.ChainLemmas.{no_link}
 use Rattle.bt_rules.proofs.Deciding.{pair_of, same_pair, stands_at}
-use Rattle.bt_rules.proofs.Geometry.{inside_between, inside_cases, steps_plus, behind_step, steps_back, back_steps}
-use Rattle.bt_rules.proofs.Keeping.{In, from_map, from_flat, in_range, from_range, Distinct, distinct_flat, distinct_range, each_both, each_three, each_flat, each_map, said_flat, at_most_stays, AllStay, Stays, OneSaid}
+use Rattle.bt_facts.proofs.Geometry.{inside_between, inside_cases, steps_plus, behind_step, steps_back, back_steps}
+use Rattle.bt_facts.proofs.Keeping.{In, from_map, from_flat, in_range, from_range, Distinct, distinct_flat, distinct_range, each_both, each_three, each_flat, each_map, said_flat, at_most_stays, AllStay, Stays, OneSaid}
 use Rattle.bt_rules.proofs.Laid.{Said, match_of, is_orderly, placed_of, inside_at, stands_as, from_inside, one_inside, each_inside, each_outside}
 use Rattle.bt_rules.specs.Kept.{kind_of}
 use Rattle.bt_rules.proofs.Reading.{Stands, Runs, Reaches}

@@ -5,14 +5,14 @@ use Rattle.bt_parts.specs.declared.part.Cell.{Cell}
 use Rattle.bt_parts.specs.declared.part.Dir.{Dir}
 use Rattle.bt_parts.specs.Cells.{step}
 use Rattle.bt_model.specs.Requests.{LayoutRequest}
-use Rattle.bt_rules.specs.declared.fact.Class.{Class}
-use Rattle.bt_rules.specs.declared.fact.Class.TheVariants.{Split}
-use Rattle.bt_rules.specs.declared.fact.Fact.TheVariants.{Carries, HalfOn, Goes}
-use Rattle.bt_rules.specs.Classes.{classes_of, splitters_of, goals, sources, ends_out}
-use Rattle.bt_rules.specs.Contents.{holds}
+use Rattle.bt_facts.specs.declared.fact.Class.{Class}
+use Rattle.bt_facts.specs.declared.fact.Class.TheVariants.{Split}
+use Rattle.bt_facts.specs.declared.fact.Fact.TheVariants.{Carries, HalfOn, Goes}
+use Rattle.bt_demands.specs.Classes.{classes_of, splitters_of, goals, sources, ends_out}
+use Rattle.bt_facts.specs.Facts.{holds}
 use Rattle.bt_rules.specs.Going.{runners}
-use Rattle.bt_rules.specs.Rules.{Rule, rule, not_all}
-use Rattle.bt_rules.specs.Spots.{dirs, is_inside}
+use Rattle.bt_facts.specs.Rules.{Rule, rule, not_all}
+use Rattle.bt_facts.specs.Spots.{dirs, is_inside}
 
 -- what is handed on to a part that is no half has one class before and after; what is handed to a half comes to a splitter
 -- into which edges of its class go

@@ -5,21 +5,18 @@ use Rattle.bt_parts.specs.declared.part.Cell.{Cell}
 use Rattle.bt_parts.specs.declared.part.Dir.{Dir}
 use Rattle.bt_parts.specs.declared.part.Rect.{Rect}
 use Rattle.bt_model.specs.Requests.{LayoutRequest}
-use Rattle.bt_rules.specs.declared.fact.Content.{Content}
-use Rattle.bt_rules.specs.declared.fact.Content.TheVariants.{Empty, Turned}
-use Rattle.bt_rules.specs.declared.fact.Fact.{Fact}
-use Rattle.bt_rules.specs.declared.fact.Fact.TheVariants.{Kind, Carries, HalfOn, BeltOn}
-use Rattle.bt_rules.specs.declared.fact.Half.{Half}
-use Rattle.bt_rules.specs.declared.fact.Half.TheVariants.{Lesser, Greater}
-use Rattle.bt_rules.specs.declared.fact.Shape.{Shape}
-use Rattle.bt_rules.specs.declared.fact.Shape.TheVariants as shape
-use Rattle.bt_rules.specs.Classes.{classes_of, input_classes}
-use Rattle.bt_rules.specs.Rules.{Rule, rule, some_of, not_all, at_most_one, exactly_one}
-use Rattle.bt_rules.specs.Spots.{dirs, halves, other_half, mate, where_inside}
-
--- the cell holds a part of this shape, so turned
-abbrev pub holds : Cell → Shape → Dir → Fact
-holds c of dir = Kind c (Turned of dir)
+use Rattle.bt_facts.specs.declared.fact.Content.{Content}
+use Rattle.bt_facts.specs.declared.fact.Content.TheVariants.{Empty, Turned}
+use Rattle.bt_facts.specs.declared.fact.Fact.{Fact}
+use Rattle.bt_facts.specs.declared.fact.Fact.TheVariants.{Kind, Carries, HalfOn, BeltOn}
+use Rattle.bt_facts.specs.declared.fact.Half.{Half}
+use Rattle.bt_facts.specs.declared.fact.Half.TheVariants.{Lesser, Greater}
+use Rattle.bt_facts.specs.declared.fact.Shape.{Shape}
+use Rattle.bt_facts.specs.declared.fact.Shape.TheVariants as shape
+use Rattle.bt_demands.specs.Classes.{classes_of, input_classes}
+use Rattle.bt_facts.specs.Rules.{Rule, rule, some_of, not_all, at_most_one, exactly_one, equals_one}
+use Rattle.bt_facts.specs.Spots.{dirs, halves, other_half, mate, where_inside}
+use Rattle.bt_facts.specs.Facts.{holds}
 
 -- the five shapes in their order
 abbrev pub shapes : List Shape
@@ -32,10 +29,6 @@ contents = Empty ∷ flat_map (λ of. map (Turned of) dirs) shapes
 -- each cell holds exactly one thing
 abbrev pub content_rules : Cell → List Rule
 content_rules c = exactly_one (map (Kind c) contents)
-
--- the first fact holds exactly where one of the others does
-abbrev pub equals_one : Fact → List Fact → List Rule
-equals_one fact facts = rule (fact ∷ []) facts ∷ map (λ one. rule (one ∷ []) (fact ∷ [])) facts
 
 -- a half of some direction stands on the cell
 abbrev pub half_kinds : Cell → List Fact

@@ -7,16 +7,16 @@ use Rattle.bt_parts.specs.declared.part.Dir.{Dir}
 use Rattle.bt_parts.specs.declared.part.Rect.{Rect}
 use Rattle.bt_parts.specs.Cells.{step, opposite}
 use Rattle.bt_model.specs.Requests.{LayoutRequest}
-use Rattle.bt_rules.specs.declared.fact.Content.TheVariants.{Empty}
-use Rattle.bt_rules.specs.declared.fact.Fact.{Fact}
-use Rattle.bt_rules.specs.declared.fact.Fact.TheVariants.{Kind, Carries, BeltOn, Begins, Goes}
-use Rattle.bt_rules.specs.declared.fact.Half.TheVariants.{Lesser, Greater}
-use Rattle.bt_rules.specs.declared.fact.Shape.{Shape}
-use Rattle.bt_rules.specs.declared.fact.Shape.TheVariants as shape
-use Rattle.bt_rules.specs.Classes.{input_classes}
-use Rattle.bt_rules.specs.Contents.{holds}
-use Rattle.bt_rules.specs.Rules.{Rule, rule, not_all, at_most_one}
-use Rattle.bt_rules.specs.Spots.{dirs, halves, sides_of, behind, is_inside, where_inside, where_outside}
+use Rattle.bt_facts.specs.declared.fact.Content.TheVariants.{Empty}
+use Rattle.bt_facts.specs.declared.fact.Fact.{Fact}
+use Rattle.bt_facts.specs.declared.fact.Fact.TheVariants.{Kind, Carries, BeltOn, Begins, Goes}
+use Rattle.bt_facts.specs.declared.fact.Half.TheVariants.{Lesser, Greater}
+use Rattle.bt_facts.specs.declared.fact.Shape.{Shape}
+use Rattle.bt_facts.specs.declared.fact.Shape.TheVariants as shape
+use Rattle.bt_demands.specs.Classes.{input_classes}
+use Rattle.bt_facts.specs.Facts.{holds, goes_into}
+use Rattle.bt_facts.specs.Rules.{Rule, rule, not_all, at_most_one}
+use Rattle.bt_facts.specs.Spots.{dirs, halves, sides_of, behind, is_inside, where_outside}
 
 -- the shapes that must hand on, or end an output
 abbrev pub runners : List Shape
@@ -42,10 +42,6 @@ inner_rules c dir = rule (Goes c dir ∷ []) (map (λ of. holds c of dir) givers
 -- what the cell hands on in a direction: to the outside nothing
 abbrev pub going_rules : Rect → Cell → Dir → List Rule
 going_rules rect c dir = if is_inside rect (step dir c) then inner_rules c dir else not_all (Goes c dir ∷ []) ∷ []
-
--- something comes to the cell from behind in this direction, where that is inside
-abbrev pub goes_into : Rect → Cell → Dir → List Fact
-goes_into rect c dir = where_inside rect (behind dir c) (Goes (behind dir c) dir ∷ [])
 
 -- an input begins on the cell, where what is behind it in this direction is outside
 abbrev pub begins_there : Rect → Cell → Dir → List Fact

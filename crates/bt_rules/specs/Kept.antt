@@ -7,12 +7,12 @@ use Rattle.bt_parts.specs.declared.part.Kind.TheVariants as kind
 use Rattle.bt_parts.specs.declared.part.Part.{Part}
 use Rattle.bt_parts.specs.Cells.{step, steps, IsInside}
 use Rattle.bt_model.specs.Requests.{LayoutRequest}
-use Rattle.bt_rules.specs.declared.fact.Fact.{Fact}
-use Rattle.bt_rules.specs.declared.fact.Fact.TheVariants.{HalfOn, Begins, Pair, Goes}
-use Rattle.bt_rules.specs.declared.fact.Half.TheVariants.{Greater}
-use Rattle.bt_rules.specs.declared.fact.Shape.{Shape}
-use Rattle.bt_rules.specs.declared.fact.Shape.TheVariants as shape
-use Rattle.bt_rules.specs.Contents.{holds}
+use Rattle.bt_facts.specs.declared.fact.Fact.{Fact}
+use Rattle.bt_facts.specs.declared.fact.Fact.TheVariants.{HalfOn, Begins, Pair, Goes}
+use Rattle.bt_facts.specs.declared.fact.Half.TheVariants.{Greater}
+use Rattle.bt_facts.specs.declared.fact.Shape.{Shape}
+use Rattle.bt_facts.specs.declared.fact.Shape.TheVariants as shape
+use Rattle.bt_facts.specs.Facts.{holds}
 use Rattle.bt_rules.specs.Underground.{most_distance}
 
 -- the kind of the part of which this shape is the cell

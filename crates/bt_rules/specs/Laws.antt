@@ -5,10 +5,10 @@ use Rattle.bt_parts.specs.declared.part.Part.{Part}
 use Rattle.bt_model.specs.Laying.{Lays}
 use Rattle.bt_model.specs.Requests.{LayoutRequest, IsRequest}
 use Rattle.bt_model.specs.Shown.{ListsEach}
-use Rattle.bt_rules.specs.declared.fact.Fact.{Fact}
+use Rattle.bt_facts.specs.declared.fact.Fact.{Fact}
 use Rattle.bt_rules.specs.Kept.{IsKeptPart}
 use Rattle.bt_rules.specs.PlaceRules.{rules_of}
-use Rattle.bt_rules.specs.Rules.{Keeps}
+use Rattle.bt_facts.specs.Rules.{Keeps}
 use Rattle.bt_rules.specs.Within.{HasWithin}
 
 -- the reading of the facts keeps each rule of the request

@@ -1,19 +1,18 @@
 -- The rules of a request.
-use Rattle.std.specs.List.{range_with_len, flat_map}
-use Rattle.std.specs.Prelude.{ℕ, List, [], ◌∷◌, ◌++◌, map, if◌then◌else◌}
+use Rattle.std.specs.List.{flat_map}
+use Rattle.std.specs.Prelude.{ℕ, List, [], ◌∷◌, ◌++◌, if◌then◌else◌}
 use Rattle.bt_parts.specs.declared.part.Cell.{Cell}
 use Rattle.bt_model.specs.Requests.{LayoutRequest}
 use Rattle.bt_rules.specs.Carrying.{carrying_rules}
-use Rattle.bt_rules.specs.Classes.{splitters_of}
+use Rattle.bt_demands.specs.Classes.{splitters_of}
 use Rattle.bt_rules.specs.Contents.{content_rules, shape_rules, mate_rules, class_rules}
-use Rattle.bt_rules.specs.Counting.{has_room, count_rules}
+use Rattle.bt_demands.specs.Counting.{has_room, count_rules}
+use Rattle.bt_demands.specs.Ends.{end_rules}
 use Rattle.bt_rules.specs.Going.{handing_rules}
-use Rattle.bt_rules.specs.Pinning.{demand_rules, clash_rules, block_rule}
 use Rattle.bt_rules.specs.Ports.{port_rules}
-use Rattle.bt_rules.specs.Rules.{Rule, some_of}
-use Rattle.bt_rules.specs.Spots.{cells_of}
+use Rattle.bt_facts.specs.Rules.{Rule, some_of}
+use Rattle.bt_facts.specs.Spots.{cells_of}
 use Rattle.bt_rules.specs.Standing.{standing_rules, place_rules}
-use Rattle.bt_rules.specs.Starts.{input_rules}
 use Rattle.bt_rules.specs.Underground.{underground_rules}
 
 -- the rules at a cell
@@ -24,11 +23,6 @@ cell_rules r c = content_rules c ++ shape_rules c ++ mate_rules r.rect c ++ clas
 -- the rules of a splitter
 abbrev pub splitter_rules : LayoutRequest → ℕ → List Rule
 splitter_rules r s = place_rules r.rect s ++ port_rules r s
-
--- the rules of inputs, pins, sides and blocks
-abbrev pub end_rules : LayoutRequest → List Rule
-end_rules r = flat_map (input_rules r) (range_with_len 0 r.net.inputs)
-    ++ flat_map (demand_rules r) r.demands ++ clash_rules r.demands ++ map block_rule r.blocks
 
 -- the rules of a request whose rectangle has room
 abbrev pub room_rules : LayoutRequest → List Rule

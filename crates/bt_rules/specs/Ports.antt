@@ -9,16 +9,16 @@ use Rattle.bt_parts.specs.Cells.{step}
 use Rattle.bt_net.specs.declared.network.Edge.{Edge}
 use Rattle.bt_net.specs.Network.{leaves}
 use Rattle.bt_model.specs.Requests.{LayoutRequest}
-use Rattle.bt_rules.specs.declared.fact.Class.{Class}
-use Rattle.bt_rules.specs.declared.fact.Class.TheVariants.{Split}
-use Rattle.bt_rules.specs.declared.fact.Fact.{Fact}
-use Rattle.bt_rules.specs.declared.fact.Fact.TheVariants.{Carries, Goes, At, EntersLesser, LeavesLesser}
-use Rattle.bt_rules.specs.declared.fact.Half.{Half}
-use Rattle.bt_rules.specs.declared.fact.Half.TheVariants.{Lesser}
-use Rattle.bt_rules.specs.Classes.{same_class, classes_into, onward}
-use Rattle.bt_rules.specs.Going.{goes_into}
-use Rattle.bt_rules.specs.Rules.{Rule, rule, not_all, rule_by}
-use Rattle.bt_rules.specs.Spots.{dirs, halves, other_half, mate, half_at, behind, where_inside, cells_of}
+use Rattle.bt_facts.specs.declared.fact.Class.{Class}
+use Rattle.bt_facts.specs.declared.fact.Class.TheVariants.{Split}
+use Rattle.bt_facts.specs.declared.fact.Fact.{Fact}
+use Rattle.bt_facts.specs.declared.fact.Fact.TheVariants.{Carries, Goes, At, EntersLesser, LeavesLesser}
+use Rattle.bt_facts.specs.declared.fact.Half.{Half}
+use Rattle.bt_facts.specs.declared.fact.Half.TheVariants.{Lesser}
+use Rattle.bt_demands.specs.Classes.{same_class, classes_into, onward}
+use Rattle.bt_facts.specs.Facts.{goes_into}
+use Rattle.bt_facts.specs.Rules.{Rule, rule, not_all, rule_by}
+use Rattle.bt_facts.specs.Spots.{dirs, halves, other_half, mate, half_at, behind, where_inside, cells_of}
 
 -- what is behind the cell in this direction has the class, where that is inside
 abbrev pub carries_into : Rect → Cell → Dir → Class → List Fact

@@ -5,15 +5,15 @@ use Rattle.bt_parts.specs.declared.part.Cell.{Cell}
 use Rattle.bt_parts.specs.declared.part.Dir.{Dir}
 use Rattle.bt_parts.specs.declared.part.Rect.{Rect}
 use Rattle.bt_model.specs.Requests.{LayoutRequest}
-use Rattle.bt_rules.specs.declared.fact.Class.TheVariants.{Split}
-use Rattle.bt_rules.specs.declared.fact.Fact.{Fact}
-use Rattle.bt_rules.specs.declared.fact.Fact.TheVariants.{Carries, HalfOn, At, Column, Row, Points}
-use Rattle.bt_rules.specs.declared.fact.Half.TheVariants.{Lesser, Greater}
-use Rattle.bt_rules.specs.declared.fact.Shape.TheVariants as shape
-use Rattle.bt_rules.specs.Classes.{splitters_of}
-use Rattle.bt_rules.specs.Contents.{holds}
-use Rattle.bt_rules.specs.Rules.{Rule, rule, some_of, at_most_one}
-use Rattle.bt_rules.specs.Spots.{dirs, mate, where_inside, cells_of}
+use Rattle.bt_facts.specs.declared.fact.Class.TheVariants.{Split}
+use Rattle.bt_facts.specs.declared.fact.Fact.{Fact}
+use Rattle.bt_facts.specs.declared.fact.Fact.TheVariants.{Carries, HalfOn, At, Column, Row, Points}
+use Rattle.bt_facts.specs.declared.fact.Half.TheVariants.{Lesser, Greater}
+use Rattle.bt_facts.specs.declared.fact.Shape.TheVariants as shape
+use Rattle.bt_demands.specs.Classes.{splitters_of}
+use Rattle.bt_facts.specs.Facts.{holds}
+use Rattle.bt_facts.specs.Rules.{Rule, rule, some_of, at_most_one}
+use Rattle.bt_facts.specs.Spots.{dirs, mate, where_inside, cells_of}
 
 -- a lesser half is that of some splitter
 abbrev pub owner_rule : List ℕ → Cell → Dir → Rule

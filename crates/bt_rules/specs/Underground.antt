@@ -8,14 +8,14 @@ use Rattle.bt_parts.specs.declared.part.Rect.{Rect}
 use Rattle.bt_parts.specs.Cells.{step, steps, opposite}
 use Rattle.bt_parts.specs.Tiers.{reach_of}
 use Rattle.bt_model.specs.Requests.{LayoutRequest}
-use Rattle.bt_rules.specs.declared.fact.Class.{Class}
-use Rattle.bt_rules.specs.declared.fact.Fact.{Fact}
-use Rattle.bt_rules.specs.declared.fact.Fact.TheVariants.{Carries, Pair, Tunnel}
-use Rattle.bt_rules.specs.declared.fact.Shape.TheVariants as shape
-use Rattle.bt_rules.specs.Classes.{classes_of}
-use Rattle.bt_rules.specs.Contents.{holds}
-use Rattle.bt_rules.specs.Rules.{Rule, rule, not_all, at_most_one}
-use Rattle.bt_rules.specs.Spots.{dirs, behind, where_inside, where_outside}
+use Rattle.bt_facts.specs.declared.fact.Class.{Class}
+use Rattle.bt_facts.specs.declared.fact.Fact.{Fact}
+use Rattle.bt_facts.specs.declared.fact.Fact.TheVariants.{Carries, Pair, Tunnel}
+use Rattle.bt_facts.specs.declared.fact.Shape.TheVariants as shape
+use Rattle.bt_demands.specs.Classes.{classes_of}
+use Rattle.bt_facts.specs.Facts.{holds}
+use Rattle.bt_facts.specs.Rules.{Rule, rule, not_all, at_most_one}
+use Rattle.bt_facts.specs.Spots.{dirs, behind, where_inside, where_outside}
 
 -- the greatest distance between the two ends of an underground pair
 abbrev pub most_distance : LayoutRequest → ℕ

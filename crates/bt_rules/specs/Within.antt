@@ -1,40 +1,20 @@
 -- Facts of cells, splitters, inputs and classes that a request has.
-use Rattle.std.specs.Prelude.{ℕ, Bool, true, false, ◌<◌, ◌≤◌, ◌+◌, length, Contains, if◌then◌else◌}
-use Rattle.std.specs.List.{AllByRecursion, list_any}
+use Rattle.std.specs.Prelude.{ℕ, ◌<◌, ◌≤◌, ◌+◌, length, Contains}
+use Rattle.std.specs.List.{AllByRecursion}
 use Rattle.bt_parts.specs.Cells.{IsInside}
-use Rattle.bt_net.specs.declared.network.Demand.{Demand}
-use Rattle.bt_net.specs.declared.network.Demand.TheVariants as demand
-use Rattle.bt_net.specs.declared.network.End.TheVariants as end
-use Rattle.bt_net.specs.declared.network.Ends.{Ends}
-use Rattle.bt_net.specs.declared.network.Ends.TheVariants.{One, Inputs, Outputs}
 use Rattle.bt_model.specs.Requests.{LayoutRequest}
-use Rattle.bt_rules.specs.declared.fact.Fact.{Fact}
-use Rattle.bt_rules.specs.declared.fact.Fact.TheVariants as fact
-use Rattle.bt_rules.specs.Classes.{classes_of}
-use Rattle.bt_rules.specs.Counting.{halves_of}
-use Rattle.bt_rules.specs.Rules.{Rule}
-use Rattle.bt_rules.specs.Spots.{cells_of}
+use Rattle.bt_facts.specs.declared.fact.Fact.{Fact}
+use Rattle.bt_facts.specs.declared.fact.Fact.TheVariants as fact
+use Rattle.bt_demands.specs.Classes.{classes_of}
+use Rattle.bt_demands.specs.Counting.{halves_of}
+use Rattle.bt_demands.specs.Stopping.{stopping}
+use Rattle.bt_facts.specs.Rules.{Rule}
+use Rattle.bt_facts.specs.Spots.{cells_of}
 use Rattle.bt_rules.specs.Underground.{most_distance}
 
 -- the request has a splitter with this number
 abbrev pub HasSplitter : LayoutRequest → ℕ → Type 0
 HasSplitter r s = s < r.net.splitters
-
--- outputs are named
-abbrev pub has_outputs : Ends → Bool
-has_outputs (One (end.Input i)) = false
-has_outputs (One (end.Output o)) = true
-has_outputs Inputs = false
-has_outputs Outputs = true
-
--- the line says of outputs at which side they are to stand
-abbrev pub sides_outputs : Demand → Bool
-sides_outputs (demand.Pin pin) = false
-sides_outputs (demand.Side side) = has_outputs side.ends
-
--- the number of outputs, where some are to stand at a side
-abbrev pub stopping : LayoutRequest → ℕ
-stopping r = if list_any sides_outputs r.demands then r.net.outputs else 0
 
 -- what the fact speaks of is there
 abbrev pub IsWithin : LayoutRequest → Fact → Type 0

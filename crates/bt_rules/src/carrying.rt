@@ -2,17 +2,14 @@
 ghost use Rattle.std.specs.Prelude.{◌≡◌, ◌++◌, ◌∷◌, [], map, flat_map, OnOk};
 ghost use Rattle.std.specs.List.{AllByRecursion};
 ghost use Rattle.bt_rules.specs.Carrying as carrying;
-ghost use Rattle.bt_rules.specs.Plans.{IsWay, IsGate, IsPlan};
-ghost use Rattle.bt_rules.specs.inner.Near.{IsNear};
+ghost use Rattle.bt_demands.specs.Plans.{IsWay, IsGate, IsPlan};
+ghost use Rattle.bt_facts.specs.Near.{IsNear};
 ghost use Rattle.bt_rules.specs.inner.Parts as parts;
 
-use crate::draft::Draft;
-use crate::fact::{Class, Fact, Shape};
-use crate::facts::{carries, carries_split, holds};
-use crate::plan::{Gate, Plan, Way};
-use crate::spots::{DIRS, ahead, is_inside};
+use bt_demands::{Gate, Plan, Way};
+use bt_facts::{Class, Draft, Fact, Shape, ahead, carries, carries_split, holds, is_inside};
 use bt_model::Request;
-use bt_parts::{Cell, Dir};
+use bt_parts::{Cell, DIRS, Dir};
 use std::alloc::{AllocError, Global};
 
 /// Adds how a class goes on to a part that is no half, and to a half.

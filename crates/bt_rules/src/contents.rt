@@ -1,26 +1,26 @@
 //! Rules of what a cell holds.
 ghost use Rattle.std.specs.Prelude.{◌≡◌, ◌++◌, ◌∷◌, [], map, flat_map, IfOk, OnOk};
 ghost use Rattle.bt_rules.specs.Contents as contents;
-ghost use Rattle.bt_rules.specs.Plans.{IsPlan};
-ghost use Rattle.bt_rules.specs.Spots.{dirs};
-ghost use Rattle.bt_rules.specs.inner.Near.{IsNear};
+ghost use Rattle.bt_facts.specs.Facts as told;
+ghost use Rattle.bt_demands.specs.Plans.{IsPlan};
+ghost use Rattle.bt_facts.specs.Spots.{dirs};
+ghost use Rattle.bt_facts.specs.Near.{IsNear};
 ghost use Rattle.bt_rules.specs.inner.Parts as parts;
-ghost use Rattle.bt_rules.specs.declared.fact.Fact.TheVariants as fact;
+ghost use Rattle.bt_facts.specs.declared.fact.Fact.TheVariants as fact;
 
-use crate::adding::{add_at_most_one, add_equals_one, add_exactly_one, add_excluded};
-use crate::draft::Draft;
-use crate::fact::{Content, Fact, Half, Shape};
-use crate::facts::{carries, holds, turned};
-use crate::plan::Plan;
-use crate::spots::{DIRS, is_inside, mate, other_half};
+use bt_demands::Plan;
+use bt_facts::{
+    Content, Draft, Fact, Half, Shape, add_at_most_one, add_equals_one, add_exactly_one,
+    add_excluded, carries, holds, is_inside, mate, other_half, turned,
+};
 use bt_model::Request;
-use bt_parts::{Cell, Dir, Rect};
+use bt_parts::{Cell, DIRS, Dir, Rect};
 use std::alloc::{AllocError, Global};
 
 /// Adds that the cell holds a part of one of these shapes, in each direction.
 fn push_turned(facts: &mut Vec<Fact>, cell: Cell, shapes: &[Shape]) -> Result<(), AllocError>
     ensures { OnOk result (facts.new.items ≡ facts.old.items
-        ++ flat_map (λ of. map (contents.holds cell of) dirs) shapes.now) }
+        ++ flat_map (λ of. map (told.holds cell of) dirs) shapes.now) }
 {
     for shape in shapes {
         facts.extend_from_slice(&turned(cell, *shape))?;

@@ -2,26 +2,21 @@
 ghost use Rattle.std.specs.Prelude.{◌≡◌, ◌++◌, ◌∷◌, [], map, flat_map, true, IfOk, OnOk};
 ghost use Rattle.std.specs.List.{AllByRecursion};
 ghost use Rattle.bt_parts.specs.Cells.{IsInside};
-ghost use Rattle.bt_rules.specs.Counting as counting;
+ghost use Rattle.bt_demands.specs.Counting as counting;
 ghost use Rattle.bt_rules.specs.PlaceRules as place;
-ghost use Rattle.bt_rules.specs.Plans.{IsGate, IsPlan};
-ghost use Rattle.bt_rules.specs.Spots.{border_of as border_cells, cells_of as all_cells};
-ghost use Rattle.bt_rules.specs.inner.Near.{IsNear};
+ghost use Rattle.bt_demands.specs.Plans.{IsGate, IsPlan};
+ghost use Rattle.bt_facts.specs.Spots.{cells_of as all_cells};
+ghost use Rattle.bt_facts.specs.Near.{IsNear};
 ghost use Rattle.bt_rules.specs.inner.Parts as parts;
 
 use crate::carrying::add_carrying;
-use crate::cells::{border_of, cells_of};
 use crate::contents::add_cell_contents;
-use crate::counting::{add_counts, has_room};
-use crate::draft::Draft;
 use crate::going::add_handing;
-use crate::pinning::{add_blocks, add_clashes};
-use crate::plan::{Gate, Plan};
 use crate::ports::add_ports;
-use crate::siding::add_demands;
 use crate::standing::{add_place, add_standing};
-use crate::starts::add_inputs;
 use crate::underground::add_underground;
+use bt_demands::{Gate, Plan, add_counts, add_ends, has_room};
+use bt_facts::{Draft, cells_of};
 use bt_model::Request;
 use bt_parts::Cell;
 use std::alloc::{AllocError, Global};
@@ -91,24 +86,6 @@ pub fn add_splitter(
 {
     add_place(alloc, draft, request.rect(), cells, gate.splitter)?;
     add_ports(alloc, draft, request, gate, cells)
-}
-
-/// Adds the rules of inputs, pins, sides and blocks.
-pub fn add_ends(
-    alloc: Global,
-    draft: &mut Draft,
-    request: &Request,
-    cells: &[Cell],
-) -> Result<(), AllocError>
-    requires { cells.now ≡ all_cells request.now.rect }
-    ensures { OnOk result (draft.new ≡ draft.old ++ place.end_rules request.now) }
-{
-    let border = border_of(alloc, request.rect(), cells)?;
-    let demands = request.demands();
-    add_inputs(alloc, draft, request, &border)?;
-    add_demands(alloc, draft, request, &border, demands)?;
-    add_clashes(draft, demands)?;
-    add_blocks(draft, request.blocks())
 }
 
 /// Adds the rules at each of the cells.

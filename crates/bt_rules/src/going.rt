@@ -1,20 +1,20 @@
 //! Rules of what one cell hands to the next.
 ghost use Rattle.std.specs.Prelude.{◌≡◌, ◌++◌, ◌∷◌, [], map, flat_map, IfOk, OnOk};
 ghost use Rattle.bt_rules.specs.Going as going;
-ghost use Rattle.bt_rules.specs.Plans.{IsPlan};
-ghost use Rattle.bt_rules.specs.Spots.{dirs};
-ghost use Rattle.bt_rules.specs.inner.Near.{IsNear};
+ghost use Rattle.bt_facts.specs.Facts as told;
+ghost use Rattle.bt_demands.specs.Plans.{IsPlan};
+ghost use Rattle.bt_facts.specs.Spots.{dirs};
+ghost use Rattle.bt_facts.specs.Near.{IsNear};
 ghost use Rattle.bt_rules.specs.inner.Parts as parts;
-ghost use Rattle.bt_rules.specs.declared.fact.Fact.TheVariants as fact;
+ghost use Rattle.bt_facts.specs.declared.fact.Fact.TheVariants as fact;
 
-use crate::adding::add_at_most_one;
-use crate::draft::Draft;
-use crate::fact::{Content, Fact, Half, Shape};
-use crate::facts::{carries, holds, push_goes_into};
-use crate::plan::Plan;
-use crate::spots::{DIRS, ahead, behind, is_inside, push_outside, sides_of};
+use bt_demands::Plan;
+use bt_facts::{
+    Content, Draft, Fact, Half, Shape, add_at_most_one, ahead, behind, carries, holds, is_inside,
+    push_goes_into, push_outside, sides_of,
+};
 use bt_model::Request;
-use bt_parts::{Cell, Dir, Rect};
+use bt_parts::{Cell, DIRS, Dir, Rect};
 use std::alloc::{AllocError, Global};
 
 /// Adds that only a belt, an exit or a half hands on, and that what is there takes.
@@ -100,7 +100,7 @@ fn push_all_going_into(
 ) -> Result<(), AllocError>
     requires { IsNear cell }
     ensures { OnOk result (facts.new.items ≡ facts.old.items
-        ++ flat_map (going.goes_into rect cell) towards.now) }
+        ++ flat_map (told.goes_into rect cell) towards.now) }
 {
     for dir in towards {
         push_goes_into(facts, rect, cell, *dir)?;

@@ -2,22 +2,20 @@
 ghost use Rattle.std.specs.Prelude.{◌≡◌, ◌++◌, ◌∷◌, [], map, flat_map, IfOk, OnOk};
 ghost use Rattle.std.specs.List.{All};
 ghost use Rattle.bt_parts.specs.Cells.{IsInRange};
-ghost use Rattle.bt_rules.specs.Plans.{IsGate};
+ghost use Rattle.bt_demands.specs.Plans.{IsGate};
 ghost use Rattle.bt_rules.specs.Ports as ports;
-ghost use Rattle.bt_rules.specs.Spots.{cells_of, dirs, half_at as cell_of_half};
-ghost use Rattle.bt_rules.specs.inner.Near.{IsNear};
+ghost use Rattle.bt_facts.specs.Spots.{cells_of, dirs, half_at as cell_of_half};
+ghost use Rattle.bt_facts.specs.Near.{IsNear};
 ghost use Rattle.bt_rules.specs.inner.PortParts as parts;
-ghost use Rattle.bt_rules.specs.declared.fact.Fact.TheVariants as fact;
+ghost use Rattle.bt_facts.specs.declared.fact.Fact.TheVariants as fact;
 
-use crate::adding::{add_excluded, add_excluded_by};
-use crate::classes::same_class;
-use crate::draft::Draft;
-use crate::fact::{Class, Fact, Half};
-use crate::facts::{carries_split, goes_into};
-use crate::plan::Gate;
-use crate::spots::{DIRS, ahead, behind, half_at, is_inside, mate, other_half, push_inside};
+use bt_demands::{Gate, same_class};
+use bt_facts::{
+    Class, Draft, Fact, Half, add_excluded, add_excluded_by, ahead, behind, carries_split,
+    goes_into, half_at, is_inside, mate, other_half, push_inside,
+};
 use bt_model::Request;
-use bt_parts::{Cell, Dir, Rect};
+use bt_parts::{Cell, DIRS, Dir, Rect};
 use std::alloc::{AllocError, Global};
 
 /// What is behind the cell in this direction has the class, where that is inside.

@@ -1,19 +1,18 @@
 //! Rules of where splitters stand.
 ghost use Rattle.std.specs.Prelude.{◌≡◌, ◌++◌, ◌∷◌, [], map, flat_map, IfOk, OnOk};
 ghost use Rattle.std.specs.List.{range_with_len};
-ghost use Rattle.bt_rules.specs.Rules.{at_most_one};
-ghost use Rattle.bt_rules.specs.Spots.{dirs, cells_of};
+ghost use Rattle.bt_facts.specs.Rules.{at_most_one};
+ghost use Rattle.bt_facts.specs.Spots.{dirs, cells_of};
 ghost use Rattle.bt_rules.specs.Standing as standing;
-ghost use Rattle.bt_rules.specs.inner.Near.{IsNear};
-ghost use Rattle.bt_rules.specs.declared.fact.Fact.TheVariants as fact;
+ghost use Rattle.bt_facts.specs.Near.{IsNear};
+ghost use Rattle.bt_facts.specs.declared.fact.Fact.TheVariants as fact;
 
-use crate::adding::{add_at_most_one, add_implied};
-use crate::draft::Draft;
-use crate::fact::{Class, Fact, Half, Shape};
-use crate::facts::{columns, holds, owners, rows};
-use crate::spots::{DIRS, mate, push_inside};
+use bt_facts::{
+    Class, Draft, Fact, Half, Shape, add_at_most_one, add_implied, columns, holds, mate, owners,
+    push_inside, rows,
+};
 use bt_model::Request;
-use bt_parts::{Cell, Dir, Rect};
+use bt_parts::{Cell, DIRS, Dir, Rect};
 use std::alloc::{AllocError, Global};
 
 /// Adds that a lesser half so turned is that of some splitter.

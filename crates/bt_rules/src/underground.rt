@@ -1,21 +1,20 @@
 //! Rules of underground pairs.
 ghost use Rattle.std.specs.Prelude.{◌≡◌, ◌≤◌, ◌<◌, ◌-◌, ◌++◌, ◌∷◌, [], map, flat_map, IfOk, OnOk};
 ghost use Rattle.std.specs.List.{range_with_len};
-ghost use Rattle.bt_rules.specs.Plans.{IsPlan};
-ghost use Rattle.bt_rules.specs.Rules.{rule};
-ghost use Rattle.bt_rules.specs.Spots.{dirs};
+ghost use Rattle.bt_demands.specs.Plans.{IsPlan};
+ghost use Rattle.bt_facts.specs.Rules.{rule};
+ghost use Rattle.bt_facts.specs.Spots.{dirs};
 ghost use Rattle.bt_rules.specs.Underground as underground;
-ghost use Rattle.bt_rules.specs.inner.Near.{IsNear};
+ghost use Rattle.bt_facts.specs.Near.{IsNear};
 ghost use Rattle.bt_rules.specs.inner.Parts as parts;
 
-use crate::adding::{add_excluded, add_implied, add_one_where};
-use crate::draft::Draft;
-use crate::fact::{Class, Fact, Shape};
-use crate::facts::{holds, push_tunnels};
-use crate::plan::Plan;
-use crate::spots::{DIRS, ahead, behind, far, is_inside, push_inside};
+use bt_demands::Plan;
+use bt_facts::{
+    Class, Draft, Fact, Shape, add_excluded, add_implied, add_one_where, ahead, behind, far, holds,
+    is_inside, push_inside, push_tunnels,
+};
 use bt_model::Request;
-use bt_parts::{Cell, Dir, Rect};
+use bt_parts::{Cell, DIRS, Dir, Rect};
 use std::alloc::{AllocError, Global};
 
 /// Adds that a tunnel of this direction comes to the cell from behind, where that is inside.

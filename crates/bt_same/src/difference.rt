@@ -11,6 +11,18 @@ use bt_frac::{Relation, Row};
 use bt_net::Net;
 use std::alloc::{AllocError, Global};
 
+/// Adds the row, and gives the literal that says that it holds.
+fn add_holding(formula: &mut Formula, row: Row) -> Result<Lit, AllocError>
+    ensures row { OnOk result (formula.new ≡ with_rows formula.old (row ∷ [])) }
+    ensures literal { IfOk result (λ lit. lit ≡ record { var = formula.old.vars; positive = true }) }
+{
+    let var = formula.add_atom(row)?;
+    Ok(Lit {
+        var,
+        positive: true,
+    })
+}
+
 /// Adds the row that a column is above another, and gives the literal that says so.
 fn add_above(alloc: Global, formula: &mut Formula, a: usize, b: usize) -> Result<Lit, AllocError>
     requires a { a < 2 ^ 64 - 1 }
@@ -19,11 +31,7 @@ fn add_above(alloc: Global, formula: &mut Formula, a: usize, b: usize) -> Result
     ensures literal { IfOk result (λ lit. lit ≡ record { var = formula.old.vars; positive = true }) }
 {
     let row = above(alloc, a, b)?;
-    let var = formula.add_atom(row)?;
-    Ok(Lit {
-        var,
-        positive: true,
-    })
+    add_holding(formula, row)
 }
 
 /// The row that a column is at least another.
@@ -49,11 +57,7 @@ fn add_not_below(
     ensures literal { IfOk result (λ lit. lit ≡ record { var = formula.old.vars; positive = true }) }
 {
     let row = not_below(alloc, a, b)?;
-    let var = formula.add_atom(row)?;
-    Ok(Lit {
-        var,
-        positive: true,
-    })
+    add_holding(formula, row)
 }
 
 /// Adds the clause that a column is at least another, or below it.

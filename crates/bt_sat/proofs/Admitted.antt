@@ -5,21 +5,18 @@ use Rattle.std.specs.List.{All}
 use Rattle.std.proofs.lemmas.List.{get_or_push}
 use Rattle.std.proofs.lemmas.List.Elements.{All-contains, All-push, Contains-append_left, Contains-push}
 use Rattle.bt_cnf.specs.declared.literal.Lit.{Lit}
-use Rattle.bt_log.specs.Units.{opposite}
-use Rattle.bt_log.specs.Validity.{clause_at}
-use Rattle.bt_sat.specs.declared.assignment.Assignment.{Assignment}
-use Rattle.bt_sat.specs.declared.search.Search.{Search}
-use Rattle.bt_sat.specs.inner.Keeping.{kept_at, IsWatchable}
+use Rattle.bt_cnf.specs.Truths.{IsFalseIn}
+use Rattle.bt_cnf.specs.Units.{opposite, clause_at}
+use Rattle.bt_watch.specs.declared.assignment.Assignment.{Assignment}
+use Rattle.bt_watch.specs.declared.search.Search.{Search}
+use Rattle.bt_watch.specs.Keeping.{kept_at, IsWatchable}
+use Rattle.bt_watch.specs.Levels.{IsHeld, among_watched, alone, IsInConflict, IsOrdered, Stands}
+use Rattle.bt_watch.specs.Propagating.{Keeps}
+use Rattle.bt_watch.specs.Reasons.{AreSame, AreNumbered, AreReasons, IsReason, lit_at}
 use Rattle.bt_sat.specs.inner.Lemmas.{CanAdmit, IsFailing}
-use Rattle.bt_sat.specs.inner.Levels.{IsHeld, among_watched, alone, IsInConflict, IsOrdered}
-use Rattle.bt_sat.specs.inner.Progressing.{Stands}
-use Rattle.bt_sat.specs.inner.Propagating.{Keeps}
-use Rattle.bt_sat.specs.inner.Reasons.{AreSame, AreNumbered, AreReasons, IsReason, lit_at}
-use Rattle.bt_sat.specs.inner.Truths.{IsFalseIn}
-use Rattle.bt_sat.proofs.Adopted.{clause_still, held_more, numbered_still, ordered_kept, reasons_still}
-use Rattle.bt_sat.proofs.Reasoning.{lt_or_eq}
-use Rattle.bt_sat.proofs.Settled.{all_of}
-use Rattle.bt_sat.proofs.Visiting.{all_more}
+use Rattle.bt_cnf.proofs.Lists.{lt_or_eq, all_of, all_more}
+use Rattle.bt_watch.proofs.Longer.{held_more}
+use Rattle.bt_sat.proofs.Adopted.{clause_still, numbered_still, ordered_kept, reasons_still}
 
 -- one clause for another with the same literals
 module _ (all : List (List Lit)) (old new : List Lit) (same : AreSame new old) where

@@ -4,21 +4,21 @@ use Rattle.std.specs.Prelude.{Contains, take}
 use Rattle.std.specs.List.{All}
 use Rattle.std.proofs.lemmas.List.{get_or_default, get_or-map, length-map}
 use Rattle.bt_cnf.specs.declared.literal.Lit.{Lit}
-use Rattle.bt_log.specs.Units.{opposite}
-use Rattle.bt_sat.specs.declared.search.Search.{Search}
+use Rattle.bt_cnf.specs.Truths.{IsTrueIn, IsFalseIn}
+use Rattle.bt_cnf.specs.Units.{opposite}
+use Rattle.bt_watch.specs.declared.search.Search.{Search}
+use Rattle.bt_watch.specs.Watched.{no_lit}
+use Rattle.bt_watch.specs.Levels.{start_of, IsOrdered, IsHeld, Backjumps}
+use Rattle.bt_watch.specs.Reasons.{lit_at}
 use Rattle.bt_sat.specs.inner.Analysing.{false_at, falses_at, IsLearnable}
-use Rattle.bt_sat.specs.inner.Asserting.{HaveUniquePoint, IsAsserting, IsHinted, IsPrepared}
-use Rattle.bt_sat.specs.inner.Attending.{no_lit}
-use Rattle.bt_sat.specs.inner.Levels.{start_of, IsOrdered, IsHeld, Backjumps, IsAssertionLevel}
-use Rattle.bt_sat.specs.inner.Reasons.{lit_at}
-use Rattle.bt_sat.specs.inner.Truths.{IsTrueIn, IsFalseIn}
-use Rattle.bt_sat.proofs.Backjumped.{apart_places, place_in_take}
-use Rattle.bt_sat.proofs.Deriving.{before_place, in_map, lt_or, nil_or}
-use Rattle.bt_sat.proofs.Ending.{false_of, twice_opposite}
-use Rattle.bt_sat.proofs.Keeping.{not_both}
-use Rattle.bt_sat.proofs.Leveled
-use Rattle.bt_sat.proofs.Reasoning.{lit_in}
-use Rattle.bt_sat.proofs.Settled.{all_of}
+use Rattle.bt_sat.specs.inner.Asserting.{HaveUniquePoint, IsAsserting, IsHinted, IsPrepared, IsAssertionLevel}
+use Rattle.bt_cnf.proofs.Lists.{lt_or, all_of}
+use Rattle.bt_watch.proofs.Backjumped.{apart_places, place_in_take}
+use Rattle.bt_watch.proofs.Ending.{false_of, twice_opposite}
+use Rattle.bt_watch.proofs.Keeping.{not_both}
+use Rattle.bt_watch.proofs.Reasoning.{lit_in}
+use Rattle.bt_watch.proofs.Leveled
+use Rattle.bt_sat.proofs.Deriving.{before_place, in_map, nil_or}
 
 -- places of which the first is alone at its level
 module _ (all : List (List Lit)) (old new : Search) (picked : List ℕ) (level : ℕ) (ordered : IsOrdered all old) (unique : HaveUniquePoint old picked)

@@ -4,22 +4,21 @@ use Rattle.std.specs.Prelude.{Contains, take}
 use Rattle.std.specs.List.{All}
 use Rattle.std.proofs.lemmas.List.{get_or_default, get_or-map, length-map}
 use Rattle.bt_cnf.specs.declared.literal.Lit.{Lit}
-use Rattle.bt_log.specs.Units.{opposite}
-use Rattle.bt_sat.specs.declared.search.Search.{Search}
+use Rattle.bt_cnf.specs.Truths.{IsTrueIn, IsFalseIn}
+use Rattle.bt_cnf.specs.Units.{opposite}
+use Rattle.bt_watch.specs.declared.search.Search.{Search}
+use Rattle.bt_watch.specs.Watched.{no_lit}
+use Rattle.bt_watch.specs.Levels.{start_of, front_of, Backjumps, IsReady}
+use Rattle.bt_watch.specs.Reasons.{lit_at}
 use Rattle.bt_sat.specs.inner.Analysing.{false_at, falses_at}
-use Rattle.bt_sat.specs.inner.Asserting.{HaveUniquePoint}
-use Rattle.bt_sat.specs.inner.Attending.{no_lit}
+use Rattle.bt_sat.specs.inner.Asserting.{HaveUniquePoint, IsAssertionLevel}
 use Rattle.bt_sat.specs.inner.Lemmas.{ArePicked, CanAdmit}
-use Rattle.bt_sat.specs.inner.Levels.{start_of, front_of, Backjumps, IsAssertionLevel, IsReady}
-use Rattle.bt_sat.specs.inner.Reasons.{lit_at}
-use Rattle.bt_sat.specs.inner.Truths.{IsTrueIn, IsFalseIn}
+use Rattle.bt_cnf.proofs.Lists.{past, lt_or, all_of}
+use Rattle.bt_watch.proofs.Backjumped.{apart_places, place_in_take}
+use Rattle.bt_watch.proofs.Ending.{false_of, twice_opposite}
+use Rattle.bt_watch.proofs.Leveled
+use Rattle.bt_sat.proofs.Deriving.{before_place, in_map}
 use Rattle.bt_sat.proofs.Asserted
-use Rattle.bt_sat.proofs.Backjumped.{apart_places, place_in_take}
-use Rattle.bt_sat.proofs.ConflictLevels.{past}
-use Rattle.bt_sat.proofs.Deriving.{before_place, in_map, lt_or}
-use Rattle.bt_sat.proofs.Ending.{false_of, twice_opposite}
-use Rattle.bt_sat.proofs.Leveled
-use Rattle.bt_sat.proofs.Settled.{all_of}
 
 module _ (all : List (List Lit)) (old new : Search) (clause : List Lit) (picked : List ℕ) (level settled : ℕ) (ready : IsReady all settled old)
     (are : ArePicked old.assignment.trail.items clause picked) (at : IsAssertionLevel old.starts.items picked level) (back : Backjumps level old new) (some : 0 < length picked) where

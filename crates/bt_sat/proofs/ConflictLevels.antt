@@ -1,17 +1,12 @@
 -- The level of a conflict.
-use Rattle.std.proofs.Common.{◌≡◌, ℕ, ◌≤◌, ◌<◌, ◌+◌, ◌-◌, inl, inr, arith, List, [], ◌∷◌, length, get_or, zero, suc, sym, subst, refl, Some}
+use Rattle.std.proofs.Common.{◌≡◌, ℕ, ◌≤◌, ◌<◌, ◌+◌, ◌-◌, inl, inr, arith, List, length, get_or, sym, subst, refl, Some}
 use Rattle.std.specs.Prelude.{Contains}
 use Rattle.std.proofs.lemmas.List.{get_or_default}
-use Rattle.bt_sat.specs.declared.search.Search.{Search}
+use Rattle.bt_watch.specs.declared.search.Search.{Search}
+use Rattle.bt_watch.specs.Levels.{start_of, IsLevelOf}
 use Rattle.bt_sat.specs.inner.Agendas.{IsGreatest, Reaches}
 use Rattle.bt_sat.specs.inner.Analysing.{IsTopLevel, IsConflictLevel}
-use Rattle.bt_sat.specs.inner.Levels.{start_of, IsLevelOf}
-use Rattle.bt_sat.proofs.Deriving.{lt_or}
-
-pub past : {X : Type 0} (xs : List X) (i : ℕ) (d : X) → length xs ≤ i → get_or xs i d ≡ d
-past [] i d small = refl
-past (x ∷ xs) zero d small = absurd (omega (arith, small))
-past (x ∷ xs) (suc i) d small = past xs i d (omega (arith, small))
+use Rattle.bt_cnf.proofs.Lists.{lt_or, past}
 
 module _ (s : Search) where
   -- the start of a level, which has one

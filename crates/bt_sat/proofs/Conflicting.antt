@@ -3,15 +3,14 @@ use Rattle.std.proofs.Common.{◌≡◌, ◌⊎◌, inl, inr, Bool, true, false,
 use Rattle.std.specs.Prelude.{Contains}
 use Rattle.std.specs.List.{All}
 use Rattle.std.proofs.lemmas.List.Elements.{All-cons, All-contains, All-nil}
+use Rattle.std.proofs.lemmas.Bool.{false≢true}
 use Rattle.bt_cnf.specs.Meeting.{IsTrueUnder, MeetsClause}
 use Rattle.bt_cnf.specs.declared.literal.Lit.{Lit}
 use Rattle.bt_log.specs.Logs.{Lemma, Learnt}
-use Rattle.bt_log.specs.Units.{opposite}
-use Rattle.std.proofs.lemmas.Bool.{false≢true}
+use Rattle.bt_cnf.specs.Units.{opposite}
+use Rattle.bt_watch.specs.Propagation.{IsFalseClause, MeetsFalse, Reaches, begins, goes_on}
 use Rattle.bt_sat.specs.Laws.{OnlyEmptyAfterConflict}
-use Rattle.bt_sat.specs.Propagation.{IsFalseClause, MeetsFalse, Reaches, begins, goes_on}
-use Rattle.bt_sat.proofs.Lists.{contains_here, contains_or, contains_there}
-use Rattle.bt_sat.proofs.Settled.{all_of}
+use Rattle.bt_cnf.proofs.Lists.{contains_here, contains_or, contains_there, all_of}
 
 -- what is reached has these literals false, and perhaps more
 record ReachesAll (clauses : List (List Lit)) (begun falses : List Lit) : Type 0 where

@@ -12,15 +12,14 @@ use Rattle.bt_cnf.specs.Formulas.{FormulaParts, IsFormula, LitsBelow}
 use Rattle.bt_cnf.specs.Meeting.{IsTrueUnder, MeetsClause}
 use Rattle.bt_cnf.specs.declared.literal.Lit.{Lit}
 use Rattle.bt_log.specs.Logs.{Lemma, Learnt, Step, clause_of}
-use Rattle.bt_log.specs.Units.{HasNoBothSigns, IsUnit, opposite}
+use Rattle.bt_cnf.specs.Units.{HasNoBothSigns, IsUnit, opposite}
 use Rattle.bt_log.specs.Validity.{AreValid, IsValidStep, NegatesAtom}
-use Rattle.bt_log.proofs.NegatedAtoms.{negated_below}
+use Rattle.bt_watch.specs.Propagation.{begins, goes_on}
 use Rattle.bt_sat.specs.Freshness.{IsFreshLemma, IsFreshStep, IsOpen}
 use Rattle.bt_sat.specs.Laws.{FreshStepsAreFew}
-use Rattle.bt_sat.specs.Propagation.{begins, goes_on}
 use Rattle.bt_sat.specs.Solving.{AreFresh, AreNonempty}
-use Rattle.bt_sat.proofs.Lists.{contains_here, contains_or, first_or, lit_or, none_in}
-use Rattle.bt_sat.proofs.Settled.{all_of}
+use Rattle.bt_cnf.proofs.Lists.{contains_here, contains_or, first_or, lit_or, none_in, all_of}
+use Rattle.bt_log.proofs.NegatedAtoms.{negated_below}
 
 -- 1 where the first holds, otherwise 2 where the second does, and otherwise 0
 digit_by : {A B : Type 0} → A ⊎ (A → ⊥) → B ⊎ (B → ⊥) → ℕ

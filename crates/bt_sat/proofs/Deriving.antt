@@ -5,25 +5,21 @@ use Rattle.std.specs.List.{All}
 use Rattle.std.proofs.lemmas.List.{get_or_default, get_or-take, get_or_append_left, get_or_push, length-take, reverse-append}
 use Rattle.std.proofs.lemmas.List.Elements.{All-contains, All-nil, All-push, Contains-append_left, Contains-push, Contains-push_cases}
 use Rattle.bt_cnf.specs.declared.literal.Lit.{Lit}
-use Rattle.bt_log.specs.Units.{opposite, IsUnit, UnitsRefute}
-use Rattle.bt_log.specs.Validity.{clause_at}
+use Rattle.bt_cnf.specs.Truths.{IsFalseIn}
+use Rattle.bt_cnf.specs.Units.{opposite, IsUnit, clause_at}
+use Rattle.bt_log.specs.Units.{UnitsRefute}
+use Rattle.bt_watch.specs.declared.search.Search.{Search}
+use Rattle.bt_watch.specs.Watched.{no_lit}
+use Rattle.bt_watch.specs.Levels.{start_of, IsOrdered}
+use Rattle.bt_watch.specs.Reasons.{lit_at, IsReason}
 use Rattle.bt_sat.specs.declared.analysis.ConflictLevel.{ConflictLevel}
-use Rattle.bt_sat.specs.declared.search.Search.{Search}
 use Rattle.bt_sat.specs.inner.Agendas.{IsGreatest}
 use Rattle.bt_sat.specs.inner.Analysing.{false_at, falses_at, IsSeen, MarksSeen, IsUnderway, IsDerived, IsLevelled, IsGrounded, IsTracing, IsTaken, IsTraced, MayTrace, IsLearnable}
-use Rattle.bt_sat.specs.inner.Attending.{no_lit}
-use Rattle.bt_sat.specs.inner.Levels.{start_of, IsOrdered}
-use Rattle.bt_sat.specs.inner.Reasons.{lit_at, IsReason}
-use Rattle.bt_sat.specs.inner.Truths.{IsFalseIn}
-use Rattle.bt_sat.proofs.Backjumped.{apart_places}
-use Rattle.bt_sat.proofs.Ending.{twice_opposite}
-use Rattle.bt_sat.proofs.Keeping.{not_both}
-use Rattle.bt_sat.proofs.Lists.{contains_here, contains_there, first_or, none_in, nat_or}
-use Rattle.bt_sat.proofs.Reasoning.{lit_in, lt_or_eq}
-use Rattle.bt_sat.proofs.Settled.{all_of}
-
-pub lt_or : (m n : ℕ) → (m < n) ⊎ (n ≤ m)
-lt_or m n = grind arith
+use Rattle.bt_cnf.proofs.Lists.{contains_here, contains_there, first_or, none_in, nat_or, lt_or_eq, all_of, lt_or}
+use Rattle.bt_watch.proofs.Backjumped.{apart_places}
+use Rattle.bt_watch.proofs.Ending.{twice_opposite}
+use Rattle.bt_watch.proofs.Keeping.{not_both}
+use Rattle.bt_watch.proofs.Reasoning.{lit_in}
 
 pub nil_or : {X : Type 0} (xs : List X) → (xs ≡ []) ⊎ (0 < length xs)
 nil_or [] = inl refl

@@ -1,5 +1,5 @@
 -- What a search that has answered holds.
-use Rattle.std.proofs.Common.{◌≡◌, ◌≢◌, ℕ, ◌≤◌, ◌<◌, ◌^◌, arith, Bool, List, [], ◌∷◌, ◌++◌, length, sym, subst, refl, ap, ◌∙◌, Option, length-append, append-nil}
+use Rattle.std.proofs.Common.{◌≡◌, ◌≢◌, ℕ, ◌<◌, ◌^◌, arith, Bool, List, [], ◌∷◌, ◌++◌, length, sym, subst, refl, ap, ◌∙◌, Option, length-append, append-nil}
 use Rattle.std.specs.List.{All}
 use Rattle.std.proofs.lemmas.List.{same_from_push}
 use Rattle.std.proofs.lemmas.List.Elements.{All-contains, All-nil, Contains-append_left}
@@ -8,6 +8,7 @@ use Rattle.bt_cnf.specs.Assignments.{truth_in}
 use Rattle.bt_cnf.specs.Formulas.{FormulaParts}
 use Rattle.bt_cnf.specs.Meeting.{IsTrueUnder}
 use Rattle.bt_cnf.specs.declared.literal.Lit.{Lit}
+use Rattle.bt_cnf.specs.Truths.{IsFalseIn}
 use Rattle.bt_log.specs.Logs.{Step, Learnt, Lemma, LogParts, clause_of}
 use Rattle.bt_log.specs.Refuting.{Refutes}
 use Rattle.bt_log.specs.Validity.{AreValid}
@@ -19,19 +20,18 @@ use Rattle.bt_sat.specs.declared.kernel.Stage.TheVariants.{Running, Complete, Re
 use Rattle.bt_sat.specs.declared.logged_formula.LoggedFormula.{LoggedFormula}
 use Rattle.bt_sat.specs.declared.progress.Progress.{Progress}
 use Rattle.bt_sat.specs.declared.solver.Answer.{Answer}
-use Rattle.bt_sat.specs.declared.solver.Answer.TheVariants as answer
 use Rattle.bt_sat.specs.declared.solver.Assumed.{Assumed}
-use Rattle.bt_sat.specs.declared.solver.Assumed.TheVariants as assumed
 use Rattle.bt_sat.specs.inner.Choices.{IsComplete}
 use Rattle.bt_sat.specs.inner.Searching.{HasSpent, IsRefuted}
 use Rattle.bt_sat.specs.inner.Kernels.{AddsTo, AnswersBy, AssumesBy, Comes, MayGoOn, StandsAt, StandsBy, model_of, parts_of, stage_after, stage_assumed}
 use Rattle.bt_sat.specs.inner.Progressing.{IsLogged, IsNextStep}
-use Rattle.bt_sat.specs.inner.Truths.{IsFalseIn}
+use Rattle.bt_sat.specs.declared.solver.Answer.TheVariants as answer
+use Rattle.bt_sat.specs.declared.solver.Assumed.TheVariants as assumed
+use Rattle.bt_cnf.proofs.Lists.{all_of}
 use Rattle.bt_sat.proofs.Counting.{fresh_steps_are_few}
 use Rattle.bt_sat.proofs.Logging.{fresh_push, valid_push}
 use Rattle.bt_sat.proofs.Modelled.{complete_model, lemma_falses, lemma_next}
 use Rattle.bt_sat.proofs.Served.{tells_none, tells_step}
-use Rattle.bt_sat.proofs.Settled.{all_of}
 
 all_front : {X : Type 0} (P : X → Type 0) (front : List X) (last : X) → All P (front ++ last ∷ []) → All P front
 all_front P front last all = all_of P front (λ x among. All-contains P (front ++ last ∷ []) x all (Contains-append_left front (last ∷ []) x among))

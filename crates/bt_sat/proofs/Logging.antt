@@ -5,28 +5,27 @@ use Rattle.std.proofs.lemmas.List.{get_or_default, map-append}
 use Rattle.std.proofs.lemmas.List.Elements.{All-push}
 use Rattle.bt_cnf.specs.Formulas.{FormulaParts}
 use Rattle.bt_cnf.specs.declared.literal.Lit.{Lit}
+use Rattle.bt_cnf.specs.Truths.{IsFalseIn}
 use Rattle.bt_log.specs.Logs.{Step, Learnt, LogParts, clause_of}
-use Rattle.bt_log.specs.Units.{opposite}
+use Rattle.bt_cnf.specs.Units.{opposite}
 use Rattle.bt_log.specs.Validity.{AreValid, IsValidStep}
+use Rattle.bt_watch.specs.Propagation.{IsSettled}
+use Rattle.bt_watch.specs.declared.search.Search.{Search}
+use Rattle.bt_watch.specs.Levels.{IsHeld}
+use Rattle.bt_watch.specs.Propagating.{IsKept, falses_of}
+use Rattle.bt_watch.specs.Reasons.{lit_at}
+use Rattle.bt_watch.specs.Watched.{no_lit}
 use Rattle.bt_sat.specs.Freshness.{IsFreshLearnt, IsFreshStep}
-use Rattle.bt_sat.specs.Propagation.{IsSettled}
 use Rattle.bt_sat.specs.Solving.{AreFresh}
 use Rattle.bt_sat.specs.declared.logged_formula.LoggedFormula.{LoggedFormula}
-use Rattle.bt_sat.specs.declared.search.Search.{Search}
 use Rattle.bt_sat.specs.inner.Asserting.{IsAsserting, IsPrepared}
 use Rattle.bt_sat.specs.inner.LoggedFormula.{clauses_in}
-use Rattle.bt_sat.specs.inner.Levels.{IsHeld}
 use Rattle.bt_sat.specs.inner.Progressing.{IsLogged, IsNextStep, LogsStep}
-use Rattle.bt_sat.specs.inner.Propagating.{IsKept, falses_of}
-use Rattle.bt_sat.specs.inner.Reasons.{lit_at}
-use Rattle.bt_sat.specs.inner.Attending.{no_lit}
-use Rattle.bt_sat.specs.inner.Truths.{IsFalseIn}
-use Rattle.bt_sat.proofs.Advancing.{goes_not}
-use Rattle.bt_sat.proofs.Ending.{contains_opposite, opposite_in, propagated, twice_opposite}
-use Rattle.bt_sat.proofs.Leveled.{held_kept}
-use Rattle.bt_sat.proofs.Lists.{nat_or}
-use Rattle.bt_sat.proofs.Settled.{settled_is_open}
-use Rattle.bt_sat.proofs.Visiting.{all_more}
+use Rattle.bt_cnf.proofs.Lists.{nat_or, all_more}
+use Rattle.bt_watch.proofs.Advancing.{goes_not}
+use Rattle.bt_watch.proofs.Ending.{contains_opposite, opposite_in, propagated, twice_opposite}
+use Rattle.bt_watch.proofs.Leveled.{held_kept}
+use Rattle.bt_sat.proofs.Open.{settled_is_open}
 
 pub valid_push : (f : FormulaParts) (clauses : List (List Lit)) (steps : List Step) (step : Step) → AreValid f clauses steps → IsValidStep f (clauses ++ map clause_of steps) step
     → AreValid f clauses (steps ++ step ∷ [])

@@ -10,29 +10,27 @@ use Rattle.bt_cnf.specs.Assignments.{truth_in}
 use Rattle.bt_cnf.specs.Formulas.{FormulaParts}
 use Rattle.bt_cnf.specs.Meeting.{IsTrueUnder, MeetsClause}
 use Rattle.bt_cnf.specs.declared.literal.Lit.{Lit}
+use Rattle.bt_cnf.specs.Truths.{IsFalseIn, IsTrueIn, IsUnset}
 use Rattle.bt_log.specs.Logs.{Lemma, clause_of}
-use Rattle.bt_log.specs.Units.{opposite}
+use Rattle.bt_cnf.specs.Units.{opposite}
 use Rattle.bt_log.specs.Validity.{IsValidLemma}
-use Rattle.bt_sat.specs.Propagation.{IsFalseClause, IsSettled}
+use Rattle.bt_watch.specs.Propagation.{IsFalseClause, IsSettled}
+use Rattle.bt_watch.specs.declared.search.Search.{Search}
+use Rattle.bt_watch.specs.Keeping.{kept_at, IsWatchable}
+use Rattle.bt_watch.specs.Levels.{IsHeld, among_watched, alone, IsOrdered, IsReady, start_of, Stands}
+use Rattle.bt_watch.specs.Propagating.{IsKept, falses_of}
 use Rattle.bt_sat.specs.Solving.{SolverParts, IsModel, clauses_of}
 use Rattle.bt_sat.specs.declared.progress.Progress.{Progress}
-use Rattle.bt_sat.specs.declared.search.Search.{Search}
 use Rattle.bt_sat.specs.inner.Choices.{IsComplete}
 use Rattle.bt_sat.specs.inner.Kernels.{model_of, value_of}
-use Rattle.bt_sat.specs.inner.Keeping.{kept_at, IsWatchable}
 use Rattle.bt_sat.specs.inner.LoggedFormula.{clauses_in}
-use Rattle.bt_sat.specs.inner.Levels.{IsHeld, among_watched, alone, IsOrdered, IsReady, start_of}
-use Rattle.bt_sat.specs.inner.Progressing.{IsNextStep, Stands}
-use Rattle.bt_sat.specs.inner.Propagating.{IsKept, falses_of}
-use Rattle.bt_sat.specs.inner.Truths.{IsFalseIn, IsTrueIn, IsUnset}
-use Rattle.bt_sat.proofs.Advancing.{goes_not}
-use Rattle.bt_sat.proofs.Backjumped.{take_in}
+use Rattle.bt_sat.specs.inner.Progressing.{IsNextStep}
+use Rattle.bt_cnf.proofs.Lists.{contains_here, contains_there, first_or, none_in, all_of, all_more}
+use Rattle.bt_watch.proofs.Advancing.{goes_not}
+use Rattle.bt_watch.proofs.Backjumped.{take_in}
+use Rattle.bt_watch.proofs.Ending.{contains_opposite, propagated, twice_opposite}
+use Rattle.bt_watch.proofs.Leveled.{held_kept}
 use Rattle.bt_sat.proofs.Counting.{all_negated}
-use Rattle.bt_sat.proofs.Ending.{contains_opposite, propagated, twice_opposite}
-use Rattle.bt_sat.proofs.Leveled.{held_kept}
-use Rattle.bt_sat.proofs.Lists.{contains_here, contains_there, first_or, none_in}
-use Rattle.bt_sat.proofs.Settled.{all_of}
-use Rattle.bt_sat.proofs.Visiting.{all_more}
 
 -- whether a literal is true
 true_or : (values : List (Option Bool)) (l : Lit) → IsTrueIn values l ⊎ (IsTrueIn values l → ⊥)

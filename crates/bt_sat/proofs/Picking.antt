@@ -5,18 +5,17 @@ use Rattle.std.specs.List.{All}
 use Rattle.std.proofs.lemmas.List.{get_or_default, get_or_append_left, get_or_push}
 use Rattle.std.proofs.lemmas.List.Elements.{Contains-append_left, Contains-push, Contains-push_cases}
 use Rattle.bt_cnf.specs.declared.literal.Lit.{Lit}
-use Rattle.bt_log.specs.Units.{opposite}
-use Rattle.bt_sat.specs.declared.search.Search.{Search}
+use Rattle.bt_cnf.specs.Truths.{IsFalseIn}
+use Rattle.bt_cnf.specs.Units.{opposite}
+use Rattle.bt_watch.specs.declared.search.Search.{Search}
+use Rattle.bt_watch.specs.Watched.{no_lit}
+use Rattle.bt_watch.specs.Reasons.{lit_at}
 use Rattle.bt_sat.specs.inner.Agendas.{IsGreatest, Takes}
 use Rattle.bt_sat.specs.inner.Analysing.{false_at, falses_at, IsSeen, MarksSeen}
-use Rattle.bt_sat.specs.inner.Attending.{no_lit}
 use Rattle.bt_sat.specs.inner.Lemmas.{ArePicked, IsListing, IsTraceable}
-use Rattle.bt_sat.specs.inner.Reasons.{lit_at}
-use Rattle.bt_sat.specs.inner.Truths.{IsFalseIn}
+use Rattle.bt_cnf.proofs.Lists.{nat_or, none_in, lt_or_eq}
+use Rattle.bt_watch.proofs.Ending.{twice_opposite}
 use Rattle.bt_sat.proofs.Deriving.{in_map, map_in}
-use Rattle.bt_sat.proofs.Ending.{twice_opposite}
-use Rattle.bt_sat.proofs.Lists.{nat_or, none_in}
-use Rattle.bt_sat.proofs.Reasoning.{lt_or_eq}
 
 -- the greatest place on the agenda is picked
 pub listed_next : (places : List ℕ) (clause : List Lit) (size : ℕ) (agenda picked : List ℕ) (bound place : ℕ) (new : List ℕ) → IsListing places clause size agenda picked bound → Takes agenda (Some place) new

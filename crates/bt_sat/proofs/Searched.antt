@@ -1,25 +1,23 @@
 -- The search, from conflict to conflict.
-use Rattle.std.proofs.Common.{◌≡◌, ℕ, ◌≤◌, ◌<◌, ◌+◌, inl, inr, arith, List, [], ◌∷◌, ◌++◌, length, map, sym, subst, refl, ap, ◌∙◌, Option, None, Some, length-append, append-nil, append_assoc, vec_len}
-use Rattle.std.specs.Global.{Vec}
+use Rattle.std.proofs.Common.{◌≡◌, ℕ, ◌<◌, List, [], ◌∷◌, ◌++◌, length, sym, subst, refl, ap, ◌∙◌, Option, None, Some, append-nil, append_assoc}
 use Rattle.std.specs.List.{All}
-use Rattle.std.proofs.lemmas.List.{length-map, map-append}
 use Rattle.std.proofs.lemmas.List.Elements.{All-nil, All-push}
 use Rattle.bt_cnf.specs.declared.literal.Lit.{Lit}
-use Rattle.bt_log.specs.Logs.{Step, LogParts, clause_of}
+use Rattle.bt_log.specs.Logs.{Step, LogParts}
+use Rattle.bt_watch.specs.declared.search.Search.{Search}
+use Rattle.bt_watch.specs.Levels.{Backjumps, IsHeld, IsOrdered, IsReady, Stands}
 use Rattle.bt_sat.specs.Serving.{TellsSteps}
 use Rattle.bt_sat.specs.Solving.{IsLearnt}
 use Rattle.bt_sat.specs.declared.cdcl.Found.{Found}
 use Rattle.bt_sat.specs.declared.cdcl.Found.TheVariants.{Model, Refuted, Spent}
 use Rattle.bt_sat.specs.declared.logged_formula.LoggedFormula.{LoggedFormula}
 use Rattle.bt_sat.specs.declared.progress.Progress.{Progress}
-use Rattle.bt_sat.specs.declared.search.Search.{Search}
-use Rattle.bt_sat.specs.inner.Choices.{HasPropagated, KeepsLog}
+use Rattle.bt_sat.specs.inner.Choices.{KeepsLog}
 use Rattle.bt_sat.specs.inner.Searching.{AssumesTo, Finds, Restarts, SearchesOn, LearnsAndTells, StepsOn}
-use Rattle.bt_sat.specs.inner.Levels.{Backjumps, IsHeld, IsOrdered, IsReady}
-use Rattle.bt_sat.specs.inner.Progressing.{KeepsFormula, Stands}
-use Rattle.bt_sat.proofs.Leveled
+use Rattle.bt_sat.specs.inner.Progressing.{KeepsFormula}
+use Rattle.bt_cnf.proofs.Lists.{all_more}
+use Rattle.bt_watch.proofs.Leveled
 use Rattle.bt_sat.proofs.Served.{tells_more, tells_none, tells_step}
-use Rattle.bt_sat.proofs.Visiting.{all_more}
 
 -- the search jumps back to a level that it has
 pub ready_back : (all : List (List Lit)) (level : ℕ) (old new : Search) → IsOrdered all old → All (IsHeld old) all → Backjumps level old new → level < length old.starts.items
@@ -45,15 +43,6 @@ pub kept_next : (old mid new : Progress) → KeepsFormula old mid → KeepsFormu
 kept_next old mid new was is = record {
   formula = is.formula ∙ was.formula;
   first = is.first ∙ was.first;
-}
-
--- what is true was propagated, and more was
-pub propagated_next : (old mid new : Progress) → HasPropagated old mid → HasPropagated mid new → HasPropagated old new
-propagated_next old mid new was is = record {
-  keeps = record { known = is.keeps.known ∙ was.keeps.known; limit = is.keeps.limit ∙ was.keeps.limit };
-  running = is.running;
-  choice = is.choice;
-  fewer = omega (arith, is.fewer, was.fewer);
 }
 
 -- the search went back, and its log stays

@@ -2,10 +2,10 @@
 use Rattle.std.proofs.Common.{◌≡◌, ◌≢◌, ℕ, ◌+◌, ◌⊎◌, ◌↔◌, inl, inr, arith, List, get_or, sym, ap, ◌∙◌}
 use Rattle.std.specs.Prelude.{Contains}
 use Rattle.bt_cnf.specs.declared.literal.Lit.{Lit}
+use Rattle.bt_watch.specs.Reasons.{lit_at}
 use Rattle.bt_sat.specs.inner.Agendas.{Adds}
 use Rattle.bt_sat.specs.inner.Analysing.{IsSeen}
-use Rattle.bt_sat.specs.inner.Reasons.{lit_at}
-use Rattle.bt_sat.proofs.Reasoning.{lt_or_eq}
+use Rattle.bt_cnf.proofs.Lists.{lt_or_eq}
 
 -- the agenda has the places of the first so many literals
 abbrev pub HasSeen : List ℕ → List Lit → ℕ → List ℕ → ℕ → List ℕ → Type 0

@@ -5,13 +5,13 @@ use Rattle.std.proofs.Math.ListN.{get_or-map}
 use Rattle.std.proofs.lemmas.Bool.{cases_lt, ltb-true, ltb-false}
 use Rattle.std.proofs.lemmas.List.{length-drop, length-map, length-set, get_or-set_other, get_or-set_same, map-append, take_all, drop_all, take-append-le, drop-append-le}
 use Rattle.std.proofs.lemmas.Option.{get_or_from_slice_get, slice_get_within, slice_get-get_or}
-use borrow.Rule.Slice.PartMut.{mid_of, post_of, put_mid, put_same}
 use Rattle.bt_cnf.specs.Choosing.{Gains}
 use Rattle.bt_cnf.specs.declared.literal.Lit.{Lit}
 use Rattle.bt_log.specs.Logs.{Step, clause_of}
 use Rattle.bt_sat.specs.Serving.{HearsOf, TellsSteps, epoch}
 use Rattle.bt_sat.specs.declared.solver.TheConstants.{EPOCH_STEPS}
 use Rattle.bt_sat.specs.inner.Telling.{IsServing, TellsOne}
+use borrow.Rule.Slice.PartMut.{mid_of, post_of, put_mid, put_same}
 
 gains_more : (a b c : Option (List (List Lit))) (xs ys : List (List Lit)) → Gains a b xs → Gains b c ys → Gains a c (xs ++ ys)
 gains_more None None None xs ys p q = tt
@@ -148,13 +148,6 @@ one_serves choosers steps one other a b = elim a.goes_on [
     | inr both ↦ omega (arith, last, both)
   ]
 ]
-
--- where there are no choosers, none is told
-pub none_told : (steps : ℕ) (old : List (Option (List (List Lit)))) (clause : List Lit) → length old ≡ 0 → TellsOne steps old clause old
-none_told steps old clause none = record {
-  count = refl;
-  each = λ place was is p q. let inside = slice_get_within old place was p in absurd (omega (arith, none, inside));
-}
 
 -- the chooser at the place that serves is told
 pub one_told : {X : Type 0} (f : X → Option (List (List Lit))) (old : List X) (place steps : ℕ) (clause : List Lit) (new d : X) → IsServing (length old) steps place

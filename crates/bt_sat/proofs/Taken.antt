@@ -3,15 +3,12 @@ use Rattle.std.proofs.Common.{◌≡◌, ◌≢◌, ◌<◌, inl, inr, arith, Li
 use Rattle.std.specs.List.{zip}
 use Rattle.std.proofs.lemmas.Int.{ints}
 use Rattle.std.proofs.lemmas.Slice.Zip.{AllZip-long}
+use Rattle.bt_frac.specs.Ratio.{Ratio}
 use Rattle.bt_cnf.specs.Formulas.{FormulaParts}
 use Rattle.bt_cnf.specs.declared.literal.Lit.{Lit}
-use Rattle.bt_frac.specs.Ratio.{Ratio}
 use Rattle.bt_log.specs.Validity.{IsValidLemma, NegatesAtom}
-use Rattle.bt_sat.specs.declared.search.Search.{Search}
-use Rattle.bt_sat.specs.inner.Lemmas.{IsTraceable}
-use Rattle.bt_sat.specs.inner.Levels.{IsOrdered}
-use Rattle.bt_sat.specs.inner.Reasons.{AreSame}
-use Rattle.bt_sat.proofs.Lists.{none_in}
+use Rattle.bt_watch.specs.Reasons.{AreSame}
+use Rattle.bt_cnf.proofs.Lists.{none_in}
 
 -- no rows are weighted
 no_rows : {X Y : Type 0} (xs : List X) (ys : List Y) → length xs ≡ 0 → length ys ≡ 0 → zip xs ys ≡ []
@@ -28,10 +25,6 @@ some_lits f lits weights valid none =
       | inl less ↦ omega (arith, ints, simp empty at less)
       | inr (same, (k, row, small, above, positive)) ↦ omega (arith, small, ap length empty)
     ]
-
--- a search that is in order
-pub traceable : (all : List (List Lit)) (s : Search) → IsOrdered all s → IsTraceable s
-traceable all s is = record { whole = is.whole; levels = is.levels; placed = is.reasoned.placed; room = is.reasoned.room }
 
 -- the same literals are as many as one or more
 pub some_same : (old new : List Lit) → AreSame old new → old ≢ [] → 0 < length new

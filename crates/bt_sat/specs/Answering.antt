@@ -9,10 +9,10 @@ use Rattle.bt_log.specs.Refuting.{Refutes}
 use Rattle.bt_sat.specs.Serving.{TellsSteps}
 use Rattle.bt_sat.specs.Solving.{SolverParts, KeepsModel, Searches, EndsRefuted, EndsSpent, LacksMemory, IsModel, IsSoundLog, IsSpent, IsLearnt, GoesOnBy}
 use Rattle.bt_sat.specs.declared.solver.Answer.{Answer}
-use Rattle.bt_sat.specs.declared.solver.Answer.TheVariants as answer
 use Rattle.bt_sat.specs.declared.solver.Assumed.{Assumed}
-use Rattle.bt_sat.specs.declared.solver.Assumed.TheVariants as assumed
 use Rattle.bt_sat.specs.declared.solver.Added.{Added}
+use Rattle.bt_sat.specs.declared.solver.Answer.TheVariants as answer
+use Rattle.bt_sat.specs.declared.solver.Assumed.TheVariants as assumed
 use Rattle.bt_sat.specs.declared.solver.Added.TheVariants as added
 
 -- what an answer says of the solver that gives it

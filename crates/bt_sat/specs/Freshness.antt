@@ -4,7 +4,7 @@ use Rattle.std.specs.List.{All}
 use Rattle.bt_cnf.specs.Meeting.{IsTrueUnder, MeetsClause}
 use Rattle.bt_cnf.specs.declared.literal.Lit.{Lit}
 use Rattle.bt_log.specs.Logs.{Step, Lemma, Learnt}
-use Rattle.bt_sat.specs.Propagation.{MeetsFalse, MakesTrue}
+use Rattle.bt_watch.specs.Propagation.{MeetsFalse, MakesTrue}
 
 -- the literals of a clause but one
 abbrev pub AreOthers : List Lit → Lit → List Lit → Type 0

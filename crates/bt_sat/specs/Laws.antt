@@ -3,9 +3,9 @@ use Rattle.std.specs.Prelude.{◌≡◌, ◌≢◌, ◌<◌, ◌^◌, List, [], 
 use Rattle.bt_cnf.specs.Formulas.{FormulaParts, IsFormula}
 use Rattle.bt_cnf.specs.declared.literal.Lit.{Lit}
 use Rattle.bt_log.specs.Logs.{Step, clause_of}
-use Rattle.bt_log.specs.Units.{opposite}
+use Rattle.bt_cnf.specs.Units.{opposite}
 use Rattle.bt_log.specs.Validity.{AreValid}
-use Rattle.bt_sat.specs.Propagation.{IsSettled, MeetsFalse}
+use Rattle.bt_watch.specs.Propagation.{IsSettled, MeetsFalse}
 use Rattle.bt_sat.specs.Freshness.{IsFreshStep, IsOpen}
 use Rattle.bt_sat.specs.Solving.{AreFresh, AreNonempty}
 

@@ -1,11 +1,6 @@
-pub mod Activities
 pub mod Answering
 pub mod Freshness
 pub mod Laws
-pub mod Picks
-pub mod Propagation
-pub mod Remembering
 pub mod Serving
 pub mod Solving
-pub mod Standings
 pub mod inner

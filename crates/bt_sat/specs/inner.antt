@@ -1,30 +1,12 @@
--- How the search keeps its clauses and what is true, which no public clause cites.
+-- How the search learns, chooses and logs, which no public clause cites.
 pub mod Agendas
 pub mod Analysing
 pub mod Asserting
-pub mod Assigning
-pub mod Attending
-pub mod AttendingIn
 pub mod Choices
-pub mod Codes
-pub mod Searching
-pub mod Keeping
 pub mod Kernels
-pub mod LoggedFormula
 pub mod Lemmas
-pub mod Levels
 pub mod Loading
-pub mod Loads
-pub mod Orders
+pub mod LoggedFormula
 pub mod Progressing
-pub mod Propagating
-pub mod Reasons
-pub mod Roots
-pub mod Standings
+pub mod Searching
 pub mod Telling
-pub mod Truths
-pub mod Visits
-pub mod Watchers
-pub mod WatchersParts
-pub mod Watching
-pub mod Worths

@@ -3,13 +3,12 @@ ghost use Rattle.std.specs.Prelude.{◌≡◌, ◌<◌, ◌↔◌, ℕ, length, 
 ghost use Rattle.std.specs.List.{All};
 ghost use Rattle.bt_sat.specs.inner.Analysing.{IsConflictLevel, IsLearnable, IsReasonFor, IsTaken, IsTopLevel, IsTraced, IsTracing, MarksSeen};
 ghost use Rattle.bt_sat.specs.inner.LoggedFormula.{clauses_in};
-ghost use Rattle.bt_sat.specs.inner.Levels.{AreLevels, IsInConflict, IsOrdered};
+ghost use Rattle.bt_watch.specs.Levels.{AreLevels, IsInConflict, IsOrdered};
 
 use crate::agenda::Agenda;
-use crate::levels::{level_of, start};
 use crate::logged_formula::LoggedFormula;
-use crate::search::Search;
 use bt_cnf::Lit;
+use bt_watch::{Search, level_of, start};
 use std::alloc::AllocError;
 
 /// A clause that is being learnt.

@@ -8,9 +8,8 @@ use crate::cdcl::{Found, learn_and_tell, restart};
 use crate::choosing::begin_with;
 use crate::deciding::{propagate_decision, propagate_first};
 use crate::progress::Progress;
-use crate::truth::{Values, is_true, negation};
-use crate::unset::lacks_value;
-use bt_cnf::{Chooser, Lit};
+use bt_cnf::{Chooser, Lit, Values, is_lit_true, lacks_value};
+use bt_watch::negation;
 use std::alloc::AllocError;
 
 /// Makes a literal false where its variable has no value, and propagates.
@@ -48,7 +47,7 @@ fn make_all_false(progress: &mut Progress, lits: &[Lit]) -> Result<Option<usize>
 
 /// Whether a literal is true.
 fn holds(values: &Values, lit: &Lit) -> bool {
-    lit.var.place() < values.len() && is_true(values, lit)
+    lit.var.place() < values.len() && is_lit_true(values, lit)
 }
 
 /// Whether one of the literals is true.

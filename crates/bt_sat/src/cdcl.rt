@@ -4,10 +4,10 @@ ghost use Rattle.bt_sat.specs.inner.Searching.{SearchesTo, LearnsAndTells, Resta
 ghost use Rattle.bt_sat.specs.inner.Progressing.{IsRunning, KeepsFormula};
 
 use crate::deciding::decide_until_conflict;
-use crate::levels::backjump;
 use crate::progress::{Learning, Progress, learn};
 use crate::serving::{begins_epoch, tell};
 use bt_cnf::Chooser;
+use bt_watch::backjump;
 use std::alloc::AllocError;
 
 /// What the search comes to.

@@ -1,39 +1,16 @@
 //! Choosing what to set next.
-ghost use Rattle.std.specs.Prelude.{◌≡◌, ◌<◌, length, map, OnOk, IfOk, None, true};
-ghost use Rattle.bt_cnf.specs.Choosing.{Ascends};
-ghost use Rattle.bt_sat.specs.Picks.{AsksFirst};
-ghost use Rattle.bt_sat.specs.inner.Choices.{BeginsLevel, Decides, ListsUnset};
-ghost use Rattle.bt_sat.specs.inner.Orders.{HasUnset, IsNext};
+ghost use Rattle.std.specs.Prelude.{◌≡◌, length, map, OnOk, IfOk, None, true};
+ghost use Rattle.bt_sat.specs.inner.Choices.{Decides, ListsUnset};
+ghost use Rattle.bt_choosers.specs.Orders.{HasUnset, IsNext};
 ghost use Rattle.bt_sat.specs.inner.Progressing.{IsRunning, KeepsFormula};
-ghost use Rattle.bt_sat.specs.inner.Truths.{LacksValue};
+ghost use Rattle.bt_cnf.specs.Truths.{LacksValue};
 
-use crate::assignment::assign;
-use crate::order::Order;
-use crate::plan::Plan;
 use crate::progress::Progress;
-use crate::search::Search;
 use crate::serving::serving_place;
-use crate::truth::Values;
-use bt_cnf::{Chooser, Lit, Pick, Var};
+use bt_choosers::{Order, Plan};
+use bt_cnf::{Chooser, Lit, Values};
+use bt_watch::begin_level;
 use std::alloc::AllocError;
-
-/// Asks the first chooser, which is the one that serves. Where there is none, the lowest variable is set to
-/// false.
-pub fn ask<C: Chooser>(choosers: &mut [C], unset: &[Var]) -> Pick
-    requires some { 0 < length unset.now }
-    requires ascending { Ascends unset.now }
-    ensures in_range { result.place < length unset.now }
-    ensures asks { AsksFirst C.may_pick choosers.old unset.now result }
-    ensures same { map C.told_clauses choosers.new ≡ map C.told_clauses choosers.old }
-{
-    if choosers.is_empty() {
-        return Pick {
-            place: 0,
-            positive: false,
-        };
-    }
-    choosers[0].pick(unset)
-}
 
 /// A literal of a variable that has no value, where there is one: the plan's, else that of the chooser that serves.
 fn next<C: Chooser>(
@@ -55,16 +32,6 @@ fn next<C: Chooser>(
             order.next(values, &mut choosers[serving..])
         }
     }
-}
-
-/// Begins a level with a literal that is chosen.
-fn begin_level(search: &mut Search, lit: &Lit) -> Result<(), AllocError>
-    requires { lit.now.var < length search.old.assignment.values }
-    ensures { OnOk result (BeginsLevel lit.now search.old search.new) }
-{
-    search.starts.push(search.assignment.trail.len())?;
-    assign(&mut search.assignment, lit, None)?;
-    Ok(())
 }
 
 /// Begins a level with a literal whose variable has no value.

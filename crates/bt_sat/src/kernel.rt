@@ -5,10 +5,10 @@ ghost use Rattle.bt_sat.specs.Solving.{begun, log_of, IsLemmaOf, LacksMemory};
 ghost use Rattle.bt_sat.specs.inner.Kernels.{MayGoOn, stage_after, stage_assumed};
 
 use crate::loading::load;
-use crate::plan::Plan;
 use crate::progress::Progress;
 use crate::solver::{Added, Answer, Assumed};
 use crate::turns::{add, answer, supposed};
+use bt_choosers::Plan;
 use bt_cnf::{Chooser, Formula, Lit};
 use bt_frac::Frac;
 use bt_log::Log;

@@ -1,8 +1,7 @@
 //! Laws of propagation and of logs, as the contracts of functions that do nothing.
-ghost use Rattle.std.specs.Prelude.{◌≡◌, ◌+◌, ◌^◌};
+ghost use Rattle.std.specs.Prelude.{◌≡◌};
 ghost use Rattle.bt_sat.specs.Laws.{FreshStepsAreFew, OnlyEmptyAfterConflict, SettledIsOpen};
 
-use crate::active::{FIRST_BUMP, MOST_BUMP, MOST_SCORE};
 use crate::solver::EPOCH_STEPS;
 
 /// A clause is fresh where propagation has come to its end without a false clause, all its literals but
@@ -25,10 +24,7 @@ pub fn only_empty_after_conflict()
     ensures { OnlyEmptyAfterConflict }
 {}
 
-/// The steps of an epoch, and what the scores of variables go by, as numbers.
+/// The steps of an epoch, as a number.
 pub fn limits_are()
-    ensures epoch { EPOCH_STEPS ≡ 128 }
-    ensures first_bump { FIRST_BUMP ≡ 1024 }
-    ensures bump { MOST_BUMP ≡ 2 ^ 24 }
-    ensures score { MOST_SCORE + 1 ≡ 2 ^ 32 }
+    ensures { EPOCH_STEPS ≡ 128 }
 {}

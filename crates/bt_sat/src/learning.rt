@@ -3,17 +3,14 @@ ghost use Rattle.std.specs.Prelude.{◌≡◌, ◌<◌, ◌++◌, ◌∷◌, [],
 ghost use Rattle.std.specs.List.{All};
 ghost use Rattle.std.specs.List.Sorted.{IsNonDecreasing};
 ghost use Rattle.bt_sat.specs.inner.Analysing.{falses_at};
-ghost use Rattle.bt_sat.specs.inner.Asserting.{IsAsserting, IsPrepared};
+ghost use Rattle.bt_sat.specs.inner.Asserting.{IsAsserting, IsPrepared, IsAssertionLevel};
 ghost use Rattle.bt_sat.specs.inner.LoggedFormula.{clauses_in};
-ghost use Rattle.bt_sat.specs.inner.Levels.{IsAssertionLevel, IsInConflict, IsReady};
+ghost use Rattle.bt_watch.specs.Levels.{IsInConflict, IsReady};
 
 use crate::analysis::{Analysis, analyse};
-use crate::assignment::assign;
-use crate::levels::{backjump, level_of};
 use crate::logged_formula::LoggedFormula;
-use crate::search::{Search, keep};
-use crate::truth::negation;
 use bt_cnf::Lit;
+use bt_watch::{Search, assign, backjump, keep, level_of, negation};
 use std::alloc::AllocError;
 
 /// A clause that is learnt, and how.

@@ -6,17 +6,15 @@ ghost use Rattle.bt_sat.specs.inner.Choices.{IsComplete};
 ghost use Rattle.bt_sat.specs.inner.LoggedFormula.{clauses_in};
 ghost use Rattle.bt_sat.specs.inner.Lemmas.{Admits, ArePicked, CanAdmit, IsTraceable, BackjumpsFor, TakesLemma};
 ghost use Rattle.bt_sat.specs.inner.Progressing.{IsNextStep, KeepsFormula};
-ghost use Rattle.bt_sat.specs.inner.Truths.{IsFalseIn};
+ghost use Rattle.bt_cnf.specs.Truths.{IsFalseIn};
 
 use crate::analysis::{Analysis, mark_seen};
 use crate::learning::{LearntClause, adopt, assertion_level, name_lits};
-use crate::levels::backjump;
 use crate::logged_formula::LoggedFormula;
 use crate::progress::Progress;
-use crate::search::{Search, keep};
-use crate::truth::is_false;
-use bt_cnf::Lit;
+use bt_cnf::{Lit, is_lit_false};
 use bt_frac::Frac;
+use bt_watch::{Search, backjump, keep};
 use std::alloc::AllocError;
 
 /// Finds the places at which the literals of a clause became false, the greatest first.
@@ -65,7 +63,7 @@ fn admit(
     requires { CanAdmit (clauses_in known.now) search.old lits.now }
     ensures { IfOk result (Admits (clauses_in known.now) lits.now search.old search.new) }
 {
-    if !is_false(&search.assignment.values, &lits[0]) {
+    if !is_lit_false(&search.assignment.values, &lits[0]) {
         adopt(search, known, lits)?;
         return Ok(None);
     }

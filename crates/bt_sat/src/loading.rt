@@ -1,179 +1,19 @@
 //! Loading a formula: the search that begins.
-ghost use Rattle.std.specs.Prelude.{◌≡◌, ℕ, ◌<◌, [], Some, length, IfOk, OnOk};
-ghost use Rattle.std.specs.List.{All};
-ghost use Rattle.bt_cnf.specs.Formulas.{LitsBelow};
-ghost use Rattle.bt_log.specs.Validity.{clause_at};
+ghost use Rattle.std.specs.Prelude.{◌≡◌, ℕ, [], length, IfOk};
 ghost use Rattle.bt_sat.specs.inner.Loading.{IsLoaded};
-ghost use Rattle.bt_sat.specs.inner.Loads.{ArePaired, AreUnsetAll, HasLoaded, IsEmptySearch, IsOther, IsUnassigned, Loads};
-ghost use Rattle.bt_sat.specs.inner.Progressing.{IsLogged, Stands};
+ghost use Rattle.bt_sat.specs.inner.Progressing.{IsLogged};
+ghost use Rattle.bt_watch.specs.Levels.{Stands};
 
 use crate::agenda::Agenda;
 use crate::analysis::Analysis;
-use crate::assignment::{Assignment, assign};
 use crate::learning::LearntClause;
 use crate::logged_formula::LoggedFormula;
-use crate::order::Order;
-use crate::plan::Plan;
 use crate::progress::Progress;
-use crate::search::{Search, keep};
-use crate::truth::{Values, Worth, is_false, is_true};
-use crate::watchers::{Counts, Watchers};
-use bt_arena::{Arena, Pool};
-use bt_cnf::{ClauseId, Formula, Lit};
+use bt_choosers::{Order, Plan};
+use bt_cnf::Formula;
 use bt_log::Log;
+use bt_watch::{Search, load_search};
 use std::alloc::{AllocError, Global};
-
-/// The values of so many variables, of which none is set.
-fn unset_values(alloc: Global, vars: usize) -> Result<Values, AllocError>
-    ensures { IfOk result (λ values. AreUnsetAll vars values) }
-{
-    let mut values = Arena::new(alloc)?;
-    for _ in 0..vars {
-        values.add(Worth::unset())?;
-    }
-    Ok(values)
-}
-
-/// The assignment of so many variables in which none is set.
-fn unassigned(alloc: Global, vars: usize) -> Result<Assignment, AllocError>
-    ensures { IfOk result (λ a. IsUnassigned vars a) }
-{
-    Ok(Assignment {
-        values: unset_values(alloc, vars)?,
-        trail: Vec::new(alloc),
-        reasons: Vec::new(alloc),
-        places: vec![in alloc; 0; vars]?,
-    })
-}
-
-/// Counts a clause where its first two different literals are going to be watched.
-fn count_watches(counts: &mut Counts, lits: &[Lit]) {
-    if let Some(place) = other_place(lits) {
-        counts.add(&lits[0]);
-        counts.add(&lits[place]);
-    }
-}
-
-/// For each literal, how many clauses of a formula are going to watch it.
-fn watch_counts(alloc: Global, formula: &Formula) -> Result<Counts, AllocError> {
-    let mut counts = Counts::new(alloc, formula.vars())?;
-    for number in 0..formula.clauses() {
-        if let Some(id) = formula.clause_at(number) {
-            count_watches(&mut counts, formula.clause(id));
-        }
-    }
-    Ok(counts)
-}
-
-/// A search over the variables of a formula that keeps no clauses, with room for the watches of its own.
-fn empty_search(alloc: Global, formula: &Formula) -> Result<Search, AllocError>
-    ensures { IfOk result (λ s. IsEmptySearch formula.now.vars s) }
-{
-    let vars = formula.vars();
-    let counts = watch_counts(alloc, formula)?;
-    Ok(Search {
-        assignment: unassigned(alloc, vars)?,
-        clauses: Pool::new(alloc)?,
-        watchers: Watchers::new(alloc, vars, &counts)?,
-        numbers: Vec::new(alloc),
-        starts: Vec::new(alloc),
-    })
-}
-
-/// The place of a literal that isn't the first one, where there is another.
-fn other_place(lits: &[Lit]) -> Option<usize>
-    ensures { IsOther lits.now result }
-{
-    for (place, lit) in lits.iter().enumerate() {
-        if *lit != lits[0] {
-            return Some(place);
-        }
-    }
-    None
-}
-
-/// Copies a clause, and puts the literal at a place, which isn't the first one, in the second place.
-fn pair(paired: &mut Vec<Lit>, lits: &[Lit], place: usize) -> Result<(), AllocError>
-    requires { IsOther lits.now (Some place) }
-    ensures { OnOk result (ArePaired lits.now paired.new.items) }
-{
-    paired.clear();
-    paired.extend_from_slice(lits)?;
-    paired.swap(1, place);
-    Ok(())
-}
-
-/// Makes the literal true of a clause that has no other one. Tells whether it isn't false.
-fn load_lit(
-    search: &mut Search,
-    formula: &Formula,
-    id: ClauseId,
-    lit: &Lit,
-) -> Result<bool, AllocError>
-    requires below { id < length formula.now.clauses }
-    requires loaded { HasLoaded formula.now.clauses id search.old }
-    requires variable { lit.now.var < length search.old.assignment.values }
-    requires some { 0 < length (clause_at formula.now.clauses id) }
-    requires alone { All (λ m. m ≡ lit.now) (clause_at formula.now.clauses id) }
-    ensures loads { IfOk result (Loads formula.now.clauses id search.new) }
-    ensures same { OnOk result (length search.new.assignment.values ≡ length search.old.assignment.values) }
-{
-    if is_false(&search.assignment.values, lit) {
-        return Ok(false);
-    }
-    if !is_true(&search.assignment.values, lit) {
-        assign(&mut search.assignment, lit, Some(id.place()))?;
-    }
-    Ok(true)
-}
-
-/// Loads the clause that comes next. Tells whether it has a literal that isn't false.
-fn load_clause(
-    search: &mut Search,
-    formula: &Formula,
-    id: ClauseId,
-    paired: &mut Vec<Lit>,
-) -> Result<bool, AllocError>
-    requires below { id < length formula.now.clauses }
-    requires loaded { HasLoaded formula.now.clauses id search.old }
-    requires variables { length search.old.assignment.values ≡ formula.now.vars }
-    ensures loads { IfOk result (Loads formula.now.clauses id search.new) }
-    ensures same { OnOk result (length search.new.assignment.values ≡ formula.now.vars) }
-{
-    let lits = formula.clause(id);
-    if lits.is_empty() {
-        return Ok(false);
-    }
-    match other_place(lits) {
-        Some(place) => {
-            pair(paired, lits, place)?;
-            keep(search, paired, id.place())?;
-            Ok(true)
-        }
-        None => load_lit(search, formula, id, &lits[0]),
-    }
-}
-
-/// Loads the clauses of a formula in turn, up to one whose literals are all false. Tells the number of such
-/// a clause.
-fn load_clauses(
-    search: &mut Search,
-    formula: &Formula,
-    paired: &mut Vec<Lit>,
-) -> Result<Option<usize>, AllocError>
-    requires { IsEmptySearch formula.now.vars search.old }
-    ensures stands { IfOk result (Stands formula.now.clauses 0 search.new) }
-    ensures same { OnOk result (length search.new.assignment.values ≡ formula.now.vars) }
-{
-    for number in 0..formula.clauses() {
-        if let Some(id) = formula.clause_at(number) {
-            if !load_clause(search, formula, id, paired)? {
-                return Ok(Some(number));
-            }
-        }
-    }
-    Ok(None)
-}
 
 /// A learnt_clause over so many variables that is still to be learnt.
 fn no_lesson(alloc: Global, vars: usize) -> Result<LearntClause, AllocError> {
@@ -197,14 +37,6 @@ fn logged(alloc: Global, formula: Formula) -> Result<LoggedFormula, AllocError>
     Ok(LoggedFormula { formula, log })
 }
 
-/// What a search works with before its clauses are loaded.
-fn empty_work(alloc: Global, formula: &Formula) -> Result<(Search, LearntClause), AllocError>
-    ensures { IfOk result (λ work. IsEmptySearch formula.now.vars work.0) }
-{
-    let search = empty_search(alloc, formula)?;
-    Ok((search, no_lesson(alloc, formula.vars())?))
-}
-
 /// What a search works with after its clauses are loaded, up to one whose literals are all false, and the number of such
 /// a clause.
 fn loaded_work(
@@ -214,9 +46,8 @@ fn loaded_work(
     ensures stands { IfOk result (λ work. Stands formula.now.clauses 0 work.0 work.2) }
     ensures same { IfOk result (λ work. length work.0.assignment.values ≡ formula.now.vars) }
 {
-    let (search, learnt_clause) = empty_work(alloc, formula)?;
-    let mut search = search;
-    let conflict = load_clauses(&mut search, formula, &mut Vec::new(alloc))?;
+    let learnt_clause = no_lesson(alloc, formula.vars())?;
+    let (search, conflict) = load_search(alloc, formula)?;
     Ok((search, learnt_clause, conflict))
 }
 

@@ -2,7 +2,7 @@
 ghost use Rattle.std.specs.Prelude.{◌≡◌, ◌<◌, length, IfOk};
 ghost use Rattle.bt_log.specs.Logs.{clause_of};
 ghost use Rattle.bt_log.specs.Views.{step_of};
-ghost use Rattle.bt_log.specs.Validity.{clause_at};
+ghost use Rattle.bt_cnf.specs.Units.{clause_at};
 ghost use Rattle.bt_sat.specs.inner.LoggedFormula.{clauses_in};
 
 use bt_cnf::{Formula, Lit};

@@ -4,9 +4,8 @@ ghost use Rattle.bt_sat.specs.inner.Progressing.{PropagatesAll, IsRunning, Keeps
 
 use crate::learning::{LearntClause, adopt, prepare};
 use crate::logged_formula::LoggedFormula;
-use crate::order::Order;
-use crate::plan::Plan;
-use crate::search::{Search, number_of, propagate};
+use bt_choosers::{Order, Plan};
+use bt_watch::{Search, number_of, propagate};
 use std::alloc::AllocError;
 
 /// What is known, what is true, and how far the search has come.

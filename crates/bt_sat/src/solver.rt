@@ -4,7 +4,7 @@ ghost use Rattle.bt_sat.specs.Answering.{Assumes, GivesNext, IsAdded, MayAnswer}
 ghost use Rattle.bt_sat.specs.Solving.{begun, log_of, IsLemmaOf, LacksMemory};
 
 use crate::kernel::Kernel;
-use crate::plan::Plan;
+use bt_choosers::Plan;
 use bt_cnf::{Chooser, Formula, Lit};
 use bt_frac::Frac;
 use bt_log::Log;

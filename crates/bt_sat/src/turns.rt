@@ -5,7 +5,7 @@ ghost use Rattle.bt_log.specs.Logs.{Lemma};
 ghost use Rattle.bt_sat.specs.inner.Choices.{IsComplete};
 ghost use Rattle.bt_sat.specs.inner.Kernels.{AddsTo, AnswersBy, AssumesBy, IsOpen, model_of, value_of};
 ghost use Rattle.bt_sat.specs.inner.Progressing.{HasRoom, IsNextStep, IsRunning, KeepsFormula};
-ghost use Rattle.bt_sat.specs.inner.Truths.{IsFalseIn};
+ghost use Rattle.bt_cnf.specs.Truths.{IsFalseIn};
 
 use crate::assuming::{assume, has_true};
 use crate::cdcl::{Found, find_model, restart};
@@ -13,8 +13,7 @@ use crate::lemmas::take_lemma;
 use crate::progress::Progress;
 use crate::serving::{begins_epoch, tell};
 use crate::solver::{Answer, Assumed};
-use crate::truth::Values;
-use bt_cnf::{Chooser, Lit};
+use bt_cnf::{Chooser, Lit, Values};
 use bt_frac::Frac;
 use std::alloc::{AllocError, Global};
 

@@ -12,6 +12,7 @@ mod lin;
 mod plans;
 mod pool;
 mod sat;
+mod seeking;
 mod simplex;
 mod theory;
 

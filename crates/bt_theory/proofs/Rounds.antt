@@ -164,14 +164,14 @@ module _ (atoms : List ℕ) (t : TableauParts) (chosen : List Bool) (bound_are :
   pub rows_below : All (λ w. w.0 < length atoms) weighed
   rows_below = λ k d l. bound_row (get_or weighed k d).0 (refutes.bound k d l)
 
-  pub conflict_in : (conflict : Conflict) (rows : List RowParts) → t.rows ≡ rows → IsConflictOf atoms weighed conflict → IsConflictIn chosen conflict (atoms, rows)
-  conflict_in conflict rows same is =
+  pub conflict_in : (conflict : Conflict) (rows : List RowParts) → IsFarkas (weighted_rows rows weighed) (Ok true) → IsConflictOf atoms weighed conflict → IsConflictIn chosen conflict (atoms, rows)
+  conflict_in conflict rows accepted is =
       record {
         weighed = weighed;
         below = rows_below;
         is = is;
         holds = λ k d l. row_chosen (get_or weighed k d).0 (refutes.bound k d l);
-        accepted = subst (λ r. IsFarkas (weighted_rows r weighed) (Ok true)) same refutes.accepted;
+        accepted = accepted;
       }
 
 -- the negation of a place's atom negates its row
@@ -238,7 +238,8 @@ module _ (b : Base) (s : SolverParts) (t0 t1 : TableauParts) (chosen : List Bool
       → IsConflict s.formula chosen conflict
   conflict_all weighed conflict refutes is =
       conflict_is s.formula chosen conflict (atom_vars first) (atom_rows first) (base_atoms b s.formula base (atom_vars first) (atom_rows first) (all_atoms first))
-      (conflict_in (atom_vars first) t1 chosen bound_are weighed refutes conflict (atom_rows first) reached.tableau.rows
+      (conflict_in (atom_vars first) t1 chosen bound_are weighed refutes conflict (atom_rows first)
+      (subst (λ r. IsFarkas (weighted_rows r weighed) (Ok true)) reached.tableau.rows refutes.accepted)
       (subst (λ vars. IsConflictOf vars weighed conflict) base.atoms is))
 
 -- ---- its lemma

@@ -4,25 +4,24 @@ use Rattle.std.specs.Prelude.{Contains, IfSome}
 use Rattle.std.specs.List.{All, Any}
 use Rattle.std.proofs.Math.ListN.{set}
 use Rattle.std.proofs.lemmas.Bool.{cases_lt}
-use Rattle.std.proofs.lemmas.List.{length-map, get_or-map, length_push, get_or_append_left, get_or_push, get_or_default, map-set, set-get_or}
-use Rattle.std.proofs.lemmas.List.Elements.{All-contains, Contains-get_or}
+use Rattle.std.proofs.lemmas.List.{length-map, get_or-map, length_push, get_or_append_left, get_or_push, map-set, set-get_or}
+use Rattle.std.proofs.lemmas.List.Elements.{Contains-get_or}
 use Rattle.std.proofs.lemmas.Option.{IfSome_then}
 use Rattle.bt_frac.specs.Ratio.{Ratio}
 use Rattle.bt_frac.specs.Rows.{RowParts, IsRowOf}
 use Rattle.bt_frac.specs.declared.row.Relation.{Relation}
 use Rattle.bt_lin.specs.WeightedRows.{empty_row}
 use Rattle.bt_cnf.specs.Formulas.{FormulaParts}
-use Rattle.bt_simplex.specs.Tableaus.{TableauParts, AreOverColumns}
+use Rattle.bt_simplex.specs.Tableaus.{TableauParts}
 use Rattle.bt_simplex.specs.Turns.{Follows}
 use Rattle.bt_simplex.specs.Checks.{IsCheck}
 use Rattle.bt_simplex.specs.declared.tableau.Turn.{Turn}
 use Rattle.bt_simplex.specs.declared.answers.Check.{Check}
 use Rattle.bt_simplex.specs.declared.answers.Check.TheVariants as check
-use Rattle.bt_theory.specs.Reaching.{atom_rows, atom_vars, columns_of}
+use Rattle.bt_theory.specs.Reaching.{atom_rows, atom_vars}
 use Rattle.bt_theory.specs.inner.Scopes.{AreAtoms, IsPaired, IsConflictIn, parts_of}
 use Rattle.bt_theory.specs.declared.lemma.Conflict.{Conflict}
 use Rattle.bt_theory.specs.declared.scope.Scope.{Scope}
-use Rattle.bt_theory.proofs.Columns.{over_end}
 
 pub atoms_none : (f : FormulaParts) → AreAtoms f [] []
 atoms_none f = record { paired = refl; have = λ k l. absurd (omega (arith, l)) }
@@ -50,14 +49,6 @@ atoms_more f atoms rows v r are at =
 contains_row : (f : FormulaParts) (a : ℕ × RowParts) → Contains f.atoms a → Contains (atom_rows f) a.1
 contains_row f a (k, l, at) =
     (k, (let long = length-map f.atoms (λ (x : ℕ × RowParts). x.1) in omega (arith, l, long)), get_or-map (λ (x : ℕ × RowParts). x.1) f.atoms k a a.1 l ∙ ap (λ (x : ℕ × RowParts). x.1) at)
-
--- rows of the formula are over its columns
-pub over_columns : (f : FormulaParts) (atoms : List ℕ) (rows : List RowParts) → AreAtoms f atoms rows → AreOverColumns (columns_of f) rows
-over_columns f atoms rows are = λ k d l.
-    let within : k < length atoms = (let p = are.paired in omega (arith, l, p)) in
-    let row = get_or rows k empty_row in
-    let IsOver : RowParts → Type 0 = λ r. All (λ t. t.0 < columns_of f) r.terms in
-    subst IsOver (get_or_default rows k empty_row d l) (All-contains IsOver (atom_rows f) row (over_end (atom_rows f)) (contains_row f (get_or atoms k 0, row) (are.have k within)))
 
 -- turns change no row
 rows_stay : (turns : List Turn) (t t' : TableauParts) → Follows t turns t' → t'.rows ≡ t.rows

@@ -5,6 +5,7 @@
 mod base;
 mod binding;
 mod choosing;
+mod close;
 mod goal;
 mod guessing;
 mod lemma;

@@ -3,20 +3,24 @@ ghost use Rattle.std.specs.Prelude.{◌≡◌, ◌<◌, length, map, IfOk, IfSom
 ghost use Rattle.std.specs.List.{All, Any};
 ghost use Rattle.bt_theory.specs.Reaching.{atom_vars};
 ghost use Rattle.bt_theory.specs.Outcomes.{AreRowsOf};
-ghost use Rattle.bt_theory.specs.inner.Scopes.{AreAtoms, IsConflictIn, IsScopeOf, parts_of, IsPaired};
+ghost use Rattle.bt_theory.specs.inner.Scopes.{AreAtoms, IsConflictIn, IsScopeOf, IsShown, parts_of, IsPaired};
 
 use crate::binding::bind;
+use crate::close::close_tableau;
 use crate::lemma::{Conflict, conflict_of};
 use bt_cnf::{Formula, Var, is_true};
-use bt_frac::Row;
+use bt_frac::{Frac, Row};
+use bt_lin::{SumFault, Weigher};
 use bt_simplex::{Check, Tableau};
 use std::alloc::{AllocError, Global};
 
-/// A tableau of some of a formula's rows.
+/// Some of a formula's rows, and their tableau over the columns that they name alone.
 #[derive(Drop)]
 pub struct Scope {
     /// The variables of the rows, in their order.
     atoms: Vec<Var>,
+    rows: Vec<Row>,
+    /// The tableau of the rows with other numbers of their columns. What it weighs is weighed again by the rows.
     tableau: Tableau,
     /// For each row whether it was bound when values were found last.
     passed: Vec<bool>,
@@ -71,11 +75,12 @@ fn scope_of(
     requires rows { AreRowsOf formula.now list.now }
     ensures { IfOk result (λ scope. IsScopeOf formula.now (parts_of scope)) }
 {
-    let picked = rows_at(alloc, formula, atoms, list)?;
-    let tableau = Tableau::new(alloc, &picked.rows, formula.columns())?;
-    let passed = vec![in alloc; false; picked.rows.len()]?;
+    let Picked { atoms, rows } = rows_at(alloc, formula, atoms, list)?;
+    let tableau = close_tableau(alloc, &rows)?;
+    let passed = vec![in alloc; false; rows.len()]?;
     Ok(Scope {
-        atoms: picked.atoms,
+        atoms,
+        rows,
         tableau,
         passed,
     })
@@ -183,12 +188,12 @@ impl Scope {
         ensures found { IfOk result (λ found. IfSome found (λ conflict.
             IsConflictIn assignment.now conflict (parts_of self.old))) }
     {
-        if self.has_passed(assignment) {
+        if self.has_passed(assignment) || self.tableau.rows().len() != self.atoms.len() {
             return Ok(None);
         }
         bind(&mut self.tableau, &self.atoms, assignment);
         match self.tableau.check(alloc, pivots)? {
-            Check::Unsat(weighed) => Ok(Some(conflict_of(alloc, &self.atoms, &weighed)?)),
+            Check::Unsat(weighed) => shown(alloc, &self.atoms, &self.rows, &weighed),
             Check::Sat(_) => {
                 note(&mut self.passed, &self.atoms, assignment);
                 Ok(None)
@@ -202,6 +207,37 @@ impl Scope {
         self.atoms.iter().zip(&self.passed).all(|(var, passed)| *passed
             || !is_true(assignment, var.place()))
     }
+}
+
+/// The conflict of weighed rows, of these with their variables, where they add up to one that no values meet.
+fn shown(
+    alloc: Global,
+    atoms: &[Var],
+    rows: &[Row],
+    weighed: &[(usize, Frac)],
+) -> Result<Option<Conflict>, AllocError>
+    requires paired { length atoms.now ≡ length rows.now }
+    requires below { All (λ w. w.0 < length atoms.now) weighed.now }
+    ensures { IfOk result (λ found. IfSome found (IsShown atoms.now rows.now weighed.now)) }
+{
+    let conflict = conflict_of(alloc, atoms, weighed)?;
+    let picks = picks_of(alloc, weighed)?;
+    match Weigher::new(alloc).farkas(rows, &picks, &conflict.weights) {
+        Ok(true) => Ok(Some(conflict)),
+        Err(SumFault::Memory) => Err(AllocError),
+        _ => Ok(None),
+    }
+}
+
+/// The rows that are weighed.
+fn picks_of(alloc: Global, weighed: &[(usize, Frac)]) -> Result<Vec<usize>, AllocError>
+    ensures { IfOk result (λ picks. picks.items ≡ map (λ w. w.0) weighed.now) }
+{
+    let mut picks = Vec::with_capacity(alloc, weighed.len())?;
+    for (row, _) in weighed {
+        picks.push(*row)?;
+    }
+    Ok(picks)
 }
 
 /// Notes which atoms are true.

@@ -1,5 +1,5 @@
 -- Budgets of steps and of turns that no search uses up.
-use Rattle.std.proofs.Common.{◌≡◌, ◌≢◌, ◌≤◌, ◌⊎◌, ℕ, Bool, true, false, List, Result, Ok, Err, inl, inr, ap, sym, subst, ◌∙◌, arith}
+use Rattle.std.proofs.Common.{◌≡◌, ◌≢◌, ◌≤◌, ◌⊎◌, ℕ, Bool, true, false, List, Option, Result, Ok, Err, inl, inr, ap, sym, subst, ◌∙◌, arith}
 use Rattle.bt_io.specs.Passages.{Passage}
 use Rattle.bt_io.specs.declared.fault.WriteFault.{WriteFault}
 use Rattle.bt_cnf.specs.Formulas.{FormulaParts}
@@ -31,9 +31,9 @@ use Rattle.bt_layout.specs.declared.outcome.Layout.TheVariants as layout
 use Rattle.bt_layout.specs.Layouts.{IsLayout}
 use Rattle.bt_layout.specs.declared.outcome.Smallest.{Smallest as ASmallest}
 use Rattle.bt_layout.specs.declared.outcome.Smallest.TheVariants as smallest
-use Rattle.bt_layout.specs.Grids.{IsWithin}
+use Rattle.bt_layout.specs.Grids.{IsSkipped, IsWithin}
 use Rattle.bt_layout.specs.Smallest.{IsSmallest, request_on}
-use Rattle.bt_layout.proofs.Passed.{left_within}
+use Rattle.bt_layout.proofs.Passed.{left_taken, left_within}
 use Rattle.bt_model.specs.Requests.{LayoutRequest}
 use Rattle.bt_place.specs.PlaceFormula.{place_formula}
 use Rattle.bt_words.specs.declared.command.Command.{Command}
@@ -43,27 +43,28 @@ use Rattle.bt_words.specs.declared.command.NetworkFamily.{NetworkFamily}
 use Rattle.bt_words.specs.declared.command.NetworkFamily.TheVariants.{Butterfly, Chain}
 use Rattle.bt_top.specs.declared.answer.Answer.{Answer}
 use Rattle.bt_top.specs.declared.answer.Answer.TheVariants as answer
-use Rattle.bt_top.specs.declared.fault.DesignFault.{DesignFault}
-use Rattle.bt_top.specs.declared.fault.DesignFault.TheVariants as design
-use Rattle.bt_top.specs.declared.refusal.Refusal.TheVariants as refusal
+use Rattle.bt_designs.specs.declared.fault.DesignFault.{DesignFault}
+use Rattle.bt_designs.specs.declared.fault.DesignFault.TheVariants as design
+use Rattle.bt_designs.specs.declared.refusal.Refusal.TheVariants as refusal
 use Rattle.bt_top.specs.declared.program.TheConstants.{READ_FAULT, NO_MEMORY}
 use Rattle.bt_top.specs.Answering.{IsRightTo}
 use Rattle.bt_top.specs.Answers.{status_of, gave_up_status}
 use Rattle.bt_top.specs.Budgets.{IsAmple, HasAmple, AmpleIsNeverSpent, AmpleNeverEndsSpent, IsAmpleOfTurns, AmpleTurnsAreNeverMade, AmpleTurnsNeverEndMade}
 use Rattle.bt_top.specs.Comparing.{same_told}
 use Rattle.bt_top.specs.Deciding.{verdict_told}
-use Rattle.bt_top.specs.Alone.{IsLoneNet}
+use Rattle.bt_designs.specs.Alone.{IsLoneNet}
 use Rattle.bt_top.specs.Endings.{IsTold, status_after, Ends}
 use Rattle.bt_top.specs.Inputs.{IsInput}
 use Rattle.bt_top.specs.LayingOut.{layout_told}
 use Rattle.bt_top.specs.Making.{made_of, gen_told, balance_told}
 use Rattle.bt_top.specs.Replies.{Reply, design_told}
-use Rattle.bt_top.specs.Steps.{stopped, went_on}
-use Rattle.bt_top.specs.TwoDesigns.{IsTwoNets}
-use Rattle.bt_top.proofs.InTurns.{same_value, not_both}
+use Rattle.bt_designs.specs.Steps.{stopped, went_on}
+use Rattle.bt_designs.specs.TwoDesigns.{IsTwoNets}
+use Rattle.bt_designs.proofs.InTurns.{same_value, not_both}
 use Rattle.bt_top.proofs.OneAnswer.{one_lone_net}
-use Rattle.bt_top.proofs.OnePair.{one_two_nets}
-use Rattle.bt_top.proofs.OneRequest.{one_lone_request, one_sided_request, sided_request}
+use Rattle.bt_designs.proofs.OnePair.{one_two_nets}
+use Rattle.bt_designs.proofs.OneRequest.{one_lone_request, one_sided_request}
+use Rattle.bt_top.proofs.AskedOfAny.{sided_request}
 
 -- the steps of an ample budget are never used up
 never_used_up : (f : FormulaParts) (learnt : ℕ) (steps : List Step) → IsAmple f learnt → IsUsedUp f learnt steps → ⊥
@@ -165,23 +166,26 @@ lay_never rect tier learnt bytes a (r, alone, ample) (went_on s h (found, is, ag
     let same = same_value s r (one_lone_request rect tier bytes (Ok s) (Ok r) h alone) in
     layout_never s learnt found (subst (λ x. IsAmple (place_formula x) learnt) (sym same) ample) is a (sym e)
 
--- with ample steps for each grid none is given up
-abbrev AmpleOn : LayoutRequest → ℕ → Type 0
-AmpleOn r learnt = (grid : Rect) → IsWithin r.rect grid → IsAmple (place_formula (request_on r grid)) learnt
+-- with ample steps for each grid that isn't passed by none is given up
+abbrev AmpleOn : Option Rect → LayoutRequest → ℕ → Type 0
+AmpleOn first r learnt = (grid : Rect) → IsWithin r.rect grid → (IsSkipped first grid → ⊥) → IsAmple (place_formula (request_on r grid)) learnt
 
-least_never : (r : LayoutRequest) (learnt : ℕ) (found : ASmallest) → AmpleOn r learnt → IsSmallest r learnt found → IsOther 4 high_four (Ok (answer.Least found))
-least_never r learnt (smallest.Found earlier grid parts) ample is = other_status 4 high_four (answer.Least (smallest.Found earlier grid parts)) (λ e. omega (arith, e))
-least_never r learnt (smallest.Nowhere earlier) ample is = other_status 4 high_four (answer.Least (smallest.Nowhere earlier)) (λ e. omega (arith, e))
-least_never r learnt (smallest.Spent earlier grid log) ample is =
-    absurd (never_used_up (place_formula (request_on r grid)) learnt log.steps (ample grid (left_within r learnt earlier.items grid is.0)) is.1)
+least_never : (first : Option Rect) (r : LayoutRequest) (learnt : ℕ) (found : ASmallest) → AmpleOn first r learnt → IsSmallest first r learnt found
+    → IsOther 4 high_four (Ok (answer.Least first found))
+least_never first r learnt (smallest.Found earlier grid parts) ample is = other_status 4 high_four (answer.Least first (smallest.Found earlier grid parts)) (λ e. omega (arith, e))
+least_never first r learnt (smallest.Nowhere earlier) ample is = other_status 4 high_four (answer.Least first (smallest.Nowhere earlier)) (λ e. omega (arith, e))
+least_never first r learnt (smallest.Spent earlier grid log) ample is =
+    absurd (never_used_up (place_formula (request_on r grid)) learnt log.steps
+    (ample grid (left_within first r learnt earlier.items grid is.0) (left_taken first r learnt earlier.items grid is.0)) is.1)
 
-search_never : (most : Rect) (tier : Tier) (learnt : ℕ) (bytes : List ℕ) (a : Answer) → HasAmple (Smallest most tier learnt) bytes
-    → IsRightTo (Smallest most tier learnt) bytes (Ok a) → status_of a ≢ 4
-search_never most tier learnt bytes a ample (stopped fault h e) = design_other 4 high_four fault a (sym e)
-search_never most tier learnt bytes a (r, alone, ample) (went_on s h (found, is, again, e)) =
+search_never : (first : Option Rect) (most : Rect) (tier : Tier) (learnt : ℕ) (bytes : List ℕ) (a : Answer) → HasAmple (Smallest first most tier learnt) bytes
+    → IsRightTo (Smallest first most tier learnt) bytes (Ok a) → status_of a ≢ 4
+search_never first most tier learnt bytes a ample (stopped fault h e) = design_other 4 high_four fault a (sym e)
+search_never first most tier learnt bytes a (r, alone, ample) (went_on s h (found, is, again, e)) =
     let same = same_value s r (one_sided_request most tier bytes (Ok s) (Ok r) h alone) in
     let greatest = (sided_request most tier bytes r alone).rect in
-    least_never s learnt found (subst (λ x. AmpleOn x learnt) (sym same) (subst (λ rect. (grid : Rect) → IsWithin rect grid → IsAmple (place_formula (request_on r grid)) learnt) (sym greatest) ample)) is a (sym e)
+    least_never first s learnt found (subst (λ x. AmpleOn first x learnt) (sym same)
+    (subst (λ rect. (grid : Rect) → IsWithin rect grid → (IsSkipped first grid → ⊥) → IsAmple (place_formula (request_on r grid)) learnt) (sym greatest) ample)) is a (sym e)
 
 pub ample_is_never_spent : AmpleIsNeverSpent
 ample_is_never_spent (FlowCheck p) bytes a ample h = absurd ample
@@ -192,7 +196,7 @@ ample_is_never_spent (Make Butterfly order limits) bytes a ample h = butterfly_o
 ample_is_never_spent (Make Chain order limits) bytes a ample h = chain_other 4 high_four order limits bytes a (steps_never (flow_formula (chain_net order) Balanced) limits ample) h
 ample_is_never_spent (Layout rect tier learnt) bytes a ample h = lay_never rect tier learnt bytes a ample h
 ample_is_never_spent (CheckLayout rect tier) bytes a ample h = absurd ample
-ample_is_never_spent (Smallest most tier learnt) bytes a ample h = search_never most tier learnt bytes a ample h
+ample_is_never_spent (Smallest first most tier learnt) bytes a ample h = search_never first most tier learnt bytes a ample h
 ample_is_never_spent (FindSmall most tier sides learnt) bytes a ample h = absurd ample
 ample_is_never_spent (FlowFormula p) bytes a ample h = absurd ample
 ample_is_never_spent (PlaceFormula rect tier) bytes a ample h = absurd ample
@@ -220,7 +224,7 @@ ample_turns_are_never_made (Make Butterfly order limits) bytes a ample h = butte
 ample_turns_are_never_made (Make Chain order limits) bytes a ample h = chain_other 10 high_ten order limits bytes a (turns_never (flow_formula (chain_net order) Balanced) limits ample) h
 ample_turns_are_never_made (Layout rect tier learnt) bytes a ample h = absurd ample
 ample_turns_are_never_made (CheckLayout rect tier) bytes a ample h = absurd ample
-ample_turns_are_never_made (Smallest most tier learnt) bytes a ample h = absurd ample
+ample_turns_are_never_made (Smallest first most tier learnt) bytes a ample h = absurd ample
 ample_turns_are_never_made (FindSmall most tier sides learnt) bytes a ample h = absurd ample
 ample_turns_are_never_made (FlowFormula p) bytes a ample h = absurd ample
 ample_turns_are_never_made (PlaceFormula rect tier) bytes a ample h = absurd ample

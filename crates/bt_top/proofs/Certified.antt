@@ -18,8 +18,8 @@ use Rattle.bt_cert.proofs.OneAnswer.{certificate_shows_unmet}
 use Rattle.bt_top.specs.declared.answer.Answer.TheVariants as answer
 use Rattle.bt_top.specs.Replies.{Reply}
 use Rattle.bt_top.specs.Certificates.{cert_told, IsYesChecked}
-use Rattle.bt_top.specs.Steps.{went_on}
-use Rattle.bt_top.proofs.InTurns.{stops}
+use Rattle.bt_designs.specs.Steps.{went_on}
+use Rattle.bt_designs.proofs.InTurns.{stops}
 
 -- what is told of the whole of a source is told of what it had
 whole_told : (f : FormulaParts) (lines : List ℕ) (limit : ℕ) (source : Passage) (told : Result (Unit {0}) CertFault)

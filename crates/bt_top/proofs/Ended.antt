@@ -14,7 +14,7 @@ use Rattle.bt_top.specs.Answering.{IsRightTo, IsOnly}
 use Rattle.bt_top.specs.Inputs.{IsUntouched, IsInput, ReadsInput}
 use Rattle.bt_top.specs.Endings.{IsRight, no_command, too_long, to_bytes, IsTold, IsEnding, told, read_fault, no_memory, Ends}
 use Rattle.bt_top.specs.inner.Telling.{IsAnswered, IsAnsweredTo, IsToldUnlessMemory, IsLineTold}
-use Rattle.bt_top.proofs.InTurns.{same_value}
+use Rattle.bt_designs.proofs.InTurns.{same_value}
 use Rattle.bt_top.proofs.InputsTold.{read_before, input_told, not_too_long}
 use Rattle.bt_top.proofs.OneAnswer.{only_right}
 

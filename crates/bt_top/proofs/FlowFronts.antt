@@ -19,8 +19,9 @@ use Rattle.bt_top.specs.declared.front.WrittenState.{WrittenState}
 use Rattle.bt_top.specs.Certificates.{IsTextChecked, IsYesChecked, SaysYes}
 use Rattle.bt_top.specs.Replies.{Reply}
 use Rattle.bt_top.specs.States.{IsStateJudged}
-use Rattle.bt_top.specs.Steps.{stopped}
-use Rattle.bt_top.specs.inner.Fronts.{MayFollow, TellsLine, IsFrontOf, steps_answer}
+use Rattle.bt_designs.specs.Steps.{stopped}
+use Rattle.bt_designs.specs.Told.{MayFollow, TellsLine}
+use Rattle.bt_top.specs.inner.Fronts.{IsFrontOf, steps_answer}
 use Rattle.bt_top.proofs.Certified.{yes_told}
 use Rattle.bt_top.proofs.Fronts.{known_front, line_cuts, line_goes}
 

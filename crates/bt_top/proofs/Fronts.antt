@@ -31,18 +31,19 @@ use Rattle.bt_flow.specs.declared.property.Property.{Property}
 use Rattle.bt_top.specs.declared.answer.Answer.{Answer}
 use Rattle.bt_top.specs.declared.answer.Answer.TheVariants as answer
 use Rattle.bt_top.specs.declared.claim.CertificateClaim.TheVariants as claim
-use Rattle.bt_top.specs.declared.fault.DesignFault.{DesignFault}
-use Rattle.bt_top.specs.declared.fault.DesignFault.TheVariants as design
-use Rattle.bt_top.specs.declared.refusal.Refusal.{Refusal}
+use Rattle.bt_designs.specs.declared.fault.DesignFault.{DesignFault}
+use Rattle.bt_designs.specs.declared.fault.DesignFault.TheVariants as design
+use Rattle.bt_designs.specs.declared.refusal.Refusal.{Refusal}
 use Rattle.bt_top.specs.declared.front.Front.{Front}
 use Rattle.bt_top.specs.declared.front.Front.TheVariants as front
 use Rattle.bt_top.specs.declared.front.Steps.{Steps}
-use Rattle.bt_top.specs.declared.held.Held.{Held}
-use Rattle.bt_top.specs.declared.input.TheConstants.{MOST_CHECKED}
+use Rattle.bt_designs.specs.declared.held.Held.{Held}
+use Rattle.bt_designs.specs.declared.held.TheConstants.{MOST_CHECKED}
 use Rattle.bt_top.specs.Certificates.{cert_told}
 use Rattle.bt_top.specs.Replies.{Reply}
 use Rattle.bt_top.specs.inner.Claims.{IsClaimed}
-use Rattle.bt_top.specs.inner.Fronts.{MayFollow, LastsBehind, IsAtHand, TellsFront, TellsLine, TellsRefusal, IsFrontOf, GivesFront, GivesHeldFront, IsStepsReply, AnswersLeft, AnswersRest, ReadsRest, DrainsRest, steps_told, judged_answer}
+use Rattle.bt_designs.specs.Told.{MayFollow, LastsBehind, IsAtHand, TellsFront, TellsLine}
+use Rattle.bt_top.specs.inner.Fronts.{TellsRefusal, IsFrontOf, GivesFront, GivesHeldFront, IsStepsReply, AnswersLeft, AnswersRest, ReadsRest, DrainsRest, steps_told, judged_answer}
 use Rattle.bt_top.specs.inner.Telling.{IsAnswered}
 
 -- ---- texts that may go on

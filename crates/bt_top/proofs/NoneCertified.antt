@@ -22,8 +22,8 @@ use Rattle.bt_top.specs.Replies.{Reply}
 use Rattle.bt_top.specs.Certificates.{cert_told}
 use Rattle.bt_top.specs.NoneCertificates.{IsNoneChecked, SaysNone, NoneIsAccepted}
 use Rattle.bt_top.specs.Answers.{none_word, nowhere_text}
-use Rattle.bt_top.specs.Steps.{went_on}
-use Rattle.bt_top.proofs.InTurns.{stops}
+use Rattle.bt_designs.specs.Steps.{went_on}
+use Rattle.bt_designs.proofs.InTurns.{stops}
 
 -- a certificate that is one shows that no parts lay the request
 pub none_told : (r : LayoutRequest) (lines : List ℕ) → IsRequest r → IsCertRead (place_formula r) lines (Ok tt) → IsNoneChecked r lines (Ok answer.NoLayout)

@@ -1,5 +1,5 @@
 -- A command has one answer to the bytes of its input.
-use Rattle.std.proofs.Common.{◌≡◌, ◌≢◌, ℕ, List, drop, inl, inr, ap, sym, subst, ◌∙◌, Result, Ok, Err, arith}
+use Rattle.std.proofs.Common.{◌≡◌, ◌≢◌, ℕ, List, Option, drop, inl, inr, ap, sym, subst, ◌∙◌, Result, Ok, Err, arith}
 use Rattle.bt_answers.specs.Answers.{HasOneAnswer}
 use Rattle.bt_text.proofs.FirstLines.{IsFirstLine-unique}
 use Rattle.bt_net.specs.Network.{Network, IsNetwork}
@@ -39,9 +39,9 @@ use Rattle.bt_gen.specs.Butterfly.{butterfly_net}
 use Rattle.bt_gen.specs.Chain.{chain_net}
 use Rattle.bt_gen.specs.Orders.{IsGenerated}
 use Rattle.bt_gen.proofs.Made.{one_made}
-use Rattle.bt_top.specs.Designs.{IsDesign}
+use Rattle.bt_designs.specs.Designs.{IsDesign}
 use Rattle.bt_top.specs.Certificates.{cert_told, IsYesChecked, IsTextChecked, IsCertificateChecked, IsCertified}
-use Rattle.bt_top.specs.Alone.{IsLoneNet}
+use Rattle.bt_designs.specs.Alone.{IsLoneNet}
 use Rattle.bt_top.specs.Answering.{OneRightAnswer}
 use Rattle.bt_top.specs.Answers.{status_of}
 use Rattle.bt_top.specs.Comparing.{IsCompared, same_told}
@@ -52,19 +52,21 @@ use Rattle.bt_top.specs.LayingOut.{IsLaidOut, layout_told}
 use Rattle.bt_top.specs.Making.{IsSaidBalanced, IsBalanceDecided, balance_told, gen_told}
 use Rattle.bt_top.specs.NoneCertificates.{IsNoneChecked, IsNoneTextChecked, IsNoneCertificateChecked, IsLayoutChecked}
 use Rattle.bt_top.specs.Recovering.{IsRecoveredFrom}
-use Rattle.bt_top.specs.Searching.{IsSidedRequest, IsSearched}
-use Rattle.bt_top.specs.Requested.{IsFrontRequest, IsLoneRequest}
+use Rattle.bt_designs.specs.Requested.{IsSidedRequest}
+use Rattle.bt_top.specs.Searching.{IsSearched}
+use Rattle.bt_designs.specs.Requested.{IsFrontRequest, IsLoneRequest}
 use Rattle.bt_top.specs.Replies.{Reply, design_told}
 use Rattle.bt_top.specs.States.{verdict, state_told, IsJudged, IsStateJudged, IsStateChecked, IsChecked}
-use Rattle.bt_top.specs.Steps.{InTurn, stopped, went_on}
-use Rattle.bt_top.specs.TwoDesigns.{IsTwoNets}
-use Rattle.bt_top.proofs.Blanks.{one_rest}
-use Rattle.bt_top.proofs.InTurns.{one_in_turn, one_in_turn_of, same_value, same_fault, not_both}
-use Rattle.bt_top.proofs.OneDesign.{one_design, design_network}
-use Rattle.bt_top.proofs.OnePair.{one_two_nets}
-use Rattle.bt_top.proofs.OneRequest.{one_front_request, one_lone_request, one_sided_request, one_design_request, front_request}
+use Rattle.bt_designs.specs.Steps.{InTurn, stopped, went_on}
+use Rattle.bt_designs.specs.TwoDesigns.{IsTwoNets}
+use Rattle.bt_designs.proofs.Blanks.{one_rest}
+use Rattle.bt_designs.proofs.InTurns.{one_in_turn, one_in_turn_of, same_value, same_fault, not_both}
+use Rattle.bt_designs.proofs.OneDesign.{one_design, design_network}
+use Rattle.bt_designs.proofs.OnePair.{one_two_nets}
+use Rattle.bt_designs.proofs.OneRequest.{one_front_request, one_lone_request, one_sided_request, front_request}
+use Rattle.bt_top.proofs.AskedOfAny.{one_design_request}
 use Rattle.bt_top.proofs.SameCertified.{one_same_certified}
-use Rattle.bt_top.proofs.StandingAlone.{one_alone}
+use Rattle.bt_designs.proofs.StandingAlone.{one_alone}
 
 -- ---- flow-check
 
@@ -184,10 +186,10 @@ layout_apart (layout.Found parts) is = omega (arith, is)
 layout_apart (layout.Nowhere log) is = omega (arith, is)
 layout_apart (layout.Spent log) is = omega (arith, is)
 
-least_apart : (found : ASmallest) → status_of (answer.Least found) ≢ 3
-least_apart (smallest.Found earlier grid parts) is = omega (arith, is)
-least_apart (smallest.Nowhere earlier) is = omega (arith, is)
-least_apart (smallest.Spent earlier grid log) is = omega (arith, is)
+least_apart : (first : Option Rect) (found : ASmallest) → status_of (answer.Least first found) ≢ 3
+least_apart first (smallest.Found earlier grid parts) is = omega (arith, is)
+least_apart first (smallest.Nowhere earlier) is = omega (arith, is)
+least_apart first (smallest.Spent earlier grid log) is = omega (arith, is)
 
 small_apart : (found : ASmall) → status_of (answer.Small found) ≢ 3
 small_apart (small.Found grid parts steps) is = omega (arith, is)
@@ -214,8 +216,8 @@ only_right (Make Chain order limits) bytes a b only h k =
 only_right (Layout rect tier learnt) bytes a b only h k =
     refused_only (IsLoneRequest rect tier bytes) design_told (IsLaidOut learnt) (one_lone_request rect tier bytes) (λ r c d. apart c (layout_told d.0) d.3 (layout_apart d.0)) a b only h k
 only_right (CheckLayout rect tier) bytes a b only h k = same_value a b (one_layout_checked rect tier bytes (Ok a) (Ok b) h k)
-only_right (Smallest most tier learnt) bytes a b only h k =
-    refused_only (IsSidedRequest most tier bytes) design_told (IsSearched learnt) (one_sided_request most tier bytes) (λ r c d. apart c (answer.Least d.0) d.3 (least_apart d.0)) a b only h k
+only_right (Smallest first most tier learnt) bytes a b only h k =
+    refused_only (IsSidedRequest most tier bytes) design_told (IsSearched first learnt) (one_sided_request most tier bytes) (λ r c d. apart c (answer.Least first d.0) d.3 (least_apart first d.0)) a b only h k
 only_right (FindSmall most tier sides learnt) bytes a b only h k =
     refused_only (IsDesignRequest sides most tier bytes) design_told (IsFound bytes learnt) (one_design_request sides most tier bytes) (λ r c d. apart c (answer.Small d.1) d.5 (small_apart d.1)) a b only h k
 only_right (FlowFormula p) bytes a b only h k = same_value a b (one_flow_formula p bytes (Ok a) (Ok b) h k)

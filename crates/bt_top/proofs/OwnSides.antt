@@ -1,26 +1,14 @@
--- The sides at which the ends of a blueprint stand.
-use Rattle.std.proofs.Common.{◌≡◌, ℕ, ◌+◌, List, [], ◌∷◌, ◌++◌, Ok, inl, inr, sym, subst}
+-- The sides at which the ends of a blueprint stand name no cells.
+use Rattle.std.proofs.Common.{◌≡◌, ℕ, ◌+◌, List, [], ◌∷◌, ◌++◌, inl, inr, sym, subst}
 use Rattle.std.specs.List.{All as Each}
 use Rattle.std.proofs.lemmas.List.Elements.{All-nil, All-cons, All-append}
-use Rattle.bt_json.proofs.OneRead.{one_read}
-use Rattle.bt_entities.specs.Answers.{IsPartsOf}
-use Rattle.bt_entities.proofs.OneAnswer.{one_parts}
 use Rattle.bt_parts.specs.declared.part.Part.{Part}
 use Rattle.bt_net.specs.declared.network.Demand.{Demand}
 use Rattle.bt_net.specs.declared.network.End.{End}
 use Rattle.bt_net.specs.declared.network.End.TheVariants.{Input, Output}
-use Rattle.bt_recover.specs.Sides.{IsStayOf, AreStaysOf, AreEndSides}
-use Rattle.bt_recover.proofs.SideLemmas.{one_end_sides}
+use Rattle.bt_recover.specs.Sides.{IsStayOf, AreStaysOf}
 use Rattle.bt_layout.specs.Smallest.{NamesNoCell}
-use Rattle.bt_top.specs.Kept.{AreOwnSides}
-use Rattle.bt_top.proofs.InTurns.{same_value}
-
--- the ends of a blueprint stand at one list of sides
-pub one_own_sides : (bytes : List ℕ) (stays others : List Demand) → AreOwnSides bytes stays → AreOwnSides bytes others → stays ≡ others
-one_own_sides bytes stays others (read, is, parts, are, h) (again, was, same, were, k) =
-    let first = same_value read again (one_read bytes (Ok read) (Ok again) is was) in
-    let second = same_value parts same (one_parts read.0 (Ok parts) (Ok same) are (subst (λ x. IsPartsOf x.0 (Ok same)) (sym first) were)) in
-    same_value stays others (one_end_sides parts (Ok stays) (Ok others) h (subst (λ x. AreEndSides x (Ok others)) (sym second) k))
+use Rattle.bt_designs.specs.Kept.{AreOwnSides}
 
 -- no line of them names a cell
 first_names : (parts : List Part) (end : End) (part : Part) (stays : List Demand) → IsStayOf parts end part stays → Each NamesNoCell stays

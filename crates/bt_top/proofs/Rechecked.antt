@@ -30,22 +30,23 @@ use Rattle.bt_decide.specs.declared.verdict.Verdict.TheVariants as verdict
 use Rattle.bt_decide.specs.Verdicts.{IsVerdict}
 use Rattle.bt_decide.proofs.Certified.{yes_is_certificate}
 use Rattle.bt_top.specs.declared.answer.Answer.TheVariants as answer
-use Rattle.bt_top.specs.Alone.{IsLoneNet}
+use Rattle.bt_designs.specs.Alone.{IsLoneNet}
 use Rattle.bt_top.specs.Answers.{proved_text}
 use Rattle.bt_top.specs.Certificates.{SaysYes, IsTextChecked, IsCertificateChecked, IsCertified}
 use Rattle.bt_top.specs.Deciding.{verdict_told}
-use Rattle.bt_top.specs.declared.input.TheConstants.{MOST_CHECKED}
-use Rattle.bt_top.specs.Designs.{IsDesign}
+use Rattle.bt_designs.specs.declared.held.TheConstants.{MOST_CHECKED}
+use Rattle.bt_designs.specs.Designs.{IsDesign}
 use Rattle.bt_top.specs.Rechecking.{followed_by, ProofIsChecked, StateIsChecked}
 use Rattle.bt_top.specs.Replies.{Reply}
 use Rattle.bt_top.specs.States.{verdict as state_verdict, IsStateJudged}
-use Rattle.bt_top.specs.Steps.{stopped, went_on}
-use Rattle.bt_top.proofs.Blanks.{one_rest}
+use Rattle.bt_designs.specs.Steps.{stopped, went_on}
+use Rattle.bt_designs.proofs.Blanks.{one_rest}
 use Rattle.bt_top.proofs.Certified.{yes_told}
-use Rattle.bt_top.proofs.InTurns.{same_value, not_both}
-use Rattle.bt_top.proofs.LongerDesigns.{design_stays, design_within}
-use Rattle.bt_top.proofs.Followed.{IsFollowed, is_followed, stands_alone, other_than, no_refusal, few_printed}
-use Rattle.bt_top.proofs.OneDesign.{one_design, design_network}
+use Rattle.bt_designs.proofs.InTurns.{same_value, not_both}
+use Rattle.bt_designs.proofs.LongerDesigns.{design_stays, design_within}
+use Rattle.bt_designs.proofs.Followed.{IsFollowed, is_followed, stands_alone, other_than}
+use Rattle.bt_top.proofs.Printed.{no_refusal, few_printed}
+use Rattle.bt_designs.proofs.OneDesign.{one_design, design_network}
 
 -- ---- a design alone, and what follows it
 

@@ -15,21 +15,22 @@ use Rattle.bt_layout.specs.declared.outcome.Layout.TheVariants as layout
 use Rattle.bt_layout.specs.Layouts.{IsLayout}
 use Rattle.bt_layout.proofs.Certified.{nowhere_is_certificate}
 use Rattle.bt_top.specs.declared.answer.Answer.TheVariants as answer
-use Rattle.bt_top.specs.declared.fault.DesignFault.{DesignFault}
-use Rattle.bt_top.specs.declared.input.TheConstants.{MOST_CHECKED}
+use Rattle.bt_designs.specs.declared.fault.DesignFault.{DesignFault}
+use Rattle.bt_designs.specs.declared.held.TheConstants.{MOST_CHECKED}
 use Rattle.bt_top.specs.Answers.{none_word, nowhere_text}
-use Rattle.bt_top.specs.Designs.{IsJsonText, IsBlueprintNet}
+use Rattle.bt_designs.specs.Designs.{IsJsonText, IsBlueprintNet}
 use Rattle.bt_top.specs.LayingOut.{layout_told, IsLaidOut}
 use Rattle.bt_top.specs.NoneCertificates.{IsLayoutChecked}
-use Rattle.bt_top.specs.Refusals.{net_told}
+use Rattle.bt_designs.specs.Refusals.{net_told}
 use Rattle.bt_top.specs.RecheckingLayouts.{NoneIsChecked}
-use Rattle.bt_top.specs.Requested.{PinnedNet, pinned_net, IsPinnedText, IsPinnedJson, IsPinned, IsRequestFor, IsFrontRequest}
-use Rattle.bt_top.specs.Steps.{stopped, went_on}
-use Rattle.bt_top.proofs.Followed.{IsFollowed, is_followed, stands_alone, other_than, no_refusal, few_printed}
-use Rattle.bt_top.proofs.InTurns.{same_value, not_both}
-use Rattle.bt_top.proofs.LongerDesigns.{json_text_stays, other_text_stays, json_design_stays, net_first, json_within}
+use Rattle.bt_designs.specs.Requested.{PinnedNet, pinned_net, IsPinnedText, IsPinnedJson, IsPinned, IsRequestFor, IsFrontRequest}
+use Rattle.bt_designs.specs.Steps.{stopped, went_on}
+use Rattle.bt_designs.proofs.Followed.{IsFollowed, is_followed, stands_alone, other_than}
+use Rattle.bt_top.proofs.Printed.{no_refusal, few_printed}
+use Rattle.bt_designs.proofs.InTurns.{same_value, not_both}
+use Rattle.bt_designs.proofs.LongerDesigns.{json_text_stays, other_text_stays, json_design_stays, net_first, json_within}
 use Rattle.bt_top.proofs.NoneCertified.{says_none, none_told}
-use Rattle.bt_top.proofs.OneRequest.{front_request}
+use Rattle.bt_designs.proofs.OneRequest.{front_request}
 
 -- ---- a network with pins, sides and blocks at the front of longer bytes
 

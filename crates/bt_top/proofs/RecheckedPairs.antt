@@ -31,13 +31,14 @@ use Rattle.bt_top.specs.Comparing.{same_told}
 use Rattle.bt_top.specs.RecheckingPairs.{SameIsChecked, DifferenceIsChecked}
 use Rattle.bt_top.specs.Replies.{Reply}
 use Rattle.bt_top.specs.SameCertificates.{SaysSame, pair_verdict, IsPairTextJudged, IsSameTextChecked, IsSameCertificateChecked, IsSameCertified}
-use Rattle.bt_top.specs.Steps.{stopped, went_on}
-use Rattle.bt_top.proofs.Blanks.{one_rest}
-use Rattle.bt_top.proofs.Followed.{other_than, no_refusal, few_printed}
-use Rattle.bt_top.proofs.InTurns.{same_value, not_both}
-use Rattle.bt_top.proofs.OnePair.{one_front_nets}
+use Rattle.bt_designs.specs.Steps.{stopped, went_on}
+use Rattle.bt_designs.proofs.Blanks.{one_rest}
+use Rattle.bt_designs.proofs.Followed.{other_than}
+use Rattle.bt_top.proofs.Printed.{no_refusal, few_printed}
+use Rattle.bt_designs.proofs.InTurns.{same_value, not_both}
+use Rattle.bt_designs.proofs.OnePair.{one_front_nets}
 use Rattle.bt_top.proofs.SameCertified.{same_shown}
-use Rattle.bt_top.proofs.TwoFollowed.{AreFollowed, nets_followed}
+use Rattle.bt_designs.proofs.TwoFollowed.{AreFollowed, nets_followed}
 
 told_same : (v : SameVerdict) (log : Log) → answer.Same log ≡ same_told v → v ≡ of_same.Yes log
 told_same (of_same.Yes found) log e = cc

@@ -20,12 +20,12 @@ use Rattle.bt_top.specs.Certificates.{cert_told}
 use Rattle.bt_top.specs.Replies.{Reply, design_told}
 use Rattle.bt_top.specs.SameCertificates.{IsSameChecked, pair_verdict, IsPairJudged, IsPairTextJudged, IsSameTextChecked, IsSameCertificateChecked, IsSameCertified}
 use Rattle.bt_top.specs.States.{state_told}
-use Rattle.bt_top.specs.Steps.{went_on}
-use Rattle.bt_top.specs.TwoDesigns.{IsFrontNets}
-use Rattle.bt_top.proofs.BareNets.{front_networks}
-use Rattle.bt_top.proofs.Blanks.{one_rest}
-use Rattle.bt_top.proofs.InTurns.{one_in_turn, one_in_turn_of, stops}
-use Rattle.bt_top.proofs.OnePair.{one_front_nets}
+use Rattle.bt_designs.specs.Steps.{went_on}
+use Rattle.bt_designs.specs.TwoDesigns.{IsFrontNets}
+use Rattle.bt_designs.proofs.BareNets.{front_networks}
+use Rattle.bt_designs.proofs.Blanks.{one_rest}
+use Rattle.bt_designs.proofs.InTurns.{one_in_turn, one_in_turn_of, stops}
+use Rattle.bt_designs.proofs.OnePair.{one_front_nets}
 
 -- two networks
 abbrev AreNetworks : Network × Network → Type 0

@@ -14,20 +14,21 @@ use Rattle.bt_same.specs.PairReading.{pair_forms}
 use Rattle.bt_same.specs.SameFormula.{same_formula}
 use Rattle.bt_same.specs.Sameness.{HaveEqualEnds}
 use Rattle.bt_top.specs.declared.answer.Answer.TheVariants as answer
-use Rattle.bt_top.specs.declared.fault.DesignFault.TheVariants.{Refused}
+use Rattle.bt_designs.specs.declared.fault.DesignFault.TheVariants.{Refused}
 use Rattle.bt_top.specs.declared.front.Front.TheVariants as front
 use Rattle.bt_top.specs.declared.front.Steps.{Steps}
 use Rattle.bt_top.specs.declared.front.WrittenPair.{WrittenPair}
-use Rattle.bt_top.specs.declared.refusal.Refusal.{Refusal}
-use Rattle.bt_top.specs.Designs.{IsBareDesign}
+use Rattle.bt_designs.specs.declared.refusal.Refusal.{Refusal}
+use Rattle.bt_designs.specs.Designs.{IsBareDesign}
 use Rattle.bt_top.specs.Replies.{Reply}
 use Rattle.bt_top.specs.SameCertificates.{IsSameCertified, IsSameCertificateChecked, IsSameTextChecked, IsSameChecked, IsPairTextJudged, SaysSame}
-use Rattle.bt_top.specs.Steps.{stopped, went_on}
-use Rattle.bt_top.specs.inner.Fronts.{MayFollow, TellsLine, IsFrontOf, steps_answer}
+use Rattle.bt_designs.specs.Steps.{stopped, went_on}
+use Rattle.bt_designs.specs.Told.{MayFollow, TellsLine}
+use Rattle.bt_top.specs.inner.Fronts.{IsFrontOf, steps_answer}
 use Rattle.bt_top.specs.inner.PairParts.{IsBehindFirstChecked, IsSecondChecked}
 use Rattle.bt_top.proofs.Fronts.{known_front, line_cuts, line_goes}
 use Rattle.bt_top.proofs.SameCertified.{same_shown}
-use Rattle.bt_top.proofs.TwoFollowed.{drop_past}
+use Rattle.bt_designs.proofs.TwoFollowed.{drop_past}
 
 -- ---- the designs
 

@@ -27,7 +27,7 @@ use Rattle.bt_words.specs.declared.command.NetworkFamily.TheVariants.{Butterfly,
 use Rattle.bt_top.specs.declared.making.Made as making
 use Rattle.bt_top.specs.declared.answer.Answer.{Answer}
 use Rattle.bt_top.specs.declared.answer.Answer.TheVariants.{Breaks, Yes, No, Recovered, Proved, Broken, GaveUp, Made, LaidOut, Nowhere, NoLayout, Least, Small, Usage, Refused, WideState, CertLine, BadStep, NoVerdict, CertWide, NotBreaking, TooLong, FlowFormula, PlaceFormula, Same, Differ, ShownSame, ShownDiffer, NotDiffering, WidePair}
-use Rattle.bt_top.specs.Refusals.{refusal_text}
+use Rattle.bt_designs.specs.Refusals.{refusal_text}
 
 -- the status of a network that was made: 0 where it is balanced, and 1 where it isn't
 abbrev pub made_status : making.Made → ℕ
@@ -63,7 +63,7 @@ status_of (Made made) = made_status made
 status_of (LaidOut parts) = 0
 status_of (Nowhere log) = 1
 status_of NoLayout = 1
-status_of (Least found) = least_status found
+status_of (Least first found) = least_status found
 status_of (Small found) = small_status found
 status_of Usage = 2
 status_of (Refused r) = 3
@@ -143,7 +143,7 @@ text_of (Made made) = made_text made
 text_of (LaidOut parts) = blueprint_text parts.items
 text_of (Nowhere log) = nowhere_text log.steps
 text_of NoLayout = line none_word
-text_of (Least found) = smallest_text found
+text_of (Least first found) = smallest_text first found
 text_of (Small found) = small_text found
 text_of Usage = line (codes "usage")
 text_of (Refused r) = line (codes "refused " ++ refusal_text r)

@@ -12,34 +12,34 @@ use Rattle.bt_theory.specs.Reaching.{atom_rows, columns_of}
 use Rattle.bt_model.specs.Requests.{LayoutRequest}
 use Rattle.bt_place.specs.PlaceFormula.{place_formula}
 use Rattle.bt_parts.specs.declared.part.Rect.{Rect}
-use Rattle.bt_layout.specs.Grids.{IsWithin}
+use Rattle.bt_layout.specs.Grids.{IsSkipped, IsWithin}
 use Rattle.bt_layout.specs.Smallest.{request_on}
 use Rattle.bt_words.specs.declared.command.Command.{Command}
 use Rattle.bt_words.specs.declared.command.Command.TheVariants.{Decide, Make, Layout, Smallest, Same}
 use Rattle.bt_words.specs.declared.command.NetworkFamily.TheVariants.{Butterfly, Chain}
 use Rattle.bt_words.specs.Commands.{IsCommand}
 use Rattle.bt_top.specs.declared.answer.Answer.{Answer}
-use Rattle.bt_top.specs.Alone.{IsLoneNet}
+use Rattle.bt_designs.specs.Alone.{IsLoneNet}
 use Rattle.bt_top.specs.Answering.{IsRightTo}
 use Rattle.bt_top.specs.Answers.{status_of}
 use Rattle.bt_top.specs.Endings.{Ends}
 use Rattle.bt_top.specs.Inputs.{IsInput}
-use Rattle.bt_top.specs.Requested.{IsLoneRequest}
-use Rattle.bt_top.specs.Searching.{IsSidedRequest}
-use Rattle.bt_top.specs.TwoDesigns.{IsTwoNets}
+use Rattle.bt_designs.specs.Requested.{IsLoneRequest}
+use Rattle.bt_designs.specs.Requested.{IsSidedRequest}
+use Rattle.bt_designs.specs.TwoDesigns.{IsTwoNets}
 
 -- so many steps may be logged in deciding the formula: 3 ^ v or more, where it has v variables
 abbrev pub IsAmple : FormulaParts → ℕ → Type 0
 IsAmple f learnt = 3 ^ f.vars ≤ learnt
 
--- the command may log that many steps of the formula that it decides: the flow formula of the design's network or of the chain that is made, or the placement formula of the request, or of the network on each grid, or the formula of two networks; a butterfly takes none
+-- the command may log that many steps of the formula that it decides: the flow formula of the design's network or of the chain that is made, or the placement formula of the request, or of the network on each grid that isn't passed by, or the formula of two networks; a butterfly takes none
 abbrev pub HasAmple : Command → List ℕ → Type 0
 HasAmple (Decide p limits) bytes = (n : Network) × IsLoneNet bytes (Ok n) × IsAmple (flow_formula n p) limits.learnt
 HasAmple (Make Butterfly order limits) bytes = Unit {0}
 HasAmple (Make Chain order limits) bytes = IsAmple (flow_formula (chain_net order) Balanced) limits.learnt
 HasAmple (Layout rect tier learnt) bytes = (r : LayoutRequest) × IsLoneRequest rect tier bytes (Ok r) × IsAmple (place_formula r) learnt
-HasAmple (Smallest most tier learnt) bytes =
-    (r : LayoutRequest) × IsSidedRequest most tier bytes (Ok r) × ((grid : Rect) → IsWithin most grid → IsAmple (place_formula (request_on r grid)) learnt)
+HasAmple (Smallest first most tier learnt) bytes =
+    (r : LayoutRequest) × IsSidedRequest most tier bytes (Ok r) × ((grid : Rect) → IsWithin most grid → (IsSkipped first grid → ⊥) → IsAmple (place_formula (request_on r grid)) learnt)
 HasAmple (Same limits) bytes = (nets : Network × Network) × IsTwoNets bytes (Ok nets) × IsAmple (same_formula nets.0 nets.1) limits.learnt
 HasAmple other bytes = ⊥
 

@@ -11,10 +11,10 @@ use Rattle.bt_cert.specs.declared.fault.CertFault.{CertFault}
 use Rattle.bt_cert.specs.declared.fault.CertFault.TheVariants as cert
 use Rattle.bt_cert.specs.Certificates.{IsCertRead}
 use Rattle.bt_top.specs.declared.answer.Answer.TheVariants as answer
-use Rattle.bt_top.specs.Designs.{IsDesign}
+use Rattle.bt_designs.specs.Designs.{IsDesign}
 use Rattle.bt_top.specs.Replies.{Reply, design_told}
 use Rattle.bt_top.specs.States.{IsStateJudged}
-use Rattle.bt_top.specs.Steps.{InTurn}
+use Rattle.bt_designs.specs.Steps.{InTurn}
 
 -- why steps are no certificate; a text that is at hand whole has no fault of a source
 abbrev pub cert_told : CertFault → Reply

@@ -8,8 +8,8 @@ use Rattle.bt_decide.specs.Verdicts.{IsSameVerdict}
 use Rattle.bt_top.specs.declared.answer.Answer.{Answer}
 use Rattle.bt_top.specs.declared.answer.Answer.TheVariants as answer
 use Rattle.bt_top.specs.Replies.{Reply, design_told}
-use Rattle.bt_top.specs.Steps.{InTurn}
-use Rattle.bt_top.specs.TwoDesigns.{IsTwoNets}
+use Rattle.bt_designs.specs.Steps.{InTurn}
+use Rattle.bt_designs.specs.TwoDesigns.{IsTwoNets}
 
 -- what is answered to a verdict on two networks
 abbrev pub same_told : SameVerdict → Answer

@@ -8,9 +8,9 @@ use Rattle.bt_decide.specs.declared.verdict.Verdict.TheVariants.{Yes, No, GaveUp
 use Rattle.bt_decide.specs.Verdicts.{IsVerdict}
 use Rattle.bt_top.specs.declared.answer.Answer.{Answer}
 use Rattle.bt_top.specs.declared.answer.Answer.TheVariants as answer
-use Rattle.bt_top.specs.Alone.{IsLoneNet}
+use Rattle.bt_designs.specs.Alone.{IsLoneNet}
 use Rattle.bt_top.specs.Replies.{Reply, design_told}
-use Rattle.bt_top.specs.Steps.{InTurn}
+use Rattle.bt_designs.specs.Steps.{InTurn}
 
 -- what is answered to a verdict on a property
 abbrev pub verdict_told : Property → Verdict → Answer

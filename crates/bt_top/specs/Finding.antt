@@ -15,13 +15,19 @@ use Rattle.bt_layout.specs.declared.outcome.Small.TheVariants.{Found, Spent}
 use Rattle.bt_layout.specs.Grids.{area_of}
 use Rattle.bt_layout.specs.Small.{IsSmall}
 use Rattle.bt_words.specs.declared.command.AskedSides.{AskedSides}
+use Rattle.bt_words.specs.declared.command.AskedSides.TheVariants.{Any, Kept}
 use Rattle.bt_top.specs.declared.answer.Answer.TheVariants as answer
-use Rattle.bt_top.specs.declared.fault.DesignFault.{DesignFault}
-use Rattle.bt_top.specs.Designs.{IsJsonText}
+use Rattle.bt_designs.specs.declared.fault.DesignFault.{DesignFault}
+use Rattle.bt_designs.specs.Designs.{IsJsonText}
 use Rattle.bt_top.specs.Replies.{Reply, design_told}
-use Rattle.bt_top.specs.Kept.{IsDrawnRequest}
-use Rattle.bt_top.specs.Searching.{IsSidedRequest}
-use Rattle.bt_top.specs.Steps.{InTurn}
+use Rattle.bt_designs.specs.Kept.{IsKeptRequest}
+use Rattle.bt_designs.specs.Requested.{IsLoneRequest, IsSidedRequest}
+use Rattle.bt_designs.specs.Steps.{InTurn}
+
+-- what comes of bytes that are to be a blueprint alone, whose ends are asked to stand at these sides
+abbrev pub IsDrawnRequest : AskedSides → Rect → Tier → List ℕ → Result LayoutRequest DesignFault → Type 0
+IsDrawnRequest Any rect tier bytes = IsLoneRequest rect tier bytes
+IsDrawnRequest Kept rect tier bytes = IsKeptRequest rect tier bytes
 
 -- what comes of bytes that are to be a design alone, for parts of a tier on the greatest grid: what `layout` takes or refuses of a blueprint, whose ends are asked to stand at these sides, and what `smallest` does of a network text
 abbrev pub IsDesignRequest : AskedSides → Rect → Tier → List ℕ → Result LayoutRequest DesignFault → Type 0

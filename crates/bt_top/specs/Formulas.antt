@@ -11,10 +11,10 @@ use Rattle.bt_place.specs.PlaceFormula.{place_formula, sizes_of}
 use Rattle.bt_dimacs.specs.declared.columns.Columns.{Columns}
 use Rattle.bt_top.specs.declared.answer.Answer.{Answer}
 use Rattle.bt_top.specs.declared.answer.Answer.TheVariants as answer
-use Rattle.bt_top.specs.Alone.{IsLoneNet}
+use Rattle.bt_designs.specs.Alone.{IsLoneNet}
 use Rattle.bt_top.specs.Replies.{Reply, design_told}
-use Rattle.bt_top.specs.Requested.{IsLoneRequest}
-use Rattle.bt_top.specs.Steps.{InTurn}
+use Rattle.bt_designs.specs.Requested.{IsLoneRequest}
+use Rattle.bt_designs.specs.Steps.{InTurn}
 
 -- the columns of a network's flow formulas
 abbrev pub columns_of : Network → Columns

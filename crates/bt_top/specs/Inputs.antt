@@ -7,7 +7,8 @@ use Rattle.bt_io.specs.declared.fault.ReadAll.TheVariants.{ReadFault, TooLong, M
 use Rattle.bt_words.specs.declared.command.Command.{Command}
 use Rattle.bt_words.specs.declared.command.Command.TheVariants.{FlowCheck, Recover, Check, Decide, Make, Layout, CheckLayout, Smallest, FindSmall, FlowFormula, PlaceFormula, Same, CheckSame}
 use Rattle.bt_words.specs.Commands.{IsCommand}
-use Rattle.bt_top.specs.declared.input.TheConstants.{MOST_CHECKED, MOST_OF_DESIGN, MOST_OF_TWO}
+use Rattle.bt_designs.specs.declared.held.TheConstants.{MOST_CHECKED}
+use Rattle.bt_top.specs.declared.input.TheConstants.{MOST_OF_DESIGN, MOST_OF_TWO}
 
 -- no byte was taken or given, and no fault counted
 abbrev pub IsUntouched : Passage → Type 0
@@ -22,7 +23,7 @@ input_limit (Decide p limits) = MOST_OF_DESIGN
 input_limit (Make family order limits) = 0
 input_limit (Layout rect tier learnt) = MOST_OF_DESIGN
 input_limit (CheckLayout rect tier) = MOST_CHECKED
-input_limit (Smallest most tier learnt) = MOST_OF_DESIGN
+input_limit (Smallest first most tier learnt) = MOST_OF_DESIGN
 input_limit (FindSmall most tier sides learnt) = MOST_OF_DESIGN
 input_limit (FlowFormula p) = MOST_OF_DESIGN
 input_limit (PlaceFormula rect tier) = MOST_OF_DESIGN

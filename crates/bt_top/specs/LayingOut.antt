@@ -11,8 +11,8 @@ use Rattle.bt_layout.specs.Layouts.{IsLayout}
 use Rattle.bt_top.specs.declared.answer.Answer.{Answer}
 use Rattle.bt_top.specs.declared.answer.Answer.TheVariants as answer
 use Rattle.bt_top.specs.Replies.{Reply, design_told}
-use Rattle.bt_top.specs.Requested.{IsLoneRequest}
-use Rattle.bt_top.specs.Steps.{InTurn}
+use Rattle.bt_designs.specs.Requested.{IsLoneRequest}
+use Rattle.bt_designs.specs.Steps.{InTurn}
 
 -- what is answered to what a search for a layout comes to
 abbrev pub layout_told : Layout → Answer

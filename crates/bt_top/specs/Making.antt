@@ -18,9 +18,9 @@ use Rattle.bt_words.specs.declared.command.NetworkFamily.{NetworkFamily}
 use Rattle.bt_words.specs.declared.command.NetworkFamily.TheVariants.{Butterfly, Chain}
 use Rattle.bt_top.specs.declared.answer.Answer.{Answer}
 use Rattle.bt_top.specs.declared.answer.Answer.TheVariants as answer
-use Rattle.bt_top.specs.declared.refusal.Refusal.TheVariants as refusal
+use Rattle.bt_designs.specs.declared.refusal.Refusal.TheVariants as refusal
 use Rattle.bt_top.specs.Replies.{Reply}
-use Rattle.bt_top.specs.Steps.{InTurn}
+use Rattle.bt_designs.specs.Steps.{InTurn}
 
 -- what is said of a network that was made
 abbrev pub made_of : NetworkFamily → ℕ → Network → Bool → Answer

@@ -14,8 +14,8 @@ use Rattle.bt_top.specs.declared.answer.Answer.TheVariants as answer
 use Rattle.bt_top.specs.Answers.{none_word, nowhere_text}
 use Rattle.bt_top.specs.Certificates.{cert_told}
 use Rattle.bt_top.specs.Replies.{Reply, design_told}
-use Rattle.bt_top.specs.Requested.{IsFrontRequest}
-use Rattle.bt_top.specs.Steps.{InTurn}
+use Rattle.bt_designs.specs.Requested.{IsFrontRequest}
+use Rattle.bt_designs.specs.Steps.{InTurn}
 
 -- the text's first line says that there is no layout, and this follows it
 abbrev pub SaysNone : List ℕ → List ℕ → Type 0

@@ -7,7 +7,7 @@ use Rattle.bt_log.specs.declared.log.Log.{Log}
 use Rattle.bt_cnf.specs.declared.limits.Limits.{Limits}
 use Rattle.bt_top.specs.declared.answer.Answer.{Answer}
 use Rattle.bt_top.specs.declared.answer.Answer.TheVariants.{Yes, No, Proved, Broken, WideState}
-use Rattle.bt_top.specs.declared.input.TheConstants.{MOST_CHECKED}
+use Rattle.bt_designs.specs.declared.held.TheConstants.{MOST_CHECKED}
 use Rattle.bt_top.specs.Answers.{text_of}
 use Rattle.bt_top.specs.Certificates.{IsCertified}
 use Rattle.bt_top.specs.Deciding.{IsDecidedFrom}

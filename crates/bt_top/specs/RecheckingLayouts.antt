@@ -4,7 +4,7 @@ use Rattle.bt_parts.specs.declared.part.Rect.{Rect}
 use Rattle.bt_parts.specs.declared.part.Tier.{Tier}
 use Rattle.bt_log.specs.declared.log.Log.{Log}
 use Rattle.bt_top.specs.declared.answer.Answer.TheVariants.{Nowhere, NoLayout}
-use Rattle.bt_top.specs.declared.input.TheConstants.{MOST_CHECKED}
+use Rattle.bt_designs.specs.declared.held.TheConstants.{MOST_CHECKED}
 use Rattle.bt_top.specs.LayingOut.{IsLaidOutFrom}
 use Rattle.bt_top.specs.NoneCertificates.{IsLayoutChecked}
 use Rattle.bt_top.specs.Rechecking.{followed_by}

@@ -1,13 +1,13 @@
 -- What `check-layout` answers to what `smallest` wrote.
-use Rattle.std.specs.Prelude.{◌≡◌, ℕ, ◌≤◌, List, [], ◌∷◌, ◌++◌, All, length, Ok}
+use Rattle.std.specs.Prelude.{◌≡◌, ℕ, ◌≤◌, List, [], ◌∷◌, ◌++◌, All, length, Option, Ok}
 use Rattle.bt_parts.specs.declared.part.Rect.{Rect}
 use Rattle.bt_parts.specs.declared.part.Tier.{Tier}
 use Rattle.bt_layout.specs.declared.outcome.RuledOut.{RuledOut}
 use Rattle.bt_layout.specs.declared.outcome.Smallest.{Smallest}
 use Rattle.bt_layout.specs.declared.outcome.Smallest.TheVariants.{Found, Nowhere, Spent}
-use Rattle.bt_layout.specs.SmallestText.{nowhere_text, earlier_text}
+use Rattle.bt_layout.specs.SmallestText.{nowhere_text, earlier_text, from_line}
 use Rattle.bt_top.specs.declared.answer.Answer.TheVariants as answer
-use Rattle.bt_top.specs.declared.input.TheConstants.{MOST_CHECKED}
+use Rattle.bt_designs.specs.declared.held.TheConstants.{MOST_CHECKED}
 use Rattle.bt_top.specs.Answers.{text_of}
 use Rattle.bt_top.specs.NoneCertificates.{IsLayoutChecked}
 use Rattle.bt_top.specs.Searching.{IsSearchedFrom}
@@ -23,11 +23,11 @@ abbrev pub IsAccepted : Tier → List ℕ → RuledOut → Type 0
 IsAccepted tier bytes one = length (bytes ++ 10 ∷ nowhere_text one.log.steps) ≤ MOST_CHECKED
     → IsLayoutChecked one.grid tier (bytes ++ 10 ∷ nowhere_text one.log.steps) (Ok answer.NoLayout)
 
--- the text begins with the lines and certificates of these grids
-abbrev pub BeginsWithGrids : List ℕ → List RuledOut → Type 0
-BeginsWithGrids text ones = (rest : List ℕ) × (text ≡ earlier_text ones ++ rest)
+-- the text begins with the line of the first grid, where one is named, and the lines and certificates of these
+abbrev pub BeginsWithGrids : Option Rect → List ℕ → List RuledOut → Type 0
+BeginsWithGrids first text ones = (rest : List ℕ) × (text ≡ from_line first ++ earlier_text ones ++ rest)
 
--- what `smallest` writes begins with the lines of grids and their certificates, and each certificate is accepted behind the network text
+-- what `smallest` writes begins with the line of the grid with which it begins, where one is named, and the lines of grids and their certificates, and each certificate is accepted behind the network text
 abbrev pub LeastIsChecked : Type 0
-LeastIsChecked = (most : Rect) (tier : Tier) (learnt : ℕ) (bytes : List ℕ) (found : Smallest) → IsSearchedFrom most tier learnt bytes (Ok (answer.Least found))
-    → BeginsWithGrids (text_of (answer.Least found)) (certified_in found) × All (IsAccepted tier bytes) (certified_in found)
+LeastIsChecked = (first : Option Rect) (most : Rect) (tier : Tier) (learnt : ℕ) (bytes : List ℕ) (found : Smallest)
+    → IsSearchedFrom first most tier learnt bytes (Ok (answer.Least first found)) → BeginsWithGrids first (text_of (answer.Least first found)) (certified_in found) × All (IsAccepted tier bytes) (certified_in found)

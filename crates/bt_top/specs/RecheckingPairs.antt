@@ -6,7 +6,7 @@ use Rattle.bt_same.specs.declared.pair.Pair.{Pair}
 use Rattle.bt_same.specs.declared.pair.Which.{Which}
 use Rattle.bt_cnf.specs.declared.limits.Limits.{Limits}
 use Rattle.bt_top.specs.declared.answer.Answer.TheVariants.{Same, Differ, ShownSame, ShownDiffer, WidePair}
-use Rattle.bt_top.specs.declared.input.TheConstants.{MOST_CHECKED}
+use Rattle.bt_designs.specs.declared.held.TheConstants.{MOST_CHECKED}
 use Rattle.bt_top.specs.Comparing.{IsComparedFrom}
 use Rattle.bt_top.specs.Rechecking.{followed_by}
 use Rattle.bt_top.specs.Replies.{Reply}

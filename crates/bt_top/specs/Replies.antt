@@ -3,8 +3,8 @@ use Rattle.std.specs.Prelude.{Result, Ok, Err, alloc_error}
 use Rattle.std.specs.declared.alloc.AllocError.{AllocError}
 use Rattle.bt_top.specs.declared.answer.Answer.{Answer}
 use Rattle.bt_top.specs.declared.answer.Answer.TheVariants as answer
-use Rattle.bt_top.specs.declared.fault.DesignFault.{DesignFault}
-use Rattle.bt_top.specs.declared.fault.DesignFault.TheVariants as design
+use Rattle.bt_designs.specs.declared.fault.DesignFault.{DesignFault}
+use Rattle.bt_designs.specs.declared.fault.DesignFault.TheVariants as design
 
 -- what is answered, or that memory ran out
 abbrev pub Reply : Type 0

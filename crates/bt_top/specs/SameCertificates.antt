@@ -17,8 +17,8 @@ use Rattle.bt_top.specs.declared.answer.Answer.TheVariants as answer
 use Rattle.bt_top.specs.Certificates.{cert_told}
 use Rattle.bt_top.specs.Replies.{Reply, design_told}
 use Rattle.bt_top.specs.States.{state_told}
-use Rattle.bt_top.specs.Steps.{InTurn}
-use Rattle.bt_top.specs.TwoDesigns.{IsFrontNets}
+use Rattle.bt_designs.specs.Steps.{InTurn}
+use Rattle.bt_designs.specs.TwoDesigns.{IsFrontNets}
 
 -- the text's first line says that the networks behave the same, and this follows it
 abbrev pub SaysSame : List ℕ → List ℕ → Type 0

@@ -13,9 +13,9 @@ use Rattle.bt_flow.specs.States.{Fractions}
 use Rattle.bt_flow.specs.StateReading.{IsStateRead}
 use Rattle.bt_top.specs.declared.answer.Answer.{Answer}
 use Rattle.bt_top.specs.declared.answer.Answer.TheVariants as answer
-use Rattle.bt_top.specs.Designs.{IsDesign}
+use Rattle.bt_designs.specs.Designs.{IsDesign}
 use Rattle.bt_top.specs.Replies.{Reply, design_told}
-use Rattle.bt_top.specs.Steps.{InTurn}
+use Rattle.bt_designs.specs.Steps.{InTurn}
 
 -- the line at which a text stops to be that of a state
 abbrev pub state_told : StateFault → Reply

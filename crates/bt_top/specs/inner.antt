@@ -1,12 +1,9 @@
 -- What private functions tell of their results: definitions that no public clause cites.
-pub mod Behind
 pub mod Claims
-pub mod Found
 pub mod Fronts
 pub mod Gathering
 pub mod Grids
 pub mod Lines
-pub mod Moved
 pub mod PairParts
 pub mod RequestParts
 pub mod Spans

@@ -3,17 +3,16 @@ ghost use Rattle.std.specs.Prelude.{◌≡◌};
 ghost use Rattle.bt_top.specs.Answers.{gave_up_status, least_status, small_status, status_of};
 ghost use Rattle.bt_top.specs.Replies.{design_told};
 
-use crate::fault::DesignFault;
 use crate::making::Made;
-use crate::refusal::Refusal;
 use bt_cert::Cause;
 use bt_cnf::Formula;
+use bt_designs::{DesignFault, Refusal};
 use bt_dimacs::Columns;
 use bt_flow::{Property, State, Test};
 use bt_layout::{Small, Smallest};
 use bt_log::Log;
 use bt_net::Net;
-use bt_parts::Part;
+use bt_parts::{Part, Rect};
 use bt_place::Starts;
 use bt_same::{Pair, Which};
 use bt_theory::GaveUp;
@@ -44,8 +43,9 @@ pub enum Answer {
     Nowhere(Log),
     /// The certificate shows that no parts lay the request.
     NoLayout,
-    /// What a search for the least grid on which parts show a network comes to.
-    Least(Smallest),
+    /// With which grid a search for the least grid began on which parts show a network, where one was named, and what it
+    /// came to.
+    Least(Option<Rect>, Smallest),
     /// What looking for small grids on which parts show a network comes to.
     Small(Small),
     /// The words are no command.
@@ -106,7 +106,7 @@ impl Answer {
             | Answer::Differ(_)
             | Answer::ShownDiffer => 1,
             Answer::Made(made) => made.status(),
-            Answer::Least(found) => least_status(found),
+            Answer::Least(_, found) => least_status(found),
             Answer::Small(found) => small_status(found),
             Answer::Usage => 2,
             Answer::Refused(_) => 3,

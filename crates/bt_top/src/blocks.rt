@@ -2,7 +2,7 @@
 //! are held, of blanks before a design none, and of an input whose answer is known only what tells it.
 ghost use Rattle.std.specs.Prelude.{◌+◌, ◌≤◌, length};
 ghost use Rattle.bt_io.specs.Passages.{passage};
-ghost use Rattle.bt_top.specs.declared.input.TheConstants.{MOST_CHECKED};
+ghost use Rattle.bt_designs.specs.declared.held.TheConstants.{MOST_CHECKED};
 ghost use Rattle.bt_top.specs.inner.Claims.{HasClaimedGrid, IsClaimed};
 ghost use Rattle.bt_top.specs.inner.Fronts.{AnswersLeft, GivesHeldFront};
 
@@ -11,10 +11,9 @@ use crate::claim::CertificateClaim;
 use crate::flow_front::flow_front;
 use crate::front::Front;
 use crate::front_answer::answer_behind;
-use crate::held::{Gathered, Held, gather_on};
-use crate::input::MOST_CHECKED;
 use crate::layout_front::layout_front;
 use crate::same_front::same_front;
+use bt_designs::{Gathered, Held, MOST_CHECKED, gather_on};
 use bt_io::{ReadAll, Source};
 use std::alloc::{AllocError, Global};
 

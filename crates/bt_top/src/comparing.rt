@@ -5,9 +5,9 @@ ghost use Rattle.bt_same.specs.Sameness.{HaveEqualEnds};
 ghost use Rattle.bt_top.specs.Comparing.{IsCompared, IsComparedFrom, same_told};
 
 use crate::answer::{Answer, refused};
-use crate::two_designs::read_two;
 use bt_cnf::{Chooser, Limits};
 use bt_decide::{SameVerdict, decide_same};
+use bt_designs::read_two;
 use bt_net::Net;
 use std::alloc::{AllocError, Global};
 

@@ -3,10 +3,10 @@ ghost use Rattle.std.specs.Prelude.{◌≡◌, alloc_error};
 ghost use Rattle.bt_answers.specs.Answers.{UnlessMemory};
 ghost use Rattle.bt_top.specs.Deciding.{IsDecided, IsDecidedFrom, verdict_told};
 
-use crate::alone::read_alone;
 use crate::answer::{Answer, refused};
 use bt_cnf::{Chooser, Limits};
 use bt_decide::{Verdict, decide};
+use bt_designs::read_alone;
 use bt_flow::Property;
 use bt_net::Net;
 use std::alloc::{AllocError, Global};

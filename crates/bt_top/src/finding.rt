@@ -1,20 +1,16 @@
 //! `smallest --found`: small grids on which parts that show a design's network are found.
 ghost use Rattle.std.specs.Prelude.{[], ◌∷◌, ◌++◌, Contains, IfOk, List, alloc_error};
 ghost use Rattle.bt_answers.specs.Answers.{UnlessMemory};
-ghost use Rattle.bt_net.specs.Network.{HasNoPriorities};
 ghost use Rattle.bt_parts.specs.Cells.{IsInRange};
 ghost use Rattle.bt_parts.specs.Layouts.{AreInRange};
 ghost use Rattle.bt_parts.specs.declared.part.Part.{Part as APart};
 ghost use Rattle.bt_model.specs.Requests.{IsGrid, IsRequest};
 ghost use Rattle.bt_layout.specs.Smallest.{NamesNoCells};
-ghost use Rattle.bt_top.specs.Finding.{IsDesignRequest, IsFound, IsFoundFrom, IsOwn, IsSpanned};
+ghost use Rattle.bt_top.specs.Finding.{IsDesignRequest, IsDrawnRequest, IsFound, IsFoundFrom, IsOwn, IsSpanned};
 ghost use Rattle.bt_top.specs.inner.Spans.{Encloses, IsNear, IsSpanOf};
 
 use crate::answer::{Answer, refused};
-use crate::design::is_json;
-use crate::fault::DesignFault;
-use crate::kept::read_drawn_request;
-use crate::least::read_sided_request;
+use bt_designs::{DesignFault, is_json, read_kept_request, read_lone_request, read_sided_request};
 use bt_entities::parts_of;
 use bt_layout::find_small;
 use bt_model::Request;
@@ -59,6 +55,23 @@ fn read_design_request(
     }
 }
 
+/// The request for the blueprint that the bytes are, with its ends at these sides, and blanks behind it.
+fn read_drawn_request(
+    alloc: Global,
+    sides: AskedSides,
+    rect: Rect,
+    tier: Tier,
+    bytes: &[u8],
+) -> Result<Request, DesignFault>
+    requires { IsGrid rect }
+    ensures { UnlessMemory DesignFault.Memory (IsDrawnRequest sides rect tier bytes.now) result }
+{
+    match sides {
+        AskedSides::Any => read_lone_request(alloc, rect, tier, bytes),
+        AskedSides::Kept => read_kept_request(alloc, rect, tier, bytes),
+    }
+}
+
 /// The answer to a request on the greatest grid, where the bytes are the design.
 fn found_of(
     alloc: Global,
@@ -68,7 +81,6 @@ fn found_of(
 ) -> Result<Answer, AllocError>
     requires request { IsRequest request.now }
     requires cells { NamesNoCells request.now }
-    requires plain { HasNoPriorities request.now.net }
     ensures { UnlessMemory alloc_error (IsFound bytes.now learnt request.now) result }
 {
     let cells = own_cells(alloc, bytes)?;

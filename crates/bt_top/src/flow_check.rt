@@ -5,7 +5,7 @@ ghost use Rattle.bt_flow.specs.States.{Fits};
 ghost use Rattle.bt_top.specs.States.{IsChecked, IsStateChecked, IsStateJudged, IsJudged, state_told};
 
 use crate::answer::{Answer, refused};
-use crate::design::read_design;
+use bt_designs::read_design;
 use bt_flow::{Judgement, Property, State, StateFault, WideSum, breaks, read_state};
 use bt_net::Net;
 use bt_text::skip_blanks;

@@ -2,14 +2,14 @@
 ghost use Rattle.std.specs.Prelude.{◌≡◌, ◌++◌, ◌+◌, ◌≤◌, ◌↔◌, Bool, IsTrue, codes, length};
 ghost use Rattle.bt_net.specs.Network.{IsNetwork};
 ghost use Rattle.bt_flow.specs.Names.{property_name};
-ghost use Rattle.bt_top.specs.declared.input.TheConstants.{MOST_CHECKED};
+ghost use Rattle.bt_designs.specs.declared.held.TheConstants.{MOST_CHECKED};
 ghost use Rattle.bt_top.specs.Certificates.{IsCertificateChecked, IsCertified, IsTextChecked};
-ghost use Rattle.bt_top.specs.inner.Fronts.{GivesFront, GivesHeldFront, TellsLine};
+ghost use Rattle.bt_designs.specs.Told.{TellsLine};
+ghost use Rattle.bt_top.specs.inner.Fronts.{GivesFront, GivesHeldFront};
 
 use crate::answer::Answer;
 use crate::front::{Front, Steps, WrittenState, known_refusal};
-use crate::held::Held;
-use crate::told::{told_design, told_line};
+use bt_designs::{Held, told_design, told_line};
 use bt_fenc::encode;
 use bt_flow::Property;
 use bt_net::Net;

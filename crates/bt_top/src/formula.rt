@@ -5,9 +5,8 @@ ghost use Rattle.bt_model.specs.Requests.{IsGrid};
 ghost use Rattle.bt_top.specs.Formulas.{IsFlowFormulaFrom, IsPlaceFormulaFrom};
 ghost use Rattle.bt_top.specs.Formulas.{columns_of, flow_formula_told, place_formula_told};
 
-use crate::alone::read_alone;
 use crate::answer::{Answer, refused};
-use crate::request::read_lone_request;
+use bt_designs::{read_alone, read_lone_request};
 use bt_dimacs::Columns;
 use bt_fenc::encode;
 use bt_flow::Property;

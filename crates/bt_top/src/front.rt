@@ -3,8 +3,8 @@ ghost use Rattle.std.specs.Prelude.{IfOk, MatchOption};
 ghost use Rattle.bt_top.specs.inner.Fronts.{TellsRefusal};
 
 use crate::answer::Answer;
-use crate::fault::DesignFault;
 use bt_cnf::Formula;
+use bt_designs::DesignFault;
 use bt_flow::Property;
 use bt_net::Net;
 use std::alloc::AllocError;

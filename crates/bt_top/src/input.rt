@@ -4,13 +4,10 @@ ghost use Rattle.bt_answers.specs.Answers.{seen};
 ghost use Rattle.bt_io.specs.Passages.{passage};
 ghost use Rattle.bt_top.specs.Inputs.{ReadsInput, ReadsNothing, input_limit};
 
+use bt_designs::MOST_CHECKED;
 use bt_io::{ReadAll, Source, read_all};
 use bt_words::Command;
 use std::alloc::Global;
-
-/// The most bytes that `flow-check`, `check`, `check-layout` and `check-same` read: a written state or a certificate may
-/// be long.
-pub const MOST_CHECKED: usize = 1_073_741_824;
 
 /// The most bytes that a command reads which wants one design or one request alone.
 pub const MOST_OF_DESIGN: usize = 16_777_216;

@@ -3,15 +3,16 @@ ghost use Rattle.std.specs.Prelude.{◌≡◌};
 ghost use Rattle.bt_top.specs.Answering.{OneRightAnswer};
 ghost use Rattle.bt_top.specs.Budgets.{AmpleIsNeverSpent, AmpleNeverEndsSpent};
 ghost use Rattle.bt_top.specs.Budgets.{AmpleTurnsAreNeverMade, AmpleTurnsNeverEndMade};
-ghost use Rattle.bt_top.specs.Longer.{DesignStays, RefusalStays};
+ghost use Rattle.bt_designs.specs.Longer.{DesignStays, RefusalStays};
 ghost use Rattle.bt_top.specs.NoneCertificates.{NoneIsAccepted};
 ghost use Rattle.bt_top.specs.Rechecking.{ProofIsChecked, StateIsChecked};
 ghost use Rattle.bt_top.specs.RecheckingLayouts.{NoneIsChecked};
 ghost use Rattle.bt_top.specs.RecheckingLeast.{LeastIsChecked};
 ghost use Rattle.bt_top.specs.RecheckingPairs.{SameIsChecked, DifferenceIsChecked};
 
-use crate::input::{MOST_CHECKED, MOST_OF_DESIGN, MOST_OF_TWO};
+use crate::input::{MOST_OF_DESIGN, MOST_OF_TWO};
 use crate::program::{NO_MEMORY, READ_FAULT, WRITE_FAULT};
+use bt_designs::MOST_CHECKED;
 
 /// What is read of the design at the front of bytes is read of longer ones that begin with them, where it
 /// doesn't rest on where the bytes end.
@@ -20,8 +21,8 @@ pub fn longer_is_read()
     ensures refused { RefusalStays }
 {}
 
-/// A command has one right answer to each input, but `decide`, `make` of a chain, `layout` and `same`, where others may be right,
-/// with other evidence; and what they refuse has no other answer either.
+/// A command has one right answer to each input, but `decide`, `make` of a chain, `layout`, `smallest` and `same`, where others
+/// may be right, with other evidence; and what they refuse has no other answer either.
 pub fn one_right_answer()
     ensures { OneRightAnswer }
 {}
@@ -44,8 +45,8 @@ pub fn none_is_accepted()
     ensures { NoneIsAccepted }
 {}
 
-/// What `smallest` writes begins with the line and the certificate of each grid before the one that it names, and behind
-/// the network text `check-layout` accepts each certificate with that grid.
+/// What `smallest` writes begins with the line of the grid with which it begins, where one is named, and then the line and
+/// the certificate of each grid before the one that it names, and behind the network text `check-layout` accepts each certificate with that grid.
 pub fn least_is_checked()
     ensures { LeastIsChecked }
 {}
@@ -57,8 +58,9 @@ pub fn compared_is_checked()
     ensures pair { DifferenceIsChecked }
 {}
 
-/// Where `--learnt` is 3 ^ v or more, for the v variables of the formula that `decide`, `make`, `same` or `layout`
-/// decides, no right answer is that the steps are used up, and the program doesn't end with that status.
+/// Where `--learnt` is 3 ^ v or more, for the v variables of the formula that `decide`, `make`, `same` or `layout` decides, or
+/// of each that `smallest` does, no right answer is that the steps are used up, and the program doesn't end with that
+/// status.
 pub fn ample_is_never_spent()
     ensures answers { AmpleIsNeverSpent }
     ensures endings { AmpleNeverEndsSpent }

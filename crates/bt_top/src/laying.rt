@@ -5,8 +5,8 @@ ghost use Rattle.bt_model.specs.Requests.{IsGrid, IsRequest};
 ghost use Rattle.bt_top.specs.LayingOut.{IsLaidOut, IsLaidOutFrom, layout_told};
 
 use crate::answer::{Answer, refused};
-use crate::request::read_lone_request;
 use bt_cnf::Chooser;
+use bt_designs::read_lone_request;
 use bt_layout::{Layout, layout};
 use bt_model::Request;
 use bt_parts::{Rect, Tier};

@@ -1,18 +1,17 @@
 //! What the front of an input tells of the answer of `check-layout`.
 ghost use Rattle.std.specs.Prelude.{◌≡◌, ◌+◌, ◌≤◌, ◌↔◌, ℕ, Bool, List, IsTrue, length};
 ghost use Rattle.bt_model.specs.Requests.{IsGrid, IsRequest};
-ghost use Rattle.bt_top.specs.declared.input.TheConstants.{MOST_CHECKED};
+ghost use Rattle.bt_designs.specs.declared.held.TheConstants.{MOST_CHECKED};
 ghost use Rattle.bt_top.specs.Answers.{none_word};
 ghost use Rattle.bt_top.specs.NoneCertificates.{IsLayoutChecked, IsNoneCertificateChecked, IsNoneTextChecked};
-ghost use Rattle.bt_top.specs.inner.Found.{pinned_of};
-ghost use Rattle.bt_top.specs.inner.Fronts.{GivesFront, GivesHeldFront, TellsLine};
+ghost use Rattle.bt_designs.specs.Found.{pinned_of};
+ghost use Rattle.bt_designs.specs.Told.{TellsLine};
+ghost use Rattle.bt_top.specs.inner.Fronts.{GivesFront, GivesHeldFront};
 ghost use Rattle.bt_top.specs.inner.RequestParts.{IsRequestChecked};
 
 use crate::answer::Answer;
 use crate::front::{Front, Steps, known_refusal};
-use crate::held::Held;
-use crate::request::{PinnedDesign, request_for};
-use crate::told::{told_line, told_pinned};
+use bt_designs::{Held, PinnedDesign, request_for, told_line, told_pinned};
 use bt_model::Request;
 use bt_parts::{Rect, Tier};
 use bt_place::encode_place;

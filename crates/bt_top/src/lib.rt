@@ -1,30 +1,25 @@
 //! All that the program does, over words, a source of bytes and a sink of bytes.
 //!
-//! `program` reads the words and the source and writes the answer; `design`, `alone`, `request`, `flow_check`, `recover`,
-//! `kept`, `decision`, `making`, `laying`, `least`, `finding`, `formula`, `two_designs` and `comparing` find the answer to an input
-//! that is read whole. `blocks` finds that of `check`, `check-layout` and `check-same` as the input is read into `held`: by
-//! what `told` tells of a design at its front, `flow_front`, `layout_front` and `same_front` give a `front`, and
-//! `front_answer` the answer that it tells, with `pair_check` of a pair of states. `text` and `printing` write answers.
+//! `program` reads the words and the source and writes the answer; `flow_check`, `recover`, `decision`, `making`, `laying`,
+//! `least`, `finding`, `formula` and `comparing` find the answer to an input that is read whole. `blocks` finds that of
+//! `check`, `check-layout` and `check-same` as the input is gathered: by what is told of a design at its front,
+//! `flow_front`, `layout_front` and `same_front` give a `front`, and `front_answer` the answer that it tells, with
+//! `pair_check` of a pair of states. `text` and `printing` write answers.
 #![tactic(auto)]
 
-mod alone;
 mod answer;
 mod blocks;
 mod choosers;
 mod claim;
 mod comparing;
 mod decision;
-mod design;
-mod fault;
 mod finding;
 mod flow_check;
 mod flow_front;
 mod formula;
 mod front;
 mod front_answer;
-mod held;
 mod input;
-mod kept;
 mod law;
 mod laying;
 mod layout_front;
@@ -34,16 +29,13 @@ mod pair_check;
 mod printing;
 mod program;
 mod recover;
-mod refusal;
-mod request;
 mod same_front;
 mod text;
-mod told;
-mod two_designs;
 
 pub use answer::Answer;
+pub use bt_designs::{MOST_CHECKED, Refusal};
 pub use choosers::Choosers;
-pub use input::{MOST_CHECKED, MOST_OF_DESIGN, MOST_OF_TWO};
+pub use input::{MOST_OF_DESIGN, MOST_OF_TWO};
 pub use law::{
     ample_is_never_spent, ample_turns_are_never_made, compared_is_checked, decided_is_checked,
     laid_out_is_checked, least_is_checked, longer_is_read, none_is_accepted, numbers_are,
@@ -51,5 +43,4 @@ pub use law::{
 };
 pub use making::Made;
 pub use program::{NO_MEMORY, READ_FAULT, WRITE_FAULT, run};
-pub use refusal::Refusal;
 pub use std::alloc::AllocError as Memory;

@@ -6,12 +6,12 @@ ghost use Rattle.bt_gen.specs.Chain.{chain_net};
 ghost use Rattle.bt_gen.specs.Orders.{IsGenerated};
 ghost use Rattle.bt_top.specs.Answers.{made_status};
 ghost use Rattle.bt_top.specs.Making.{IsMade, IsBalanceDecided, IsSaidBalanced, balance_told, gen_told, made_of};
-ghost use Rattle.bt_top.specs.Steps.{InTurn};
+ghost use Rattle.bt_designs.specs.Steps.{InTurn};
 
 use crate::answer::Answer;
-use crate::refusal::Refusal;
 use bt_cnf::{Chooser, Limits};
 use bt_decide::{Verdict, decide};
+use bt_designs::Refusal;
 use bt_flow::Property;
 use bt_gen::{GenFault, MOST_IN_CHAIN, MOST_STAGES, butterfly, chain};
 use bt_net::Net;

@@ -32,7 +32,7 @@ use bt_dimacs::{print_flow_formula, print_place_formula};
 use bt_flow::print_state;
 use bt_io::{ReadAll, Sink, Source, WriteFault, write_all_of};
 use bt_layout::print_none;
-use bt_net::print;
+use bt_print::print;
 use bt_same::print_pair;
 use bt_words::{Command, command_of};
 use std::alloc::{AllocError, Global};
@@ -152,7 +152,9 @@ fn right_answer(
         Command::Layout(rect, tier, learnt) => {
             laid_out(alloc, rect, tier, learnt, bytes, choosers.layouts)
         }
-        Command::Smallest(most, tier, learnt) => searched(alloc, most, tier, learnt, bytes),
+        Command::Smallest(first, most, tier, learnt) => {
+            searched(alloc, first, most, tier, learnt, bytes)
+        }
         Command::FindSmall(most, tier, sides, learnt) => {
             found_small(alloc, most, tier, sides, learnt, bytes)
         }
@@ -212,7 +214,7 @@ fn write_formed<K: Sink>(answer: &Answer, formed: &[u8], sink: &mut K) -> Result
     ensures { WritesText (passage K.held K.faults sink.old sink.new) (answer_text answer.now) result }
 {
     match answer {
-        Answer::Least(found) => bt_layout::print_smallest(found, formed, sink),
+        Answer::Least(first, found) => bt_layout::print_smallest(*first, found, formed, sink),
         Answer::Small(found) => bt_layout::print_small(found, formed, sink),
         _ => write_all_of(sink, formed),
     }

@@ -1,16 +1,15 @@
 //! What the front of an input tells of the answer of `check-same`.
 ghost use Rattle.std.specs.Prelude.{◌≡◌, ◌+◌, ◌≤◌, ◌↔◌, Bool, IsTrue, codes, length};
 ghost use Rattle.bt_same.specs.Sameness.{HaveEqualEnds};
-ghost use Rattle.bt_top.specs.declared.input.TheConstants.{MOST_CHECKED};
+ghost use Rattle.bt_designs.specs.declared.held.TheConstants.{MOST_CHECKED};
 ghost use Rattle.bt_top.specs.SameCertificates.{IsSameCertified, IsSameCertificateChecked, IsSameTextChecked};
-ghost use Rattle.bt_top.specs.inner.Fronts.{GivesFront, GivesHeldFront, TellsLine};
+ghost use Rattle.bt_designs.specs.Told.{TellsLine};
+ghost use Rattle.bt_top.specs.inner.Fronts.{GivesFront, GivesHeldFront};
 ghost use Rattle.bt_top.specs.inner.PairParts.{IsBehindFirstChecked, IsPairedChecked, IsSecondChecked};
 
 use crate::answer::Answer;
 use crate::front::{Front, Steps, WrittenPair, known_refusal};
-use crate::held::Held;
-use crate::told::{told_bare, told_line};
-use crate::two_designs::paired;
+use bt_designs::{Held, paired, told_bare, told_line};
 use bt_net::Net;
 use bt_same::encode_same;
 use bt_text::skip_blanks;

@@ -3,12 +3,12 @@ ghost use Rattle.std.specs.Prelude.{◌≡◌, ◌++◌, codes, decimal, IfOk, O
 ghost use Rattle.bt_net.specs.NetText.{line};
 ghost use Rattle.bt_flow.specs.Names.{test_name};
 ghost use Rattle.bt_top.specs.Answers.{cause_name, which_text, text_of as answer_text};
-ghost use Rattle.bt_top.specs.Refusals.{member_name, refusal_text};
+ghost use Rattle.bt_designs.specs.Refusals.{member_name, refusal_text};
 ghost use Rattle.bt_top.specs.inner.Lines.{IsFixedLine, IsLine, IsOfCertificate, detail_text, formed_text, line_text};
 
 use crate::answer::Answer;
-use crate::refusal::Refusal;
 use bt_cert::Cause;
+use bt_designs::Refusal;
 use bt_entities::Member;
 use bt_flow::Test;
 use bt_same::Which;
@@ -96,7 +96,7 @@ pub fn text_of_answer(alloc: Global, answer: &Answer) -> Result<Vec<u8>, AllocEr
 {
     match answer {
         Answer::LaidOut(parts) => bt_write::text_of(alloc, parts),
-        Answer::Least(found) => bt_layout::blueprint_of(alloc, found),
+        Answer::Least(_, found) => bt_layout::blueprint_of(alloc, found),
         Answer::Small(found) => bt_layout::blueprint_of_small(alloc, found),
         _ => text_of(alloc, &answer_line(answer)),
     }
@@ -115,7 +115,7 @@ fn answer_line(answer: &Answer) -> Line
         | Answer::Made(_)
         | Answer::LaidOut(_)
         | Answer::Nowhere(_)
-        | Answer::Least(_)
+        | Answer::Least(..)
         | Answer::Small(_)
         | Answer::FlowFormula(..)
         | Answer::PlaceFormula(..)

@@ -8,7 +8,7 @@ use Rattle.bt_model.specs.Requests.{IsGrid}
 use Rattle.bt_parts.specs.declared.part.Rect.{Rect}
 use Rattle.bt_parts.specs.declared.part.Tier.{Tier}
 use Rattle.bt_words.specs.declared.argument.Argument.{Argument}
-use Rattle.bt_words.specs.declared.argument.Argument.TheVariants.{Named, Order, Chain, Learnt, Pivots, Grid, OfTier, Most, Found, Sides}
+use Rattle.bt_words.specs.declared.argument.Argument.TheVariants.{Named, Order, Chain, Learnt, Pivots, Grid, OfTier, Most, From, Found, Sides}
 use Rattle.bt_words.specs.declared.given.Given.{Given}
 use Rattle.bt_words.specs.declared.verb.Verb.{Verb}
 use Rattle.bt_words.specs.declared.verb.Verb.TheVariants as verb
@@ -87,9 +87,10 @@ same_given g h words (ones, are, gives) (others, be, give) =
     let r = same_option g.grid h.grid (sym gives.grid ∙ give.grid) in
     let t = same_option g.tier h.tier (sym gives.tier ∙ give.tier) in
     let m = same_option g.most h.most (sym gives.most ∙ give.most) in
+    let b = same_option g.from h.from (sym gives.from ∙ give.from) in
     let f = same_mark g.found h.found (sym gives.found ∙ give.found) in
     let s = same_mark g.sides h.sides (sym gives.sides ∙ give.sides) in
-    λ i. record { property = p i; order = o i; chain = c i; learnt = l i; pivots = v i; grid = r i; tier = t i; most = m i; found = f i; sides = s i }
+    λ i. record { property = p i; order = o i; chain = c i; learnt = l i; pivots = v i; grid = r i; tier = t i; most = m i; from = b i; found = f i; sides = s i }
 
 -- what no command of this word is given
 pub none_checks_flow : (g : Given) → ((p : _) → g ≡ record nothing { property = Some p } → ⊥) → (c : Command) → verb.FlowCheck ≡ verb_of c → Suits c g → ⊥
@@ -117,7 +118,7 @@ none_checks_layouts g none (CheckLayout r t) v s = none r s.0
 none_checks_layouts g none c v s = cc
 
 pub none_searches : (g : Given) → ((r : _) → IsToFind r g → ⊥) → ((r : _) → IsToSearch r g → ⊥) → (c : Command) → verb.Smallest ≡ verb_of c → Suits c g → ⊥
-none_searches g not none (Smallest r t n) v s = none r s.0
+none_searches g not none (Smallest b r t n) v s = none r s.0
 none_searches g not none (FindSmall r t a n) v s = not r s.0
 none_searches g not none c v s = cc
 
@@ -168,13 +169,13 @@ same_suited (Make f i l) (Make n j m) g v (h, x, a) (k, y, b) =
     cc
 same_suited (Layout r t n) (Layout s u m) g v (h, x, a) (k, y, b) = let e = ap (λ x. x.grid) (sym h ∙ k) in cc
 same_suited (CheckLayout r t) (CheckLayout s u) g v (h, x) (k, y) = let e = ap (λ x. x.grid) (sym h ∙ k) in cc
-same_suited (Smallest r t n) (Smallest s u m) g v (h, x, a) (k, y, b) = let e = h.1 ∙ sym k.1 in cc
+same_suited (Smallest i r t n) (Smallest j s u m) g v (h, q, x, a) (k, w, y, b) = let e = h.1 ∙ sym k.1 in cc
 same_suited (FindSmall r t a n) (FindSmall s u b m) g v (h, x, c, l) (k, y, d, o) =
     let e = h.1 ∙ sym k.1 in
     let sides = same_sides a b (c ∙ sym d) in
     cc
-same_suited (Smallest r t n) (FindSmall s u b m) g v (h, x, a) (k, y, d, o) = let e = ap (λ x. x.found) (sym h.0 ∙ k.0) in cc
-same_suited (FindSmall r t a n) (Smallest s u m) g v (h, x, c, l) (k, y, b) = let e = ap (λ x. x.found) (sym h.0 ∙ k.0) in cc
+same_suited (Smallest i r t n) (FindSmall s u b m) g v (h, q, x, a) (k, y, d, o) = let e = ap (λ x. x.found) (sym h.0 ∙ k.0) in cc
+same_suited (FindSmall r t a n) (Smallest j s u m) g v (h, x, c, l) (k, w, y, b) = let e = ap (λ x. x.found) (sym h.0 ∙ k.0) in cc
 same_suited (FlowFormula p) (FlowFormula q) g v h k = let e = ap (λ x. x.property) (sym h ∙ k) in cc
 same_suited (PlaceFormula r t) (PlaceFormula s u) g v (h, x) (k, y) = let e = ap (λ x. x.grid) (sym h ∙ k) in cc
 same_suited (FlowFormula p) (PlaceFormula s u) g v h (k, y) = let e = ap (λ x. x.grid) (sym h ∙ k) in cc
@@ -204,6 +205,7 @@ grid_given (Learnt n ∷ more) words grid (front, rest, is, at, are) e = grid_gi
 grid_given (Pivots n ∷ more) words grid (front, rest, is, at, are) e = grid_given more rest grid are e
 grid_given (OfTier t ∷ more) words grid (front, rest, is, at, are) e = grid_given more rest grid are e
 grid_given (Most r ∷ more) words grid (front, rest, is, at, are) e = grid_given more rest grid are e
+grid_given (From r ∷ more) words grid (front, rest, is, at, are) e = grid_given more rest grid are e
 grid_given (Found ∷ more) words grid (front, rest, is, at, are) e = grid_given more rest grid are e
 grid_given (Sides ∷ more) words grid (front, rest, is, at, are) e = grid_given more rest grid are e
 
@@ -227,6 +229,7 @@ most_given (Chain ∷ more) words grid (front, rest, is, at, are) e = most_given
 most_given (Learnt n ∷ more) words grid (front, rest, is, at, are) e = most_given more rest grid are e
 most_given (Pivots n ∷ more) words grid (front, rest, is, at, are) e = most_given more rest grid are e
 most_given (Grid r ∷ more) words grid (front, rest, is, at, are) e = most_given more rest grid are e
+most_given (From r ∷ more) words grid (front, rest, is, at, are) e = most_given more rest grid are e
 most_given (OfTier t ∷ more) words grid (front, rest, is, at, are) e = most_given more rest grid are e
 most_given (Found ∷ more) words grid (front, rest, is, at, are) e = most_given more rest grid are e
 most_given (Sides ∷ more) words grid (front, rest, is, at, are) e = most_given more rest grid are e
@@ -242,8 +245,8 @@ greatest_given arguments words most None are none is = subst IsGrid (sym is) gre
 greatest_given arguments words most (Some grid) are one is = subst IsGrid (sym is) (most_given arguments words grid are one)
 
 -- and that of `smallest`, with `--found` or without
-pub grid_to_search : (most : Rect) (tier : Tier) (learnt : ℕ) (words : List (List ℕ)) → IsCommand (Smallest most tier learnt) words → IsGrid most
-grid_to_search most tier learnt words (behind, g, e, (arguments, are, gives), suits) = greatest_given arguments behind most g.most are gives.most suits.0.1
+pub grid_to_search : (first : Option Rect) (most : Rect) (tier : Tier) (learnt : ℕ) (words : List (List ℕ)) → IsCommand (Smallest first most tier learnt) words → IsGrid most
+grid_to_search first most tier learnt words (behind, g, e, (arguments, are, gives), suits) = greatest_given arguments behind most g.most are gives.most suits.0.1
 
 pub grid_to_find : (most : Rect) (tier : Tier) (sides : AskedSides) (learnt : ℕ) (words : List (List ℕ)) → IsCommand (FindSmall most tier sides learnt) words → IsGrid most
 grid_to_find most tier sides learnt words (behind, g, e, (arguments, are, gives), suits) = greatest_given arguments behind most g.most are gives.most suits.0.1

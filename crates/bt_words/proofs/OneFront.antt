@@ -11,7 +11,7 @@ use Rattle.bt_frac.proofs.Numerals.{decimal-lacks, decimal_apart}
 use Rattle.bt_text.specs.Lines.{Lacks, SplitsAt}
 use Rattle.bt_text.proofs.FirstLines.{split_apart, SplitsAt-lacks}
 use Rattle.bt_words.specs.declared.argument.Argument.{Argument}
-use Rattle.bt_words.specs.declared.argument.Argument.TheVariants.{Named, Order, Chain, Learnt, Pivots, Grid, OfTier, Most, Found, Sides}
+use Rattle.bt_words.specs.declared.argument.Argument.TheVariants.{Named, Order, Chain, Learnt, Pivots, Grid, OfTier, Most, From, Found, Sides}
 use Rattle.bt_words.specs.Arguments.{IsPlain, IsValued}
 use Rattle.bt_words.proofs.Grids.{same_grid, same_tier}
 use Rattle.bt_words.specs.inner.Reading.{BeginsWith}
@@ -82,11 +82,13 @@ plain_apart (Pivots m) b word h k = absurd h
 plain_apart (Grid m) b word h k = absurd h
 plain_apart (OfTier m) b word h k = absurd h
 plain_apart (Most m) b word h k = absurd h
+plain_apart (From m) b word h k = absurd h
 plain_apart a (Learnt n) word h k = absurd k
 plain_apart a (Pivots n) word h k = absurd k
 plain_apart a (Grid n) word h k = absurd k
 plain_apart a (OfTier n) word h k = absurd k
 plain_apart a (Most n) word h k = absurd k
+plain_apart a (From n) word h k = absurd k
 
 -- the name of an option
 abbrev option_name : Argument → List ℕ
@@ -95,6 +97,7 @@ option_name (Pivots n) = codes "pivots"
 option_name (Grid grid) = codes "grid"
 option_name (OfTier tier) = codes "tier"
 option_name (Most grid) = codes "most"
+option_name (From grid) = codes "from"
 option_name other = []
 
 has_name : (a : Argument) (name value : List ℕ) → IsValued a name value → name ≡ option_name a
@@ -103,6 +106,7 @@ has_name (Pivots n) name value v = v.0
 has_name (Grid grid) name value v = v.0
 has_name (OfTier tier) name value v = v.0
 has_name (Most grid) name value v = v.0
+has_name (From grid) name value v = v.0
 has_name (Named p) name value v = absurd v
 has_name (Order k) name value v = absurd v
 has_name Chain name value v = absurd v
@@ -116,6 +120,7 @@ valued_apart (Pivots m) (Pivots n) name value (e, small, h) (f, smaller, k) = ap
 valued_apart (Grid one) (Grid other) name value (e, h) (f, k) = ap Grid (same_grid one other value h k)
 valued_apart (OfTier one) (OfTier other) name value (e, h) (f, k) = ap OfTier (same_tier one other (sym h ∙ k))
 valued_apart (Most one) (Most other) name value (e, h) (f, k) = ap Most (same_grid one other value h k)
+valued_apart (From one) (From other) name value (e, h) (f, k) = ap From (same_grid one other value h k)
 valued_apart (Named p) b name value h k = absurd h
 valued_apart (Order p) b name value h k = absurd h
 valued_apart Chain b name value h k = absurd h
@@ -144,6 +149,7 @@ not_found (Order p) name value more v is = absurd v
 not_found Chain name value more v is = absurd v
 not_found Found name value more v is = absurd v
 not_found Sides name value more v is = absurd v
+not_found (From grid) name value more v is = omega (arith, ap (λ w. get_or w 3 0) (is ∙ ap (λ x. codes "--" ++ x ++ more) (has_name (From grid) name value v)))
 not_found b name value more v is = omega (arith, ap (λ w. get_or w 2 0) (is ∙ ap (λ x. codes "--" ++ x ++ more) (has_name b name value v)))
 
 -- nor of `--sides`
@@ -167,6 +173,7 @@ plain_is_none (Pivots n) b word name value more h k is = absurd h
 plain_is_none (Grid n) b word name value more h k is = absurd h
 plain_is_none (OfTier n) b word name value more h k is = absurd h
 plain_is_none (Most n) b word name value more h k is = absurd h
+plain_is_none (From n) b word name value more h k is = absurd h
 
 no_name : (a b : Argument) (word name value : List ℕ) → IsPlain a word → IsValued b name value → word ≡ codes "--" ++ name → ⊥
 no_name a b word name value h k is = plain_is_none a b word name value [] h k (is ∙ ap (λ x. codes "--" ++ x) (sym (append-nil name)))

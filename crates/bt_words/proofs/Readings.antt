@@ -7,7 +7,7 @@ use Rattle.std.proofs.lemmas.List.{append-nil, append_assoc}
 use Rattle.bt_words.specs.declared.argument.Argument.{Argument}
 use Rattle.bt_words.specs.declared.given.Given.{Given}
 use Rattle.bt_words.specs.Arguments.{AreArguments}
-use Rattle.bt_words.specs.Commands.{IsGiven, nothing, mark, property_in, order_in, chain_in, learnt_in, pivots_in, grid_in, tier_in, most_in, found_in, sides_in}
+use Rattle.bt_words.specs.Commands.{IsGiven, nothing, mark, property_in, order_in, chain_in, learnt_in, pivots_in, grid_in, tier_in, most_in, from_in, found_in, sides_in}
 use Rattle.bt_words.specs.inner.Reading.{BeginsWith, Adds, Reads, LeadsTo}
 use Rattle.bt_words.proofs.Fronts.{some_word}
 use Rattle.bt_words.proofs.OneFront.{one_front}
@@ -45,6 +45,7 @@ adds_there before now g a more one all = record {
   grid = sym (put (option_to_list before.grid) (option_to_list now.grid) (grid_in a) (filter_map grid_in more) one.grid) ∙ all.grid;
   tier = sym (put (option_to_list before.tier) (option_to_list now.tier) (tier_in a) (filter_map tier_in more) one.tier) ∙ all.tier;
   most = sym (put (option_to_list before.most) (option_to_list now.most) (most_in a) (filter_map most_in more) one.most) ∙ all.most;
+  from = sym (put (option_to_list before.from) (option_to_list now.from) (from_in a) (filter_map from_in more) one.from) ∙ all.from;
   found = sym (put (option_to_list (mark before.found)) (option_to_list (mark now.found)) (found_in a) (filter_map found_in more) one.found) ∙ all.found;
   sides = sym (put (option_to_list (mark before.sides)) (option_to_list (mark now.sides)) (sides_in a) (filter_map sides_in more) one.sides) ∙ all.sides;
 }
@@ -59,6 +60,7 @@ adds_back before now g a more one rest = record {
   grid = put (option_to_list before.grid) (option_to_list now.grid) (grid_in a) (filter_map grid_in more) one.grid ∙ rest.grid;
   tier = put (option_to_list before.tier) (option_to_list now.tier) (tier_in a) (filter_map tier_in more) one.tier ∙ rest.tier;
   most = put (option_to_list before.most) (option_to_list now.most) (most_in a) (filter_map most_in more) one.most ∙ rest.most;
+  from = put (option_to_list before.from) (option_to_list now.from) (from_in a) (filter_map from_in more) one.from ∙ rest.from;
   found = put (option_to_list (mark before.found)) (option_to_list (mark now.found)) (found_in a) (filter_map found_in more) one.found ∙ rest.found;
   sides = put (option_to_list (mark before.sides)) (option_to_list (mark now.sides)) (sides_in a) (filter_map sides_in more) one.sides ∙ rest.sides;
 }
@@ -73,6 +75,7 @@ adds_none before = record {
   grid = append-nil (option_to_list before.grid);
   tier = append-nil (option_to_list before.tier);
   most = append-nil (option_to_list before.most);
+  from = append-nil (option_to_list before.from);
   found = append-nil (option_to_list (mark before.found));
   sides = append-nil (option_to_list (mark before.sides));
 }
@@ -80,11 +83,11 @@ adds_none before = record {
 -- what is given, with nothing before it
 reads_all : (words : List (List ℕ)) (g : Given) → IsGiven g words → Reads nothing words g
 reads_all words g (arguments, are, gives) =
-    (arguments, are, record { property = gives.property; order = gives.order; chain = gives.chain; learnt = gives.learnt; pivots = gives.pivots; grid = gives.grid; tier = gives.tier; most = gives.most; found = gives.found; sides = gives.sides })
+    (arguments, are, record { property = gives.property; order = gives.order; chain = gives.chain; learnt = gives.learnt; pivots = gives.pivots; grid = gives.grid; tier = gives.tier; most = gives.most; from = gives.from; found = gives.found; sides = gives.sides })
 
 all_read : (words : List (List ℕ)) (g : Given) → Reads nothing words g → IsGiven g words
 all_read words g (arguments, are, adds) =
-    (arguments, are, record { property = adds.property; order = adds.order; chain = adds.chain; learnt = adds.learnt; pivots = adds.pivots; grid = adds.grid; tier = adds.tier; most = adds.most; found = adds.found; sides = adds.sides })
+    (arguments, are, record { property = adds.property; order = adds.order; chain = adds.chain; learnt = adds.learnt; pivots = adds.pivots; grid = adds.grid; tier = adds.tier; most = adds.most; from = adds.from; found = adds.found; sides = adds.sides })
 
 -- at the front all words are the rest
 pub leads_at_first : (words : List (List ℕ)) → LeadsTo words nothing words

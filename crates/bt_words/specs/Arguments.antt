@@ -6,7 +6,7 @@ use Rattle.bt_parts.specs.declared.part.Rect.{Rect}
 use Rattle.bt_parts.specs.declared.part.Tier.{Tier}
 use Rattle.bt_parts.specs.declared.part.Tier.TheVariants.{Basic, Fast, Express, Turbo}
 use Rattle.bt_words.specs.declared.argument.Argument.{Argument}
-use Rattle.bt_words.specs.declared.argument.Argument.TheVariants.{Named, Order, Chain, Learnt, Pivots, Grid, OfTier, Most, Found, Sides}
+use Rattle.bt_words.specs.declared.argument.Argument.TheVariants.{Named, Order, Chain, Learnt, Pivots, Grid, OfTier, Most, From, Found, Sides}
 use Rattle.bt_words.specs.declared.argument.TheConstants.{MOST_ORDER, MOST_LEARNT, MOST_PIVOTS}
 
 -- the name of a tier
@@ -30,6 +30,7 @@ IsPlain (Pivots n) word = ⊥
 IsPlain (Grid grid) word = ⊥
 IsPlain (OfTier tier) word = ⊥
 IsPlain (Most grid) word = ⊥
+IsPlain (From grid) word = ⊥
 IsPlain Found word = word ≡ codes "--found"
 IsPlain Sides word = word ≡ codes "--sides"
 
@@ -43,6 +44,7 @@ IsValued (Pivots n) name value = (name ≡ codes "pivots") × (n ≤ MOST_PIVOTS
 IsValued (Grid grid) name value = (name ≡ codes "grid") × IsGridWord grid value
 IsValued (OfTier tier) name value = (name ≡ codes "tier") × (value ≡ tier_name tier)
 IsValued (Most grid) name value = (name ≡ codes "most") × IsGridWord grid value
+IsValued (From grid) name value = (name ≡ codes "from") × IsGridWord grid value
 IsValued Found name value = ⊥
 IsValued Sides name value = ⊥
 

@@ -9,7 +9,7 @@ use Rattle.bt_parts.specs.declared.part.Rect.{Rect}
 use Rattle.bt_parts.specs.declared.part.Tier.{Tier}
 use Rattle.bt_parts.specs.declared.part.Tier.TheVariants.{Basic}
 use Rattle.bt_words.specs.declared.argument.Argument.{Argument}
-use Rattle.bt_words.specs.declared.argument.Argument.TheVariants.{Named, Order, Chain, Learnt, Pivots, Grid, OfTier, Most, Found, Sides}
+use Rattle.bt_words.specs.declared.argument.Argument.TheVariants.{Named, Order, Chain, Learnt, Pivots, Grid, OfTier, Most, From, Found, Sides}
 use Rattle.bt_words.specs.declared.given.Given.{Given}
 use Rattle.bt_cnf.specs.declared.limits.Limits.{Limits}
 use Rattle.bt_words.specs.declared.command.NetworkFamily.{NetworkFamily}
@@ -62,6 +62,11 @@ abbrev pub most_in : Argument → Option Rect
 most_in (Most grid) = Some grid
 most_in other = None
 
+-- the grid behind `--from`
+abbrev pub from_in : Argument → Option Rect
+from_in (From grid) = Some grid
+from_in other = None
+
 -- whether it is `--found`
 abbrev pub found_in : Argument → Option (Unit {0})
 found_in Found = Some tt
@@ -87,6 +92,7 @@ pub record Gives (arguments : List Argument) (g : Given) : Type 0 where
   pub grid : filter_map grid_in arguments ≡ option_to_list g.grid
   pub tier : filter_map tier_in arguments ≡ option_to_list g.tier
   pub most : filter_map most_in arguments ≡ option_to_list g.most
+  pub from : filter_map from_in arguments ≡ option_to_list g.from
   pub found : filter_map found_in arguments ≡ option_to_list (mark g.found)
   pub sides : filter_map sides_in arguments ≡ option_to_list (mark g.sides)
 
@@ -96,7 +102,7 @@ IsGiven g words = (arguments : List Argument) × AreArguments arguments words ×
 
 -- nothing is given
 abbrev pub nothing : Given
-nothing = record { property = None; order = None; chain = false; learnt = None; pivots = None; grid = None; tier = None; most = None; found = false; sides = false }
+nothing = record { property = None; order = None; chain = false; learnt = None; pivots = None; grid = None; tier = None; most = None; from = None; found = false; sides = false }
 
 -- the limits are those that are given, or else the usual ones
 abbrev pub limits_of : Given → Limits
@@ -140,15 +146,15 @@ IsToCheckLayout grid g = g ≡ record nothing { grid = Some grid; tier = g.tier 
 abbrev pub greatest_grid : Rect
 greatest_grid = record { width = MOST_ACROSS; height = MOST_ACROSS }
 
--- perhaps a greatest grid, which is else the greatest of all, a tier and the most steps of a log are given
+-- perhaps a greatest grid, which is else the greatest of all, a grid with which a search begins, a tier and the most steps of a log are given
 abbrev pub IsToSearch : Rect → Given → Type 0
-IsToSearch most g = (g ≡ record nothing { most = g.most; tier = g.tier; learnt = g.learnt }) × (most ≡ unwrap_or g.most greatest_grid)
+IsToSearch most g = (g ≡ record nothing { most = g.most; from = g.from; tier = g.tier; learnt = g.learnt }) × (most ≡ unwrap_or g.most greatest_grid)
 
--- `--found` is given, and perhaps `--sides` and what may be given without it
+-- `--found` is given, and perhaps `--sides`, a greatest grid likewise, a tier and the most steps of all logs
 abbrev pub IsToFind : Rect → Given → Type 0
 IsToFind most g = (g ≡ record nothing { found = true; sides = g.sides; most = g.most; tier = g.tier; learnt = g.learnt }) × (most ≡ unwrap_or g.most greatest_grid)
 
--- what a command is given: a property, or nothing; `decide` a property, and limits where they aren't the usual ones; `make` an order, and whether it is that of a chain, and limits; those that speak of layouts a grid, and a tier where it isn't the basic one, and `layout` the most steps of a log where they aren't the usual ones; `smallest` a greatest grid where it isn't the greatest of all, a tier and the most steps likewise, and with `--found` it looks for small layouts, and perhaps for those that keep sides; `formula` a property, or a grid and a tier; and `same` limits where they aren't the usual ones
+-- what a command is given: a property, or nothing; `decide` a property, and limits where they aren't the usual ones; `make` an order, and whether it is that of a chain, and limits; those that speak of layouts a grid, and a tier where it isn't the basic one, and `layout` the most steps of a log where they aren't the usual ones; `smallest` a greatest grid where it isn't the greatest of all, the grid with which it begins where that isn't the least of all, a tier and the most steps likewise, and with `--found` it looks for small layouts, and perhaps for those that keep sides; `formula` a property, or a grid and a tier; and `same` limits where they aren't the usual ones
 abbrev pub Suits : Command → Given → Type 0
 Suits (FlowCheck p) g = g ≡ record nothing { property = Some p }
 Suits Recover g = g ≡ nothing
@@ -157,7 +163,7 @@ Suits (Decide p limits) g = IsToDecide p g × (limits ≡ limits_of g)
 Suits (Make kind order limits) g = IsToMake order g × (is_chain kind ≡ g.chain) × (limits ≡ limits_of g)
 Suits (Layout grid tier learnt) g = IsToLay grid g × (tier ≡ tier_of g) × (learnt ≡ (limits_of g).learnt)
 Suits (CheckLayout grid tier) g = IsToCheckLayout grid g × (tier ≡ tier_of g)
-Suits (Smallest most tier learnt) g = IsToSearch most g × (tier ≡ tier_of g) × (learnt ≡ (limits_of g).learnt)
+Suits (Smallest first most tier learnt) g = IsToSearch most g × (first ≡ g.from) × (tier ≡ tier_of g) × (learnt ≡ (limits_of g).learnt)
 Suits (FindSmall most tier sides learnt) g = IsToFind most g × (tier ≡ tier_of g) × (are_kept sides ≡ g.sides) × (learnt ≡ (limits_of g).learnt)
 Suits (FlowFormula p) g = g ≡ record nothing { property = Some p }
 Suits (PlaceFormula grid tier) g = IsToCheckLayout grid g × (tier ≡ tier_of g)

@@ -38,6 +38,8 @@ pub enum Argument {
     OfTier(Tier),
     /// `--most`: the greatest grid that is searched.
     Most(Rect),
+    /// `--from`: the grid with which a search begins.
+    From(Rect),
     /// `--found`: small layouts are looked for.
     Found,
     /// `--sides`: ends stay at their sides.
@@ -101,6 +103,9 @@ fn valued(name: &[u8], value: &[u8]) -> Option<Argument>
     }
     if name == b"most".as_slice() {
         return Some(Argument::Most(grid_of(value)?));
+    }
+    if name == b"from".as_slice() {
+        return Some(Argument::From(grid_of(value)?));
     }
     None
 }

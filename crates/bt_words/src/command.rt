@@ -51,9 +51,9 @@ pub enum Command {
     Layout(Rect, Tier, u64),
     /// `check-layout`: does the certificate show that no parts of this tier on this grid do?
     CheckLayout(Rect, Tier),
-    /// `smallest`: what is the least grid, of at most so many cells each way, on which parts of this tier show
-    /// the network, found in at most so many steps of a log for each grid?
-    Smallest(Rect, Tier, u64),
+    /// `smallest`: what is the least grid, from the first on where one is named, and of at most so many cells each
+    /// way, on which parts of this tier show the network, found in at most so many steps of a log for each grid?
+    Smallest(Option<Rect>, Rect, Tier, u64),
     /// `smallest --found`: on which small grids, of at most so many cells each way and within the design's own
     /// cells, do parts of this tier show the design's network, with its ends at these sides, found in at most so
     /// many steps of all searches?
@@ -138,7 +138,7 @@ fn smallest(given: Given) -> Option<Command>
         return Some(Command::FindSmall(most, given.tier(), given.asked_sides(), learnt));
     }
     let most = given.most_to_search()?;
-    Some(Command::Smallest(most, given.tier(), learnt))
+    Some(Command::Smallest(given.from, most, given.tier(), learnt))
 }
 
 /// `formula`, where what is given suits it: a property, or a grid.

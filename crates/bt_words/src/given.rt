@@ -27,6 +27,7 @@ pub struct Given {
     pub grid: Option<Rect>,
     pub tier: Option<Tier>,
     pub most: Option<Rect>,
+    pub from: Option<Rect>,
     pub found: bool,
     pub sides: bool,
 }
@@ -47,6 +48,7 @@ pub const NOTHING: Given = Given {
     grid: None,
     tier: None,
     most: None,
+    from: None,
     found: false,
     sides: false,
 };
@@ -106,6 +108,10 @@ impl Given {
                 most: Some(most),
                 ..self
             }),
+            Argument::From(first) if self.from.is_none() => Some(Given {
+                from: Some(first),
+                ..self
+            }),
             Argument::Found if !self.found => Some(Given {
                 found: true,
                 ..self
@@ -134,6 +140,7 @@ impl Given {
                 grid: None,
                 tier: None,
                 most: None,
+                from: None,
                 found: false,
                 sides: false,
             } => true,
@@ -153,6 +160,7 @@ impl Given {
                 grid: None,
                 tier: None,
                 most: None,
+                from: None,
                 found: false,
                 sides: false,
                 ..
@@ -176,6 +184,7 @@ impl Given {
                 grid: None,
                 tier: None,
                 most: None,
+                from: None,
                 found: false,
                 sides: false,
             } => Some(property),
@@ -195,6 +204,7 @@ impl Given {
                 grid: None,
                 tier: None,
                 most: None,
+                from: None,
                 found: false,
                 sides: false,
                 ..
@@ -214,6 +224,7 @@ impl Given {
                 grid: None,
                 tier: None,
                 most: None,
+                from: None,
                 found: false,
                 sides: false,
                 ..
@@ -245,6 +256,7 @@ impl Given {
                 pivots: None,
                 grid,
                 most: None,
+                from: None,
                 found: false,
                 sides: false,
                 ..
@@ -267,6 +279,7 @@ impl Given {
                 pivots: None,
                 grid,
                 most: None,
+                from: None,
                 found: false,
                 sides: false,
                 ..
@@ -275,8 +288,8 @@ impl Given {
         }
     }
 
-    /// The greatest grid that is searched, where nothing is given but it, the tier and the most steps of a
-    /// log: the one that is given, or else the greatest of all.
+    /// The greatest grid that is searched, where nothing is given but it, the grid with which a search begins, the
+    /// tier and the most steps of a log: the one that is given, or else the greatest of all.
     pub fn most_to_search(self) -> Option<Rect>
         ensures { MatchOption result ((r : ARect) → IsToSearch r self → ⊥) (λ r. IsToSearch r self) }
     {
@@ -296,7 +309,7 @@ impl Given {
         }
     }
 
-    /// The same where `--found` is given too.
+    /// The same where `--found` is given too, and no grid with which a search begins.
     pub fn most_to_find(self) -> Option<Rect>
         ensures { MatchOption result ((r : ARect) → IsToFind r self → ⊥) (λ r. IsToFind r self) }
     {
@@ -308,6 +321,7 @@ impl Given {
                 pivots: None,
                 grid: None,
                 most,
+                from: None,
                 found: true,
                 ..
             } => Some(most.unwrap_or(GREATEST_GRID)),

@@ -3,7 +3,7 @@ use Rattle.std.specs.Prelude.{◌≡◌, ℕ, ◌<◌, ◌↔◌, Bool, IsTrue, 
 use Rattle.std.specs.List.{All}
 use Rattle.bt_cnf.specs.Formulas.{FormulaParts, LitsBelow, IsFormula}
 use Rattle.bt_cnf.specs.declared.literal.Lit.{Lit}
-use Rattle.bt_log.specs.Validity.{clause_at}
+use Rattle.bt_cnf.specs.Units.{clause_at}
 use Rattle.bt_cert.specs.inner.Checking.{Checking}
 
 -- the formula, and its clauses with those that were added

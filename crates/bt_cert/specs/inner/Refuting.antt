@@ -3,8 +3,9 @@ use Rattle.std.specs.Prelude.{◌≡◌, ℕ, ◌-◌, ◌↔◌, Bool, true, fa
 use Rattle.std.specs.List.{All}
 use Rattle.bt_cnf.specs.Formulas.{LitsBelow, IsFormula}
 use Rattle.bt_cnf.specs.declared.literal.Lit.{Lit}
-use Rattle.bt_log.specs.Units.{HasNoBothSigns, UnitsRefute}
-use Rattle.bt_log.specs.Validity.{clause_at, IsValidLearnt}
+use Rattle.bt_cnf.specs.Units.{HasNoBothSigns, clause_at}
+use Rattle.bt_log.specs.Units.{UnitsRefute}
+use Rattle.bt_log.specs.Validity.{IsValidLearnt}
 use Rattle.bt_cert.specs.inner.Checking.{Checking}
 use Rattle.bt_cert.specs.Judging.{FailsLearnt}
 use Rattle.bt_cert.specs.declared.fault.StepFault.{StepFault}

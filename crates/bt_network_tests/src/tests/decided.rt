@@ -1,11 +1,11 @@
 //! Random networks of up to six splitters: one verdict whoever steers the search, with scopes and guesses and without.
 use super::{net_of, property_named};
+use bt_choosers::{Active, Highest, Lowest, Recent};
 use bt_cnf::Chooser;
 use bt_decide::{Limits, Verdict, decide};
 use bt_fenc::encode;
 use bt_flow::Property;
 use bt_net::Net;
-use bt_sat::{Active, Highest, Lowest, Recent};
 use bt_theory::{Outcome, solve};
 use std::alloc::{AllocError, Global};
 use std::test::Fail;

@@ -2,11 +2,11 @@
 ghost use Rattle.std.specs.Prelude.{None};
 
 use super::{fields, number_of, request_of};
+use bt_choosers::Highest;
 use bt_cnf::{Chooser, Lit, Pick, Var};
 use bt_layout::{Layout, layout};
 use bt_model::Request;
 use bt_parts::{Kind, Part, Tier};
-use bt_sat::Highest;
 use std::alloc::{AllocError, Global};
 use std::test::Fail;
 

@@ -3,12 +3,12 @@ ghost use Rattle.std.specs.Prelude.{IfSome};
 ghost use Rattle.bt_flow.specs.States.{Fits};
 
 use super::{ONE_BELT, SPLITTER, fields, net_of};
+use bt_choosers::Lowest;
 use bt_cnf::Chooser;
 use bt_decide::{Limits, SameVerdict, decide_same};
 use bt_flow::{Property, State, Test, read_state};
 use bt_net::Net;
 use bt_same::{Pair, PairJudgement, Which, differs};
-use bt_sat::Lowest;
 use std::alloc::{AllocError, Global};
 use std::test::Fail;
 

@@ -2,7 +2,7 @@
 use Rattle.std.specs.Prelude.{◌≡◌, ℕ, ◌+◌, ◌-◌, ◌*◌, List, slice_index}
 use Rattle.bt_parts.specs.declared.part.Cell.{Cell}
 use Rattle.bt_model.specs.Requests.{LayoutRequest, IsRequest}
-use Rattle.bt_rules.specs.declared.fact.Class.{Class}
+use Rattle.bt_facts.specs.declared.fact.Class.{Class}
 use Rattle.bt_place.specs.declared.blocks.Extent.{Extent}
 use Rattle.bt_place.specs.declared.blocks.Starts.{Starts}
 use Rattle.bt_place.specs.Numbering.{Sizes, spots, along}

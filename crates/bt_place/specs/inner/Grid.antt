@@ -3,8 +3,7 @@ use Rattle.std.specs.Prelude.{◌≡◌, ℕ, ◌<◌, ◌+◌, ◌*◌, ◌/◌
 use Rattle.bt_parts.specs.declared.part.Cell.{Cell}
 use Rattle.bt_parts.specs.declared.part.Dir.{Dir}
 use Rattle.bt_parts.specs.declared.part.Rect.{Rect}
-use Rattle.bt_parts.specs.Cells.{steps, IsInside}
-use Rattle.bt_model.specs.Requests.{cell_at}
+use Rattle.bt_parts.specs.Cells.{steps, IsInside, cell_at}
 
 -- the number of cells
 abbrev pub spots_in : Rect → ℕ

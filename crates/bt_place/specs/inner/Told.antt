@@ -2,7 +2,7 @@
 use Rattle.std.specs.Prelude.{Bool, List}
 use Rattle.bt_cnf.specs.Assignments.{truth_in}
 use Rattle.bt_model.specs.Requests.{LayoutRequest, IsRequest}
-use Rattle.bt_rules.specs.declared.fact.Fact.{Fact}
+use Rattle.bt_facts.specs.declared.fact.Fact.{Fact}
 use Rattle.bt_rules.specs.Laws.{KeepsRules}
 use Rattle.bt_place.specs.Laws.{read_by}
 

@@ -3,9 +3,9 @@ use Rattle.std.specs.Prelude.{◌≡◌, ◌<◌, ℕ, true, false, List, [], �
 use Rattle.bt_cnf.specs.declared.literal.Lit.{Lit}
 use Rattle.bt_cnf.specs.Formulas.{FormulaParts}
 use Rattle.bt_model.specs.Requests.{LayoutRequest, IsRequest}
-use Rattle.bt_rules.specs.declared.draft.RuleFact.{RuleFact}
-use Rattle.bt_rules.specs.declared.fact.Fact.{Fact}
-use Rattle.bt_rules.specs.Rules.{Rule}
+use Rattle.bt_facts.specs.declared.draft.RuleFact.{RuleFact}
+use Rattle.bt_facts.specs.declared.fact.Fact.{Fact}
+use Rattle.bt_facts.specs.Rules.{Rule}
 use Rattle.bt_place.specs.Numbering.{Sizes, variables, variable_of}
 use Rattle.bt_place.specs.PlaceFormula.{sizes_of, literal, clause_of}
 use Rattle.bt_place.specs.Within.{IsNumbered}

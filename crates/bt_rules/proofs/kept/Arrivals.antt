@@ -3,11 +3,11 @@ use Rattle.std.proofs.Common.{◌≡◌, ◌⊎◌, ◌≢◌, ℕ, ◌≤◌, r
 use Rattle.bt_parts.specs.declared.part.Cell.{Cell}
 use Rattle.bt_parts.specs.declared.part.Dir.{Dir}
 use Rattle.bt_parts.specs.Cells.{step, steps, IsInside}
-use Rattle.bt_rules.specs.declared.fact.Fact.TheVariants.{Pair, Begins, Goes}
-use Rattle.bt_rules.specs.declared.fact.Half.{Half}
-use Rattle.bt_rules.specs.declared.fact.Shape.{Shape}
-use Rattle.bt_rules.specs.declared.fact.Shape.TheVariants as shape
-use Rattle.bt_rules.specs.Contents.{holds}
+use Rattle.bt_facts.specs.declared.fact.Fact.TheVariants.{Pair, Begins, Goes}
+use Rattle.bt_facts.specs.declared.fact.Half.{Half}
+use Rattle.bt_facts.specs.declared.fact.Shape.{Shape}
+use Rattle.bt_facts.specs.declared.fact.Shape.TheVariants as shape
+use Rattle.bt_facts.specs.Facts.{holds}
 use Rattle.bt_rules.specs.Underground.{most_distance}
 use Rattle.bt_rules.specs.Kept.{begun, half, handed, under, IsReached}
 use Rattle.bt_rules.proofs.kept.Solved.{Solved, Says}

@@ -8,19 +8,19 @@ use Rattle.bt_parts.specs.declared.part.Dir.{Dir}
 use Rattle.bt_parts.specs.declared.part.Rect.{Rect}
 use Rattle.bt_parts.specs.Cells.{step, steps, IsInside}
 use Rattle.bt_model.proofs.PathLemmas.{crowded}
-use Rattle.bt_rules.specs.declared.fact.Content.{Content}
-use Rattle.bt_rules.specs.declared.fact.Content.TheVariants.{Empty, Turned}
-use Rattle.bt_rules.specs.declared.fact.Fact.TheVariants.{Kind, HalfOn, Goes, Pair}
-use Rattle.bt_rules.specs.declared.fact.Shape.{Shape}
-use Rattle.bt_rules.specs.declared.fact.Shape.TheVariants as shape
-use Rattle.bt_rules.specs.Contents.{holds}
+use Rattle.bt_facts.specs.declared.fact.Content.{Content}
+use Rattle.bt_facts.specs.declared.fact.Content.TheVariants.{Empty, Turned}
+use Rattle.bt_facts.specs.declared.fact.Fact.TheVariants.{Kind, HalfOn, Goes, Pair}
+use Rattle.bt_facts.specs.declared.fact.Shape.{Shape}
+use Rattle.bt_facts.specs.declared.fact.Shape.TheVariants as shape
+use Rattle.bt_facts.specs.Facts.{holds}
 use Rattle.bt_rules.specs.Kept.{kind_of, begun, half, handed, under}
 use Rattle.bt_rules.specs.Going.{runners}
-use Rattle.bt_rules.specs.Spots.{behind}
-use Rattle.bt_rules.specs.declared.fact.Half.{Half}
+use Rattle.bt_facts.specs.Spots.{behind}
+use Rattle.bt_facts.specs.declared.fact.Half.{Half}
 use Rattle.bt_rules.specs.Underground.{most_distance, back}
-use Rattle.bt_rules.proofs.Geometry.{steps_back, step_behind}
-use Rattle.bt_rules.proofs.Keeping.{In}
+use Rattle.bt_facts.proofs.Geometry.{steps_back, step_behind}
+use Rattle.bt_facts.proofs.Keeping.{In}
 use Rattle.bt_rules.proofs.kept.Geometry.{across, same_spot}
 use Rattle.bt_rules.proofs.kept.Solved.{Solved, Says, said, not_said}
 use Rattle.bt_rules.proofs.kept.CellFacts.{content_of, one_shape, one_dir, not_empty, half_on, half_there}

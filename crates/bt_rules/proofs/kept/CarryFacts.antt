@@ -5,17 +5,17 @@ use Rattle.std.proofs.lemmas.Bool.{cases_Bool}
 use Rattle.bt_parts.specs.declared.part.Cell.{Cell}
 use Rattle.bt_parts.specs.declared.part.Dir.{Dir}
 use Rattle.bt_parts.specs.Cells.{step, IsInside}
-use Rattle.bt_rules.specs.declared.fact.Class.{Class}
-use Rattle.bt_rules.specs.declared.fact.Fact.TheVariants.{Carries, HalfOn, Goes}
-use Rattle.bt_rules.specs.declared.fact.Shape.{Shape}
+use Rattle.bt_facts.specs.declared.fact.Class.{Class}
+use Rattle.bt_facts.specs.declared.fact.Fact.TheVariants.{Carries, HalfOn, Goes}
+use Rattle.bt_facts.specs.declared.fact.Shape.{Shape}
 use Rattle.bt_rules.specs.Carrying.{carried_rules, taken_rule, kept_in_rules, onward_rules}
-use Rattle.bt_rules.specs.Classes.{classes_of, splitters_of, ends_out}
-use Rattle.bt_rules.specs.Contents.{holds}
+use Rattle.bt_demands.specs.Classes.{classes_of, splitters_of, ends_out}
+use Rattle.bt_facts.specs.Facts.{holds}
 use Rattle.bt_rules.specs.Going.{runners}
-use Rattle.bt_rules.specs.Rules.{Rule, not_all, Keeps}
-use Rattle.bt_rules.specs.Spots.{dirs, is_inside}
-use Rattle.bt_rules.proofs.Geometry.{in_dirs}
-use Rattle.bt_rules.proofs.Keeping.{In, in_filter}
+use Rattle.bt_facts.specs.Rules.{Rule, not_all, Keeps}
+use Rattle.bt_facts.specs.Spots.{dirs, is_inside}
+use Rattle.bt_facts.proofs.Geometry.{in_dirs}
+use Rattle.bt_facts.proofs.Keeping.{In, in_filter}
 use Rattle.bt_rules.proofs.kept.Readings.{all_left, all_mapped, all_flat}
 use Rattle.bt_rules.proofs.kept.Geometry.{inside_true, inside_false}
 use Rattle.bt_rules.proofs.kept.Solved.{Solved, Says, Kept, carrying_kept}

@@ -5,23 +5,25 @@ use Rattle.std.specs.List.{flat_map, range_with_len}
 use Rattle.bt_parts.specs.declared.part.Cell.{Cell}
 use Rattle.bt_parts.specs.declared.part.Dir.{Dir}
 use Rattle.bt_parts.specs.Cells.{IsInside}
-use Rattle.bt_rules.specs.declared.fact.Content.{Content}
-use Rattle.bt_rules.specs.declared.fact.Content.TheVariants.{Empty, Turned}
-use Rattle.bt_rules.specs.declared.fact.Fact.{Fact}
-use Rattle.bt_rules.specs.declared.fact.Fact.TheVariants.{Kind, Carries, Column, Row, Points, HalfOn, BeltOn, At}
-use Rattle.bt_rules.specs.declared.fact.Half.{Half}
-use Rattle.bt_rules.specs.declared.fact.Half.TheVariants.{Lesser}
-use Rattle.bt_rules.specs.declared.fact.Shape.{Shape}
-use Rattle.bt_rules.specs.declared.fact.Shape.TheVariants as shape
-use Rattle.bt_rules.specs.Contents.{holds, contents, half_kinds, belt_kinds, equals_one, mate_rule}
-use Rattle.bt_rules.specs.Classes.{splitters_of, classes_of, input_classes}
-use Rattle.bt_rules.specs.declared.fact.Class.{Class}
-use Rattle.bt_rules.specs.declared.fact.Class.TheVariants.{Split}
-use Rattle.bt_rules.specs.Rules.{Rule, rule, some_of, not_all, at_most_one, Keeps}
-use Rattle.bt_rules.specs.Spots.{dirs, halves, other_half, mate, before, where_inside, cells_of}
+use Rattle.bt_facts.specs.declared.fact.Content.{Content}
+use Rattle.bt_facts.specs.declared.fact.Content.TheVariants.{Empty, Turned}
+use Rattle.bt_facts.specs.declared.fact.Fact.{Fact}
+use Rattle.bt_facts.specs.declared.fact.Fact.TheVariants.{Kind, Carries, Column, Row, Points, HalfOn, BeltOn, At}
+use Rattle.bt_facts.specs.declared.fact.Half.{Half}
+use Rattle.bt_facts.specs.declared.fact.Half.TheVariants.{Lesser}
+use Rattle.bt_facts.specs.declared.fact.Shape.{Shape}
+use Rattle.bt_facts.specs.declared.fact.Shape.TheVariants as shape
+use Rattle.bt_facts.specs.Facts.{holds}
+use Rattle.bt_rules.specs.Contents.{contents, half_kinds, belt_kinds, mate_rule}
+use Rattle.bt_facts.specs.Rules.{equals_one}
+use Rattle.bt_demands.specs.Classes.{splitters_of, classes_of, input_classes}
+use Rattle.bt_facts.specs.declared.fact.Class.{Class}
+use Rattle.bt_facts.specs.declared.fact.Class.TheVariants.{Split}
+use Rattle.bt_facts.specs.Rules.{Rule, rule, some_of, not_all, at_most_one, Keeps}
+use Rattle.bt_facts.specs.Spots.{dirs, halves, other_half, mate, before, where_inside, cells_of}
 use Rattle.bt_rules.specs.Standing.{owner_rule, at_rules, stands_on, name_rule, stands_at}
-use Rattle.bt_rules.proofs.Geometry.{from_cells, in_dirs, in_halves}
-use Rattle.bt_rules.proofs.Keeping.{In, from_flat, from_map, from_range, in_flat, in_left, in_map, in_range}
+use Rattle.bt_facts.proofs.Geometry.{from_cells, in_dirs, in_halves}
+use Rattle.bt_facts.proofs.Keeping.{In, from_flat, from_map, from_range, in_flat, in_left, in_map, in_range}
 use Rattle.bt_rules.proofs.kept.Readings.{all_left, all_right, all_mapped, all_flat, one_in, one_from, one_mapped, one_holds}
 use Rattle.bt_rules.proofs.kept.Geometry.{in_contents, same_spot, across, where_in}
 use Rattle.bt_rules.proofs.kept.Solved.{Solved, Says, Kept, one_inside, contents_kept, shapes_kept, classes_kept, mates_kept, standing_kept, place_kept}

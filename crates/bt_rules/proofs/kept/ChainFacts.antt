@@ -14,12 +14,12 @@ use Rattle.bt_net.specs.Network.{is_input, StartsIn}
 use Rattle.bt_model.specs.Chains.{IsOutput, Source, begins, leaves, Sink, ends, enters, Chain, EndsAs, IsChain}
 use Rattle.bt_model.specs.Shown.{ListsEach}
 use Rattle.bt_model.proofs.ChainLemmas.{chain_from}
-use Rattle.bt_rules.specs.declared.fact.Class.{Class}
-use Rattle.bt_rules.specs.declared.fact.Class.TheVariants.{Split, Shared, Input}
-use Rattle.bt_rules.specs.declared.fact.Fact.TheVariants.{Carries}
-use Rattle.bt_rules.specs.Classes.{class_of, input_classes}
+use Rattle.bt_facts.specs.declared.fact.Class.{Class}
+use Rattle.bt_facts.specs.declared.fact.Class.TheVariants.{Split, Shared, Input}
+use Rattle.bt_facts.specs.declared.fact.Fact.TheVariants.{Carries}
+use Rattle.bt_demands.specs.Classes.{class_of, input_classes}
 use Rattle.bt_rules.specs.Kept.{IsKeptPart}
-use Rattle.bt_rules.proofs.Keeping.{In}
+use Rattle.bt_facts.proofs.Keeping.{In}
 use Rattle.bt_rules.proofs.kept.ListFacts.{element_at}
 use Rattle.bt_rules.proofs.kept.NetFacts.{IsEdge, same_edge, edge_starts, input_by, class_suits, class_of_split, class_through, input_no_split, class_in, through_here, out_edge}
 use Rattle.bt_rules.proofs.kept.Solved.{Solved, Says}

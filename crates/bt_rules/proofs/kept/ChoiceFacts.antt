@@ -7,10 +7,10 @@ use Rattle.bt_net.specs.declared.network.Edge.{Edge}
 use Rattle.bt_net.specs.Network.{leaves as leaves_splitter}
 use Rattle.bt_model.specs.Chains.{Chain, IsChain}
 use Rattle.bt_model.specs.Shown.{ListsEach}
-use Rattle.bt_rules.specs.declared.fact.Fact.TheVariants.{Goes}
-use Rattle.bt_rules.specs.declared.fact.Half.{Half}
-use Rattle.bt_rules.specs.declared.fact.Half.TheVariants.{Lesser, Greater}
-use Rattle.bt_rules.specs.Spots.{other_half, half_at}
+use Rattle.bt_facts.specs.declared.fact.Fact.TheVariants.{Goes}
+use Rattle.bt_facts.specs.declared.fact.Half.{Half}
+use Rattle.bt_facts.specs.declared.fact.Half.TheVariants.{Lesser, Greater}
+use Rattle.bt_facts.specs.Spots.{other_half, half_at}
 use Rattle.bt_rules.specs.Kept.{IsKeptPart}
 use Rattle.bt_rules.proofs.kept.RankFacts.{rank, rank_at, rank_one, rank_few, at_rank}
 use Rattle.bt_rules.proofs.Classed.{leaves_start}

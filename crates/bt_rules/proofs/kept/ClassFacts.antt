@@ -14,14 +14,14 @@ use Rattle.bt_model.proofs.ExistLemmas.{input_link}
 use Rattle.bt_model.proofs.HandLemmas.{one_handed}
 use Rattle.bt_model.proofs.PathLemmas.{path_start, path_head}
 use Rattle.bt_model.proofs.SameChain.{Hop}
-use Rattle.bt_rules.specs.declared.fact.Class.{Class}
-use Rattle.bt_rules.specs.declared.fact.Class.TheVariants.{Split}
-use Rattle.bt_rules.specs.declared.fact.Fact.TheVariants.{Carries, Begins}
-use Rattle.bt_rules.specs.declared.fact.Shape.TheVariants as shape
-use Rattle.bt_rules.specs.Classes.{classes_of, input_classes, splitters_of}
-use Rattle.bt_rules.specs.Contents.{holds}
+use Rattle.bt_facts.specs.declared.fact.Class.{Class}
+use Rattle.bt_facts.specs.declared.fact.Class.TheVariants.{Split}
+use Rattle.bt_facts.specs.declared.fact.Fact.TheVariants.{Carries, Begins}
+use Rattle.bt_facts.specs.declared.fact.Shape.TheVariants as shape
+use Rattle.bt_demands.specs.Classes.{classes_of, input_classes, splitters_of}
+use Rattle.bt_facts.specs.Facts.{holds}
 use Rattle.bt_rules.specs.Kept.{IsKeptPart}
-use Rattle.bt_rules.proofs.Keeping.{In, in_right}
+use Rattle.bt_facts.proofs.Keeping.{In, in_right}
 use Rattle.bt_rules.proofs.kept.Solved.{Solved, Says}
 use Rattle.bt_rules.proofs.kept.CellFacts.{split_in, half_there}
 use Rattle.bt_rules.proofs.kept.GoingFacts.{going_inside, begun_class}

@@ -9,15 +9,15 @@ use Rattle.bt_model.specs.Chains.{IsInput, IsOutput}
 use Rattle.bt_model.specs.Laying.{Fits}
 use Rattle.bt_model.specs.Requests.{blocked}
 use Rattle.bt_model.specs.Shown.{ListsEach}
-use Rattle.bt_rules.specs.declared.fact.Fact.TheVariants.{Begins}
-use Rattle.bt_rules.specs.declared.fact.Half.{Half}
-use Rattle.bt_rules.specs.declared.fact.Shape.{Shape}
-use Rattle.bt_rules.specs.declared.fact.Shape.TheVariants as shape
-use Rattle.bt_rules.specs.Contents.{holds}
+use Rattle.bt_facts.specs.declared.fact.Fact.TheVariants.{Begins}
+use Rattle.bt_facts.specs.declared.fact.Half.{Half}
+use Rattle.bt_facts.specs.declared.fact.Shape.{Shape}
+use Rattle.bt_facts.specs.declared.fact.Shape.TheVariants as shape
+use Rattle.bt_facts.specs.Facts.{holds}
 use Rattle.bt_rules.specs.Going.{runners}
-use Rattle.bt_rules.specs.Spots.{behind}
+use Rattle.bt_facts.specs.Spots.{behind}
 use Rattle.bt_rules.specs.Kept.{kind_of, IsKeptPart}
-use Rattle.bt_rules.proofs.Keeping.{In}
+use Rattle.bt_facts.proofs.Keeping.{In}
 use Rattle.bt_rules.proofs.kept.ListFacts.{contains_in, all_from}
 use Rattle.bt_rules.proofs.kept.Solved.{Solved, Says, block_kept}
 use Rattle.bt_rules.proofs.kept.CellFacts.{one_dir, not_empty}

@@ -7,15 +7,15 @@ use Rattle.bt_parts.specs.declared.part.Dir.{Dir}
 use Rattle.bt_parts.specs.declared.part.Dir.TheVariants.{North, East, South, West}
 use Rattle.bt_parts.specs.declared.part.Rect.{Rect}
 use Rattle.bt_parts.specs.Cells.{opposite, beside, IsInside}
-use Rattle.bt_rules.specs.declared.fact.Content.{Content}
-use Rattle.bt_rules.specs.declared.fact.Content.TheVariants.{Empty, Turned}
-use Rattle.bt_rules.specs.declared.fact.Half.TheVariants.{Lesser, Greater}
-use Rattle.bt_rules.specs.declared.fact.Shape.{Shape}
-use Rattle.bt_rules.specs.declared.fact.Shape.TheVariants as shape
+use Rattle.bt_facts.specs.declared.fact.Content.{Content}
+use Rattle.bt_facts.specs.declared.fact.Content.TheVariants.{Empty, Turned}
+use Rattle.bt_facts.specs.declared.fact.Half.TheVariants.{Lesser, Greater}
+use Rattle.bt_facts.specs.declared.fact.Shape.{Shape}
+use Rattle.bt_facts.specs.declared.fact.Shape.TheVariants as shape
 use Rattle.bt_rules.specs.Contents.{shapes, contents}
-use Rattle.bt_rules.specs.Spots.{dirs, before, is_inside, where_inside, where_outside, cells_of, is_border, border_of}
-use Rattle.bt_rules.proofs.Geometry.{in_dirs, inside_cases, from_cells, step_behind}
-use Rattle.bt_rules.proofs.Keeping.{In, in_flat, in_map, from_filter}
+use Rattle.bt_facts.specs.Spots.{dirs, before, is_inside, where_inside, where_outside, cells_of, is_border, border_of}
+use Rattle.bt_facts.proofs.Geometry.{in_dirs, inside_cases, from_cells, step_behind}
+use Rattle.bt_facts.proofs.Keeping.{In, in_flat, in_map, from_filter}
 
 in_shapes : (of : Shape) → In shapes of
 in_shapes shape.Belt = inl refl

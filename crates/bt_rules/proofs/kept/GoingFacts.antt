@@ -4,20 +4,21 @@ use Rattle.std.specs.List.{flat_map}
 use Rattle.bt_parts.specs.declared.part.Cell.{Cell}
 use Rattle.bt_parts.specs.declared.part.Dir.{Dir}
 use Rattle.bt_parts.specs.Cells.{step, opposite, IsInside}
-use Rattle.bt_rules.specs.declared.fact.Class.{Class}
-use Rattle.bt_rules.specs.declared.fact.Content.TheVariants.{Empty}
-use Rattle.bt_rules.specs.declared.fact.Fact.{Fact}
-use Rattle.bt_rules.specs.declared.fact.Fact.TheVariants.{Kind, Carries, Begins, Goes}
-use Rattle.bt_rules.specs.declared.fact.Half.{Half}
-use Rattle.bt_rules.specs.declared.fact.Shape.{Shape}
-use Rattle.bt_rules.specs.declared.fact.Shape.TheVariants as shape
-use Rattle.bt_rules.specs.Classes.{input_classes}
-use Rattle.bt_rules.specs.Contents.{holds}
-use Rattle.bt_rules.specs.Going.{runners, givers, takers, inner_rules, going_rules, goes_into, fed_belt, fed_entrance, begins_there, starters, begin_rules, once_rules}
-use Rattle.bt_rules.specs.Rules.{Rule, rule, not_all, at_most_one, Keeps}
-use Rattle.bt_rules.specs.Spots.{dirs, halves, sides_of, behind, where_outside}
-use Rattle.bt_rules.proofs.Geometry.{in_dirs, in_halves}
-use Rattle.bt_rules.proofs.Keeping.{In, from_flat, from_map, in_both, in_flat}
+use Rattle.bt_facts.specs.declared.fact.Class.{Class}
+use Rattle.bt_facts.specs.declared.fact.Content.TheVariants.{Empty}
+use Rattle.bt_facts.specs.declared.fact.Fact.{Fact}
+use Rattle.bt_facts.specs.declared.fact.Fact.TheVariants.{Kind, Carries, Begins, Goes}
+use Rattle.bt_facts.specs.declared.fact.Half.{Half}
+use Rattle.bt_facts.specs.declared.fact.Shape.{Shape}
+use Rattle.bt_facts.specs.declared.fact.Shape.TheVariants as shape
+use Rattle.bt_demands.specs.Classes.{input_classes}
+use Rattle.bt_facts.specs.Facts.{holds}
+use Rattle.bt_rules.specs.Going.{runners, givers, takers, inner_rules, going_rules, fed_belt, fed_entrance, begins_there, starters, begin_rules, once_rules}
+use Rattle.bt_facts.specs.Facts.{goes_into}
+use Rattle.bt_facts.specs.Rules.{Rule, rule, not_all, at_most_one, Keeps}
+use Rattle.bt_facts.specs.Spots.{dirs, halves, sides_of, behind, where_outside}
+use Rattle.bt_facts.proofs.Geometry.{in_dirs, in_halves}
+use Rattle.bt_facts.proofs.Keeping.{In, from_flat, from_map, in_both, in_flat}
 use Rattle.bt_rules.proofs.kept.Readings.{all_left, all_right, all_mapped, all_flat, one_in, one_from, one_mapped, one_holds}
 use Rattle.bt_rules.proofs.kept.Geometry.{in_or_out, inside_true, inside_false, where_in}
 use Rattle.bt_rules.proofs.kept.Solved.{Solved, Says, Kept, one_inside, one_outside, handing_kept}

@@ -19,18 +19,18 @@ use Rattle.bt_model.specs.Clean.{IsPaired, HasTwoFeeders, IsSeenAcross, IsSideLo
 use Rattle.bt_model.specs.Handing.{LooksFrom, FeedsFrom, BlocksFrom}
 use Rattle.bt_model.specs.Shown.{ListsEach}
 use Rattle.bt_model.proofs.HandLemmas.{entrance_paired, one_handed}
-use Rattle.bt_rules.specs.declared.fact.Fact.TheVariants.{Pair, Goes, Tunnel}
-use Rattle.bt_rules.specs.declared.fact.Half.{Half}
-use Rattle.bt_rules.specs.declared.fact.Shape.{Shape}
-use Rattle.bt_rules.specs.declared.fact.Shape.TheVariants as shape
-use Rattle.bt_rules.specs.Contents.{holds}
+use Rattle.bt_facts.specs.declared.fact.Fact.TheVariants.{Pair, Goes, Tunnel}
+use Rattle.bt_facts.specs.declared.fact.Half.{Half}
+use Rattle.bt_facts.specs.declared.fact.Shape.{Shape}
+use Rattle.bt_facts.specs.declared.fact.Shape.TheVariants as shape
+use Rattle.bt_facts.specs.Facts.{holds}
 use Rattle.bt_rules.specs.Going.{runners, givers}
 use Rattle.bt_rules.specs.Underground.{most_distance}
-use Rattle.bt_rules.specs.Spots.{behind}
+use Rattle.bt_facts.specs.Spots.{behind}
 use Rattle.bt_rules.specs.Kept.{kind_of, handed, under, IsKeptPart}
-use Rattle.bt_rules.proofs.Deciding.{same_dir}
-use Rattle.bt_rules.proofs.Geometry.{inside_between, behind_step}
-use Rattle.bt_rules.proofs.Keeping.{In}
+use Rattle.bt_facts.proofs.Decided.{same_dir}
+use Rattle.bt_facts.proofs.Geometry.{inside_between, behind_step}
+use Rattle.bt_facts.proofs.Keeping.{In}
 use Rattle.bt_rules.proofs.kept.Geometry.{no_opposite}
 use Rattle.bt_rules.proofs.kept.Solved.{Solved, Says}
 use Rattle.bt_rules.proofs.kept.CellFacts.{not_empty}

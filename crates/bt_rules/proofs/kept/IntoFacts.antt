@@ -13,13 +13,13 @@ use Rattle.bt_model.specs.Chains.{ends, enters, Chain, EndsAs, IsLongest, IsEmpt
 use Rattle.bt_model.specs.Shown.{ListsEach}
 use Rattle.bt_model.proofs.ChainLemmas.{path_stop}
 use Rattle.bt_model.proofs.SameChain.{Hop}
-use Rattle.bt_rules.specs.declared.fact.Fact.TheVariants.{Carries, EntersLesser}
-use Rattle.bt_rules.specs.declared.fact.Half.{Half}
-use Rattle.bt_rules.specs.declared.fact.Half.TheVariants.{Greater}
-use Rattle.bt_rules.specs.Classes.{class_of, classes_into}
-use Rattle.bt_rules.specs.Spots.{behind, half_at}
+use Rattle.bt_facts.specs.declared.fact.Fact.TheVariants.{Carries, EntersLesser}
+use Rattle.bt_facts.specs.declared.fact.Half.{Half}
+use Rattle.bt_facts.specs.declared.fact.Half.TheVariants.{Greater}
+use Rattle.bt_demands.specs.Classes.{class_of, classes_into}
+use Rattle.bt_facts.specs.Spots.{behind, half_at}
 use Rattle.bt_rules.specs.Kept.{IsKeptPart}
-use Rattle.bt_rules.proofs.Geometry.{step_behind}
+use Rattle.bt_facts.proofs.Geometry.{step_behind}
 use Rattle.bt_rules.proofs.kept.ListFacts.{element_at}
 use Rattle.bt_rules.proofs.kept.RankFacts.{rank, rank_at, rank_one, rank_few, at_rank}
 use Rattle.bt_rules.proofs.Classed.{enters_target, target_enters}

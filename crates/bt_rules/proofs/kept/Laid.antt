@@ -28,19 +28,19 @@ use Rattle.bt_model.specs.Requests.{Names, ends_of, pinned}
 use Rattle.bt_model.specs.Shown.{Naming, ListsEach, IsNaming, IsStartOf, IsTargetOf, IsEdgeOf, Shows}
 use Rattle.bt_model.proofs.ExistLemmas.{from_input, to_output, input_link, output_link}
 use Rattle.bt_model.proofs.SameChain.{same_begins, same_ends}
-use Rattle.bt_rules.specs.declared.fact.Class.{Class}
-use Rattle.bt_rules.specs.declared.fact.Class.TheVariants.{Split}
-use Rattle.bt_rules.specs.declared.fact.Class.TheVariants as class
-use Rattle.bt_rules.specs.declared.fact.Fact.TheVariants.{Carries, Begins}
-use Rattle.bt_rules.specs.declared.fact.Shape.{Shape}
-use Rattle.bt_rules.specs.declared.fact.Shape.TheVariants as shape
-use Rattle.bt_rules.specs.Classes.{class_of, input_classes}
-use Rattle.bt_rules.specs.Contents.{holds}
+use Rattle.bt_facts.specs.declared.fact.Class.{Class}
+use Rattle.bt_facts.specs.declared.fact.Class.TheVariants.{Split}
+use Rattle.bt_facts.specs.declared.fact.Class.TheVariants as class
+use Rattle.bt_facts.specs.declared.fact.Fact.TheVariants.{Carries, Begins}
+use Rattle.bt_facts.specs.declared.fact.Shape.{Shape}
+use Rattle.bt_facts.specs.declared.fact.Shape.TheVariants as shape
+use Rattle.bt_demands.specs.Classes.{class_of, input_classes}
+use Rattle.bt_facts.specs.Facts.{holds}
 use Rattle.bt_rules.specs.Kept.{kind_of, IsKeptPart}
-use Rattle.bt_rules.specs.Pinning.{end_shapes}
-use Rattle.bt_rules.proofs.Deciding.{contains_at}
-use Rattle.bt_rules.proofs.Geometry.{in_border}
-use Rattle.bt_rules.proofs.Keeping.{In}
+use Rattle.bt_demands.specs.Pinning.{end_shapes}
+use Rattle.bt_facts.proofs.Decided.{contains_at}
+use Rattle.bt_facts.proofs.Geometry.{in_border}
+use Rattle.bt_facts.proofs.Keeping.{In}
 use Rattle.bt_rules.proofs.kept.ListFacts.{Listed, listed, lists_each, element_at, zipped, all_at, all_from, contains_in}
 use Rattle.bt_rules.proofs.kept.NetFacts.{IsEdge, edge_below, same_edge, input_edge, output_edge, edge_starts, edge_ends, output_by, class_suits, class_of_split, class_pinned, class_through, input_no_split, class_in}
 use Rattle.bt_rules.proofs.kept.Solved.{Solved, Says}

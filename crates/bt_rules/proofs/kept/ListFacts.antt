@@ -5,8 +5,8 @@ use Rattle.std.proofs.lemmas.Option.{same_Some, none-some, slice_get_within, sli
 use Rattle.std.proofs.lemmas.Bool.{cases_Bool}
 use Rattle.std.proofs.lemmas.List.Sums.{sum_by-cons}
 use Rattle.bt_model.specs.Shown.{ListsEach}
-use Rattle.bt_rules.proofs.Deciding.{contains_at}
-use Rattle.bt_rules.proofs.Keeping.{In}
+use Rattle.bt_facts.proofs.Decided.{contains_at}
+use Rattle.bt_facts.proofs.Keeping.{In}
 
 -- the element at a place of the list
 pub element_at : {X : Type 0} (xs : List X) (k : ℕ) → k < length xs → (x : X) × (slice_get xs k ≡ Some x)

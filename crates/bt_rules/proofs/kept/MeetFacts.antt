@@ -12,19 +12,19 @@ use Rattle.bt_model.specs.Handing.{FeedsFrom}
 use Rattle.bt_model.specs.Shown.{ListsEach}
 use Rattle.bt_model.proofs.ChainLemmas.{chain_from}
 use Rattle.bt_model.proofs.SameChain.{Hop, hop_of, hop_half, same_hop}
-use Rattle.bt_rules.specs.declared.fact.Class.TheVariants.{Split}
-use Rattle.bt_rules.specs.declared.fact.Fact.TheVariants.{Carries, HalfOn, Goes}
-use Rattle.bt_rules.specs.declared.fact.Half.{Half}
-use Rattle.bt_rules.specs.declared.fact.Half.TheVariants.{Lesser, Greater}
-use Rattle.bt_rules.specs.declared.fact.Shape.{Shape}
-use Rattle.bt_rules.specs.declared.fact.Shape.TheVariants as shape
-use Rattle.bt_rules.specs.Spots.{behind, half_at}
+use Rattle.bt_facts.specs.declared.fact.Class.TheVariants.{Split}
+use Rattle.bt_facts.specs.declared.fact.Fact.TheVariants.{Carries, HalfOn, Goes}
+use Rattle.bt_facts.specs.declared.fact.Half.{Half}
+use Rattle.bt_facts.specs.declared.fact.Half.TheVariants.{Lesser, Greater}
+use Rattle.bt_facts.specs.declared.fact.Shape.{Shape}
+use Rattle.bt_facts.specs.declared.fact.Shape.TheVariants as shape
+use Rattle.bt_facts.specs.Spots.{behind, half_at}
 use Rattle.bt_rules.specs.Kept.{kind_of, IsKeptPart}
-use Rattle.bt_rules.proofs.Geometry.{step_behind}
-use Rattle.bt_rules.proofs.Keeping.{In}
+use Rattle.bt_facts.proofs.Geometry.{step_behind}
+use Rattle.bt_facts.proofs.Keeping.{In}
 use Rattle.bt_rules.proofs.kept.Solved.{Solved, Says}
 use Rattle.bt_rules.proofs.kept.CellFacts.{one_dir, half_on, one_place}
-use Rattle.bt_rules.specs.Classes.{input_classes}
+use Rattle.bt_demands.specs.Classes.{input_classes}
 use Rattle.bt_rules.proofs.kept.NetFacts.{input_no_split}
 use Rattle.bt_rules.proofs.kept.GoingFacts.{giver_there, Takes, by_belt, by_entrance, by_half}
 use Rattle.bt_rules.proofs.kept.Arrivals.{reached_inside}

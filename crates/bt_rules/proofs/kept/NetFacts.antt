@@ -11,12 +11,12 @@ use Rattle.bt_net.specs.declared.network.Target.{Target}
 use Rattle.bt_net.specs.declared.network.Target.TheVariants as to
 use Rattle.bt_net.specs.Network.{is_input, is_output, StartsIn, EndsIn}
 use Rattle.bt_net.specs.declared.network.Demand.{Demand}
-use Rattle.bt_rules.specs.declared.fact.Class.{Class}
-use Rattle.bt_rules.specs.declared.fact.Class.TheVariants.{Split, Shared, Input}
-use Rattle.bt_rules.specs.Classes.{is_pinned, side_of, class_between, class_of, same_class, is_of, leads_out, occurs, ends_out, is_through, splitters_of, shared_into, from_inputs, input_classes, classes_of}
+use Rattle.bt_facts.specs.declared.fact.Class.{Class}
+use Rattle.bt_facts.specs.declared.fact.Class.TheVariants.{Split, Shared, Input}
+use Rattle.bt_demands.specs.Classes.{is_pinned, side_of, class_between, class_of, same_class, is_of, leads_out, occurs, ends_out, is_through, splitters_of, shared_into, from_inputs, input_classes, classes_of}
 use Rattle.bt_rules.proofs.Classed.{class_same, same_itself, input_start, output_target, out_target, target_out}
-use Rattle.bt_rules.proofs.Keeping.{In, both_true, from_filter, from_map, in_both, in_filter, in_left, in_map, in_range, in_right}
-use Rattle.bt_rules.proofs.Sharing.{in_shared, from_shared}
+use Rattle.bt_facts.proofs.Keeping.{In, both_true, from_filter, from_map, in_both, in_filter, in_left, in_map, in_range, in_right}
+use Rattle.bt_demands.proofs.Sharing.{in_shared, from_shared}
 use Rattle.bt_rules.proofs.kept.ListFacts.{all_at, counted}
 use Rattle.bt_rules.proofs.kept.RankFacts.{true_both, any_has, has_any}
 use Rattle.bt_rules.proofs.kept.Solved.{Solved}

@@ -7,8 +7,8 @@ use Rattle.bt_net.specs.declared.network.Start.TheVariants as from
 use Rattle.bt_net.specs.Network.{leaves as leaves_splitter, StartsIn}
 use Rattle.bt_model.specs.Chains.{Chain, IsChain}
 use Rattle.bt_model.specs.Shown.{ListsEach}
-use Rattle.bt_rules.specs.declared.fact.Half.{Half}
-use Rattle.bt_rules.specs.declared.fact.Half.TheVariants.{Lesser}
+use Rattle.bt_facts.specs.declared.fact.Half.{Half}
+use Rattle.bt_facts.specs.declared.fact.Half.TheVariants.{Lesser}
 use Rattle.bt_rules.specs.Kept.{IsKeptPart}
 use Rattle.bt_rules.proofs.kept.RankFacts.{rank_one, rank_few}
 use Rattle.bt_rules.proofs.Classed.{leaves_start, start_leaves}

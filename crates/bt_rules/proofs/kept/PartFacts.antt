@@ -9,13 +9,13 @@ use Rattle.bt_parts.specs.Cells.{beside, Covers, IsInside}
 use Rattle.bt_parts.specs.Layouts.{HasPart, IsAt, IsWellPlaced}
 use Rattle.bt_model.specs.Shown.{ListsEach}
 use Rattle.bt_model.proofs.Sorted.{one_place}
-use Rattle.bt_rules.specs.declared.fact.Half.TheVariants.{Lesser, Greater}
-use Rattle.bt_rules.specs.declared.fact.Shape.{Shape}
-use Rattle.bt_rules.specs.declared.fact.Shape.TheVariants as shape
-use Rattle.bt_rules.specs.Contents.{holds}
-use Rattle.bt_rules.specs.Spots.{before}
+use Rattle.bt_facts.specs.declared.fact.Half.TheVariants.{Lesser, Greater}
+use Rattle.bt_facts.specs.declared.fact.Shape.{Shape}
+use Rattle.bt_facts.specs.declared.fact.Shape.TheVariants as shape
+use Rattle.bt_facts.specs.Facts.{holds}
+use Rattle.bt_facts.specs.Spots.{before}
 use Rattle.bt_rules.specs.Kept.{kind_of, half, IsKeptPart}
-use Rattle.bt_rules.proofs.Geometry.{before_beside}
+use Rattle.bt_facts.proofs.Geometry.{before_beside}
 use Rattle.bt_rules.proofs.kept.Geometry.{beside_before}
 use Rattle.bt_rules.proofs.kept.Solved.{Solved, Says}
 use Rattle.bt_rules.proofs.kept.CellFacts.{one_shape, one_dir, half_on, mate_there}

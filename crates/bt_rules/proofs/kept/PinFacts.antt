@@ -17,20 +17,20 @@ use Rattle.bt_net.specs.declared.network.Side.{Side}
 use Rattle.bt_net.specs.declared.network.Start.TheVariants as from
 use Rattle.bt_net.specs.declared.network.Target.TheVariants as to
 use Rattle.bt_model.specs.Requests.{Names, ShareEnd, ends_of, pinned}
-use Rattle.bt_rules.specs.declared.fact.Fact.{Fact}
-use Rattle.bt_rules.specs.declared.fact.Fact.TheVariants.{Carries, Begins}
-use Rattle.bt_rules.specs.declared.fact.Shape.{Shape}
-use Rattle.bt_rules.specs.declared.fact.Shape.TheVariants as shape
-use Rattle.bt_rules.specs.Classes.{class_of, is_end_input, pins_input, is_pinned, names}
-use Rattle.bt_rules.specs.Contents.{holds}
+use Rattle.bt_facts.specs.declared.fact.Fact.{Fact}
+use Rattle.bt_facts.specs.declared.fact.Fact.TheVariants.{Carries, Begins}
+use Rattle.bt_facts.specs.declared.fact.Shape.{Shape}
+use Rattle.bt_facts.specs.declared.fact.Shape.TheVariants as shape
+use Rattle.bt_demands.specs.Classes.{class_of, is_end_input, pins_input, is_pinned, names}
+use Rattle.bt_facts.specs.Facts.{holds}
 use Rattle.bt_rules.specs.Going.{runners}
-use Rattle.bt_rules.specs.Pinning.{is_edge_of, pin_class_rules, enders, end_facts, end_shapes, turned_rules, same_kind, pins_clash, clashes, clash_rules}
-use Rattle.bt_rules.specs.Rules.{some_of, not_all, OneHolds, Keeps}
-use Rattle.bt_rules.specs.Spots.{dirs, others_than, where_outside}
-use Rattle.bt_rules.proofs.Deciding.{contains_at, same_dir}
-use Rattle.bt_rules.proofs.Geometry.{in_others}
-use Rattle.bt_rules.proofs.Keeping.{In, from_flat, in_filter}
-use Rattle.bt_rules.proofs.Sharing.{names_true, true_names}
+use Rattle.bt_demands.specs.Pinning.{is_edge_of, pin_class_rules, enders, end_facts, end_shapes, turned_rules, same_kind, pins_clash, clashes, clash_rules}
+use Rattle.bt_facts.specs.Rules.{some_of, not_all, OneHolds, Keeps}
+use Rattle.bt_facts.specs.Spots.{dirs, others_than, where_outside}
+use Rattle.bt_facts.proofs.Decided.{contains_at, same_dir}
+use Rattle.bt_facts.proofs.Geometry.{in_others}
+use Rattle.bt_facts.proofs.Keeping.{In, from_flat, in_filter}
+use Rattle.bt_demands.proofs.Sharing.{names_true, true_names}
 use Rattle.bt_rules.proofs.kept.Readings.{all_left, all_right, all_mapped, all_flat, one_in, one_from}
 use Rattle.bt_rules.proofs.kept.ListFacts.{contains_in}
 use Rattle.bt_rules.proofs.kept.RankFacts.{has_any}

@@ -8,18 +8,18 @@ use Rattle.bt_parts.specs.declared.part.Dir.{Dir}
 use Rattle.bt_parts.specs.Cells.{IsInside}
 use Rattle.bt_net.specs.declared.network.Edge.{Edge}
 use Rattle.bt_net.specs.Network.{leaves}
-use Rattle.bt_rules.specs.declared.fact.Class.{Class}
-use Rattle.bt_rules.specs.declared.fact.Fact.{Fact}
-use Rattle.bt_rules.specs.declared.fact.Fact.TheVariants.{Carries, Goes, At, EntersLesser, LeavesLesser}
-use Rattle.bt_rules.specs.declared.fact.Half.{Half}
-use Rattle.bt_rules.specs.declared.fact.Half.TheVariants.{Lesser, Greater}
-use Rattle.bt_rules.specs.Classes.{same_class, classes_into}
-use Rattle.bt_rules.specs.Going.{goes_into}
+use Rattle.bt_facts.specs.declared.fact.Class.{Class}
+use Rattle.bt_facts.specs.declared.fact.Fact.{Fact}
+use Rattle.bt_facts.specs.declared.fact.Fact.TheVariants.{Carries, Goes, At, EntersLesser, LeavesLesser}
+use Rattle.bt_facts.specs.declared.fact.Half.{Half}
+use Rattle.bt_facts.specs.declared.fact.Half.TheVariants.{Lesser, Greater}
+use Rattle.bt_demands.specs.Classes.{same_class, classes_into}
+use Rattle.bt_facts.specs.Facts.{goes_into}
 use Rattle.bt_rules.specs.Ports.{carries_into, two_in_rules, in_rules, out_rules, standing_port_rules}
-use Rattle.bt_rules.specs.Rules.{Rule, rule, not_all, rule_by, AllHold, OneHolds, Keeps}
-use Rattle.bt_rules.specs.Spots.{dirs, halves, other_half, mate, half_at, behind, cells_of}
-use Rattle.bt_rules.proofs.Geometry.{in_cells, in_dirs, in_halves}
-use Rattle.bt_rules.proofs.Keeping.{In}
+use Rattle.bt_facts.specs.Rules.{Rule, rule, not_all, rule_by, AllHold, OneHolds, Keeps}
+use Rattle.bt_facts.specs.Spots.{dirs, halves, other_half, mate, half_at, behind, cells_of}
+use Rattle.bt_facts.proofs.Geometry.{in_cells, in_dirs, in_halves}
+use Rattle.bt_facts.proofs.Keeping.{In}
 use Rattle.bt_rules.proofs.kept.Readings.{all_left, all_right, all_flat, all_mapped}
 use Rattle.bt_rules.proofs.kept.Geometry.{where_in}
 use Rattle.bt_rules.proofs.Classed.{class_same}

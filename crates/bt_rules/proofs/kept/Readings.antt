@@ -1,9 +1,9 @@
 -- What lists of rules say of a reading of facts.
 use Rattle.std.proofs.Common.{◌≡◌, Bool, true, List, [], ◌∷◌, ◌++◌, map, refl, sym, ◌∙◌, subst, inl, inr}
 use Rattle.std.specs.List.{AllByRecursion, flat_map}
-use Rattle.bt_rules.specs.declared.fact.Fact.{Fact}
-use Rattle.bt_rules.proofs.Keeping.{In}
-use Rattle.bt_rules.specs.Rules.{not_all, at_most_one, OneHolds, Keeps}
+use Rattle.bt_facts.specs.declared.fact.Fact.{Fact}
+use Rattle.bt_facts.proofs.Keeping.{In}
+use Rattle.bt_facts.specs.Rules.{not_all, at_most_one, OneHolds, Keeps}
 
 -- ---- all of a list
 

@@ -11,14 +11,14 @@ use Rattle.bt_model.specs.Chains.{IsLink, Path, one, more}
 use Rattle.bt_model.specs.Clean.{IsOnRing, IsClean}
 use Rattle.bt_model.specs.Handing.{Feeds, Hands}
 use Rattle.bt_model.specs.Shown.{ListsEach}
-use Rattle.bt_rules.specs.declared.fact.Fact.TheVariants.{Begins, Goes}
-use Rattle.bt_rules.specs.declared.fact.Shape.{Shape}
-use Rattle.bt_rules.specs.declared.fact.Shape.TheVariants as shape
-use Rattle.bt_rules.specs.Contents.{holds}
-use Rattle.bt_rules.specs.Spots.{behind}
+use Rattle.bt_facts.specs.declared.fact.Fact.TheVariants.{Begins, Goes}
+use Rattle.bt_facts.specs.declared.fact.Shape.{Shape}
+use Rattle.bt_facts.specs.declared.fact.Shape.TheVariants as shape
+use Rattle.bt_facts.specs.Facts.{holds}
+use Rattle.bt_facts.specs.Spots.{behind}
 use Rattle.bt_rules.specs.Kept.{kind_of, begun, half, handed, under, IsKeptPart}
-use Rattle.bt_rules.proofs.Geometry.{behind_step}
-use Rattle.bt_rules.proofs.Keeping.{In}
+use Rattle.bt_facts.proofs.Geometry.{behind_step}
+use Rattle.bt_facts.proofs.Keeping.{In}
 use Rattle.bt_rules.proofs.kept.Solved.{Solved, Says}
 use Rattle.bt_rules.proofs.kept.CellFacts.{one_shape, half_there}
 use Rattle.bt_rules.proofs.kept.GoingFacts.{taker_there, begun_there, begun_still}

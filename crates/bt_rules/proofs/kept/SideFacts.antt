@@ -4,7 +4,7 @@ use Rattle.std.specs.List.{flat_map, filter, range_with_len}
 use Rattle.std.proofs.lemmas.Bool.{cases_eq, cases_order}
 use Rattle.bt_parts.specs.declared.part.Cell.{Cell}
 use Rattle.bt_parts.specs.declared.part.Dir.{Dir}
-use Rattle.bt_parts.specs.Cells.{step, opposite, IsInside}
+use Rattle.bt_parts.specs.Cells.{step, opposite, IsInside, cell_at}
 use Rattle.bt_net.specs.declared.network.Demand.TheVariants as demand
 use Rattle.bt_net.specs.declared.network.Edge.{Edge}
 use Rattle.bt_net.specs.declared.network.End.{End}
@@ -16,19 +16,19 @@ use Rattle.bt_net.specs.declared.network.Side.{Side}
 use Rattle.bt_net.specs.declared.network.Start.TheVariants as from
 use Rattle.bt_net.specs.declared.network.Target.TheVariants as to
 use Rattle.bt_net.specs.Network.{HasEnd}
-use Rattle.bt_model.specs.Requests.{Names, IsPinnedInside, cell_at, pinned}
-use Rattle.bt_rules.specs.declared.fact.Fact.TheVariants.{Carries, Begins, Stops}
-use Rattle.bt_rules.specs.declared.fact.Shape.{Shape}
-use Rattle.bt_rules.specs.declared.fact.Shape.TheVariants as shape
-use Rattle.bt_rules.specs.Classes.{class_of}
-use Rattle.bt_rules.specs.Contents.{holds}
+use Rattle.bt_model.specs.Requests.{Names, IsPinnedInside, pinned}
+use Rattle.bt_facts.specs.declared.fact.Fact.TheVariants.{Carries, Begins, Stops}
+use Rattle.bt_facts.specs.declared.fact.Shape.{Shape}
+use Rattle.bt_facts.specs.declared.fact.Shape.TheVariants as shape
+use Rattle.bt_demands.specs.Classes.{class_of}
+use Rattle.bt_facts.specs.Facts.{holds}
 use Rattle.bt_rules.specs.Going.{runners}
-use Rattle.bt_rules.specs.Pinning.{is_edge_of, end_shapes, end_classes, not_begun, begun_rules, stop_rules, apart_rules, pins_other, unpinned_rules, output_rules, side_end_rules, ends_named}
-use Rattle.bt_rules.specs.Rules.{rule, not_all, OneHolds, Keeps}
-use Rattle.bt_rules.specs.Spots.{others_than, border_of}
-use Rattle.bt_rules.proofs.Deciding.{same_dir}
-use Rattle.bt_rules.proofs.Geometry.{in_others}
-use Rattle.bt_rules.proofs.Keeping.{In, in_map, in_filter, in_range}
+use Rattle.bt_demands.specs.Pinning.{is_edge_of, end_shapes, end_classes, not_begun, begun_rules, stop_rules, apart_rules, pins_other, unpinned_rules, output_rules, side_end_rules, ends_named}
+use Rattle.bt_facts.specs.Rules.{rule, not_all, OneHolds, Keeps}
+use Rattle.bt_facts.specs.Spots.{others_than, border_of}
+use Rattle.bt_facts.proofs.Decided.{same_dir}
+use Rattle.bt_facts.proofs.Geometry.{in_others}
+use Rattle.bt_facts.proofs.Keeping.{In, in_map, in_filter, in_range}
 use Rattle.bt_rules.proofs.kept.Geometry.{border_inside}
 use Rattle.bt_rules.proofs.kept.Readings.{all_left, all_right, all_mapped, all_flat}
 use Rattle.bt_rules.proofs.kept.ListFacts.{all_at}

@@ -7,22 +7,22 @@ use Rattle.bt_parts.specs.Cells.{IsInside}
 use Rattle.bt_net.specs.declared.network.Block.{Block}
 use Rattle.bt_net.specs.declared.network.Demand.{Demand}
 use Rattle.bt_model.specs.Requests.{LayoutRequest, IsRequest}
-use Rattle.bt_rules.specs.declared.fact.Fact.{Fact}
+use Rattle.bt_facts.specs.declared.fact.Fact.{Fact}
 use Rattle.bt_rules.specs.Carrying.{carrying_rules}
-use Rattle.bt_rules.specs.Classes.{splitters_of}
+use Rattle.bt_demands.specs.Classes.{splitters_of}
 use Rattle.bt_rules.specs.Contents.{content_rules, shape_rules, mate_rules, class_rules}
-use Rattle.bt_rules.specs.Counting.{has_room, count_rules}
+use Rattle.bt_demands.specs.Counting.{has_room, count_rules}
 use Rattle.bt_rules.specs.Going.{handing_rules}
-use Rattle.bt_rules.specs.Pinning.{demand_rules, clash_rules, block_rule}
+use Rattle.bt_demands.specs.Pinning.{demand_rules, clash_rules, block_rule}
 use Rattle.bt_rules.specs.PlaceRules.{cell_rules, splitter_rules, room_rules, rules_of}
 use Rattle.bt_rules.specs.Ports.{port_rules}
-use Rattle.bt_rules.specs.Rules.{Rule, some_of, Keeps, OneHolds}
-use Rattle.bt_rules.specs.Spots.{cells_of, where_inside, where_outside}
+use Rattle.bt_facts.specs.Rules.{Rule, some_of, Keeps, OneHolds}
+use Rattle.bt_facts.specs.Spots.{cells_of, where_inside, where_outside}
 use Rattle.bt_rules.specs.Standing.{standing_rules, place_rules}
-use Rattle.bt_rules.specs.Starts.{input_rules}
+use Rattle.bt_demands.specs.Starts.{input_rules}
 use Rattle.bt_rules.specs.Underground.{underground_rules}
-use Rattle.bt_rules.proofs.Geometry.{in_cells}
-use Rattle.bt_rules.proofs.Keeping.{In, in_range}
+use Rattle.bt_facts.proofs.Geometry.{in_cells}
+use Rattle.bt_facts.proofs.Keeping.{In, in_range}
 use Rattle.bt_rules.proofs.kept.Readings.{all_left, all_right, all_mapped, all_flat}
 use Rattle.bt_rules.proofs.kept.Geometry.{in_or_out, where_in, where_out, out_in, out_out}
 

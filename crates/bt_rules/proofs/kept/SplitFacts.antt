@@ -8,16 +8,16 @@ use Rattle.bt_parts.specs.Layouts.{HasPart, IsAt}
 use Rattle.bt_parts.proofs.Places.{same_part}
 use Rattle.bt_model.specs.Chains.{IsSplitter}
 use Rattle.bt_model.specs.Shown.{ListsEach}
-use Rattle.bt_rules.specs.declared.fact.Class.TheVariants.{Split}
-use Rattle.bt_rules.specs.declared.fact.Fact.TheVariants.{Carries, At}
-use Rattle.bt_rules.specs.declared.fact.Half.{Half}
-use Rattle.bt_rules.specs.declared.fact.Half.TheVariants.{Lesser, Greater}
-use Rattle.bt_rules.specs.declared.fact.Shape.{Shape}
-use Rattle.bt_rules.specs.declared.fact.Shape.TheVariants as shape
-use Rattle.bt_rules.specs.Contents.{holds}
-use Rattle.bt_rules.specs.Spots.{other_half, half_at}
+use Rattle.bt_facts.specs.declared.fact.Class.TheVariants.{Split}
+use Rattle.bt_facts.specs.declared.fact.Fact.TheVariants.{Carries, At}
+use Rattle.bt_facts.specs.declared.fact.Half.{Half}
+use Rattle.bt_facts.specs.declared.fact.Half.TheVariants.{Lesser, Greater}
+use Rattle.bt_facts.specs.declared.fact.Shape.{Shape}
+use Rattle.bt_facts.specs.declared.fact.Shape.TheVariants as shape
+use Rattle.bt_facts.specs.Facts.{holds}
+use Rattle.bt_facts.specs.Spots.{other_half, half_at}
 use Rattle.bt_rules.specs.Kept.{half, IsKeptPart}
-use Rattle.bt_rules.proofs.Geometry.{beside_apart}
+use Rattle.bt_facts.proofs.Geometry.{beside_apart}
 use Rattle.bt_rules.proofs.kept.Solved.{Solved, Says}
 use Rattle.bt_rules.proofs.kept.CellFacts.{half_on, mate_there, owner_of, one_name, at_lesser, at_name, at_mate, stands_somewhere, one_place}
 use Rattle.bt_rules.proofs.kept.Arrivals.{Reached, reached_inside}

@@ -12,18 +12,18 @@ use Rattle.bt_net.specs.declared.network.Target.TheVariants as to
 use Rattle.bt_model.specs.Chains.{IsLink, IsInput, begins, enters, Chain, IsChain}
 use Rattle.bt_model.specs.Shown.{ListsEach}
 use Rattle.bt_model.proofs.ExistLemmas.{run_from, input_link, input_chain}
-use Rattle.bt_rules.specs.declared.fact.Class.TheVariants.{Input}
-use Rattle.bt_rules.specs.declared.fact.Fact.TheVariants.{Carries, Begins, Starts}
-use Rattle.bt_rules.specs.declared.fact.Shape.{Shape}
-use Rattle.bt_rules.specs.declared.fact.Shape.TheVariants as shape
-use Rattle.bt_rules.specs.Classes.{class_of, is_through}
-use Rattle.bt_rules.specs.Contents.{holds}
+use Rattle.bt_facts.specs.declared.fact.Class.TheVariants.{Input}
+use Rattle.bt_facts.specs.declared.fact.Fact.TheVariants.{Carries, Begins, Starts}
+use Rattle.bt_facts.specs.declared.fact.Shape.{Shape}
+use Rattle.bt_facts.specs.declared.fact.Shape.TheVariants as shape
+use Rattle.bt_demands.specs.Classes.{class_of, is_through}
+use Rattle.bt_facts.specs.Facts.{holds}
 use Rattle.bt_rules.specs.Kept.{kind_of, begun, IsKeptPart}
-use Rattle.bt_rules.specs.Rules.{Rule, exactly_one, Keeps}
-use Rattle.bt_rules.specs.Spots.{border_of}
-use Rattle.bt_rules.specs.Starts.{start_rules}
-use Rattle.bt_rules.proofs.Geometry.{in_border}
-use Rattle.bt_rules.proofs.Keeping.{In, in_map}
+use Rattle.bt_facts.specs.Rules.{Rule, exactly_one, Keeps}
+use Rattle.bt_facts.specs.Spots.{border_of}
+use Rattle.bt_demands.specs.Starts.{start_rules}
+use Rattle.bt_facts.proofs.Geometry.{in_border}
+use Rattle.bt_facts.proofs.Keeping.{In, in_map}
 use Rattle.bt_rules.proofs.kept.Readings.{all_left, all_right, all_flat, one_mapped, one_holds}
 use Rattle.bt_rules.proofs.kept.Geometry.{border_inside}
 use Rattle.bt_rules.proofs.kept.NetFacts.{IsEdge}

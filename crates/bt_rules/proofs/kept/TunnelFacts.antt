@@ -4,16 +4,16 @@ use Rattle.std.specs.List.{flat_map, range_with_len}
 use Rattle.bt_parts.specs.declared.part.Cell.{Cell}
 use Rattle.bt_parts.specs.declared.part.Dir.{Dir}
 use Rattle.bt_parts.specs.Cells.{step, steps, opposite, IsInside}
-use Rattle.bt_rules.specs.declared.fact.Class.{Class}
-use Rattle.bt_rules.specs.declared.fact.Fact.TheVariants.{Carries, Pair, Tunnel}
-use Rattle.bt_rules.specs.declared.fact.Shape.TheVariants as shape
-use Rattle.bt_rules.specs.Classes.{classes_of}
-use Rattle.bt_rules.specs.Contents.{holds}
-use Rattle.bt_rules.specs.Rules.{Rule, rule, not_all, at_most_one, Keeps}
-use Rattle.bt_rules.specs.Spots.{dirs, where_inside, where_outside}
+use Rattle.bt_facts.specs.declared.fact.Class.{Class}
+use Rattle.bt_facts.specs.declared.fact.Fact.TheVariants.{Carries, Pair, Tunnel}
+use Rattle.bt_facts.specs.declared.fact.Shape.TheVariants as shape
+use Rattle.bt_demands.specs.Classes.{classes_of}
+use Rattle.bt_facts.specs.Facts.{holds}
+use Rattle.bt_facts.specs.Rules.{Rule, rule, not_all, at_most_one, Keeps}
+use Rattle.bt_facts.specs.Spots.{dirs, where_inside, where_outside}
 use Rattle.bt_rules.specs.Underground.{most_distance, tunnel_rules, pairs_from, pairs_into, paired_rules, way_rules, pair_class_rules, pair_rules, piece_rules, back}
-use Rattle.bt_rules.proofs.Geometry.{in_dirs}
-use Rattle.bt_rules.proofs.Keeping.{In, from_flat, from_range, in_flat, in_map, in_range}
+use Rattle.bt_facts.proofs.Geometry.{in_dirs}
+use Rattle.bt_facts.proofs.Keeping.{In, from_flat, from_range, in_flat, in_map, in_range}
 use Rattle.bt_rules.proofs.kept.Readings.{all_left, all_right, all_mapped, all_flat, one_in, one_from, one_holds}
 use Rattle.bt_rules.proofs.kept.Geometry.{where_in}
 use Rattle.bt_rules.proofs.kept.Solved.{Solved, Says, Kept, one_inside, underground_kept}

@@ -18,12 +18,12 @@ use Rattle.bt_model.specs.Chains.{IsOutput, ends, Chain, IsChain}
 use Rattle.bt_model.specs.Shown.{ListsEach}
 use Rattle.bt_model.proofs.ExistLemmas.{to_output, output_link}
 use Rattle.bt_model.proofs.SameChain.{same_ends}
-use Rattle.bt_rules.specs.declared.fact.Shape.{Shape}
-use Rattle.bt_rules.specs.Classes.{class_of}
-use Rattle.bt_rules.specs.Contents.{holds}
+use Rattle.bt_facts.specs.declared.fact.Shape.{Shape}
+use Rattle.bt_demands.specs.Classes.{class_of}
+use Rattle.bt_facts.specs.Facts.{holds}
 use Rattle.bt_rules.specs.Going.{runners}
 use Rattle.bt_rules.specs.Kept.{kind_of, IsKeptPart}
-use Rattle.bt_rules.proofs.Keeping.{In}
+use Rattle.bt_facts.proofs.Keeping.{In}
 use Rattle.bt_rules.proofs.kept.RankFacts.{rank, rank_at, rank_one}
 use Rattle.bt_rules.proofs.kept.NetFacts.{IsEdge, edge_ends, class_in, output_by}
 use Rattle.bt_rules.proofs.kept.Solved.{Solved, Says}

@@ -1,25 +1,22 @@
 -- Parts of lists of rules that are added together.
 use Rattle.std.specs.List.{flat_map}
-use Rattle.std.specs.Prelude.{ℕ, List, [], ◌∷◌, ◌++◌, map, if◌then◌else◌}
+use Rattle.std.specs.Prelude.{ℕ, List, [], ◌∷◌, ◌++◌, map}
 use Rattle.bt_parts.specs.declared.part.Cell.{Cell}
 use Rattle.bt_parts.specs.declared.part.Dir.{Dir}
 use Rattle.bt_parts.specs.declared.part.Rect.{Rect}
 use Rattle.bt_parts.specs.Cells.{step, steps, opposite}
-use Rattle.bt_net.specs.declared.network.Edge.{Edge}
-use Rattle.bt_net.specs.declared.network.End.{End}
 use Rattle.bt_model.specs.Requests.{LayoutRequest}
-use Rattle.bt_rules.specs.declared.fact.Class.{Class}
-use Rattle.bt_rules.specs.declared.fact.Content.TheVariants.{Empty}
-use Rattle.bt_rules.specs.declared.fact.Fact.{Fact}
-use Rattle.bt_rules.specs.declared.fact.Fact.TheVariants.{Kind, Carries, HalfOn, Stops, Pair, Tunnel, Goes}
-use Rattle.bt_rules.specs.declared.fact.Shape.TheVariants as shape
+use Rattle.bt_facts.specs.declared.fact.Content.TheVariants.{Empty}
+use Rattle.bt_facts.specs.declared.fact.Fact.{Fact}
+use Rattle.bt_facts.specs.declared.fact.Fact.TheVariants.{Kind, Carries, HalfOn, Pair, Tunnel, Goes}
+use Rattle.bt_facts.specs.declared.fact.Shape.TheVariants as shape
 use Rattle.bt_rules.specs.Carrying.{carried_rules, taken_rule, carrying_rules}
-use Rattle.bt_rules.specs.Classes.{class_of, classes_of, input_classes, splitters_of}
-use Rattle.bt_rules.specs.Contents.{holds, content_rules, shape_rules, mate_rules, class_rules}
+use Rattle.bt_demands.specs.Classes.{classes_of, input_classes, splitters_of}
+use Rattle.bt_facts.specs.Facts.{holds}
+use Rattle.bt_rules.specs.Contents.{content_rules, shape_rules, mate_rules, class_rules}
 use Rattle.bt_rules.specs.Going.{givers, takers, runners, handing_rules}
-use Rattle.bt_rules.specs.Pinning.{is_edge_of, not_begun}
-use Rattle.bt_rules.specs.Rules.{Rule, rule, some_of, not_all, at_most_one}
-use Rattle.bt_rules.specs.Spots.{halves, others_than, behind, where_inside, where_outside}
+use Rattle.bt_facts.specs.Rules.{Rule, rule, some_of, not_all, at_most_one}
+use Rattle.bt_facts.specs.Spots.{halves, behind, where_inside, where_outside}
 use Rattle.bt_rules.specs.Standing.{standing_rules}
 use Rattle.bt_rules.specs.Underground.{tunnel_into, back, underground_rules}
 
@@ -47,10 +44,6 @@ running_rules c dir = map (λ of. rule (holds c of dir ∷ []) (Goes c dir ∷ [
 -- a belt and an entrance so turned, where what is behind them is outside
 abbrev pub starters_towards : Rect → Cell → Dir → List Fact
 starters_towards rect c dir = where_outside rect (behind dir c) (holds c shape.Belt dir ∷ holds c shape.Entrance dir ∷ [])
-
--- a belt and an exit so turned, where what is in front of them is outside
-abbrev pub enders_towards : Rect → Cell → Dir → List Fact
-enders_towards rect c dir = where_outside rect (step dir c) (holds c shape.Belt dir ∷ holds c shape.Exit dir ∷ [])
 
 -- how classes go on from a cell to one inside the rectangle
 abbrev pub onward_inside_rules : LayoutRequest → Cell → Dir → List Rule
@@ -86,15 +79,3 @@ standing_part_rules r c = content_rules c ++ shape_rules c ++ mate_rules r.rect 
 -- the rules of what is handed on from a cell
 abbrev pub handing_part_rules : LayoutRequest → Cell → List Rule
 handing_part_rules r c = handing_rules r c ++ underground_rules r c ++ carrying_rules r c
-
--- the class of the edge, where it is that of this end
-abbrev pub end_class : LayoutRequest → End → Edge → List Class
-end_class r e edge = if is_edge_of e edge then class_of r.demands edge ∷ [] else []
-
--- inputs of this class begin on these cells turned away from this side alone
-abbrev pub begun_on : Dir → Class → List Cell → List Rule
-begun_on dir k cells = flat_map (λ c. flat_map (not_begun k c) (others_than (opposite dir))) cells
-
--- what stands on the cell where the output, whose edge has these classes, stops there
-abbrev pub stop_part_rules : Rect → Dir → ℕ → List Class → Cell → List Rule
-stop_part_rules rect dir o classes c = rule (Stops c o ∷ []) (enders_towards rect c dir) ∷ map (λ k. rule (Stops c o ∷ []) (Carries c k ∷ [])) classes

@@ -6,15 +6,15 @@ use Rattle.bt_parts.specs.declared.part.Dir.{Dir}
 use Rattle.bt_parts.specs.declared.part.Rect.{Rect}
 use Rattle.bt_net.specs.Network.{leaves}
 use Rattle.bt_model.specs.Requests.{LayoutRequest}
-use Rattle.bt_rules.specs.declared.fact.Class.{Class}
-use Rattle.bt_rules.specs.declared.fact.Fact.{Fact}
-use Rattle.bt_rules.specs.declared.fact.Fact.TheVariants.{Goes, LeavesLesser}
-use Rattle.bt_rules.specs.declared.fact.Half.{Half}
-use Rattle.bt_rules.specs.Classes.{classes_into}
-use Rattle.bt_rules.specs.Going.{goes_into}
+use Rattle.bt_facts.specs.declared.fact.Class.{Class}
+use Rattle.bt_facts.specs.declared.fact.Fact.{Fact}
+use Rattle.bt_facts.specs.declared.fact.Fact.TheVariants.{Goes, LeavesLesser}
+use Rattle.bt_facts.specs.declared.fact.Half.{Half}
+use Rattle.bt_demands.specs.Classes.{classes_into}
+use Rattle.bt_facts.specs.Facts.{goes_into}
 use Rattle.bt_rules.specs.Ports.{two_in_rules, in_rules, out_rules}
-use Rattle.bt_rules.specs.Rules.{Rule, rule, rule_by}
-use Rattle.bt_rules.specs.Spots.{halves, other_half, half_at}
+use Rattle.bt_facts.specs.Rules.{Rule, rule, rule_by}
+use Rattle.bt_facts.specs.Spots.{halves, other_half, half_at}
 
 -- something comes into the half, of one of two classes
 abbrev pub two_rules : Rect → ℕ → Fact → Cell → Dir → Class → Class → Half → List Rule

@@ -2,13 +2,13 @@
 use Rattle.std.specs.Prelude.{◌≡◌, ◌≢◌, ◌⊎◌, ◌↔◌, ◌+◌, ◌-◌, ◌<◌, ◌≤◌, ℕ, List, [], Option, Some, None, length, map, reverse, slice_index_or, Contains}
 use Rattle.std.specs.List.{All}
 use Rattle.bt_cnf.specs.declared.literal.Lit.{Lit}
-use Rattle.bt_log.specs.Units.{opposite, UnitsRefute}
-use Rattle.bt_log.specs.Validity.{clause_at}
+use Rattle.bt_cnf.specs.Units.{opposite, clause_at}
+use Rattle.bt_log.specs.Units.{UnitsRefute}
+use Rattle.bt_watch.specs.declared.search.Search.{Search}
+use Rattle.bt_watch.specs.Levels.{start_of}
+use Rattle.bt_watch.specs.Reasons.{lit_at}
 use Rattle.bt_sat.specs.declared.analysis.ConflictLevel.{ConflictLevel}
-use Rattle.bt_sat.specs.declared.search.Search.{Search}
 use Rattle.bt_sat.specs.inner.Agendas.{Takes, Reaches}
-use Rattle.bt_sat.specs.inner.Levels.{start_of}
-use Rattle.bt_sat.specs.inner.Reasons.{lit_at}
 
 -- the literal that is false at a place of the trail
 abbrev pub false_at : List Lit → ℕ → Lit

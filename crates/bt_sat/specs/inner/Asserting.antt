@@ -3,12 +3,12 @@ use Rattle.std.specs.Prelude.{◌≡◌, ◌⊎◌, ◌<◌, ◌≤◌, ℕ, Lis
 use Rattle.std.specs.List.{All}
 use Rattle.bt_cnf.specs.Formulas.{LitsBelow}
 use Rattle.bt_cnf.specs.declared.literal.Lit.{Lit}
-use Rattle.bt_log.specs.Units.{opposite, HasNoBothSigns, UnitsRefute}
-use Rattle.bt_log.specs.Validity.{clause_at}
-use Rattle.bt_sat.specs.declared.search.Search.{Search}
-use Rattle.bt_sat.specs.inner.Levels.{start_of, front_of, IsReady}
-use Rattle.bt_sat.specs.inner.Reasons.{lit_at}
-use Rattle.bt_sat.specs.inner.Truths.{IsTrueIn, IsFalseIn}
+use Rattle.bt_cnf.specs.Truths.{IsTrueIn, IsFalseIn}
+use Rattle.bt_cnf.specs.Units.{opposite, HasNoBothSigns, clause_at}
+use Rattle.bt_log.specs.Units.{UnitsRefute}
+use Rattle.bt_watch.specs.declared.search.Search.{Search}
+use Rattle.bt_watch.specs.Levels.{start_of, front_of, IsReady, IsLevelOf}
+use Rattle.bt_watch.specs.Reasons.{lit_at}
 
 -- the places are of the trail, the greatest first, and the first is the only one from where a level begins on
 pub record HaveUniquePoint (s : Search) (picked : List ℕ) : Type 0 where
@@ -43,3 +43,9 @@ pub record IsPrepared (all : List (List Lit)) (vars : ℕ) (s : Search) (lits : 
   pub variables : length s.assignment.values ≡ vars
   pub hinted : IsHinted all vars lits hints
   pub asserts : (lits ≡ []) ⊎ IsAsserting all s lits
+
+-- all places but the first are of literals that are true before this level begins; the second isn't before the level in
+-- front of it; where there is one place alone, the level is the first of all
+pub record IsAssertionLevel (starts picked : List ℕ) (level : ℕ) : Type 0 where
+  pub many : 1 < length picked → IsLevelOf starts (slice_index_or picked 1 0) level
+  pub one : length picked ≤ 1 → level ≡ 0

@@ -1,20 +1,20 @@
 -- A lemma that is added where all variables have a value.
 use Rattle.std.specs.Prelude.{◌≡◌, ◌≢◌, ◌⊎◌, ◌↔◌, ◌<◌, ◌≤◌, ℕ, List, [], ◌∷◌, ◌++◌, Option, length, slice_index_or, Contains}
 use Rattle.std.specs.List.{All}
-use Rattle.bt_cnf.specs.Formulas.{LitsBelow}
 use Rattle.bt_frac.specs.Ratio.{Ratio}
+use Rattle.bt_cnf.specs.Formulas.{LitsBelow}
 use Rattle.bt_cnf.specs.declared.literal.Lit.{Lit}
+use Rattle.bt_cnf.specs.Truths.{IsFalseIn}
 use Rattle.bt_log.specs.Logs.{Lemma}
-use Rattle.bt_log.specs.Units.{opposite}
+use Rattle.bt_cnf.specs.Units.{opposite}
+use Rattle.bt_watch.specs.declared.search.Search.{Search}
+use Rattle.bt_watch.specs.Levels.{front_of, AreLevels, ArePlaced, IsHeld, IsOrdered, IsReady, Stands}
+use Rattle.bt_watch.specs.Propagating.{IsWhole}
+use Rattle.bt_watch.specs.Reasons.{AreSame, lit_at}
 use Rattle.bt_sat.specs.declared.progress.Progress.{Progress}
-use Rattle.bt_sat.specs.declared.search.Search.{Search}
 use Rattle.bt_sat.specs.inner.Analysing.{falses_at, IsSeen}
 use Rattle.bt_sat.specs.inner.Asserting.{IsAsserting}
-use Rattle.bt_sat.specs.inner.Levels.{front_of, AreLevels, ArePlaced, IsHeld, IsOrdered, IsReady}
-use Rattle.bt_sat.specs.inner.Progressing.{IsRunning, LogsStep, Stands}
-use Rattle.bt_sat.specs.inner.Propagating.{IsWhole}
-use Rattle.bt_sat.specs.inner.Reasons.{AreSame, lit_at}
-use Rattle.bt_sat.specs.inner.Truths.{IsFalseIn}
+use Rattle.bt_sat.specs.inner.Progressing.{IsRunning, LogsStep}
 
 -- the lemma is one more step, and the search may go on
 pub record TakesLemma (old : Progress) (lits : List Lit) (weights : List Ratio) (new : Progress) : Type 0 where

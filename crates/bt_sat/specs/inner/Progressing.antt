@@ -1,19 +1,18 @@
 -- A search in progress.
-use Rattle.std.specs.Prelude.{◌≡◌, ◌<◌, ◌≤◌, ◌+◌, ◌^◌, ℕ, List, [], ◌∷◌, ◌++◌, Option, Some, None, length}
+use Rattle.std.specs.Prelude.{◌≡◌, ◌<◌, ◌≤◌, ◌+◌, ◌^◌, ℕ, List, [], ◌∷◌, ◌++◌, None, length}
 use Rattle.bt_cnf.specs.Formulas.{IsFormula}
 use Rattle.bt_cnf.specs.declared.literal.Lit.{Lit}
+use Rattle.bt_cnf.specs.Truths.{unset}
 use Rattle.bt_log.specs.Logs.{Step, Learnt}
 use Rattle.bt_log.specs.Validity.{AreValid, IsValidStep}
+use Rattle.bt_watch.specs.Levels.{Stands}
 use Rattle.bt_sat.specs.Freshness.{IsFreshStep}
 use Rattle.bt_sat.specs.Solving.{AreFresh, AreNonempty}
 use Rattle.bt_sat.specs.declared.logged_formula.LoggedFormula.{LoggedFormula}
 use Rattle.bt_sat.specs.declared.progress.Progress.{Progress}
 use Rattle.bt_sat.specs.declared.progress.Learning.{Learning}
 use Rattle.bt_sat.specs.declared.progress.Learning.TheVariants.{GoesOn, Refutes, Spent}
-use Rattle.bt_sat.specs.declared.search.Search.{Search}
 use Rattle.bt_sat.specs.inner.LoggedFormula.{clauses_in}
-use Rattle.bt_sat.specs.inner.Levels.{IsReady, IsInConflict}
-use Rattle.bt_sat.specs.inner.Truths.{unset}
 
 -- the log follows the formula, its steps are valid, fresh and not empty, and no more than the limit says
 pub record IsLogged (known : LoggedFormula) (limit : ℕ) : Type 0 where
@@ -28,11 +27,6 @@ pub record IsLogged (known : LoggedFormula) (limit : ℕ) : Type 0 where
 pub record IsNextStep (known : LoggedFormula) (step : Step) : Type 0 where
   pub valid : IsValidStep known.formula (clauses_in known) step
   pub fresh : IsFreshStep (clauses_in known) step
-
--- where the search stands: all literals of a clause are false, or none is known to be so
-abbrev pub Stands : List (List Lit) → ℕ → Search → Option ℕ → Type 0
-Stands all settled s None = IsReady all settled s
-Stands all settled s (Some conflict) = IsInConflict all conflict s
 
 -- the search may go on
 pub record IsRunning (p : Progress) : Type 0 where

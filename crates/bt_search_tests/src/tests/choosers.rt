@@ -1,7 +1,8 @@
 //! What the choosers pick.
 use super::{add_clauses, fields, is_modelled, literals_of, number_of};
+use bt_choosers::{Active, Highest, Lowest, Recent};
 use bt_cnf::{Chooser, Formula};
-use bt_sat::{Active, Highest, Lowest, Recent, Solver};
+use bt_sat::Solver;
 use std::alloc::{AllocError, Global};
 use std::process::Abort;
 use std::test::Fail;

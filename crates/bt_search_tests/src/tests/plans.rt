@@ -1,7 +1,8 @@
 //! What a search decides by a plan.
 use super::{add_clauses, fields, is_modelled, literals_of, number_of};
+use bt_choosers::{Highest, Part, Plan, Turn};
 use bt_cnf::Formula;
-use bt_sat::{Highest, Part, Plan, Solver, Turn};
+use bt_sat::Solver;
 use std::alloc::{AllocError, Global};
 use std::test::Fail;
 

@@ -3,8 +3,9 @@ ghost use Rattle.std.specs.Prelude.{◌<◌, IfOk, None};
 ghost use Rattle.bt_cnf.specs.Formulas.{LitsBelow};
 
 use super::{fields, number_of};
+use bt_choosers::{Active, Highest, Lowest, Recent};
 use bt_cnf::{Chooser, Formula, Lit, Pick, Var};
-use bt_sat::{Active, Answer, Highest, Lowest, Recent, Solver};
+use bt_sat::{Answer, Solver};
 use std::alloc::{AllocError, Global};
 use std::test::Fail;
 

@@ -1,5 +1,5 @@
 -- What stands in a formula before the definitions that extend it.
-use Rattle.std.specs.Prelude.{◌≡◌, ◌≤◌, List, length, take}
+use Rattle.std.specs.Prelude.{◌≡◌, ◌≤◌, length, take}
 use Rattle.bt_cnf.specs.Formulas.{FormulaParts, IsFormula}
 use Rattle.bt_theory.specs.Reaching.{atom_vars, columns_of}
 use Rattle.bt_theory.specs.declared.base.Base.{Base}

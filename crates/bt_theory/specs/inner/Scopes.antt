@@ -25,6 +25,11 @@ weights_of weighed = map (λ w. w.1) weighed
 abbrev pub IsConflictOf : List ℕ → List (ℕ × Ratio) → Conflict → Type 0
 IsConflictOf atoms weighed conflict = (conflict.lits.items ≡ negations atoms weighed) × (conflict.weights.items ≡ weights_of weighed)
 
+-- the conflict is that of weighed rows, which add up to one that no values meet
+pub record IsShown (atoms : List ℕ) (rows : List RowParts) (weighed : List (ℕ × Ratio)) (conflict : Conflict) : Type 0 where
+  pub of : IsConflictOf atoms weighed conflict
+  pub accepted : IsFarkas (weighted_rows rows weighed) (Ok true)
+
 -- each variable is an atom of the formula, and has the row at the same place
 pub record AreAtoms (f : FormulaParts) (atoms : List ℕ) (rows : List RowParts) : Type 0 where
   pub paired : length atoms ≡ length rows
@@ -32,7 +37,7 @@ pub record AreAtoms (f : FormulaParts) (atoms : List ℕ) (rows : List RowParts)
 
 -- the variables and the rows of a scope
 abbrev pub parts_of : Scope → List ℕ × List RowParts
-parts_of scope = (scope.atoms.items, scope.tableau.rows)
+parts_of scope = (scope.atoms.items, scope.rows.items)
 
 -- there is a row for each variable
 abbrev pub IsPaired : List ℕ × List RowParts → Type 0

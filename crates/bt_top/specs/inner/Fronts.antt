@@ -1,10 +1,9 @@
 -- Fronts of an input: what they tell of the answer to it, whatever may follow.
-use Rattle.std.specs.Prelude.{◌≡◌, ◌⊎◌, ℕ, ◌+◌, ◌<◌, ◌≤◌, Bool, true, false, List, [], ◌++◌, All, Option, Some, None, Result, Ok, Err, IfOk, IfSome, MatchOption, drop, length}
-use denote.Ref.{Bor}
+use Rattle.std.specs.Prelude.{◌≡◌, ℕ, ◌+◌, Bool, false, List, ◌++◌, All, Option, Result, Ok, Err, IfOk, MatchOption, length}
 use Rattle.std.specs.declared.alloc.AllocError.{AllocError}
 use Rattle.bt_answers.specs.Answers.{seen}
 use Rattle.bt_text.specs.Blanks.{IsBlank}
-use Rattle.bt_text.specs.Lines.{line, line_feeds, IsFirstLine, SplitsAt}
+use Rattle.bt_text.specs.Lines.{line}
 use Rattle.bt_io.specs.Bytes.{ReadsAll}
 use Rattle.bt_io.specs.Passages.{Passage}
 use Rattle.bt_io.specs.declared.fault.ReadAll.{ReadAll}
@@ -15,96 +14,19 @@ use Rattle.bt_cert.specs.declared.fault.CertFault.TheVariants as cert
 use Rattle.bt_same.specs.Sameness.{HaveEqualEnds}
 use Rattle.bt_top.specs.declared.answer.Answer.{Answer}
 use Rattle.bt_top.specs.declared.answer.Answer.TheVariants as answer
-use Rattle.bt_top.specs.declared.fault.DesignFault.{DesignFault}
-use Rattle.bt_top.specs.declared.fault.DesignFault.TheVariants as design
+use Rattle.bt_designs.specs.declared.fault.DesignFault.{DesignFault}
+use Rattle.bt_designs.specs.declared.fault.DesignFault.TheVariants as design
 use Rattle.bt_top.specs.declared.front.Front.{Front}
 use Rattle.bt_top.specs.declared.front.Front.TheVariants as front
 use Rattle.bt_top.specs.declared.front.Steps.{Steps}
 use Rattle.bt_top.specs.declared.front.WrittenPair.{WrittenPair}
 use Rattle.bt_top.specs.declared.front.WrittenState.{WrittenState}
-use Rattle.bt_top.specs.declared.held.Held.{Held}
-use Rattle.bt_top.specs.declared.refusal.Refusal.{Refusal}
-use Rattle.bt_top.specs.declared.refusal.Refusal.TheVariants.{Json, NetLine}
+use Rattle.bt_designs.specs.declared.held.Held.{Held}
 use Rattle.bt_top.specs.Certificates.{cert_told}
-use Rattle.bt_top.specs.Designs.{IsJsonText}
-use Rattle.bt_top.specs.Longer.{IsOtherText}
 use Rattle.bt_top.specs.Replies.{Reply}
 use Rattle.bt_top.specs.SameCertificates.{IsPairTextJudged}
 use Rattle.bt_top.specs.States.{IsStateJudged}
-use Rattle.bt_top.specs.inner.Moved.{moved_told}
-
--- ---- what stands at the front
-
--- what may follow the bytes: nothing where the input has ended
-abbrev pub MayFollow : Bool → List ℕ → Type 0
-MayFollow ended more = ended ≡ true → more ≡ []
-
--- this is right of the bytes, whatever may follow them
-abbrev pub Lasts : {R : Type 0} → (List ℕ → R → Type 0) → Bool → List ℕ → R → Type 0
-Lasts Right ended bytes answer = (more : List ℕ) → MayFollow ended more → Right (bytes ++ more) answer
-
--- and so it is behind the blanks that were dropped
-abbrev pub LastsBehind : {R : Type 0} → (List ℕ → R → Type 0) → Held → R → Type 0
-LastsBehind Right held answer = (blanks : List ℕ) → All IsBlank blanks → length blanks ≡ held.skipped → Lasts Right held.ended (blanks ++ held.bytes.now) answer
-
--- a byte is there, or the input has ended
-abbrev pub IsAtHand : Bool → List ℕ → Type 0
-IsAtHand ended bytes = (ended ≡ true) ⊎ (0 < length bytes)
-
--- JSON text, or other text that ends with a line feed
-abbrev pub IsToldText : List ℕ → Type 0
-IsToldText part = IsJsonText part ⊎ (IsOtherText part × ((lines : List ℕ) × (part ≡ line lines)))
-
--- the bytes begin with this part: it is all of them, and the input has ended; or the input goes on, and the part is JSON text, or other text that ends with a line feed. Behind blanks that were dropped it is JSON text
-pub record IsToldPart (held : Held) (part : List ℕ) : Type 0 where
-  pub rest : List ℕ
-  pub bytes_are : held.bytes.now ≡ part ++ rest
-  pub kind : ((held.ended ≡ true) × (rest ≡ [])) ⊎ ((held.ended ≡ false) × IsToldText part)
-  pub behind : IsJsonText part ⊎ (held.skipped ≡ 0)
-
--- other text than JSON stands behind blanks that were dropped
-pub record IsIndented (held : Held) : Type 0 where
-  pub some : 0 < held.skipped
-  pub other : (more : List ℕ) → MayFollow held.ended more → IsJsonText (held.bytes.now ++ more) → ⊥
-  pub at_hand : IsAtHand held.ended held.bytes.now
-
--- the bytes of other text begin with this part, by which a design is told; behind blanks that were dropped there is none
-abbrev pub IsTextPart : Held → List ℕ → Type 0
-IsTextPart held part = (held.skipped ≡ 0 → IsToldPart held part) × (0 < held.skipped → IsIndented held)
-
--- a part by which a design is told, where there is one; more has to be read where there is none; or what is refused whatever design is wanted
-abbrev pub TellsPart : Held → Result (Option (Bor (List ℕ))) DesignFault → Type 0
-TellsPart held (Ok (Some part)) = IsToldPart held part.now
-TellsPart held (Ok None) = held.ended ≡ false
-TellsPart held (Err fault) = (fault ≡ design.Refused (NetLine 1)) × IsIndented held
-
--- the refusal is that JSON text ends with the bytes, or that of the line that is next
-abbrev pub RestsOnEnd : List ℕ → Refusal → Type 0
-RestsOnEnd bytes (Json at) = at ≡ length bytes
-RestsOnEnd bytes (NetLine k) = k ≡ line_feeds bytes + 1
-RestsOnEnd bytes other = ⊥
-
--- and the same of why there is no design, but for want of memory
-abbrev pub IsSettledFault : List ℕ → DesignFault → Type 0
-IsSettledFault bytes (design.Refused r) = RestsOnEnd bytes r → ⊥
-IsSettledFault bytes design.Memory = Unit {0}
-
--- why there is no design at the front, where that is told: the fault of the part, so many bytes later, which doesn't rest on the end of the part but where the input has ended
-abbrev pub TellsFault : Held → List ℕ → DesignFault → Option DesignFault → Type 0
-TellsFault held part fault None = held.ended ≡ false
-TellsFault held part fault (Some told) = (told ≡ moved_told held.skipped fault) × (held.ended ≡ false → IsSettledFault part fault)
-
--- what is told of something that is to stand at the front: this stands there, and so much of the bytes is it; or more has to be read; or it is refused
-abbrev pub TellsFront : {X D : Type 0} → (List ℕ → Result (X × ℕ) DesignFault → Type 0) → (D → X × ℕ) → Held → Result (Option D) DesignFault → Type 0
-TellsFront IsFront of held (Ok (Some d)) =
-    IsAtHand held.ended held.bytes.now × ((of d).1 ≤ length held.bytes.now) × LastsBehind IsFront held (Ok ((of d).0, held.skipped + (of d).1))
-TellsFront IsFront of held (Ok None) = held.ended ≡ false
-TellsFront IsFront of held (Err (design.Refused r)) = IsAtHand held.ended held.bytes.now × LastsBehind IsFront held (Err (design.Refused r))
-TellsFront IsFront of held (Err design.Memory) = Unit {0}
-
--- the first line of a text and what follows it, where they are told: the line has its line feed, or the input has ended
-abbrev pub TellsLine : Bool → List ℕ → List ℕ → List ℕ → Type 0
-TellsLine ended text title lines = SplitsAt 10 text title lines ⊎ ((ended ≡ true) × IsFirstLine text title lines)
+use Rattle.bt_designs.specs.Told.{MayFollow}
 
 -- the front tells the refusal
 abbrev pub TellsRefusal : DesignFault → Front → Type 0

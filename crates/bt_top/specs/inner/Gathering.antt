@@ -1,39 +1,10 @@
--- Reading a source on, block by block, of which blanks in front are dropped.
-use Rattle.std.specs.Prelude.{◌≡◌, ◌⊎◌, ℕ, ◌+◌, ◌-◌, ◌<◌, ◌≤◌, true, List, [], ◌++◌, All, Result, Ok, Err, length}
+-- What was gathered of a source so far.
+use Rattle.std.specs.Prelude.{◌≡◌, ℕ, ◌+◌, ◌-◌, ◌≤◌, true, List, ◌++◌, All, length}
 use Rattle.std.specs.Io.KnownBytes.{Consumes, IsAtEnd}
 use Rattle.bt_text.specs.Blanks.{IsBlank}
-use Rattle.bt_io.specs.Bytes.{ReadsAll}
 use Rattle.bt_io.specs.Passages.{Passage}
-use Rattle.bt_io.specs.declared.fault.ReadAll.{ReadAll}
-use Rattle.bt_top.specs.declared.held.Gathered.{Gathered}
-use Rattle.bt_top.specs.declared.input.TheConstants.{MOST_CHECKED}
-
--- all bytes were blanks, and are counted among those that were dropped
-pub record AreDropped (old new : Gathered) : Type 0 where
-  pub are_blanks : All IsBlank old.bytes.items
-  pub counted : new.skipped ≡ old.skipped + length old.bytes.items
-  pub none : new.bytes.items ≡ []
-  pub ended : new.ended ≡ old.ended
-
--- the bytes were dropped as blanks, or all stays
-abbrev pub DropsBlanks : Gathered → Gathered → Type 0
-DropsBlanks old new = AreDropped old new ⊎ (new ≡ old)
-
--- a piece of the source was put behind the bytes, or dropped with them as blanks; and it has ended, or the piece isn't empty
-pub record IsGathered (old : Gathered) (source : Passage) (new : Gathered) : Type 0 where
-  pub piece : List ℕ
-  pub taken : Consumes source.before source.after piece
-  pub few : new.skipped + length new.bytes.items ≤ MOST_CHECKED
-  pub at_end : new.ended ≡ true → IsAtEnd source.after
-  pub more : (new.ended ≡ true) ⊎ (0 < length piece)
-  pub kept : ((new.skipped ≡ old.skipped) × (new.bytes.items ≡ old.bytes.items ++ piece))
-      ⊎ (All IsBlank (old.bytes.items ++ piece) × (new.skipped ≡ old.skipped + length (old.bytes.items ++ piece)) × (new.bytes.items ≡ []))
-  pub count : source.faults ≤ source.faults_after
-
--- the source was read on; or it failed, is too long, or memory ran out
-abbrev pub GathersOn : Gathered → Passage → Gathered → Result (Unit {0}) ReadAll → Type 0
-GathersOn old source new (Ok done) = IsGathered old source new
-GathersOn old source new (Err fault) = ReadsAll (MOST_CHECKED - (old.skipped + length old.bytes.items)) source (Err fault)
+use Rattle.bt_designs.specs.declared.held.Gathered.{Gathered}
+use Rattle.bt_designs.specs.declared.held.TheConstants.{MOST_CHECKED}
 
 -- what was gathered of a source is what it had, blanks and then the bytes, within the limit; and where it has ended, nothing is left
 pub record IsGatheredOf (source : Passage) (gathered : Gathered) : Type 0 where

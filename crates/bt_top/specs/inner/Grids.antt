@@ -7,7 +7,7 @@ use Rattle.bt_model.specs.Requests.{IsGrid}
 abbrev pub HasGrid : Command → Type 0
 HasGrid (Layout rect tier learnt) = IsGrid rect
 HasGrid (CheckLayout rect tier) = IsGrid rect
-HasGrid (Smallest most tier learnt) = IsGrid most
+HasGrid (Smallest first most tier learnt) = IsGrid most
 HasGrid (FindSmall most tier sides learnt) = IsGrid most
 HasGrid (PlaceFormula rect tier) = IsGrid rect
 HasGrid other = Unit {0}

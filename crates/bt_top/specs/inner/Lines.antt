@@ -40,14 +40,14 @@ IsLine other = Unit {0}
 
 -- what is formed of an answer's text: of a search for the least grid or for small ones the blueprint that is found, and else all of it
 abbrev pub formed_text : Answer → List ℕ
-formed_text (Least found) = blueprint_of found
+formed_text (Least first found) = blueprint_of found
 formed_text (Small found) = blueprint_of_small found
 formed_text other = text_of other
 
 -- and the line is one of fixed words, numbers and names
 abbrev pub IsFixedLine : Answer → Type 0
 IsFixedLine (LaidOut parts) = ⊥
-IsFixedLine (Least found) = ⊥
+IsFixedLine (Least first found) = ⊥
 IsFixedLine (Small found) = ⊥
 IsFixedLine other = IsLine other
 

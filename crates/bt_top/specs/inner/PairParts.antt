@@ -2,11 +2,11 @@
 use Rattle.std.specs.Prelude.{ℕ, List, drop}
 use Rattle.bt_text.specs.Blanks.{SkipsBlanks}
 use Rattle.bt_net.specs.Network.{Network}
-use Rattle.bt_top.specs.Designs.{IsBareDesign}
+use Rattle.bt_designs.specs.Designs.{IsBareDesign}
 use Rattle.bt_top.specs.Replies.{Reply, design_told}
 use Rattle.bt_top.specs.SameCertificates.{IsSameCertificateChecked}
-use Rattle.bt_top.specs.Steps.{InTurn}
-use Rattle.bt_top.specs.TwoDesigns.{IsPaired}
+use Rattle.bt_designs.specs.Steps.{InTurn}
+use Rattle.bt_designs.specs.TwoDesigns.{IsPaired}
 
 -- what is answered to what follows two networks: the refusal of their ends, or what is answered to the certificate
 abbrev pub IsPairedChecked : Network → Network → List ℕ → Reply → Type 0

@@ -4,8 +4,8 @@ use Rattle.bt_parts.specs.declared.part.Rect.{Rect}
 use Rattle.bt_parts.specs.declared.part.Tier.{Tier}
 use Rattle.bt_top.specs.NoneCertificates.{IsNoneCertificateChecked}
 use Rattle.bt_top.specs.Replies.{Reply, design_told}
-use Rattle.bt_top.specs.Requested.{PinnedNet, IsRequestFor}
-use Rattle.bt_top.specs.Steps.{InTurn}
+use Rattle.bt_designs.specs.Requested.{PinnedNet, IsRequestFor}
+use Rattle.bt_designs.specs.Steps.{InTurn}
 
 -- what is answered to what follows a network with its pins, sides and blocks: the refusal of the request for it, or what is answered to the certificate
 abbrev pub IsRequestChecked : Rect → Tier → PinnedNet → List ℕ → Reply → Type 0

@@ -5,7 +5,7 @@ use Rattle.std.specs.List.{filter_map}
 use Rattle.bt_words.specs.declared.argument.Argument.{Argument}
 use Rattle.bt_words.specs.declared.given.Given.{Given}
 use Rattle.bt_words.specs.Arguments.{IsArgument, AreArguments}
-use Rattle.bt_words.specs.Commands.{property_in, order_in, chain_in, learnt_in, pivots_in, grid_in, tier_in, most_in, found_in, sides_in, mark, nothing}
+use Rattle.bt_words.specs.Commands.{property_in, order_in, chain_in, learnt_in, pivots_in, grid_in, tier_in, most_in, from_in, found_in, sides_in, mark, nothing}
 
 -- the words are an argument, and then this rest
 abbrev pub BeginsWith : List (List ℕ) → Argument → List (List ℕ) → Type 0
@@ -21,6 +21,7 @@ pub record Adds (before : Given) (arguments : List Argument) (g : Given) : Type 
   pub grid : option_to_list before.grid ++ filter_map grid_in arguments ≡ option_to_list g.grid
   pub tier : option_to_list before.tier ++ filter_map tier_in arguments ≡ option_to_list g.tier
   pub most : option_to_list before.most ++ filter_map most_in arguments ≡ option_to_list g.most
+  pub from : option_to_list before.from ++ filter_map from_in arguments ≡ option_to_list g.from
   pub found : option_to_list (mark before.found) ++ filter_map found_in arguments ≡ option_to_list (mark g.found)
   pub sides : option_to_list (mark before.sides) ++ filter_map sides_in arguments ≡ option_to_list (mark g.sides)
 

@@ -1,6 +1,6 @@
 use Rattle.std.proofs.Common.{◌-◌, false, get_or, subst}
 use Rattle.std.proofs.lemmas.Bool.{false≢true}
-use Rattle.bt_log.specs.Validity.{clause_at}
+use Rattle.bt_cnf.specs.Units.{clause_at}
 use Rattle.bt_cert.specs.inner.Refuting.{IsPropagated}
 use Rattle.bt_cert.proofs.Walks.{hint_inside, walks_no_more, walk_ends, told}
 use Rattle.bt_cert.proofs.units.refute.Goals as goal

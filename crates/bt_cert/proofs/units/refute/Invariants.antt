@@ -1,5 +1,5 @@
 use Rattle.std.proofs.Common.{◌≡◌, ◌↔◌, length, drop, ◌-◌}
-use Rattle.bt_log.specs.Validity.{clause_at}
+use Rattle.bt_cnf.specs.Units.{clause_at}
 use Rattle.bt_cert.specs.inner.Assuming.{Propagates}
 use Rattle.bt_cert.specs.inner.Refuting.{hinted}
 use Rattle.bt_cert.proofs.units.refute.Given as goal

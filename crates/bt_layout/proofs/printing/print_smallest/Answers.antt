@@ -1,18 +1,17 @@
-use Rattle.std.proofs.Common.{◌++◌, sym, ◌∙◌, ap, subst}
-use Rattle.bt_io.specs.Bytes.{WritesText}
+use Rattle.std.proofs.lemmas.Result.{err_from_is_err_and}
 use Rattle.bt_io.specs.Passages.{passage}
-use Rattle.bt_layout.specs.SmallestText.{blueprint_of, earlier_text, grid_line, smallest_text}
+use Rattle.bt_io.proofs.Written.{writes_both, writes_no_more}
+use Rattle.bt_layout.specs.SmallestText.{from_line, least_text}
 use Rattle.bt_layout.proofs.printing.print_smallest.Goals as goal
 
-pub returns-in-Found : goal.returns-in-Found
-returns-in-Found g c =
-    let sink = passage g.K.Sink.held g.K.Sink.faults c.args.sink.now c.print_found.new.sink in
-    let found = c.in-Found in
-    subst (λ answer. WritesText sink (smallest_text answer) c.print_found.result) (sym found.is)
-    (subst (λ text. WritesText sink (earlier_text found.earlier.items ++ grid_line found.grid ++ text) c.print_found.result) (c.requires ∙ ap blueprint_of found.is)
-    (subst (λ earlier. WritesText sink (earlier_text earlier ++ grid_line found.grid ++ c.args.blueprint.now) c.print_found.result) c.deref.ensures.value c.print_found.ensures))
+pub returns-in_err-print_from : goal.returns-in_err-print_from
+returns-in_err-print_from g c =
+    let p = err_from_is_err_and c.from_residual.result c.from_residual.ensures.1 in
+    rw p.1
+    (writes_no_more _ _ (passage g.K.Sink.held g.K.Sink.faults c.args.sink.now c.print_from.new.sink) (from_line c.args.first) (least_text c.args.answer.now)
+    c.in_err-print_from.ensures)
 
-pub returns-in-Spent : goal.returns-in-Spent
-returns-in-Spent g c =
-    let sink = passage g.K.Sink.held g.K.Sink.faults c.args.sink.now c.print_spent.new.sink in
-    subst (λ answer. WritesText sink (smallest_text answer) c.print_spent.result) (sym c.in-Spent.is) c.print_spent.ensures
+pub returns : goal.returns
+returns g c =
+    writes_both g.K.Sink.held g.K.Sink.faults c.args.sink.now c.print_from.new.sink c.print_least.new.sink (from_line c.args.first) (least_text c.args.answer.now) tt
+    c.print_least.result c.in_ok-print_from.ensures c.print_least.ensures

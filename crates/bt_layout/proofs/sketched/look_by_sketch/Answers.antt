@@ -1,13 +1,5 @@
-use Rattle.std.proofs.Common.{arith}
-use Rattle.std.proofs.lemmas.Result.{IfOk-weaker}
-use Rattle.bt_layout.specs.inner.Likely.{IsTried}
-use Rattle.bt_layout.proofs.Narrow.{none_sought, sought_within}
+use Rattle.bt_layout.proofs.Narrow.{none_sought}
 use Rattle.bt_layout.proofs.sketched.look_by_sketch.Goals as goal
-
-pub returns-in-Some : goal.returns-in-Some
-returns-in-Some c =
-    IfOk-weaker c.trial_with.result (IsTried c.args.request.now c.min.result) (IsTried c.args.request.now c.args.steps)
-    (λ tried is. (is.0, sought_within c.args.request.now c.min.result c.args.steps tried.steps (omega (arith, c.min.ensures)) is.1)) c.trial_with.ensures
 
 pub returns-in-None : goal.returns-in-None
 returns-in-None c = (tt, none_sought c.args.request.now c.args.steps)

@@ -1,7 +1,7 @@
 use Rattle.std.proofs.Common.{take}
 use Rattle.std.specs.List.{flat_map}
 use Rattle.bt_rules.specs.PlaceRules.{cell_rules}
-use Rattle.bt_rules.proofs.DrawnCells.{cell_inside}
+use Rattle.bt_demands.proofs.DrawnCells.{cell_inside}
 use Rattle.bt_place.proofs.Encoded.{encoding_after, item_written, items_written}
 use Rattle.bt_place.proofs.Written.{with_none}
 use Rattle.bt_place.proofs.encoding.write_cells.Goals as goal

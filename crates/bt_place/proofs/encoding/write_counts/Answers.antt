@@ -1,5 +1,5 @@
 use Rattle.std.proofs.Common.{◌∙◌, ap}
-use Rattle.bt_rules.specs.Counting.{count_rules}
+use Rattle.bt_demands.specs.Counting.{count_rules}
 use Rattle.bt_place.specs.inner.Writing.{with_rules}
 use Rattle.bt_place.proofs.Encoded.{drawn_numbered}
 use Rattle.bt_place.proofs.Numbered.{counts_numbered}

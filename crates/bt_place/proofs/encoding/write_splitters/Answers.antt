@@ -1,6 +1,6 @@
 use Rattle.std.proofs.Common.{take, ap, ◌∙◌, subst, sym, ◌<◌}
 use Rattle.std.specs.List.{flat_map}
-use Rattle.bt_rules.specs.declared.plan.Gate.{Gate}
+use Rattle.bt_demands.specs.declared.plan.Gate.{Gate}
 use Rattle.bt_rules.specs.PlaceRules.{splitter_rules}
 use Rattle.bt_place.specs.inner.Writing.{with_rules}
 use Rattle.bt_place.proofs.Encoded.{encoding_after, item_written, items_written, gate_there}

@@ -1,6 +1,6 @@
 use Rattle.std.proofs.Common.{◌≡◌, ◌+◌, length}
 use Rattle.std.specs.List.{position_or_len}
-use Rattle.bt_rules.specs.Classes.{same_class}
+use Rattle.bt_demands.specs.Classes.{same_class}
 use Rattle.bt_place.proofs.numbering.place_among.Given as goal
 
 abbrev pub invariant-loop-other : goal.invariant-loop-other

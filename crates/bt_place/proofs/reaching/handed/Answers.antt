@@ -1,5 +1,5 @@
 use Rattle.std.proofs.Common.{◌≡◌, true, ap, sym, ◌∙◌, subst}
-use Rattle.bt_rules.specs.declared.fact.Fact.TheVariants.{Goes}
+use Rattle.bt_facts.specs.declared.fact.Fact.TheVariants.{Goes}
 use Rattle.bt_place.specs.inner.Grid.{cell_numbered, TellsAhead}
 use Rattle.bt_place.specs.inner.Told.{reading_of}
 use Rattle.bt_place.specs.inner.Reaching.{Says, cell_in}

@@ -1,7 +1,7 @@
 use Rattle.std.proofs.Common.{◌≡◌, subst}
 use Rattle.std.proofs.lemmas.Bool.{both_ways}
-use Rattle.bt_rules.specs.declared.fact.Shape.TheVariants as shape
-use Rattle.bt_rules.specs.Contents.{holds}
+use Rattle.bt_facts.specs.declared.fact.Shape.TheVariants as shape
+use Rattle.bt_facts.specs.Facts.{holds}
 use Rattle.bt_place.specs.inner.Reaching.{Says, cell_in}
 use Rattle.bt_place.proofs.Marking.{no_next_empty, next_handed, next_under}
 use Rattle.bt_place.proofs.reaching.next.Goals as goal

@@ -1,5 +1,5 @@
 use Rattle.std.proofs.Common.{◌≡◌, true, ap, sym, ◌∙◌, subst}
-use Rattle.bt_rules.specs.declared.fact.Fact.TheVariants.{Pair}
+use Rattle.bt_facts.specs.declared.fact.Fact.TheVariants.{Pair}
 use Rattle.bt_parts.specs.Cells.{steps}
 use Rattle.bt_place.specs.inner.Grid.{cell_numbered, IsNumberOf}
 use Rattle.bt_place.specs.inner.Told.{reading_of}

@@ -2,7 +2,7 @@ use Rattle.std.proofs.Common.{append-nil, sym}
 use Rattle.bt_place.specs.Within.{IsNumbered}
 use Rattle.bt_place.specs.inner.Writing.{following_literal}
 use Rattle.bt_arena.proofs.Loops.{taken_more, taken_all}
-use Rattle.bt_rules.proofs.Drawn.{all_get}
+use Rattle.bt_facts.proofs.Drawn.{all_get}
 use Rattle.bt_place.proofs.writing.push_all_following.Goals as goal
 
 pub loop-claim-init : goal.loop-claim-init

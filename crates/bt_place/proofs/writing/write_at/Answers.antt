@@ -1,5 +1,5 @@
 use Rattle.std.proofs.Common.{◌∷◌, [], ap, ◌∙◌}
-use Rattle.bt_rules.specs.Drafts.{rule_of}
+use Rattle.bt_facts.specs.Drafts.{rule_of}
 use Rattle.bt_place.specs.inner.Writing.{with_rules}
 use Rattle.bt_place.proofs.Written.{rule_at, read_at}
 use Rattle.bt_place.proofs.writing.write_at.Goals as goal

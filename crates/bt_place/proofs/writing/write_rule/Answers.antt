@@ -1,7 +1,7 @@
 use Rattle.std.proofs.Common.{List, ◌∷◌, [], ◌++◌, sym, ◌∙◌, ap, subst}
 use Rattle.bt_cnf.specs.declared.literal.Lit.{Lit}
 use Rattle.bt_cnf.specs.Formulas.{FormulaParts, LitsBelow}
-use Rattle.bt_rules.specs.Drafts.{rule_of}
+use Rattle.bt_facts.specs.Drafts.{rule_of}
 use Rattle.bt_place.proofs.Written.{clause_below}
 use Rattle.bt_place.proofs.writing.write_rule.Goals as goal
 

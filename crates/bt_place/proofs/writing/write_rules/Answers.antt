@@ -1,6 +1,6 @@
 use Rattle.std.proofs.Common.{◌<◌, ◌≤◌, length, map, take, ap, ◌∙◌, arith}
 use Rattle.std.proofs.lemmas.List.{take_all}
-use Rattle.bt_rules.specs.Drafts.{rule_of}
+use Rattle.bt_facts.specs.Drafts.{rule_of}
 use Rattle.bt_place.specs.inner.Writing.{with_rules}
 use Rattle.bt_place.proofs.Written.{with_none, has_after, place_written}
 use Rattle.bt_place.proofs.writing.write_rules.Goals as goal

@@ -1,5 +1,5 @@
 use Rattle.std.proofs.Common.{◌≡◌, map, take}
-use Rattle.bt_rules.specs.Drafts.{rule_of}
+use Rattle.bt_facts.specs.Drafts.{rule_of}
 use Rattle.bt_place.specs.inner.Writing.{with_rules}
 use Rattle.bt_place.proofs.writing.write_rules.Given as goal
 

@@ -1,6 +1,6 @@
 use Rattle.std.proofs.Common.{◌++◌, append-nil, sym, ◌∙◌, ap}
 use Rattle.bt_rules.specs.Carrying as carrying
-use Rattle.bt_rules.specs.declared.plan.Way.{Way}
+use Rattle.bt_demands.specs.declared.plan.Way.{Way}
 use Rattle.bt_arena.proofs.Loops.{taken_more, taken_all}
 use Rattle.bt_rules.proofs.carrying.add_all_carried.Goals as goal
 

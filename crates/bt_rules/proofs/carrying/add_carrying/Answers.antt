@@ -1,5 +1,5 @@
 use Rattle.std.proofs.Common.{append-nil, sym}
-use Rattle.bt_rules.specs.Spots.{dirs}
+use Rattle.bt_facts.specs.Spots.{dirs}
 use Rattle.bt_rules.specs.Carrying as carrying
 use Rattle.bt_arena.proofs.Loops.{taken_more, taken_all}
 use Rattle.bt_rules.proofs.carrying.add_carrying.Goals as goal

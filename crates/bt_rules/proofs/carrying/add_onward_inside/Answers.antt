@@ -1,10 +1,10 @@
 use Rattle.std.proofs.Common.{◌++◌, ◌∙◌, map, ap}
 use Rattle.std.specs.List.{flat_map}
 use Rattle.bt_rules.specs.Carrying.{carried_rules, taken_rule}
-use Rattle.bt_rules.specs.Classes.{classes_of, splitters_of}
-use Rattle.bt_rules.specs.declared.plan.Gate.{Gate}
-use Rattle.bt_rules.specs.declared.plan.Way.{Way}
-use Rattle.bt_rules.proofs.Drawn.{flat_of_made, map_of_made, two_added}
+use Rattle.bt_demands.specs.Classes.{classes_of, splitters_of}
+use Rattle.bt_demands.specs.declared.plan.Gate.{Gate}
+use Rattle.bt_demands.specs.declared.plan.Way.{Way}
+use Rattle.bt_facts.proofs.Drawn.{flat_of_made, map_of_made, two_added}
 use Rattle.bt_rules.proofs.carrying.add_onward_inside.Goals as goal
 
 pub returns : goal.returns

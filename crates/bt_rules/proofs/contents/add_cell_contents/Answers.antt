@@ -1,7 +1,7 @@
 use Rattle.std.proofs.Common.{◌++◌, ◌∙◌, ap}
 use Rattle.bt_rules.specs.Contents.{content_rules, shape_rules, mate_rules}
 use Rattle.bt_rules.specs.inner.Parts.{one_class_rules, half_class_rules}
-use Rattle.bt_rules.proofs.Drawn.{three_added}
+use Rattle.bt_facts.proofs.Drawn.{three_added}
 use Rattle.bt_rules.proofs.contents.add_cell_contents.Goals as goal
 
 pub returns : goal.returns

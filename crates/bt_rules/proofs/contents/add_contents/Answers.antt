@@ -1,5 +1,5 @@
 use Rattle.std.proofs.Common.{◌++◌, ◌∙◌, ap}
-use Rattle.bt_rules.specs.Rules.{exactly_one}
+use Rattle.bt_facts.specs.Rules.{exactly_one}
 use Rattle.bt_rules.proofs.contents.add_contents.Goals as goal
 
 pub returns : goal.returns

@@ -1,8 +1,8 @@
 use Rattle.std.proofs.Common.{◌++◌, ◌∷◌, [], map, sym, ◌∙◌, ap}
-use Rattle.bt_rules.specs.Classes.{input_classes}
-use Rattle.bt_rules.specs.Rules.{not_all}
-use Rattle.bt_rules.specs.declared.fact.Fact.TheVariants as fact
-use Rattle.bt_rules.proofs.Drawn.{map_of_made}
+use Rattle.bt_demands.specs.Classes.{input_classes}
+use Rattle.bt_facts.specs.Rules.{not_all}
+use Rattle.bt_facts.specs.declared.fact.Fact.TheVariants as fact
+use Rattle.bt_facts.proofs.Drawn.{map_of_made}
 use Rattle.bt_rules.proofs.contents.add_half_class.Goals as goal
 
 pub returns : goal.returns

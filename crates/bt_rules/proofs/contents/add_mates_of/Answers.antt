@@ -1,5 +1,5 @@
 use Rattle.std.proofs.Common.{append-nil, sym}
-use Rattle.bt_rules.specs.Spots.{dirs}
+use Rattle.bt_facts.specs.Spots.{dirs}
 use Rattle.bt_rules.specs.Contents as contents
 use Rattle.bt_arena.proofs.Loops.{mapped_more, mapped_all}
 use Rattle.bt_rules.proofs.contents.add_mates_of.Goals as goal

@@ -1,10 +1,10 @@
 use Rattle.std.proofs.Common.{◌≡◌, List, ◌++◌, ◌∷◌, [], map, sym, ◌∙◌, ap}
-use Rattle.bt_rules.specs.Classes.{classes_of}
-use Rattle.bt_rules.specs.Rules.{some_of, not_all, at_most_one}
-use Rattle.bt_rules.specs.declared.fact.Content.TheVariants.{Empty}
-use Rattle.bt_rules.specs.declared.fact.Fact.{Fact}
-use Rattle.bt_rules.specs.declared.fact.Fact.TheVariants as fact
-use Rattle.bt_rules.proofs.Drawn.{map_of_made, three_added}
+use Rattle.bt_demands.specs.Classes.{classes_of}
+use Rattle.bt_facts.specs.Rules.{some_of, not_all, at_most_one}
+use Rattle.bt_facts.specs.declared.fact.Content.TheVariants.{Empty}
+use Rattle.bt_facts.specs.declared.fact.Fact.{Fact}
+use Rattle.bt_facts.specs.declared.fact.Fact.TheVariants as fact
+use Rattle.bt_facts.proofs.Drawn.{map_of_made, three_added}
 use Rattle.bt_rules.proofs.contents.add_one_class.Goals as goal
 
 pub returns : goal.returns

@@ -1,7 +1,8 @@
 use Rattle.std.proofs.Common.{◌≡◌, ◌++◌, ◌∙◌, ap}
-use Rattle.bt_rules.specs.Contents.{half_kinds, belt_kinds, equals_one}
-use Rattle.bt_rules.specs.declared.fact.Fact.TheVariants as fact
-use Rattle.bt_rules.proofs.Drawn.{two_added}
+use Rattle.bt_rules.specs.Contents.{half_kinds, belt_kinds}
+use Rattle.bt_facts.specs.Rules.{equals_one}
+use Rattle.bt_facts.specs.declared.fact.Fact.TheVariants as fact
+use Rattle.bt_facts.proofs.Drawn.{two_added}
 use Rattle.bt_rules.proofs.contents.add_shapes.Goals as goal
 
 pub returns : goal.returns

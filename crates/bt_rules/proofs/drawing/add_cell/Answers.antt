@@ -2,7 +2,7 @@ use Rattle.bt_rules.specs.Carrying.{carrying_rules}
 use Rattle.bt_rules.specs.Going.{handing_rules}
 use Rattle.bt_rules.specs.Underground.{underground_rules}
 use Rattle.bt_rules.specs.inner.Parts.{standing_part_rules}
-use Rattle.bt_rules.proofs.Drawn.{four_added}
+use Rattle.bt_facts.proofs.Drawn.{four_added}
 use Rattle.bt_rules.proofs.drawing.add_cell.Goals as goal
 
 pub returns : goal.returns

@@ -1,6 +1,6 @@
 use Rattle.std.proofs.Common.{append-nil, sym}
 use Rattle.bt_rules.specs.PlaceRules as place
-use Rattle.bt_rules.proofs.DrawnCells.{cell_inside}
+use Rattle.bt_demands.proofs.DrawnCells.{cell_inside}
 use Rattle.bt_arena.proofs.Loops.{taken_more, taken_all}
 use Rattle.bt_rules.proofs.drawing.add_cells.Goals as goal
 

@@ -1,7 +1,7 @@
 use Rattle.bt_rules.specs.Carrying.{carrying_rules}
 use Rattle.bt_rules.specs.Going.{handing_rules}
 use Rattle.bt_rules.specs.Underground.{underground_rules}
-use Rattle.bt_rules.proofs.Drawn.{three_together}
+use Rattle.bt_facts.proofs.Drawn.{three_together}
 use Rattle.bt_rules.proofs.drawing.add_handing_parts.Goals as goal
 
 pub returns : goal.returns

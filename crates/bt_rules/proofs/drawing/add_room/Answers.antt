@@ -1,11 +1,12 @@
 use Rattle.std.proofs.Common.{◌++◌, ◌∙◌, ap}
 use Rattle.std.specs.List.{flat_map}
-use Rattle.bt_rules.specs.Classes.{splitters_of}
-use Rattle.bt_rules.specs.Counting.{count_rules}
-use Rattle.bt_rules.specs.PlaceRules.{cell_rules, splitter_rules, end_rules}
-use Rattle.bt_rules.specs.Spots.{cells_of}
-use Rattle.bt_rules.specs.declared.plan.Gate.{Gate}
-use Rattle.bt_rules.proofs.Drawn.{flat_of_made, two_added, three_together}
+use Rattle.bt_demands.specs.Classes.{splitters_of}
+use Rattle.bt_demands.specs.Counting.{count_rules}
+use Rattle.bt_rules.specs.PlaceRules.{cell_rules, splitter_rules}
+use Rattle.bt_demands.specs.Ends.{end_rules}
+use Rattle.bt_facts.specs.Spots.{cells_of}
+use Rattle.bt_demands.specs.declared.plan.Gate.{Gate}
+use Rattle.bt_facts.proofs.Drawn.{flat_of_made, two_added, three_together}
 use Rattle.bt_rules.proofs.drawing.add_room.Goals as goal
 
 pub returns : goal.returns

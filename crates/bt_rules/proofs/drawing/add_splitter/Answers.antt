@@ -1,4 +1,4 @@
-use Rattle.bt_rules.proofs.DrawnCells.{cells_in_range}
+use Rattle.bt_demands.proofs.DrawnCells.{cells_in_range}
 use Rattle.bt_rules.proofs.drawing.add_splitter.Goals as goal
 
 pub add_ports-requires-clause-range : goal.add_ports-requires-clause-range

@@ -1,6 +1,6 @@
 use Rattle.std.proofs.Common.{◌++◌, append-nil, sym, ◌∙◌, ap}
 use Rattle.bt_rules.specs.PlaceRules as place
-use Rattle.bt_rules.specs.declared.plan.Gate.{Gate}
+use Rattle.bt_demands.specs.declared.plan.Gate.{Gate}
 use Rattle.bt_arena.proofs.Loops.{taken_more, taken_all}
 use Rattle.bt_rules.proofs.drawing.add_splitters.Goals as goal
 

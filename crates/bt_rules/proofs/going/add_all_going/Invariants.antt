@@ -1,6 +1,6 @@
 use Rattle.std.proofs.Common.{◌≡◌, ◌++◌, take}
 use Rattle.std.specs.List.{flat_map}
-use Rattle.bt_rules.specs.Spots.{dirs}
+use Rattle.bt_facts.specs.Spots.{dirs}
 use Rattle.bt_rules.specs.Going as going
 use Rattle.bt_rules.proofs.going.add_all_going.Given as goal
 

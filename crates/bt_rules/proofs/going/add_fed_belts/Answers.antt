@@ -1,5 +1,5 @@
 use Rattle.std.proofs.Common.{append-nil, sym}
-use Rattle.bt_rules.specs.Spots.{dirs}
+use Rattle.bt_facts.specs.Spots.{dirs}
 use Rattle.bt_rules.specs.Going as going
 use Rattle.bt_arena.proofs.Loops.{mapped_more, mapped_all}
 use Rattle.bt_rules.proofs.going.add_fed_belts.Goals as goal

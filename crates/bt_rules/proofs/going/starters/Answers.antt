@@ -1,5 +1,5 @@
 use Rattle.std.proofs.Common.{[]}
-use Rattle.bt_rules.specs.Spots.{dirs}
+use Rattle.bt_facts.specs.Spots.{dirs}
 use Rattle.bt_rules.specs.inner.Parts as parts
 use Rattle.bt_arena.proofs.Loops.{taken_more, taken_all}
 use Rattle.bt_rules.proofs.going.starters.Goals as goal

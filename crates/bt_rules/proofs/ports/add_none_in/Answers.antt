@@ -1,6 +1,6 @@
 use Rattle.std.proofs.Common.{◌++◌, ◌∷◌, [], ◌∙◌, map, ap}
-use Rattle.bt_rules.specs.Going.{goes_into}
-use Rattle.bt_rules.specs.Rules.{not_all}
+use Rattle.bt_facts.specs.Facts.{goes_into}
+use Rattle.bt_facts.specs.Rules.{not_all}
 use Rattle.bt_rules.proofs.ports.add_none_in.Goals as goal
 
 pub returns : goal.returns

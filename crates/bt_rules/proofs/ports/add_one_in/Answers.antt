@@ -1,11 +1,11 @@
 use Rattle.std.proofs.Common.{◌++◌, ◌∷◌, [], ◌∙◌, map, ap}
-use Rattle.bt_rules.specs.Going.{goes_into}
+use Rattle.bt_facts.specs.Facts.{goes_into}
 use Rattle.bt_rules.specs.Ports.{carries_into}
-use Rattle.bt_rules.specs.Rules.{rule_by}
-use Rattle.bt_rules.specs.Spots.{half_at, other_half}
-use Rattle.bt_rules.specs.declared.fact.Fact.{Fact}
-use Rattle.bt_rules.specs.declared.fact.Fact.TheVariants.{EntersLesser}
-use Rattle.bt_rules.proofs.Drawn.{three_added}
+use Rattle.bt_facts.specs.Rules.{rule_by}
+use Rattle.bt_facts.specs.Spots.{half_at, other_half}
+use Rattle.bt_facts.specs.declared.fact.Fact.{Fact}
+use Rattle.bt_facts.specs.declared.fact.Fact.TheVariants.{EntersLesser}
+use Rattle.bt_facts.proofs.Drawn.{three_added}
 use Rattle.bt_rules.proofs.ports.add_one_in.Goals as goal
 
 pub returns : goal.returns

@@ -1,6 +1,6 @@
 use Rattle.std.proofs.Common.{◌≡◌, ◌++◌, take}
 use Rattle.std.specs.List.{flat_map}
-use Rattle.bt_rules.specs.Spots.{dirs}
+use Rattle.bt_facts.specs.Spots.{dirs}
 use Rattle.bt_rules.specs.Ports as ports
 use Rattle.bt_rules.proofs.ports.add_ports_on.Given as goal
 

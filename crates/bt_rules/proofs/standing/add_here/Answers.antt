@@ -1,5 +1,5 @@
 use Rattle.std.proofs.Common.{append-nil, sym}
-use Rattle.bt_rules.specs.Spots.{dirs}
+use Rattle.bt_facts.specs.Spots.{dirs}
 use Rattle.bt_rules.specs.Standing as standing
 use Rattle.bt_arena.proofs.Loops.{taken_more, taken_all}
 use Rattle.bt_rules.proofs.standing.add_here.Goals as goal

@@ -1,6 +1,6 @@
 use Rattle.std.proofs.Common.{append-nil, sym}
 use Rattle.std.specs.List.{range_with_len}
-use Rattle.bt_rules.specs.Spots.{dirs}
+use Rattle.bt_facts.specs.Spots.{dirs}
 use Rattle.bt_rules.specs.Standing as standing
 use Rattle.bt_arena.proofs.Loops.{mapped_more, mapped_all}
 use Rattle.bt_rules.proofs.standing.add_owners.Goals as goal

@@ -1,6 +1,6 @@
 use Rattle.std.proofs.Common.{append-nil, sym}
-use Rattle.bt_rules.specs.Spots.{dirs}
-use Rattle.bt_rules.specs.declared.fact.Fact.TheVariants as fact
+use Rattle.bt_facts.specs.Spots.{dirs}
+use Rattle.bt_facts.specs.declared.fact.Fact.TheVariants as fact
 use Rattle.bt_arena.proofs.Loops.{mapped_more, mapped_all}
 use Rattle.bt_rules.proofs.standing.push_ats.Goals as goal
 

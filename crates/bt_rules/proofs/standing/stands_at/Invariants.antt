@@ -1,7 +1,7 @@
 use Rattle.std.proofs.Common.{◌≡◌, map, take}
 use Rattle.std.specs.List.{flat_map}
-use Rattle.bt_rules.specs.Spots.{dirs}
-use Rattle.bt_rules.specs.declared.fact.Fact.TheVariants as fact
+use Rattle.bt_facts.specs.Spots.{dirs}
+use Rattle.bt_facts.specs.declared.fact.Fact.TheVariants as fact
 use Rattle.bt_rules.proofs.standing.stands_at.Given as goal
 
 abbrev pub invariant-loop-cell : goal.invariant-loop-cell

@@ -1,5 +1,5 @@
 use Rattle.std.proofs.Common.{[]}
-use Rattle.bt_rules.specs.Spots.{dirs}
+use Rattle.bt_facts.specs.Spots.{dirs}
 use Rattle.bt_rules.specs.Standing as standing
 use Rattle.bt_arena.proofs.Loops.{taken_more, taken_all}
 use Rattle.bt_rules.proofs.standing.stands_on.Goals as goal

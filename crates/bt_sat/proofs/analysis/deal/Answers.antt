@@ -1,7 +1,7 @@
 use Rattle.std.proofs.Common.{◌<◌, inl, inr, length, sym, subst}
 use Rattle.std.specs.List.{All}
 use Rattle.bt_cnf.specs.declared.literal.Lit.{Lit}
-use Rattle.bt_log.specs.Validity.{clause_at}
+use Rattle.bt_cnf.specs.Units.{clause_at}
 use Rattle.bt_sat.specs.inner.Analysing.{IsTraced, IsTracing, MarksSeen}
 use Rattle.bt_sat.specs.inner.LoggedFormula.{clauses_in}
 use Rattle.bt_sat.proofs.Deriving

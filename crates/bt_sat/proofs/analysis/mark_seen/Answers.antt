@@ -2,11 +2,11 @@ use Rattle.std.proofs.Common.{◌≡◌, ◌+◌, arith, sym, subst, ap, ◌∙�
 use Rattle.std.specs.Prelude.{slice_index_or}
 use Rattle.std.proofs.lemmas.List.{get_or_default}
 use Rattle.bt_cnf.specs.declared.literal.Lit.{Lit}
-use Rattle.bt_sat.specs.inner.Attending.{no_lit}
-use Rattle.bt_sat.specs.inner.Reasons.{lit_at}
+use Rattle.bt_watch.specs.Watched.{no_lit}
+use Rattle.bt_watch.specs.Reasons.{lit_at}
 use Rattle.bt_sat.proofs.Seeing.{HasSeen, seen_next, seen_not}
-use Rattle.bt_sat.proofs.analysis.mark_seen.Goals as goal
 use Rattle.bt_sat.proofs.analysis.mark_seen.Goals.{then-place-but+in_ok-add, else-place-but}
+use Rattle.bt_sat.proofs.analysis.mark_seen.Goals as goal
 
 pub loop-lit-preserved : goal.loop-lit-preserved
 loop-lit-preserved c =

@@ -1,5 +1,5 @@
 use Rattle.std.proofs.Common.{◌<◌, arith, subst}
-use Rattle.bt_sat.specs.inner.Levels.{IsLevelOf}
+use Rattle.bt_watch.specs.Levels.{IsLevelOf}
 use Rattle.bt_sat.proofs.ConflictLevels
 use Rattle.bt_sat.proofs.analysis.top_level.Goals as goal
 

@@ -1,6 +1,6 @@
 use Rattle.std.proofs.Common.{◌≡◌, ◌<◌, length, arith, refl, subst, ◌∙◌}
+use Rattle.bt_watch.specs.Levels.{IsReady}
 use Rattle.bt_sat.specs.inner.LoggedFormula.{clauses_in}
-use Rattle.bt_sat.specs.inner.Levels.{IsReady}
 use Rattle.bt_sat.proofs.Searched.{ready_back, stands_held, stands_ordered}
 use Rattle.bt_sat.proofs.cdcl.restart.Goals as goal
 

@@ -1,11 +1,9 @@
-use Rattle.std.proofs.Common.{length, sym, subst, ◌∙◌}
+use Rattle.std.proofs.Common.{length, sym, subst, ◌∙◌, refl}
+use Rattle.bt_watch.specs.Levels.{IsReady, Stands}
+use Rattle.bt_choosers.specs.Orders.{HasUnset}
 use Rattle.bt_sat.specs.inner.LoggedFormula.{clauses_in}
-use Rattle.bt_sat.specs.inner.Levels.{IsReady}
-use Rattle.bt_sat.specs.inner.Orders.{HasUnset}
-use Rattle.bt_sat.specs.inner.Progressing.{Stands}
-use Rattle.bt_sat.proofs.Chosen
-use Rattle.bt_sat.proofs.Listing
-use Rattle.std.proofs.Common.{refl}
+use Rattle.bt_watch.proofs.Chosen
+use Rattle.bt_choosers.proofs.Listing
 use Rattle.bt_sat.proofs.choosing.begin_with.Goals as goal
 
 pub returns-clause-decides : goal.returns-clause-decides

@@ -1,7 +1,7 @@
-use Rattle.std.proofs.Common.{◌≡◌, map, vec_len}
+use Rattle.std.proofs.Common.{◌≡◌, map}
+use Rattle.bt_cnf.specs.Truths.{unset}
 use Rattle.bt_sat.specs.inner.Choices.{IsAtChoice, KeepsLog}
 use Rattle.bt_sat.specs.inner.Progressing.{IsRunning, KeepsFormula}
-use Rattle.bt_sat.specs.inner.Truths.{unset}
 use Rattle.bt_sat.proofs.deciding.decide_until_conflict.Given as goal
 
 abbrev pub invariant-loop-progress : goal.invariant-loop-progress

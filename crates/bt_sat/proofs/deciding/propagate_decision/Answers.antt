@@ -1,6 +1,6 @@
 use Rattle.std.proofs.Common.{◌∙◌, ap, sym}
 use Rattle.bt_sat.specs.declared.logged_formula.LoggedFormula.{LoggedFormula}
-use Rattle.bt_sat.proofs.Listing.{grows_lists}
+use Rattle.bt_sat.proofs.Listed.{grows_lists}
 use Rattle.bt_sat.proofs.deciding.propagate_decision.Goals as goal
 
 pub returns-clause-propagates : goal.returns-clause-propagates

@@ -1,10 +1,10 @@
 use Rattle.std.proofs.Common.{◌≡◌, length, arith, Some, sym, subst, ◌∙◌}
 use Rattle.std.proofs.lemmas.List.{get_or_default}
-use Rattle.bt_sat.specs.inner.Assigning.{Assigns}
-use Rattle.bt_sat.specs.inner.Attending.{no_lit}
+use Rattle.bt_watch.specs.Assigning.{Assigns}
+use Rattle.bt_watch.specs.Watched.{no_lit}
+use Rattle.bt_watch.specs.Propagating.{Keeps}
+use Rattle.bt_watch.specs.Reasons.{lit_at}
 use Rattle.bt_sat.specs.inner.LoggedFormula.{clauses_in}
-use Rattle.bt_sat.specs.inner.Propagating.{Keeps}
-use Rattle.bt_sat.specs.inner.Reasons.{lit_at}
 use Rattle.bt_sat.proofs.Adopted
 use Rattle.bt_sat.proofs.learning.adopt.Goals as goal
 

@@ -3,11 +3,10 @@ use Rattle.std.specs.List.{All}
 use Rattle.std.specs.List.Sorted.{IsNonDecreasing}
 use Rattle.std.proofs.lemmas.List.{get_or_default}
 use Rattle.bt_sat.specs.inner.Analysing.{falses_at}
-use Rattle.bt_sat.specs.inner.Asserting.{IsPrepared}
+use Rattle.bt_sat.specs.inner.Asserting.{IsPrepared, IsAssertionLevel}
 use Rattle.bt_sat.specs.inner.LoggedFormula.{clauses_in}
-use Rattle.bt_sat.specs.inner.Levels.{IsAssertionLevel}
+use Rattle.bt_watch.proofs.Leveled.{start_rises}
 use Rattle.bt_sat.proofs.Asserted
-use Rattle.bt_sat.proofs.Leveled.{start_rises}
 use Rattle.bt_sat.proofs.learning.prepare.Goals as goal
 
 pub name_lits-requires : goal.name_lits-requires

@@ -1,12 +1,12 @@
 use Rattle.std.proofs.Common.{rules, ◌≡◌, ◌<◌, length, arith, sym, subst, ap, ◌∙◌, Some, refl, inl, inr}
 use Rattle.std.proofs.lemmas.List.{get_or_default}
-use Rattle.bt_sat.specs.declared.assignment.Assignment.{Assignment}
-use Rattle.bt_sat.specs.inner.Attending.{no_lit}
+use Rattle.bt_cnf.specs.Truths.{IsFalseIn}
+use Rattle.bt_watch.specs.declared.assignment.Assignment.{Assignment}
+use Rattle.bt_watch.specs.Watched.{no_lit}
+use Rattle.bt_watch.specs.Propagating.{Keeps}
+use Rattle.bt_watch.specs.Reasons.{lit_at}
 use Rattle.bt_sat.specs.inner.LoggedFormula.{clauses_in}
 use Rattle.bt_sat.specs.inner.Lemmas.{Admits, IsFailing}
-use Rattle.bt_sat.specs.inner.Propagating.{Keeps}
-use Rattle.bt_sat.specs.inner.Reasons.{lit_at}
-use Rattle.bt_sat.specs.inner.Truths.{IsFalseIn}
 use Rattle.bt_sat.proofs.Admitted
 use Rattle.bt_sat.proofs.lemmas.admit.Goals as goal
 

@@ -4,8 +4,8 @@ use Rattle.std.specs.List.Sorted.{IsNonDecreasing}
 use Rattle.std.proofs.lemmas.List.{get_or_default, length-map}
 use Rattle.bt_sat.specs.inner.Analysing.{false_at, falses_at}
 use Rattle.bt_sat.specs.inner.Lemmas.{BackjumpsFor}
-use Rattle.bt_sat.specs.inner.Levels.{IsAssertionLevel}
-use Rattle.bt_sat.proofs.Leveled.{start_rises}
+use Rattle.bt_sat.specs.inner.Asserting.{IsAssertionLevel}
+use Rattle.bt_watch.proofs.Leveled.{start_rises}
 use Rattle.bt_sat.proofs.BackjumpedFor
 use Rattle.bt_sat.proofs.lemmas.backjump_for.Goals as goal
 

@@ -1,10 +1,10 @@
 use Rattle.std.proofs.Common.{◌≡◌, [], ◌∷◌, ◌++◌, length, arith, refl, sym, subst, ◌∙◌}
 use Rattle.bt_log.specs.Logs.{Lemma}
+use Rattle.bt_watch.specs.Levels.{IsReady, Stands}
 use Rattle.bt_sat.specs.declared.logged_formula.LoggedFormula.{LoggedFormula}
 use Rattle.bt_sat.specs.inner.LoggedFormula.{clauses_in}
 use Rattle.bt_sat.specs.inner.Lemmas.{Admits, CanAdmit}
-use Rattle.bt_sat.specs.inner.Levels.{IsReady}
-use Rattle.bt_sat.specs.inner.Progressing.{LogsStep, Stands}
+use Rattle.bt_sat.specs.inner.Progressing.{LogsStep}
 use Rattle.bt_sat.proofs.Admitted
 use Rattle.bt_sat.proofs.Logging
 use Rattle.bt_sat.proofs.Taken

@@ -1,9 +1,9 @@
 use Rattle.std.proofs.Common.{◌≡◌, ◌<◌, ◌+◌, ◌^◌, [], ◌∷◌, ◌++◌, length, arith, refl, sym, subst, ◌∙◌}
 use Rattle.std.proofs.lemmas.Bool.Decides.{nat_tests}
 use Rattle.bt_log.specs.Logs.{Learnt}
+use Rattle.bt_watch.specs.Levels.{IsReady}
 use Rattle.bt_sat.specs.inner.Asserting.{IsPrepared}
 use Rattle.bt_sat.specs.inner.LoggedFormula.{clauses_in}
-use Rattle.bt_sat.specs.inner.Levels.{IsReady}
 use Rattle.bt_sat.specs.inner.Progressing.{IsNextStep, LogsStep}
 use Rattle.bt_sat.proofs.Logging
 use Rattle.bt_sat.proofs.progress.learn.Goals as goal

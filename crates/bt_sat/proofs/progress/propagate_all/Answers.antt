@@ -1,10 +1,9 @@
 use Rattle.std.proofs.Common.{◌≡◌, length, arith, refl, sym, subst, ap, ◌∙◌, None, Some}
 use Rattle.std.specs.Prelude.{slice_get}
+use Rattle.bt_watch.specs.Levels.{IsReady, Stands}
+use Rattle.bt_watch.specs.Propagating.{Propagates}
 use Rattle.bt_sat.specs.inner.LoggedFormula.{clauses_in}
-use Rattle.bt_sat.specs.inner.Levels.{IsReady}
-use Rattle.bt_sat.specs.inner.Progressing.{Stands}
-use Rattle.bt_sat.specs.inner.Propagating.{Propagates}
-use Rattle.bt_sat.proofs.Propagated
+use Rattle.bt_watch.proofs.Propagated
 use Rattle.bt_sat.proofs.progress.propagate_all.Goals as goal
 
 pub returns-in-Some-clause-propagates : goal.returns-in-Some-clause-propagates

@@ -1,4 +1,4 @@
-use Rattle.std.proofs.Common.{◌≡◌, ◌≤◌, List, Bool, length, take, map, sym, subst, arith}
+use Rattle.std.proofs.Common.{◌≡◌, List, Bool, take, map, sym, subst, arith}
 use Rattle.std.specs.Prelude.{IfSome}
 use Rattle.std.specs.List.{All, Any}
 use Rattle.std.proofs.lemmas.Result.{IfOk-weaker}

@@ -1,7 +1,7 @@
 use Rattle.std.proofs.Common.{◌≡◌, ◌+◌, ◌-◌, ◌<◌, ◌++◌, false, length, refl, arith}
 use Rattle.bt_io.specs.Passages.{passage}
-use Rattle.bt_top.specs.declared.held.Held.{Held}
-use Rattle.bt_top.specs.declared.input.TheConstants.{MOST_CHECKED}
+use Rattle.bt_designs.specs.declared.held.Held.{Held}
+use Rattle.bt_designs.specs.declared.held.TheConstants.{MOST_CHECKED}
 use Rattle.bt_top.specs.inner.Claims.{IsClaimed}
 use Rattle.bt_top.specs.inner.Fronts.{IsFrontOf}
 use Rattle.bt_top.specs.inner.Gathering.{IsGatheredOf}

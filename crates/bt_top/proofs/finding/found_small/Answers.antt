@@ -1,17 +1,14 @@
 use Rattle.std.proofs.Common.{refl, alloc_error, inl, inr, Ok, Err, Result}
 use Rattle.bt_answers.specs.Answers.{UnlessMemory}
-use Rattle.bt_top.specs.declared.fault.DesignFault.TheVariants.{Memory}
+use Rattle.bt_designs.specs.declared.fault.DesignFault.TheVariants.{Memory}
 use Rattle.bt_top.specs.Replies.{design_told}
 use Rattle.bt_top.specs.Finding.{IsDesignRequest, IsFound}
-use Rattle.bt_top.proofs.InTurns.{stops, went}
-use Rattle.bt_top.proofs.OneRequest.{design_request}
+use Rattle.bt_designs.proofs.InTurns.{stops, went}
+use Rattle.bt_top.proofs.AskedOfAny.{design_request}
 use Rattle.bt_top.proofs.finding.found_small.Goals as goal
 
 pub found_of-requires-clause-request : goal.found_of-requires-clause-request
 found_of-requires-clause-request c = (design_request c.args.sides c.args.most c.args.tier c.args.bytes.now c.in-Ok.request c.in-Ok.ensures).request
-
-pub found_of-requires-clause-plain : goal.found_of-requires-clause-plain
-found_of-requires-clause-plain c = (design_request c.args.sides c.args.most c.args.tier c.args.bytes.now c.in-Ok.request c.in-Ok.ensures).plain
 
 pub found_of-requires-clause-cells : goal.found_of-requires-clause-cells
 found_of-requires-clause-cells c = (design_request c.args.sides c.args.most c.args.tier c.args.bytes.now c.in-Ok.request c.in-Ok.ensures).cells

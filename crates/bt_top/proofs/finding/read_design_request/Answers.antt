@@ -1,9 +1,9 @@
 use Rattle.std.proofs.Common.{◌≡◌, true, false, inl, inr, refl}
-use Rattle.bt_top.specs.declared.fault.DesignFault.TheVariants.{Memory}
+use Rattle.bt_designs.specs.declared.fault.DesignFault.TheVariants.{Memory}
 use Rattle.bt_top.specs.Finding.{IsDesignRequest}
-use Rattle.bt_top.specs.Kept.{IsDrawnRequest}
-use Rattle.bt_top.specs.Searching.{IsSidedRequest}
-use Rattle.bt_top.proofs.InTurns.{weaker}
+use Rattle.bt_top.specs.Finding.{IsDrawnRequest}
+use Rattle.bt_designs.specs.Requested.{IsSidedRequest}
+use Rattle.bt_designs.proofs.InTurns.{weaker}
 use Rattle.bt_top.proofs.finding.read_design_request.Goals as goal
 
 pub returns-then-is_json : goal.returns-then-is_json

@@ -1,10 +1,10 @@
 use Rattle.std.proofs.Common.{refl, drop, subst, alloc_error}
 use Rattle.bt_answers.specs.Answers.{UnlessMemory}
-use Rattle.bt_top.specs.declared.fault.DesignFault.TheVariants.{Memory}
-use Rattle.bt_top.specs.Designs.{IsDesign}
+use Rattle.bt_designs.specs.declared.fault.DesignFault.TheVariants.{Memory}
+use Rattle.bt_designs.specs.Designs.{IsDesign}
 use Rattle.bt_top.specs.Replies.{design_told}
 use Rattle.bt_top.specs.States.{IsStateChecked}
-use Rattle.bt_top.proofs.InTurns.{stops, went}
+use Rattle.bt_designs.proofs.InTurns.{stops, went}
 use Rattle.bt_top.proofs.flow_check.check.Goals as goal
 
 pub returns-in-Ok : goal.returns-in-Ok

@@ -1,7 +1,7 @@
 use Rattle.bt_top.specs.declared.answer.Answer.TheVariants.{Breaks}
 use Rattle.bt_top.specs.States.{IsStateJudged, IsStateChecked}
 use Rattle.std.proofs.Common.{alloc_error}
-use Rattle.bt_top.proofs.InTurns.{weaker}
+use Rattle.bt_designs.proofs.InTurns.{weaker}
 use Rattle.bt_top.proofs.flow_check.check_state.Goals as goal
 
 pub returns : goal.returns

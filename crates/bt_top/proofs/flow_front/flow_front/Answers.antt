@@ -1,10 +1,11 @@
 use Rattle.std.proofs.Common.{Some, Ok, refl, subst}
-use Rattle.bt_top.specs.declared.fault.DesignFault.TheVariants.{Refused}
+use Rattle.bt_designs.specs.declared.fault.DesignFault.TheVariants.{Refused}
 use Rattle.bt_top.specs.Certificates.{IsCertificateChecked, IsCertified}
-use Rattle.bt_top.specs.Designs.{IsDesign}
-use Rattle.bt_top.specs.Steps.{stopped, went_on}
-use Rattle.bt_top.specs.inner.Found.{net_and_used}
-use Rattle.bt_top.specs.inner.Fronts.{GivesFront, TellsFront}
+use Rattle.bt_designs.specs.Designs.{IsDesign}
+use Rattle.bt_designs.specs.Steps.{stopped, went_on}
+use Rattle.bt_designs.specs.Found.{net_and_used}
+use Rattle.bt_designs.specs.Told.{TellsFront}
+use Rattle.bt_top.specs.inner.Fronts.{GivesFront}
 use Rattle.bt_top.proofs.Fronts.{found_front, refused_front}
 use Rattle.bt_top.proofs.flow_front.flow_front.Goals as goal
 

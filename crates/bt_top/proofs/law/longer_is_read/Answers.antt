@@ -1,4 +1,4 @@
-use Rattle.bt_top.proofs.LongerDesigns.{design_stays, refusal_stays}
+use Rattle.bt_designs.proofs.LongerDesigns.{design_stays, refusal_stays}
 use Rattle.bt_top.proofs.law.longer_is_read.Goals as goal
 
 pub returns-clause-design : goal.returns-clause-design

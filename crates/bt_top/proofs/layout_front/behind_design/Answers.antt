@@ -1,13 +1,13 @@
 use Rattle.std.proofs.Common.{Err, refl, subst}
 use Rattle.bt_answers.specs.Answers.{UnlessMemory}
-use Rattle.bt_top.specs.declared.fault.DesignFault.TheVariants.{Memory, Refused}
+use Rattle.bt_designs.specs.declared.fault.DesignFault.TheVariants.{Memory, Refused}
 use Rattle.bt_top.specs.NoneCertificates.{IsNoneCertificateChecked}
-use Rattle.bt_top.specs.Requested.{IsRequestFor}
-use Rattle.bt_top.specs.Steps.{stopped, went_on}
-use Rattle.bt_top.specs.inner.Found.{pinned_of}
+use Rattle.bt_designs.specs.Requested.{IsRequestFor}
+use Rattle.bt_designs.specs.Steps.{stopped, went_on}
+use Rattle.bt_designs.specs.Found.{pinned_of}
 use Rattle.bt_top.specs.inner.RequestParts.{IsRequestChecked}
 use Rattle.bt_top.proofs.Fronts.{gives_weaker, tells_refusal}
-use Rattle.bt_top.proofs.ToldParts.{refused_so}
+use Rattle.bt_designs.proofs.ToldParts.{refused_so}
 use Rattle.bt_top.proofs.layout_front.behind_design.Goals as goal
 
 pub returns-in-Ok : goal.returns-in-Ok

@@ -1,8 +1,9 @@
 use Rattle.std.proofs.Common.{Some, Ok, subst}
 use Rattle.bt_top.specs.NoneCertificates.{IsLayoutChecked}
-use Rattle.bt_top.specs.Requested.{IsPinned}
-use Rattle.bt_top.specs.inner.Found.{pinned_of, pinned_and_used}
-use Rattle.bt_top.specs.inner.Fronts.{GivesFront, TellsFront}
+use Rattle.bt_designs.specs.Requested.{IsPinned}
+use Rattle.bt_designs.specs.Found.{pinned_of, pinned_and_used}
+use Rattle.bt_designs.specs.Told.{TellsFront}
+use Rattle.bt_top.specs.inner.Fronts.{GivesFront}
 use Rattle.bt_top.specs.inner.RequestParts.{IsRequestChecked}
 use Rattle.bt_top.proofs.Fronts.{found_front, refused_front}
 use Rattle.bt_top.proofs.LayoutFronts.{design_goes, design_refused}

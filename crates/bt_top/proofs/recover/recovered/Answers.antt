@@ -1,10 +1,10 @@
 use Rattle.std.proofs.Common.{◌≡◌, refl, alloc_error, Ok}
 use Rattle.bt_top.specs.declared.answer.Answer.TheVariants.{Recovered}
-use Rattle.bt_top.specs.declared.fault.DesignFault.TheVariants.{Memory}
-use Rattle.bt_top.specs.Alone.{IsLoneNet}
+use Rattle.bt_designs.specs.declared.fault.DesignFault.TheVariants.{Memory}
+use Rattle.bt_designs.specs.Alone.{IsLoneNet}
 use Rattle.bt_top.specs.Replies.{design_told}
-use Rattle.bt_top.specs.Steps.{went_on}
-use Rattle.bt_top.proofs.InTurns.{stops}
+use Rattle.bt_designs.specs.Steps.{went_on}
+use Rattle.bt_designs.proofs.InTurns.{stops}
 use Rattle.bt_top.proofs.recover.recovered.Goals as goal
 
 pub returns-in-Ok : goal.returns-in-Ok

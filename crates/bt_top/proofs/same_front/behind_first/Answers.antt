@@ -1,10 +1,11 @@
 use Rattle.std.proofs.Common.{Some, Ok, refl, subst}
-use Rattle.bt_top.specs.declared.fault.DesignFault.TheVariants.{Refused}
-use Rattle.bt_top.specs.declared.held.Held.{Held}
-use Rattle.bt_top.specs.Designs.{IsBareDesign}
-use Rattle.bt_top.specs.Steps.{stopped, went_on}
-use Rattle.bt_top.specs.inner.Found.{net_and_used}
-use Rattle.bt_top.specs.inner.Fronts.{GivesFront, TellsFront}
+use Rattle.bt_designs.specs.declared.fault.DesignFault.TheVariants.{Refused}
+use Rattle.bt_designs.specs.declared.held.Held.{Held}
+use Rattle.bt_designs.specs.Designs.{IsBareDesign}
+use Rattle.bt_designs.specs.Steps.{stopped, went_on}
+use Rattle.bt_designs.specs.Found.{net_and_used}
+use Rattle.bt_designs.specs.Told.{TellsFront}
+use Rattle.bt_top.specs.inner.Fronts.{GivesFront}
 use Rattle.bt_top.specs.inner.PairParts.{IsPairedChecked, IsSecondChecked}
 use Rattle.bt_top.proofs.Fronts.{behind_blanks, found_front, none_dropped, refused_behind}
 use Rattle.bt_top.proofs.same_front.behind_first.Goals as goal

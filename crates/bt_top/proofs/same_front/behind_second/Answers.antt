@@ -1,12 +1,12 @@
 use Rattle.std.proofs.Common.{Err, refl, subst}
 use Rattle.bt_answers.specs.Answers.{UnlessMemory}
-use Rattle.bt_top.specs.declared.fault.DesignFault.TheVariants.{Memory, Refused}
+use Rattle.bt_designs.specs.declared.fault.DesignFault.TheVariants.{Memory, Refused}
 use Rattle.bt_top.specs.SameCertificates.{IsSameCertificateChecked}
-use Rattle.bt_top.specs.Steps.{stopped, went_on}
-use Rattle.bt_top.specs.TwoDesigns.{IsPaired}
+use Rattle.bt_designs.specs.Steps.{stopped, went_on}
+use Rattle.bt_designs.specs.TwoDesigns.{IsPaired}
 use Rattle.bt_top.specs.inner.PairParts.{IsPairedChecked}
 use Rattle.bt_top.proofs.Fronts.{gives_weaker, tells_refusal}
-use Rattle.bt_top.proofs.ToldParts.{refused_so}
+use Rattle.bt_designs.proofs.ToldParts.{refused_so}
 use Rattle.bt_top.proofs.same_front.behind_second.Goals as goal
 
 pub returns-in-Ok : goal.returns-in-Ok

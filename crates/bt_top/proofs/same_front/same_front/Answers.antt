@@ -1,8 +1,9 @@
 use Rattle.std.proofs.Common.{Some, Ok, subst}
-use Rattle.bt_top.specs.Designs.{IsBareDesign}
+use Rattle.bt_designs.specs.Designs.{IsBareDesign}
 use Rattle.bt_top.specs.SameCertificates.{IsSameCertified}
-use Rattle.bt_top.specs.inner.Found.{net_and_used}
-use Rattle.bt_top.specs.inner.Fronts.{GivesFront, TellsFront}
+use Rattle.bt_designs.specs.Found.{net_and_used}
+use Rattle.bt_designs.specs.Told.{TellsFront}
+use Rattle.bt_top.specs.inner.Fronts.{GivesFront}
 use Rattle.bt_top.specs.inner.PairParts.{IsBehindFirstChecked}
 use Rattle.bt_top.proofs.Fronts.{found_front, refused_front}
 use Rattle.bt_top.proofs.SameFronts.{first_goes, first_refused}

@@ -1,5 +1,5 @@
 use Rattle.std.proofs.Common.{◌≡◌, List, [], ap, ◌∙◌, arith}
-use Rattle.bt_rules.specs.declared.fact.Class.{Class}
+use Rattle.bt_facts.specs.declared.fact.Class.{Class}
 use Rattle.bt_place.specs.Blocks.{starts_of}
 use Rattle.bt_place.specs.Numbering.{variables}
 use Rattle.bt_place.specs.PlaceFormula.{sizes_of}

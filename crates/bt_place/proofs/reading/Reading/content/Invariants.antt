@@ -1,6 +1,6 @@
 use Rattle.std.proofs.Common.{◌≡◌, ◌<◌, false}
-use Rattle.bt_rules.specs.declared.fact.Content.{Content}
-use Rattle.bt_rules.specs.declared.fact.Fact.TheVariants.{Kind}
+use Rattle.bt_facts.specs.declared.fact.Content.{Content}
+use Rattle.bt_facts.specs.declared.fact.Fact.TheVariants.{Kind}
 use Rattle.bt_place.specs.Numbering.{content_number}
 use Rattle.bt_place.specs.inner.Told.{reading_of}
 use Rattle.bt_place.proofs.reading.Reading.content.Given as goal

@@ -1,0 +1,43 @@
+-- How active variables are by the clauses that a chooser was told.
+use Rattle.std.specs.Prelude.{ℕ, ◌+◌, ◌/◌, ◌==◌, Bool, false, List, [], ◌∷◌, min, nat_lt, fold, if◌then◌else◌}
+use Rattle.bt_cnf.specs.declared.literal.Lit.{Lit}
+use Rattle.bt_choosers.specs.declared.active.TheConstants.{FIRST_BUMP, MOST_BUMP, MOST_SCORE}
+
+-- the score of each variable, the sign that it is set with, and what the next clause adds to the scores of its variables
+pub record Activity : Type 0 where
+  pub score : ℕ → ℕ
+  pub sign : ℕ → Bool
+  pub bump : ℕ
+
+-- a score that the bump is added to
+abbrev pub raised : ℕ → ℕ → ℕ
+raised bump score = min (score + bump) MOST_SCORE
+
+-- the score of a variable once each literal of the clause that is of this variable has added the bump
+abbrev pub raised_score : Activity → List Lit → ℕ → ℕ
+raised_score a clause v = fold (λ score l. if l.var == v then raised a.bump score else score) (a.score v) clause
+
+-- the sign that makes the clause's last literal of the variable true, or the one before where it has none
+abbrev pub taken_sign : Activity → List Lit → ℕ → Bool
+taken_sign a clause v = fold (λ sign l. if l.var == v then l.positive else sign) (a.sign v) clause
+
+-- a bump that has grown by a twentieth
+abbrev pub grown_bump : ℕ → ℕ
+grown_bump bump = bump + bump / 20
+
+-- half of a number where the bump is large, and the number where it isn't
+abbrev pub scaled : ℕ → ℕ → ℕ
+scaled bump n = if nat_lt MOST_BUMP bump then n / 2 else n
+
+-- what a clause makes of it
+abbrev pub after_clause : Activity → List Lit → Activity
+after_clause a clause = record {
+  score = λ v. scaled (grown_bump a.bump) (raised_score a clause v);
+  sign = taken_sign a clause;
+  bump = scaled (grown_bump a.bump) (grown_bump a.bump);
+}
+
+-- what is so once these clauses were told, the last of which comes first
+abbrev pub activity_of : List (List Lit) → Activity
+activity_of [] = record { score = λ v. 0; sign = λ v. false; bump = FIRST_BUMP }
+activity_of (clause ∷ earlier) = after_clause (activity_of earlier) clause

@@ -1,0 +1,17 @@
+pub mod InTurns
+pub mod Blanks
+pub mod BareReadings
+pub mod OneDesign
+pub mod LongerDesigns
+pub mod LongerRequests
+pub mod Followed
+pub mod StandingAlone
+pub mod OwnSides
+pub mod OneRequest
+pub mod OnePair
+pub mod BareNets
+pub mod TwoFollowed
+pub mod JsonBehindBlanks
+pub mod BlankDesigns
+pub mod ToldParts
+pub mod ReadingOn

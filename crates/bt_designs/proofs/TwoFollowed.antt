@@ -1,0 +1,157 @@
+-- Two designs that are all of some bytes, and stand at the front where a line feed and a text follow.
+use Rattle.std.proofs.Common.{◌≡◌, ◌⊎◌, ℕ, zero, suc, ◌+◌, ◌-◌, ◌<◌, ◌≤◌, List, [], ◌∷◌, ◌++◌, length, take, drop, Ok, refl, sym, ◌∙◌, ap, subst, inl, inr, arith, length-append}
+use Rattle.std.specs.Prelude.{codes, slice_index}
+use Rattle.std.proofs.lemmas.List.{append_assoc, length-drop, take-append-drop, drop-append-le}
+use Rattle.bt_text.specs.Blanks.{IsBlank, SkipsBlanks}
+use Rattle.bt_net.specs.Network.{Network, IsNetwork}
+use Rattle.bt_designs.proofs.BareReadings.{nothing_read, bare_is_read, read_is_bare}
+use Rattle.bt_same.specs.Sameness.{HaveEqualEnds}
+use Rattle.bt_designs.specs.Alone.{IsAlone}
+use Rattle.bt_designs.specs.Designs.{IsJsonLayout, IsBareDesign}
+use Rattle.bt_designs.specs.Refusals.{net_told}
+use Rattle.bt_designs.specs.Requested.{PinnedNet, pinned_net, IsPinned}
+use Rattle.bt_designs.specs.Steps.{stopped, went_on}
+use Rattle.bt_designs.specs.TwoDesigns.{IsTwoNets, IsFrontNets}
+use Rattle.bt_designs.proofs.BareNets.{bare_network, paired}
+use Rattle.bt_designs.proofs.Followed.{StandsAlone, IsFollowed, is_followed, stands_alone}
+use Rattle.bt_designs.proofs.InTurns.{same_value, not_both}
+use Rattle.bt_designs.proofs.LongerDesigns.{net_first}
+use Rattle.bt_designs.proofs.LongerRequests.{PinnedStays, pinned_stays, pinned_within, pinned_goes_on}
+
+-- ---- a bare design is one that asks for nothing
+
+module _ (bytes : List ℕ) (n : Network) (used : ℕ) where
+  to_pinned : IsBareDesign bytes (Ok (n, used)) → IsPinned bytes (Ok (pinned_net n [] [], used))
+  to_pinned (inl (is, h)) = inl (is, went_on (n, used) h refl)
+  to_pinned (inr (none, stopped fault h e)) = absurd (not_both (n, used) (net_told fault) e)
+  to_pinned (inr (none, went_on read h e)) =
+      let same = same_value (n, used) (read.net, read.used) e in
+      let bare = nothing_read bytes read h in
+      let demands = sym bare.0 in
+      let blocks = sym bare.1 in
+      inr (none, went_on read (bare_is_read bytes read h) (λ i. Ok (pinned_net (same i).0 (demands i) (blocks i), (same i).1)))
+
+  from_pinned : IsPinned bytes (Ok (pinned_net n [] [], used)) → IsBareDesign bytes (Ok (n, used))
+  from_pinned (inl (is, stopped fault h e)) = absurd (not_both (pinned_net n [] [], used) fault e)
+  from_pinned (inl (is, went_on found h e)) =
+      let same = same_value (pinned_net n [] [], used) (pinned_net found.0 [] [], found.1) e in
+      inl (is, subst (λ (x : Network × ℕ). IsJsonLayout bytes (Ok x)) (ap (λ (x : PinnedNet × ℕ). (x.0.net, x.1)) (sym same)) h)
+  from_pinned (inr (none, stopped fault h e)) = absurd (not_both (pinned_net n [] [], used) _ e)
+  from_pinned (inr (none, went_on read h e)) =
+      let same = same_value (pinned_net n [] [], used) (pinned_net read.net read.demands read.blocks, read.used) e in
+      inr (
+        none,
+        went_on read
+            (read_is_bare bytes read h (ap (λ (x : PinnedNet × ℕ). x.0.demands) (sym same)) (ap (λ (x : PinnedNet × ℕ). x.0.blocks) (sym same)))
+            (ap (λ (x : PinnedNet × ℕ). Ok (x.0.net, x.1)) same),
+      )
+
+module _ (bytes : List ℕ) (n : Network) (used : ℕ) (h : IsBareDesign bytes (Ok (n, used))) where
+  abbrev BareStays : Type 0
+  BareStays = ((more : List ℕ) → IsBareDesign (bytes ++ more) (Ok (n, used))) ⊎ ((used ≡ length bytes) × ((more : List ℕ) → IsBareDesign (bytes ++ 10 ∷ more) (Ok (n, used + 1))))
+
+  bare_within : used ≤ length bytes
+  bare_within = pinned_within bytes (pinned_net n [] []) used (to_pinned bytes n used h)
+
+  bare_stays : BareStays
+  bare_stays = by (pinned_stays bytes (pinned_net n [] []) used (to_pinned bytes n used h))
+    where
+      by : PinnedStays bytes (pinned_net n [] []) used → BareStays
+      by (inl stays) = inl (λ more. from_pinned (bytes ++ more) n used (stays more))
+      by (inr (all, fed)) = inr (all, λ more. from_pinned (bytes ++ 10 ∷ more) n (used + 1) (fed more))
+
+  pub bare_goes_on : (more : List ℕ) → used < length bytes → IsBareDesign (bytes ++ more) (Ok (n, used))
+  bare_goes_on more few = from_pinned (bytes ++ more) n used (pinned_goes_on bytes more (pinned_net n [] [], used) (to_pinned bytes n used h) few)
+
+-- no design is empty
+never_empty : (n : Network) (used : ℕ) → IsBareDesign [] (Ok (n, used)) → ⊥
+never_empty n used (inl ((rest, s), h)) = omega (arith, ap length s.text_is, length-append s.blanks (123 ∷ rest))
+never_empty n used (inr (none, stopped fault h e)) = not_both (n, used) (net_told fault) e
+never_empty n used (inr (none, went_on read h e)) =
+    let other = net_first [] (drop read.used []) read.net (h.begins.edge_lines ++ (h.begins.demand_lines ++ (h.begins.block_lines ++ codes "end" ∷ []))) h.begins.begins in
+    omega (arith, ap length other.2.text_is, length-append other.2.blanks (other.0 ∷ other.1))
+
+-- what stands behind a front
+pub drop_past : (front back : List ℕ) (k m : ℕ) → m ≡ length front + k → drop m (front ++ back) ≡ drop k back
+drop_past [] back k m e = ap (λ x. drop x back) (omega (arith, e))
+drop_past (b ∷ front) back k zero e = absurd (omega (arith, e))
+drop_past (b ∷ front) back k (suc m) e = drop_past front back k m (omega (arith, e))
+
+-- where a line feed and this text follow the bytes, two designs stand at the front, and the text follows them and blanks
+pub record AreFollowed (bytes text : List ℕ) (nets : Network × Network) : Type 0 where
+  pub used : ℕ
+  pub front : IsFrontNets (bytes ++ 10 ∷ text) (Ok (nets, used))
+  pub rest : SkipsBlanks (drop used (bytes ++ 10 ∷ text)) text
+
+module _ (bytes text : List ℕ) (starts : 0 < length text → IsBlank (slice_index text 0) → ⊥) where
+  -- the second design, alone behind the first and blanks
+  module _ (a : Network) (used : ℕ) (h : IsBareDesign bytes (Ok (a, used))) (second : List ℕ) (skips : SkipsBlanks (drop used bytes) second) (b : Network)
+      (lone : IsAlone IsBareDesign second (Ok b)) where
+    alone : StandsAlone IsBareDesign second b
+    alone = stands_alone IsBareDesign second b lone
+
+    on : IsFollowed IsBareDesign second text b
+    on = is_followed IsBareDesign second text b starts alone.used alone.front (bare_within second b alone.used alone.front) alone.blanks (bare_stays second b alone.used alone.front)
+
+    some : 0 < length second
+    some = by second alone.front
+      where
+        by : (xs : List ℕ) → IsBareDesign xs (Ok (b, alone.used)) → 0 < length xs
+        by [] is = absurd (never_empty b alone.used is)
+        by (x ∷ xs) is = omega arith
+
+    within : used ≤ length bytes
+    within = bare_within bytes a used h
+
+    parts : bytes ≡ (take used bytes ++ skips.blanks) ++ second
+    parts = sym (take-append-drop used bytes) ∙ ap (λ l. take used bytes ++ l) skips.text_is ∙ sym (append_assoc (take used bytes) skips.blanks second)
+
+    few : used < length bytes
+    few =
+        let dropped = length-drop used bytes in
+        let is = ap length skips.text_is in
+        let joined = length-append skips.blanks second in
+        let more = some in
+        let l = within in
+        omega (arith, dropped, is, joined, more, l)
+
+    behind : drop used (bytes ++ 10 ∷ text) ≡ skips.blanks ++ (second ++ 10 ∷ text)
+    behind = drop-append-le used bytes (10 ∷ text) within ∙ ap (λ l. l ++ 10 ∷ text) skips.text_is ∙ append_assoc skips.blanks second (10 ∷ text)
+
+    first_byte : (xs : List ℕ) → 0 < length xs → (0 < length xs → IsBlank (slice_index xs 0) → ⊥) → 0 < length (xs ++ 10 ∷ text) → IsBlank (slice_index (xs ++ 10 ∷ text) 0) → ⊥
+    first_byte [] short not long blank = omega (arith, short)
+    first_byte (x ∷ xs) short not long blank = not short blank
+
+    skipped : SkipsBlanks (drop used (bytes ++ 10 ∷ text)) (second ++ 10 ∷ text)
+    skipped = record { blanks = skips.blanks; are_blanks = skips.are_blanks; text_is = behind; no_more = first_byte second some skips.no_more }
+
+    whole : bytes ++ 10 ∷ text ≡ (take used bytes ++ skips.blanks) ++ (second ++ 10 ∷ text)
+    whole = ap (λ l. l ++ 10 ∷ text) parts ∙ append_assoc (take used bytes ++ skips.blanks) second (10 ∷ text)
+
+    abbrev before : ℕ
+    before = length (bytes ++ 10 ∷ text) - length (second ++ 10 ∷ text)
+
+    long : before ≡ length (take used bytes ++ skips.blanks)
+    long =
+        let e = ap length whole in
+        let l = length-append (take used bytes ++ skips.blanks) (second ++ 10 ∷ text) in
+        omega (arith, e, l)
+
+    pub two_followed : HaveEqualEnds a b → AreFollowed bytes text (a, b)
+    two_followed ends = record {
+      used = before + on.used;
+      front = went_on (a, used) (bare_goes_on bytes a used h (10 ∷ text) few) (second ++ 10 ∷ text, skipped, went_on (b, on.used) on.front (Ok (a, b), inl (ends, refl), refl));
+      rest = subst (λ l. SkipsBlanks l text)
+          (sym (ap (λ l. drop (before + on.used) l) whole ∙ drop_past (take used bytes ++ skips.blanks) (second ++ 10 ∷ text) on.used (before + on.used) (let e = long in omega (arith, e)))) on.rest;
+    }
+
+  -- two designs that are all of the bytes
+  pub nets_followed : (nets : Network × Network) → IsTwoNets bytes (Ok nets) → AreFollowed bytes text nets × IsNetwork nets.0 × IsNetwork nets.1 × HaveEqualEnds nets.0 nets.1
+  nets_followed nets (stopped fault h e) = absurd (not_both nets fault e)
+  nets_followed nets (went_on found h (second, skips, stopped fault k e)) = absurd (not_both nets fault e)
+  nets_followed nets (went_on found h (second, skips, went_on b lone pair)) =
+      let is = paired found.0 b nets pair in
+      let here = two_followed found.0 found.1 h second skips b lone is.0 in
+      let alone = stands_alone IsBareDesign second b lone in
+      subst (λ (x : Network × Network). AreFollowed bytes text x × IsNetwork x.0 × IsNetwork x.1 × HaveEqualEnds x.0 x.1) (sym is.1)
+      (here, bare_network bytes found h, bare_network second (b, alone.used) alone.front, is.0)

@@ -1,0 +1,15 @@
+use Rattle.std.proofs.Common.{◌≡◌, true, false, inl, inr, refl}
+use Rattle.bt_designs.specs.declared.fault.DesignFault.TheVariants.{Memory}
+use Rattle.bt_designs.specs.Designs.{IsJsonDesign, IsTextDesign, IsDesign}
+use Rattle.bt_designs.proofs.InTurns.{weaker}
+use Rattle.bt_designs.proofs.design.read_design.Goals as goal
+
+pub returns-then-is_json-clause-design : goal.returns-then-is_json-clause-design
+returns-then-is_json-clause-design c =
+    let json = c.if-is_json.ensures in
+    weaker Memory (IsJsonDesign c.args.bytes.now) (IsDesign c.args.bytes.now) _ (λ r h. inl (json.0 refl, h)) c.read_json.ensures.design
+
+pub returns-else-is_json-clause-design : goal.returns-else-is_json-clause-design
+returns-else-is_json-clause-design c =
+    let json = c.if-is_json.ensures in
+    weaker Memory (IsTextDesign c.args.bytes.now) (IsDesign c.args.bytes.now) _ (λ r h. inr (λ j. let f : false ≡ true = json.1 j in cc, h)) c.read_text.ensures.design

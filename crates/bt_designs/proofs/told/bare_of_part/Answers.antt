@@ -1,0 +1,29 @@
+use Rattle.std.proofs.Common.{◌+◌, ◌-◌, ◌≤◌, length, arith}
+use Rattle.bt_designs.specs.declared.held.TheConstants.{MOST_CHECKED}
+use Rattle.bt_designs.specs.Designs.{IsBareDesign}
+use Rattle.bt_designs.specs.Longer.{IsSettled}
+use Rattle.bt_designs.specs.Found.{net_and_used}
+use Rattle.bt_designs.proofs.ToldParts.{at_hand, bare_within, fault_tells, found_behind, part_within}
+use Rattle.bt_designs.proofs.ToldParts.{bare_last, settled}
+use Rattle.bt_designs.proofs.told.bare_of_part.Goals as goal
+
+pub told_fault-requires-clause-within : goal.told_fault-requires-clause-within
+told_fault-requires-clause-within c =
+    let short : length c.args.part.now ≤ length c.args.held.bytes.now = part_within IsBareDesign IsSettled bare_last c.args.held c.args.part.now c.requires.told in
+    let few : length c.args.part.now ≤ MOST_CHECKED - c.args.held.skipped = omega (arith, short, c.requires.few) in
+    bare_within c.args.part.now (MOST_CHECKED - c.args.held.skipped) few c.in-Err.fault c.in-Err.ensures.design
+
+pub returns-else-is_open : goal.returns-else-is_open
+returns-else-is_open c =
+    let held = c.args.held in
+    let part = c.args.part.now in
+    let short : length c.args.part.now ≤ length c.args.held.bytes.now = part_within IsBareDesign IsSettled bare_last held part c.requires.told in (
+      at_hand IsBareDesign IsSettled bare_last held part c.requires.told,
+      omega (arith, short, c.in-Ok.ensures.within),
+      found_behind IsBareDesign IsSettled bare_last held part c.requires.told c.in-Ok.design.net c.in-Ok.design.used c.in-Ok.ensures.design (λ goes. c.is_open.ensures.closed c.if-is_open.false goes),
+    )
+
+pub returns-in-Some : goal.returns-in-Some
+returns-in-Some c =
+    fault_tells IsBareDesign IsSettled bare_last c.args.held c.args.part.now c.requires.told net_and_used c.in-Err.fault c.in-Some.told c.in-Err.ensures.design c.in-Some.ensures
+    (λ text r is goes other. settled c.args.part.now text r c.in-Err.fault is other)

@@ -1,0 +1,28 @@
+use Rattle.std.proofs.Common.{◌+◌, ◌-◌, ◌≤◌, length, arith}
+use Rattle.bt_designs.specs.declared.held.TheConstants.{MOST_CHECKED}
+use Rattle.bt_designs.specs.Requested.{IsPinned}
+use Rattle.bt_designs.specs.Longer.{IsSettled}
+use Rattle.bt_designs.specs.Found.{pinned_of, pinned_and_used}
+use Rattle.bt_designs.proofs.ToldParts.{at_hand, pinned_last, pinned_within, fault_tells, found_behind, part_within, settled}
+use Rattle.bt_designs.proofs.told.pinned_of_part.Goals as goal
+
+pub told_fault-requires-clause-within : goal.told_fault-requires-clause-within
+told_fault-requires-clause-within c =
+    let short : length c.args.part.now ≤ length c.args.held.bytes.now = part_within IsPinned IsSettled pinned_last c.args.held c.args.part.now c.requires.told in
+    let few : length c.args.part.now ≤ MOST_CHECKED - c.args.held.skipped = omega (arith, short, c.requires.few) in
+    pinned_within c.args.part.now (MOST_CHECKED - c.args.held.skipped) few c.in-Err.fault c.in-Err.ensures.design
+
+pub returns-else-is_open : goal.returns-else-is_open
+returns-else-is_open c =
+    let held = c.args.held in
+    let part = c.args.part.now in
+    let short : length c.args.part.now ≤ length c.args.held.bytes.now = part_within IsPinned IsSettled pinned_last held part c.requires.told in (
+      at_hand IsPinned IsSettled pinned_last held part c.requires.told,
+      omega (arith, short, c.in-Ok.ensures.within),
+      found_behind IsPinned IsSettled pinned_last held part c.requires.told (pinned_of c.in-Ok.design) c.in-Ok.design.used c.in-Ok.ensures.design (λ goes. c.is_open.ensures.closed c.if-is_open.false goes),
+    )
+
+pub returns-in-Some : goal.returns-in-Some
+returns-in-Some c =
+    fault_tells IsPinned IsSettled pinned_last c.args.held c.args.part.now c.requires.told pinned_and_used c.in-Err.fault c.in-Some.told c.in-Err.ensures.design c.in-Some.ensures
+    (λ text r is goes other. settled c.args.part.now text r c.in-Err.fault is other)

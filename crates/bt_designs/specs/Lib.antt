@@ -1,0 +1,12 @@
+pub mod Steps
+pub mod Refusals
+pub mod Designs
+pub mod Alone
+pub mod Requested
+pub mod Kept
+pub mod TwoDesigns
+pub mod Longer
+pub mod Found
+pub mod Gathering
+pub mod Told
+pub mod inner

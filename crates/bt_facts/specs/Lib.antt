@@ -1,0 +1,6 @@
+pub mod Rules
+pub mod Spots
+pub mod Facts
+pub mod Near
+pub mod Drafts
+pub mod inner

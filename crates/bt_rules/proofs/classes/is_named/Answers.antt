@@ -1,5 +1,0 @@
-use Rattle.bt_rules.proofs.Sharing.{told_names}
-use Rattle.bt_rules.proofs.classes.is_named.Goals as goal
-
-pub returns : goal.returns
-returns c = told_names c.names.result c.args.ends c.args.end c.names.ensures.0 c.names.ensures.1

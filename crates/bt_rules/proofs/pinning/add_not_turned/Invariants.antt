@@ -1,7 +1,0 @@
-use Rattle.std.proofs.Common.{◌≡◌, ◌++◌, ◌∷◌, [], map, take}
-use Rattle.bt_rules.specs.Contents as contents
-use Rattle.bt_rules.specs.Rules.{not_all}
-use Rattle.bt_rules.proofs.pinning.add_not_turned.Given as goal
-
-abbrev pub invariant-loop-other : goal.invariant-loop-other
-invariant-loop-other l = l.draft ≡ l.initial.draft ++ map (λ other. not_all (contents.holds l.cell l.shape other ∷ [])) (take l.other-index l.others)

@@ -1,6 +1,0 @@
-use Rattle.bt_rules.specs.Classes as classing
-use Rattle.bt_rules.proofs.Drawn.{number_kept}
-use Rattle.bt_rules.proofs.plan.goals.Goals as goal
-
-pub loop-splitter-preserved : goal.loop-splitter-preserved
-loop-splitter-preserved c = number_kept (classing.goes_to c.args.request.now c.args.class) c.loop-splitter.found.items c.push_goal.new.found.items c.loop-splitter.splitter c.loop-splitter.invariant c.in_ok-push_goal.ensures

@@ -1,8 +1,0 @@
-use Rattle.std.proofs.Common.{◌≡◌, map, take}
-use Rattle.std.specs.List.{AllByRecursion}
-use Rattle.bt_rules.specs.Plans.{IsWay}
-use Rattle.bt_rules.specs.declared.plan.Way.{Way}
-use Rattle.bt_rules.proofs.plan.ways_of.Given as goal
-
-abbrev pub invariant-loop-class : goal.invariant-loop-class
-invariant-loop-class l = (map (λ (w : Way). w.class) l.ways.items ≡ take l.class-index l.classes) × AllByRecursion (IsWay l.request) l.ways.items

@@ -1,7 +1,0 @@
-use Rattle.std.proofs.Common.{◌≡◌, ◌++◌, take}
-use Rattle.std.specs.List.{flat_map}
-use Rattle.bt_rules.specs.Pinning as pinning
-use Rattle.bt_rules.proofs.siding.add_demands.Given as goal
-
-abbrev pub invariant-loop-demand : goal.invariant-loop-demand
-invariant-loop-demand l = l.draft ≡ l.initial.draft ++ flat_map (pinning.demand_rules l.request) (take l.demand-index l.demands)

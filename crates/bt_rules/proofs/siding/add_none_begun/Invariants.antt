@@ -1,7 +1,0 @@
-use Rattle.std.proofs.Common.{◌≡◌, ◌++◌, take}
-use Rattle.std.specs.List.{flat_map}
-use Rattle.bt_rules.specs.Pinning as pinning
-use Rattle.bt_rules.proofs.siding.add_none_begun.Given as goal
-
-abbrev pub invariant-loop-other : goal.invariant-loop-other
-invariant-loop-other l = l.draft ≡ l.initial.draft ++ flat_map (pinning.not_begun l.class l.cell) (take l.other-index l.others)

@@ -1,7 +1,0 @@
-use Rattle.std.proofs.Common.{◌≡◌, ◌++◌, take}
-use Rattle.std.specs.List.{flat_map}
-use Rattle.bt_rules.specs.inner.Parts as parts
-use Rattle.bt_rules.proofs.siding.add_stops.Given as goal
-
-abbrev pub invariant-loop-cell : goal.invariant-loop-cell
-invariant-loop-cell l = l.draft ≡ l.initial.draft ++ flat_map (parts.stop_part_rules l.rect l.dir l.output l.classes) (take l.cell-index l.border)

@@ -1,5 +1,0 @@
-use Rattle.bt_sat.specs.inner.Loads.{AreUnsetAll}
-use Rattle.bt_sat.proofs.loading.unset_values.Given as goal
-
-abbrev pub invariant-loop : goal.invariant-loop
-invariant-loop l = AreUnsetAll l.counter l.values

@@ -1,0 +1,79 @@
+//! What a light search finds.
+use super::{fields, formula_of, number_of};
+use bt_seek::{Answer, Literal, Random, Solver, load};
+use std::alloc::{AllocError, Global};
+use std::test::Fail;
+
+/// Clauses of six variables, what is taken for granted, what is wished in a trial with so many conflicts at most, and what
+/// that comes to. Three of three or two of two find places among two, where no two share one.
+const TRIALS: &[&str] = &[
+    "|||9|found",
+    "1 2,-1 2|||9|found",
+    "1 2,-1 2||-2|9|nothing",
+    "1 2,-1 2|-2||9|nothing",
+    "1 2 3,-1 2 3,1 -2 3|-3|-1|9|nothing",
+    "1 2 3,-1 2 3,1 -2 3|-3|1 2|9|found",
+    "1 2,3 4,-1 -3,-2 -4|1|-3|9|found",
+    "1 2,3 4,-1 -3,-2 -4|1|3|9|nothing",
+    "1 2,3 4,5 6,-1 -3,-1 -5,-3 -5,-2 -4,-2 -6,-4 -6|||9|nothing",
+    "1 2,3 4,5 6,-1 -3,-1 -5,-3 -5,-2 -4,-2 -6,-4 -6|||0|spent",
+];
+
+/// The literals of a text.
+fn literals_of(alloc: Global, text: &str) -> Result<Vec<Literal>, AllocError> {
+    let mut literals = Vec::new(alloc);
+    for word in text.split(' ') {
+        let number = word.parse::<i64>().unwrap_or(0);
+        let variable = (number.unsigned_abs() as usize).wrapping_sub(1);
+        if let Some(literal) = Literal::new(variable, number > 0) {
+            literals.push(literal)?;
+        }
+    }
+    Ok(literals)
+}
+
+/// Whether the literals are true now.
+fn are_true(solver: &Solver, literals: &[Literal]) -> bool {
+    literals.iter().all(|literal| solver.is_true(*literal))
+}
+
+/// What a trial comes to, and whether what it finds has these literals.
+fn outcome(
+    alloc: Global,
+    solver: &mut Solver,
+    wished: &[Literal],
+    conflicts: usize,
+) -> Result<&'static str, AllocError> {
+    let mut random = Random::new(1);
+    match solver.attempt(alloc, wished, conflicts as u64, 2, &mut random)? {
+        Answer::Found => Ok(if are_true(solver, wished) {
+            "found"
+        } else {
+            ""
+        }),
+        Answer::Nothing => Ok("nothing"),
+        Answer::Spent => Ok("spent"),
+    }
+}
+
+/// Whether the trial of a row comes to what it says.
+fn is_tried(alloc: Global, row: &str) -> Result<bool, AllocError> {
+    let [clauses, granted, wished, conflicts, name] = fields(row, '|');
+    let formula = formula_of(alloc, 6, &[], clauses)?;
+    let mut solver = load(alloc, &formula)?;
+    let granted = literals_of(alloc, granted)?;
+    let wished = literals_of(alloc, wished)?;
+    let is_granted = solver.grant(alloc, &granted)?;
+    if !is_granted {
+        return Ok(name == "nothing");
+    }
+    Ok(outcome(alloc, &mut solver, &wished, number_of(conflicts))? == name)
+}
+
+#[test]
+fn trials_come_to_what_is_there(rt: HostRuntime) -> Result<(), Fail> {
+    for row in TRIALS {
+        assert!(rt; is_tried(rt.alloc(), row)?, "{row}");
+    }
+    Ok(())
+}

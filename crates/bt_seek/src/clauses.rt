@@ -1,0 +1,118 @@
+//! Clauses of three and more literals.
+use crate::literal::Literal;
+use crate::values::Values;
+use std::alloc::{AllocError, Global};
+
+/// Where the literals of a clause stand.
+#[derive(Clone, Copy, PartialEq, Eq)]
+pub struct Span {
+    start: u32,
+    end: u32,
+}
+
+impl Span {
+    /// Whether the clause stands behind so many literals of clauses.
+    pub fn is_behind(self, length: usize) -> bool {
+        self.start as usize >= length
+    }
+}
+
+/// What becomes of a clause one of whose two watched literals is false.
+#[derive(Clone, Copy)]
+pub enum Visit {
+    /// It has this literal, which is true.
+    Stays(Literal),
+    /// The first of these is watched now in place of the false one; the other one is watched too.
+    Moves(Literal, Literal),
+    /// All its literals but this one are false.
+    Forces(Literal),
+    /// All its literals are false.
+    Fails,
+}
+
+/// The literals of clauses, one clause behind the other.
+#[derive(Drop)]
+pub struct Clauses {
+    literals: Vec<Literal>,
+}
+
+/// A place in four bytes. One that doesn't fit is want of memory.
+fn packed(place: usize) -> Result<u32, AllocError> {
+    match u32::try_from(place) {
+        Ok(place) => Ok(place),
+        Err(_) => Err(AllocError),
+    }
+}
+
+/// Visits a clause whose first two literals are watched, one of which is false.
+fn passed(clause: &mut [Literal], gone: Literal, values: &Values) -> Visit {
+    if clause.len() < 2 {
+        return Visit::Fails;
+    }
+    if clause[0] == gone {
+        clause.swap(0, 1);
+    }
+    let first = clause[0];
+    if values.is_true(first) {
+        return Visit::Stays(first);
+    }
+    for place in 2..clause.len() {
+        let literal = clause[place];
+        if !values.is_false(literal) {
+            clause.swap(1, place);
+            return Visit::Moves(literal, first);
+        }
+    }
+    if values.is_false(first) {
+        Visit::Fails
+    } else {
+        Visit::Forces(first)
+    }
+}
+
+impl Clauses {
+    /// No clauses.
+    pub fn new(alloc: Global) -> Clauses {
+        Clauses {
+            literals: Vec::new(alloc),
+        }
+    }
+
+    /// How many literals all clauses have.
+    pub fn len(&self) -> usize {
+        self.literals.len()
+    }
+
+    /// Adds a clause.
+    pub fn add(&mut self, literals: &[Literal]) -> Result<Span, AllocError> {
+        let start = packed(self.literals.len())?;
+        self.literals.extend_from_slice(literals)?;
+        let end = packed(self.literals.len())?;
+        Ok(Span { start, end })
+    }
+
+    /// The literals of a clause.
+    pub fn literals(&self, span: Span) -> &[Literal] {
+        let (start, end) = (span.start as usize, span.end as usize);
+        if start <= end && end <= self.literals.len() {
+            &self.literals[start..end]
+        } else {
+            &[]
+        }
+    }
+
+    /// Visits a clause one of whose watched literals is false.
+    pub fn visit(&mut self, span: Span, gone: Literal, values: &Values) -> Visit {
+        let (start, end) = (span.start as usize, span.end as usize);
+        if start <= end && end <= self.literals.len() {
+            passed(self.literals.slice_mut(start..end), gone, values)
+        } else {
+            Visit::Fails
+        }
+    }
+
+    /// Drops all clauses behind so many literals.
+    pub fn truncate(&mut self, length: usize) {
+        self.literals.truncate(length);
+    }
+}

@@ -1,0 +1,93 @@
+//! Which variable is chosen next: the one that the most of the latest conflicts had.
+use std::alloc::{AllocError, Global};
+use std::collections::BinaryHeap;
+
+/// What a conflict adds to the scores of its variables at first.
+const FIRST_BUMP: u64 = 1 << 10;
+
+/// Where more than this is added when a round begins, all scores are scaled down.
+const GREAT_BUMP: u64 = 1 << 32;
+
+/// By how many bits they are scaled down.
+const SCALE: u32 = 22;
+
+/// The scores of variables, and those that may be chosen, the greatest score first.
+#[derive(Drop)]
+pub struct Order {
+    scores: Vec<u64>,
+    bump: u64,
+    /// Some have more than one score here, of which the greatest is theirs, and some have a value.
+    heap: BinaryHeap<(u64, usize)>,
+}
+
+impl Order {
+    /// The order of so many variables with score 0, none of which may be chosen yet.
+    pub fn new(alloc: Global, variables: usize) -> Result<Order, AllocError> {
+        Ok(Order {
+            scores: vec![in alloc; 0; variables]?,
+            bump: FIRST_BUMP,
+            heap: BinaryHeap::new(alloc),
+        })
+    }
+
+    /// Adds to the score of a variable.
+    fn add(&mut self, variable: usize, more: u64) {
+        if let Some(score) = self.scores.get_mut(variable) {
+            *score = score.saturating_add(more);
+        }
+    }
+
+    /// Gives a variable a little score, so that it comes before those that no conflict had.
+    pub fn prefer(&mut self, variable: usize) {
+        self.add(variable, 1);
+    }
+
+    /// Adds to the score of a variable as a conflict does now.
+    pub fn raise(&mut self, variable: usize) {
+        self.add(variable, self.bump);
+    }
+
+    /// Lets the next conflict add a twentieth more.
+    pub fn grow(&mut self) {
+        self.bump = self.bump.saturating_add(self.bump / 20);
+    }
+
+    /// Lets a variable be chosen.
+    pub fn push(&mut self, variable: usize) -> Result<(), AllocError> {
+        if let Some(score) = self.scores.get(variable) {
+            self.heap.push((*score, variable))?;
+        }
+        Ok(())
+    }
+
+    /// How many variables may be chosen, as often as they are listed.
+    pub fn len(&self) -> usize {
+        self.heap.len()
+    }
+
+    /// The variable that is chosen next, which may have a value.
+    pub fn pop(&mut self) -> Option<usize> {
+        let (_, variable) = self.heap.pop()?;
+        Some(variable)
+    }
+
+    /// Scales scores down where they are great.
+    fn scale(&mut self) {
+        if self.bump > GREAT_BUMP {
+            self.bump >>= SCALE;
+            for score in self.scores.iter_mut() {
+                *score >>= SCALE;
+            }
+        }
+    }
+
+    /// Begins anew with these variables.
+    pub fn refill(&mut self, alloc: Global, variables: &[usize]) -> Result<(), AllocError> {
+        self.scale();
+        self.heap = BinaryHeap::new(alloc);
+        for variable in variables {
+            self.push(*variable)?;
+        }
+        Ok(())
+    }
+}

@@ -1,0 +1,23 @@
+//! Numbers that look random and are the same in each run.
+
+/// A linear congruential generator with the multiplier and the increment of Knuth's MMIX.
+#[derive(Drop)]
+pub struct Random {
+    state: u64,
+}
+
+impl Random {
+    /// The generator that begins with this number.
+    pub fn new(state: u64) -> Random {
+        Random { state }
+    }
+
+    /// The next number, below a bound; 0 where the bound is 0.
+    pub fn below(&mut self, bound: usize) -> usize {
+        self.state = self
+            .state
+            .wrapping_mul(6_364_136_223_846_793_005)
+            .wrapping_add(1_442_695_040_888_963_407);
+        (self.state >> 33) as usize % bound.max(1)
+    }
+}

@@ -1,0 +1,64 @@
+//! The values of literals.
+use crate::literal::Literal;
+use std::alloc::{AllocError, Global};
+
+/// What a literal is.
+#[derive(Clone, Copy, PartialEq, Eq)]
+pub enum Value {
+    Unset,
+    True,
+    False,
+}
+
+/// The value of each literal, those of a variable side by side.
+#[derive(Drop)]
+pub struct Values {
+    of_literals: Vec<Value>,
+}
+
+impl Values {
+    /// The values of so many variables, none of which is set.
+    pub fn new(alloc: Global, variables: usize) -> Result<Values, AllocError> {
+        let count = variables.saturating_mul(2);
+        Ok(Values {
+            of_literals: vec![in alloc; Value::Unset; count]?,
+        })
+    }
+
+    /// The value of a literal.
+    pub fn get(&self, literal: Literal) -> Value {
+        match self.of_literals.get(literal.place()) {
+            Some(value) => *value,
+            None => Value::Unset,
+        }
+    }
+
+    /// Whether a literal is true.
+    pub fn is_true(&self, literal: Literal) -> bool {
+        self.get(literal) == Value::True
+    }
+
+    /// Whether a literal is false.
+    pub fn is_false(&self, literal: Literal) -> bool {
+        self.get(literal) == Value::False
+    }
+
+    /// Gives a literal its value.
+    fn put(&mut self, literal: Literal, value: Value) {
+        if let Some(old) = self.of_literals.get_mut(literal.place()) {
+            *old = value;
+        }
+    }
+
+    /// Makes a literal true.
+    pub fn set(&mut self, literal: Literal) {
+        self.put(literal, Value::True);
+        self.put(literal.negated(), Value::False);
+    }
+
+    /// Leaves a literal without a value.
+    pub fn clear(&mut self, literal: Literal) {
+        self.put(literal, Value::Unset);
+        self.put(literal.negated(), Value::Unset);
+    }
+}

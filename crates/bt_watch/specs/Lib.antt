@@ -1,0 +1,11 @@
+pub mod Assigning
+pub mod Codes
+pub mod Keeping
+pub mod Levels
+pub mod Propagating
+pub mod Propagation
+pub mod Reasons
+pub mod Watched
+pub mod Watchers
+pub mod WatchersParts
+pub mod inner

@@ -1,0 +1,94 @@
+//! One watched clause, the first two of whose literals are watched: what becomes of it where one of the
+//! two is false.
+ghost use Rattle.std.specs.Prelude.{◌≡◌, ◌<◌, ◌≤◌, length};
+ghost use Rattle.bt_cnf.specs.Formulas.{LitsBelow};
+ghost use Rattle.bt_watch.specs.inner.Attending.{Attends};
+ghost use Rattle.bt_cnf.specs.Truths.{IsFalseIn};
+ghost use Rattle.bt_watch.specs.inner.Visits.{BringsSecond, CanWatch, ReplacesSecond, Visits};
+
+use crate::packed::Packed;
+use bt_cnf::Values;
+
+/// What a clause does where a literal has become false.
+#[derive(Clone, Copy)]
+pub enum Visit {
+    /// It doesn't watch the literal.
+    Strays,
+    /// Its other watched literal, this one, is true.
+    Stays(Packed),
+    /// It watches the first literal from now on, which isn't false, in place of the false one. The second is
+    /// its other watched literal.
+    Moves(Packed, Packed),
+    /// It is a unit, and makes this literal true.
+    Forces(Packed),
+    /// All its literals are false.
+    Fails,
+}
+
+/// What the clause does where a literal has become false. Where it watches it still, it stands second then.
+pub fn attend(lits: &mut [Packed], gone: &Packed, values: &Values) -> Visit
+    requires two { 2 ≤ length lits.old }
+    requires variables { LitsBelow (length values.now) lits.old }
+    requires gone { IsFalseIn values.now gone.now }
+    ensures { Attends values.now gone.now lits.old lits.new result }
+{
+    bring_second(lits, gone);
+    if !lits[1].is(gone) {
+        return Visit::Strays;
+    }
+    visit_second(lits, values)
+}
+
+/// Puts a literal into the second place, in exchange, where it stands in the first.
+fn bring_second(lits: &mut [Packed], gone: &Packed)
+    requires { 2 ≤ length lits.old }
+    ensures { BringsSecond gone.now lits.old lits.new }
+{
+    if lits[0].is(gone) {
+        lits.swap(0, 1);
+    }
+}
+
+/// What the clause does, whose second literal is false.
+fn visit_second(lits: &mut [Packed], values: &Values) -> Visit
+    requires two { 2 ≤ length lits.old }
+    requires variables { LitsBelow (length values.now) lits.old }
+    ensures { Visits values.now lits.old lits.new result }
+{
+    let other = lits[0];
+    if other.is_true(values) {
+        return Visit::Stays(other);
+    }
+    if let Some(lit) = replace_second(lits, &other, values) {
+        return Visit::Moves(lit, other);
+    }
+    if other.is_false(values) {
+        return Visit::Fails;
+    }
+    Visit::Forces(other)
+}
+
+/// Puts a literal that isn't false and isn't the first in the second place, in exchange, where one stands
+/// behind the first two.
+fn replace_second(lits: &mut [Packed], first: &Packed, values: &Values) -> Option<Packed>
+    requires two { 2 ≤ length lits.old }
+    requires variables { LitsBelow (length values.now) lits.old }
+    ensures { ReplacesSecond values.now first.now lits.old lits.new result }
+{
+    for place in 2..lits.len() {
+        let lit = lits[place];
+        if can_watch(values, first, &lit) {
+            lits.swap(1, place);
+            return Some(lit);
+        }
+    }
+    None
+}
+
+/// Whether a literal can be watched beside the first one: it is another, and isn't false.
+fn can_watch(values: &Values, first: &Packed, lit: &Packed) -> bool
+    requires { lit.now.var < length values.now }
+    ensures { CanWatch values.now first.now lit.now result }
+{
+    !lit.is_false(values) && !lit.is(first)
+}
